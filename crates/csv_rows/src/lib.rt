@@ -7,9 +7,11 @@
 #![tactic(auto)]
 
 mod input;
+mod integer;
 mod records;
 mod store;
 
 pub use input::{MOST_BYTES, ReadAnswer, read_all};
+pub use integer::read_integer;
 pub use records::{MOST_RECORDS, RowsAnswer, rows};
 pub use store::RowStore;
