@@ -10,6 +10,8 @@ mod input;
 mod integer;
 mod records;
 mod store;
+#[cfg(test)]
+mod tests;
 
 pub use input::{MOST_BYTES, ReadAnswer, read_all};
 pub use integer::read_integer;
