@@ -1,0 +1,88 @@
+-- How the value of an option reads.
+use Rattle.std.specs.Prelude.{◌==◌, ◌||◌, ◌&&◌, ◌∷◌, [], ℕ, ℤ, Bool, true, false, not, List, Option, Some, None, bytes_eq, codes, drop, if◌then◌else◌, length, map, nat_le, nat_lt, option_and_then, option_map, slice_index}
+use Rattle.std.specs.Char.{is_ascii_digit}
+use Rattle.std.specs.List.{after_first, before_first, list_all, list_any, position_or_len, slice_split}
+use Rattle.std.specs.Str.Parse.{digits_value}
+use Rattle.par_model.specs.Integer.{integer_of}
+use Rattle.par_model.specs.Named.{NamedFilter, NamedItem}
+use Rattle.par_model.specs.declared.plan.FilterOp.{FilterOp}
+use Rattle.par_model.specs.declared.plan.FilterOp.TheVariants as op
+use Rattle.par_model.specs.declared.plan.ItemKind.{ItemKind}
+use Rattle.par_model.specs.declared.plan.ItemKind.TheVariants as kind
+
+-- the parts between commas
+abbrev pub parts_of : List ℕ → List (List ℕ)
+parts_of text = slice_split (λ byte. byte == 44) text
+
+-- one to eight names between commas, none of them empty
+abbrev pub names_in : List ℕ → Option (List (List ℕ))
+names_in text = if nat_le (length (parts_of text)) 8 && list_all (λ part. not (length part == 0)) (parts_of text) then Some (parts_of text) else None
+
+-- the aggregate of a column, by its name
+abbrev pub kind_in : List ℕ → Option ItemKind
+kind_in text =
+    if bytes_eq text (codes "count") then Some kind.Count
+    else (if bytes_eq text (codes "sum") then Some kind.Sum
+    else (if bytes_eq text (codes "min") then Some kind.Min
+    else (if bytes_eq text (codes "max") then Some kind.Max
+    else (if bytes_eq text (codes "avg") then Some kind.Avg else None))))
+
+-- an aggregate of the column of this name
+abbrev pub item_over : List ℕ → ItemKind → NamedItem
+item_over name kind = record { kind = kind; column = Some name }
+
+-- an aggregate: `count`, or a kind and the name of a column around the first colon
+abbrev pub item_in : List ℕ → Option NamedItem
+item_in text =
+    if bytes_eq text (codes "count") then Some (record { kind = kind.Rows; column = None })
+    else (if length (after_first (λ byte. byte == 58) text) == 0 then None
+    else option_map (item_over (after_first (λ byte. byte == 58) text)) (kind_in (before_first (λ byte. byte == 58) text)))
+
+-- the values, where all are there
+abbrev pub all_some : {A : Type 0} → List (Option A) → Option (List A)
+all_some [] = Some []
+all_some (None ∷ rest) = None
+all_some (Some x ∷ rest) = option_map (λ xs. x ∷ xs) (all_some rest)
+
+-- one to eight aggregates between commas
+abbrev pub items_in : List ℕ → Option (List NamedItem)
+items_in text = if nat_le (length (parts_of text)) 8 then all_some (map item_in (parts_of text)) else None
+
+-- a byte of a relation: `<`, `=`, `>` or `!`
+abbrev pub is_relation_byte : ℕ → Bool
+is_relation_byte byte = (byte == 60) || (byte == 61) || (byte == 62) || (byte == 33)
+
+-- the longest relation that a text begins with, and what comes after it
+abbrev pub relation_in : List ℕ → Option (FilterOp × List ℕ)
+relation_in text =
+    if (slice_index text 0 == 33) && (slice_index text 1 == 61) then Some (op.NotEqual, drop 2 text)
+    else (if (slice_index text 0 == 60) && (slice_index text 1 == 61) then Some (op.LessEqual, drop 2 text)
+    else (if (slice_index text 0 == 62) && (slice_index text 1 == 61) then Some (op.GreaterEqual, drop 2 text)
+    else (if slice_index text 0 == 61 then Some (op.Equal, drop 1 text)
+    else (if slice_index text 0 == 60 then Some (op.Less, drop 1 text)
+    else (if slice_index text 0 == 62 then Some (op.Greater, drop 1 text) else None)))))
+
+-- an integer with no space round it
+abbrev pub bare_integer_in : List ℕ → Option ℤ
+bare_integer_in text = if list_any (λ byte. byte == 32) text then None else integer_of text
+
+-- the relation to the value after it
+abbrev pub comparison_in : List ℕ → Option (FilterOp × ℤ)
+comparison_in text = option_and_then (λ found. option_map (λ value. (found.0, value)) (bare_integer_in found.1)) (relation_in text)
+
+-- a filter: a name with no relation's byte, a relation, an integer
+abbrev pub filter_in : List ℕ → Option NamedFilter
+filter_in text =
+    if position_or_len is_relation_byte text == 0 then None
+    else option_map (λ found. record { column = before_first is_relation_byte text; op = found.0; value = found.1 })
+    (comparison_in (drop (position_or_len is_relation_byte text) text))
+
+-- one to five digits, with a value up to `most`
+abbrev pub number_in : ℕ → List ℕ → Option ℕ
+number_in most text =
+    if (nat_lt 0 (length text) && nat_le (length text) 5) && (list_all is_ascii_digit text && nat_le (digits_value 10 text) most)
+    then Some (digits_value 10 text) else None
+
+-- whether the plan is the one over the shared hash table
+abbrev pub hash_in : List ℕ → Option Bool
+hash_in text = if bytes_eq text (codes "gather") then Some false else (if bytes_eq text (codes "hash") then Some true else None)

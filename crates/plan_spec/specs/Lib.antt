@@ -1,0 +1,5 @@
+pub mod Binding
+pub mod Grammar
+pub mod Options
+pub mod Parts
+pub mod Query

@@ -1,0 +1,29 @@
+-- The six options of the command, and what a command line gives for each.
+use Rattle.std.specs.Prelude.{◌==◌, ℕ, Bool, false, true, List, Option, Some, codes, fold, length, map}
+use Rattle.clap.specs.Words.{App, Rule, fault_of, first_of, matches_of, new_app, new_rule, with_rule}
+
+-- an option that takes one value, and may have to be given
+abbrev pub option_of : List ℕ → Bool → Rule
+option_of name is_required = record (new_rule name) { long = Some name; required = is_required }
+
+-- a command with no program name before its words
+abbrev pub bare : App → App
+bare app = record app { top = record app.top { no_binary_name = true } }
+
+-- the command, as the crate clap has it
+abbrev pub pargather_command : App
+pargather_command = with_rule (with_rule (with_rule (with_rule (with_rule (with_rule (bare (new_app (codes "pargather")))
+    (option_of (codes "group") false))
+    (option_of (codes "agg") true))
+    (option_of (codes "where") false))
+    (option_of (codes "workers") false))
+    (option_of (codes "plan") false))
+    (option_of (codes "area-pages") false)
+
+-- whether clap takes the words
+abbrev pub is_command_line : List (List ℕ) → Bool
+is_command_line words = length (fault_of pargather_command words) == 0
+
+-- the value of an option
+abbrev pub value_of : List ℕ → List (List ℕ) → Option (List ℕ)
+value_of name words = first_of name (matches_of pargather_command words)

@@ -1,0 +1,51 @@
+-- What a command line asks for.
+use Rattle.std.specs.Prelude.{ℕ, Bool, false, List, [], Option, Some, None, codes, if◌then◌else◌, option_and_then, option_map}
+use Rattle.par_model.specs.Named.{NamedFilter, NamedItem, NamedPlan}
+use Rattle.plan_spec.specs.Grammar.{filter_in, hash_in, items_in, names_in, number_in}
+use Rattle.plan_spec.specs.Options.{is_command_line, value_of}
+
+-- a plan by the names of its columns, the number of workers, and the pages of the shared area
+pub record Query : Type 0 where
+  pub plan : NamedPlan
+  pub workers : ℕ
+  pub area_pages : ℕ
+
+-- the names to group by: none where the option is not given
+abbrev pub groups_given : Option (List ℕ) → Option (List (List ℕ))
+groups_given None = Some []
+groups_given (Some text) = names_in text
+
+-- the aggregates, which have to be given
+abbrev pub items_given : Option (List ℕ) → Option (List NamedItem)
+items_given None = None
+items_given (Some text) = items_in text
+
+-- the filter, if there is to be one
+abbrev pub filter_given : Option (List ℕ) → Option (Option NamedFilter)
+filter_given None = Some None
+filter_given (Some text) = option_map Some (filter_in text)
+
+-- a number up to `most`, and one where the option is not given
+abbrev pub number_given : ℕ → ℕ → Option (List ℕ) → Option ℕ
+number_given most missing None = Some missing
+number_given most missing (Some text) = number_in most text
+
+-- whether the plan is the one over the shared hash table
+abbrev pub hash_given : Option (List ℕ) → Option Bool
+hash_given None = Some false
+hash_given (Some text) = hash_in text
+
+-- the parts of a query, where all are there
+abbrev pub query_by : Option (List (List ℕ)) → Option (List NamedItem) → Option (Option NamedFilter) → Option Bool → Option ℕ → Option ℕ → Option Query
+query_by groups items filter hash workers pages =
+    option_and_then (λ g. option_and_then (λ i. option_and_then (λ f. option_and_then (λ h. option_and_then (λ w. option_map (λ p.
+    record { plan = record { groups = g; items = i; hash = h; filter = f }; workers = w; area_pages = p })
+    pages) workers) hash) filter) items) groups
+
+-- the query of the words, if they are one: clap takes them, and each value reads
+unfoldable pub query_of : List (List ℕ) → Option Query
+query_of words =
+    if is_command_line words
+    then query_by (groups_given (value_of (codes "group") words)) (items_given (value_of (codes "agg") words)) (filter_given (value_of (codes "where") words))
+    (hash_given (value_of (codes "plan") words)) (number_given 64 2 (value_of (codes "workers") words)) (number_given 65536 2048 (value_of (codes "area-pages") words))
+    else None

@@ -1,0 +1,137 @@
+//! The columns of a plan's names in a header.
+
+ghost use Rattle.std.specs.Prelude.{◌≡◌, ◌<◌, ◌≤◌, ◌-◌, None, Some, [], IfErr, IfNone, IfOk, IfSome, OnOk, OnSome, drop, filter_map, length, map, option_map, option_to_list, replicate, slice_index_or, string_bytes, take};
+ghost use Rattle.csv_rows.specs.Records.{record_at};
+ghost use Rattle.par_model.specs.Named.{bound_column, bound_filter, bound_item, bound_plan, column_of, missing_name, names_of};
+ghost use Rattle.par_model.specs.PlanLayout.{unused};
+ghost use Rattle.plan_spec.specs.Binding.{missing_from, missing_place};
+
+use crate::plan::{Plan, PlanFilter, PlanItem};
+use csv_rows::RowStore;
+use par_model::{BoundPlan, Filter, Item, ItemKind};
+
+/// A name of a plan that is no field of the header: its place among the plan's names.
+#[derive(Debug, Drop)]
+pub struct NoColumn {
+    pub at: u32,
+}
+
+impl Plan {
+    /// The plan over the columns of the header, the first record. A name stands for the first field
+    /// with its bytes. It takes no memory; the time is that of the names times the header's fields.
+    pub fn bind(&self, rows: &RowStore) -> Result<BoundPlan, NoColumn>
+        ensures bound { IfOk result (λ bound. bound ≡ bound_plan (record_at rows.now 0) self.now.plan) }
+        ensures whole { OnOk result (missing_name (record_at rows.now 0) self.now.plan ≡ None) }
+
+        // The first name that the header lacks, by its place.
+        ensures place { IfErr result (λ e. missing_place (record_at rows.now 0) self.now.plan ≡ Some e.at) }
+        ensures within { IfErr result (λ e. e.at < length (names_of self.now.plan)) }
+        ensures name { IfErr result (λ e. missing_name (record_at rows.now 0) self.now.plan ≡ Some (slice_index_or (names_of self.now.plan) e.at [])) }
+    {
+        let before_items = self.groups.len() as u32;
+        let groups = match bind_groups(self.groups.as_slice(), rows) {
+            Ok(groups) => groups,
+            Err(at) => return Err(NoColumn { at }),
+        };
+        let (items, named) = match bind_items(self.items.as_slice(), rows) {
+            Ok(bound) => bound,
+            Err(at) => return Err(NoColumn {
+                at: before_items + at,
+            }),
+        };
+        let Some(filter) = bind_filter(&self.filter, rows) else {
+            return Err(NoColumn {
+                at: before_items + named,
+            });
+        };
+        Ok(BoundPlan {
+            groups,
+            group_count: before_items,
+            items,
+            item_count: self.items.len() as u32,
+            hash: self.hash,
+            filter,
+        })
+    }
+}
+
+// The columns to group by, or the place of the first name that is no field.
+fn bind_groups(names: &[String], rows: &RowStore) -> Result<[u32; 8], u32>
+    requires { length names.now ≤ 8 }
+    ensures columns { IfOk result (λ xs. take (length names.now) xs ≡ map (bound_column (record_at rows.now 0)) (map string_bytes names.now)) }
+    ensures unused { IfOk result (λ xs. drop (length names.now) xs ≡ replicate (8 - length names.now) 0) }
+    ensures whole { OnOk result (missing_from (record_at rows.now 0) (map string_bytes names.now) ≡ None) }
+    ensures missing { IfErr result (λ at. missing_from (record_at rows.now 0) (map string_bytes names.now) ≡ Some at) }
+{
+    let mut columns = [0u32; 8];
+    'names: for (at, name) in names.iter().enumerate() {
+        match column(rows, name.as_str()) {
+            Some(place) => columns[at] = place,
+            None => return Err(at as u32),
+        }
+    }
+    Ok(columns)
+}
+
+// The aggregates over their columns, with how many have one, or the place of the first name that is
+// no field.
+fn bind_items(items: &[PlanItem], rows: &RowStore) -> Result<([Item; 8], u32), u32>
+    requires { length items.now ≤ 8 }
+    ensures items { IfOk result (λ r. take (length items.now) r.0 ≡ map (bound_item (record_at rows.now 0)) items.now) }
+    ensures unused { IfOk result (λ r. drop (length items.now) r.0 ≡ replicate (8 - length items.now) unused) }
+    ensures named { IfOk result (λ r. r.1 ≡ length (filter_map (λ i. i.column) items.now)) }
+    ensures whole { OnOk result (missing_from (record_at rows.now 0) (filter_map (λ i. i.column) items.now) ≡ None) }
+    ensures missing { IfErr result (λ at. missing_from (record_at rows.now 0) (filter_map (λ i. i.column) items.now) ≡ Some at) }
+{
+    let unused = Item {
+        kind: ItemKind::Rows,
+        column: 0,
+    };
+    let mut bound = [unused; 8];
+    let mut named = 0u32;
+    'items: for (at, item) in items.iter().enumerate() {
+        let mut place = 0;
+        if let Some(name) = &item.column {
+            match column(rows, name.as_str()) {
+                Some(found) => place = found,
+                None => return Err(named),
+            }
+            named += 1;
+        }
+        bound[at] = Item {
+            kind: item.kind,
+            column: place,
+        };
+    }
+    Ok((bound, named))
+}
+
+// The filter over its column, or none where its name is no field.
+fn bind_filter(filter: &Option<PlanFilter>, rows: &RowStore) -> Option<Option<Filter>>
+    ensures filter { IfSome result (λ f. f ≡ option_map (bound_filter (record_at rows.now 0)) filter.now) }
+    ensures whole { OnSome result (missing_from (record_at rows.now 0) (option_to_list (option_map (λ f. f.column) filter.now)) ≡ None) }
+    ensures missing { IfNone result (missing_from (record_at rows.now 0) (option_to_list (option_map (λ f. f.column) filter.now)) ≡ Some 0) }
+{
+    let Some(filter) = filter else {
+        return Some(None);
+    };
+    let place = column(rows, filter.column.as_str())?;
+    Some(Some(Filter {
+        column: place,
+        op: filter.op,
+        value: filter.value,
+    }))
+}
+
+// The column of a name: the first field of the header with its bytes.
+fn column(rows: &RowStore, name: &str) -> Option<u32>
+    ensures { result ≡ column_of (record_at rows.now 0) name.now }
+{
+    let _rows = rows.count();
+    'fields: for at in 0..rows.width(0) {
+        if rows.field(0, at) == name.as_bytes() {
+            return Some(at);
+        }
+    }
+    None
+}

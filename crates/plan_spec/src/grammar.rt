@@ -1,0 +1,249 @@
+//! The grammars of the options' values: lists between commas, aggregates, a filter, numbers.
+
+ghost use Rattle.std.specs.Prelude.{◌≡◌, ◌≤◌, None, Some, IfOk, length, map, option_map, string_bytes, vec_len};
+ghost use Rattle.std.specs.List.{position_or_len};
+ghost use Rattle.par_model.specs.Table.{kind_text};
+ghost use Rattle.plan_spec.specs.Grammar.{comparison_in, filter_in, hash_in, is_relation_byte, item_in, item_over, items_in, kind_in, names_in, number_in, parts_of, relation_in};
+ghost use Rattle.plan_spec.specs.declared.plan.PlanAnswer.TheVariants as answer;
+
+use crate::PlanAnswer;
+use crate::plan::{PlanFilter, PlanItem};
+use csv_rows::read_integer;
+use par_model::{FilterOp, ItemKind};
+use std::alloc::{AllocError, Global};
+
+// One to eight names between commas.
+pub(crate) fn names(alloc: Global, text: &str) -> Result<Vec<String>, PlanAnswer>
+    ensures names { IfOk result (λ v. names_in text.now ≡ Some (map string_bytes v.items)) }
+    ensures within { IfOk result (λ v. vec_len v ≤ 8) }
+    ensures none { result ≡ Err answer.Usage → names_in text.now ≡ None }
+{
+    let Ok(parts) = parts(alloc, text) else {
+        return Err(PlanAnswer::Memory);
+    };
+    if parts.len() > 8 || !parts.iter().all(|part| !part.is_empty()) {
+        return Err(PlanAnswer::Usage);
+    }
+    match owned(alloc, parts.as_slice()) {
+        Ok(names) => Ok(names),
+        Err(_) => Err(PlanAnswer::Memory),
+    }
+}
+
+// One to eight aggregates between commas.
+pub(crate) fn items(alloc: Global, text: &str) -> Result<Vec<PlanItem>, PlanAnswer>
+    ensures items { IfOk result (λ v. items_in text.now ≡ Some v.items) }
+    ensures some { IfOk result (λ v. 1 ≤ vec_len v) }
+    ensures within { IfOk result (λ v. vec_len v ≤ 8) }
+    ensures none { result ≡ Err answer.Usage → items_in text.now ≡ None }
+{
+    let Ok(parts) = parts(alloc, text) else {
+        return Err(PlanAnswer::Memory);
+    };
+    if parts.len() > 8 {
+        return Err(PlanAnswer::Usage);
+    }
+    let mut items = Vec::new(alloc);
+    'parts: for part in parts.as_slice() {
+        match item(alloc, part) {
+            Ok(item) => {
+                if items.push(item).is_err() {
+                    return Err(PlanAnswer::Memory);
+                }
+            }
+            Err(answer) => return Err(answer),
+        }
+    }
+    Ok(items)
+}
+
+// The parts of a text between commas.
+fn parts<'a>(alloc: Global, text: &'a str) -> Result<Vec<&'a str>, AllocError>
+    ensures { IfOk result (λ v. map (λ s. s.now) v.items ≡ parts_of text.entry.now) }
+{
+    text.split(',').collect(alloc)
+}
+
+// Texts of their own.
+fn owned(alloc: Global, parts: &[&str]) -> Result<Vec<String>, AllocError>
+    ensures { IfOk result (λ v. map string_bytes v.items ≡ map (λ s. s.now) parts.entry.now) }
+{
+    let mut texts = Vec::new(alloc);
+    'parts: for part in parts {
+        let text = String::from_str(alloc, part)?;
+        if texts.push(text).is_err() {
+            return Err(AllocError);
+        }
+    }
+    Ok(texts)
+}
+
+// An aggregate.
+fn item(alloc: Global, text: &str) -> Result<PlanItem, PlanAnswer>
+    ensures item { IfOk result (λ i. item_in text.now ≡ Some i) }
+    ensures none { result ≡ Err answer.Usage → item_in text.now ≡ None }
+{
+    if text == "count" {
+        return row_count(alloc).map_err(|_| PlanAnswer::Memory);
+    }
+    let Some((word, name)) = text.split_once(':') else {
+        return Err(PlanAnswer::Usage);
+    };
+    if name.is_empty() {
+        return Err(PlanAnswer::Usage);
+    }
+    let Some(kind) = kind(word) else {
+        return Err(PlanAnswer::Usage);
+    };
+    column_item(alloc, kind, name).map_err(|_| PlanAnswer::Memory)
+}
+
+// The number of rows.
+fn row_count(alloc: Global) -> Result<PlanItem, AllocError>
+    ensures { IfOk result (λ i. i ≡ record { kind = ItemKind.Rows; column = None }) }
+{
+    Ok(PlanItem {
+        kind: ItemKind::Rows,
+        column: None,
+        text: String::from_str(alloc, "count")?,
+    })
+}
+
+// An aggregate of a column.
+fn column_item(alloc: Global, kind: ItemKind, name: &str) -> Result<PlanItem, AllocError>
+    ensures { IfOk result (λ i. i ≡ item_over name.now kind) }
+{
+    let mut text = String::from_str(alloc, kind_word(kind))?;
+    text.push_str("(")?;
+    text.push_str(name)?;
+    text.push_str(")")?;
+    Ok(PlanItem {
+        kind,
+        column: Some(String::from_str(alloc, name)?),
+        text,
+    })
+}
+
+// How a kind of aggregate is written.
+fn kind_word(kind: ItemKind) -> &'static str
+    ensures { result.now ≡ kind_text kind }
+{
+    match kind {
+        ItemKind::Rows | ItemKind::Count => "count",
+        ItemKind::Sum => "sum",
+        ItemKind::Min => "min",
+        ItemKind::Max => "max",
+        ItemKind::Avg => "avg",
+    }
+}
+
+// The kind of aggregate of a column that a word names.
+fn kind(word: &str) -> Option<ItemKind>
+    ensures { result ≡ kind_in word.now }
+{
+    if word == "count" {
+        Some(ItemKind::Count)
+    } else if word == "sum" {
+        Some(ItemKind::Sum)
+    } else if word == "min" {
+        Some(ItemKind::Min)
+    } else if word == "max" {
+        Some(ItemKind::Max)
+    } else if word == "avg" {
+        Some(ItemKind::Avg)
+    } else {
+        None
+    }
+}
+
+// A filter.
+pub(crate) fn filter(alloc: Global, text: &str) -> Result<PlanFilter, PlanAnswer>
+    ensures filter { IfOk result (λ f. filter_in text.now ≡ Some f) }
+    ensures none { result ≡ Err answer.Usage → filter_in text.now ≡ None }
+{
+    let bytes = text.as_bytes();
+    let at = relation_place(bytes);
+    if at == 0 {
+        return Err(PlanAnswer::Usage);
+    }
+    let Some((op, value)) = comparison(&bytes[at..]) else {
+        return Err(PlanAnswer::Usage);
+    };
+    match String::from_str(alloc, &text[..at]) {
+        Ok(column) => Ok(PlanFilter { column, op, value }),
+        Err(_) => Err(PlanAnswer::Memory),
+    }
+}
+
+// Where the first relation stands, or the end.
+fn relation_place(bytes: &[u8]) -> usize
+    ensures place { result ≡ position_or_len is_relation_byte bytes.now }
+    ensures within { result ≤ length bytes.now }
+{
+    bytes.iter().take_while(|byte| !is_relation(**byte)).count()
+}
+
+fn is_relation(byte: u8) -> bool
+    ensures { result ≡ is_relation_byte byte }
+{
+    byte == b'<' || byte == b'=' || byte == b'>' || byte == b'!'
+}
+
+// A relation, and the integer after it.
+fn comparison(bytes: &[u8]) -> Option<(FilterOp, i64)>
+    ensures { result ≡ comparison_in bytes.now }
+{
+    let (op, text) = relation(bytes)?;
+    if text.contains(&b' ') {
+        return None;
+    }
+    let value = read_integer(text)?;
+    Some((op, value))
+}
+
+// A relation, and what comes after it.
+fn relation(bytes: &[u8]) -> Option<(FilterOp, &[u8])>
+    ensures { option_map (λ found. (found.0, found.1.now)) result ≡ relation_in bytes.now }
+{
+    match bytes {
+        [b'!', b'=', rest @ ..] => Some((FilterOp::NotEqual, rest)),
+        [b'<', b'=', rest @ ..] => Some((FilterOp::LessEqual, rest)),
+        [b'>', b'=', rest @ ..] => Some((FilterOp::GreaterEqual, rest)),
+        [b'=', rest @ ..] => Some((FilterOp::Equal, rest)),
+        [b'<', rest @ ..] => Some((FilterOp::Less, rest)),
+        [b'>', rest @ ..] => Some((FilterOp::Greater, rest)),
+        _ => None,
+    }
+}
+
+// One to five digits, with a value up to `most`.
+pub(crate) fn number(text: &str, most: u32) -> Option<u32>
+    requires { most ≤ 65536 }
+    ensures { result ≡ number_in most text.now }
+{
+    let digits = text.as_bytes();
+    if digits.is_empty() || digits.len() > 5 {
+        return None;
+    }
+    let mut value: u32 = 0;
+    'digits: for digit in digits {
+        if !digit.is_ascii_digit() || value > 6553 {
+            return None;
+        }
+        value = value * 10 + u32::from(*digit - b'0');
+    }
+    (value <= most).then_some(value)
+}
+
+// Whether a plan is the one over the shared hash table.
+pub(crate) fn hash(text: &str) -> Option<bool>
+    ensures { result ≡ hash_in text.now }
+{
+    if text == "gather" {
+        Some(false)
+    } else if text == "hash" {
+        Some(true)
+    } else {
+        None
+    }
+}

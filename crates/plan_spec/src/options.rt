@@ -1,0 +1,91 @@
+//! The options of a command line, through the crate `clap`.
+//!
+//! `clap` states what its parse gives as a function of the command and the words, so which words are
+//! a command line, and what each option was given, is named by that function alone.
+
+ghost use Rattle.std.specs.Prelude.{◌≡◌, IfOk, OnOk, codes, map, option_map, false, true, string_bytes};
+ghost use Rattle.clap.specs.Words.{app_of, found_of, matches_of, rows_of, with_rule};
+ghost use Rattle.plan_spec.specs.Options.{is_command_line, option_of, pargather_command, value_of};
+ghost use Rattle.plan_spec.specs.declared.plan.PlanAnswer.TheVariants as answer;
+
+use crate::PlanAnswer;
+use clap::error::ErrorKind;
+use clap::{Arg, ArgMatches, Command};
+use std::alloc::{AllocError, Global};
+
+// The values of the six options, each as it was given.
+#[derive(Drop)]
+pub(crate) struct OptionValues<'a> {
+    pub(crate) group: Option<&'a str>,
+    pub(crate) agg: Option<&'a str>,
+    pub(crate) filter: Option<&'a str>,
+    pub(crate) workers: Option<&'a str>,
+    pub(crate) plan: Option<&'a str>,
+    pub(crate) area_pages: Option<&'a str>,
+}
+
+// What the words give for each option.
+pub(crate) fn option_values<'a>(
+    alloc: Global,
+    words: &'a [String],
+) -> Result<OptionValues<'a>, PlanAnswer>
+    ensures takes { OnOk result (is_command_line (map string_bytes words.entry.now) ≡ true) }
+    ensures group { IfOk result (λ g. option_map (λ s. s.now) g.group ≡ value_of (codes "group") (map string_bytes words.entry.now)) }
+    ensures agg { IfOk result (λ g. option_map (λ s. s.now) g.agg ≡ value_of (codes "agg") (map string_bytes words.entry.now)) }
+    ensures filter { IfOk result (λ g. option_map (λ s. s.now) g.filter ≡ value_of (codes "where") (map string_bytes words.entry.now)) }
+    ensures workers { IfOk result (λ g. option_map (λ s. s.now) g.workers ≡ value_of (codes "workers") (map string_bytes words.entry.now)) }
+    ensures plan { IfOk result (λ g. option_map (λ s. s.now) g.plan ≡ value_of (codes "plan") (map string_bytes words.entry.now)) }
+    ensures area_pages { IfOk result (λ g. option_map (λ s. s.now) g.area_pages ≡ value_of (codes "area-pages") (map string_bytes words.entry.now)) }
+    ensures refuses { result ≡ Err answer.Usage → is_command_line (map string_bytes words.entry.now) ≡ false }
+{
+    let matches = matches_in(alloc, words)?;
+    Ok(OptionValues {
+        group: matches.get_str("group"),
+        agg: matches.get_str("agg"),
+        filter: matches.get_str("where"),
+        workers: matches.get_str("workers"),
+        plan: matches.get_str("plan"),
+        area_pages: matches.get_str("area-pages"),
+    })
+}
+
+// The parse of the words.
+fn matches_in<'a>(alloc: Global, words: &'a [String]) -> Result<ArgMatches<'a>, PlanAnswer>
+    ensures takes { OnOk result (is_command_line (map string_bytes words.entry.now) ≡ true) }
+    ensures rows { IfOk result (λ m. rows_of (found_of m) ≡ matches_of pargather_command (map string_bytes words.entry.now)) }
+    ensures refuses { result ≡ Err answer.Usage → is_command_line (map string_bytes words.entry.now) ≡ false }
+{
+    let Ok(command) = command(alloc) else {
+        return Err(PlanAnswer::Memory);
+    };
+    match command.try_get_matches_from(words) {
+        Ok(matches) => Ok(matches),
+        Err(error) if error.kind() == ErrorKind::OutOfMemory => Err(PlanAnswer::Memory),
+        Err(_) => Err(PlanAnswer::Usage),
+    }
+}
+
+// The command with its six options, for words with no program name before them.
+fn command<'a>(alloc: Global) -> Result<Command<'a>, AllocError>
+    ensures { IfOk result (λ c. app_of c ≡ pargather_command) }
+{
+    let bare = Command::new(alloc, "pargather").no_binary_name(true);
+    let grouped = with_option(alloc, bare, "group", false)?;
+    let summed = with_option(alloc, grouped, "agg", true)?;
+    let filtered = with_option(alloc, summed, "where", false)?;
+    let staffed = with_option(alloc, filtered, "workers", false)?;
+    let planned = with_option(alloc, staffed, "plan", false)?;
+    with_option(alloc, planned, "area-pages", false)
+}
+
+// A command with one more option, which takes one value.
+fn with_option<'a>(
+    alloc: Global,
+    command: Command<'a>,
+    name: &'a str,
+    is_required: bool,
+) -> Result<Command<'a>, AllocError>
+    ensures { IfOk result (λ c. app_of c ≡ with_rule (app_of command.entry) (option_of name.entry.now is_required)) }
+{
+    command.arg(Arg::new(alloc, name).long(name).required(is_required))
+}

@@ -1,0 +1,135 @@
+//! A plan by the names of its columns, with the number of workers and the pages of the shared area.
+
+ghost use Rattle.std.specs.Prelude.{◌≡◌, ◌<◌, ◌≤◌, ◌++◌, [], filter_map, length, map, option_map, option_to_list, slice_index_or};
+ghost use Rattle.par_model.specs.Named.{names_of};
+ghost use Rattle.par_model.specs.Table.{item_text};
+
+use par_model::{FilterOp, ItemKind};
+use std::marker::Model;
+
+/// Why words gave no plan: they are none, or memory ran out.
+#[derive(Debug, Drop)]
+pub enum PlanAnswer {
+    Usage,
+    Memory,
+}
+
+// An aggregate with the name of its column, if it reads one, and the name of its output column.
+#[derive(Drop)]
+pub(crate) struct PlanItem {
+    pub(crate) kind: ItemKind,
+    pub(crate) column: Option<String>,
+    pub(crate) text: String,
+}
+
+impl Model for PlanItem {
+    ghost use Rattle.std.specs.Prelude.{◌≡◌, option_map, string_bytes};
+    ghost use Rattle.par_model.specs.Named.{NamedItem};
+    ghost use Rattle.par_model.specs.Table.{item_text};
+
+    ghost Value = { NamedItem };
+
+    ghost view = { λ i. record { kind = i.kind; column = option_map string_bytes i.column } };
+
+    ghost invariant = { λ i. string_bytes i.text ≡ item_text (record { kind = i.kind; column = option_map string_bytes i.column }) };
+}
+
+// A filter by the name of its column.
+#[derive(Drop)]
+pub(crate) struct PlanFilter {
+    pub(crate) column: String,
+    pub(crate) op: FilterOp,
+    pub(crate) value: i64,
+}
+
+impl Model for PlanFilter {
+    ghost use Rattle.std.specs.Prelude.{string_bytes};
+    ghost use Rattle.par_model.specs.Named.{NamedFilter};
+
+    ghost Value = { NamedFilter };
+
+    ghost view = { λ f. record { column = string_bytes f.column; op = f.op; value = f.value } };
+}
+
+/// A plan by the names of its columns. It owns its texts, and is made by [`Plan::of_words`].
+#[derive(Drop)]
+pub struct Plan {
+    pub(crate) groups: Vec<String>,
+    pub(crate) items: Vec<PlanItem>,
+    pub(crate) filter: Option<PlanFilter>,
+    pub(crate) hash: bool,
+    pub(crate) workers: u32,
+    pub(crate) area_pages: u32,
+}
+
+impl Model for Plan {
+    ghost use Rattle.std.specs.Prelude.{◌≤◌, ◌<◌, length, map, string_bytes};
+    ghost use Rattle.plan_spec.specs.Query.{Query};
+    ghost use Rattle.plan_spec.specs.Parts.{IsSmall};
+
+    ghost Value = { Query };
+
+    ghost view = { λ p. record { plan = record { groups = map string_bytes p.groups.items; items = p.items.items; hash = p.hash; filter = p.filter }; workers = p.workers; area_pages = p.area_pages } };
+
+    ghost invariant = { λ p. IsSmall (length p.groups.items) (length p.items.items) p.workers p.area_pages };
+}
+
+impl Plan {
+    /// How many workers are asked for, up to 64.
+    pub fn workers(&self) -> u32
+        ensures value { result ≡ self.now.workers }
+        ensures within { result ≤ 64 }
+    {
+        self.workers
+    }
+
+    /// How many pages the shared area is to have, up to 65,536.
+    pub fn area_pages(&self) -> u32
+        ensures value { result ≡ self.now.area_pages }
+        ensures within { result ≤ 65536 }
+    {
+        self.area_pages
+    }
+
+    /// A name of the plan: names are counted through the columns to group by, the aggregates that
+    /// have a column, and the filter.
+    pub fn name(&self, at: u32) -> &str
+        requires { at < length (names_of self.now.plan) }
+        ensures { result.now ≡ slice_index_or (names_of self.now.plan) at [] }
+    {
+        let at = at as usize;
+        if at < self.groups.len() {
+            return self.groups[at].as_str();
+        }
+        column_name(self.items.as_slice(), &self.filter, at - self.groups.len())
+    }
+
+    /// How an aggregate is written as an output column, as `count` or `sum(v)`.
+    pub fn item_text(&self, at: u32) -> &str
+        requires { at < length self.now.plan.items }
+        ensures { result.now ≡ slice_index_or (map item_text self.now.plan.items) at [] }
+    {
+        let item = &self.items[at as usize];
+        item.text.as_str()
+    }
+}
+
+// A name among those of the aggregates and the filter.
+fn column_name<'a>(items: &'a [PlanItem], filter: &'a Option<PlanFilter>, place: usize) -> &'a str
+    requires { place < length (filter_map (λ i. i.column) items.now ++ option_to_list (option_map (λ f. f.column) filter.now)) }
+    ensures { result.now ≡ slice_index_or (filter_map (λ i. i.column) items.entry.now ++ option_to_list (option_map (λ f. f.column) filter.entry.now)) place [] }
+{
+    let mut left = place;
+    'items: for item in items {
+        if let Some(name) = &item.column {
+            if left == 0 {
+                return name.as_str();
+            }
+            left -= 1;
+        }
+    }
+    match filter {
+        Some(filter) => filter.column.as_str(),
+        None => unreachable!(),
+    }
+}

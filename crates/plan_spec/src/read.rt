@@ -1,0 +1,95 @@
+//! The plan of the words of a command line.
+
+ghost use Rattle.std.specs.Prelude.{◌≡◌, ◌≤◌, None, Some, IfOk, IfSome, map, option_map, string_bytes, vec_len};
+ghost use Rattle.plan_spec.specs.Query.{filter_given, groups_given, hash_given, items_given, number_given, query_of};
+ghost use Rattle.plan_spec.specs.declared.plan.PlanAnswer.TheVariants as answer;
+
+use crate::grammar::{filter, hash, items, names, number};
+use crate::options::option_values;
+use crate::plan::{Plan, PlanAnswer, PlanFilter, PlanItem};
+use std::alloc::Global;
+
+impl Plan {
+    /// The plan of the words after a program's name: a simple command of `clap` with the options
+    /// `--group`, `--agg` (required), `--where`, `--workers`, `--plan` and `--area-pages`, each with one
+    /// value, and each value by its grammar. Asking for help is no plan.
+    pub fn of_words(alloc: Global, words: &[String]) -> Result<Plan, PlanAnswer>
+        ensures plan { IfOk result (λ plan. query_of (map string_bytes words.now) ≡ Some plan) }
+        ensures usage { result ≡ Err answer.Usage → query_of (map string_bytes words.now) ≡ None }
+    {
+        let given = option_values(alloc, words)?;
+        let groups = groups_read(alloc, given.group)?;
+        let items = items_read(alloc, given.agg)?;
+        let filter = filter_read(alloc, given.filter)?;
+        let hash = hash_read(given.plan)?;
+        let workers = number_read(given.workers, 64, 2)?;
+        let area_pages = number_read(given.area_pages, 65536, 2048)?;
+        Ok(Plan {
+            groups,
+            items,
+            filter,
+            hash,
+            workers,
+            area_pages,
+        })
+    }
+}
+
+fn groups_read(alloc: Global, given: Option<&str>) -> Result<Vec<String>, PlanAnswer>
+    ensures groups { IfOk result (λ v. groups_given (option_map (λ s. s.now) given.entry) ≡ Some (map string_bytes v.items)) }
+    ensures within { IfOk result (λ v. vec_len v ≤ 8) }
+    ensures none { result ≡ Err answer.Usage → groups_given (option_map (λ s. s.now) given.entry) ≡ None }
+{
+    match given {
+        Some(text) => names(alloc, text),
+        None => Ok(Vec::new(alloc)),
+    }
+}
+
+fn items_read(alloc: Global, given: Option<&str>) -> Result<Vec<PlanItem>, PlanAnswer>
+    ensures items { IfOk result (λ v. items_given (option_map (λ s. s.now) given.entry) ≡ Some v.items) }
+    ensures some { IfOk result (λ v. 1 ≤ vec_len v) }
+    ensures within { IfOk result (λ v. vec_len v ≤ 8) }
+    ensures none { result ≡ Err answer.Usage → items_given (option_map (λ s. s.now) given.entry) ≡ None }
+{
+    match given {
+        Some(text) => items(alloc, text),
+        None => Err(PlanAnswer::Usage),
+    }
+}
+
+fn filter_read(alloc: Global, given: Option<&str>) -> Result<Option<PlanFilter>, PlanAnswer>
+    ensures filter { IfOk result (λ f. filter_given (option_map (λ s. s.now) given.entry) ≡ Some f) }
+    ensures none { result ≡ Err answer.Usage → filter_given (option_map (λ s. s.now) given.entry) ≡ None }
+{
+    match given {
+        Some(text) => match filter(alloc, text) {
+            Ok(filter) => Ok(Some(filter)),
+            Err(answer) => Err(answer),
+        },
+        None => Ok(None),
+    }
+}
+
+fn hash_read(given: Option<&str>) -> Result<bool, PlanAnswer>
+    ensures hash { IfOk result (λ h. hash_given (option_map (λ s. s.now) given.entry) ≡ Some h) }
+    ensures none { result ≡ Err answer.Usage → hash_given (option_map (λ s. s.now) given.entry) ≡ None }
+{
+    match given {
+        Some(text) => hash(text).ok_or(PlanAnswer::Usage),
+        None => Ok(false),
+    }
+}
+
+fn number_read(given: Option<&str>, most: u32, missing: u32) -> Result<u32, PlanAnswer>
+    requires most { most ≤ 65536 }
+    requires missing { missing ≤ most }
+    ensures number { IfOk result (λ n. number_given most missing (option_map (λ s. s.now) given.entry) ≡ Some n) }
+    ensures within { IfOk result (λ n. n ≤ most) }
+    ensures none { result ≡ Err answer.Usage → number_given most missing (option_map (λ s. s.now) given.entry) ≡ None }
+{
+    match given {
+        Some(text) => number(text, most).ok_or(PlanAnswer::Usage),
+        None => Ok(missing),
+    }
+}
