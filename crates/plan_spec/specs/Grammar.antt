@@ -16,7 +16,7 @@ parts_of text = slice_split (λ byte. byte == 44) text
 
 -- one to eight names between commas, none of them empty
 abbrev pub names_in : List ℕ → Option (List (List ℕ))
-names_in text = if nat_le (length (parts_of text)) 8 && list_all (λ part. not (length part == 0)) (parts_of text) then Some (parts_of text) else None
+names_in text = if nat_le (length (parts_of text)) 8 && not (list_any (λ part. length part == 0) (parts_of text)) then Some (parts_of text) else None
 
 -- the aggregate of a column, by its name
 abbrev pub kind_in : List ℕ → Option ItemKind

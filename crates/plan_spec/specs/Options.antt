@@ -1,5 +1,5 @@
 -- The six options of the command, and what a command line gives for each.
-use Rattle.std.specs.Prelude.{◌==◌, ℕ, Bool, false, true, List, Option, Some, codes, fold, length, map}
+use Rattle.std.specs.Prelude.{◌==◌, ℕ, Bool, false, true, List, Option, Some, codes, length}
 use Rattle.clap.specs.Words.{App, Rule, fault_of, first_of, matches_of, new_app, new_rule, with_rule}
 
 -- an option that takes one value, and may have to be given

@@ -1,5 +1,6 @@
 -- What a command line asks for.
 use Rattle.std.specs.Prelude.{ℕ, Bool, false, List, [], Option, Some, None, codes, if◌then◌else◌, option_and_then, option_map}
+use Rattle.std.specs.Borrow.{Bor}
 use Rattle.par_model.specs.Named.{NamedFilter, NamedItem, NamedPlan}
 use Rattle.plan_spec.specs.Grammar.{filter_in, hash_in, items_in, names_in, number_in}
 use Rattle.plan_spec.specs.Options.{is_command_line, value_of}
@@ -9,6 +10,10 @@ pub record Query : Type 0 where
   pub plan : NamedPlan
   pub workers : ℕ
   pub area_pages : ℕ
+
+-- the bytes of an option's value
+abbrev pub text_of : Option (Bor (List ℕ)) → Option (List ℕ)
+text_of given = option_map (λ s. s.now) given
 
 -- the names to group by: none where the option is not given
 abbrev pub groups_given : Option (List ℕ) → Option (List (List ℕ))

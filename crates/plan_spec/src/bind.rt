@@ -80,7 +80,9 @@ fn bind_items(items: &[PlanItem], rows: &RowStore) -> Result<([Item; 8], u32), u
     ensures items { IfOk result (λ r. take (length items.now) r.0 ≡ map (bound_item (record_at rows.now 0)) items.now) }
     ensures unused { IfOk result (λ r. drop (length items.now) r.0 ≡ replicate (8 - length items.now) unused) }
     ensures named { IfOk result (λ r. r.1 ≡ length (filter_map (λ i. i.column) items.now)) }
+    ensures few { IfOk result (λ r. r.1 ≤ 8) }
     ensures whole { OnOk result (missing_from (record_at rows.now 0) (filter_map (λ i. i.column) items.now) ≡ None) }
+    ensures near { IfErr result (λ at. at ≤ 8) }
     ensures missing { IfErr result (λ at. missing_from (record_at rows.now 0) (filter_map (λ i. i.column) items.now) ≡ Some at) }
 {
     let unused = Item {
@@ -90,20 +92,33 @@ fn bind_items(items: &[PlanItem], rows: &RowStore) -> Result<([Item; 8], u32), u
     let mut bound = [unused; 8];
     let mut named = 0u32;
     'items: for (at, item) in items.iter().enumerate() {
-        let mut place = 0;
-        if let Some(name) = &item.column {
-            match column(rows, name.as_str()) {
-                Some(found) => place = found,
-                None => return Err(named),
+        match bind_item(item, rows) {
+            Some((one, count)) => {
+                bound[at] = one;
+                named += count;
             }
-            named += 1;
+            None => return Err(named),
         }
-        bound[at] = Item {
-            kind: item.kind,
-            column: place,
-        };
     }
     Ok((bound, named))
+}
+
+// An aggregate over its column, with how many columns it has, or none where its name is no field.
+fn bind_item(item: &PlanItem, rows: &RowStore) -> Option<(Item, u32)>
+    ensures item { IfSome result (λ r. r.0 ≡ bound_item (record_at rows.now 0) item.now) }
+    ensures count { IfSome result (λ r. r.1 ≡ length (option_to_list item.now.column)) }
+    ensures within { IfSome result (λ r. r.1 ≤ 1) }
+    ensures whole { OnSome result (missing_from (record_at rows.now 0) (option_to_list item.now.column) ≡ None) }
+    ensures missing { IfNone result (missing_from (record_at rows.now 0) (option_to_list item.now.column) ≡ Some 0) }
+{
+    let kind = item.kind;
+    match &item.column {
+        None => Some((Item { kind, column: 0 }, 0)),
+        Some(name) => {
+            let column = column(rows, name.as_str())?;
+            Some((Item { kind, column }, 1))
+        }
+    }
 }
 
 // The filter over its column, or none where its name is no field.
@@ -129,7 +144,7 @@ fn column(rows: &RowStore, name: &str) -> Option<u32>
 {
     let _rows = rows.count();
     'fields: for at in 0..rows.width(0) {
-        if rows.field(0, at) == name.as_bytes() {
+        if name.as_bytes() == rows.field(0, at) {
             return Some(at);
         }
     }

@@ -1,7 +1,7 @@
 //! The grammars of the options' values: lists between commas, aggregates, a filter, numbers.
 
-ghost use Rattle.std.specs.Prelude.{◌≡◌, ◌≤◌, None, Some, IfOk, length, map, option_map, string_bytes, vec_len};
-ghost use Rattle.std.specs.List.{position_or_len};
+ghost use Rattle.std.specs.Prelude.{◌≡◌, ◌==◌, ◌≤◌, None, Some, IfOk, length, map, option_map, string_bytes, vec_len};
+ghost use Rattle.std.specs.List.{list_any, position_or_len};
 ghost use Rattle.par_model.specs.Table.{kind_text};
 ghost use Rattle.plan_spec.specs.Grammar.{comparison_in, filter_in, hash_in, is_relation_byte, item_in, item_over, items_in, kind_in, names_in, number_in, parts_of, relation_in};
 ghost use Rattle.plan_spec.specs.declared.plan.PlanAnswer.TheVariants as answer;
@@ -21,7 +21,10 @@ pub(crate) fn names(alloc: Global, text: &str) -> Result<Vec<String>, PlanAnswer
     let Ok(parts) = parts(alloc, text) else {
         return Err(PlanAnswer::Memory);
     };
-    if parts.len() > 8 || !parts.iter().all(|part| !part.is_empty()) {
+    if parts.len() > 8 {
+        return Err(PlanAnswer::Usage);
+    }
+    if has_empty(parts.as_slice()) {
         return Err(PlanAnswer::Usage);
     }
     match owned(alloc, parts.as_slice()) {
@@ -62,6 +65,12 @@ fn parts<'a>(alloc: Global, text: &'a str) -> Result<Vec<&'a str>, AllocError>
     ensures { IfOk result (λ v. map (λ s. s.now) v.items ≡ parts_of text.entry.now) }
 {
     text.split(',').collect(alloc)
+}
+
+fn has_empty(parts: &[&str]) -> bool
+    ensures { result ≡ list_any (λ part. length part.now == 0) parts.entry.now }
+{
+    parts.iter().any(|part| part.is_empty())
 }
 
 // Texts of their own.

@@ -11,6 +11,8 @@ mod grammar;
 mod options;
 mod plan;
 mod read;
+#[cfg(test)]
+mod tests;
 
 pub use bind::NoColumn;
 pub use plan::{Plan, PlanAnswer};

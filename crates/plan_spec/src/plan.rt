@@ -121,11 +121,10 @@ fn column_name<'a>(items: &'a [PlanItem], filter: &'a Option<PlanFilter>, place:
 {
     let mut left = place;
     'items: for item in items {
-        if let Some(name) = &item.column {
-            if left == 0 {
-                return name.as_str();
-            }
-            left -= 1;
+        match &item.column {
+            Some(name) if left == 0 => return name.as_str(),
+            Some(_) => left -= 1,
+            None => {}
         }
     }
     match filter {

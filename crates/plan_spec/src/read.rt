@@ -1,11 +1,11 @@
 //! The plan of the words of a command line.
 
-ghost use Rattle.std.specs.Prelude.{◌≡◌, ◌≤◌, None, Some, IfOk, IfSome, map, option_map, string_bytes, vec_len};
-ghost use Rattle.plan_spec.specs.Query.{filter_given, groups_given, hash_given, items_given, number_given, query_of};
+ghost use Rattle.std.specs.Prelude.{◌≡◌, ◌≤◌, None, Some, IfOk, map, string_bytes, vec_len};
+ghost use Rattle.plan_spec.specs.Query.{filter_given, groups_given, hash_given, items_given, number_given, query_by, query_of, text_of};
 ghost use Rattle.plan_spec.specs.declared.plan.PlanAnswer.TheVariants as answer;
 
 use crate::grammar::{filter, hash, items, names, number};
-use crate::options::option_values;
+use crate::options::{OptionValues, option_values};
 use crate::plan::{Plan, PlanAnswer, PlanFilter, PlanItem};
 use std::alloc::Global;
 
@@ -17,28 +17,40 @@ impl Plan {
         ensures plan { IfOk result (λ plan. query_of (map string_bytes words.now) ≡ Some plan) }
         ensures usage { result ≡ Err answer.Usage → query_of (map string_bytes words.now) ≡ None }
     {
-        let given = option_values(alloc, words)?;
-        let groups = groups_read(alloc, given.group)?;
-        let items = items_read(alloc, given.agg)?;
-        let filter = filter_read(alloc, given.filter)?;
-        let hash = hash_read(given.plan)?;
-        let workers = number_read(given.workers, 64, 2)?;
-        let area_pages = number_read(given.area_pages, 65536, 2048)?;
-        Ok(Plan {
-            groups,
-            items,
-            filter,
-            hash,
-            workers,
-            area_pages,
-        })
+        match option_values(alloc, words) {
+            Ok(given) => read_values(alloc, &given),
+            Err(answer) => Err(answer),
+        }
     }
 }
 
+// The plan of the options' values.
+fn read_values(alloc: Global, given: &OptionValues<'_>) -> Result<Plan, PlanAnswer>
+    ensures plan { IfOk result (λ plan. query_by (groups_given (text_of given.now.group)) (items_given (text_of given.now.agg)) (filter_given (text_of given.now.filter))
+        (hash_given (text_of given.now.plan)) (number_given 64 2 (text_of given.now.workers)) (number_given 65536 2048 (text_of given.now.area_pages)) ≡ Some plan) }
+    ensures usage { result ≡ Err answer.Usage → query_by (groups_given (text_of given.now.group)) (items_given (text_of given.now.agg)) (filter_given (text_of given.now.filter))
+        (hash_given (text_of given.now.plan)) (number_given 64 2 (text_of given.now.workers)) (number_given 65536 2048 (text_of given.now.area_pages)) ≡ None }
+{
+    let groups = groups_read(alloc, given.group)?;
+    let items = items_read(alloc, given.agg)?;
+    let filter = filter_read(alloc, given.filter)?;
+    let hash = hash_read(given.plan)?;
+    let workers = number_read(given.workers, 64, 2)?;
+    let area_pages = number_read(given.area_pages, 65536, 2048)?;
+    Ok(Plan {
+        groups,
+        items,
+        filter,
+        hash,
+        workers,
+        area_pages,
+    })
+}
+
 fn groups_read(alloc: Global, given: Option<&str>) -> Result<Vec<String>, PlanAnswer>
-    ensures groups { IfOk result (λ v. groups_given (option_map (λ s. s.now) given.entry) ≡ Some (map string_bytes v.items)) }
+    ensures groups { IfOk result (λ v. groups_given (text_of given.entry) ≡ Some (map string_bytes v.items)) }
     ensures within { IfOk result (λ v. vec_len v ≤ 8) }
-    ensures none { result ≡ Err answer.Usage → groups_given (option_map (λ s. s.now) given.entry) ≡ None }
+    ensures none { result ≡ Err answer.Usage → groups_given (text_of given.entry) ≡ None }
 {
     match given {
         Some(text) => names(alloc, text),
@@ -47,10 +59,10 @@ fn groups_read(alloc: Global, given: Option<&str>) -> Result<Vec<String>, PlanAn
 }
 
 fn items_read(alloc: Global, given: Option<&str>) -> Result<Vec<PlanItem>, PlanAnswer>
-    ensures items { IfOk result (λ v. items_given (option_map (λ s. s.now) given.entry) ≡ Some v.items) }
+    ensures items { IfOk result (λ v. items_given (text_of given.entry) ≡ Some v.items) }
     ensures some { IfOk result (λ v. 1 ≤ vec_len v) }
     ensures within { IfOk result (λ v. vec_len v ≤ 8) }
-    ensures none { result ≡ Err answer.Usage → items_given (option_map (λ s. s.now) given.entry) ≡ None }
+    ensures none { result ≡ Err answer.Usage → items_given (text_of given.entry) ≡ None }
 {
     match given {
         Some(text) => items(alloc, text),
@@ -59,8 +71,8 @@ fn items_read(alloc: Global, given: Option<&str>) -> Result<Vec<PlanItem>, PlanA
 }
 
 fn filter_read(alloc: Global, given: Option<&str>) -> Result<Option<PlanFilter>, PlanAnswer>
-    ensures filter { IfOk result (λ f. filter_given (option_map (λ s. s.now) given.entry) ≡ Some f) }
-    ensures none { result ≡ Err answer.Usage → filter_given (option_map (λ s. s.now) given.entry) ≡ None }
+    ensures filter { IfOk result (λ f. filter_given (text_of given.entry) ≡ Some f) }
+    ensures none { result ≡ Err answer.Usage → filter_given (text_of given.entry) ≡ None }
 {
     match given {
         Some(text) => match filter(alloc, text) {
@@ -72,8 +84,8 @@ fn filter_read(alloc: Global, given: Option<&str>) -> Result<Option<PlanFilter>,
 }
 
 fn hash_read(given: Option<&str>) -> Result<bool, PlanAnswer>
-    ensures hash { IfOk result (λ h. hash_given (option_map (λ s. s.now) given.entry) ≡ Some h) }
-    ensures none { result ≡ Err answer.Usage → hash_given (option_map (λ s. s.now) given.entry) ≡ None }
+    ensures hash { IfOk result (λ h. hash_given (text_of given.entry) ≡ Some h) }
+    ensures none { result ≡ Err answer.Usage → hash_given (text_of given.entry) ≡ None }
 {
     match given {
         Some(text) => hash(text).ok_or(PlanAnswer::Usage),
@@ -84,9 +96,9 @@ fn hash_read(given: Option<&str>) -> Result<bool, PlanAnswer>
 fn number_read(given: Option<&str>, most: u32, missing: u32) -> Result<u32, PlanAnswer>
     requires most { most ≤ 65536 }
     requires missing { missing ≤ most }
-    ensures number { IfOk result (λ n. number_given most missing (option_map (λ s. s.now) given.entry) ≡ Some n) }
+    ensures number { IfOk result (λ n. number_given most missing (text_of given.entry) ≡ Some n) }
     ensures within { IfOk result (λ n. n ≤ most) }
-    ensures none { result ≡ Err answer.Usage → number_given most missing (option_map (λ s. s.now) given.entry) ≡ None }
+    ensures none { result ≡ Err answer.Usage → number_given most missing (text_of given.entry) ≡ None }
 {
     match given {
         Some(text) => number(text, most).ok_or(PlanAnswer::Usage),

@@ -1,0 +1,17 @@
+use Rattle.std.proofs.Common.{◌≡◌, ◌≤◌, ◌-◌, drop, length, map, take}
+use Rattle.std.specs.Prelude.{None, filter_map, replicate}
+use Rattle.csv_rows.specs.Records.{record_at}
+use Rattle.par_model.specs.Named.{bound_item}
+use Rattle.par_model.specs.PlanLayout.{unused}
+use Rattle.plan_spec.specs.Binding.{missing_from}
+use Rattle.plan_spec.proofs.bind.bind_items.Given as goal
+
+abbrev pub invariant-items : goal.invariant-items
+invariant-items l = record {
+  items : take l.at l.bound ≡ map (bound_item (record_at l.rows 0)) (take l.at l.items);
+  size : length l.bound ≡ 8;
+  few : l.named ≤ l.at;
+  rest : drop l.at l.bound ≡ replicate (8 - l.at) unused;
+  named : l.named ≡ length (filter_map (λ i. i.column) (take l.at l.items));
+  present : missing_from (record_at l.rows 0) (filter_map (λ i. i.column) (take l.at l.items)) ≡ None;
+}

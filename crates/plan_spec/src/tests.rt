@@ -1,0 +1,95 @@
+//! What no clause says: that words are read, and what `clap` makes of them.
+
+use crate::{Plan, PlanAnswer};
+use csv_rows::rows;
+use std::alloc::{AllocError, Global};
+use std::test::Fail;
+
+fn owned(alloc: Global, words: &str) -> Result<Vec<String>, AllocError> {
+    let mut list = Vec::new(alloc);
+    for word in words.split(' ') {
+        let word = String::from_str(alloc, word)?;
+        if list.push(word).is_err() {
+            return Err(AllocError);
+        }
+    }
+    Ok(list)
+}
+
+// Words that are a plan, and words that are none.
+#[test]
+fn plans(rt: HostRuntime) -> Result<(), Fail> {
+    let table: [(&str, bool); 22] = [
+        ("--agg count", true),
+        ("--agg=count,sum:v,avg:a:b", true),
+        (
+            "--group g,h --agg count --where v>=-3 --workers 64 --plan hash --area-pages 0",
+            true,
+        ),
+        ("--where=v=9223372036854775807 --agg count", true),
+        ("--agg count --", true),
+        ("--where=-v=1 --agg count", true),
+        ("--group g", false),
+        ("", false),
+        ("--agg avg", false),
+        ("--agg sum:", false),
+        ("--agg count,", false),
+        ("--agg count --agg count", false),
+        ("--group g,,h --agg count", false),
+        ("--group a,b,c,d,e,f,g,h,i --agg count", false),
+        ("--agg count --where v=", false),
+        ("--agg count --where v==1", false),
+        ("--agg count --where =1", false),
+        ("--agg count --workers 65", false),
+        ("--agg count --workers +1", false),
+        ("--agg count --plan sort", false),
+        ("--agg count --area-pages 65537", false),
+        ("--help", false),
+    ];
+    for (words, is_plan) in table {
+        let list = owned(rt.alloc(), words)?;
+        match Plan::of_words(rt.alloc(), list.as_slice()) {
+            Ok(_plan) => assert!(rt; is_plan, "{words}"),
+            Err(PlanAnswer::Usage) => assert!(rt; !is_plan, "{words}"),
+            Err(PlanAnswer::Memory) => assert!(rt; false, "{words}"),
+        }
+    }
+    Ok(())
+}
+
+// A plan bound to a header, and one with a name that the header lacks.
+#[test]
+fn binds(rt: HostRuntime) -> Result<(), Fail> {
+    let Ok(store) = rows(rt.alloc(), b"g,v,g\n") else {
+        assert!(rt; false);
+        return Ok(());
+    };
+    let words = "--group g --agg count,sum:v --where v<2 --workers 7";
+    let list = owned(rt.alloc(), words)?;
+    let Ok(plan) = Plan::of_words(rt.alloc(), list.as_slice()) else {
+        assert!(rt; false);
+        return Ok(());
+    };
+    assert_eq!(rt; plan.workers(), 7);
+    assert_eq!(rt; plan.area_pages(), 2048);
+    match plan.bind(&store) {
+        Ok(bound) => {
+            assert_eq!(rt; bound.groups[0], 0);
+            assert_eq!(rt; bound.items[1].column, 1);
+            assert_eq!(rt; bound.item_count, 2);
+            assert!(rt; bound.filter.is_some() && !bound.hash);
+        }
+        Err(missing) => assert!(rt; false, "{missing:?}"),
+    }
+    let list = owned(rt.alloc(), "--group g --agg sum:v,max:w --where u=1")?;
+    if let Ok(plan) = Plan::of_words(rt.alloc(), list.as_slice()) {
+        match plan.bind(&store) {
+            Ok(_bound) => assert!(rt; false),
+            Err(missing) => {
+                assert_eq!(rt; missing.at, 2);
+                assert_eq!(rt; plan.name(missing.at), "w");
+            }
+        }
+    }
+    Ok(())
+}
