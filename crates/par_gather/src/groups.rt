@@ -1,5 +1,14 @@
 //! How many rows each group has, in an ordered map whose keys stand in the store of records.
 
+ghost use Rattle.std.specs.Prelude.{◌≡◌, ◌+◌, ◌<◌, ◌≤◌, ◌^◌, ℕ, List, [], None, Some, IfErr, IfOk, IfSome, OnOk, drop, get_or, length, take, unwrap_or};
+ghost use Rattle.csv_rows.specs.declared.records.TheConstants.{MOST_RECORDS};
+ghost use Rattle.par_model.specs.Named.{bound_plan, column_of};
+ghost use Rattle.par_model.specs.Outcome.{by_refused};
+ghost use Rattle.par_model.specs.Refuse.{refused_rows};
+ghost use Rattle.par_gather.specs.Counting.{AreCounts, count_in, one_more};
+ghost use Rattle.par_gather.specs.Stops.{Explains};
+ghost use Rattle.par_gather.specs.Words.{count_by_column};
+
 use crate::stop::Stop;
 use csv_rows::RowStore;
 use std::alloc::{AllocError, Global};
@@ -12,13 +21,16 @@ pub(crate) type Counts<'a> = BTreeMap<&'a [u8], u64>;
 const LONGEST: usize = 244;
 
 /// The first field of the header with these bytes.
-pub(crate) fn find_column(alloc: Global, rows: &RowStore, name: &str) -> Result<u32, Stop> {
+pub(crate) fn find_column(rows: &RowStore, name: &str) -> Option<u32>
+    requires { 0 < length rows.now }
+    ensures { result ≡ column_of (get_or rows.now 0 []) name.now }
+{
     for at in 0..rows.width(0) {
         if rows.field(0, at) == name.as_bytes() {
-            return Ok(at);
+            return Some(at);
         }
     }
-    Err(Stop::NoColumn(String::from_str(alloc, name)?))
+    None
 }
 
 /// How many rows each group has; a refused row stops it.
@@ -42,7 +54,10 @@ pub(crate) fn count_groups<'a>(
 }
 
 // Counts one row more of the group.
-fn add_one<'a>(counts: &mut Counts<'a>, field: &'a [u8]) -> Result<(), AllocError> {
+fn add_one<'a>(counts: &mut Counts<'a>, field: &'a [u8]) -> Result<(), AllocError>
+    requires { unwrap_or (count_in counts.old field.now) 0 + 1 < 2 ^ 64 }
+    ensures { OnOk result ((text : List ℕ) → count_in counts.new text ≡ one_more (count_in counts.old) field.now text) }
+{
     let count = counts.entry(field)?.or_insert(0);
     *count += 1;
     Ok(())

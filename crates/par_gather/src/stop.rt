@@ -1,6 +1,11 @@
 //! Why a query has no table: its status and its line.
 
-use crate::status::{MISUSED, NOT_BUILT, NO_MEMORY, READ_FAULT, WRITE_FAULT};
+ghost use Rattle.std.specs.Prelude.{◌≡◌};
+ghost use Rattle.par_gather.specs.Lines.{IsSaid, line};
+ghost use Rattle.par_gather.specs.Stops.{stop_of_parsing, stop_of_reading, stop_status, stop_text};
+ghost use Rattle.par_gather.specs.declared.stop.Stop.TheVariants as stop;
+
+use crate::status::{MISUSED, NO_MEMORY, NOT_BUILT, READ_FAULT, WRITE_FAULT};
 use csv_rows::{ReadAnswer, RowsAnswer};
 use par_io::{Failed, Sink, write_whole};
 use std::alloc::AllocError;
@@ -17,12 +22,16 @@ pub(crate) enum Stop {
 }
 
 impl From<AllocError> for Stop {
+    ghost from_gives = { λ _ why. why ≡ stop.Memory };
+
     fn from(_error: AllocError) -> Stop {
         Stop::Memory
     }
 }
 
 impl From<ReadAnswer> for Stop {
+    ghost from_gives = { λ answer why. why ≡ stop_of_reading answer };
+
     fn from(answer: ReadAnswer) -> Stop {
         match answer {
             ReadAnswer::ReadFault => Stop::ReadFault,
@@ -33,6 +42,8 @@ impl From<ReadAnswer> for Stop {
 }
 
 impl From<RowsAnswer> for Stop {
+    ghost from_gives = { λ answer why. why ≡ stop_of_parsing answer };
+
     fn from(answer: RowsAnswer) -> Stop {
         match answer {
             RowsAnswer::NoHeader => Stop::NoHeader,
@@ -43,7 +54,10 @@ impl From<RowsAnswer> for Stop {
 }
 
 impl Stop {
-    pub(crate) fn status(&self) -> u8 {
+    // The exit status.
+    pub(crate) fn status(&self) -> u8
+        ensures { result ≡ stop_status self.now }
+    {
         match self {
             Stop::NotBuilt => NOT_BUILT,
             Stop::ReadFault => READ_FAULT,
@@ -54,8 +68,10 @@ impl Stop {
         }
     }
 
-    // Writes the line, or a prefix of it where the sink fails.
-    pub(crate) fn report<E: Sink>(&self, err: &mut E) {
+    // Writes the line. A failed write ends it, and changes nothing else.
+    pub(crate) fn report<E: Sink>(&self, err: &mut E)
+        ensures { IsSaid (E.taken err.old) (E.taken err.new) (E.faults err.old) (E.faults err.new) (line (stop_text self.now)) }
+    {
         let _ = self.write_line(err);
     }
 
