@@ -9,8 +9,8 @@ use Rattle.std.specs.Cmp.Lexicographic.{nat_list_cmp_total, slice_cmp}
 use Rattle.std.specs.List.{AllByRecursion}
 use Rattle.std.specs.List.Sorted.{IsStrictlySortedBy}
 use Rattle.std.specs.Map.{keys_of}
-use Rattle.std.specs.declared.cmp.Ordering.{Ordering}
 use Rattle.std.specs.declared.cmp.Ordering.TheVariants.{Less}
+use Rattle.csv_rows.specs.Records.{record_at}
 use Rattle.par_model.specs.Aggregate.{rows_of, state_of_rows}
 use Rattle.par_model.specs.Keep.{is_kept}
 use Rattle.par_model.specs.Key.{encoded, key_of}
@@ -20,12 +20,8 @@ use Rattle.par_model.specs.Record.{field_of}
 use Rattle.par_model.specs.Table.{IsDistinctSorted, IsTable, columns_cmp, group_record, occurring, table_text}
 use Rattle.par_gather.proofs.Counts.{same_text}
 use Rattle.par_gather.proofs.Texts.{Contains-from_lookup, Contains-from_map, Contains-map, IsSome-lookup, bytes_eq-refl, some_filter, some_from_filter, text_of}
-use Rattle.par_gather.specs.Counting.{AreCounts, count_in, count_of, count_plan, count_record, counts_table, nonzero}
+use Rattle.par_gather.specs.Counting.{AreCounts, count_in, count_of, count_plan, count_record, counts_table, field_cmp, nonzero}
 use Rattle.par_gather.specs.Words.{count_by_column}
-
--- how the keys of a map of counts compare
-abbrev key_cmp : Bor (List ℕ) → Bor (List ℕ) → Ordering
-key_cmp x y = slice_cmp nat_cmp x.now y.now
 
 -- the columns of a group
 abbrev columns : Bor (List ℕ) × ℕ → List (List ℕ)
@@ -33,11 +29,11 @@ columns entry = entry.0.now ∷ []
 
 -- ---- the groups are in order
 
-all_below : (key : Bor (List ℕ)) (entries : List (Bor (List ℕ) × ℕ)) → AllByRecursion (λ y. key_cmp key y ≡ Less) (keys_of entries) → AllByRecursion (λ y. columns_cmp (key.now ∷ []) y ≡ Less) (map columns entries)
+all_below : (key : Bor (List ℕ)) (entries : List (Bor (List ℕ) × ℕ)) → AllByRecursion (λ y. field_cmp key y ≡ Less) (keys_of entries) → AllByRecursion (λ y. columns_cmp (key.now ∷ []) y ≡ Less) (map columns entries)
 all_below key [] below = tt
 all_below key (e ∷ entries) below = (rw below.0 refl, all_below key entries below.1)
 
-rising : (entries : List (Bor (List ℕ) × ℕ)) → IsStrictlySortedBy key_cmp (keys_of entries) → IsStrictlySortedBy columns_cmp (map columns entries)
+rising : (entries : List (Bor (List ℕ) × ℕ)) → IsStrictlySortedBy field_cmp (keys_of entries) → IsStrictlySortedBy columns_cmp (map columns entries)
 unfolding IsStrictlySortedBy
 rising [] sorted = tt
 rising (e ∷ entries) sorted = (all_below e.0 entries sorted.0, rising entries sorted.1)
@@ -137,7 +133,7 @@ records_are m column rows counts (e ∷ entries) found =
     cc (first, records_are m column rows counts entries found.1)
 
 -- the text of a map of the counts of a column is the answer of the plan that counts its rows
-pub counts-answer : (name : List ℕ) (header : List (List ℕ)) (rows : List (List (List ℕ))) (column : ℕ) (m : BTreeMap (Bor (List ℕ)) ℕ) → column_of header name ≡ Some column → IsOrdered key_cmp m → AreCounts m column rows
+pub counts-answer : (name : List ℕ) (header : List (List ℕ)) (rows : List (List (List ℕ))) (column : ℕ) (m : BTreeMap (Bor (List ℕ)) ℕ) → column_of header name ≡ Some column → IsOrdered field_cmp m → AreCounts m column rows
     → IsAnswer (count_by_column name) (header ∷ rows) (table_text (counts_table name m.entries))
 unfolding IsAnswer
 counts-answer name header rows column m at sorted counts =
@@ -149,3 +145,9 @@ counts-answer name header rows column m at sorted counts =
       is = ap (λ l. (name ∷ codes "count" ∷ []) ∷ l) (records_are m column rows counts m.entries found);
     } in
     (counts_table name m.entries, rw plan table, refl)
+
+-- the same over all the records, where there is a header
+pub records-answer : (name : List ℕ) (records : List (List (List ℕ))) (column : ℕ) (m : BTreeMap (Bor (List ℕ)) ℕ) → 0 < length records → column_of (record_at records 0) name ≡ Some column → IsOrdered field_cmp m → AreCounts m column (drop 1 records)
+    → IsAnswer (count_by_column name) records (table_text (counts_table name m.entries))
+records-answer name [] column m some at sorted counts = absurd (omega arith)
+records-answer name (header ∷ rows) column m some at sorted counts = counts-answer name header rows column m at sorted counts

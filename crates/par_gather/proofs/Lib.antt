@@ -5,3 +5,6 @@ pub mod Counts
 pub mod Texts
 pub mod CountTable
 pub mod Tables
+pub mod Outcomes
+pub mod Inputs
+pub mod Statuses

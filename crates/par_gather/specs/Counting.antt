@@ -4,9 +4,14 @@ use Rattle.std.specs.Borrow.{Bor}
 use Rattle.std.specs.BTreeMap.{BTreeMap, get_by}
 use Rattle.std.specs.Cmp.Lexicographic.{slice_cmp}
 use Rattle.std.specs.Ordering.{nat_cmp}
+use Rattle.std.specs.declared.cmp.Ordering.{Ordering}
 use Rattle.par_model.specs.Plan.{Plan}
 use Rattle.par_model.specs.Record.{field_of}
 use Rattle.par_model.specs.declared.plan.ItemKind.TheVariants as kind
+
+-- how the texts of two groups compare
+abbrev pub field_cmp : Bor (List ℕ) → Bor (List ℕ) → Ordering
+field_cmp x y = slice_cmp nat_cmp x.now y.now
 
 -- the plan that counts the rows of each group of a column
 abbrev pub count_plan : ℕ → Plan

@@ -1,9 +1,10 @@
 //! The text of a table of counts, written by the crate `csv`.
 
 ghost use Rattle.std.specs.Prelude.{◌≡◌, ◌++◌, IfOk, OnOk, map};
+ghost use Rattle.std.specs.BTreeMap.{IsOrdered};
 ghost use Rattle.csv.specs.Writing.{default_writer, row_text};
 ghost use Rattle.par_model.specs.Table.{table_text};
-ghost use Rattle.par_gather.specs.Counting.{counts_table};
+ghost use Rattle.par_gather.specs.Counting.{counts_table, field_cmp};
 ghost use Rattle.par_gather.specs.Written.{IsBetween, written};
 
 use crate::groups::Counts;
@@ -16,7 +17,8 @@ pub(crate) fn table_text(
     name: &str,
     counts: &Counts<'_>,
 ) -> Result<Vec<u8>, AllocError>
-    ensures { IfOk result (λ text. text.items ≡ table_text (counts_table name.now counts.now.entries)) }
+    ensures text { IfOk result (λ text. text.items ≡ table_text (counts_table name.now counts.now.entries)) }
+    ensures ordered { OnOk result (IsOrdered field_cmp counts.now) }
 {
     let mut writer = WriterBuilder::new().from_writer(Vec::new(alloc));
     let mut digits = itoa::Buffer::new();

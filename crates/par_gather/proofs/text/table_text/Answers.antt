@@ -28,8 +28,8 @@ groups-preserved c =
       whole = rw (wrote, digits) (append_assoc (written c.groups.writer) (row_text default_writer row) (table_text rest) ∙ ap (λ l. written c.groups.writer ++ l) (sym left) ∙ c.groups.invariant.whole);
     }
 
-pub returns-in-Ok : goal.returns-in-Ok
-returns-in-Ok c =
+pub returns-in-Ok-clause-text : goal.returns-in-Ok-clause-text
+returns-in-Ok-clause-text c =
     let none : table_text (map count_record c.groups.field-iterator) ≡ [] = rw c.in-None.ensures.steps.0 table_text-nil in
     let whole = rw (none, append-nil) at c.groups.invariant.whole in
     c.in-Ok.ensures.ok ∙ whole
