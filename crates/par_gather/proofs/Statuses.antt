@@ -1,10 +1,11 @@
 -- The status and the line of a reason to have no table.
-use Rattle.std.proofs.Common.{◌≡◌, ◌≢◌, ℕ, List, refl, None, Some, Option, Contains, IfSome, string_bytes, lit<, ap, sym}
+use Rattle.std.proofs.Common.{◌≡◌, ◌≢◌, ℕ, List, refl, None, Some, Option, Contains, IfSome, string_bytes, codes, lit<, ap, sym}
 use Rattle.par_model.specs.Named.{NamedPlan}
-use Rattle.par_model.specs.Outcome.{NoColumn, NoHeader, Outcome, Table, Usage, outcome}
-use Rattle.par_gather.specs.Answers.{IsOutcome, outcome_over, statuses}
+use Rattle.par_model.specs.Outcome.{NoColumn, NoHeader, Outcome, Refused, Table, TooManyBytes, TooManyRows, Usage, outcome}
+use Rattle.par_gather.specs.Answers.{IsOutcome, outcome_over, status_of, statuses}
 use Rattle.par_gather.specs.Lines.{IsLine, line, outcome_text}
 use Rattle.par_gather.specs.Stops.{Explains, stop_status, stop_text}
+use Rattle.par_gather.specs.declared.status.TheConstants.{NOT_BUILT}
 use Rattle.par_gather.specs.declared.stop.Stop.{Stop}
 use Rattle.par_gather.specs.declared.stop.Stop.TheVariants as stop
 
@@ -26,12 +27,22 @@ outcome_of (stop.NoColumn name) = NoColumn (string_bytes name)
 outcome_of stop.WriteFault = Table
 outcome_of stop.Memory = Usage
 
+-- an outcome of status NOT_BUILT has its text
+text_not_built : (o : Outcome) → status_of o ≡ NOT_BUILT → outcome_text o ≡ codes "not built yet"
+text_not_built Usage is = refl
+text_not_built TooManyBytes is = refl
+text_not_built NoHeader is = cc
+text_not_built TooManyRows is = refl
+text_not_built (NoColumn name) is = cc
+text_not_built (Refused rows) is = refl
+text_not_built Table is = cc
+
 -- its line is that of its status and of an outcome that it explains
 IsLine-stop : (why : Stop) (o : Outcome) → Explains why o → IsLine (stop_status why) o (line (stop_text why))
-IsLine-stop stop.NotBuilt o explains = record { misused = λ e. cc e; read_fault = λ e. cc e; write_fault = λ e. cc e; no_memory = λ e. cc e; not_built = λ _. refl }
+IsLine-stop stop.NotBuilt o explains = record { misused = λ e. cc e; read_fault = λ e. cc e; write_fault = λ e. cc e; no_memory = λ e. cc e; not_built = λ _. (explains, ap line (sym (text_not_built o explains))) }
 IsLine-stop stop.ReadFault o explains = record { misused = λ e. cc e; read_fault = λ _. refl; write_fault = λ e. cc e; no_memory = λ e. cc e; not_built = λ e. cc e }
-IsLine-stop stop.NoHeader o explains = record { misused = λ _. ap (λ p. line (outcome_text p)) (sym explains); read_fault = λ e. cc e; write_fault = λ e. cc e; no_memory = λ e. cc e; not_built = λ e. cc e }
-IsLine-stop (stop.NoColumn name) o explains = record { misused = λ _. ap (λ p. line (outcome_text p)) (sym explains); read_fault = λ e. cc e; write_fault = λ e. cc e; no_memory = λ e. cc e; not_built = λ e. cc e }
+IsLine-stop stop.NoHeader o explains = record { misused = λ _. (ap status_of explains, ap (λ p. line (outcome_text p)) (sym explains)); read_fault = λ e. cc e; write_fault = λ e. cc e; no_memory = λ e. cc e; not_built = λ e. cc e }
+IsLine-stop (stop.NoColumn name) o explains = record { misused = λ _. (ap status_of explains, ap (λ p. line (outcome_text p)) (sym explains)); read_fault = λ e. cc e; write_fault = λ e. cc e; no_memory = λ e. cc e; not_built = λ e. cc e }
 IsLine-stop stop.WriteFault o explains = record { misused = λ e. cc e; read_fault = λ e. cc e; write_fault = λ _. refl; no_memory = λ e. cc e; not_built = λ e. cc e }
 IsLine-stop stop.Memory o explains = record { misused = λ e. cc e; read_fault = λ e. cc e; write_fault = λ e. cc e; no_memory = λ _. refl; not_built = λ e. cc e }
 

@@ -43,7 +43,7 @@ unfoldable pub outcome : Option NamedPlan → ℕ → List (List (List ℕ)) →
 outcome None size records = Usage
 outcome (Some plan) size records = if nat_lt most_bytes size then TooManyBytes else by_records plan records
 
--- the text of the table of a plan over records that have a header
+-- a text is that of the table of a plan over records; without a header there is none
 unfoldable pub IsAnswer : NamedPlan → List (List (List ℕ)) → List ℕ → Type 0
-IsAnswer plan [] text = text ≡ []
+IsAnswer plan [] text = ⊥
 IsAnswer plan (header ∷ rows) text = (table : List (List (List ℕ))) × IsTable plan (bound_plan header plan) rows table × (text ≡ table_text table)
