@@ -1,9 +1,9 @@
 -- A table of the estimated size serves its chunks and keys.
-use Rattle.std.proofs.Common.{◌≡◌, ℕ, zero, suc, ◌+◌, ◌-◌, ◌*◌, ◌/◌, ◌<◌, ◌≤◌, List, [], ◌∷◌, ◌++◌, length, sum_by, refl, sym, ap, ◌∙◌, arith, length-append}
+use Rattle.std.proofs.Common.{ℕ, ◌+◌, ◌*◌, ◌≤◌, List, [], ◌∷◌, ◌++◌, length, sum_by, arith, length-append}
 use Rattle.std.specs.List.Sorted.{IsPermutation}
 use Rattle.std.proofs.lemmas.List.Sorted.{sum_by-IsPermutation}
 use Rattle.std.proofs.lemmas.List.Sums.{sum_by-append, sum_by-cons}
-use Rattle.shm_toc.specs.Table.{Table, Entry, rounded, estimated, free_bytes_of}
+use Rattle.shm_toc.specs.Table.{Table, rounded, estimated}
 use Rattle.shm_toc.specs.Requests.{Request, Allocate, Insert, sizes_of, keys_of, Serves, empty_table, with_chunk, with_entry}
 
 -- a table with room for what is asked serves it

@@ -1,8 +1,8 @@
 -- What a part has after stores, splits and joins.
-use Rattle.std.proofs.Common.{◌≡◌, ◌≢◌, ℕ, zero, suc, ◌+◌, ◌*◌, ◌<◌, ◌≤◌, ◌==◌, Bool, true, false, cond, Option, Some, None, IsSome, is_some, refl, sym, ap, ◌∙◌, eq-eqb, ne_eqb, arith}
+use Rattle.std.proofs.Common.{◌≡◌, ◌≢◌, ℕ, zero, suc, ◌+◌, ◌<◌, ◌≤◌, ◌==◌, Bool, true, false, cond, Option, Some, None, IsSome, is_some, refl, ap, ◌∙◌, eq-eqb, ne_eqb, arith}
 use Rattle.std.specs.FinMap as fin
-use Rattle.word_map.specs.WordMap.{WordMap, at, is_within, range_of, rest_of, union, Disjoint}
-use Rattle.word_map.proofs.Maps.{at-insert_cond, at-range, at-rest_cond, at-union_cond, within_true, within_is}
+use Rattle.word_map.specs.WordMap.{WordMap, at, is_within, range_of, union, Disjoint}
+use Rattle.word_map.proofs.Maps.{at-insert_cond, at-range, at-union_cond, within_true, within_is}
 use Rattle.word_map.specs.WordMap.{HasJust}
 use Rattle.region_words.specs.Parts.{Owned, owned}
 

@@ -1,10 +1,9 @@
 -- What stores do to the table that stands in words.
-use Rattle.std.proofs.Common.{◌≡◌, ◌≢◌, ℕ, zero, suc, ◌+◌, ◌-◌, ◌*◌, ◌/◌, ◌%◌, ◌<◌, ◌≤◌, ◌^◌, ◌==◌, Bool, true, false, cond, List, [], ◌∷◌, ◌++◌, length, Option, Some, None, IsSome, is_some, unwrap_or, refl, sym, ap, subst, ◌∙◌, eq-eqb, ne_eqb, arith, length-append}
+use Rattle.std.proofs.Common.{◌≡◌, ◌≢◌, ℕ, suc, ◌+◌, ◌-◌, ◌*◌, ◌/◌, ◌%◌, ◌<◌, ◌≤◌, ◌==◌, Bool, true, false, cond, [], ◌∷◌, ◌++◌, Option, Some, None, IsSome, is_some, unwrap_or, refl, sym, ap, subst, ◌∙◌, arith, length-append}
 use Rattle.word_map.specs.WordMap.{WordMap, at}
-use Rattle.shm_toc.specs.Table.{Table, Entry, rounded, free_bytes_of, front_of, place_of, HasDifferentKeys, word_of, entries_from, table_of, HasRoomFor, IsTable}
+use Rattle.shm_toc.specs.Table.{Table, rounded, free_bytes_of, front_of, place_of, word_of, entries_from, table_of, HasRoomFor, IsTable}
 use Rattle.shm_toc.specs.Requests.{empty_table, with_chunk, with_entry}
 use Rattle.shm_toc.specs.Held.{IsHeld}
-use Rattle.std.specs.FinMap as fin
 use Rattle.word_map.specs.WordMap.{is_within, rest_of, union, Disjoint}
 use Rattle.word_map.proofs.Maps.{at-rest_cond, within_true, within_is}
 use Rattle.word_map.specs.WordMap.{HasJust}

@@ -1,5 +1,5 @@
 -- Lists of chunks and keys that a table is asked for.
-use Rattle.std.specs.Prelude.{◌≡◌, ℕ, suc, ◌+◌, ◌*◌, ◌≤◌, List, [], ◌∷◌, ◌++◌}
+use Rattle.std.specs.Prelude.{ℕ, suc, ◌+◌, ◌≤◌, List, [], ◌∷◌, ◌++◌}
 use Rattle.shm_toc.specs.Table.{Entry, Table, rounded, free_bytes_of}
 
 -- what a table may be asked for: a chunk of this many bytes, or an entry

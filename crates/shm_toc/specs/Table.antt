@@ -1,5 +1,5 @@
 -- What the words of a table of contents mean. The layout is that of shm_toc.c, but for the header, which has no lock.
-use Rattle.std.specs.Prelude.{◌≡◌, ℕ, zero, suc, ◌+◌, ◌-◌, ◌*◌, ◌/◌, ◌%◌, ◌<◌, ◌≤◌, ◌^◌, ◌==◌, cond, List, [], ◌∷◌, ◌++◌, length, sum_by, Option, Some, None, IsSome, unwrap_or}
+use Rattle.std.specs.Prelude.{◌≡◌, ℕ, zero, suc, ◌+◌, ◌-◌, ◌*◌, ◌/◌, ◌%◌, ◌<◌, ◌≤◌, ◌^◌, ◌==◌, cond, List, [], ◌∷◌, length, sum_by, Option, Some, None, IsSome, unwrap_or}
 use Rattle.word_map.specs.WordMap.{WordMap, at}
 
 -- a key and the place, a word number, that it stands for

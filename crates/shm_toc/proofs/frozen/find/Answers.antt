@@ -1,4 +1,4 @@
-use Rattle.std.proofs.Common.{◌≡◌, ℕ, suc, ◌+◌, ◌*◌, ◌<◌, Some, arith, refl, sym, ap, ◌∙◌}
+use Rattle.std.proofs.Common.{◌≡◌, suc, ◌+◌, ◌*◌, Some, arith, refl, sym, ap, ◌∙◌}
 use Rattle.shm_toc.specs.Table.{word_of}
 use Rattle.shm_toc.proofs.Entries.{place_none, place_found, none_more}
 use Rattle.shm_toc.proofs.Tables.{read_is}

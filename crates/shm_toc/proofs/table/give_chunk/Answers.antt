@@ -1,4 +1,4 @@
-use Rattle.std.proofs.Common.{◌≡◌, ℕ, ◌+◌, ◌-◌, ◌*◌, ◌/◌, ◌<◌, arith, sym, ap, subst, ◌∙◌}
+use Rattle.std.proofs.Common.{ℕ, ◌-◌, ◌/◌, arith, sym, subst}
 use Rattle.word_map.specs.WordMap.{HasJust}
 use Rattle.region_words.specs.Parts.{Owned}
 use Rattle.shm_toc.proofs.Stores.{stored_has, range_just}

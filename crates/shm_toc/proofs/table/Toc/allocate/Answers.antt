@@ -1,4 +1,4 @@
-use Rattle.std.proofs.Common.{◌≡◌, ◌+◌, ◌-◌, ◌*◌, ◌≤◌, sym, ap, ◌∙◌, arith}
+use Rattle.std.proofs.Common.{sym, ap, ◌∙◌, arith}
 use Rattle.region_words.specs.Parts.{Owned}
 use Rattle.shm_toc.specs.Table.{table_of, free_bytes_of}
 use Rattle.shm_toc.specs.Requests.{with_chunk}

@@ -1,5 +1,4 @@
-use Rattle.std.proofs.Common.{◌≡◌, ℕ, ◌*◌, ◌<◌, ◌≤◌, IsSome, arith, ◌∙◌}
-use Rattle.word_map.specs.WordMap.{at}
+use Rattle.std.proofs.Common.{arith, ◌∙◌}
 use Rattle.word_map.proofs.Maps.{within_true}
 use Rattle.shm_toc.proofs.Stores.{stored_has, few_words}
 use Rattle.shm_toc.proofs.Tables.{created}

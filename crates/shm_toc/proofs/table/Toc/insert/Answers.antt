@@ -1,9 +1,8 @@
-use Rattle.std.proofs.Common.{◌≡◌, ℕ, ◌+◌, ◌-◌, ◌*◌, ◌<◌, ◌≤◌, List, ◌∷◌, [], None, Some, IsSome, length, sym, ap, subst, ◌∙◌, arith, length-append}
+use Rattle.std.proofs.Common.{ℕ, IsSome, sym, ap, subst, ◌∙◌, arith}
 use Rattle.word_map.specs.WordMap.{at}
 use Rattle.region_words.specs.Parts.{Owned}
-use Rattle.shm_toc.specs.Table.{Entry, Table, table_of, free_bytes_of, front_of, place_of, entries_from}
+use Rattle.shm_toc.specs.Table.{table_of, free_bytes_of, place_of, entries_from}
 use Rattle.shm_toc.specs.Requests.{with_entry}
-use Rattle.shm_toc.proofs.Entries.{length-entries}
 use Rattle.shm_toc.proofs.Tables.{Puts, put_held, put_stays, put_front, sizes, free_is, entry_has}
 use Rattle.shm_toc.proofs.table.Toc.insert.Goals as goal
 
