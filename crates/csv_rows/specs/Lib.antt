@@ -1,0 +1,3 @@
+pub mod Records
+pub mod Store
+pub mod Turns
