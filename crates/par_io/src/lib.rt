@@ -15,6 +15,8 @@ ghost use Rattle.par_io.specs.Faults.{HasCause};
 
 mod memory;
 mod standard;
+#[cfg(test)]
+mod tests;
 
 pub use memory::{MemSink, MemSource};
 pub use standard::{StdSink, StdSource};
