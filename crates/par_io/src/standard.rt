@@ -3,10 +3,8 @@
 //! What a stream gives or takes no clause can say, so these tell no bytes. They keep the count of
 //! faults: each error of the reader, the writer or a flush raises it by one.
 
-ghost use Rattle.std.specs.Prelude.{◌≡◌, ◌<◌, ◌≤◌, IfOk, IfSome, None, length};
-ghost use Rattle.std.specs.Io.{ReadsAtMost, WritesAtMost};
-ghost use Rattle.std.specs.Io.KnownBytes.{ReadConsumes, WriteAppends};
-ghost use Rattle.par_io.specs.Faults.{HasCause, counted};
+ghost use Rattle.std.specs.Prelude.{◌<◌, ◌≤◌, IfSome, length, take};
+ghost use Rattle.std.specs.Io.KnownBytes.{Appends};
 
 use crate::{Failed, Sink, Source};
 use std::io::{Read, Write};
@@ -36,7 +34,7 @@ impl<R: Read> Source for StdSource<R> {
     ghost use Rattle.std.specs.Io.{ReadsAtMost};
     ghost use Rattle.std.specs.Io.KnownBytes.{ReadConsumes};
     ghost use Rattle.par_io.specs.Faults.{HasCause, counted};
-    ghost use Rattle.par_io.specs.OverStd.{read_faults};
+    ghost use Rattle.par_io.specs.OverStd.{reader_of, read_faults};
 
     ghost left = { λ s. None };
 
@@ -49,8 +47,11 @@ impl<R: Read> Source for StdSource<R> {
         ensures bytes { ReadConsumes None None result buf.new }
         ensures cause { HasCause (read_faults self.old) (read_faults self.new) result }
 
-        // A fault is counted for each error of the reader, and for nothing else.
+        // A fault is counted for each failed call, and for nothing else.
         ensures counted { read_faults self.new ≡ counted (read_faults self.old) result }
+
+        // Where the reader tells its bytes, as one over memory does, they come from it in order.
+        ensures through { ReadConsumes (R.remaining (reader_of self.old)) (R.remaining (reader_of self.new)) result buf.new }
     {
         match self.reader.read(buf) {
             Ok(count) => Ok(count),
@@ -83,11 +84,11 @@ impl<W: Write> StdSink<W> {
 }
 
 impl<W: Write> Sink for StdSink<W> {
-    ghost use Rattle.std.specs.Prelude.{◌≡◌, ◌<◌, IfOk, None, length};
+    ghost use Rattle.std.specs.Prelude.{◌≡◌, ◌<◌, IfOk, None, length, take};
     ghost use Rattle.std.specs.Io.{WritesAtMost};
-    ghost use Rattle.std.specs.Io.KnownBytes.{WriteAppends};
+    ghost use Rattle.std.specs.Io.KnownBytes.{Appends, WriteAppends};
     ghost use Rattle.par_io.specs.Faults.{HasCause, counted};
-    ghost use Rattle.par_io.specs.OverStd.{write_faults};
+    ghost use Rattle.par_io.specs.OverStd.{writer_of, write_faults};
 
     ghost taken = { λ s. None };
 
@@ -104,6 +105,9 @@ impl<W: Write> Sink for StdSink<W> {
 
         // A fault is counted for each failed call, and for nothing else.
         ensures counted { write_faults self.new ≡ counted (write_faults self.old) result }
+
+        // Where the writer tells its bytes, as one over memory does, it has taken these.
+        ensures through { IfOk result (λ n. Appends (W.contents (writer_of self.old)) (W.contents (writer_of self.new)) (take n piece.now)) }
     {
         match written_through(&mut self.writer, piece) {
             Some(count) => Ok(count),
@@ -119,8 +123,10 @@ impl<W: Write> Sink for StdSink<W> {
 fn written_through<W: Write>(writer: &mut W, piece: &[u8]) -> Option<usize>
     ensures some { IfSome result (λ n. 0 < n) }
     ensures bound { IfSome result (λ n. n ≤ length piece.now) }
+    ensures written { IfSome result (λ n. Appends (W.contents writer.old) (W.contents writer.new) (take n piece.now)) }
 {
-    let count = writer.write(piece).ok().filter(|n| *n > 0)?;
-    writer.flush().ok()?;
-    Some(count)
+    match writer.write(piece) {
+        Ok(count) if count > 0 => writer.flush().is_ok().then_some(count),
+        _ => None,
+    }
 }
