@@ -1,5 +1,5 @@
 -- The search for a column, one field at a time.
-use Rattle.std.proofs.Common.{◌≡◌, ◌+◌, ◌<◌, ℕ, suc, List, [], ◌∷◌, Bool, true, false, length, get_or, drop, refl, add-one, drop-cons, Some}
+use Rattle.std.proofs.Common.{◌≡◌, ◌+◌, ◌<◌, ℕ, List, Bool, true, false, length, get_or, drop, refl, add-one, drop-cons, Some}
 use Rattle.std.specs.List.{position_from}
 
 -- the search from a place on ends there where the element passes

@@ -1,11 +1,11 @@
 -- The groups of a map of counts make the table.
-use Rattle.std.proofs.Common.{◌≡◌, ◌≢◌, ◌==◌, ◌&&◌, ◌+◌, ◌<◌, ◌++◌, ◌∙◌, ◌↔◌, ℕ, zero, suc, List, [], ◌∷◌, Bool, true, false, cond, length, refl, sym, ap, map, filter, get_or, arith, Contains, None, Some, Option, Bor, bytes_eq, count_by, nat_cmp, decimal, codes, drop, subst, append-nil, IsSome}
+use Rattle.std.proofs.Common.{◌≡◌, ◌<◌, ◌∙◌, ◌↔◌, ℕ, List, [], ◌∷◌, Bool, true, false, length, refl, sym, ap, map, filter, arith, Contains, Some, Option, Bor, bytes_eq, decimal, codes, drop, subst, append-nil, IsSome}
 use Rattle.std.proofs.lemmas.Cmp.{on_total}
 use Rattle.std.proofs.lemmas.List.Elements.{recursion_from_All}
 use Rattle.std.proofs.lemmas.List.Sums.{length-filter}
 use Rattle.std.proofs.lemmas.Map.Views.{All-found}
-use Rattle.std.specs.BTreeMap.{BTreeMap, IsOrdered, keys}
-use Rattle.std.specs.Cmp.Lexicographic.{nat_list_cmp_total, slice_cmp}
+use Rattle.std.specs.BTreeMap.{BTreeMap, IsOrdered}
+use Rattle.std.specs.Cmp.Lexicographic.{nat_list_cmp_total}
 use Rattle.std.specs.List.{AllByRecursion}
 use Rattle.std.specs.List.Sorted.{IsStrictlySortedBy}
 use Rattle.std.specs.Map.{keys_of}
@@ -13,11 +13,11 @@ use Rattle.std.specs.declared.cmp.Ordering.TheVariants.{Less}
 use Rattle.csv_rows.specs.Records.{record_at}
 use Rattle.par_model.specs.Aggregate.{rows_of, state_of_rows}
 use Rattle.par_model.specs.Keep.{is_kept}
-use Rattle.par_model.specs.Key.{encoded, key_of}
+use Rattle.par_model.specs.Key.{encoded}
 use Rattle.par_model.specs.Named.{bound_plan, column_of}
 use Rattle.par_model.specs.Outcome.{IsAnswer}
 use Rattle.par_model.specs.Record.{field_of}
-use Rattle.par_model.specs.Table.{IsDistinctSorted, IsTable, columns_cmp, group_record, occurring, table_text}
+use Rattle.par_model.specs.Table.{IsTable, columns_cmp, group_record, occurring, table_text}
 use Rattle.par_gather.proofs.Counts.{same_text}
 use Rattle.par_gather.proofs.Texts.{Contains-from_lookup, Contains-from_map, Contains-map, IsSome-lookup, bytes_eq-refl, some_filter, some_from_filter, text_of}
 use Rattle.par_gather.specs.Counting.{AreCounts, count_in, count_of, count_plan, count_record, counts_table, field_cmp, nonzero}

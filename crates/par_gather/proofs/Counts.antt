@@ -1,5 +1,5 @@
 -- What a map of counts has after one row more.
-use Rattle.std.proofs.Common.{◌≡◌, ◌+◌, ◌<◌, ◌==◌, ◌∙◌, ℕ, List, [], Bool, true, false, None, Option, Some, bytes_eq, count_by, get_or, if◌then◌else◌, length, refl, sym, ap, take, drop, add_comm, unwrap_or, Bor, arith}
+use Rattle.std.proofs.Common.{◌≡◌, ◌+◌, ◌<◌, ◌∙◌, ℕ, List, [], Bool, true, false, Some, bytes_eq, get_or, length, refl, sym, ap, take, drop, add_comm, unwrap_or, Bor, arith}
 use Rattle.std.proofs.lemmas.List.Sums.{count_by_more_no, count_by_more_yes}
 use Rattle.std.proofs.lemmas.Slice.Eq.{bytes_eq-Decides}
 use Rattle.std.proofs.lemmas.Grind.{get_or_after_one}

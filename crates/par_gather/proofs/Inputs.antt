@@ -1,5 +1,5 @@
 -- What an input says of the outcome, where the source tells it.
-use Rattle.std.proofs.Common.{◌≡◌, ◌+◌, ◌<◌, ◌≤◌, ◌∙◌, ◌++◌, ℕ, List, [], ◌∷◌, false, true, length, refl, sym, ap, arith, subst, None, Some, Option, IfSome, Result, Err, nat_lt, length-append}
+use Rattle.std.proofs.Common.{◌≡◌, ◌<◌, ◌≤◌, ◌∙◌, ℕ, List, [], ◌∷◌, false, true, length, refl, ap, arith, subst, None, Some, Option, IfSome, Result, Err, nat_lt, length-append}
 use Rattle.std.proofs.lemmas.Bool.Decides.{nat_tests}
 use Rattle.csv_rows.specs.Records.{records_of}
 use Rattle.csv_rows.specs.Turns.{ReadsCount}
@@ -8,7 +8,7 @@ use Rattle.csv_rows.specs.declared.input.ReadAnswer.TheVariants as reading
 use Rattle.csv_rows.specs.declared.records.RowsAnswer.{RowsAnswer}
 use Rattle.csv_rows.specs.declared.records.RowsAnswer.TheVariants as parsing
 use Rattle.par_model.specs.Named.{NamedPlan}
-use Rattle.par_model.specs.Outcome.{NoHeader, Table, TooManyBytes, TooManyRows, by_records, outcome}
+use Rattle.par_model.specs.Outcome.{TooManyBytes, TooManyRows, by_records, outcome}
 use Rattle.par_gather.specs.Answers.{outcome_over, status_of}
 use Rattle.par_gather.specs.Stops.{Explains, stop_of_parsing, stop_of_reading}
 

@@ -1,16 +1,15 @@
 -- The outcome of the plan that counts a column, over records that are not too many.
-use Rattle.std.proofs.Common.{◌≡◌, ◌+◌, ◌<◌, ◌≤◌, ◌∙◌, ◌⊎◌, ℕ, List, [], ◌∷◌, Bool, true, false, length, refl, sym, ap, drop, arith, subst, None, Some, Option, nat_lt, unwrap_or, inl, inr}
+use Rattle.std.proofs.Common.{◌≡◌, ◌+◌, ◌<◌, ◌≤◌, ◌∙◌, ℕ, List, [], ◌∷◌, Bool, true, false, length, refl, sym, ap, drop, arith, subst, None, Some, nat_lt, unwrap_or, inl, inr}
 use Rattle.std.proofs.lemmas.Bool.Decides.{nat_tests}
 use Rattle.std.specs.List.{position_from}
 use Rattle.csv_rows.specs.Records.{record_at}
 use Rattle.par_model.specs.Named.{bound_plan, column_of, missing_name}
-use Rattle.par_model.specs.Outcome.{NoColumn, Outcome, by_missing, by_records, by_refused}
+use Rattle.par_model.specs.Outcome.{NoColumn, Outcome, by_records, by_refused}
 use Rattle.par_model.specs.Refuse.{refused_rows}
 use Rattle.par_gather.specs.Counting.{count_plan}
 use Rattle.par_gather.specs.Stops.{Explains, IsStop}
 use Rattle.par_gather.specs.Words.{count_by_column}
 use Rattle.par_gather.specs.declared.stop.Stop.{Stop}
-use Rattle.par_gather.specs.declared.stop.Stop.TheVariants as stop
 
 not_too_many : (n : ℕ) → n + 1 ≤ 4194305 → nat_lt 4194304 n ≡ false
 not_too_many n few = grind (arith, nat_tests)

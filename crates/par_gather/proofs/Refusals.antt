@@ -1,5 +1,5 @@
 -- Which rows are refused under the plan that counts a column, and what one refused row makes of the outcome.
-use Rattle.std.proofs.Common.{◌≡◌, ◌+◌, ◌<◌, ◌==◌, ◌++◌, ℕ, zero, suc, List, [], ◌∷◌, Bool, true, false, not, length, get_or, take, refl, Option, Some, None, is_some, nat_lt, nat_eq, option_map, ap, sym, ◌∙◌, arith, if◌then◌else◌, length-append}
+use Rattle.std.proofs.Common.{◌≡◌, ◌+◌, ◌<◌, ◌++◌, ℕ, zero, suc, List, [], ◌∷◌, Bool, true, false, length, get_or, take, refl, Option, Some, None, is_some, nat_lt, nat_eq, option_map, ap, sym, ◌∙◌, arith, if◌then◌else◌, length-append}
 use Rattle.std.proofs.lemmas.List.{take_more}
 use Rattle.std.proofs.lemmas.Bool.{eqb-true, true≢false}
 use Rattle.std.proofs.lemmas.Bool.Decides.{nat_tests}

@@ -1,5 +1,5 @@
 -- The status and the line of a reason to have no table.
-use Rattle.std.proofs.Common.{◌≡◌, ◌≢◌, ℕ, List, refl, None, Some, Option, Contains, IfSome, string_bytes, codes, lit<, ap, sym}
+use Rattle.std.proofs.Common.{◌≡◌, ℕ, List, refl, None, Some, Option, Contains, IfSome, string_bytes, codes, lit<, ap, sym}
 use Rattle.par_model.specs.Named.{NamedPlan}
 use Rattle.par_model.specs.Outcome.{NoColumn, NoHeader, Outcome, Refused, Table, TooManyBytes, TooManyRows, Usage, outcome}
 use Rattle.par_gather.specs.Answers.{IsOutcome, outcome_over, status_of, statuses}

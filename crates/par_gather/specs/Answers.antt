@@ -1,9 +1,8 @@
 -- What a query answers: its status, and what its table is.
-use Rattle.std.specs.Prelude.{◌≡◌, ◌⊎◌, ℕ, List, [], ◌∷◌, Option, None, Some, IfSome, String, length, map, string_bytes}
+use Rattle.std.specs.Prelude.{◌≡◌, ℕ, List, [], ◌∷◌, Option, None, Some, IfSome, String, length, map, string_bytes}
 use Rattle.csv_rows.specs.Records.{records_of}
 use Rattle.par_model.specs.Named.{NamedPlan}
 use Rattle.par_model.specs.Outcome.{Outcome, IsAnswer, outcome, Usage, TooManyBytes, NoHeader, TooManyRows, NoColumn, Refused, Table}
-use Rattle.par_gather.specs.Words.{plan_of}
 use Rattle.par_gather.specs.declared.status.TheConstants.{MISUSED, NOT_BUILT, NO_MEMORY, READ_FAULT, TABLE, WRITE_FAULT}
 
 -- every status there is

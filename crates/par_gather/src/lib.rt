@@ -24,11 +24,10 @@ mod stop;
 mod text;
 mod words;
 
-pub use gate::{Gate, OpenGate};
-pub use status::{MISUSED, NO_MEMORY, NOT_BUILT, READ_FAULT, TABLE, WRITE_FAULT};
-
 use csv_rows::{RowStore, read_all, rows};
+pub use gate::{Gate, OpenGate};
 use par_io::{Sink, Source, write_whole};
+pub use status::{MISUSED, NO_MEMORY, NOT_BUILT, READ_FAULT, TABLE, WRITE_FAULT};
 use std::alloc::Global;
 use stop::Stop;
 

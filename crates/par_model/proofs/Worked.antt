@@ -1,24 +1,20 @@
 -- Worked values: what the definitions say of small inputs whose answers are known from outside. Each is by computation.
-use Rattle.std.specs.Prelude.{◌≡◌, ◌∷◌, ◌++◌, ◌*◌, ◌+◌, [], ℕ, ℤ, pos, negsuc, List, Bool, false, true, None, Some, codes, refl, length, replicate, Option}
+use Rattle.std.specs.Prelude.{◌≡◌, ◌∷◌, ◌++◌, [], ℕ, ℤ, pos, negsuc, List, false, None, Some, codes, refl, length, replicate}
 use Rattle.std.specs.Fmt.{digits}
 use Rattle.csv.specs.Writing.{escaped, fields_text, is_blank}
-use Rattle.par_model.specs.Aggregate.{state_of, state_of_rows}
+use Rattle.par_model.specs.Aggregate.{state_of_rows}
 use Rattle.par_model.specs.Decimal.{average_text}
 use Rattle.par_model.specs.Integer.{integer_of, number_of}
 use Rattle.par_model.specs.Keep.{is_kept}
 use Rattle.par_model.specs.Key.{encoded}
 use Rattle.par_model.specs.Named.{NamedItem, NamedPlan, bound_plan, missing_name}
-use Rattle.par_model.specs.Outcome.{Outcome, NoColumn, NoHeader, Refused, Table, TooManyBytes, Usage, outcome}
-use Rattle.par_model.specs.Plan.{Plan}
+use Rattle.par_model.specs.Outcome.{NoColumn, NoHeader, Refused, Table, TooManyBytes, Usage, outcome}
 use Rattle.par_model.specs.Refuse.{refusal, refused_rows}
 use Rattle.par_model.specs.Table.{group_record, table_header, table_text}
-use Rattle.par_model.specs.declared.plan.Filter.{Filter}
 use Rattle.par_model.specs.declared.plan.FilterOp.{FilterOp}
 use Rattle.par_model.specs.declared.plan.FilterOp.TheVariants as op
-use Rattle.par_model.specs.declared.plan.Item.{Item}
 use Rattle.par_model.specs.declared.plan.ItemKind.{ItemKind}
 use Rattle.par_model.specs.declared.plan.ItemKind.TheVariants as kind
-use Rattle.par_model.specs.declared.refusal.Refusal.{Refusal}
 
 -- ---- integers
 

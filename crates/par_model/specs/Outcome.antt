@@ -1,5 +1,5 @@
 -- What a query over some records comes to: the first fault that holds, or the table.
-use Rattle.std.specs.Prelude.{◌≡◌, ◌+◌, ◌*◌, ℕ, List, [], ◌∷◌, Option, Some, None, if◌then◌else◌, length, nat_lt}
+use Rattle.std.specs.Prelude.{◌≡◌, ℕ, List, [], ◌∷◌, Option, Some, None, if◌then◌else◌, length, nat_lt}
 use Rattle.par_model.specs.Named.{NamedPlan, bound_plan, missing_name}
 use Rattle.par_model.specs.Refuse.{refused_rows}
 use Rattle.par_model.specs.Table.{IsTable, table_text}

@@ -1,5 +1,5 @@
 -- How a plan's lists lie in its arrays of eight places.
-use Rattle.std.specs.Prelude.{◌≡◌, ◌≤◌, ℕ, replicate, take, drop, ◌-◌, List, All}
+use Rattle.std.specs.Prelude.{◌≡◌, ◌≤◌, replicate, take, drop, ◌-◌, All}
 use Rattle.par_model.specs.Plan.{Plan}
 use Rattle.par_model.specs.declared.plan.BoundPlan.TheInside.{Inside}
 use Rattle.par_model.specs.declared.plan.Item.{Item}

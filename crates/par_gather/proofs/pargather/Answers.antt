@@ -1,4 +1,4 @@
-use Rattle.std.proofs.Common.{◌≡◌, ℕ, sym, subst, Contains}
+use Rattle.std.proofs.Common.{ℕ, sym, subst, Contains}
 use Rattle.par_gather.proofs.Statuses.{Contains-statuses, line_outcome}
 use Rattle.par_gather.specs.Answers.{statuses, texts}
 use Rattle.par_gather.specs.Lines.{IsLine, line}

@@ -1,7 +1,6 @@
-use Rattle.std.proofs.Common.{◌≡◌, ◌≤◌, ◌∙◌, ℕ, List, Some, length, vec_len, sym, ap, arith}
+use Rattle.std.proofs.Common.{◌≡◌, ◌≤◌, ◌∙◌, ℕ, List, Some, length, ap, arith}
 use Rattle.std.proofs.lemmas.Result.{IfOk-weaker, MatchResult-weaker, err_from_is_err_and}
 use Rattle.csv_rows.specs.Records.{records_of}
-use Rattle.par_model.specs.Outcome.{Table}
 use Rattle.par_gather.proofs.Inputs.{Explains-parsing, Explains-reading, outcome-within, told}
 use Rattle.par_gather.specs.Answers.{IsTableText, outcome_over}
 use Rattle.par_gather.specs.Stops.{Explains, stop_of_parsing}

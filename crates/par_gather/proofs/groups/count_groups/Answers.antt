@@ -1,4 +1,4 @@
-use Rattle.std.proofs.Common.{◌≡◌, ◌+◌, ◌<◌, [], drop, get_or, is_some, length, true, false, refl, sym, ◌∙◌, inr, arith, length-drop}
+use Rattle.std.proofs.Common.{◌≡◌, ◌+◌, ◌<◌, [], drop, get_or, is_some, length, true, false, refl, ◌∙◌, inr, arith, length-drop}
 use Rattle.csv_rows.specs.Records.{record_at}
 use Rattle.par_model.specs.Record.{field_of}
 use Rattle.par_model.specs.Refuse.{refusal}

@@ -1,4 +1,4 @@
-use Rattle.std.proofs.Common.{◌≡◌, ℕ, [], drop, take, length}
+use Rattle.std.proofs.Common.{◌≡◌, [], drop, take, length}
 use Rattle.csv_rows.specs.Records.{record_at}
 use Rattle.par_model.specs.Refuse.{refused_rows}
 use Rattle.par_gather.specs.Counting.{AreCounts, count_plan}

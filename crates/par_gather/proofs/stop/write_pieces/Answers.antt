@@ -1,4 +1,4 @@
-use Rattle.std.proofs.Common.{◌<◌, ◌++◌, ◌≡◌, ℕ, List, [], map, take, inr, length, arith, subst}
+use Rattle.std.proofs.Common.{◌<◌, ℕ, List, [], inr, length, arith, subst}
 use Rattle.std.proofs.KnownBytes.{Appends-trans}
 use Rattle.std.specs.Io.KnownBytes.{Appends}
 use Rattle.par_io.specs.Faults.{Rose}
