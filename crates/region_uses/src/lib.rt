@@ -7,6 +7,6 @@ mod rings;
 #[cfg(test)]
 mod tests;
 
-pub use chunks::chunk_of;
+pub use chunks::{chunk_of, store_bytes};
 pub use halves::{both_halves, count_up, swap_halves};
-pub use rings::{hand_over, send_word};
+pub use rings::{hand_over, one_by_one, send_word};
