@@ -1,16 +1,13 @@
 -- A whole call, put together from its moves.
-use Rattle.std.proofs.Common.{◌≡◌, ◌≢◌, ℕ, zero, suc, ◌+◌, ◌<◌, ◌≤◌, List, [], ◌∷◌, ◌++◌, length, sym, refl, ap, ◌∙◌, subst, arith}
-use mathlib.Core.Logic.{dite}
-use mathlib.Core.Option.{some, some-injective}
-use native.Mathlib.Decide.{ℕ_discrete}
+use Rattle.std.proofs.Common.{◌≡◌, ◌≢◌, ℕ, ◌≤◌, List, [], ◌∷◌, ◌++◌, sym, refl, ap, ◌∙◌, subst, arith}
+use mathlib.Core.Option.{some}
 use lib.ListN.{get_elem?}
 use Rattle.atomic_table.specs.Table.{Me}
 use Rattle.lock_book.specs.declared.view.Entry.{Entry}
-use Rattle.lock_book.specs.declared.view.Stage.{Stage}
 use Rattle.lock_book.specs.declared.view.Stage.TheVariants.{Idle, Waiting, Holding}
 use Rattle.lock_book.specs.declared.view.View.{View}
-use Rattle.lock_book.specs.History.{entry, last_of, calls_by, calls_at, StartsWith, IsLegal, row_at, put_row}
-use Rattle.lock_book.specs.Ruled.{mine_at, seen_at, at_stage, seeing, with_entry, Turned, IsFree, IsSame}
+use Rattle.lock_book.specs.History.{entry, last_of, calls_by, StartsWith, IsLegal, row_at, put_row}
+use Rattle.lock_book.specs.Ruled.{mine_at, seen_at, at_stage, seeing, with_entry, Turned, IsSame}
 use Rattle.lock_book.specs.Told.{IsPass, Adds}
 use Rattle.lock_book.proofs.Histories.{legal_snoc, last_snoc, calls_by_mine, calls_by_other, calls_at_here, calls_at_other, row_here, row_else, at_place}
 

@@ -1,18 +1,16 @@
 -- One step changes the view of one seat and what is said of one value; the rule stays.
-use Rattle.std.proofs.Common.{◌≡◌, ◌≢◌, ◌⊎◌, ℕ, zero, suc, ◌+◌, ◌*◌, ◌-◌, ◌%◌, ◌<◌, ◌≤◌, List, [], ◌∷◌, ◌++◌, length, get_or, set, sym, refl, ap, ◌∙◌, subst, ⊎_elim, arith, length-set, get_or-set_other, get_or-set_same}
+use Rattle.std.proofs.Common.{◌≡◌, ◌≢◌, ℕ, ◌+◌, ◌*◌, ◌≤◌, List, [], length, set, sym, ap, ◌∙◌, subst, ⊎_elim, arith}
 use Rattle.std.specs.Prelude.{slice_index}
 use mathlib.Core.Logic.{dite}
-use mathlib.Core.Option.{Option, none, some, some-injective, some-ne-none}
+use mathlib.Core.Option.{Option, some, some-injective}
 use native.Mathlib.Decide.{ℕ_discrete}
 use lib.ListN.{get_elem?}
-use Rattle.atomic_table.specs.Table.{State, Me}
-use Rattle.atomic_table.proofs.Lists.{at_set, set_again}
+use Rattle.atomic_table.specs.Table.{State}
+use Rattle.atomic_table.proofs.Lists.{at_set}
 use Rattle.lock_book.specs.declared.view.Entry.{Entry}
-use Rattle.lock_book.specs.declared.view.Stage.{Stage}
-use Rattle.lock_book.specs.declared.view.Stage.TheVariants.{Idle, Waiting, Holding}
 use Rattle.lock_book.specs.declared.view.View.{View}
-use Rattle.lock_book.specs.History.{calls_by, StartsWith, row_at}
-use Rattle.lock_book.specs.Ruled.{total, tickets, holders, HasTicket, Line, Stands, mine_at, seen_at, told_at, StageOk, Knows, LineOk, Ruled}
+use Rattle.lock_book.specs.History.{calls_by, StartsWith}
+use Rattle.lock_book.specs.Ruled.{tickets, holders, HasTicket, Line, Stands, seen_at, told_at, StageOk, Knows, LineOk, Ruled}
 use Rattle.lock_book.proofs.Histories.{starts_trans}
 use Rattle.lock_book.proofs.Totals.{total_set, upd, upd_here, upd_else}
 
@@ -67,8 +65,8 @@ module _ {X N S C R : Type 0} (slot_name : X → N) (slot_state : X → S) (lega
     line_here j p e is =
         let same : o ≡ p = some-injective o p (sym c.opened ∙ (sym (ap (get_elem? opens) is) ∙ e)) in
         subst (λ (k : ℕ). LineOk slot_name slot_state legal callers words homes (set s.views id w) k p (now k)) (sym is)
-            (subst (λ (m : Line S C R). LineOk slot_name slot_state legal callers words homes (set s.views id w) i p m) (sym (upd_here r.lines i l))
-            (subst (λ (q : N × S). LineOk slot_name slot_state legal callers words homes (set s.views id w) i q l) same c.line))
+        (subst (λ (m : Line S C R). LineOk slot_name slot_state legal callers words homes (set s.views id w) i p m) (sym (upd_here r.lines i l))
+        (subst (λ (q : N × S). LineOk slot_name slot_state legal callers words homes (set s.views id w) i q l) same c.line))
 
     abbrev Log : ℕ → List (Entry S C R) → Type 0
     Log j xs = StartsWith (now j).log xs

@@ -1,17 +1,16 @@
 -- What the seat of all callers knows at the end.
-use Rattle.std.proofs.Common.{◌≡◌, ◌≢◌, ◌⊎◌, ℕ, zero, suc, ◌+◌, ◌*◌, ◌-◌, ◌%◌, ◌<◌, ◌≤◌, eqb, Bool, true, false, get_or, set, get_or-set_other, cond, List, [], ◌∷◌, ◌++◌, length, map, sym, refl, ap, ◌∙◌, subst, inl, inr, ⊎_elim, arith, append-nil, append_assoc, length-append, eq-eqb}
+use Rattle.std.proofs.Common.{◌≡◌, ◌≢◌, ℕ, zero, suc, ◌+◌, ◌-◌, ◌<◌, ◌≤◌, Bool, true, false, get_or, set, get_or-set_other, cond, List, [], ◌∷◌, ◌++◌, length, map, sym, refl, ap, ◌∙◌, subst, arith, append-nil, append_assoc, length-append, eq-eqb}
 use mathlib.Core.Logic.{dite}
-use mathlib.Core.Option.{Option, none, some, some-injective, some-ne-none}
+use mathlib.Core.Option.{some, some-injective, some-ne-none}
 use mathlib.Core.List.{map-append}
 use native.Mathlib.Decide.{ℕ_discrete, dec_le}
 use lib.ListN.{get_elem?}
 use Rattle.atomic_table.specs.Table.{State, Final, Seen}
 use Rattle.atomic_table.proofs.Lists.{at_longer, at_last}
 use Rattle.lock_book.specs.declared.view.Entry.{Entry}
-use Rattle.lock_book.specs.declared.view.Stage.{Stage}
-use Rattle.lock_book.specs.declared.view.Stage.TheVariants.{Idle, Waiting, Holding}
+use Rattle.lock_book.specs.declared.view.Stage.TheVariants.{Idle, Holding}
 use Rattle.lock_book.specs.declared.view.View.{View}
-use Rattle.lock_book.specs.History.{last_of, calls_by, StartsWith, IsLegal, row_at}
+use Rattle.lock_book.specs.History.{last_of, calls_by, IsLegal, row_at}
 use Rattle.lock_book.specs.Ruled.{total, holders, Line, mine_at, seen_at, StageOk, Ruled}
 use Rattle.lock_book.proofs.Histories.{calls_by-append, nil_of, front_nil}
 use Rattle.lock_book.proofs.Totals.{total_none, total_two}
@@ -41,10 +40,10 @@ module _ {X N S C R : Type 0} (slot_name : X → N) (slot_state : X → S) (lega
         dite (dec_le callers n)
         (λ hi. back_nil (calls_by n (seen_at v i)) (calls_by n p.0) (sym cut ∙ r.bounded i n hi))
         (λ lo.
-            let l : n < length v.owns = omega arith in
-            let z : v.from + n ≡ n = omega arith in
-            let same : calls_by n (seen_at v i) ≡ calls_by n (r.lines i).log = ap (λ (m : ℕ). calls_by m (seen_at v i)) (sym z) ∙ (sym (k.mine_seen n i l) ∙ (k.mine n i l ∙ ap (λ (m : ℕ). calls_by m (r.lines i).log) z)) in
-            nil_of (calls_by n (seen_at v i)) (calls_by n p.0) (sym cut ∙ sym same))
+        let l : n < length v.owns = omega arith in
+        let z : v.from + n ≡ n = omega arith in
+        let same : calls_by n (seen_at v i) ≡ calls_by n (r.lines i).log = ap (λ (m : ℕ). calls_by m (seen_at v i)) (sym z) ∙ (sym (k.mine_seen n i l) ∙ (k.mine n i l ∙ ap (λ (m : ℕ). calls_by m (r.lines i).log) z)) in
+        nil_of (calls_by n (seen_at v i)) (calls_by n p.0) (sym cut ∙ sym same))
 
     whole_seen : (i : ℕ) → seen_at v i ≡ (r.lines i).log
     whole_seen i = let p = (r.each_seat id v at).seen i in sym (p.1 ∙ (ap (λ (m : List (Entry S C R)). seen_at v i ++ m) (of_nobody p.0 (calls_rest i)) ∙ append-nil (seen_at v i)))
@@ -70,12 +69,13 @@ module _ {X N S C R : Type 0} (slot_name : X → N) (slot_state : X → S) (lega
   -- the same, of what a closed table gives
   pub final : (id : ℕ) (v : View N S C R) (ws : List ℕ) (xs : List X) → v.from ≡ 0 → length v.owns ≡ callers → v.stage ≡ Idle → Final (Seen (Ruled slot_name slot_state legal opens callers) id v) ws xs
       → AllSeen legal opens callers v × ((i : ℕ) (x : X) (o : N × S) → get_elem? xs i ≡ some x → get_elem? opens i ≡ some o → (slot_name x ≡ o.0) × (slot_state x ≡ last_of o.1 (seen_at v i)))
-  final id v ws xs first all idle f =
-      (ended f.0 f.1.0 id v f.1.1 first all idle,
-      λ i x o e eo.
-          let h = ended_at f.0 f.1.0 id v f.1.1 first all idle i o eo in
-          let same : h.0 ≡ x = some-injective h.0 x (sym (f.4 i h.0 h.1) ∙ e) in
-          (ap slot_name (sym same) ∙ h.2, ap slot_state (sym same) ∙ h.3))
+  final id v ws xs first all idle f = (
+    ended f.0 f.1.0 id v f.1.1 first all idle,
+    λ i x o e eo.
+        let h = ended_at f.0 f.1.0 id v f.1.1 first all idle i o eo in
+        let same : h.0 ≡ x = some-injective h.0 x (sym (f.4 i h.0 h.1) ∙ e) in
+        (ap slot_name (sym same) ∙ h.2, ap slot_state (sym same) ∙ h.3),
+  )
 
 module _ {A B : Type 0} (f : A → List B) where
   pub rows_step : (whole xs : List A) (x : A) (ls ks : List (List B)) → whole ≡ xs ++ x ∷ [] → ls ≡ f x ∷ [] → map f xs ++ (ls ++ ks) ≡ map f whole ++ ks

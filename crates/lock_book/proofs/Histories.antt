@@ -1,11 +1,11 @@
 -- Laws of histories: longer ones, beginnings, and one caller's calls.
-use Rattle.std.proofs.Common.{◌≡◌, ◌≢◌, ◌⊎◌, ℕ, zero, suc, ◌+◌, ◌-◌, ◌<◌, ◌≤◌, eqb, Bool, true, false, cond, List, [], ◌∷◌, ◌++◌, length, sym, refl, ap, ◌∙◌, subst, inl, inr, ⊎_elim, arith, append_assoc, append-nil, length-append, eq-eqb, ne_eqb}
-use Rattle.std.specs.Prelude.{ltb, if◌then◌else◌}
+use Rattle.std.proofs.Common.{◌≡◌, ◌≢◌, ℕ, zero, suc, ◌<◌, ◌≤◌, eqb, Bool, true, false, cond, List, [], ◌∷◌, ◌++◌, length, sym, refl, ap, ◌∙◌, subst, arith, append_assoc, append-nil, length-append, eq-eqb, ne_eqb}
+use Rattle.std.specs.Prelude.{ltb}
 use Rattle.std.proofs.lemmas.Bool.Decides.{nat_tests}
 use mathlib.Core.Logic.{dite}
-use native.Mathlib.Decide.{ℕ_discrete, dec_le}
+use native.Mathlib.Decide.{ℕ_discrete}
 use Rattle.lock_book.specs.declared.view.Entry.{Entry}
-use Rattle.lock_book.specs.History.{entry, last_of, calls_by, calls_at, StartsWith, IsLegal, longer, row_at, put_row, longer_rows, first_row, other_rows}
+use Rattle.lock_book.specs.History.{entry, last_of, calls_by, calls_at, StartsWith, IsLegal, longer, row_at, put_row, longer_rows}
 
 module _ {S C R : Type 0} where
   pub starts_refl : (xs : List (Entry S C R)) → StartsWith xs xs
@@ -104,8 +104,8 @@ module _ {S C R : Type 0} where
   pub calls_between : (n : ℕ) (log mid seen : List (Entry S C R)) → StartsWith log mid → StartsWith mid seen → calls_by n seen ≡ calls_by n log → calls_by n mid ≡ calls_by n log
   calls_between n log mid seen a b e =
       let whole : calls_by n log ≡ calls_by n seen ++ (calls_by n b.0 ++ calls_by n a.0) =
-          ap (calls_by n) a.1 ∙ (calls_by-append n mid a.0 ∙ (ap (λ (m : List (Entry S C R)). calls_by n m ++ calls_by n a.0) b.1
-          ∙ (ap (λ (m : List (Entry S C R)). m ++ calls_by n a.0) (calls_by-append n seen b.0) ∙ append_assoc (calls_by n seen) (calls_by n b.0) (calls_by n a.0)))) in
+      ap (calls_by n) a.1 ∙ (calls_by-append n mid a.0 ∙ (ap (λ (m : List (Entry S C R)). calls_by n m ++ calls_by n a.0) b.1
+      ∙ (ap (λ (m : List (Entry S C R)). m ++ calls_by n a.0) (calls_by-append n seen b.0) ∙ append_assoc (calls_by n seen) (calls_by n b.0) (calls_by n a.0)))) in
       let none = front_nil (calls_by n b.0) (calls_by n a.0) (nil_of (calls_by n seen) (calls_by n b.0 ++ calls_by n a.0) (sym whole ∙ sym e)) in
       ap (calls_by n) b.1 ∙ (calls_by-append n seen b.0 ∙ (ap (λ (m : List (Entry S C R)). calls_by n seen ++ m) none ∙ (append-nil (calls_by n seen) ∙ e)))
 

@@ -1,20 +1,20 @@
 -- Two seats become one, and a shelf opens.
-use Rattle.std.proofs.Common.{◌≡◌, ◌≢◌, ◌⊎◌, ℕ, zero, suc, ◌+◌, ◌*◌, ◌-◌, ◌%◌, ◌<◌, ◌≤◌, List, [], ◌∷◌, ◌++◌, length, get_or, set, map, sym, refl, ap, ◌∙◌, subst, inl, inr, ⊎_elim, arith, append-nil, length-set, length-append, replicate}
+use Rattle.std.proofs.Common.{◌≡◌, ◌≢◌, ◌⊎◌, ℕ, zero, suc, ◌+◌, ◌*◌, ◌-◌, ◌<◌, List, [], ◌∷◌, ◌++◌, length, set, sym, refl, ap, ◌∙◌, subst, inl, inr, ⊎_elim, arith, length-append, replicate}
 use Rattle.std.specs.Prelude.{slice_index}
 use mathlib.Core.Logic.{dite}
-use mathlib.Core.Option.{Option, none, some, some-injective, some-ne-none}
+use mathlib.Core.Option.{some, some-injective, some-ne-none}
 use native.Mathlib.Decide.{ℕ_discrete, dec_le}
 use lib.ListN.{get_elem?}
 use Rattle.atomic_table.specs.Table.{State, Joins, opening}
-use Rattle.atomic_table.proofs.Lists.{at_set, set_else, set_here, at_map}
+use Rattle.atomic_table.proofs.Lists.{at_set, at_map}
 use Rattle.lock_book.specs.declared.view.Entry.{Entry}
 use Rattle.lock_book.specs.declared.view.Stage.{Stage}
-use Rattle.lock_book.specs.declared.view.Stage.TheVariants.{Idle, Waiting, Holding}
+use Rattle.lock_book.specs.declared.view.Stage.TheVariants.{Idle}
 use Rattle.lock_book.specs.declared.view.View.{View}
-use Rattle.lock_book.specs.History.{last_of, calls_by, calls_at, StartsWith, IsLegal, row_at, longer_rows, first_row, other_rows}
-use Rattle.lock_book.specs.Ruled.{total, tickets, holders, HasTicket, Line, Stands, mine_at, seen_at, told_at, informed, together, nobody, newcomers, StageOk, Knows, LineOk, Ruled}
+use Rattle.lock_book.specs.History.{calls_by, calls_at, StartsWith, row_at, longer_rows}
+use Rattle.lock_book.specs.Ruled.{tickets, holders, HasTicket, Line, Stands, seen_at, informed, together, nobody, newcomers, StageOk, Knows, Ruled}
 use Rattle.lock_book.proofs.Histories.{starts_nil, longer_of, row_longer, calls_between}
-use Rattle.lock_book.proofs.Totals.{total_set, total_two, total_at, there, within}
+use Rattle.lock_book.proofs.Totals.{total_set, total_two}
 use Rattle.lock_book.proofs.Meets.{nobody_knows, informed_knows, joined_front, joined_back}
 
 module _ {X N S C R : Type 0} (slot_name : X → N) (slot_state : X → S) (legal : N → ℕ → S → C → R → S → Type 0) (opens : List (N × S)) (callers : ℕ) where
@@ -78,22 +78,27 @@ module _ {X N S C R : Type 0} (slot_name : X → N) (slot_state : X → S) (lega
           omega arith;
       each_seat = λ j u e. elim (was j u e) [ is_spent q ↦ subst (Knows opens callers r.lines) q (nobody_knows opens callers r.lines) | is_both p q ↦ subst (Knows opens callers r.lines) q known | is_else p o q ↦ r.each_seat j u q ];
       apart = λ a b x y ea eb j t hx hy. elim (was a x ea) [
-        is_spent q ↦ absurd (no_tickets x.stage j t (ap (λ (z : View N S C R). z.stage) (sym q)) hx)
-      | is_both p q ↦ absurd (no_tickets x.stage j t (ap (λ (z : View N S C R). z.stage) (sym q) ∙ both_idle) hx)
-      | is_else p o q ↦ elim (was b y eb) [
-          is_spent q' ↦ absurd (no_tickets y.stage j t (ap (λ (z : View N S C R). z.stage) (sym q')) hy)
-        | is_both p' q' ↦ absurd (no_tickets y.stage j t (ap (λ (z : View N S C R). z.stage) (sym q') ∙ both_idle) hy)
-        | is_else p' o' q' ↦ r.apart a b x y q q' j t hx hy ] ];
+        | is_spent q ↦ absurd (no_tickets x.stage j t (ap (λ (z : View N S C R). z.stage) (sym q)) hx)
+        | is_both p q ↦ absurd (no_tickets x.stage j t (ap (λ (z : View N S C R). z.stage) (sym q) ∙ both_idle) hx)
+        | is_else p o q ↦ elim (was b y eb) [
+          | is_spent q' ↦ absurd (no_tickets y.stage j t (ap (λ (z : View N S C R). z.stage) (sym q')) hy)
+          | is_both p' q' ↦ absurd (no_tickets y.stage j t (ap (λ (z : View N S C R). z.stage) (sym q') ∙ both_idle) hy)
+          | is_else p' o' q' ↦ r.apart a b x y q q' j t hx hy
+        ]
+      ];
       numbers = λ a b x y ea eb n hx hy. elim (was a x ea) [
-        is_spent q ↦ absurd (not_spent n x q hx)
-      | is_both p q ↦ elim (was b y eb) [
-          is_spent q' ↦ absurd (not_spent n y q' hy)
-        | is_both p' q' ↦ p ∙ sym p'
-        | is_else p' o' q' ↦ absurd (⊎_elim (λ (h : Stands n v). p' (r.numbers b id y v q' at n hy h)) (λ (h : Stands n w). o' (r.numbers b other y w q' was_other n hy h)) (of_both n (subst (Stands n) (sym q) hx))) ]
-      | is_else p o q ↦ elim (was b y eb) [
-          is_spent q' ↦ absurd (not_spent n y q' hy)
-        | is_both p' q' ↦ absurd (⊎_elim (λ (h : Stands n v). p (r.numbers a id x v q at n hx h)) (λ (h : Stands n w). o (r.numbers a other x w q was_other n hx h)) (of_both n (subst (Stands n) (sym q') hy)))
-        | is_else p' o' q' ↦ r.numbers a b x y q q' n hx hy ] ];
+        | is_spent q ↦ absurd (not_spent n x q hx)
+        | is_both p q ↦ elim (was b y eb) [
+          | is_spent q' ↦ absurd (not_spent n y q' hy)
+          | is_both p' q' ↦ p ∙ sym p'
+          | is_else p' o' q' ↦ absurd (⊎_elim (λ (h : Stands n v). p' (r.numbers b id y v q' at n hy h)) (λ (h : Stands n w). o' (r.numbers b other y w q' was_other n hy h)) (of_both n (subst (Stands n) (sym q) hx)))
+        ]
+        | is_else p o q ↦ elim (was b y eb) [
+          | is_spent q' ↦ absurd (not_spent n y q' hy)
+          | is_both p' q' ↦ absurd (⊎_elim (λ (h : Stands n v). p (r.numbers a id x v q at n hx h)) (λ (h : Stands n w). o (r.numbers a other x w q was_other n hx h)) (of_both n (subst (Stands n) (sym q') hy)))
+          | is_else p' o' q' ↦ r.numbers a b x y q q' n hx hy
+        ]
+      ];
     }
 
   -- a seat is told what another has seen, which stands for no caller
@@ -114,15 +119,15 @@ module _ {X N S C R : Type 0} (slot_name : X → N) (slot_state : X → S) (lega
       let few = total_two (λ (u : View N S C R). length u.owns) s.views id other v w at apart was_w in
       let all = r.seats in
       let part : (n : ℕ) (Q : ℕ → List (ℕ × Entry S C R) → Type 0) → n < length (v.owns ++ w.owns) → ((m : ℕ) → m < length v.owns → Q (v.from + m) (row_at v.owns m)) → ((m : ℕ) → m < length w.owns → Q (w.from + m) (row_at w.owns m)) → Q (v.from + n) (row_at (v.owns ++ w.owns) n) =
-          λ n Q lt a b. dite (dec_le (length v.owns) n)
-          (λ hi.
-              let m : ℕ = n - length v.owns in
-              let e : length v.owns + m ≡ n = omega arith in
-              let f : w.from + m ≡ v.from + n = omega arith in
-              subst (λ (z : ℕ × List (ℕ × Entry S C R)). Q z.0 z.1) (λ x. (f x, (sym (joined_back opens callers r.lines v.owns w.owns m) ∙ ap (row_at (v.owns ++ w.owns)) e) x)) (b m (omega arith)))
-          (λ lo. let l : n < length v.owns = omega arith in subst (Q (v.from + n)) (sym (joined_front opens callers r.lines v.owns w.owns n l)) (a n l)) in
+      λ n Q lt a b. dite (dec_le (length v.owns) n)
+      (λ hi.
+      let m : ℕ = n - length v.owns in
+      let e : length v.owns + m ≡ n = omega arith in
+      let f : w.from + m ≡ v.from + n = omega arith in
+      subst (λ (z : ℕ × List (ℕ × Entry S C R)). Q z.0 z.1) (λ x. (f x, (sym (joined_back opens callers r.lines v.owns w.owns m) ∙ ap (row_at (v.owns ++ w.owns)) e) x)) (b m (omega arith)))
+      (λ lo. let l : n < length v.owns = omega arith in subst (Q (v.from + n)) (sym (joined_front opens callers r.lines v.owns w.owns n l)) (a n l)) in
       let both_seen : (j : ℕ) → StartsWith (r.lines j).log (row_at (longer_rows v.seen w.seen) j) × StartsWith (row_at (longer_rows v.seen w.seen) j) (seen_at v j) × StartsWith (row_at (longer_rows v.seen w.seen) j) (seen_at w j) =
-          λ j. subst (λ (m : List (Entry S C R)). StartsWith (r.lines j).log m × StartsWith m (seen_at v j) × StartsWith m (seen_at w j)) (sym (row_longer v.seen w.seen j)) (longer_of (r.lines j).log (seen_at v j) (seen_at w j) (k.seen j) (h.seen j)) in
+      λ j. subst (λ (m : List (Entry S C R)). StartsWith (r.lines j).log m × StartsWith m (seen_at v j) × StartsWith m (seen_at w j)) (sym (row_longer v.seen w.seen j)) (longer_of (r.lines j).log (seen_at v j) (seen_at w j) (k.seen j) (h.seen j)) in
       let known : Knows opens callers r.lines both = record {
         opened = λ _. k.opened some_owner;
         counted = λ _. k.counted some_owner;
@@ -136,7 +141,7 @@ module _ {X N S C R : Type 0} (slot_name : X → N) (slot_state : X → S) (lega
         staged = subst (StageOk opens callers r.lines both) (sym idle) tt;
       } in
       join_keeps s r id v other w both at apart at' idle w_idle idle known len
-          (λ n g. let lo = g.0 in let hi = g.1 in dite (dec_le (v.from + length v.owns) n) (λ up. inr (omega arith, omega arith)) (λ down. inl (lo, omega arith)))
+      (λ n g. let lo = g.0 in let hi = g.1 in dite (dec_le (v.from + length v.owns) n) (λ up. inr (omega arith, omega arith)) (λ down. inl (lo, omega arith)))
 
   empty_rows : (c i : ℕ) → row_at (replicate {A = List (ℕ × Entry S C R)} c []) i ≡ []
   empty_rows zero i = refl
@@ -193,6 +198,7 @@ module _ {X N S C R : Type 0} (slot_name : X → N) (slot_state : X → S) (lega
       only : (id : ℕ) (v : View N S C R) → get_elem? (newcomers opens callers ∷ []) id ≡ some v → (P : View N S C R → Type 0) → P (newcomers opens callers) → P v
       only zero v e P p = subst P (some-injective _ v e) p
       only (suc id) v e P p = absurd (some-ne-none v (sym e))
+
       alone : (id : ℕ) (v : View N S C R) → get_elem? (newcomers {N = N} {S = S} {C = C} {R = R} opens callers ∷ []) id ≡ some v → id ≡ 0
       alone zero v e = refl
       alone (suc id) v e = absurd (some-ne-none v (sym e))

@@ -1,13 +1,12 @@
 -- What two passes know after they have met.
-use Rattle.std.proofs.Common.{◌≡◌, ◌≢◌, ℕ, zero, suc, ◌+◌, ◌<◌, ◌≤◌, List, [], ◌∷◌, ◌++◌, length, sym, refl, ap, ◌∙◌, subst, arith}
+use Rattle.std.proofs.Common.{◌≡◌, ℕ, ◌+◌, ◌<◌, ◌≤◌, List, [], length, sym, refl, ap, ◌∙◌, subst, arith}
 use mathlib.Core.Option.{some}
 use lib.ListN.{get_elem?}
 use Rattle.lock_book.specs.declared.view.Entry.{Entry}
-use Rattle.lock_book.specs.declared.view.Stage.{Stage}
 use Rattle.lock_book.specs.declared.view.Stage.TheVariants.{Idle}
 use Rattle.lock_book.specs.declared.view.View.{View}
-use Rattle.lock_book.specs.History.{calls_by, StartsWith, IsLegal, longer, row_at, longer_rows}
-use Rattle.lock_book.specs.Ruled.{mine_at, seen_at, note, informed, merged, Looks, IsFree, IsSame}
+use Rattle.lock_book.specs.History.{calls_by, StartsWith, IsLegal, longer, row_at}
+use Rattle.lock_book.specs.Ruled.{mine_at, seen_at, note, informed, merged, Looks, IsSame}
 use Rattle.lock_book.specs.Told.{Histories, IsPass, Meets}
 use Rattle.lock_book.proofs.Histories.{row_longer, longer_same}
 

@@ -1,21 +1,20 @@
 -- Looks, splits and joins keep the rule.
-use Rattle.std.proofs.Common.{◌≡◌, ◌≢◌, ◌⊎◌, ℕ, zero, suc, ◌+◌, ◌*◌, ◌-◌, ◌%◌, ◌<◌, ◌≤◌, List, [], ◌∷◌, ◌++◌, length, get_or, set, map, sym, refl, ap, ◌∙◌, subst, inl, inr, ⊎_elim, arith, append-nil, length-set, length-append, replicate}
-use Rattle.std.specs.Prelude.{slice_index}
+use Rattle.std.proofs.Common.{◌≡◌, ◌≢◌, ◌⊎◌, ℕ, zero, suc, ◌+◌, ◌<◌, List, [], ◌∷◌, ◌++◌, length, set, sym, refl, ap, ◌∙◌, subst, inl, inr, ⊎_elim, arith, length-set}
 use mathlib.Core.Logic.{dite}
-use mathlib.Core.Option.{Option, none, some, some-injective, some-ne-none}
-use native.Mathlib.Decide.{ℕ_discrete, dec_le}
+use mathlib.Core.Option.{none, some, some-injective, some-ne-none}
+use native.Mathlib.Decide.{ℕ_discrete}
 use lib.ListN.{get_elem?}
 use lib.Seq.{set-get_or}
-use Rattle.atomic_table.specs.Table.{State, Me, step, keeps, stepped, Allows, Splits, Joins, opening}
-use Rattle.atomic_table.proofs.Lists.{at_set, at_snoc, set_again, set_else, set_here}
+use Rattle.atomic_table.specs.Table.{State, Me, step, keeps, Allows, Splits}
+use Rattle.atomic_table.proofs.Lists.{at_set}
 use Rattle.lock_book.specs.declared.view.Entry.{Entry}
 use Rattle.lock_book.specs.declared.view.Stage.{Stage}
-use Rattle.lock_book.specs.declared.view.Stage.TheVariants.{Idle, Waiting, Holding}
+use Rattle.lock_book.specs.declared.view.Stage.TheVariants.{Idle}
 use Rattle.lock_book.specs.declared.view.View.{View}
-use Rattle.lock_book.specs.History.{last_of, calls_by, calls_at, StartsWith, IsLegal, longer, row_at, put_row, longer_rows, first_row, other_rows}
-use Rattle.lock_book.specs.Ruled.{total, tickets, holders, HasTicket, Line, Stands, mine_at, seen_at, told_at, merged, first_caller, other_callers, note, informed, together, nobody, newcomers, StageOk, Knows, LineOk, Ruled, Looks, looked}
-use Rattle.lock_book.proofs.Histories.{starts_refl, starts_nil, starts_trans, legal_prefix, longer_of, calls_between, calls_none, row_longer}
-use Rattle.lock_book.proofs.Totals.{total_set, total_snoc, total_two, total_at, upd, upd_here, upd_else, there, within}
+use Rattle.lock_book.specs.History.{calls_by, calls_at, StartsWith, row_at, longer_rows, first_row, other_rows}
+use Rattle.lock_book.specs.Ruled.{tickets, holders, HasTicket, Line, Stands, mine_at, seen_at, told_at, merged, first_caller, other_callers, note, informed, nobody, StageOk, Knows, Ruled, looked}
+use Rattle.lock_book.proofs.Histories.{starts_refl, starts_nil, legal_prefix, longer_of, calls_between, calls_none, row_longer}
+use Rattle.lock_book.proofs.Totals.{total_set, total_snoc, upd, upd_here, upd_else, there}
 use Rattle.lock_book.proofs.Stages.{stage_by}
 use Rattle.lock_book.proofs.Changes.{Change, changed}
 
@@ -213,25 +212,31 @@ module _ {X N S C R : Type 0} (slot_name : X → N) (slot_state : X → S) (lega
           omega arith;
       each_seat = λ j u e. elim (was j u e) [ is_left p q ↦ subst (Knows opens callers r.lines) q lk | is_right p q ↦ subst (Knows opens callers r.lines) q rk | is_other p q ↦ r.each_seat j u q ];
       apart = λ a b x y ea eb j t hx hy. elim (was a x ea) [
-        is_left p q ↦ absurd (no_tickets x.stage j t (ap (λ (z : View N S C R). z.stage) (sym q) ∙ left_idle) hx)
-      | is_right p q ↦ absurd (no_tickets x.stage j t (ap (λ (z : View N S C R). z.stage) (sym q) ∙ right_idle) hx)
-      | is_other p q ↦ elim (was b y eb) [
-          is_left p' q' ↦ absurd (no_tickets y.stage j t (ap (λ (z : View N S C R). z.stage) (sym q') ∙ left_idle) hy)
-        | is_right p' q' ↦ absurd (no_tickets y.stage j t (ap (λ (z : View N S C R). z.stage) (sym q') ∙ right_idle) hy)
-        | is_other p' q' ↦ r.apart a b x y q q' j t hx hy ] ];
+        | is_left p q ↦ absurd (no_tickets x.stage j t (ap (λ (z : View N S C R). z.stage) (sym q) ∙ left_idle) hx)
+        | is_right p q ↦ absurd (no_tickets x.stage j t (ap (λ (z : View N S C R). z.stage) (sym q) ∙ right_idle) hx)
+        | is_other p q ↦ elim (was b y eb) [
+          | is_left p' q' ↦ absurd (no_tickets y.stage j t (ap (λ (z : View N S C R). z.stage) (sym q') ∙ left_idle) hy)
+          | is_right p' q' ↦ absurd (no_tickets y.stage j t (ap (λ (z : View N S C R). z.stage) (sym q') ∙ right_idle) hy)
+          | is_other p' q' ↦ r.apart a b x y q q' j t hx hy
+        ]
+      ];
       numbers = λ a b x y ea eb n hx hy. elim (was a x ea) [
-        is_left p q ↦ (let sx : Stands n left = subst (Stands n) (sym q) hx in elim (was b y eb) [
-          is_left p' q' ↦ p ∙ sym p'
-        | is_right p' q' ↦ absurd (once n sx (subst (Stands n) (sym q') hy))
-        | is_other p' q' ↦ absurd (p' (r.numbers b id y v q' at n hy (of_left n sx))) ])
-      | is_right p q ↦ (let sx : Stands n right = subst (Stands n) (sym q) hx in elim (was b y eb) [
-          is_left p' q' ↦ absurd (once n (subst (Stands n) (sym q') hy) sx)
-        | is_right p' q' ↦ p ∙ sym p'
-        | is_other p' q' ↦ absurd (p' (r.numbers b id y v q' at n hy (of_right n sx))) ])
-      | is_other p q ↦ elim (was b y eb) [
-          is_left p' q' ↦ absurd (p (r.numbers a id x v q at n hx (of_left n (subst (Stands n) (sym q') hy))))
-        | is_right p' q' ↦ absurd (p (r.numbers a id x v q at n hx (of_right n (subst (Stands n) (sym q') hy))))
-        | is_other p' q' ↦ r.numbers a b x y q q' n hx hy ] ];
+        | is_left p q ↦ (let sx : Stands n left = subst (Stands n) (sym q) hx in elim (was b y eb) [
+          | is_left p' q' ↦ p ∙ sym p'
+          | is_right p' q' ↦ absurd (once n sx (subst (Stands n) (sym q') hy))
+          | is_other p' q' ↦ absurd (p' (r.numbers b id y v q' at n hy (of_left n sx)))
+        ])
+        | is_right p q ↦ (let sx : Stands n right = subst (Stands n) (sym q) hx in elim (was b y eb) [
+          | is_left p' q' ↦ absurd (once n (subst (Stands n) (sym q') hy) sx)
+          | is_right p' q' ↦ p ∙ sym p'
+          | is_other p' q' ↦ absurd (p' (r.numbers b id y v q' at n hy (of_right n sx)))
+        ])
+        | is_other p q ↦ elim (was b y eb) [
+          | is_left p' q' ↦ absurd (p (r.numbers a id x v q at n hx (of_left n (subst (Stands n) (sym q') hy))))
+          | is_right p' q' ↦ absurd (p (r.numbers a id x v q at n hx (of_right n (subst (Stands n) (sym q') hy))))
+          | is_other p' q' ↦ r.numbers a b x y q q' n hx hy
+        ]
+      ];
     }
 
   pub notes : (id : ℕ) (v : View N S C R) → v.stage ≡ Idle → Splits Rule id v v (note v)
@@ -243,4 +248,4 @@ module _ {X N S C R : Type 0} (slot_name : X → N) (slot_state : X → S) (lega
       let b = both_length opens callers r.lines v.owns in
       let f = first_length opens callers r.lines v.owns some_owner in
       cut_keeps s r id v (first_caller v) (other_callers v) at idle idle refl (first_knows opens callers r.lines v k idle) (other_knows opens callers r.lines v k some_owner) b
-          (λ n h. let lo = h.0 in let hi = h.1 in (lo, omega arith)) (λ n h. let lo = h.0 in let hi = h.1 in (omega arith, omega arith)) (λ n h g. let lo = g.0 in let hi = h.1 in omega arith)
+      (λ n h. let lo = h.0 in let hi = h.1 in (lo, omega arith)) (λ n h. let lo = h.0 in let hi = h.1 in (omega arith, omega arith)) (λ n h g. let lo = g.0 in let hi = h.1 in omega arith)

@@ -1,23 +1,23 @@
 -- The moves of the lock and the commit keep the rule.
-use Rattle.std.proofs.Common.{◌≡◌, ◌≢◌, ◌⊎◌, ℕ, zero, suc, ◌+◌, ◌*◌, ◌-◌, ◌%◌, ◌<◌, ◌≤◌, List, [], ◌∷◌, ◌++◌, length, get_or, set, sym, refl, ap, ◌∙◌, subst, ⊎_elim, arith, append-nil, length-set, length-append, get_or-set_other, get_or-set_same}
+use Rattle.std.proofs.Common.{◌≡◌, ◌≢◌, ℕ, ◌+◌, ◌*◌, ◌%◌, ◌<◌, ◌≤◌, List, [], ◌∷◌, ◌++◌, length, set, sym, refl, ap, ◌∙◌, subst, arith, length-set, length-append, get_or-set_other, get_or-set_same}
 use Rattle.std.specs.Prelude.{slice_index}
 use mathlib.Core.Logic.{dite}
-use mathlib.Core.Option.{Option, none, some, some-injective, some-ne-none}
+use mathlib.Core.Option.{Option, none, some, some-injective}
 use native.Mathlib.Decide.{ℕ_discrete}
 use Rattle.std.specs.Prelude.{Option as Maybe, Some, None}
 use lib.ListN.{get_elem?}
 use lib.Seq.{set-get_or}
 use Rattle.atomic_table.specs.Table.{State, Me, step, keeps, takes, gives, rest, stepped, Allows}
-use Rattle.atomic_table.proofs.Lists.{at_set, set_again, set_here, set_else}
+use Rattle.atomic_table.proofs.Lists.{set_again, set_here, set_else}
 use Rattle.lock_book.specs.declared.view.Entry.{Entry}
 use Rattle.lock_book.specs.declared.view.Stage.{Stage}
 use Rattle.lock_book.specs.declared.view.Stage.TheVariants.{Idle, Waiting, Holding}
 use Rattle.lock_book.specs.declared.view.View.{View}
-use Rattle.lock_book.specs.History.{entry, last_of, calls_by, calls_at, StartsWith, IsLegal, longer, row_at, put_row, longer_rows}
-use Rattle.lock_book.specs.Ruled.{total, tickets, holders, HasTicket, Line, Stands, mine_at, seen_at, told_at, at_stage, seeing, with_entry, merged, StageOk, Knows, LineOk, Ruled, ticketed, Turned, turned_to, committed, passed_on, Looks, looked}
-use Rattle.lock_book.proofs.Histories.{starts_refl, starts_nil, starts_trans, starts_snoc, calls_by_mine, calls_by_other, calls_at_here, calls_at_other, legal_snoc, last_snoc, legal_prefix, longer_of, calls_between, row_longer, row_here, row_else}
-use Rattle.lock_book.proofs.Totals.{total_set, total_le, total_none, total_at, upd, upd_here, upd_else, there, within}
-use Rattle.lock_book.proofs.Stages.{one_ticket, one_holder, no_ticket, no_holder, few_tickets, holders_none, ticket_range, tickets_le, stage_by}
+use Rattle.lock_book.specs.History.{entry, last_of, calls_by, calls_at, StartsWith, IsLegal, row_at, put_row}
+use Rattle.lock_book.specs.Ruled.{total, tickets, holders, HasTicket, Line, mine_at, seen_at, told_at, at_stage, seeing, with_entry, StageOk, Knows, Ruled, ticketed, Turned, turned_to, committed, passed_on}
+use Rattle.lock_book.proofs.Histories.{starts_refl, starts_snoc, calls_by_mine, calls_by_other, calls_at_here, calls_at_other, legal_snoc, row_here, row_else}
+use Rattle.lock_book.proofs.Totals.{total_set, total_le, total_none, total_at, upd, upd_here, upd_else, there}
+use Rattle.lock_book.proofs.Stages.{one_ticket, one_holder, no_ticket, no_holder, holders_none, ticket_range, tickets_le, stage_by}
 use Rattle.lock_book.proofs.Changes.{Change, changed}
 
 apart_words : (ws : List ℕ) (k i n : ℕ) → 3 * i ≤ k → k < 3 * i + 3 → (j : ℕ) → j ≢ i
@@ -159,15 +159,15 @@ module _ {X N S C R : Type 0} (slot_name : X → N) (slot_state : X → S) (lega
           let serving = ln.serving in
           let now : t ≡ L.served = omega arith in
           let mine_alone : (j : ℕ) (u : View N S C R) → get_elem? s.views j ≡ some u → holders i u.stage ≡ 0 =
-              λ j u eu. holders_none i u.stage (λ x is.
-              let okx : StageOk opens callers r.lines u (Holding i x) = subst (StageOk opens callers r.lines u) is (r.each_seat j u eu).staged in
-              let x_now : x ≡ t = okx.2 ∙ sym now in
-              let mine : HasTicket i t v.stage = subst (HasTicket i t) (sym waits) (refl, refl) in
-              let theirs : HasTicket i t u.stage = subst (HasTicket i t) (sym is) (refl, x_now) in
-              let seat : id ≡ j = r.apart id j v u at eu i t mine theirs in
-              let same : u ≡ v = some-injective u v (sym eu ∙ (ap (get_elem? s.views) (sym seat) ∙ at)) in
-              let stages : u.stage ≡ v.stage = ap (λ (z : View N S C R). z.stage) same in
-              absurd (cc)) in
+          λ j u eu. holders_none i u.stage (λ x is.
+          let okx : StageOk opens callers r.lines u (Holding i x) = subst (StageOk opens callers r.lines u) is (r.each_seat j u eu).staged in
+          let x_now : x ≡ t = okx.2 ∙ sym now in
+          let mine : HasTicket i t v.stage = subst (HasTicket i t) (sym waits) (refl, refl) in
+          let theirs : HasTicket i t u.stage = subst (HasTicket i t) (sym is) (refl, x_now) in
+          let seat : id ≡ j = r.apart id j v u at eu i t mine theirs in
+          let same : u ≡ v = some-injective u v (sym eu ∙ (ap (get_elem? s.views) (sym seat) ∙ at)) in
+          let stages : u.stage ≡ v.stage = ap (λ (z : View N S C R). z.stage) same in
+          absurd (cc)) in
           let free = total_none (λ (u : View N S C R). holders i u.stage) s.views mine_alone in
           let home = ln.at_home free in
           let x = home.0 in
@@ -273,23 +273,23 @@ module _ {X N S C R : Type 0} (slot_name : X → N) (slot_state : X → S) (lega
       let some_owner : 0 < length v.owns = omega arith in
       let open_here : get_elem? v.opens i ≡ some p.0 = ap (λ (z : List (N × S)). get_elem? z i) (k.opened some_owner) ∙ p.1 in
       let rule_here : legal p.0.0 v.from (last_of p.0.1 L.log) ask reply (slot_state x) =
-          subst (λ (m : List (Entry S C R)). legal p.0.0 v.from (last_of p.0.1 m) ask reply (slot_state x)) ok.4 (lawful p.0 open_here) in
+      subst (λ (m : List (Entry S C R)). legal p.0.0 v.from (last_of p.0.1 m) ask reply (slot_state x)) ok.4 (lawful p.0 open_here) in
       let begun : (j : ℕ) (m : List (Entry S C R)) → StartsWith (r.lines j).log m → StartsWith (upd r.lines i l j).log m = λ j m h. dite (ℕ_discrete j i)
-          (λ is. subst (λ (z : ℕ). StartsWith (upd r.lines i l z).log m) (sym is)
-          (subst (λ (y : Line S C R). StartsWith y.log m) (sym back) (starts_snoc L.log m (e ∷ []) (subst (λ (z : ℕ). StartsWith (r.lines z).log m) is h))))
-          (λ ne. subst (λ (y : Line S C R). StartsWith y.log m) (sym (upd_else r.lines i l j ne)) h) in
+      (λ is. subst (λ (z : ℕ). StartsWith (upd r.lines i l z).log m) (sym is)
+      (subst (λ (y : Line S C R). StartsWith y.log m) (sym back) (starts_snoc L.log m (e ∷ []) (subst (λ (z : ℕ). StartsWith (r.lines z).log m) is h))))
+      (λ ne. subst (λ (y : Line S C R). StartsWith y.log m) (sym (upd_else r.lines i l j ne)) h) in
       let mine_here : calls_at i (row_at v.owns 0 ++ (i, e) ∷ []) ≡ calls_by v.from log =
-          calls_at_here i (row_at v.owns 0) e ∙ (ap (λ (m : List (Entry S C R)). m ++ e ∷ []) (k.mine 0 i some_owner ∙ (let z : v.from + 0 ≡ v.from = omega arith in ap (λ (y : ℕ). calls_by y L.log) z))
-          ∙ sym (calls_by_mine v.from L.log ask reply (slot_state x))) in
+      calls_at_here i (row_at v.owns 0) e ∙ (ap (λ (m : List (Entry S C R)). m ++ e ∷ []) (k.mine 0 i some_owner ∙ (let z : v.from + 0 ≡ v.from = omega arith in ap (λ (y : ℕ). calls_by y L.log) z))
+      ∙ sym (calls_by_mine v.from L.log ask reply (slot_state x))) in
       let first : v.from + 0 ≡ v.from = omega arith in
       let row : List (ℕ × Entry S C R) = row_at v.owns 0 in
       let mine_now : (j : ℕ) → calls_at j (row ++ (i, e) ∷ []) ≡ calls_by (v.from + 0) (upd r.lines i l j).log = λ j. dite (ℕ_discrete j i)
-          (λ is. subst (λ (z : ℕ). calls_at z (row ++ (i, e) ∷ []) ≡ calls_by (v.from + 0) (upd r.lines i l z).log) (sym is) (mine_here ∙ (ap (λ (y : ℕ). calls_by y log) (sym first) ∙ ap (λ (y : Line S C R). calls_by (v.from + 0) y.log) (sym back))))
-          (λ ne. calls_at_other j i row e (λ z. ne (sym z)) ∙ (k.mine 0 j some_owner ∙ ap (λ (y : Line S C R). calls_by (v.from + 0) y.log) (sym (upd_else r.lines i l j ne)))) in
+      (λ is. subst (λ (z : ℕ). calls_at z (row ++ (i, e) ∷ []) ≡ calls_by (v.from + 0) (upd r.lines i l z).log) (sym is) (mine_here ∙ (ap (λ (y : ℕ). calls_by y log) (sym first) ∙ ap (λ (y : Line S C R). calls_by (v.from + 0) y.log) (sym back))))
+      (λ ne. calls_at_other j i row e (λ z. ne (sym z)) ∙ (k.mine 0 j some_owner ∙ ap (λ (y : Line S C R). calls_by (v.from + 0) y.log) (sym (upd_else r.lines i l j ne)))) in
       let seen_now : (j : ℕ) → calls_at j (row ++ (i, e) ∷ []) ≡ calls_by (v.from + 0) (row_at (put_row v.seen i (seen_at v i ++ e ∷ [])) j) =
-          sees r.lines v i (seen_at v i ++ e ∷ []) (λ j m. calls_at j (row ++ (i, e) ∷ []) ≡ calls_by (v.from + 0) m)
-          (mine_here ∙ (ap (λ (y : ℕ). calls_by y log) (sym first) ∙ ap (λ (m : List (Entry S C R)). calls_by (v.from + 0) (m ++ e ∷ [])) (sym ok.4)))
-          (λ j ne. calls_at_other j i row e (λ z. ne (sym z)) ∙ k.mine_seen 0 j some_owner) in
+      sees r.lines v i (seen_at v i ++ e ∷ []) (λ j m. calls_at j (row ++ (i, e) ∷ []) ≡ calls_by (v.from + 0) m)
+      (mine_here ∙ (ap (λ (y : ℕ). calls_by y log) (sym first) ∙ ap (λ (m : List (Entry S C R)). calls_by (v.from + 0) (m ++ e ∷ [])) (sym ok.4)))
+      (λ j ne. calls_at_other j i row e (λ z. ne (sym z)) ∙ k.mine_seen 0 j some_owner) in
       let c : Change slot_name slot_state legal opens callers s r.lines id v w i p.0 l words s.homes = record {
         at = at;
         opened = p.1;

@@ -1,5 +1,5 @@
 -- The passes as they are made.
-use Rattle.std.proofs.Common.{◌≡◌, ℕ, zero, suc, ◌+◌, ◌*◌, ◌-◌, ◌<◌, ◌≤◌, List, [], ◌∷◌, ◌++◌, length, map, sym, refl, ap, ◌∙◌, subst, arith, replicate}
+use Rattle.std.proofs.Common.{◌≡◌, ℕ, zero, suc, ◌+◌, ◌*◌, ◌-◌, ◌<◌, List, [], ◌∷◌, ◌++◌, length, map, sym, refl, ap, ◌∙◌, subst, arith, replicate}
 use mathlib.Core.Option.{some, some-injective, some-ne-none}
 use lib.ListN.{get_elem?}
 use Rattle.lock_book.specs.declared.view.View.{View}
@@ -63,9 +63,9 @@ module _ {X N S C R : Type 0} (slot_name : X → N) (slot_state : X → S) (lega
       let count : length opens ≡ n = ap length is ∙ (map_length _ values ∙ len) in
       let ws : replicate (3 * length opens) 0 ≡ words = ap (λ (k : ℕ). replicate (3 * k) 0) count ∙ sym zero_words in
       subst (λ (w : List ℕ). Ruled slot_name slot_state legal opens callers (opening w slots (newcomers opens callers))) ws
-          (opens_so slot_name slot_state legal opens callers slots (omega arith) few
-          (λ i o e. let m = map_at (λ x. (value_name x, value_state x)) values i o (sym (ap (λ (l : List (N × S)). get_elem? l i) is) ∙ e) in
-          (shelve m.0, ap (λ (l : List X). get_elem? l i) shelved ∙ at_of shelve values i m.0 m.1, same_name m.0 ∙ ap (λ (p : N × S). p.0) m.2, same_state m.0 ∙ ap (λ (p : N × S). p.1) m.2)))
+      (opens_so slot_name slot_state legal opens callers slots (omega arith) few
+      (λ i o e. let m = map_at (λ x. (value_name x, value_state x)) values i o (sym (ap (λ (l : List (N × S)). get_elem? l i) is) ∙ e) in
+      (shelve m.0, ap (λ (l : List X). get_elem? l i) shelved ∙ at_of shelve values i m.0 m.1, same_name m.0 ∙ ap (λ (p : N × S). p.0) m.2, same_state m.0 ∙ ap (λ (p : N × S). p.1) m.2)))
 
 pub zeros_length : (n : ℕ) → length (replicate {A = ℕ} n 0) ≡ n
 zeros_length zero = refl

@@ -1,6 +1,6 @@
 -- The rule of a shelf's table, and what each step tells.
 -- X is what a slot holds, N a name, S a state, C a call and R a reply.
-use Rattle.std.specs.Prelude.{◌≡◌, ◌≢◌, ℕ, zero, suc, ◌+◌, ◌*◌, ◌-◌, ◌%◌, ◌^◌, ◌<◌, ◌≤◌, ◌==◌, Bool, true, false, ltb, if◌then◌else◌, List, [], ◌∷◌, ◌++◌, length, slice_index, replicate, map, Option, Some, None}
+use Rattle.std.specs.Prelude.{◌≡◌, ◌≢◌, ℕ, ◌+◌, ◌*◌, ◌%◌, ◌<◌, ◌≤◌, ◌==◌, if◌then◌else◌, List, [], ◌∷◌, ◌++◌, length, slice_index, replicate, Option, Some}
 use mathlib.Core.Option.{some}
 use lib.ListN.{get_elem?}
 use Rattle.atomic_table.specs.Table.{State, Me, Step, rest}
@@ -8,7 +8,7 @@ use Rattle.lock_book.specs.declared.view.Entry.{Entry}
 use Rattle.lock_book.specs.declared.view.Stage.{Stage}
 use Rattle.lock_book.specs.declared.view.Stage.TheVariants.{Idle, Waiting, Holding}
 use Rattle.lock_book.specs.declared.view.View.{View}
-use Rattle.lock_book.specs.History.{entry, last_of, calls_by, calls_at, StartsWith, IsLegal, longer, row_at, put_row, longer_rows, first_row, other_rows}
+use Rattle.lock_book.specs.History.{entry, last_of, calls_by, calls_at, StartsWith, IsLegal, row_at, put_row, longer_rows, first_row, other_rows}
 
 -- f of each view, added up
 abbrev pub total : {V : Type 0} → (V → ℕ) → List V → ℕ

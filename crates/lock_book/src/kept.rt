@@ -8,14 +8,19 @@ ghost use Rattle.std.specs.Prelude.{◌≡◌, ℕ};
 pub trait Kept: Send + Drop {
     /// What `apply` may use besides the value, by reference.
     type Env;
+
     type In;
+
     type Out;
 
     /// What is fixed of a value, as sizes, places and the region of its tokens. Plain data, as the next three: no value
     /// of them need be made.
     type Name;
+
     type State;
+
     type Call;
+
     type Reply;
 
     ghost name: { Self → Self.Name };

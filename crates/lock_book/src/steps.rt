@@ -14,7 +14,7 @@ use crossbeam_utils::Backoff;
 use std::sync::Wait;
 
 // Draws a ticket for the value `at`.
-pub fn draw_ticket<T: Kept>(board: &Board<T>, seat: &mut Place<T>, at: usize) -> u64
+pub(crate) fn draw_ticket<T: Kept>(board: &Board<T>, seat: &mut Place<T>, at: usize) -> u64
     requires own { seat.old.table_id ≡ board.now.shared.table_id }
     requires word { (at < length board.now.shared.key.0.value) × (3 * at + 3 ≤ board.now.shared.table_id.words) }
     requires fits { 3 * at + 3 < 2 ^ 64 }
@@ -26,7 +26,7 @@ pub fn draw_ticket<T: Kept>(board: &Board<T>, seat: &mut Place<T>, at: usize) ->
 }
 
 // Waits until the ticket is served. The seat then has the value.
-pub fn wait_turn<T: Kept, R: Wait>(
+pub(crate) fn wait_turn<T: Kept, R: Wait>(
     rt: &R,
     board: &Board<T>,
     seat: &mut Place<T>,
@@ -68,7 +68,7 @@ impl<T: Kept> Held<T> {
 }
 
 // Applies the call to the value that the seat has.
-pub fn serve<T: Kept>(
+pub(crate) fn serve<T: Kept>(
     board: &Board<T>,
     seat: &mut Place<T>,
     at: usize,
@@ -86,7 +86,7 @@ pub fn serve<T: Kept>(
 }
 
 // Adds the call to the history of the value that the seat has.
-pub fn commit_call<T: Kept>(board: &Board<T>, seat: &mut Place<T>, at: usize)
+pub(crate) fn commit_call<T: Kept>(board: &Board<T>, seat: &mut Place<T>, at: usize)
     requires own { seat.old.table_id ≡ board.now.shared.table_id }
     requires word { 3 * at + 3 ≤ board.now.shared.table_id.words }
     requires fits { 3 * at + 3 < 2 ^ 64 }
@@ -101,7 +101,7 @@ pub fn commit_call<T: Kept>(board: &Board<T>, seat: &mut Place<T>, at: usize)
 }
 
 // Gives the value back, and serves the next ticket.
-pub fn pass_on<T: Kept>(board: &Board<T>, seat: &mut Place<T>, at: usize)
+pub(crate) fn pass_on<T: Kept>(board: &Board<T>, seat: &mut Place<T>, at: usize)
     requires own { seat.old.table_id ≡ board.now.shared.table_id }
     requires word { (3 * at + 3 ≤ board.now.shared.table_id.words) × (at < board.now.shared.table_id.slots) }
     requires fits { 3 * at + 3 < 2 ^ 64 }

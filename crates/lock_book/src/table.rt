@@ -15,9 +15,9 @@
 ghost use Rattle.lock_book.specs.History.{made_of};
 ghost use Rattle.lock_book.specs.Ruled.{Ruled, newcomers, ticketed, turned_to, committed, passed_on, looked, first_caller, other_callers, note, informed, together, nobody};
 
+use crate::Kept;
 use crate::noted::Noted;
 use crate::view::View;
-use crate::Kept;
 use atomic_table::{Join, Play, Seat, Split, Table, TableRule};
 use std::alloc::Global;
 use std::collections::LinkedList;

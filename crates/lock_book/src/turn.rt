@@ -12,7 +12,7 @@ use crate::table::{Board, Place};
 use std::sync::Wait;
 
 // Takes a turn at the value `at`, and applies the call.
-pub fn take_turn<T: Kept, R: Wait>(
+pub(crate) fn take_turn<T: Kept, R: Wait>(
     rt: &R,
     board: &Board<T>,
     seat: &mut Place<T>,

@@ -1,4 +1,4 @@
-use Rattle.std.proofs.Common.{rules, arith, ◌≡◌, ◌∙◌, ◌++◌, sym, ap, subst, refl, ℕ, ◌≤◌, [], ◌∷◌, List, length, length-append, map, append-nil}
+use Rattle.std.proofs.Common.{rules, arith, ◌≡◌, ◌∙◌, ◌++◌, sym, ap, subst, [], ◌∷◌, length, length-append, map, append-nil}
 use Rattle.std.proofs.lemmas.Grind.{common_steps}
 use mathlib.Core.Option.{some}
 use lib.ListN.{get_elem?}

@@ -1,5 +1,5 @@
-use Rattle.std.proofs.Common.{rules, arith, ◌≡◌, ◌∙◌, ◌++◌, ◌+◌, sym, ap, subst, refl, ℕ, [], length}
-use Rattle.lock_book.specs.History.{StartsWith, longer}
+use Rattle.std.proofs.Common.{arith, ◌∙◌, sym, ap, subst}
+use Rattle.lock_book.specs.History.{StartsWith}
 use Rattle.lock_book.specs.Ruled.{seen_at}
 use Rattle.lock_book.proofs.Histories.{row_longer, longer_front}
 use Rattle.lock_book.proofs.Joins.{gathers}
@@ -9,9 +9,13 @@ pub join_seat-requires : goal.join_seat-requires
 join_seat-requires g c =
     let t = c.take_note.ensures in
     let n = c.make_note-note.ensures in
-    let same = t.own.2 in
-    (t.own.0 ∙ c.requires.own.0, n.same.0 ∙ c.requires.own.1, ap (λ m. m.1) n.same.1 ∙ c.requires.own.3, c.requires.own.2,
-    gathers _ _ _ _ _ _ _ _ _ same.free.stage (ap (λ m. m.0.stage) n.same.1 ∙ c.requires.free.1) (omega (arith, same.free.owns)) (omega (arith, ap (λ m. m.0.from) n.same.1, c.requires.next, same.from, same.free.owns)))
+    let same = t.own.2 in (
+      t.own.0 ∙ c.requires.own.0,
+      n.same.0 ∙ c.requires.own.1,
+      ap (λ m. m.1) n.same.1 ∙ c.requires.own.3,
+      c.requires.own.2,
+      gathers _ _ _ _ _ _ _ _ _ same.free.stage (ap (λ m. m.0.stage) n.same.1 ∙ c.requires.free.1) (omega (arith, same.free.owns)) (omega (arith, ap (λ m. m.0.from) n.same.1, c.requires.next, same.from, same.free.owns)),
+    )
 
 pub returns-clause-seen : goal.returns-clause-seen
 returns-clause-seen g c = λ i.

@@ -10,5 +10,5 @@ invariant-loop-number g l = record {
   free : l.rest.me.1 ≡ [];
   view : l.rest.me.0 ≡ fresh_pass l.initial.rest.me.0.opens l.callers l.number (l.callers - l.number);
   count : length l.passes.items ≡ l.number;
-  made : (k : ℕ) (p : _) → get_elem? l.passes.items k ≡ some p → (p.badge.table_id ≡ l.initial.rest.table_id) × (view_of p.badge.views ≡ fresh_pass l.initial.rest.me.0.opens l.callers k 1) × (k < l.callers)
+  made : (k : ℕ) (p : _) → get_elem? l.passes.items k ≡ some p → (p.badge.table_id ≡ l.initial.rest.table_id) × (view_of p.badge.views ≡ fresh_pass l.initial.rest.me.0.opens l.callers k 1) × (k < l.callers);
 }

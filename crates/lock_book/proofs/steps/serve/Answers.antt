@@ -1,4 +1,4 @@
-use Rattle.std.proofs.Common.{rules, ◌≡◌, ℕ, arith, ◌∙◌, sym, ap, subst, refl, [], ◌∷◌}
+use Rattle.std.proofs.Common.{◌∙◌, sym, ap, subst, ◌∷◌}
 use Rattle.atomic_table.specs.Table.{rest}
 use Rattle.lock_book.proofs.Moves.{held_slot}
 use Rattle.lock_book.proofs.steps.serve.Goals as goal

@@ -1,6 +1,5 @@
-use Rattle.std.proofs.Common.{rules, arith, ◌≡◌, ◌∙◌, sym, ap, subst, refl, ℕ, ◌≤◌, ◌-◌, ◌<◌, false}
-use Rattle.std.specs.Mem.Slots.{slots_items, slots_filled, slots_len}
-use mathlib.Core.Option.{some}
+use Rattle.std.proofs.Common.{arith, ◌∙◌, sym, ap, ◌≤◌, ◌-◌}
+use Rattle.std.specs.Mem.Slots.{slots_filled, slots_len}
 use lib.ListN.{get_elem?}
 use Rattle.lock_book.proofs.Closing.{still_there, now_gone}
 use Rattle.lock_book.proofs.Totals.{there}

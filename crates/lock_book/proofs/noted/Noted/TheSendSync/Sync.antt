@@ -1,6 +1,6 @@
 -- It owns nothing, so any thread may share it.
 use denote.RattleType.{RattleType}
-use denote.Param.Send.{IsSend, IsSync, part_keyless}
+use denote.Param.Send.{IsSync, part_keyless}
 use Rattle.lock_book.specs.contracts.noted.Noted.{the_row}
 use Rattle.lock_book.proofs.noted.Noted.TheSendSync.Send.{send}
 

@@ -1,5 +1,5 @@
-use Rattle.std.proofs.Common.{◌≡◌, ◌∙◌, sym, ap}
-use Rattle.lock_book.specs.Ruled.{mine_at, seen_at, view_of}
+use Rattle.std.proofs.Common.{◌∙◌, sym, ap}
+use Rattle.lock_book.specs.Ruled.{seen_at, view_of}
 use Rattle.lock_book.proofs.Meetings.{met_alike, met_as}
 use Rattle.lock_book.proofs.shelf.Pass.meet.Goals as goal
 

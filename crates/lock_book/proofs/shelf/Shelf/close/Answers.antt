@@ -1,10 +1,9 @@
-use Rattle.std.proofs.Common.{rules, arith, ◌≡◌, ◌∙◌, sym, ap, subst, refl, ℕ, zero-le, length, map, ◌<◌, ◌≤◌}
-use Rattle.std.specs.Mem.Slots.{slots_items, slots_filled, slots_len}
-use mathlib.Core.Option.{some}
+use Rattle.std.proofs.Common.{arith, ◌∙◌, sym, ap, subst, ℕ, zero-le, length, ◌<◌, ◌≤◌}
+use Rattle.std.specs.Mem.Slots.{slots_len}
 use lib.ListN.{get_elem?}
 use Rattle.lock_book.specs.History.{StartsWith, IsLegal, calls_by, calls_at, last_of, row_at}
 use Rattle.lock_book.specs.Ruled.{seen_at, view_of}
-use Rattle.lock_book.specs.Shown.{seen_of, mine_of}
+use Rattle.lock_book.specs.Shown.{seen_of}
 use Rattle.lock_book.proofs.Meets.{notes}
 use Rattle.lock_book.proofs.Totals.{within}
 use Rattle.lock_book.proofs.Closing.{final, map_length, row_of}
@@ -26,8 +25,8 @@ invariant_of-result g c =
     let counts = c.close_with-slots.ensures.counts in
     let sized = c.args.self.sized in
     let fin = final (λ x. K.name x.value) (λ x. K.state x.value) K.legal c.args.self.board.shared.key.0.value c.args.self.board.shared.key.1
-        c.split_seat-note.new.seat.id c.split_seat-note.new.seat.me.0 _ _ (ap (λ v. v.from) eV ∙ w.view.0)
-        (ap (λ v. length v.owns) eV ∙ (ap length w.owns ∙ (map_length _ c.args.passes.items ∙ (c.requires.all.count ∙ sym c.args.self.called_by)))) (ap (λ v. v.stage) eV ∙ w.view.1) c.close_with-slots.ensures.values.2 in record {
+    c.split_seat-note.new.seat.id c.split_seat-note.new.seat.me.0 _ _ (ap (λ v. v.from) eV ∙ w.view.0)
+    (ap (λ v. length v.owns) eV ∙ (ap length w.owns ∙ (map_length _ c.args.passes.items ∙ (c.requires.all.count ∙ sym c.args.self.called_by)))) (ap (λ v. v.stage) eV ∙ w.view.1) c.close_with-slots.ensures.values.2 in record {
       inside = (let h : c.args.self.count ≤ slots_len c.close_with-slots.result.slots = omega (arith, counts.1, sized.1) in h, counts.1 ∙ (sized.1 ∙ (sym sized.2 ∙ sym (ap (λ v. length v.opens) eN ∙ ap length w.view.2))));
       there = λ k lt. c.close_with-slots.ensures.values.1 k zero-le (omega (arith, counts.1, sized.1));
       gone = λ k hi lo. absurd (omega (arith, counts.1, sized.1));
@@ -44,8 +43,8 @@ returns-clause-ended g c =
     let eV = ap (λ m. m.0) e.2 in
     let eN = ap (λ m. m.0) e.4 in
     let fin = final (λ x. K.name x.value) (λ x. K.state x.value) K.legal c.args.self.board.shared.key.0.value c.args.self.board.shared.key.1
-        c.split_seat-note.new.seat.id c.split_seat-note.new.seat.me.0 _ _ (ap (λ v. v.from) eV ∙ w.view.0)
-        (ap (λ v. length v.owns) eV ∙ (ap length w.owns ∙ (map_length _ c.args.passes.items ∙ (c.requires.all.count ∙ sym c.args.self.called_by)))) (ap (λ v. v.stage) eV ∙ w.view.1) c.close_with-slots.ensures.values.2 in
+    c.split_seat-note.new.seat.id c.split_seat-note.new.seat.me.0 _ _ (ap (λ v. v.from) eV ∙ w.view.0)
+    (ap (λ v. length v.owns) eV ∙ (ap length w.owns ∙ (map_length _ c.args.passes.items ∙ (c.requires.all.count ∙ sym c.args.self.called_by)))) (ap (λ v. v.stage) eV ∙ w.view.1) c.close_with-slots.ensures.values.2 in
     let same = λ (i : ℕ). ap (λ v. seen_at v i) eV ∙ sym (ap (λ v. seen_at v i) eN) in
     let from_whole = λ (i : ℕ). sym (ap (λ v. seen_at v i) eN) in record {
       lawful = λ i o eo. subst (IsLegal (K.legal o.0) o.1) (same i) (fin.0.lawful i o eo);
