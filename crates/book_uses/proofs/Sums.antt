@@ -1,5 +1,6 @@
 -- The counter after a legal history.
-use Rattle.std.proofs.Common.{◌≡◌, ℕ, ◌+◌, ◌*◌, ◌%◌, ◌<◌, ◌≤◌, List, [], ◌∷◌, ◌++◌, length, length-append, sym, refl, ap, ◌∙◌, arith}
+use Rattle.std.proofs.Common.{◌≡◌, ℕ, ◌+◌, ◌*◌, ◌%◌, ◌<◌, ◌≤◌, List, [], ◌∷◌, ◌++◌, map, length, length-append, sym, refl, ap, ◌∙◌, subst, arith}
+use Rattle.std.specs.Prelude.{Option as Maybe, Some, IsSome}
 use mathlib.Core.Option.{some, some-injective}
 use lib.ListN.{get_elem?}
 use Rattle.lock_book.specs.declared.view.Entry.{Entry}
@@ -41,3 +42,15 @@ value_is left opens o xs value times at is here last h two a b =
 pub both : {A : Type 0} (all xs ys : List A) (zero one : A) → all ≡ xs ++ one ∷ [] → xs ≡ ys ++ zero ∷ [] → length all ≡ 2 → (get_elem? all 0 ≡ some zero) × (get_elem? all 1 ≡ some one)
 both {A} all xs [] zero one e f len = let is : all ≡ zero ∷ one ∷ [] = e ∙ ap (λ (m : List A). m ++ one ∷ []) f in (ap (λ (m : List A). get_elem? m 0) is, ap (λ (m : List A). get_elem? m 1) is)
 both all xs (y ∷ ys) zero one e f len = absurd (omega (arith, ap length e, ap length f, length-append xs (one ∷ []), length-append (y ∷ ys) (zero ∷ [])))
+
+-- a list of one, popped
+pub only : {A : Type 0} (all xs : List A) (x : A) → all ≡ xs ++ x ∷ [] → length all ≡ 1 → get_elem? all 0 ≡ some x
+only {A} all [] x e len = ap (λ (m : List A). get_elem? m 0) e
+only all (y ∷ ys) x e len = absurd (omega (arith, ap length e, length-append (y ∷ ys) (x ∷ [])))
+
+pub has_some : (w : Maybe ℕ) (x : ℕ) → w ≡ Some x → IsSome w
+has_some w x e = subst (λ (v : Maybe ℕ). IsSome v) (sym e) refl
+
+-- what stands first among what f makes of a list of one
+pub first_of : {A B : Type 0} (f : A → B) (opens : List B) (items news : List A) (x : A) (o : B) → opens ≡ map f items → items ≡ news ++ x ∷ [] → news ≡ [] → get_elem? opens 0 ≡ some o → f x ≡ o
+first_of {A} {B} f opens items news x o a b c e = some-injective (f x) o (sym (ap (λ (l : List B). get_elem? l 0) (a ∙ ap (map f) (b ∙ ap (λ (l : List A). l ++ x ∷ []) c))) ∙ e)

@@ -12,11 +12,17 @@ pub struct Counter {
 
 impl Kept for Counter {
     type Env = ();
+
     type In = u64;
+
     type Out = u64;
+
     type Name = ();
+
     type State = u64;
+
     type Call = u64;
+
     type Reply = u64;
 
     ghost name = { λ _. tt };

@@ -1,5 +1,6 @@
 //! A drawer that holds at most one part of a region, and the word that it read there.
-ghost use Rattle.std.specs.Prelude.{◌≡◌, ForSome, IsSome, Some, None};
+ghost use Rattle.std.specs.Prelude.{◌≡◌, IsSome, Some, None};
+ghost use Rattle.std.specs.Option.{ForSome};
 ghost use Rattle.word_map.specs.WordMap.{at as word_at};
 
 use crate::asks::Answer;

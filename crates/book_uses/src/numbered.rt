@@ -12,7 +12,7 @@ use region_words::{Part, Region};
 use std::marker::PhantomData;
 
 /// A number that is told with each part that comes out.
-pub trait Tag {
+pub trait Tag: Send {
     ghost tag: { ℕ };
 
     fn tag() -> u64
@@ -48,11 +48,17 @@ impl<O: Tag> Numbered<O> {
 
 impl<O: Tag> Kept for Numbered<O> {
     type Env = Region;
+
     type In = Ask;
+
     type Out = Answer;
+
     type Name = DrawerName;
+
     type State = Option<u64>;
+
     type Call = Call;
+
     type Reply = Reply;
 
     ghost name = { λ v. record { region = v.drawer.base.region; at = v.drawer.at; number = v.number } };

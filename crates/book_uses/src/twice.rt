@@ -11,9 +11,7 @@ use std::sync::Wait;
 use std::thread::{Threads, join};
 
 // A shelf of one counter at 0, with two callers.
-fn for_two(
-    alloc: Global,
-) -> Result<(Shelf<Counter>, Pass<Counter>, Pass<Counter>), AllocError>
+fn for_two(alloc: Global) -> Result<(Shelf<Counter>, Pass<Counter>, Pass<Counter>), AllocError>
     ensures shelf { IfOk result (λ r. (count_of r.0 ≡ 1) × (callers_of r.0 ≡ 2) × (opens_of r.0 ≡ (tt, 0) ∷ [])) }
     ensures zero { IfOk result (λ r. Belongs r.0 r.1 × (number_of r.1 ≡ 0) × (mine_of r.1 0 ≡ [])) }
     ensures one { IfOk result (λ r. Belongs r.0 r.2 × (number_of r.2 ≡ 1) × (mine_of r.2 0 ≡ [])) }

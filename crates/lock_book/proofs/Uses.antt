@@ -1,10 +1,15 @@
 -- Laws for the callers of a shelf: of legal histories, of their states, and of the calls of each caller.
-use Rattle.std.proofs.Common.{◌≡◌, ℕ, zero, suc, ◌+◌, ◌<◌, ◌≤◌, eqb, Bool, true, false, cond, List, [], ◌∷◌, ◌++◌, length, sym, refl, ap, ◌∙◌, subst, arith, eq-eqb, ne_eqb}
+use Rattle.std.proofs.Common.{◌≡◌, ℕ, zero, suc, ◌+◌, ◌<◌, ◌≤◌, eqb, Bool, true, false, cond, List, [], ◌∷◌, ◌++◌, length, sym, refl, ap, ◌∙◌, subst, arith, length-append, eq-eqb, ne_eqb}
 use mathlib.Core.Logic.{dite}
 use native.Mathlib.Decide.{ℕ_discrete, dec_le}
+use mathlib.Core.Option.{some}
+use lib.ListN.{get_elem?}
 use Rattle.lock_book.specs.declared.view.Entry.{Entry}
 use Rattle.lock_book.specs.History.{entry, last_of, calls_by, StartsWith, IsLegal}
+use Rattle.lock_book.specs.declared.shelf.Shelf.{Shelf}
 use Rattle.lock_book.specs.Told.{Histories, IsPass, Adds}
+use Rattle.lock_book.specs.Shown.{count_of, opens_of}
+use Rattle.lock_book.proofs.Totals.{there}
 
 module _ {S C R : Type 0} where
   -- a legal history, and what follows it
@@ -105,8 +110,22 @@ module _ {S C R : Type 0} where
   weigh-append f [] ys = omega arith
   weigh-append f (x ∷ xs) ys = let r = weigh-append f xs ys in omega arith
 
+snoc_same : {A : Type 0} (xs ys : List A) (x : A) → xs ++ x ∷ [] ≡ ys ++ x ∷ [] → xs ≡ ys
+snoc_same [] [] x e = refl
+snoc_same [] (y ∷ ys) x e = absurd (omega (arith, ap length e, length-append ys (x ∷ [])))
+snoc_same (z ∷ zs) [] x e = absurd (omega (arith, ap length e, length-append zs (x ∷ [])))
+snoc_same {A} (z ∷ zs) (y ∷ ys) x e = let same : z ≡ y = cc in let r : zs ≡ ys = snoc_same zs ys x (cc) in λ n. same n ∷ r n
+
 module _ {N S C R : Type 0} (legal : N → ℕ → S → C → R → S → Type 0) (opens : List (N × S)) (seen mine seen' mine' : Histories S C R) where
   -- what the one caller of a shelf has seen grows by just its call
   pub lone_adds : (at : ℕ) (c : C) (r : R) → IsPass legal opens 1 0 seen mine → IsPass legal opens 1 0 seen' mine' → (a : Adds legal opens 0 seen mine seen' mine' at c r) → seen' at ≡ seen at ++ entry 0 c r a.after ∷ []
   lone_adds at c r p q a =
       sym (lone (seen' at) (q.bounded at)) ∙ (q.own at ∙ (a.mine_grows ∙ ap (λ (m : List (Entry S C R)). m ++ entry 0 c r a.after ∷ []) (sym (p.own at) ∙ lone (seen at) (p.bounded at))))
+
+  -- and so its call is legal right after what it had seen
+  pub lone_step : (at : ℕ) (c : C) (r : R) → IsPass legal opens 1 0 seen mine → IsPass legal opens 1 0 seen' mine' → (a : Adds legal opens 0 seen mine seen' mine' at c r) → (o : N × S) → get_elem? opens at ≡ some o → legal o.0 0 (last_of o.1 (seen at)) c r a.after
+  lone_step at c r p q a o e = subst (λ (xs : List (Entry S C R)). legal o.0 0 (last_of o.1 xs) c r a.after) (snoc_same a.before (seen at) (entry 0 c r a.after) (sym a.ends ∙ lone_adds at c r p q a)) (a.step o e)
+
+-- each place of a shelf has a name
+pub opens_at : {T E I O N S C R : Type 0} (s : Shelf T E I O N S C R) (at : ℕ) → at < count_of s → (o : N × S) × (get_elem? (opens_of s) at ≡ some o)
+opens_at s at low = let sized = s.sized in there (opens_of s) at (omega arith)

@@ -1,4 +1,4 @@
-use Rattle.std.proofs.Common.{◌≡◌, ◌∙◌, ℕ, ap, arith, refl, length, length-append}
+use Rattle.std.proofs.Common.{◌∙◌, ℕ, ap, arith, refl, length, length-append}
 use Rattle.lock_book.specs.declared.view.Entry.{Entry}
 use Rattle.book_uses.specs.Counting.{total_of}
 use Rattle.book_uses.proofs.Sums.{total-append}

@@ -8,5 +8,5 @@ invariant-loop g l = record {
   own : Belongs l.shelf l.pass;
   number : number_of l.pass ≡ number_of l.fn.pass;
   added : total_of (mine_of l.pass 0) ≡ l.counter;
-  count : length (mine_of l.pass 0) ≡ l.counter
+  count : length (mine_of l.pass 0) ≡ l.counter;
 }

@@ -1,4 +1,4 @@
-use Rattle.std.proofs.Common.{◌≡◌, ◌∙◌, ap, arith}
+use Rattle.std.proofs.Common.{arith}
 use Rattle.lock_book.specs.Shown.{whole_of}
 use Rattle.book_uses.proofs.Sums.{value_is}
 use Rattle.book_uses.proofs.twice.added_by_two.Goals as goal

@@ -1,4 +1,4 @@
-use Rattle.std.proofs.Common.{◌≡◌, ap}
+use Rattle.std.proofs.Common.{ap}
 use lib.ListN.{get_elem?}
 use Rattle.book_uses.proofs.twice.close_two.Goals as goal
 

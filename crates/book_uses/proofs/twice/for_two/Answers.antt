@@ -1,4 +1,4 @@
-use Rattle.std.proofs.Common.{◌≡◌, ◌∙◌}
+use Rattle.std.proofs.Common.{◌∙◌}
 use Rattle.book_uses.proofs.Sums.{both}
 use Rattle.book_uses.proofs.twice.for_two.Goals as goal
 
