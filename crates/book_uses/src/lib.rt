@@ -4,6 +4,7 @@
 
 mod asks;
 mod counter;
+mod crossing;
 mod drawer;
 mod numbered;
 mod round;
@@ -13,6 +14,7 @@ mod twice;
 
 pub use asks::{Answer, Ask, Call, DrawerName, Reply};
 pub use counter::Counter;
+pub use crossing::{Cabinet, CabinetPass, Lent, One, cross};
 pub use drawer::Drawer;
 pub use numbered::{Numbered, Tag};
 pub use round::{put_in, take_out};
