@@ -1,5 +1,6 @@
 //! The receiver's end of a ring. It alone stores the read count.
 ghost use Rattle.std.specs.Prelude.{◌≡◌, ◌+◌, ◌<◌, ◌≤◌, false, true, length, IfSome, IsTrue};
+ghost use Rattle.ring_rule.specs.Frames.{IsFramed};
 ghost use Rattle.ring_rule.specs.Ring.{flag_word};
 ghost use Rattle.ring_rule.specs.Ends.{takes, gives_back, sees_written, receiver_leaves, receiver_sees_flag};
 
@@ -62,12 +63,13 @@ impl RingRx {
         found.wrapping_sub(self.position)
     }
 
-    /// Takes the next word that was put.
+    /// Takes the next word that was put. What was taken is a beginning of the frames of some messages, since what was put is.
     pub fn take(&mut self, r: &Region) -> u64
         requires here { self.old.region ≡ r.now }
         requires stays { self.old.end.gone ≡ false }
         requires ready { length self.old.end.taken < self.old.end.avail }
-        ensures { self.new ≡ record self.old { end = takes self.old.end result } }
+        ensures end { self.new ≡ record self.old { end = takes self.old.end result } }
+        ensures framed { IsFramed self.old.end.ring.max self.new.end.taken }
     {
         let place = place_at(self.base, self.size, self.position);
         let word = r.load_as::<Takes>(&mut self.seat, place);

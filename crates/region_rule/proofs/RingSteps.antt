@@ -10,7 +10,8 @@ use Rattle.ring_rule.specs.Ring.{Ring, Sending, Receiving, WasSending, WasReceiv
 use Rattle.ring_rule.specs.Ends.{IsReadCount, IsWrittenCount, looks_read, puts, publishes, sender_leaves, sender_sees_flag, looks_written, looks_last, sees_written, takes, gives_back, receiver_leaves, receiver_sees_flag}
 use Rattle.ring_rule.proofs.Counts.{read_count, written_count}
 use Rattle.ring_rule.proofs.Sends.{sender_finds}
-use Rattle.ring_rule.proofs.Receives.{receiver_finds}
+use Rattle.ring_rule.proofs.Messages.{framed_front}
+use Rattle.ring_rule.proofs.Receives.{receiver_finds, next_is, takes_paired}
 use Rattle.region_rule.specs.RingMap.{IsFresh, ring_map}
 use Rattle.region_rule.specs.View.{Own, Sender, Receiver, Done, Spent, Olds}
 use Rattle.region_rule.specs.Sound.{World, Sees}
@@ -96,7 +97,12 @@ look_written_allowed count slots id q u stays inside = load_allows count slots i
 pub take_allowed : (count slots id : ℕ) (q : Receiving) (u : Option Sending) → q.gone ≡ false → length q.taken < q.avail → place_of q.ring (length q.taken) < count
     → Allows (Ruled count) slots id (Receiver q u, []) (place_of q.ring (length q.taken)) (λ n. n) (λ n after. TellsTake (Receiver q u) n after.0 × (after.1 ≡ []))
 take_allowed count slots id q u stays more inside = load_allows count slots id (place_of q.ring (length q.taken)) (Receiver q u) (TellsTake (Receiver q u)) inside
-    (λ w x sound here found. (Receiver (takes q x) u, LoadData id x, (q, u, here, stays, more, found, refl), refl))
+    (λ w x sound here found.
+    let o = sender_of w id q u sound here in
+    let next = next_is w.words o.end o.told q u x o.sending (sound.honest id (Receiver q u) here).own o.paired more found in
+    let front = (takes_paired w.words o.end o.told q u x next o.paired).tied.taken in
+    let framed = framed_front o.end.ring.max o.end.put (q.taken ++ x ∷ []) front.0 o.sending.own.framed front.1 in
+    (Receiver (takes q x) u, LoadData id x, (q, u, here, stays, more, found, refl), (refl, subst (λ (r : Ring). IsFramed r.max (q.taken ++ x ∷ [])) o.paired.tied.same framed)))
 
 pub give_back_allowed : (count slots id : ℕ) (q : Receiving) (u : Option Sending) → q.gone ≡ false
     → Allows (Ruled count) slots id (Receiver q u, []) (q.ring.base + 1) (λ _. count_word q.ring (length q.taken)) (λ _ after. TellsGiveBack (Receiver q u) after.0 × (after.1 ≡ []))

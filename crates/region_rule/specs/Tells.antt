@@ -1,7 +1,8 @@
 -- What each step tells its token, and the views that a cut and a join leave. No step tells anything to a token of another kind.
-use Rattle.std.specs.Prelude.{◌≡◌, ℕ, ◌+◌, ◌≤◌, true, Some, None, IfSome}
+use Rattle.std.specs.Prelude.{◌≡◌, ℕ, ◌+◌, ◌≤◌, ◌∷◌, ◌++◌, [], true, Some, None, IfSome}
 use Rattle.std.specs.FinMap as fin
 use Rattle.word_map.specs.WordMap.{at, range_of, rest_of, union, values_from}
+use Rattle.ring_rule.specs.Frames.{IsFramed}
 use Rattle.ring_rule.specs.Ring.{Ring, AreEnds}
 use Rattle.ring_rule.specs.Ends.{first_sending, first_receiving, IsReadCount, IsWrittenCount, looks_read, puts, publishes, sender_leaves, sender_sees_flag, sees_written, takes, gives_back, receiver_leaves, receiver_sees_flag}
 use Rattle.region_rule.specs.RingMap.{ring_map}
@@ -72,9 +73,9 @@ abbrev pub TellsLookWritten : View → ℕ → View → Type 0
 TellsLookWritten (Receiver q u) x after = (n : ℕ) × (after ≡ Receiver (sees_written q n) u) × IsWrittenCount q x n × (q.avail ≤ n) × IfSome u (λ old. old.published ≤ n)
 TellsLookWritten v x after = ⊥
 
--- a receiver takes a word
+-- a receiver takes a word. What it has taken is a beginning of the frames of some messages, as what was put is
 abbrev pub TellsTake : View → ℕ → View → Type 0
-TellsTake (Receiver q u) x after = after ≡ Receiver (takes q x) u
+TellsTake (Receiver q u) x after = (after ≡ Receiver (takes q x) u) × IsFramed q.ring.max (q.taken ++ x ∷ [])
 TellsTake v x after = ⊥
 
 -- a receiver stores the read count

@@ -2,7 +2,7 @@
 use Rattle.std.proofs.Common.{◌≡◌, ℕ, suc, List, [], ◌∷◌, ◌++◌, length, All, refl, sym, ap, ◌∙◌, arith, append_assoc}
 use Rattle.rel_pointer.specs.Bytes.{AllBytes, word_count, packed_words}
 use Rattle.rel_pointer.proofs.Words.{packed_words-same, length-packed_words}
-use Rattle.ring_rule.specs.Frames.{frame, frames, AreWhole}
+use Rattle.ring_rule.specs.Frames.{frame, frames, IsFramed, AreWhole}
 
 same_front : {A : Type 0} (xs ys us vs : List A) → length xs ≡ length ys → xs ++ us ≡ ys ++ vs → (xs ≡ ys) × (us ≡ vs)
 same_front [] [] us vs l e = (refl, e)
@@ -51,3 +51,8 @@ whole_from (m ∷ ms) (n ∷ ns) r s a b f g e =
 
 pub whole-same : (words : List ℕ) (ms ns : List (List ℕ)) → AreWhole words ms → AreWhole words ns → ms ≡ ns
 whole-same words ms ns a b = whole_from ms ns a.rest b.rest a.bytes b.bytes a.longest b.longest (sym a.begins ∙ b.begins)
+
+-- a beginning of words that are framed
+pub framed_front : (max : ℕ) (words front rest : List ℕ) → IsFramed max words → words ≡ front ++ rest → IsFramed max front
+unfolding IsFramed
+framed_front max words front rest f e = (f.0, rest ++ f.1, f.2, f.3 ∙ ap (λ (z : List ℕ). z ++ f.1) e ∙ append_assoc front rest f.1)
