@@ -1,6 +1,6 @@
 -- The granted runs that run words show stand in the order of their pages, and none has a page in common with another.
 use Rattle.std.proofs.Common.{◌≡◌, ◌≢◌, ℕ, zero, suc, ◌+◌, ◌/◌, ◌%◌, ◌<◌, ◌≤◌, ◌==◌, ⊎_elim, Bool, true, false, cond, List, [], ◌∷◌, ◌++◌, refl, sym, ap, subst, ◌∙◌, arith}
-use Rattle.std.proofs.lemmas.Bool.{cases_lt, eqb-true, eqb-false}
+use Rattle.std.proofs.lemmas.Bool.{cases_lt, eqb-false}
 use Rattle.free_pages.specs.Legal.{Granted, Adds, AreApart}
 use Rattle.free_pages.specs.Runs.{granted_of, granted_at, IsLaid}
 

@@ -4,12 +4,12 @@ use Rattle.word_map.specs.WordMap.{union}
 use Rattle.region_words.specs.Parts.{Owned, owned}
 use Rattle.word_map.specs.WordMap.{HasJust}
 use Rattle.atomic_table.specs.Seated.{TableId}
-use Rattle.free_pages.specs.Legal.{Granted, PagesState, is_taken, is_recorded, IsFree, Adds, IsGive, IsHandedBack}
+use Rattle.free_pages.specs.Legal.{Granted, is_taken, is_recorded, IsFree, Adds, IsGive, IsHandedBack}
 use Rattle.free_pages.proofs.Apart.{granted_apart}
 use Rattle.free_pages.specs.Runs.{IsRuns, granted_in, run_word}
 use Rattle.free_pages.proofs.Lists.{word_of}
 use Rattle.free_pages.specs.Area.{HasRecords, records_at}
-use Rattle.free_pages.specs.Book.{IsPages, HasKept, JoinsBack, MayGive, Book, book}
+use Rattle.free_pages.specs.Book.{IsPages, HasKept, JoinsBack, MayGive, book}
 use Rattle.free_pages.proofs.Keys.{page_words, record_words, linear_512, linear_7, kept_more, kept_same, taken_more, recorded_more, recorded_free}
 
 region_after : (records records2 : Owned) (out : Option Owned) → JoinsBack records records2 out → records2.region ≡ records.region

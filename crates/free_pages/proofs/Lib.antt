@@ -9,3 +9,4 @@ pub mod Gives
 pub mod News
 pub mod Apart
 pub mod Offers
+pub mod AreaWords

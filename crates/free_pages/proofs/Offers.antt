@@ -1,9 +1,9 @@
 -- What a run that was granted may be used for: it may be offered again, and is then accepted.
-use Rattle.std.proofs.Common.{◌≡◌, ◌≢◌, ℕ, ◌+◌, ◌*◌, ◌<◌, ◌≤◌, Bool, true, false, List, Option, Some, None, is_some, refl, sym, ap, subst, ◌∙◌, arith}
+use Rattle.std.proofs.Common.{◌≡◌, ℕ, ◌+◌, ◌*◌, ◌≤◌, Bool, true, false, Option, Some, None, is_some, refl, sym, subst, ◌∙◌, arith}
 use Rattle.atomic_table.specs.Seated.{TableId}
 use Rattle.region_words.specs.Parts.{Owned}
 use Rattle.free_pages.specs.Area.{HasRecords}
-use Rattle.free_pages.specs.Legal.{Granted, PagesState, Adds, IsTake, IsGive, IsHandedBack}
+use Rattle.free_pages.specs.Legal.{PagesState, Adds, IsTake, IsGive, IsHandedBack}
 use Rattle.free_pages.specs.Book.{Book, IsRunOf, MayGive}
 use Rattle.free_pages.proofs.Apart.{back_as_before}
 
@@ -38,9 +38,9 @@ other_may_give b c n place pages control words records e behind some r = record 
 }
 
 -- it is accepted
-pub accepted : (first n place pages : ℕ) (control : Bool) (s t u : PagesState) (region : TableId) (b : Book) (words : Owned) (records : Option Owned) → IsTake first s n control place t
+pub accepted : (first n place pages : ℕ) (control : Bool) (s t u : PagesState) (b : Book) (words : Owned) (records : Option Owned) → IsTake first s n control place t
     → IsRunOf b n control place pages words records → IsHandedBack first t place pages (is_some records) u → ⊥
-accepted first n place pages control s t u region b words records took r back =
+accepted first n place pages control s t u b words records took r back =
     back.none took.from s.granted took.place_is
     (subst (λ (z : ℕ). Adds s.granted t.granted (record { from = took.from; len = z; control = is_some records })) (sym r.pages_is)
     (subst (λ (z : Bool). Adds s.granted t.granted (record { from = took.from; len = n; control = z })) (sym (records_flag b.region b.first b.state.pages r.from n control records r.records_are)) took.adds))

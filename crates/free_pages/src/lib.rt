@@ -6,6 +6,8 @@
 #![tactic(auto)]
 
 mod pages;
+#[cfg(test)]
+mod tests;
 mod walk;
 
 pub use pages::{NoRun, Pages};

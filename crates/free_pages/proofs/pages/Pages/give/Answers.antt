@@ -1,9 +1,8 @@
-use Rattle.std.proofs.Common.{◌≡◌, ℕ, ◌+◌, ◌*◌, ◌<◌, IfSome, is_some, refl, subst, sym, ap, ◌∙◌}
+use Rattle.std.proofs.Common.{◌≡◌, ℕ, ◌+◌, ◌*◌, IfSome, is_some, refl, subst, sym, ap, ◌∙◌}
 use Rattle.atomic_table.specs.Seated.{TableId}
-use Rattle.word_map.specs.WordMap.{HasJust}
 use Rattle.region_words.specs.Parts.{Owned}
 use Rattle.free_pages.specs.Legal.{IsFree, IsGive, IsHandedBack}
-use Rattle.free_pages.specs.Runs.{IsRuns, granted_in}
+use Rattle.free_pages.specs.Runs.{granted_in}
 use Rattle.free_pages.specs.Book.{Book, book, MayGive}
 use Rattle.free_pages.proofs.Gives.{none_there, not_there, give_is, records_region, after_give, adds_as}
 use Rattle.free_pages.proofs.pages.Pages.give.Goals as goal

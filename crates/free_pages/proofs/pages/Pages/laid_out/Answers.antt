@@ -1,5 +1,4 @@
-use Rattle.std.proofs.Common.{ℕ, ◌+◌, ◌-◌, ◌*◌, IsSome, refl, subst, sym, ap, ◌∙◌}
-use Rattle.word_map.specs.WordMap.{at}
+use Rattle.std.proofs.Common.{◌-◌, refl, sym, ap, ◌∙◌}
 use Rattle.region_words.specs.Parts.{Owned}
 use Rattle.free_pages.specs.Area.{front}
 use Rattle.free_pages.proofs.Stores.{owns_after}

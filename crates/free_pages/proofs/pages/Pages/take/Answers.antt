@@ -1,4 +1,4 @@
-use Rattle.std.proofs.Common.{◌≡◌, ◌*◌, ◌<◌, arith, List, ℕ, refl, subst, sym, ap, ◌∙◌}
+use Rattle.std.proofs.Common.{◌*◌, arith, List, ℕ, subst, ◌∙◌}
 use Rattle.word_map.specs.WordMap.{HasJust}
 use Rattle.free_pages.specs.Legal.{Granted, Adds, IsTake}
 use Rattle.free_pages.specs.Runs.{granted_in}
