@@ -1,6 +1,6 @@
 -- Going through the rows of a block.
-use Rattle.std.proofs.Common.{◌≡◌, ◌<◌, ◌≤◌, ◌+◌, ◌*◌, ◌-◌, ◌++◌, ℕ, true, false, cond, List, [], ◌∷◌, length, take, drop, get_or, filter, fold, All, refl, ap, sym, ◌∙◌, arith, min, length-take, length-drop}
-use Rattle.std.proofs.lemmas.List.{get_or-take, get_or-drop, get_or_default, take_more}
+use Rattle.std.proofs.Common.{◌≡◌, ◌<◌, ◌+◌, ◌*◌, ◌-◌, ◌++◌, ℕ, true, false, cond, List, [], ◌∷◌, length, take, drop, get_or, filter, fold, ap, sym, ◌∙◌, arith, min, length-take, length-drop}
+use Rattle.std.proofs.lemmas.List.{get_or-take, get_or-drop, take_more}
 use Rattle.std.proofs.lemmas.List.Elements.{All-push, All-same, filter-append}
 use Rattle.std.proofs.lemmas.List.Sums.{fold-append}
 use Rattle.csv_rows.specs.Records.{record_at}

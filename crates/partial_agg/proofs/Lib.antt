@@ -5,3 +5,7 @@ pub mod Places
 pub mod Maps
 pub mod OneRow
 pub mod Blocks
+pub mod Ideal
+pub mod Fits
+pub mod Combining
+pub mod Adding

@@ -1,5 +1,5 @@
 -- std's ordered map over keys of bytes, seen as a finite map.
-use Rattle.std.proofs.Common.{◌≡◌, ℕ, Bool, cond, List, [], ◌∷◌, Option, Some, None, refl, ap, sym, subst, ◌∙◌, length, true, T, suc, arith, All, IfSome, map as map_list}
+use Rattle.std.proofs.Common.{◌≡◌, ℕ, cond, List, [], ◌∷◌, Option, Some, None, refl, ap, sym, subst, ◌∙◌, true, T, suc, arith, All, IfSome, map as map_list}
 use Rattle.std.specs.List.{AllByRecursion}
 use Rattle.std.specs.List.Sorted.{IsStrictlySortedBy}
 use Rattle.std.specs.BTreeMap.Range.{IsLtBy}

@@ -5,3 +5,4 @@ pub mod Reading
 pub mod Reads
 pub mod Listed
 pub mod Blocks
+pub mod Laws

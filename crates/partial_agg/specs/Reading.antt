@@ -1,14 +1,13 @@
 -- What is read of a row under a plan.
-use Rattle.std.specs.Prelude.{◌≡◌, ◌-◌, ◌++◌, ℕ, ℤ, pos, List, Option, Some, None, Bool, true, false, not, ◌||◌, if◌then◌else◌, length, map, replicate, take}
+use Rattle.std.specs.Prelude.{◌-◌, ◌++◌, ℕ, ℤ, pos, List, Option, Some, None, Bool, false, not, ◌||◌, if◌then◌else◌, length, map, replicate}
 use Rattle.std.specs.Option.{option_map_or}
 use Rattle.par_model.specs.Aggregate.{no_values}
 use Rattle.par_model.specs.Integer.{integer_of}
 use Rattle.par_model.specs.Keep.{fails, is_kept}
 use Rattle.par_model.specs.declared.plan.Filter.{Filter}
-use Rattle.par_model.specs.Key.{key_of}
 use Rattle.par_model.specs.Plan.{Plan}
 use Rattle.par_model.specs.Record.{field_of, is_null}
-use Rattle.par_model.specs.Refuse.{is_no_integer, refusal}
+use Rattle.par_model.specs.Refuse.{is_no_integer}
 use Rattle.par_model.specs.declared.plan.Item.{Item}
 use Rattle.par_model.specs.declared.plan.ItemKind.{ItemKind}
 use Rattle.par_model.specs.declared.plan.ItemKind.TheVariants as kind

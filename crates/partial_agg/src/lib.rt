@@ -7,12 +7,19 @@
 
 mod groups;
 mod key;
+mod laws;
 mod map;
 mod row;
 mod state;
 
 pub use groups::{Group, Groups};
 pub use key::{GroupKey, LONGEST_KEY};
+pub use laws::{
+    combine_associates, combine_commutes, groups_add_up, maps_grow, rows_settle, states_add_up,
+};
 pub use map::{BLOCK_ROWS, BlockAnswer, GroupMap};
 pub use row::{add_row, kept, key_of, refusal};
 pub use state::{combine, empty};
+
+#[cfg(test)]
+mod tests;

@@ -3,19 +3,20 @@
 //! A group lies in the map with its key and its state by value, about 700 bytes. A row of a group that is there costs one
 //! path of comparisons and changes its state in place; only a new group takes memory.
 
-ghost use Rattle.std.specs.Prelude.{◌≡◌, ◌<◌, ◌≤◌, ◌+◌, ◌*◌, ◌∷◌, [], ℕ, IfOk, IfErr, IfSome, IfNone, OnOk, OnErr, Some, All, length, map as map_list, slice_get};
+ghost use Rattle.std.specs.Prelude.{◌≡◌, ◌<◌, ◌≤◌, ◌+◌, ◌*◌, ◌^◌, ◌∷◌, ◌++◌, [], ℕ, List, IfOk, IfErr, IfSome, IfNone, OnOk, OnErr, Some, All, length, map as map_list, slice_get};
 ghost use Rattle.std.specs.FinMap as map;
 ghost use Rattle.csv_rows.specs.Records.{record_at};
+ghost use Rattle.par_model.specs.Plan.{Plan};
 ghost use Rattle.par_model.specs.Columns.{HasColumns};
 ghost use Rattle.partial_agg.specs.Blocks.{Explains, Stopped};
-ghost use Rattle.partial_agg.specs.Groups.{added, with_rows};
+ghost use Rattle.partial_agg.specs.Groups.{AreGroups, added, with_rows};
 ghost use Rattle.partial_agg.specs.Listed.{listed};
 ghost use Rattle.partial_agg.specs.Reading.{values_state};
 ghost use Rattle.partial_agg.specs.Rows.{IsAccepted, block_rows, header_width};
 
+use crate::groups::{Group, Groups};
 use crate::key::GroupKey;
 use crate::row::{Reading, RowBuffer, items};
-use crate::groups::{Group, Groups};
 use crate::state::{add_values, combine, one_row};
 use csv_rows::RowStore;
 use par_model::{AggState, BoundPlan};
@@ -54,7 +55,8 @@ pub enum BlockAnswer {
 impl GroupMap {
     /// A map of no groups. Takes no memory.
     pub fn new(alloc: Global) -> GroupMap
-        ensures { result ≡ map.empty }
+        ensures empty { result ≡ map.empty }
+        ensures groups { (plan : Plan) → AreGroups plan [] result }
     {
         GroupMap {
             by_key: BTreeMap::new(alloc),
@@ -118,6 +120,11 @@ impl GroupMap {
         requires columns { HasColumns plan.now (header_width rows.now) }
         ensures added { OnOk result (self.new ≡ with_rows plan.now self.old (block_rows rows.now block)) }
         ensures accepted { OnOk result (All (IsAccepted plan.now (header_width rows.now)) (block_rows rows.now block)) }
+
+        // From the map of other rows it makes the map of those and the block's.
+        ensures groups { OnOk result ((xs : List (List (List ℕ))) → All (IsAccepted plan.now (header_width rows.now)) xs → length xs + 256 < 2 ^ 64 → AreGroups plan.now xs self.old → AreGroups plan.now (xs ++ block_rows rows.now block) self.new) }
+
+        // Where it stopped, and what it has added before.
         ensures stopped { IfErr result (Stopped plan.now rows.now block self.old self.new) }
     {
         let last = rows.count();

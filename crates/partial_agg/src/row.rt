@@ -3,7 +3,7 @@
 //! A row is read once: `RowBuffer::read` finds the refusal and the filter's verdict, encodes the key into the buffer's
 //! array and parses each integer a single time. The public calls are views of it.
 
-ghost use Rattle.std.specs.Prelude.{◌≡◌, ◌<◌, ◌≤◌, ◌↔◌, ◌∷◌, [], IsErr, ℕ, Bool, true, false, All, IsTrue, IsOk, IfOk, IfErr, OnOk, OnErr, Some, None, if◌then◌else◌, length, map, take};
+ghost use Rattle.std.specs.Prelude.{◌≡◌, ◌<◌, ◌≤◌, ◌+◌, ◌^◌, ◌↔◌, ◌∷◌, ◌++◌, [], List, IsErr, ℕ, Bool, true, false, All, IsTrue, IsOk, IfOk, IfErr, OnOk, OnErr, Some, None, if◌then◌else◌, length, map, take};
 ghost use Rattle.std.specs.Bool.{OnTrue};
 ghost use Rattle.std.specs.Option.{ForSome};
 ghost use Rattle.std.specs.List.{position_from};
@@ -63,6 +63,9 @@ pub fn add_row(state: &mut AggState, rows: &RowStore, row: u64, plan: &BoundPlan
     requires columns { HasColumns plan.now (header_width rows.now) }
     requires counted { IsCounted plan.now (header_width rows.now) (record_at rows.now row) }
     ensures added { state.new ≡ combined state.old (state_of_rows plan.now (record_at rows.now row ∷ [])) }
+
+    // To the state of other rows it adds this one.
+    ensures folds { (xs : List (List (List ℕ))) → All (IsCounted plan.now (header_width rows.now)) xs → length xs + 1 < 2 ^ 64 → state.old ≡ state_of_rows plan.now xs → state.new ≡ state_of_rows plan.now (xs ++ record_at rows.now row ∷ []) }
 {
     let items = items(plan);
     let mut values = [None; 8];

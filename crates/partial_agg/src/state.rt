@@ -1,7 +1,9 @@
 //! The aggregates of a group as far as rows were added, and how two of them combine.
 
-ghost use Rattle.std.specs.Prelude.{◌≡◌, ◌≤◌, ◌+ℤ◌, length};
+ghost use Rattle.std.specs.Prelude.{◌≡◌, ◌≤◌, ◌+ℤ◌, [], length};
 ghost use Rattle.std.specs.Int.{int_max, int_min, int_wrap, w128};
+ghost use Rattle.par_model.specs.Aggregate.{state_of_rows};
+ghost use Rattle.par_model.specs.Plan.{Plan};
 ghost use Rattle.partial_agg.specs.Reading.{slot_of_value, values_state};
 ghost use Rattle.partial_agg.specs.State.{among, combined, combined_slot, combined_slots, empty_state, value_slot};
 
@@ -9,7 +11,8 @@ use par_model::{AggState, SlotState};
 
 /// The state of no rows.
 pub fn empty() -> AggState
-    ensures { result ≡ empty_state }
+    ensures zeros { result ≡ empty_state }
+    ensures rows { (plan : Plan) → length plan.items ≤ 8 → result ≡ state_of_rows plan [] }
 {
     AggState {
         rows: 0,

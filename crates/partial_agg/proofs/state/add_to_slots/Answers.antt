@@ -1,4 +1,4 @@
-use Rattle.std.proofs.Common.{◌≡◌, ◌-◌, ◌∙◌, arith, ap, length, get_or, None, Option, ℤ, sym}
+use Rattle.std.proofs.Common.{◌≡◌, ◌-◌, ◌∙◌, arith, ap, length, get_or, None, sym}
 use Rattle.std.proofs.Math.ListN.{get_or-eq_default}
 use Rattle.par_model.specs.Aggregate.{no_values}
 use Rattle.partial_agg.specs.Reading.{slot_of_value, values_state}
@@ -15,7 +15,7 @@ loop-i-preserved c =
     ] in
     let slot = ap slot_of_value value ∙ sym (get_or-slots c.args.values.now (8 - length c.args.values.now) c.loop-i.i) in
     begun_next c.loop-i.i c.args.slots.now c.loop-i.slots (values_state c.args.values.now).slots _ no_values _ c.loop-i.invariant (omega arith) (length-slots c.args.values.now c.requires) (omega arith)
-        (c.slot_with.ensures ∙ ap (combined_slot (get_or c.loop-i.slots c.loop-i.i no_values)) slot)
+    (c.slot_with.ensures ∙ ap (combined_slot (get_or c.loop-i.slots c.loop-i.i no_values)) slot)
 
 pub returns : goal.returns
 returns c = c.loop-i.invariant ∙ begun_all c.loop-i.i c.args.slots.now (values_state c.args.values.now).slots (omega arith) (length-slots c.args.values.now c.requires ∙ omega arith)

@@ -1,9 +1,9 @@
-use Rattle.std.proofs.Common.{◌≡◌, ◌∙◌, ap, sym, List, ℕ, ℤ, Option, length, map, take}
+use Rattle.std.proofs.Common.{◌∙◌, ap, sym, List, ℕ, ℤ, Option, length, take}
 use Rattle.csv_rows.specs.Records.{record_at}
 use Rattle.par_model.specs.Key.{key_of}
 use Rattle.par_model.specs.declared.plan.Item.{Item}
 use Rattle.partial_agg.specs.Groups.{added}
-use Rattle.partial_agg.specs.Reading.{value_of, values_state}
+use Rattle.partial_agg.specs.Reading.{values_state}
 use Rattle.partial_agg.specs.Rows.{header_width}
 use Rattle.partial_agg.proofs.Blocks.{with_rows-kept}
 use Rattle.partial_agg.proofs.OneRow.{state_of_one}
