@@ -1,9 +1,8 @@
 -- What a query answers: its status, and what its table is.
-use Rattle.std.specs.Prelude.{◌≡◌, ◌⊎◌, ℕ, List, [], ◌∷◌, Option, None, Some, IfSome, String, length, map, string_bytes}
+use Rattle.std.specs.Prelude.{◌≡◌, ℕ, List, [], ◌∷◌, Option, None, Some, IfSome, String, length, map, string_bytes}
 use Rattle.csv_rows.specs.Records.{records_of}
 use Rattle.par_model.specs.Named.{NamedPlan}
 use Rattle.par_model.specs.Outcome.{Outcome, IsAnswer, outcome, Usage, TooManyBytes, NoHeader, TooManyRows, NoColumn, Refused, Table}
-use Rattle.par_gather.specs.Words.{plan_of}
 use Rattle.par_gather.specs.declared.status.TheConstants.{MISUSED, NOT_BUILT, NO_MEMORY, READ_FAULT, TABLE, WRITE_FAULT}
 
 -- every status there is
@@ -28,10 +27,15 @@ texts words = map string_bytes words
 abbrev pub outcome_over : Option NamedPlan → List ℕ → Outcome
 outcome_over plan bytes = outcome plan (length bytes) (records_of bytes)
 
--- the text of the table of a plan over bytes; words that are no plan have none
-abbrev pub IsTableText : Option NamedPlan → List ℕ → List ℕ → Type 0
-IsTableText None bytes text = ⊥
-IsTableText (Some plan) bytes text = IsAnswer plan (records_of bytes) text
+-- a text is that of the table of the records of bytes
+abbrev pub IsTextOver : Option NamedPlan → List ℕ → List ℕ → Type 0
+IsTextOver None bytes text = ⊥
+IsTextOver (Some plan) bytes text = IsAnswer plan (records_of bytes) text
+
+-- the outcome over bytes is a table, and this is its text
+pub record IsTableText (plan : Option NamedPlan) (bytes text : List ℕ) : Type 0 where
+  pub has_table : outcome_over plan bytes ≡ Table
+  pub is_text : IsTextOver plan bytes text
 
 -- the outcome of a plan over what a source had left, where that is told
 abbrev pub IsOutcome : Option NamedPlan → Option (List ℕ) → Outcome → Type 0

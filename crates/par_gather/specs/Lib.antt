@@ -3,3 +3,4 @@ pub mod Counting
 pub mod Lines
 pub mod Stops
 pub mod Words
+pub mod Written

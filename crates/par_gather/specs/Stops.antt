@@ -1,5 +1,5 @@
 -- What a reason to have no table says of the outcome.
-use Rattle.std.specs.Prelude.{◌≡◌, ◌≢◌, ⊤, ℕ, List, codes, ◌++◌, string_bytes}
+use Rattle.std.specs.Prelude.{◌≡◌, ◌⊎◌, ⊤, ℕ, List, codes, ◌++◌, string_bytes}
 use Rattle.csv_rows.specs.declared.input.ReadAnswer.{ReadAnswer}
 use Rattle.csv_rows.specs.declared.input.ReadAnswer.TheVariants as reading
 use Rattle.csv_rows.specs.declared.records.RowsAnswer.{RowsAnswer}
@@ -36,6 +36,10 @@ Explains stop.NoHeader o = o ≡ NoHeader
 Explains (stop.NoColumn name) o = o ≡ NoColumn (string_bytes name)
 Explains stop.WriteFault o = o ≡ Table
 Explains stop.Memory o = ⊤
+
+-- a reason that the rows give: want of memory, or what it says of the outcome
+abbrev pub IsStop : Stop → Outcome → Type 0
+IsStop why o = (why ≡ stop.Memory) ⊎ ((why ≡ stop.NotBuilt) × (status_of o ≡ NOT_BUILT))
 
 -- the reason that stands for an answer of `read_all` and of `rows`
 abbrev pub stop_of_reading : ReadAnswer → Stop

@@ -24,11 +24,10 @@ mod stop;
 mod text;
 mod words;
 
-pub use gate::{Gate, OpenGate};
-pub use status::{MISUSED, NO_MEMORY, NOT_BUILT, READ_FAULT, TABLE, WRITE_FAULT};
-
 use csv_rows::{RowStore, read_all, rows};
+pub use gate::{Gate, OpenGate};
 use par_io::{Sink, Source, write_whole};
+pub use status::{MISUSED, NO_MEMORY, NOT_BUILT, READ_FAULT, TABLE, WRITE_FAULT};
 use std::alloc::Global;
 use stop::Stop;
 
@@ -55,11 +54,11 @@ pub fn pargather<R: Sync, S: Source, O: Sink, E: Sink, G: Gate>(
     // `out` receives the table, or a prefix of it where a write failed, and on every other status nothing.
     ensures table { result ≡ TABLE → IfSome (S.left source.old) (λ bytes.
         (text : List ℕ) × IsTableText (plan_of (texts words.now)) bytes text × Appends (O.taken out.old) (O.taken out.new) text) }
-    ensures part { result ≡ WRITE_FAULT → IfSome (S.left source.old) (λ bytes. (outcome_over (plan_of (texts words.now)) bytes ≡ Table)
-        × (text : List ℕ) × IsTableText (plan_of (texts words.now)) bytes text × (n : ℕ) × Appends (O.taken out.old) (O.taken out.new) (take n text)) }
+    ensures part { result ≡ WRITE_FAULT → IfSome (S.left source.old) (λ bytes.
+        (text : List ℕ) × IsTableText (plan_of (texts words.now)) bytes text × (n : ℕ) × Appends (O.taken out.old) (O.taken out.new) (take n text)) }
     ensures nothing { (result ≢ TABLE) → (result ≢ WRITE_FAULT) → out.new ≡ out.old }
 
-    // A fault is answered only where it came in this call; without one, the status is the outcome's or want of memory.
+    // A fault is answered only where it came in this call. Without one the status is the outcome's, or want of memory.
     ensures read_fault { result ≡ READ_FAULT → Rose (S.faults source.old) (S.faults source.new) }
     ensures write_fault { result ≡ WRITE_FAULT → Rose (O.faults out.old) (O.faults out.new) }
     ensures complete { ¬ Rose (S.faults source.old) (S.faults source.new) → ¬ Rose (O.faults out.old) (O.faults out.new)
@@ -74,43 +73,48 @@ pub fn pargather<R: Sync, S: Source, O: Sink, E: Sink, G: Gate>(
         × (said : List ℕ) × IsLine result o said × IsSaid (E.taken err.old) (E.taken err.new) (E.faults err.old) (E.faults err.new) said }
     ensures quiet { result ≡ TABLE → err.new ≡ err.old }
 {
-    let stop = match words::group_name(words) {
-        None => Stop::NotBuilt,
-        Some(name) => match answer(alloc, name, source, out) {
-            Ok(()) => return TABLE,
-            Err(stop) => stop,
-        },
-    };
-    stop.report(err);
-    stop.status()
+    match answer(alloc, words, source, out) {
+        Ok(()) => TABLE,
+        Err(stop) => {
+            stop.report(err);
+            stop.status()
+        }
+    }
 }
 
-// Reads the source and writes the table.
+// Reads the words and the source, and writes the table.
 fn answer<S: Source, O: Sink>(
     alloc: Global,
-    name: &str,
+    words: &[String],
     source: &mut S,
     out: &mut O,
 ) -> Result<(), Stop>
-    ensures table { OnOk result (IfSome (S.left source.old) (λ bytes. (outcome_over (Some (count_by_column name.now)) bytes ≡ Table)
-        × (text : List ℕ) × IsAnswer (count_by_column name.now) (records_of bytes) text × Appends (O.taken out.old) (O.taken out.new) text)) }
-    ensures part { result ≡ Err stop.WriteFault → IfSome (S.left source.old) (λ bytes. (outcome_over (Some (count_by_column name.now)) bytes ≡ Table)
-        × (text : List ℕ) × IsAnswer (count_by_column name.now) (records_of bytes) text × (n : ℕ) × Appends (O.taken out.old) (O.taken out.new) (take n text)) }
+    ensures table { OnOk result (IfSome (S.left source.old) (λ bytes.
+        (text : List ℕ) × IsTableText (plan_of (texts words.now)) bytes text × Appends (O.taken out.old) (O.taken out.new) text)) }
+    ensures part { IfErr result (λ why. why ≡ stop.WriteFault → IfSome (S.left source.old) (λ bytes.
+        (text : List ℕ) × IsTableText (plan_of (texts words.now)) bytes text × (n : ℕ) × Appends (O.taken out.old) (O.taken out.new) (take n text))) }
     ensures nothing { IfErr result (λ why. (why ≢ stop.WriteFault) → out.new ≡ out.old) }
-    ensures why { IfErr result (λ why. IfSome (S.left source.old) (λ bytes. Explains why (outcome_over (Some (count_by_column name.now)) bytes))) }
-    ensures read_fault { result ≡ Err stop.ReadFault → Rose (S.faults source.old) (S.faults source.new) }
-    ensures write_fault { result ≡ Err stop.WriteFault → Rose (O.faults out.old) (O.faults out.new) }
+    ensures why { IfErr result (λ why. IfSome (S.left source.old) (λ bytes. Explains why (outcome_over (plan_of (texts words.now)) bytes))) }
+    ensures read_fault { IfErr result (λ why. why ≡ stop.ReadFault → Rose (S.faults source.old) (S.faults source.new)) }
+    ensures write_fault { IfErr result (λ why. why ≡ stop.WriteFault → Rose (O.faults out.old) (O.faults out.new)) }
+    ensures no_plan { IsNone (plan_of (texts words.now)) → result ≡ Err stop.NotBuilt }
+    ensures unread { IsNone (plan_of (texts words.now)) → source.new ≡ source.old }
 {
+    let Some(name) = words::group_name(words) else {
+        return Err(Stop::NotBuilt);
+    };
     let text = read_table(alloc, name, source)?;
-    write_whole(out, text.as_slice()).map_err(|_| Stop::WriteFault)
+    match write_whole(out, text.as_slice()) {
+        Ok(()) => Ok(()),
+        Err(_) => Err(Stop::WriteFault),
+    }
 }
 
 // Reads the source and makes the text of the table.
 fn read_table<S: Source>(alloc: Global, name: &str, source: &mut S) -> Result<Vec<u8>, Stop>
-    ensures table { IfOk result (λ text. IfSome (S.left source.old) (λ bytes. (outcome_over (Some (count_by_column name.now)) bytes ≡ Table)
-        × IsAnswer (count_by_column name.now) (records_of bytes) text.items)) }
+    ensures table { IfOk result (λ text. IfSome (S.left source.old) (λ bytes. IsTableText (Some (count_by_column name.now)) bytes text.items)) }
     ensures why { IfErr result (λ why. IfSome (S.left source.old) (λ bytes. Explains why (outcome_over (Some (count_by_column name.now)) bytes))) }
-    ensures read_fault { result ≡ Err stop.ReadFault → Rose (S.faults source.old) (S.faults source.new) }
+    ensures read_fault { IfErr result (λ why. why ≡ stop.ReadFault → Rose (S.faults source.old) (S.faults source.new)) }
     ensures no_write { IfErr result (λ why. why ≢ stop.WriteFault) }
 {
     let bytes = read_all(alloc, source)?;

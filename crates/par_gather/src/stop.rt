@@ -1,6 +1,7 @@
 //! Why a query has no table: its status and its line.
 
-ghost use Rattle.std.specs.Prelude.{◌≡◌};
+ghost use Rattle.std.specs.Prelude.{◌≡◌, ◌++◌, map};
+ghost use Rattle.std.specs.List.{concat};
 ghost use Rattle.par_gather.specs.Lines.{IsSaid, line};
 ghost use Rattle.par_gather.specs.Stops.{stop_of_parsing, stop_of_reading, stop_status, stop_text};
 ghost use Rattle.par_gather.specs.declared.stop.Stop.TheVariants as stop;
@@ -68,26 +69,39 @@ impl Stop {
         }
     }
 
+    // What its line says, and a name that it says it of.
+    fn text(&self) -> (&str, &str)
+        ensures { result.0.now ++ result.1.now ≡ stop_text self.now }
+    {
+        match self {
+            Stop::NotBuilt => ("not built yet", ""),
+            Stop::ReadFault => ("read fault", ""),
+            Stop::NoHeader => ("no header", ""),
+            Stop::NoColumn(name) => ("no column ", name.as_str()),
+            Stop::WriteFault => ("write fault", ""),
+            Stop::Memory => ("out of memory", ""),
+        }
+    }
+
     // Writes the line. A failed write ends it, and changes nothing else.
     pub(crate) fn report<E: Sink>(&self, err: &mut E)
         ensures { IsSaid (E.taken err.old) (E.taken err.new) (E.faults err.old) (E.faults err.new) (line (stop_text self.now)) }
     {
-        let _ = self.write_line(err);
+        let (text, name) = self.text();
+        let said = write_pieces(
+            err,
+            &[b"pargather: ", text.as_bytes(), name.as_bytes(), b"\n"],
+        );
+        let _ = said;
     }
+}
 
-    fn write_line<E: Sink>(&self, err: &mut E) -> Result<(), Failed> {
-        write_whole(err, b"pargather: ")?;
-        match self {
-            Stop::NotBuilt => write_whole(err, b"not built yet")?,
-            Stop::ReadFault => write_whole(err, b"read fault")?,
-            Stop::NoHeader => write_whole(err, b"no header")?,
-            Stop::NoColumn(name) => {
-                write_whole(err, b"no column ")?;
-                write_whole(err, name.as_bytes())?
-            }
-            Stop::WriteFault => write_whole(err, b"write fault")?,
-            Stop::Memory => write_whole(err, b"out of memory")?,
-        }
-        write_whole(err, b"\n")
+// Writes the pieces one after the other, up to a write that fails.
+fn write_pieces<E: Sink>(err: &mut E, pieces: &[&[u8]]) -> Result<(), Failed>
+    ensures { IsSaid (E.taken err.old) (E.taken err.new) (E.faults err.old) (E.faults err.new) (concat (map (λ piece. piece.now) pieces.now)) }
+{
+    for piece in pieces {
+        write_whole(err, piece)?;
     }
+    Ok(())
 }

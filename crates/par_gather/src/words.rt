@@ -21,10 +21,7 @@ pub(crate) fn group_name(words: &[String]) -> Option<&str>
             if group.as_str() == "--group"
                 && agg.as_str() == "--agg"
                 && count.as_str() == "count"
-                && is_name(name.as_str()) =>
-        {
-            Some(name.as_str())
-        }
+                && is_name(name.as_str()) => { Some(name.as_str()) }
         _ => None,
     }
 }
