@@ -1,2 +1,0 @@
-pub mod Tuple
-pub mod Shape
