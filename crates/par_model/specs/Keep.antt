@@ -1,5 +1,5 @@
 -- Which rows a filter keeps: the WHERE clause of SQL, with one comparison.
-use Rattle.std.specs.Prelude.{◌||◌, ℕ, ℤ, Bool, true, false, not, List, Option, Some, None, int_le, int_lt}
+use Rattle.std.specs.Prelude.{◌||◌, ℕ, ℤ, Bool, false, not, List, Option, Some, None, int_le, int_lt}
 use Rattle.std.specs.Ordering.{int_eq}
 use Rattle.std.specs.Option.{option_map_or}
 use Rattle.par_model.specs.Integer.{integer_of}

@@ -1,4 +1,5 @@
 pub mod Aggregate
+pub mod Columns
 pub mod Decimal
 pub mod Integer
 pub mod Keep

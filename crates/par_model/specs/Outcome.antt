@@ -1,5 +1,5 @@
 -- What a query over some records comes to: the first fault that holds, or the table.
-use Rattle.std.specs.Prelude.{◌≡◌, ◌+◌, ◌*◌, ℕ, List, [], ◌∷◌, Option, Some, None, if◌then◌else◌, length, nat_lt}
+use Rattle.std.specs.Prelude.{◌≡◌, ℕ, List, [], ◌∷◌, Option, Some, None, if◌then◌else◌, length, nat_lt}
 use Rattle.par_model.specs.Named.{NamedPlan, bound_plan, missing_name}
 use Rattle.par_model.specs.Refuse.{refused_rows}
 use Rattle.par_model.specs.Table.{IsTable, table_text}
@@ -43,7 +43,7 @@ unfoldable pub outcome : Option NamedPlan → ℕ → List (List (List ℕ)) →
 outcome None size records = Usage
 outcome (Some plan) size records = if nat_lt most_bytes size then TooManyBytes else by_records plan records
 
--- the text of the table of a plan over records that have a header
+-- a text is that of the table of a plan over records; without a header there is none
 unfoldable pub IsAnswer : NamedPlan → List (List (List ℕ)) → List ℕ → Type 0
-IsAnswer plan [] text = text ≡ []
+IsAnswer plan [] text = ⊥
 IsAnswer plan (header ∷ rows) text = (table : List (List (List ℕ))) × IsTable plan (bound_plan header plan) rows table × (text ≡ table_text table)

@@ -50,6 +50,10 @@ refusal plan width row =
     else (if nat_lt longest_key (length (key_of plan row)) then refused_for 2
     else option_map refused_at (position_from (is_unreadable row) 0 plan.items))))
 
--- the rows that are refused, each with its number and its cause
+-- the number of a row with the cause for which it is refused, if it is
+abbrev pub numbered_refusal : Plan → ℕ → ℕ × List (List ℕ) → Option (ℕ × Refusal)
+numbered_refusal plan width row = option_map (λ cause. (row.0, cause)) (refusal plan width row.1)
+
+-- the rows that are refused, each with its number, counted from 1, and its cause
 unfoldable pub refused_rows : Plan → ℕ → List (List (List ℕ)) → List (ℕ × Refusal)
-refused_rows plan width rows = filter_map (λ row. option_map (λ cause. (row.0, cause)) (refusal plan width row.1)) (enumerate_from 1 rows)
+refused_rows plan width rows = filter_map (numbered_refusal plan width) (enumerate_from 1 rows)

@@ -1,5 +1,5 @@
 -- The table that answers a query, and its text: SELECT .. GROUP BY .. ORDER BY of SQL, written as RFC 4180 has it.
-use Rattle.std.specs.Prelude.{◌≡◌, ◌==◌, ◌++◌, ◌∷◌, [], ◌↔◌, ℕ, List, Contains, codes, cond, decimal, filter, if◌then◌else◌, length, map, zip}
+use Rattle.std.specs.Prelude.{◌≡◌, ◌==◌, ◌++◌, ◌∷◌, [], ◌↔◌, ℕ, List, Contains, codes, decimal, filter, if◌then◌else◌, length, map, zip}
 use Rattle.std.specs.Cmp.Lexicographic.{slice_cmp}
 use Rattle.std.specs.Fmt.{signed_decimal}
 use Rattle.std.specs.List.{concat}

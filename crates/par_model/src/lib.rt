@@ -15,3 +15,6 @@ pub use plan::{BoundPlan, Filter, FilterOp, Item, ItemKind};
 pub use refusal::Refusal;
 pub use row::{Field, Row};
 pub use state::{AggState, SlotState};
+
+#[cfg(test)]
+mod tests;

@@ -1,0 +1,4 @@
+pub mod Table
+pub mod Requests
+pub mod Answers
+pub mod Held
