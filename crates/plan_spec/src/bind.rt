@@ -1,6 +1,6 @@
 //! The columns of a plan's names in a header.
 
-ghost use Rattle.std.specs.Prelude.{◌≡◌, ◌<◌, ◌≤◌, ◌-◌, None, Some, [], IfErr, IfNone, IfOk, IfSome, OnOk, OnSome, drop, filter_map, length, map, option_map, option_to_list, replicate, slice_index_or, string_bytes, take};
+ghost use Rattle.std.specs.Prelude.{◌≡◌, ◌<◌, ◌≤◌, ◌-◌, None, Some, [], All, IfErr, IfNone, IfOk, IfSome, OnOk, OnSome, drop, filter_map, length, map, option_map, option_to_list, replicate, slice_index_or, string_bytes, take};
 ghost use Rattle.csv_rows.specs.Records.{record_at};
 ghost use Rattle.par_model.specs.Named.{bound_column, bound_filter, bound_item, bound_plan, column_of, missing_name, names_of};
 ghost use Rattle.par_model.specs.PlanLayout.{unused};
@@ -79,6 +79,7 @@ fn bind_items(items: &[PlanItem], rows: &RowStore) -> Result<([Item; 8], u32), u
     requires { length items.now ≤ 8 }
     ensures items { IfOk result (λ r. take (length items.now) r.0 ≡ map (bound_item (record_at rows.now 0)) items.now) }
     ensures unused { IfOk result (λ r. drop (length items.now) r.0 ≡ replicate (8 - length items.now) unused) }
+    ensures no_column { IfOk result (λ r. All (λ item. item.kind ≡ ItemKind.Rows → item.column ≡ 0) r.0) }
     ensures named { IfOk result (λ r. r.1 ≡ length (filter_map (λ i. i.column) items.now)) }
     ensures few { IfOk result (λ r. r.1 ≤ 8) }
     ensures whole { OnOk result (missing_from (record_at rows.now 0) (filter_map (λ i. i.column) items.now) ≡ None) }
@@ -106,6 +107,7 @@ fn bind_items(items: &[PlanItem], rows: &RowStore) -> Result<([Item; 8], u32), u
 // An aggregate over its column, with how many columns it has, or none where its name is no field.
 fn bind_item(item: &PlanItem, rows: &RowStore) -> Option<(Item, u32)>
     ensures item { IfSome result (λ r. r.0 ≡ bound_item (record_at rows.now 0) item.now) }
+    ensures no_column { IfSome result (λ r. r.0.kind ≡ ItemKind.Rows → r.0.column ≡ 0) }
     ensures count { IfSome result (λ r. r.1 ≡ length (option_to_list item.now.column)) }
     ensures within { IfSome result (λ r. r.1 ≤ 1) }
     ensures whole { OnSome result (missing_from (record_at rows.now 0) (option_to_list item.now.column) ≡ None) }

@@ -23,15 +23,15 @@ pub(crate) struct PlanItem {
 }
 
 impl Model for PlanItem {
-    ghost use Rattle.std.specs.Prelude.{◌≡◌, option_map, string_bytes};
+    ghost use Rattle.std.specs.Prelude.{option_map, string_bytes};
     ghost use Rattle.par_model.specs.Named.{NamedItem};
-    ghost use Rattle.par_model.specs.Table.{item_text};
+    ghost use Rattle.plan_spec.specs.Parts.{IsItem};
 
     ghost Value = { NamedItem };
 
     ghost view = { λ i. record { kind = i.kind; column = option_map string_bytes i.column } };
 
-    ghost invariant = { λ i. string_bytes i.text ≡ item_text (record { kind = i.kind; column = option_map string_bytes i.column }) };
+    ghost invariant = { λ i. IsItem i.kind (option_map string_bytes i.column) (string_bytes i.text) };
 }
 
 // A filter by the name of its column.

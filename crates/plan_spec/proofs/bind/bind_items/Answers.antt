@@ -1,4 +1,6 @@
 use Rattle.std.proofs.Common.{◌≡◌, ◌<◌, ◌+◌, ◌∙◌, length, take, drop, arith, length-append, length-set}
+use Rattle.par_model.specs.declared.plan.ItemKind.TheVariants as kind
+use Rattle.std.proofs.lemmas.List.Elements.{All-set}
 use Rattle.std.specs.Prelude.{filter_map, is_none, option_to_list}
 use Rattle.csv_rows.specs.Records.{record_at}
 use Rattle.par_model.specs.Named.{bound_item, column_of}
@@ -34,6 +36,7 @@ items-preserved c =
     record {
       items = more.0;
       size = length-set c.items.bound c.items.at c.in-Some.one ∙ inv.size;
+      no_column = All-set (λ item. item.kind ≡ kind.Rows → item.column ≡ 0) c.items.bound c.items.at c.in-Some.one one.no_column inv.no_column;
       few = omega (arith, inv.few, one.within);
       rest = more.1;
       named = rw named (omega (arith, size, inv.named, one.count));
