@@ -1,0 +1,15 @@
+//! A group as bytes on a worker's tuple queue: its key and its partial state.
+//!
+//! A tuple is the key after its length, the number of rows, the number of slots and the slots, each number lowest byte
+//! first. `tuple_bytes` of `specs/Tuple.antt` is the format, and `refusal` says why bytes are none; `encode` and `decode`
+//! are the two directions, and neither takes memory.
+#![tactic(auto)]
+
+mod read;
+mod write;
+
+pub use read::{TupleRead, decode};
+pub use write::{Tuple, encode};
+
+#[cfg(test)]
+mod tests;

@@ -1,0 +1,84 @@
+//! From a group to bytes.
+
+ghost use Rattle.std.specs.Prelude.{◌≡◌, ◌≤◌, ◌+◌, ◌-◌, ◌*◌, ◌++◌, drop, length, map, replicate, take};
+ghost use Rattle.std.specs.List.{concat};
+ghost use Rattle.par_model.specs.Aggregate.{no_values};
+ghost use Rattle.tuple_codec.specs.Tuple.{slot_bytes, tuple_bytes, word};
+
+use par_model::{AggState, SlotState};
+use partial_agg::GroupKey;
+
+const LONGEST: usize = 581;
+
+/// The first `len` bytes are a tuple; the others are zeros.
+#[derive(Debug, Drop)]
+pub struct Tuple {
+    pub bytes: [u8; 581],
+    pub len: u32,
+}
+
+/// The tuple of a key and a state with this many slots, past which the state's are zeros.
+pub fn encode(key: &GroupKey, state: &AggState, slots: u32) -> Tuple
+    requires few { slots ≤ 8 }
+    requires zeros { drop slots state.now.slots ≡ replicate (8 - slots) no_values }
+    ensures bytes { take result.len result.bytes ≡ tuple_bytes key.now state.now slots }
+    ensures length { result.len ≡ length (tuple_bytes key.now state.now slots) }
+{
+    let mut tuple = Tuple {
+        bytes: [0; LONGEST],
+        len: 0,
+    };
+    push(&mut tuple, &(key.bytes().len() as u32).to_le_bytes());
+    push(&mut tuple, key.bytes());
+    push_word(&mut tuple, state.rows);
+    push(&mut tuple, &[slots as u8]);
+    push_slots(&mut tuple, &state.slots, slots as usize);
+    tuple
+}
+
+// Adds bytes behind those that are there.
+fn push(tuple: &mut Tuple, part: &[u8])
+    requires { tuple.old.len + length part.now ≤ LONGEST }
+    ensures bytes { take tuple.new.len tuple.new.bytes ≡ take tuple.old.len tuple.old.bytes ++ part.now }
+    ensures len { tuple.new.len ≡ tuple.old.len + length part.now }
+{
+    let start = tuple.len as usize;
+    let end = start + part.len();
+    tuple.bytes[start..end].copy_from_slice(part);
+    tuple.len = end as u32;
+}
+
+// Adds slots.
+fn push_slots(tuple: &mut Tuple, slots: &[SlotState; 8], count: usize)
+    requires few { count ≤ 8 }
+    requires room { tuple.old.len + 40 * count ≤ LONGEST }
+    ensures bytes { take tuple.new.len tuple.new.bytes ≡ take tuple.old.len tuple.old.bytes ++ concat (map slot_bytes (take count slots.now)) }
+    ensures len { tuple.new.len ≡ tuple.old.len + 40 * count }
+    ensures long { length slots.now ≡ 8 }
+{
+    for slot in &slots[..count] {
+        push_slot(tuple, slot);
+    }
+}
+
+fn push_slot(tuple: &mut Tuple, slot: &SlotState)
+    requires { tuple.old.len + 40 ≤ LONGEST }
+    ensures bytes { take tuple.new.len tuple.new.bytes ≡ take tuple.old.len tuple.old.bytes ++ slot_bytes slot.now }
+    ensures len { tuple.new.len ≡ tuple.old.len + 40 }
+{
+    let sum = slot.sum.cast_unsigned();
+    push_word(tuple, slot.count);
+    push_word(tuple, (sum % (1 << 64)) as u64);
+    push_word(tuple, (sum / (1 << 64)) as u64);
+    push_word(tuple, slot.least.cast_unsigned());
+    push_word(tuple, slot.greatest.cast_unsigned());
+}
+
+#[tactic(auto, unfolding(crate::specs::Tuple::word))]
+fn push_word(tuple: &mut Tuple, n: u64)
+    requires { tuple.old.len + 8 ≤ LONGEST }
+    ensures bytes { take tuple.new.len tuple.new.bytes ≡ take tuple.old.len tuple.old.bytes ++ word n }
+    ensures len { tuple.new.len ≡ tuple.old.len + 8 }
+{
+    push(tuple, &n.to_le_bytes());
+}
