@@ -1,0 +1,4 @@
+pub mod Decoding
+pub mod Whole
+pub mod Filling
+pub mod Sends

@@ -1,0 +1,5 @@
+pub mod Messages
+pub mod Sends
+pub mod SendAnswers
+pub mod Held
+pub mod Filling
