@@ -2,3 +2,4 @@ pub mod Decoding
 pub mod Whole
 pub mod Filling
 pub mod Sends
+pub mod Hands

@@ -1,0 +1,13 @@
+-- Which answer a try to receive gives, and when.
+use Rattle.std.specs.Prelude.{◌≡◌, ℕ, ◌∷◌, ◌++◌, List, []}
+use Rattle.ring_rule.specs.Ring.{Receiving}
+use Rattle.mq_handle.specs.Messages.{whole_of}
+use Rattle.mq_handle.specs.Receives.{IsReceived, IsWaiting, IsOver}
+use Rattle.mq_handle.specs.declared.answers.ReceiveAnswer.{ReceiveAnswer}
+use Rattle.mq_handle.specs.declared.answers.ReceiveAnswer.TheVariants.{Message, WouldBlock, Detached}
+
+-- the messages answered are the whole ones of the words taken: one more, or the same
+abbrev pub Gives : Receiving → Receiving → List ℕ → ReceiveAnswer → Type 0
+Gives old new message Message = IsReceived old new message
+Gives old new message WouldBlock = (whole_of new.taken ≡ whole_of old.taken) × (message ≡ []) × IsWaiting old new
+Gives old new message Detached = (whole_of new.taken ≡ whole_of old.taken) × (message ≡ []) × IsOver old new
