@@ -2,12 +2,14 @@
 use Rattle.std.proofs.Common.{◌≡◌, ◌≢◌, ℕ, zero, suc, ◌+◌, ◌-◌, ◌*◌, ◌/◌, ◌%◌, ◌^◌, ◌<◌, ◌≤◌, ◌⊎◌, ⊎_elim, inl, inr, Bool, true, false, cond, ◌&&◌, leb, ltb, List, [], ◌∷◌, ◌++◌, length, take, drop, get_or, slice_index, All, Option, Some, None, refl, sym, ap, subst, ◌∙◌, arith, length-append, append_assoc, shr-shr}
 use Rattle.std.proofs.lemmas.Bool.{cases_lt}
 use Rattle.std.proofs.lemmas.Bool.Decides.{nat_tests}
-use Rattle.std.proofs.lemmas.List.{get_or_append_left, get_or-append-add}
+use Rattle.std.proofs.lemmas.List.{take_at, get_or_append_left, get_or-append-add}
 use Rattle.std.proofs.Math.Seq.{drop-append_seam}
 use Rattle.rel_pointer.specs.Bytes.{AllBytes, word_count, byte_of, is_of_word, packed_words}
 use Rattle.ring_rule.specs.Frames.{frame, frames, IsMessage, IsFramed}
+use Rattle.ring_rule.specs.Ring.{Receiving}
+use Rattle.mq_ring.specs.Ends.{ReceivingEnd}
 use Rattle.mq_handle.specs.Messages.{digits_of, bytes_of, first_of}
-use Rattle.mq_handle.specs.Taking.{InHand, HasBytes, IsBegun, IsOpen}
+use Rattle.mq_handle.specs.Taking.{InHand, HasBytes, IsBegun, IsOpen, Takes}
 use Rattle.mq_handle.proofs.Decoding.{first_frame}
 use Rattle.mq_handle.proofs.Filling.{length-frame}
 
@@ -76,7 +78,7 @@ bytes_append : (xs ys : List ℕ) → bytes_of (xs ++ ys) ≡ bytes_of xs ++ byt
 bytes_append [] ys = refl
 bytes_append (x ∷ xs) ys = ap (λ (z : List ℕ). digits_of 8 x ++ z) (bytes_append xs ys) ∙ sym (append_assoc (digits_of 8 x) (bytes_of xs) (bytes_of ys))
 
-length-bytes : (xs : List ℕ) → length (bytes_of xs) ≡ 8 * length xs
+pub length-bytes : (xs : List ℕ) → length (bytes_of xs) ≡ 8 * length xs
 length-bytes [] = refl
 length-bytes (x ∷ xs) = let a = length-append (digits_of 8 x) (bytes_of xs) in let b = length-bytes xs in let d = length-digits 8 x in omega arith
 
@@ -167,3 +169,40 @@ hand_more max base taken after old new words len word result h o e framed first 
             ∙ ap (λ (z : ℕ). cond (is_of_word z i) (byte_of word i) (slice_index old i)) place
             ∙ old_byte tail i (omega arith) (b.1 i low)
             ∙ sym (byte_more tail word i (omega arith)))
+
+-- the words before the frame in hand
+pub base_same : (max : ℕ) (base taken buffer : List ℕ) (words len : ℕ) → InHand max base taken buffer words len → take (length taken - words) taken ≡ base
+base_same max base taken buffer words len h =
+    let total = ap length h.are ∙ length-append base h.part in
+    ap (λ (z : List ℕ). take (length taken - words) z) h.are ∙ take_at base h.part (length taken - words) (omega (arith, h.counted))
+
+-- what is in hand is no more than a frame of a message that fits
+pub hand_low : (max : ℕ) (base taken buffer : List ℕ) (words len : ℕ) → InHand max base taken buffer words len → 0 < words → (words ≤ suc (word_count len)) × (len ≤ max)
+hand_low max base taken buffer words len h some = go h.part refl
+  where
+    go : (part : List ℕ) → h.part ≡ part → (words ≤ suc (word_count len)) × (len ≤ max)
+    go [] is = absurd (omega (arith, h.counted, ap length is))
+    go (n ∷ tail) is =
+        let b : HasBytes buffer (n ∷ tail) len = subst (λ (z : List ℕ). HasBytes buffer z len) is h.bytes in
+        ⊎_elim
+        (λ (p : h.part ≡ []). absurd (omega (arith, h.counted, ap length p)))
+        (λ (p : (message more : List ℕ) × IsMessage max message × (frame message ≡ h.part ++ more)).
+        let f : frame p.0 ≡ (n ∷ tail) ++ p.1 = p.3 ∙ ap (λ (z : List ℕ). z ++ p.1) is in
+        let head : length p.0 ≡ n = cc in
+        let count = ap length f ∙ length-append (n ∷ tail) p.1 in
+        let words_is : word_count (length p.0) ≡ word_count len = ap word_count (head ∙ sym b.0) in
+        (omega (arith, count, length-frame p.0, h.counted, ap length is, words_is), omega (arith, head, b.0, p.2.short)))
+        h.begun
+
+pub hand_open : (max : ℕ) (base taken buffer : List ℕ) (words len : ℕ) → InHand max base taken buffer words len → 0 < words → words ≢ suc (word_count len) → IsOpen words len
+hand_open max base taken buffer words len h some other = let l = hand_low max base taken buffer words len h some in inr (omega (arith, l.0))
+
+pub takes_on : (a b c : Receiving) → Takes a b → Takes b c → Takes a c
+takes_on a b c s t = record { ring = t.ring ∙ s.ring; gone = t.gone ∙ s.gone; returned = t.returned ∙ s.returned; turn = let x = s.turn in let y = t.turn in omega arith }
+
+-- only the end of a receiver's value changes
+abbrev pub OnlyEnd : ReceivingEnd → ReceivingEnd → Type 0
+OnlyEnd old new = new ≡ record old { end = new.end }
+
+pub only_on : (a b c : ReceivingEnd) → OnlyEnd a b → OnlyEnd b c → OnlyEnd a c
+only_on a b c h k = k ∙ ap (λ (z : ReceivingEnd). record z { end = c.end }) h

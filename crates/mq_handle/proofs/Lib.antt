@@ -3,3 +3,4 @@ pub mod Whole
 pub mod Filling
 pub mod Sends
 pub mod Hands
+pub mod Receipts

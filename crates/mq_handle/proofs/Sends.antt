@@ -13,7 +13,7 @@ use Rattle.mq_handle.specs.Filling.{base_of, Fills, IsFull}
 use Rattle.mq_handle.proofs.Decoding.{torn}
 use Rattle.mq_handle.proofs.Whole.{whole_is, left_is}
 
-append_nothing : {A : Type 0} (xs : List A) → xs ++ [] ≡ xs
+pub append_nothing : {A : Type 0} (xs : List A) → xs ++ [] ≡ xs
 append_nothing [] = refl
 append_nothing (x ∷ xs) = ap (λ ys. x ∷ ys) (append_nothing xs)
 

@@ -6,3 +6,4 @@ pub mod Filling
 pub mod Receives
 pub mod Taking
 pub mod ReceiveAnswers
+pub mod Looking

@@ -1,5 +1,5 @@
 -- What a receiver keeps of the frame in hand.
-use Rattle.std.specs.Prelude.{◌≡◌, ℕ, suc, ◌+◌, ◌-◌, ◌*◌, ◌<◌, ◌≤◌, ◌^◌, ◌⊎◌, Bool, List, [], ◌∷◌, ◌++◌, length, take, get_or, All}
+use Rattle.std.specs.Prelude.{◌≡◌, ℕ, suc, ◌+◌, ◌-◌, ◌*◌, ◌<◌, ◌≤◌, ◌^◌, ◌⊎◌, Bool, true, List, [], ◌∷◌, ◌++◌, length, take, get_or, All}
 use Rattle.rel_pointer.specs.Bytes.{word_count}
 use Rattle.ring_rule.specs.Frames.{frame, frames, IsMessage}
 use Rattle.ring_rule.specs.Ring.{Receiving}
@@ -47,10 +47,11 @@ pub record Takes (old new : Receiving) : Type 0 where
   pub returned : new.returned ≡ old.returned
   pub turn : old.turn ≤ new.turn
 
--- what a receiver keeps: the counts of its end, the frame in hand, and whether it is gone
-pub record IsReceiver (q : Receiving) (buffer : List ℕ) (words len ready unreturned : ℕ) (gone : Bool) : Type 0 where
+-- what a receiver keeps: the counts of its end, the frame in hand, whether its message is whole, and whether it is gone
+pub record IsReceiver (q : Receiving) (buffer : List ℕ) (words len ready unreturned : ℕ) (whole gone : Bool) : Type 0 where
   pub counts : Ready q ready unreturned
   pub hand : InHand q.ring.max (before_of q words) q.taken buffer words len
   pub unfinished : IsOpen words len
   pub room : length buffer ≡ q.ring.max
+  pub held : whole ≡ true → len ≤ length buffer
   pub gone_is : gone ≡ q.gone

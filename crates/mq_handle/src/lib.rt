@@ -3,10 +3,16 @@
 
 mod answers;
 mod laws;
+mod looking;
+mod queue;
+mod receiver;
+mod receiving;
 mod sender;
 mod storing;
 mod taking;
 
 pub use answers::{ReceiveAnswer, ReceiveDone, SendAnswer, SendDone};
 pub use laws::whole_is_longest;
+pub use queue::{AttachRefused, MqDone, attach, home, meet};
+pub use receiver::Receiver;
 pub use sender::Sender;

@@ -4,7 +4,7 @@ ghost use Rattle.ring_rule.specs.Ring.{Sending};
 ghost use Rattle.ring_rule.specs.Ends.{publishes, sender_leaves};
 ghost use Rattle.mq_handle.specs.Sends.{Continues, StaysOpen};
 ghost use Rattle.mq_handle.specs.SendAnswers.{Answers};
-ghost use Rattle.mq_handle.specs.Held.{Counted, InFrames};
+ghost use Rattle.mq_handle.specs.Held.{Counted, InFrames, IsUnsent};
 
 use crate::answers::SendAnswer;
 use crate::storing::{Counts, fill, finish};
@@ -34,6 +34,24 @@ impl Model for Sender {
 }
 
 impl Sender {
+    // The sending end over a ring on which nothing was put.
+    pub(crate) fn new(tx: RingTx) -> Sender
+        requires { IsUnsent tx.end }
+        ensures { result ≡ tx }
+    {
+        let free = tx.words();
+        let counts = Counts {
+            stored: 0,
+            free,
+            unpublished: 0,
+        };
+        Sender {
+            tx,
+            counts,
+            gone: false,
+        }
+    }
+
     /// Puts the message on the ring as far as there is room. Where a part of a frame is stored, the message has to be that frame's: repeat
     /// the call with it. Where the message fits it costs one load, one store a word and at most one store of the count. `flush` lets the
     /// receiver see the message at once; without it the last quarter of the ring may stay unseen until a later call.
@@ -73,6 +91,15 @@ impl Sender {
         self.tx.set_flag(r);
         self.counts.unpublished = 0;
         self.gone = true;
+    }
+
+    // The ring's end, for the way home. It tells that a sender that is gone has published all that it put.
+    pub(crate) fn into_ring(self) -> RingTx
+        ensures ring { result ≡ self }
+        ensures flushed { self.end.gone ≡ true → self.end.published ≡ length self.end.put }
+    {
+        let Sender { tx, .. } = self;
+        tx
     }
 }
 

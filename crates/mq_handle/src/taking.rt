@@ -46,7 +46,7 @@ fn take_word(rx: &mut RingRx, r: &Region, buffer: &mut [u8], taken: Taken) -> Ta
     ensures takes { Takes rx.old.end rx.new.end }
     ensures counted { Ready rx.new.end result.ready result.unreturned }
     ensures hand { InHand rx.new.end.ring.max (before_of rx.old.end taken.words) rx.new.end.taken buffer.new result.words result.len }
-    ensures one { result.words ≡ taken.words + 1 }
+    ensures one { (result.words ≡ taken.words + 1) × (result.ready + 1 ≡ taken.ready) }
 {
     let word = rx.take(r);
     let len = keep_word(buffer, taken.words, taken.len, word);
@@ -56,4 +56,55 @@ fn take_word(rx: &mut RingRx, r: &Region, buffer: &mut [u8], taken: Taken) -> Ta
         ready: taken.ready - 1,
         unreturned: taken.unreturned + 1,
     }
+}
+
+/// Takes words until the message is whole or no more may be taken. Answers whether it is whole.
+pub(crate) fn take_words(
+    rx: &mut RingRx,
+    r: &Region,
+    buffer: &mut [u8],
+    taken: Taken,
+) -> (Taken, bool)
+    requires here { rx.old.region ≡ r.now }
+    requires stays { rx.old.end.gone ≡ false }
+    requires counted { Ready rx.old.end taken.ready taken.unreturned }
+    requires hand { InHand rx.old.end.ring.max (before_of rx.old.end taken.words) rx.old.end.taken buffer.old taken.words taken.len }
+    requires unfinished { IsOpen taken.words taken.len }
+    requires room { length buffer.old ≡ rx.old.end.ring.max }
+    ensures kept { rx.new ≡ record rx.old { end = rx.new.end } }
+    ensures takes { Takes rx.old.end rx.new.end }
+    ensures counted { Ready rx.new.end result.0.ready result.0.unreturned }
+    ensures hand { InHand rx.new.end.ring.max (before_of rx.old.end taken.words) rx.new.end.taken buffer.new result.0.words result.0.len }
+    ensures whole { MatchBool result.1 (result.0.words ≡ suc (word_count result.0.len)) (IsOpen result.0.words result.0.len × (result.0.ready ≡ 0)) }
+    ensures further { 0 < taken.ready → taken.words < result.0.words }
+{
+    let mut taken = taken;
+    while taken.ready > 0 {
+        taken = take_word(rx, r, buffer, taken);
+        if taken.words == 1 + words_of(taken.len) {
+            return (taken, true);
+        }
+    }
+    (taken, false)
+}
+
+/// At the end of a message, gives room back where more than a quarter of the ring was not given back.
+pub(crate) fn finish_taking(rx: &mut RingRx, r: &Region, taken: Taken) -> Taken
+    requires here { rx.old.region ≡ r.now }
+    requires stays { rx.old.end.gone ≡ false }
+    requires counted { Ready rx.old.end taken.ready taken.unreturned }
+    ensures kept { rx.new ≡ record rx.old { end = record rx.old.end { returned = rx.new.end.returned; turn = rx.new.end.turn } } }
+    ensures counted { Ready rx.new.end result.ready result.unreturned }
+    ensures returned { rx.new.end.returned ≡ returned_of (length rx.old.end.taken) rx.old.end.returned (rx.old.end.ring.size / 4) }
+    ensures next { (result.words ≡ 0) × (result.len ≡ taken.len) }
+{
+    if taken.unreturned > rx.words() / 4 {
+        rx.publish_read(r);
+        return Taken {
+            words: 0,
+            unreturned: 0,
+            ..taken
+        };
+    }
+    Taken { words: 0, ..taken }
 }
