@@ -1,13 +1,13 @@
 -- The bytes of a message come back from its words.
-use Rattle.std.proofs.Common.{◌≡◌, ℕ, zero, suc, ◌+◌, ◌-◌, ◌*◌, ◌/◌, ◌%◌, ◌<◌, ◌≤◌, Bool, true, false, cond, ◌&&◌, ◌==◌, List, [], ◌∷◌, ◌++◌, length, take, drop, min, All, Option, Some, None, refl, sym, ap, subst, ◌∙◌, ◌⊎◌, ⊎_elim, inl, inr, eq-eqb, arith, length-drop, length-append, append_assoc}
-use Rattle.std.proofs.lemmas.List.{length-take, length-take-le, take-append-drop, take-append-le, take_all, take_at}
+use Rattle.std.proofs.Common.{◌≡◌, ℕ, zero, suc, ◌+◌, ◌*◌, ◌/◌, ◌%◌, ◌<◌, ◌≤◌, Bool, true, false, cond, ◌&&◌, ◌==◌, List, [], ◌∷◌, ◌++◌, length, take, drop, Option, Some, None, refl, sym, ap, subst, ◌∙◌, ⊎_elim, eq-eqb, arith, length-drop, length-append, append_assoc}
+use Rattle.std.proofs.lemmas.List.{length-take-le, take-append-drop, take-append-le, take_all, take_at}
 use Rattle.std.proofs.lemmas.Bool.{cases_lt}
 use Rattle.std.proofs.lemmas.Bool.Decides.{nat_tests}
 use Rattle.std.proofs.Math.Seq.{take-append-add}
 use Rattle.std.proofs.lemmas.List.Elements.{All-take, All-drop, All-append}
 use Rattle.rel_pointer.specs.Bytes.{AllBytes, word_count, value_of, packed_words}
 use Rattle.rel_pointer.proofs.Words.{length-packed_words}
-use Rattle.ring_rule.specs.Frames.{frame, frames}
+use Rattle.ring_rule.specs.Frames.{frame}
 use Rattle.mq_handle.specs.Messages.{digits_of, bytes_of, begins, message_at, first_of}
 
 length-digits_of : (n w : ℕ) → length (digits_of n w) ≡ n
@@ -40,17 +40,17 @@ unpacked (suc k) m a h =
     let eight = length-digits_of 8 (value_of front) in
     ⊎_elim
     (λ (below : length m < 8).
-        let short : length m ≤ 8 = omega arith in
-        let all : front ≡ m = take_all 8 m short in
-        take-append-le (length m) word rest (omega arith) ∙ ap (λ (z : List ℕ). take (length m) (digits_of 8 (value_of z))) all ∙ digits_is m 8 a short)
+    let short : length m ≤ 8 = omega arith in
+    let all : front ≡ m = take_all 8 m short in
+    take-append-le (length m) word rest (omega arith) ∙ ap (λ (z : List ℕ). take (length m) (digits_of 8 (value_of z))) all ∙ digits_is m 8 a short)
     (λ (long : 8 ≤ length m).
-        let len : length front ≡ 8 = length-take-le 8 m long in
-        let same : word ≡ front = sym (take_all (length front) word (omega arith)) ∙ digits_is front 8 bytes (omega arith) in
-        let n = length (drop 8 m) in
-        let count : length m ≡ length word + n = omega (arith, length-drop 8 m) in
-        ap (λ (z : ℕ). take z (word ++ rest)) count ∙ take-append-add word rest n
-        ∙ (λ i. same i ++ unpacked k (drop 8 m) (All-drop (λ x. x < 256) 8 m a) (omega (arith, length-drop 8 m)) i)
-        ∙ take-append-drop 8 m)
+    let len : length front ≡ 8 = length-take-le 8 m long in
+    let same : word ≡ front = sym (take_all (length front) word (omega arith)) ∙ digits_is front 8 bytes (omega arith) in
+    let n = length (drop 8 m) in
+    let count : length m ≡ length word + n = omega (arith, length-drop 8 m) in
+    ap (λ (z : ℕ). take z (word ++ rest)) count ∙ take-append-add word rest n
+    ∙ (λ i. same i ++ unpacked k (drop 8 m) (All-drop (λ x. x < 256) 8 m a) (omega (arith, length-drop 8 m)) i)
+    ∙ take-append-drop 8 m)
     (cases_lt (length m) 8)
 
 pub message_frame : (m more : List ℕ) → AllBytes m → message_at (frame m ++ more) ≡ m

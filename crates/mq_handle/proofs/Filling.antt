@@ -1,7 +1,7 @@
 -- How a sender's end changes word by word.
-use Rattle.std.proofs.Common.{◌≡◌, ℕ, zero, suc, ◌+◌, ◌-◌, ◌*◌, ◌<◌, ◌≤◌, ◌⊎◌, ⊎_elim, inl, inr, Bool, true, false, List, [], ◌∷◌, ◌++◌, length, take, drop, get_or, refl, sym, ap, subst, ◌∙◌, arith, eq-eqb, length-append, append_assoc}
+use Rattle.std.proofs.Common.{◌≡◌, ℕ, zero, suc, ◌+◌, ◌-◌, ◌<◌, ◌≤◌, ◌⊎◌, ⊎_elim, inl, inr, List, [], ◌∷◌, ◌++◌, length, take, drop, get_or, refl, sym, ap, subst, ◌∙◌, arith, eq-eqb, length-append, append_assoc}
 use Rattle.std.proofs.lemmas.List.{take_more, take-append-drop, length-take-le}
-use Rattle.rel_pointer.specs.Bytes.{word_count, packed, packed_words}
+use Rattle.rel_pointer.specs.Bytes.{word_count, packed}
 use Rattle.rel_pointer.proofs.Words.{packed_words-at, length-packed_words}
 use Rattle.ring_rule.specs.Frames.{frame, IsFramed}
 use Rattle.ring_rule.specs.Ring.{Ring, Sending}
@@ -9,7 +9,7 @@ use Rattle.ring_rule.specs.Ends.{puts, publishes, looks_read}
 use Rattle.ring_rule.proofs.Messages.{framed_front}
 use Rattle.mq_ring.specs.Ends.{SendingEnd}
 use Rattle.mq_handle.specs.Held.{Counted}
-use Rattle.mq_handle.specs.Filling.{base_of, Fills, IsFull}
+use Rattle.mq_handle.specs.Filling.{Fills, IsFull}
 
 pub length-frame : (m : List ℕ) → length (frame m) ≡ suc (word_count (length m))
 length-frame m = ap suc (length-packed_words (word_count (length m)) m)

@@ -1,15 +1,15 @@
 -- The frame in hand, word by word.
-use Rattle.std.proofs.Common.{◌≡◌, ◌≢◌, ℕ, zero, suc, ◌+◌, ◌-◌, ◌*◌, ◌/◌, ◌%◌, ◌^◌, ◌<◌, ◌≤◌, ◌⊎◌, ⊎_elim, inl, inr, Bool, true, false, cond, ◌&&◌, leb, ltb, List, [], ◌∷◌, ◌++◌, length, take, drop, get_or, slice_index, All, Option, Some, None, refl, sym, ap, subst, ◌∙◌, arith, length-append, append_assoc, shr-shr}
+use Rattle.std.proofs.Common.{◌≡◌, ◌≢◌, ℕ, zero, suc, ◌+◌, ◌-◌, ◌*◌, ◌/◌, ◌%◌, ◌^◌, ◌<◌, ◌≤◌, ◌⊎◌, ⊎_elim, inl, inr, Bool, true, false, cond, List, [], ◌∷◌, ◌++◌, length, take, drop, get_or, slice_index, All, Some, refl, sym, ap, subst, ◌∙◌, arith, length-append, append_assoc, shr-shr}
 use Rattle.std.proofs.lemmas.Bool.{cases_lt}
 use Rattle.std.proofs.lemmas.Bool.Decides.{nat_tests}
 use Rattle.std.proofs.lemmas.List.{take_at, get_or_append_left, get_or-append-add}
 use Rattle.std.proofs.Math.Seq.{drop-append_seam}
-use Rattle.rel_pointer.specs.Bytes.{AllBytes, word_count, byte_of, is_of_word, packed_words}
+use Rattle.rel_pointer.specs.Bytes.{AllBytes, word_count, byte_of, is_of_word}
 use Rattle.ring_rule.specs.Frames.{frame, frames, IsMessage, IsFramed}
 use Rattle.ring_rule.specs.Ring.{Receiving}
 use Rattle.mq_ring.specs.Ends.{ReceivingEnd}
 use Rattle.mq_handle.specs.Messages.{digits_of, bytes_of, first_of}
-use Rattle.mq_handle.specs.Taking.{InHand, HasBytes, IsBegun, IsOpen, Takes}
+use Rattle.mq_handle.specs.Taking.{InHand, HasBytes, IsOpen, Takes}
 use Rattle.mq_handle.proofs.Decoding.{first_frame}
 use Rattle.mq_handle.proofs.Filling.{length-frame}
 
@@ -159,16 +159,19 @@ hand_more max base taken after old new words len word result h o e framed first 
         let m = more (omega (arith, count)) in
         let b : HasBytes old (n ∷ tail) len = subst (λ (z : List ℕ). HasBytes old z len) is h.bytes in
         let missing : length tail < word_count n = ⊎_elim
-            (λ (z : words ≡ 0). absurd (omega (arith, count)))
-            (λ (z : words < suc (word_count len)). omega (arith, count, ap word_count b.0))
-            o in
+        (λ (z : words ≡ 0). absurd (omega (arith, count)))
+        (λ (z : words < suc (word_count len)). omega (arith, count, ap word_count b.0))
+        o in
         let place : words - 1 ≡ length tail = omega (arith, count) in
         let l : length (tail ++ (word ∷ [])) ≡ length tail + 1 = length-append tail (word ∷ []) in
-        made (n ∷ tail) is (inr (n, tail, refl, missing)) (m.0 ∙ b.0, λ i low short.
-            m.1 i (omega (arith, b.0))
-            ∙ ap (λ (z : ℕ). cond (is_of_word z i) (byte_of word i) (slice_index old i)) place
-            ∙ old_byte tail i (omega arith) (b.1 i low)
-            ∙ sym (byte_more tail word i (omega arith)))
+        made (n ∷ tail) is (inr (n, tail, refl, missing)) (
+          m.0 ∙ b.0,
+          λ i low short.
+              m.1 i (omega (arith, b.0))
+              ∙ ap (λ (z : ℕ). cond (is_of_word z i) (byte_of word i) (slice_index old i)) place
+              ∙ old_byte tail i (omega arith) (b.1 i low)
+              ∙ sym (byte_more tail word i (omega arith)),
+        )
 
 -- the words before the frame in hand
 pub base_same : (max : ℕ) (base taken buffer : List ℕ) (words len : ℕ) → InHand max base taken buffer words len → take (length taken - words) taken ≡ base

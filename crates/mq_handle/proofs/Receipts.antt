@@ -1,16 +1,16 @@
 -- What a try to receive leaves.
-use Rattle.std.proofs.Common.{◌≡◌, ◌≢◌, ℕ, zero, suc, ◌+◌, ◌-◌, ◌*◌, ◌/◌, ◌<◌, ◌≤◌, ◌⊎◌, ⊎_elim, inl, inr, Bool, true, false, List, [], ◌∷◌, ◌++◌, length, take, get_or, All, Option, Some, None, refl, sym, ap, subst, ◌∙◌, arith, length-append}
+use Rattle.std.proofs.Common.{◌≡◌, ℕ, zero, suc, ◌-◌, ◌/◌, ◌<◌, ◌≤◌, ⊎_elim, inl, inr, List, [], ◌∷◌, ◌++◌, length, take, get_or, All, Some, refl, sym, ap, subst, ◌∙◌, arith, length-append}
 use Rattle.std.proofs.lemmas.List.{take_all}
-use Rattle.rel_pointer.specs.Bytes.{AllBytes, word_count, packed_words}
+use Rattle.rel_pointer.specs.Bytes.{word_count, packed_words}
 use Rattle.ring_rule.specs.Frames.{frame, frames, IsMessage}
 use Rattle.ring_rule.specs.Ring.{Ring, Receiving}
 use Rattle.ring_rule.proofs.Messages.{frames-same}
-use Rattle.mq_handle.specs.Messages.{bytes_of, first_of, whole_of, left_of}
+use Rattle.mq_handle.specs.Messages.{bytes_of, whole_of, left_of}
 use Rattle.mq_handle.specs.Held.{IsTorn}
-use Rattle.mq_handle.specs.Receives.{IsReceived, IsWaiting, IsOver, returned_of}
+use Rattle.mq_handle.specs.Receives.{IsReceived, returned_of}
 use Rattle.mq_handle.specs.ReceiveAnswers.{Gives, message_of}
-use Rattle.mq_handle.specs.Looking.{Finds, LooksOn}
-use Rattle.mq_handle.specs.Taking.{InHand, HasBytes, IsBegun, IsOpen, Takes, before_of}
+use Rattle.mq_handle.specs.Looking.{Finds}
+use Rattle.mq_handle.specs.Taking.{InHand, HasBytes, IsOpen, Takes}
 use Rattle.mq_handle.specs.declared.answers.ReceiveAnswer.{ReceiveAnswer}
 use Rattle.mq_handle.specs.declared.answers.ReceiveAnswer.TheVariants.{Message, WouldBlock, Detached}
 use Rattle.mq_handle.proofs.Decoding.{unpacked}
@@ -103,9 +103,9 @@ whole_hand max base taken buffer words len h full room = go h.part refl
         let tail_len : length tail ≡ word_count len = omega (arith, h.counted, ap length is, full) in
         let bytes = length-bytes tail in
         let message : take len buffer ≡ p.0 =
-            take_same len buffer (bytes_of tail) (omega (arith, size)) (omega arith) (λ i l. b.1 i (omega (arith, b.0)) (omega arith))
-            ∙ (λ i. take (size i) (bytes_of (words_are i)))
-            ∙ unpacked (word_count (length p.0)) p.0 p.2.bytes (omega arith) in
+        take_same len buffer (bytes_of tail) (omega (arith, size)) (omega arith) (λ i l. b.1 i (omega (arith, b.0)) (omega arith))
+        ∙ (λ i. take (size i) (bytes_of (words_are i)))
+        ∙ unpacked (word_count (length p.0)) p.0 p.2.bytes (omega arith) in
         (is ∙ all ∙ ap frame (sym message), subst (IsMessage max) (sym message) p.2))
         h.begun
 
@@ -124,7 +124,7 @@ came max base before taken old buffer w l words len h o k full room =
     let message = take len buffer in
     let same = same_messages max base before taken old buffer w words l len h k in
     let are : taken ≡ frames (k.messages ++ (message ∷ [])) =
-        hand_words max base taken buffer words len k ∙ ap (λ (z : List ℕ). frames k.messages ++ z) p.0 ∙ sym (frames_more k.messages message) in
+    hand_words max base taken buffer words len k ∙ ap (λ (z : List ℕ). frames k.messages ++ z) p.0 ∙ sym (frames_more k.messages message) in
     let fit = fit_more max k.messages message k.fit p.1 in
     let bytes = bytes_of_all max (k.messages ++ (message ∷ [])) fit in
     let words_are : taken ≡ frames (k.messages ++ (message ∷ [])) ++ [] = are ∙ sym (append_nothing (frames (k.messages ++ (message ∷ [])))) in
@@ -156,3 +156,11 @@ received_is old last buffer len returned turn t c e = record {
   short = subst (λ (r : Ring). length (take len buffer) ≤ r.max) t.ring c.fits.short;
   returned = e ∙ (λ i. returned_of (length last.taken) (t.returned i) (ap (λ (r : Ring). r.size / 4) t.ring i));
 }
+
+no_messages : (max : ℕ) → All (IsMessage max) []
+no_messages max k d l = absurd (omega arith)
+
+-- nothing is in hand
+pub fresh_hand : (max : ℕ) (taken buffer : List ℕ) → taken ≡ [] → InHand max (take (length taken - 0) taken) taken buffer 0 0
+fresh_hand max taken buffer e = subst (λ (t : List ℕ). InHand max (take (length t - 0) t) t buffer 0 0) (sym e)
+    (record { messages = []; part = []; fit = no_messages max; base_is = refl; are = refl; begun = inl refl; counted = refl; bytes = tt })

@@ -1,5 +1,5 @@
 -- What a try to send leaves on the ring.
-use Rattle.std.proofs.Common.{◌≡◌, ℕ, zero, suc, ◌+◌, ◌-◌, ◌<◌, ◌≤◌, ◌⊎◌, ⊎_elim, inl, inr, Bool, true, false, MatchBool, get_or, ◌/◌, List, [], ◌∷◌, ◌++◌, length, take, drop, min, All, Option, Some, None, refl, sym, ap, subst, ◌∙◌, arith, length-append, append_assoc}
+use Rattle.std.proofs.Common.{◌≡◌, ℕ, zero, suc, ◌+◌, ◌-◌, ◌<◌, ◌≤◌, ⊎_elim, inl, inr, Bool, true, false, MatchBool, get_or, ◌/◌, List, [], ◌∷◌, ◌++◌, length, take, drop, min, All, None, refl, sym, ap, subst, ◌∙◌, arith, length-append, append_assoc}
 use Rattle.std.proofs.lemmas.List.{length-take, length-take-le, take-append-drop, take_all, take_at}
 use Rattle.std.proofs.lemmas.List.Elements.{All-append}
 use Rattle.rel_pointer.specs.Bytes.{AllBytes}
@@ -67,7 +67,7 @@ begun s stored message f same mine =
     let count : length f.part ≡ min stored (length all) = ap length part ∙ length-take stored all in
     let total = ap length f.are ∙ length-append (frames f.messages) f.part in
     let base : base_of s stored ≡ frames f.messages =
-        ap (λ (z : List ℕ). take (length s.put - stored) z) f.are ∙ take_at (frames f.messages) f.part (length s.put - stored) (omega (arith, f.counted)) in
+    ap (λ (z : List ℕ). take (length s.put - stored) z) f.are ∙ take_at (frames f.messages) f.part (length s.put - stored) (omega (arith, f.counted)) in
     record {
       messages = f.messages;
       fit = f.fit;

@@ -1,8 +1,9 @@
 -- Which messages are whole.
-use Rattle.std.proofs.Common.{◌≡◌, ℕ, zero, suc, ◌+◌, ◌<◌, ◌≤◌, List, [], ◌∷◌, ◌++◌, length, drop, All, Option, Some, None, refl, sym, ap, subst, ◌∙◌, arith, length-append, append_assoc}
+use Rattle.std.proofs.Common.{◌≡◌, ℕ, zero, suc, ◌≤◌, List, [], ◌∷◌, ◌++◌, length, drop, All, Option, Some, None, refl, sym, ap, subst, ◌∙◌, arith, length-append, append_assoc}
 use Rattle.std.specs.Option.{option_map_or}
 use Rattle.std.proofs.Math.Seq.{drop-append_seam}
-use Rattle.rel_pointer.specs.Bytes.{AllBytes, word_count}
+use Rattle.std.proofs.lemmas.List.Elements.{All-append}
+use Rattle.rel_pointer.specs.Bytes.{AllBytes}
 use Rattle.ring_rule.specs.Frames.{frame, frames, AreWhole}
 use Rattle.mq_handle.specs.Messages.{first_of, whole_in, whole_of, left_of}
 use Rattle.mq_handle.proofs.Decoding.{first_frame, first_is}
@@ -79,3 +80,19 @@ whole_longest words = let p = parts_of words in record {
   begins = p.is;
   longest = λ m more a e. let f = sym p.torn ∙ ap first_of e ∙ first_frame m more a in cc;
 }
+
+frames_both : (ms ns : List (List ℕ)) → frames (ms ++ ns) ≡ frames ms ++ frames ns
+frames_both [] ns = refl
+frames_both (m ∷ ms) ns = ap (λ (z : List ℕ). frame m ++ z) (frames_both ms ns) ∙ sym (append_assoc (frame m) (frames ms) (frames ns))
+
+-- the whole messages of a beginning are the first ones
+pub whole_front : (words front rest : List ℕ) → words ≡ front ++ rest → (more : List (List ℕ)) × (whole_of words ≡ whole_of front ++ more)
+whole_front words front rest e =
+    let p = parts_of front in
+    let q = parts_of (p.rest ++ rest) in
+    let ms = whole_of front in
+    let ns = whole_of (p.rest ++ rest) in
+    let is : words ≡ frames (ms ++ ns) ++ q.rest =
+    e ∙ ap (λ (z : List ℕ). z ++ rest) p.is ∙ append_assoc (frames ms) p.rest rest ∙ ap (λ (z : List ℕ). frames ms ++ z) q.is
+    ∙ sym (append_assoc (frames ms) (frames ns) q.rest) ∙ ap (λ (z : List ℕ). z ++ q.rest) (sym (frames_both ms ns)) in
+    (ns, ap whole_of is ∙ whole_is (ms ++ ns) q.rest (All-append AllBytes ms ns p.bytes q.bytes) q.torn)

@@ -7,3 +7,4 @@ pub mod Receives
 pub mod Taking
 pub mod ReceiveAnswers
 pub mod Looking
+pub mod Waiting

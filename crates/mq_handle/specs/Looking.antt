@@ -2,7 +2,6 @@
 use Rattle.std.specs.Prelude.{◌≡◌, ℕ, ◌<◌, ◌≤◌, Option, Some, None}
 use Rattle.ring_rule.specs.Ring.{Receiving}
 use Rattle.mq_handle.specs.Receives.{IsWaiting, IsOver}
-use Rattle.mq_handle.specs.Taking.{Takes}
 use Rattle.mq_handle.specs.declared.answers.ReceiveAnswer.{ReceiveAnswer}
 use Rattle.mq_handle.specs.declared.answers.ReceiveAnswer.TheVariants.{Message, WouldBlock, Detached}
 

@@ -1,5 +1,5 @@
 -- Which answer a try to receive gives, and when.
-use Rattle.std.specs.Prelude.{◌≡◌, ◌≤◌, ℕ, ◌∷◌, ◌++◌, List, [], take}
+use Rattle.std.specs.Prelude.{◌≡◌, ◌≤◌, ℕ, List, [], take}
 use Rattle.ring_rule.specs.Ring.{Receiving}
 use Rattle.mq_handle.specs.Messages.{whole_of}
 use Rattle.mq_handle.specs.Receives.{IsReceived, IsWaiting, IsOver}

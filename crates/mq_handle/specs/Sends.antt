@@ -1,5 +1,5 @@
 -- What a try to send does to the sender's end.
-use Rattle.std.specs.Prelude.{◌≡◌, ℕ, ◌+◌, ◌-◌, ◌<◌, ◌≤◌, ◌/◌, Bool, true, false, cond, ltb, ◌||◌, ◌⊎◌, List, [], ◌∷◌, ◌++◌, length, take, drop}
+use Rattle.std.specs.Prelude.{◌≡◌, ℕ, ◌+◌, ◌<◌, ◌≤◌, ◌/◌, Bool, true, false, cond, ltb, ◌||◌, ◌⊎◌, List, [], ◌∷◌, ◌++◌, length, take}
 use Rattle.ring_rule.specs.Frames.{frame}
 use Rattle.ring_rule.specs.Ring.{Sending}
 use Rattle.mq_handle.specs.Messages.{whole_of, left_of}
@@ -49,3 +49,4 @@ pub record IsBlocked (old new : Sending) (message : List ℕ) (stored : ℕ) : T
 pub record StaysOpen (old new : Sending) : Type 0 where
   pub ring : new.ring ≡ old.ring
   pub stays : new.gone ≡ false
+  pub turn : old.turn ≤ new.turn

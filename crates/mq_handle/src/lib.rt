@@ -10,6 +10,7 @@ mod receiving;
 mod sender;
 mod storing;
 mod taking;
+mod waiting;
 
 pub use answers::{ReceiveAnswer, ReceiveDone, SendAnswer, SendDone};
 pub use laws::whole_is_longest;

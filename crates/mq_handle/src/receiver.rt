@@ -1,5 +1,5 @@
 //! The receiving end of a queue.
-ghost use Rattle.std.specs.Prelude.{◌≡◌, false, true, [], length};
+ghost use Rattle.std.specs.Prelude.{◌≡◌, ◌≤◌, false, true, [], length};
 ghost use Rattle.ring_rule.specs.Ring.{Receiving};
 ghost use Rattle.ring_rule.specs.Ends.{receiver_leaves};
 ghost use Rattle.mq_handle.specs.Held.{IsUnread};
@@ -69,6 +69,7 @@ impl Receiver {
         ensures kept { self.new ≡ incoming self.old.region self.new.end self.old.told self.new.message }
         ensures ring { self.new.end.ring ≡ self.old.end.ring }
         ensures stays { self.new.end.gone ≡ false }
+        ensures later { self.old.end.turn ≤ self.new.end.turn }
         ensures answer { Gives self.old.end self.new.end self.new.message result }
     {
         let buffer = self.buffer.as_mut_slice();

@@ -1,5 +1,5 @@
 //! One try to receive, by the ring's end.
-ghost use Rattle.std.specs.Prelude.{◌≡◌, ◌-◌, ◌<◌, false, length};
+ghost use Rattle.std.specs.Prelude.{◌≡◌, ◌-◌, ◌<◌, ◌≤◌, false, length};
 ghost use Rattle.mq_handle.specs.ReceiveAnswers.{Gives, message_of, HasPlace};
 ghost use Rattle.mq_handle.specs.Taking.{Ready, InHand, IsOpen, before_of};
 
@@ -25,6 +25,7 @@ pub(crate) fn receive_frame(
     ensures kept { rx.new ≡ record rx.old { end = rx.new.end } }
     ensures ring { rx.new.end.ring ≡ rx.old.end.ring }
     ensures stays { rx.new.end.gone ≡ false }
+    ensures later { rx.old.end.turn ≤ rx.new.end.turn }
     ensures counted { Ready rx.new.end result.0.ready result.0.unreturned }
     ensures hand { InHand rx.new.end.ring.max (before_of rx.new.end result.0.words) rx.new.end.taken buffer.new result.0.words result.0.len }
     ensures unfinished { IsOpen result.0.words result.0.len }
@@ -43,8 +44,5 @@ pub(crate) fn receive_frame(
         taken = more;
         whole = done;
     }
-    (
-        finish_taking(rx, r, taken),
-        ReceiveAnswer::Message,
-    )
+    (finish_taking(rx, r, taken), ReceiveAnswer::Message)
 }

@@ -93,6 +93,7 @@ pub(crate) fn finish(tx: &mut RingTx, r: &Region, counts: Counts, flush: bool) -
     ensures counted { Counted tx.new.end result.free result.unpublished }
     ensures published { tx.new.end.published ≡ published_of flush (length tx.old.end.put) tx.old.end.published (tx.old.end.ring.size / 4) }
     ensures stored { result.stored ≡ 0 }
+    ensures later { tx.old.end.turn ≤ tx.new.end.turn }
 {
     if flush || counts.unpublished > tx.words() / 4 {
         tx.publish(r);

@@ -97,6 +97,7 @@ pub(crate) fn finish_taking(rx: &mut RingRx, r: &Region, taken: Taken) -> Taken
     ensures counted { Ready rx.new.end result.ready result.unreturned }
     ensures returned { rx.new.end.returned ≡ returned_of (length rx.old.end.taken) rx.old.end.returned (rx.old.end.ring.size / 4) }
     ensures next { (result.words ≡ 0) × (result.len ≡ taken.len) }
+    ensures later { rx.old.end.turn ≤ rx.new.end.turn }
 {
     if taken.unreturned > rx.words() / 4 {
         rx.publish_read(r);

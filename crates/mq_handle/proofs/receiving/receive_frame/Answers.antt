@@ -1,5 +1,4 @@
-use Rattle.std.proofs.Common.{◌≡◌, ℕ, suc, ◌+◌, ◌-◌, ◌<◌, ◌≤◌, List, Option, take, length, Some, sym, ap, subst, ◌∙◌, arith}
-use Rattle.rel_pointer.specs.Bytes.{word_count}
+use Rattle.std.proofs.Common.{◌≡◌, ℕ, Option, take, length, Some, sym, ap, subst, arith}
 use Rattle.ring_rule.specs.Ring.{Ring, Receiving}
 use Rattle.mq_ring.specs.Ends.{ReceivingEnd}
 use Rattle.mq_handle.specs.declared.answers.ReceiveAnswer.{ReceiveAnswer}
@@ -17,17 +16,17 @@ pub returns-in-Some-clause-answer : goal.returns-in-Some-clause-answer
 returns-in-Some-clause-answer c =
     let more = chosen_false _ _ c.loop-whole.whole c.loop-whole-test.true c.loop-whole.invariant.whole in
     let before : InHand c.loop-whole.rx.end.ring.max (before_of c.args.rx.now.end c.args.taken.words) c.args.rx.now.end.taken c.args.buffer.now c.args.taken.words c.args.taken.len =
-        subst (λ (r : Ring). InHand r.max (before_of c.args.rx.now.end c.args.taken.words) c.args.rx.now.end.taken c.args.buffer.now c.args.taken.words c.args.taken.len) (sym c.loop-whole.invariant.takes.ring) c.requires.hand in
+    subst (λ (r : Ring). InHand r.max (before_of c.args.rx.now.end c.args.taken.words) c.args.rx.now.end.taken c.args.buffer.now c.args.taken.words c.args.taken.len) (sym c.loop-whole.invariant.takes.ring) c.requires.hand in
     let same = same_whole _ _ _ _ _ _ _ _ _ _ before c.requires.unfinished c.loop-whole.invariant.hand more.0 in
     let found : Finds c.loop-whole.rx.end c.look_for_words-answer.new.rx.end c.look_for_words-answer.result.0.ready (Some c.in-Some.answer) =
-        subst (λ (a : Option ReceiveAnswer). Finds c.loop-whole.rx.end c.look_for_words-answer.new.rx.end c.look_for_words-answer.result.0.ready a) c.in-Some.is c.look_for_words-answer.ensures.found in
+    subst (λ (a : Option ReceiveAnswer). Finds c.loop-whole.rx.end c.look_for_words-answer.new.rx.end c.look_for_words-answer.result.0.ready a) c.in-Some.is c.look_for_words-answer.ensures.found in
     gives_on c.args.rx.now.end c.loop-whole.rx.end c.look_for_words-answer.new.rx.end c.look_for_words-answer.result.0.ready c.look_for_words-answer.result.0.len c.loop-whole.buffer c.in-Some.answer c.loop-whole.invariant.takes.turn same found
 
 pub returns-clause-hand : goal.returns-clause-hand
 returns-clause-hand c =
     let full = chosen_true _ _ c.loop-whole.whole c.loop-whole-test.false c.loop-whole.invariant.whole in
     let before : InHand c.loop-whole.rx.end.ring.max (before_of c.args.rx.now.end c.args.taken.words) c.args.rx.now.end.taken c.args.buffer.now c.args.taken.words c.args.taken.len =
-        subst (λ (r : Ring). InHand r.max (before_of c.args.rx.now.end c.args.taken.words) c.args.rx.now.end.taken c.args.buffer.now c.args.taken.words c.args.taken.len) (sym c.loop-whole.invariant.takes.ring) c.requires.hand in
+    subst (λ (r : Ring). InHand r.max (before_of c.args.rx.now.end c.args.taken.words) c.args.rx.now.end.taken c.args.buffer.now c.args.taken.words c.args.taken.len) (sym c.loop-whole.invariant.takes.ring) c.requires.hand in
     let room : length c.loop-whole.buffer ≡ c.loop-whole.rx.end.ring.max = omega (arith, c.loop-whole.auto.buffer, c.requires.room, ap (λ (r : Ring). r.max) c.loop-whole.invariant.takes.ring) in
     let m = came _ _ _ _ _ _ _ _ _ _ before c.requires.unfinished c.loop-whole.invariant.hand full room in
     let last : c.finish_taking.new.rx.end ≡ record c.loop-whole.rx.end { returned = c.finish_taking.new.rx.end.returned; turn = c.finish_taking.new.rx.end.turn } = ap (λ (o : ReceivingEnd). o.end) c.finish_taking.ensures.kept in
@@ -39,7 +38,7 @@ pub returns-clause-answer : goal.returns-clause-answer
 returns-clause-answer c =
     let full = chosen_true _ _ c.loop-whole.whole c.loop-whole-test.false c.loop-whole.invariant.whole in
     let before : InHand c.loop-whole.rx.end.ring.max (before_of c.args.rx.now.end c.args.taken.words) c.args.rx.now.end.taken c.args.buffer.now c.args.taken.words c.args.taken.len =
-        subst (λ (r : Ring). InHand r.max (before_of c.args.rx.now.end c.args.taken.words) c.args.rx.now.end.taken c.args.buffer.now c.args.taken.words c.args.taken.len) (sym c.loop-whole.invariant.takes.ring) c.requires.hand in
+    subst (λ (r : Ring). InHand r.max (before_of c.args.rx.now.end c.args.taken.words) c.args.rx.now.end.taken c.args.buffer.now c.args.taken.words c.args.taken.len) (sym c.loop-whole.invariant.takes.ring) c.requires.hand in
     let room : length c.loop-whole.buffer ≡ c.loop-whole.rx.end.ring.max = omega (arith, c.loop-whole.auto.buffer, c.requires.room, ap (λ (r : Ring). r.max) c.loop-whole.invariant.takes.ring) in
     let m = came _ _ _ _ _ _ _ _ _ _ before c.requires.unfinished c.loop-whole.invariant.hand full room in
     let last : c.finish_taking.new.rx.end ≡ record c.loop-whole.rx.end { returned = c.finish_taking.new.rx.end.returned; turn = c.finish_taking.new.rx.end.turn } = ap (λ (o : ReceivingEnd). o.end) c.finish_taking.ensures.kept in
@@ -62,5 +61,5 @@ none_asked Detached old new ready len room f = tt
 pub returns-in-Some-clause-place : goal.returns-in-Some-clause-place
 returns-in-Some-clause-place c =
     let found : Finds c.loop-whole.rx.end c.look_for_words-answer.new.rx.end c.look_for_words-answer.result.0.ready (Some c.in-Some.answer) =
-        subst (λ (a : Option ReceiveAnswer). Finds c.loop-whole.rx.end c.look_for_words-answer.new.rx.end c.look_for_words-answer.result.0.ready a) c.in-Some.is c.look_for_words-answer.ensures.found in
+    subst (λ (a : Option ReceiveAnswer). Finds c.loop-whole.rx.end c.look_for_words-answer.new.rx.end c.look_for_words-answer.result.0.ready a) c.in-Some.is c.look_for_words-answer.ensures.found in
     none_asked c.in-Some.answer c.loop-whole.rx.end c.look_for_words-answer.new.rx.end c.look_for_words-answer.result.0.ready c.look_for_words-answer.result.0.len (length c.loop-whole.buffer) found

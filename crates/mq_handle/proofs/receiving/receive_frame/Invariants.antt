@@ -1,4 +1,4 @@
-use Rattle.std.proofs.Common.{◌≡◌, ◌+◌, ◌-◌, ◌≤◌, ◌<◌, suc, length, MatchBool}
+use Rattle.std.proofs.Common.{◌≡◌, ◌-◌, suc, MatchBool}
 use Rattle.rel_pointer.specs.Bytes.{word_count}
 use Rattle.mq_handle.specs.Taking.{Ready, InHand, IsOpen, Takes, before_of}
 use Rattle.mq_handle.proofs.receiving.receive_frame.Given as goal

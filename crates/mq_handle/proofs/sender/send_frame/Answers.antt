@@ -1,13 +1,12 @@
-use Rattle.std.proofs.Common.{◌≡◌, ℕ, ◌+◌, ◌-◌, ◌<◌, ◌≤◌, Bool, true, false, List, ◌∷◌, [], ◌++◌, length, take, MatchBool, refl, sym, ap, subst, ◌∙◌, arith}
+use Rattle.std.proofs.Common.{◌≡◌, ℕ, ◌++◌, length, take, refl, sym, ap, subst, ◌∙◌, arith}
 use Rattle.ring_rule.specs.Frames.{frame, IsFramed, IsMessage}
-use Rattle.ring_rule.specs.Ring.{Ring, Sending, flag_word}
+use Rattle.ring_rule.specs.Ring.{Sending}
 use Rattle.ring_rule.specs.Ends.{sender_sees_flag}
 use Rattle.mq_ring.specs.Ends.{SendingEnd}
-use Rattle.mq_handle.specs.Held.{Counted, InFrames}
+use Rattle.mq_handle.specs.Held.{InFrames}
 use Rattle.mq_handle.specs.Filling.{base_of, Fills, IsFull}
 use Rattle.mq_handle.specs.Sends.{IsSent}
-use Rattle.mq_handle.proofs.Filling.{length-frame}
-use Rattle.mq_handle.proofs.Sends.{Begun, begun, all_there, part_there, blocked_is, sent_is, in_frames, all_bytes, chosen_true, chosen_false}
+use Rattle.mq_handle.proofs.Sends.{begun, all_there, part_there, blocked_is, sent_is, in_frames, all_bytes, chosen_true, chosen_false}
 use Rattle.mq_handle.proofs.sender.send_frame.Goals as goal
 
 pub fill-done-requires-clause-stored : goal.fill-done-requires-clause-stored
@@ -56,7 +55,7 @@ returns-clause-answer c =
     let end : c.look_flag.new.self.end ≡ sender_sees_flag c.args.tx.now.end 0 = ap (λ (o : SendingEnd). o.end) c.if-look_flag.ensures.end in
     let put = c.fill-done.ensures.put ∙ ap (λ (s : Sending). base_of s c.args.counts.stored ++ take c.fill-done.result.0.stored (frame c.args.message.now)) end in
     let last : c.finish-counts.new.tx.end ≡ record c.fill-done.new.tx.end { published = c.finish-counts.new.tx.end.published; turn = c.finish-counts.new.tx.end.turn } =
-        ap (λ (o : SendingEnd). o.end) c.finish-counts.ensures.kept in
+    ap (λ (o : SendingEnd). o.end) c.finish-counts.ensures.kept in
     subst (λ (s : Sending). IsSent c.args.tx.now.end s c.args.message.now c.args.flush) (sym last)
     (sent_is c.args.tx.now.end c.fill-done.new.tx.end c.args.counts.stored c.fill-done.result.0.stored c.finish-counts.new.tx.end.published c.finish-counts.new.tx.end.turn c.args.message.now c.args.flush b
     (subst (λ (s : Sending). Fills s c.fill-done.new.tx.end (length (base_of s c.args.counts.stored ++ frame c.args.message.now))) end c.fill-done.ensures.fills) put all c.finish-counts.ensures.published)
@@ -69,7 +68,7 @@ returns-clause-framed c =
     let end : c.look_flag.new.self.end ≡ sender_sees_flag c.args.tx.now.end 0 = ap (λ (o : SendingEnd). o.end) c.if-look_flag.ensures.end in
     let put = c.fill-done.ensures.put ∙ ap (λ (s : Sending). base_of s c.args.counts.stored ++ take c.fill-done.result.0.stored (frame c.args.message.now)) end in
     let last : c.finish-counts.new.tx.end ≡ record c.fill-done.new.tx.end { published = c.finish-counts.new.tx.end.published; turn = c.finish-counts.new.tx.end.turn } =
-        ap (λ (o : SendingEnd). o.end) c.finish-counts.ensures.kept in
+    ap (λ (o : SendingEnd). o.end) c.finish-counts.ensures.kept in
     subst (λ (k : ℕ). InFrames c.finish-counts.new.tx.end.ring.max c.finish-counts.new.tx.end.put k) (sym c.finish-counts.ensures.stored)
     (in_frames c.args.tx.now.end c.finish-counts.new.tx.end 0 _ (ap (λ (s : Sending). s.ring) last ∙ c.fill-done.ensures.fills.ring ∙ ap (λ (s : Sending). s.ring) end) (ap (λ (s : Sending). s.put) last ∙ put)
     (all_there c.args.tx.now.end c.args.counts.stored c.args.message.now _ c.fill-done.result.0.stored b refl all).framed)

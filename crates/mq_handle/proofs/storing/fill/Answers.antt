@@ -1,4 +1,4 @@
-use Rattle.std.proofs.Common.{◌≡◌, ℕ, ◌+◌, ◌-◌, ◌<◌, ◌≤◌, List, ◌∷◌, [], ◌++◌, length, take, sym, ap, subst, ◌∙◌, arith}
+use Rattle.std.proofs.Common.{◌≡◌, ℕ, ◌+◌, ◌-◌, ◌<◌, List, ◌∷◌, [], ◌++◌, length, take, sym, ap, subst, ◌∙◌, arith}
 use Rattle.ring_rule.specs.Frames.{frame, IsFramed}
 use Rattle.ring_rule.specs.Ring.{Ring, Sending}
 use Rattle.ring_rule.specs.Ends.{puts}
@@ -37,7 +37,7 @@ put-requires-clause-framed c =
     let less = less_put _ _ _ c.loop-counts.counts.stored c.loop-counts.invariant.put (omega (arith, c.loop-counts-test.true, c.words_of-total.ensures)) in
     let l = looked _ _ _ _ _ _ _ _ c.loop-counts.invariant.fills c.loop-counts.invariant.counted less c.look_for_room-counts.ensures.looks in
     let here : Here (base_of c.args.tx.now.end c.args.counts.stored) (frame c.args.message.now) c.look_for_room-counts.new.tx.end.put c.look_for_room-counts.result.stored =
-        l.1 ∙ c.loop-counts.invariant.put ∙ ap (λ (k : ℕ). base_of c.args.tx.now.end c.args.counts.stored ++ take k (frame c.args.message.now)) (sym c.look_for_room-counts.ensures.stored) in
+    l.1 ∙ c.loop-counts.invariant.put ∙ ap (λ (k : ℕ). base_of c.args.tx.now.end c.args.counts.stored ++ take k (frame c.args.message.now)) (sym c.look_for_room-counts.ensures.stored) in
     subst (λ (r : Ring). IsFramed r.max (c.look_for_room-counts.new.tx.end.put ++ (c.frame_word.result ∷ []))) (sym l.0.ring)
     (put_framed _ _ _ _ c.look_for_room-counts.result.stored _ c.requires.framed low c.frame_word.ensures here)
 
@@ -51,7 +51,7 @@ loop-counts-preserved c =
     let less = less_put _ _ _ c.loop-counts.counts.stored c.loop-counts.invariant.put (omega (arith, c.loop-counts-test.true, c.words_of-total.ensures)) in
     let l = looked _ _ _ _ _ _ _ _ c.loop-counts.invariant.fills c.loop-counts.invariant.counted less c.look_for_room-counts.ensures.looks in
     let here : Here (base_of c.args.tx.now.end c.args.counts.stored) (frame c.args.message.now) c.look_for_room-counts.new.tx.end.put c.look_for_room-counts.result.stored =
-        l.1 ∙ c.loop-counts.invariant.put ∙ ap (λ (k : ℕ). base_of c.args.tx.now.end c.args.counts.stored ++ take k (frame c.args.message.now)) (sym c.look_for_room-counts.ensures.stored) in
+    l.1 ∙ c.loop-counts.invariant.put ∙ ap (λ (k : ℕ). base_of c.args.tx.now.end c.args.counts.stored ++ take k (frame c.args.message.now)) (sym c.look_for_room-counts.ensures.stored) in
     let end : c.put.new.self.end ≡ puts c.look_for_room-counts.new.tx.end c.frame_word.result = ap (λ (o : SendingEnd). o.end) c.put.ensures in
     record {
       kept = only_on c.args.tx.now c.look_for_room-counts.new.tx c.put.new.self (only_on c.args.tx.now c.loop-counts.tx c.look_for_room-counts.new.tx c.loop-counts.invariant.kept c.look_for_room-counts.ensures.kept) (only_is c.look_for_room-counts.new.tx c.put.new.self _ c.put.ensures);

@@ -1,6 +1,5 @@
-use Rattle.std.proofs.Common.{◌≡◌, ℕ, suc, ◌+◌, ◌<◌, List, sym, ap, subst, ◌∙◌, arith}
-use Rattle.rel_pointer.specs.Bytes.{word_count}
-use Rattle.mq_handle.specs.Taking.{InHand, before_of}
+use Rattle.std.proofs.Common.{ℕ, List, subst, arith}
+use Rattle.mq_handle.specs.Taking.{InHand}
 use Rattle.mq_handle.proofs.Hands.{base_same, hand_open, takes_on, only_on}
 use Rattle.mq_handle.proofs.taking.take_words.Goals as goal
 

@@ -1,4 +1,4 @@
-use Rattle.std.proofs.Common.{◌≡◌, ◌+◌, ◌≤◌, ◌<◌, length}
+use Rattle.std.proofs.Common.{◌≡◌, ◌+◌, ◌≤◌}
 use Rattle.mq_handle.specs.Taking.{Ready, InHand, IsOpen, Takes, before_of}
 use Rattle.mq_handle.proofs.taking.take_words.Given as goal
 
