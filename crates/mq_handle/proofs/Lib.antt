@@ -4,3 +4,4 @@ pub mod Filling
 pub mod Sends
 pub mod Hands
 pub mod Receipts
+pub mod Uses

@@ -20,6 +20,8 @@ mod receiving;
 mod sender;
 mod storing;
 mod taking;
+#[cfg(test)]
+mod tests;
 mod waiting;
 
 pub use answers::{ReceiveAnswer, ReceiveDone, SendAnswer, SendDone};

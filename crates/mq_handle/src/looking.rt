@@ -35,9 +35,21 @@ pub(crate) fn look_for_words(
         };
         return (taken, Some(ReceiveAnswer::WouldBlock));
     }
-    let ready = rx.look_written(r);
-    if ready > 0 {
-        return (Taken { ready, ..taken }, None);
+    let last = rx.look_written(r);
+    if last > 0 {
+        return (
+            Taken {
+                ready: last,
+                ..taken
+            },
+            None,
+        );
     }
-    (Taken { ready, ..taken }, Some(ReceiveAnswer::Detached))
+    (
+        Taken {
+            ready: last,
+            ..taken
+        },
+        Some(ReceiveAnswer::Detached),
+    )
 }
