@@ -1,0 +1,70 @@
+//! Two threads that add a thousand times each, and a part that goes into a drawer and comes out, run.
+ghost use Rattle.std.specs.Prelude.{◌≡◌, ◌<◌, IfOk, Some};
+ghost use mathlib.Core.Option.{some};
+ghost use lib.ListN.{get_elem?};
+ghost use Rattle.word_map.specs.WordMap.{at as word_at};
+ghost use Rattle.lock_book.specs.Shown.{Belongs, count_of, opens_of};
+
+use crate::{Numbered, Tag, added_by_two, put_in, take_out};
+use lock_book::{Pass, Shelf};
+use region_words::{Part, Region};
+use std::alloc::{AllocError, Global};
+use std::test::Fail;
+
+// The tag of the drawers here.
+struct Nine;
+
+impl Tag for Nine {
+    ghost tag = { 9 };
+
+    fn tag() -> u64 {
+        9
+    }
+}
+
+#[test]
+fn two_threads_add_a_thousand_times_each(rt: HostRuntime) -> Result<(), Fail> {
+    assert_eq!(rt; added_by_two(&rt, rt.alloc(), 1000)?, 2000);
+    Ok(())
+}
+
+// A region of 8 words, a part of it, and the part of its word 1, which has 77.
+fn with_77(alloc: Global) -> Result<(Region, Part, Part), AllocError>
+    ensures base { IfOk result (λ r. r.1.region ≡ r.0) }
+    ensures one { IfOk result (λ r. (r.2.region ≡ r.0) × (word_at r.2.words 1 ≡ Some 77)) }
+{
+    let (region, mut base) = Region::new(alloc, 8)?;
+    let mut one = base.split(&region, 1, 1);
+    one.store(&region, 1, 77);
+    Ok((region, base, one))
+}
+
+// A shelf of one drawer, for parts of the region that own the word 1.
+fn one_drawer(
+    alloc: Global,
+    base: Part,
+) -> Result<(Shelf<Numbered<Nine>>, Pass<Numbered<Nine>>), AllocError>
+    ensures own { IfOk result (λ r. Belongs r.0 r.1 × (0 < count_of r.0)) }
+    ensures name { IfOk result (λ r. (o : _) → get_elem? (opens_of r.0) 0 ≡ some o → (o.0.region ≡ base.region) × (o.0.at ≡ 1)) }
+{
+    let mut drawers = Vec::new(alloc);
+    drawers.push(Numbered::new(0, base, 1))?;
+    let (shelf, mut passes) = Shelf::new(alloc, drawers, 1)?;
+    let Some(pass) = passes.pop() else {
+        unreachable!()
+    };
+    Ok((shelf, pass))
+}
+
+#[test]
+fn a_part_goes_in_and_comes_out(rt: HostRuntime) -> Result<(), Fail> {
+    let (region, base, one) = with_77(rt.alloc())?;
+    let (shelf, mut pass) = one_drawer(rt.alloc(), base)?;
+    let back = put_in(&rt, &region, &shelf, &mut pass, one, 1);
+    assert!(rt; back.is_none());
+    let taken = take_out(&rt, &region, &shelf, &mut pass, 1).expect(&rt, "a part");
+    assert_eq!(rt; taken.1, 77);
+    let none = take_out(&rt, &region, &shelf, &mut pass, 1);
+    assert!(rt; none.is_none());
+    Ok(())
+}

@@ -1,0 +1,4 @@
+pub mod AllRecords
+pub mod Filled
+pub mod Groups
+pub mod Magnitudes

@@ -1,0 +1,4 @@
+pub mod Magnitude
+pub mod Records
+pub mod Store
+pub mod Turns

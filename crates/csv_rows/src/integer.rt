@@ -1,0 +1,95 @@
+//! Which fields are integers: decimal digits after an optional sign, with spaces at either end.
+//!
+//! A field is read as it stands, with no copy and no test of its text: a byte that is no digit, as
+//! each byte of a character beyond ASCII, makes it no integer.
+
+ghost use Rattle.std.specs.Prelude.{◌≡◌, ◌≤◌, ◌^◌, IfSome, length};
+ghost use Rattle.std.specs.List.{prefix_len, suffix_len};
+ghost use Rattle.std.specs.Str.Parse.{starts_with_minus, without_leading_sign};
+ghost use Rattle.par_model.specs.Integer.{integer_of, is_space, number_of, without_spaces};
+ghost use Rattle.csv_rows.specs.Magnitude.{magnitude_of, with_sign};
+
+// The size of the least number of 64 signed bits.
+const LARGEST: u64 = 0x8000_0000_0000_0000;
+
+/// The integer of a field, if it is one: any number of spaces, an optional `+` or `-`, one or more
+/// ASCII digits, any number of spaces, with a value of 64 signed bits. It reads each byte once.
+pub fn read_integer(field: &[u8]) -> Option<i64>
+    ensures { result ≡ integer_of field.now }
+{
+    number(trimmed(field))
+}
+
+// The bytes between the spaces at either end.
+fn trimmed(field: &[u8]) -> &[u8]
+    ensures { result.now ≡ without_spaces field.now }
+{
+    let start = spaces_before(field);
+    let end = field.len() - spaces_after(field);
+    if start > end {
+        return &[];
+    }
+    &field[start..end]
+}
+
+fn spaces_before(field: &[u8]) -> usize
+    ensures { result ≡ prefix_len is_space field.now }
+{
+    field.iter().take_while(|byte| **byte == b' ').count()
+}
+
+fn spaces_after(field: &[u8]) -> usize
+    ensures count { result ≡ suffix_len is_space field.now }
+    ensures within { result ≤ length field.now }
+{
+    field.iter().rev().take_while(|byte| **byte == b' ').count()
+}
+
+// The number that a sign and digits write.
+fn number(text: &[u8]) -> Option<i64>
+    ensures { result ≡ number_of text.now }
+{
+    let (is_minus, digits) = split_sign(text);
+    signed(is_minus, digits)
+}
+
+// Whether a text begins with a minus, and what comes after its sign.
+fn split_sign(text: &[u8]) -> (bool, &[u8])
+    ensures is_minus { result.0 ≡ starts_with_minus text.now }
+    ensures digits { result.1.now ≡ without_leading_sign text.now }
+{
+    match text {
+        [b'-', digits @ ..] => (true, digits),
+        [b'+', digits @ ..] => (false, digits),
+        digits => (false, digits),
+    }
+}
+
+// The number of 64 signed bits that digits write after a sign.
+fn signed(is_minus: bool, digits: &[u8]) -> Option<i64>
+    ensures { result ≡ with_sign is_minus (magnitude_of digits.now) }
+{
+    let size = magnitude(digits)?;
+    if !is_minus {
+        return i64::try_from(size).ok();
+    }
+    if size == LARGEST {
+        return Some(i64::MIN);
+    }
+    Some(-(size as i64))
+}
+
+// The number that digits write, if there are digits and nothing else, and it is at most 2^63.
+fn magnitude(digits: &[u8]) -> Option<u64>
+    ensures value { result ≡ magnitude_of digits.now }
+    ensures within { IfSome result (λ size. size ≤ 2 ^ 63) }
+{
+    let mut value: u64 = 0;
+    'digits: for digit in digits {
+        if !digit.is_ascii_digit() || value > LARGEST / 10 {
+            return None;
+        }
+        value = value * 10 + u64::from(*digit - b'0');
+    }
+    (!digits.is_empty() && value <= LARGEST).then_some(value)
+}

@@ -1,0 +1,12 @@
+pub mod Laid
+pub mod Lists
+pub mod Stores
+pub mod Best
+pub mod Keys
+pub mod Grants
+pub mod Blank
+pub mod Gives
+pub mod News
+pub mod Apart
+pub mod Offers
+pub mod AreaWords

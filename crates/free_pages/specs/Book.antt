@@ -1,0 +1,72 @@
+-- The pages of an area as a value, and what its parts own.
+use Rattle.std.specs.Prelude.{◌≡◌, ℕ, ◌+◌, ◌*◌, ◌-◌, ◌/◌, ◌<◌, ◌≤◌, Bool, true, false, not, ◌&&◌, List, Option, Some, None, is_some, refl}
+use Rattle.std.specs.Coded.{Coded, code_by, coded×, coded_ℕ, coded_bool, coded_list}
+use Rattle.atomic_table.specs.Seated.{TableId, table_id_coded}
+use Rattle.word_map.specs.WordMap.{WordMap, at, is_within, range_of, rest_of, union}
+use Rattle.region_words.specs.Parts.{Owned, owned}
+use Rattle.free_pages.specs.Area.{front, HasRecords}
+use Rattle.free_pages.specs.Legal.{Granted, PagesState, is_taken, is_recorded}
+use Rattle.free_pages.specs.Runs.{IsRuns, granted_in}
+
+-- the region, the first word of page 0, and the state
+pub record Book : Type 0 where
+  pub region : TableId
+  pub first : ℕ
+  pub state : PagesState
+
+abbrev pub book : TableId → ℕ → ℕ → List Granted → Book
+book region first pages granted = record { region = region; first = first; state = record { pages = pages; granted = granted } }
+
+-- the code by which proofs tell such values apart
+abbrev pub granted_code : Coded Granted
+granted_code = code_by (ℕ × (ℕ × Bool)) (coded× coded_ℕ (coded× coded_ℕ coded_bool)) (λ g. (g.from, (g.len, g.control))) (λ p. record { from = p.0; len = p.1.0; control = p.1.1 }) (λ _. refl)
+
+-- the code by which proofs tell such values apart
+abbrev pub book_code : Coded Book
+book_code = code_by (TableId × (ℕ × (ℕ × List Granted))) (coded× table_id_coded (coded× coded_ℕ (coded× coded_ℕ (coded_list granted_code))))
+    (λ b. (b.region, (b.first, (b.state.pages, b.state.granted)))) (λ p. book p.0 p.1.0 p.1.1.0 p.1.1.1) (λ _. refl)
+
+-- m has just the words of the pages that are not out, `unit` words for each page from the word `from`
+abbrev pub HasKept : WordMap → ℕ → ℕ → ℕ → (ℕ → Bool) → Type 0
+HasKept m from unit pages out = (k : ℕ) → is_some (at m k) ≡ (is_within from (unit * pages) k && not (out ((k - from) / unit)))
+
+-- The parts of `Pages`: `runs` has the 64 words at the head and the run words, for good; `words` has the words of the pages that are not
+-- granted; `records` has the control records that are not out with a run
+pub record IsPages (first pages heads : ℕ) (runs words records : Owned) : Type 0 where
+  pub words_here : words.region ≡ runs.region
+  pub records_here : records.region ≡ runs.region
+  pub place : heads + front pages ≡ first
+  pub valid : 0 < first
+  pub low : first + 512 * pages ≤ 67108864
+  pub runs_are : IsRuns runs.words heads pages
+  pub keeps : HasKept words.words first 512 pages (is_taken (granted_in runs.words heads pages))
+  pub keeps_records : HasKept records.words (heads + pages) 7 pages (is_recorded (granted_in runs.words heads pages))
+
+-- the tokens of a run of n pages of the book: its control records are those of its pages, or did not go with them
+pub record IsRunOf (b : Book) (n : ℕ) (control : Bool) (place pages : ℕ) (words : Owned) (records : Option Owned) : Type 0 where
+  pub from : ℕ
+  pub place_is : place ≡ b.first + 512 * from
+  pub inside : from + n ≤ b.state.pages
+  pub pages_is : pages ≡ n
+  pub here : words.region ≡ b.region
+  pub records_are : HasRecords b.region b.first b.state.pages from n control records
+
+-- the tokens of a run that may be offered: where its place is that of pages of the book, the control records with it are those of its pages
+pub record MayGive (b : Book) (place pages : ℕ) (words : Owned) (records : Option Owned) : Type 0 where
+  pub here : words.region ≡ b.region
+  pub records_are : (from : ℕ) → place ≡ b.first + 512 * from → from + pages ≤ b.state.pages → HasRecords b.region b.first b.state.pages from pages (is_some records) records
+
+-- a range is split off a part, where `control` is true
+abbrev pub SplitsOff : Bool → Owned → Owned → Option Owned → ℕ → ℕ → Type 0
+SplitsOff true before after out from len = (after ≡ owned before.region (rest_of before.words from len)) × (out ≡ Some (owned before.region (range_of before.words from len)))
+SplitsOff false before after out from len = (after ≡ before) × (out ≡ None)
+
+-- a part takes in another one, where there is one
+abbrev pub JoinsBack : Owned → Owned → Option Owned → Type 0
+JoinsBack before after (Some o) = after ≡ owned before.region (union before.words o.words)
+JoinsBack before after None = after ≡ before
+
+-- a range that may be split off is there
+abbrev pub MaySplit : Bool → Owned → ℕ → ℕ → Type 0
+MaySplit true o from len = (k : ℕ) → from ≤ k → k < from + len → is_some (at o.words k) ≡ true
+MaySplit false o from len = Unit {0}

@@ -1,0 +1,4 @@
+pub mod Area
+pub mod Runs
+pub mod Legal
+pub mod Book

@@ -1,0 +1,228 @@
+//! The pages of an area: which runs of them are granted, and the words of those that are not.
+//!
+//! `Pages` owns the 64 words at the head of the area and the run words for good, and the words and the control records of each page
+//! that is not granted. Nobody else changes a run word. A granted run takes the words of its pages with it, and its control records
+//! where they are asked for; `give` takes the same tokens back. What the parts own is `IsPages` of `specs/Book.antt`: one equation for
+//! each word, whether it is kept. What the calls answer is `IsLegal` of `specs/Legal.antt`.
+ghost use Rattle.std.specs.Prelude.{◌≡◌, ℕ, ◌+◌, ◌*◌, ◌-◌, ◌/◌, ◌<◌, ◌≤◌, ◌^◌, [], ◌≢◌, MatchResult, IfOk, IfErr, Some, IfSome, IsSome, is_some};
+ghost use Rattle.word_map.specs.WordMap.{at as word_at, HasJust};
+ghost use Rattle.free_pages.specs.Area.{front};
+ghost use Rattle.free_pages.specs.Legal.{IsLargest, IsLegal, Take, Give, Gets, Lacks, Accepts, HandsBack};
+ghost use Rattle.free_pages.specs.Runs.{IsRuns, granted_in};
+ghost use Rattle.free_pages.specs.Book.{book, IsRunOf, MayGive, SplitsOff, JoinsBack, MaySplit};
+
+use crate::walk::{grant, release, seek};
+use region_words::{Part, Region, Run};
+use rel_pointer::RelPtr;
+use std::marker::Model;
+
+/// There are not as many pages in a row that are not granted: the pages that were wanted, and those of the longest run that is free.
+#[derive(Drop)]
+pub struct NoRun {
+    pub wanted: u32,
+    pub largest: u32,
+}
+
+/// The pages of an area. Contracts see the region, the first word of page 0, how many pages there are, and the granted runs.
+#[derive(Drop)]
+pub struct Pages {
+    first: u64,
+    pages: u64,
+    heads: u64,
+    runs: Part,
+    words: Part,
+    records: Part,
+}
+
+impl Model for Pages {
+    ghost use Rattle.free_pages.specs.Runs.{granted_in};
+    ghost use Rattle.free_pages.specs.Book.{Book, book_code, book, IsPages};
+
+    ghost Value = { Book };
+
+    ghost coded = { book_code };
+
+    ghost view = { λ p. book p.runs.region p.first p.pages (granted_in p.runs.words p.heads p.pages) };
+
+    ghost invariant = { λ p. IsPages p.first p.pages p.heads p.runs p.words p.records };
+}
+
+impl Pages {
+    /// The pages of an area whose page 0 begins at `first`, all free. `words` is the pages' words; `control` is the first
+    /// `64 + 8 * pages` words of the area, whatever they hold. Writes each run word once.
+    pub fn new(r: &Region, first: RelPtr, pages: u32, words: Part, control: Part) -> Pages
+        requires here { (words.region ≡ r.now) × (control.region ≡ r.now) }
+        requires place { (64 + front pages ≤ first) × (first + 512 * pages ≤ 2 ^ 26) }
+        requires words { HasJust words.words first (512 * pages) }
+        requires control { HasJust control.words (first - front pages - 64) (64 + 8 * pages) }
+        ensures { result ≡ book r.now first pages [] }
+    {
+        Pages::laid_out(r, first.word(), u64::from(pages), words, control)
+    }
+
+    fn laid_out(r: &Region, first: u64, pages: u64, words: Part, control: Part) -> Pages
+        requires here { (words.region ≡ r.now) × (control.region ≡ r.now) }
+        requires place { (64 + front pages ≤ first) × (first + 512 * pages ≤ 2 ^ 26) }
+        requires words { HasJust words.words first (512 * pages) }
+        requires control { HasJust control.words (first - front pages - 64) (64 + 8 * pages) }
+        ensures { result ≡ book r.now first pages [] }
+    {
+        let heads = first - (8 * pages + 36 * ((pages + 63) / 64));
+        let mut runs = control;
+        let records = runs.split(r, heads + pages, 7 * pages);
+        runs.store(r, heads - 64, pages);
+        blank(&mut runs, r, heads, pages);
+        Pages {
+            first,
+            pages,
+            heads,
+            runs,
+            words,
+            records,
+        }
+    }
+
+    /// Any `n` pages in a row that are free, with their control records where `control` is true. Walks from run to run, from page 0 to
+    /// the first free run of `n` pages, and makes one of the free runs that touch on its way.
+    pub fn take(&mut self, r: &Region, n: u32, control: bool) -> Result<Run, NoRun>
+        requires here { self.old.region ≡ r.now }
+        requires some { 1 ≤ n }
+        ensures same { self.new ≡ record self.old { state = self.new.state } }
+        ensures taken { IfOk result (λ run. IsLegal self.old.first self.old.state (Take n control) (Gets run.at) self.new.state) }
+        ensures run { IfOk result (λ run. IsRunOf self.old n control run.at run.pages run.words run.control) }
+        ensures refused { IfErr result (λ no. IsLegal self.old.first self.old.state (Take n control) (Lacks no.wanted no.largest) self.new.state) }
+    {
+        let count = u64::from(n);
+        let (at, len) = seek(&mut self.runs, r, self.heads, self.pages, count);
+        if at >= self.pages {
+            return Err(NoRun {
+                wanted: n,
+                largest: len as u32,
+            });
+        }
+        grant(
+            &mut self.runs,
+            r,
+            self.heads,
+            self.pages,
+            at,
+            count,
+            len,
+            control,
+        );
+        let place = self.first + 512 * at;
+        let words = self.words.split(r, place, 512 * count);
+        let from = self.heads + self.pages + 7 * at;
+        let control = split_off(&mut self.records, r, from, 7 * count, control);
+        Ok(Run {
+            at: RelPtr::of(place),
+            pages: n,
+            words,
+            control,
+        })
+    }
+
+    /// Takes a granted run back. Hands it back where no granted run has its first page, its length and its records or lack of them.
+    /// Looks at one run word.
+    pub fn give(&mut self, r: &Region, run: Run) -> Result<(), Run>
+        requires here { self.old.region ≡ r.now }
+        requires run { MayGive self.old run.at run.pages run.words run.control }
+        ensures same { self.new ≡ record self.old { state = self.new.state } }
+        ensures given { IfOk result (λ _. IsLegal self.old.first self.old.state (Give run.at run.pages (is_some run.control)) Accepts self.new.state) }
+        ensures refused { IfErr result (λ back. IsLegal self.old.first self.old.state (Give run.at run.pages (is_some run.control)) HandsBack self.new.state) }
+        ensures back { IfErr result (λ back. back ≡ run) }
+    {
+        let at = page_of(self.first, self.pages, run.at.word());
+        if at >= self.pages {
+            return Err(run);
+        }
+        let count = u64::from(run.pages);
+        let control = run.control.is_some();
+        if !release(
+            &mut self.runs,
+            r,
+            self.heads,
+            self.pages,
+            at,
+            count,
+            control,
+        ) {
+            return Err(run);
+        }
+        let Run {
+            at: _,
+            pages: _,
+            words,
+            control,
+        } = run;
+        self.words.join(r, words);
+        join_back(&mut self.records, r, control);
+        Ok(())
+    }
+
+    /// The pages of the longest run that is free; 0 where no page is. Walks once over all runs.
+    pub fn largest(&mut self, r: &Region) -> u32
+        requires here { self.old.region ≡ r.now }
+        ensures same { self.new ≡ self.old }
+        ensures largest { IsLargest self.old.state.pages self.old.state.granted result }
+    {
+        let (_, len) = seek(&mut self.runs, r, self.heads, self.pages, self.pages + 1);
+        len as u32
+    }
+}
+
+/// One free run of all pages.
+fn blank(runs: &mut Part, r: &Region, heads: u64, pages: u64)
+    requires here { runs.old.region ≡ r.now }
+    requires small { heads + pages < 2 ^ 27 }
+    requires owns { (p : ℕ) → p < pages → IsSome (word_at runs.old.words (heads + p)) }
+    ensures region { runs.new.region ≡ runs.old.region }
+    ensures runs { IsRuns runs.new.words heads pages }
+    ensures granted { granted_in runs.new.words heads pages ≡ [] }
+{
+    if pages == 0 {
+        return;
+    }
+    for p in 0..pages {
+        runs.store(r, heads + p, 0);
+    }
+    runs.store(r, heads, 4 * pages);
+}
+
+fn split_off(records: &mut Part, r: &Region, from: u64, len: u64, control: bool) -> Option<Part>
+    requires here { records.old.region ≡ r.now }
+    requires owns { MaySplit control records.old from len }
+    ensures { SplitsOff control records.old records.new result from len }
+{
+    if control {
+        Some(records.split(r, from, len))
+    } else {
+        None
+    }
+}
+
+fn join_back(records: &mut Part, r: &Region, control: Option<Part>)
+    requires here { records.old.region ≡ r.now }
+    requires there { IfSome control (λ o. o.region ≡ r.now) }
+    ensures { JoinsBack records.old records.new control }
+{
+    if let Some(control) = control {
+        records.join(r, control);
+    }
+}
+
+/// The page that begins at a place, or `pages`.
+fn page_of(first: u64, pages: u64, place: u64) -> u64
+    requires { first + 512 * pages < 2 ^ 64 }
+    ensures found { result < pages → place ≡ first + 512 * result }
+    ensures none { pages ≤ result → (from : ℕ) → from < pages → place ≢ first + 512 * from }
+{
+    if place < first {
+        return pages;
+    }
+    let at = (place - first) / 512;
+    if at >= pages || place != first + 512 * at {
+        return pages;
+    }
+    at
+}

@@ -1,0 +1,179 @@
+//! The run words: how runs of pages are found, cut, marked and joined. `heads` is the place of page 0's run word.
+//!
+//! Each function keeps `IsRuns`: the run words part the pages into runs. Only `grant` and `release` change which runs are granted.
+ghost use Rattle.std.specs.Prelude.{◌≡◌, ℕ, ◌+◌, ◌*◌, ◌/◌, ◌%◌, ◌<◌, ◌≤◌, ◌^◌, ◌⊎◌, IsSome, Some, ◌==◌, cond, MatchBool, List};
+ghost use Rattle.word_map.specs.WordMap.{at as word_at};
+ghost use Rattle.free_pages.specs.Legal.{IsFree, IsLargest, Adds, Granted};
+ghost use Rattle.free_pages.specs.Runs.{IsRuns, granted_in, granted_at, run_word};
+
+use region_words::{Part, Region};
+
+/// The run of page `at` takes in the free run of page `next`, which follows it.
+fn fuse(runs: &mut Part, r: &Region, heads: u64, pages: u64, at: u64, next: u64, len: u64)
+    requires here { runs.old.region ≡ r.now }
+    requires small { heads + pages < 2 ^ 27 }
+    requires runs { IsRuns runs.old.words heads pages }
+    requires first { (0 < len) × (at + len ≡ next) × (run_word runs.old.words heads at ≡ 4 * len) }
+    requires second { (next < pages) × (run_word runs.old.words heads next % 4 ≡ 0) }
+    ensures region { runs.new.region ≡ runs.old.region }
+    ensures runs { IsRuns runs.new.words heads pages }
+    ensures granted { granted_in runs.new.words heads pages ≡ granted_in runs.old.words heads pages }
+    ensures longer { run_word runs.new.words heads at ≡ 4 * (len + run_word runs.old.words heads next / 4) }
+{
+    let more = runs.load(r, heads + next) / 4;
+    runs.store(r, heads + next, 0);
+    runs.store(r, heads + at, 4 * (len + more));
+}
+
+/// The free run of page `at` takes in all free runs that follow it. Gives its pages.
+fn gather(runs: &mut Part, r: &Region, heads: u64, pages: u64, at: u64) -> u64
+    requires here { runs.old.region ≡ r.now }
+    requires small { heads + pages < 2 ^ 27 }
+    requires runs { IsRuns runs.old.words heads pages }
+    requires free { (at < pages) × (0 < run_word runs.old.words heads at) × (run_word runs.old.words heads at % 4 ≡ 0) }
+    ensures region { runs.new.region ≡ runs.old.region }
+    ensures runs { IsRuns runs.new.words heads pages }
+    ensures granted { granted_in runs.new.words heads pages ≡ granted_in runs.old.words heads pages }
+    ensures free { (0 < result) × (at + result ≤ pages) × (run_word runs.new.words heads at ≡ 4 * result) }
+    ensures ends { at + result < pages → 0 < run_word runs.new.words heads (at + result) % 4 }
+{
+    let mut len = runs.load(r, heads + at) / 4;
+    while at + len < pages {
+        let word = runs.load(r, heads + (at + len));
+        if word % 4 != 0 {
+            return len;
+        }
+        fuse(runs, r, heads, pages, at, at + len, len);
+        len += word / 4;
+    }
+    len
+}
+
+fn larger(a: u64, b: u64) -> u64
+    ensures { (a ≤ result) × (b ≤ result) × ((result ≡ a) ⊎ (result ≡ b)) }
+{
+    if a < b { b } else { a }
+}
+
+/// The page of the first free run of `n` pages and its pages, or `pages` and the longest run's.
+pub(crate) fn seek(runs: &mut Part, r: &Region, heads: u64, pages: u64, n: u64) -> (u64, u64)
+    requires here { runs.old.region ≡ r.now }
+    requires small { heads + pages < 2 ^ 27 }
+    requires runs { IsRuns runs.old.words heads pages }
+    requires some { 0 < n }
+    ensures region { runs.new.region ≡ runs.old.region }
+    ensures runs { IsRuns runs.new.words heads pages }
+    ensures granted { granted_in runs.new.words heads pages ≡ granted_in runs.old.words heads pages }
+    ensures within { (result.0 ≤ pages) × (result.1 ≤ pages) }
+    ensures found { result.0 < pages → (n ≤ result.1) × (run_word runs.new.words heads result.0 ≡ 4 * result.1) }
+    ensures none { pages ≤ result.0 → (result.1 < n) × IsLargest pages (granted_in runs.old.words heads pages) result.1 }
+{
+    let mut best = 0;
+    let mut at = 0;
+    while at < pages {
+        let word = runs.load(r, heads + at);
+        if word % 4 == 0 {
+            let len = gather(runs, r, heads, pages, at);
+            if n <= len {
+                return (at, len);
+            }
+            best = larger(best, len);
+            at += len;
+        } else {
+            at += word / 4;
+        }
+    }
+    (pages, best)
+}
+
+/// The free run of page `at` keeps `n` pages, and a free run has the others.
+fn cut(runs: &mut Part, r: &Region, heads: u64, pages: u64, at: u64, n: u64, len: u64)
+    requires here { runs.old.region ≡ r.now }
+    requires small { heads + pages < 2 ^ 27 }
+    requires runs { IsRuns runs.old.words heads pages }
+    requires free { (at < pages) × (0 < n) × (n ≤ len) × (run_word runs.old.words heads at ≡ 4 * len) }
+    ensures region { runs.new.region ≡ runs.old.region }
+    ensures runs { IsRuns runs.new.words heads pages }
+    ensures granted { granted_in runs.new.words heads pages ≡ granted_in runs.old.words heads pages }
+    ensures shorter { run_word runs.new.words heads at ≡ 4 * n }
+{
+    if n < len {
+        runs.store(r, heads + (at + n), 4 * (len - n));
+        runs.store(r, heads + at, 4 * n);
+    }
+}
+
+/// The run of page `at` gets another mark.
+fn mark(runs: &mut Part, r: &Region, heads: u64, pages: u64, at: u64, word: u64)
+    requires here { runs.old.region ≡ r.now }
+    requires small { heads + pages < 2 ^ 27 }
+    requires runs { IsRuns runs.old.words heads pages }
+    requires head { (at < pages) × (0 < run_word runs.old.words heads at) × (word / 4 ≡ run_word runs.old.words heads at / 4) × (word % 4 < 3) }
+    ensures region { runs.new.region ≡ runs.old.region }
+    ensures runs { IsRuns runs.new.words heads pages }
+    ensures word { run_word runs.new.words heads at ≡ word }
+    ensures grants { run_word runs.old.words heads at % 4 ≡ 0 → 0 < word % 4 → Adds (granted_in runs.old.words heads pages) (granted_in runs.new.words heads pages) (granted_at at word) }
+    ensures frees { 0 < run_word runs.old.words heads at % 4 → word % 4 ≡ 0 → Adds (granted_in runs.new.words heads pages) (granted_in runs.old.words heads pages) (granted_at at (run_word runs.old.words heads at)) }
+{
+    runs.store(r, heads + at, word);
+}
+
+/// The first `n` pages of the free run of page `at` are granted.
+pub(crate) fn grant(
+    runs: &mut Part,
+    r: &Region,
+    heads: u64,
+    pages: u64,
+    at: u64,
+    n: u64,
+    len: u64,
+    control: bool,
+)
+    requires here { runs.old.region ≡ r.now }
+    requires small { heads + pages < 2 ^ 27 }
+    requires runs { IsRuns runs.old.words heads pages }
+    requires free { (at < pages) × (0 < n) × (n ≤ len) × (len ≤ pages) × (run_word runs.old.words heads at ≡ 4 * len) }
+    ensures region { runs.new.region ≡ runs.old.region }
+    ensures runs { IsRuns runs.new.words heads pages }
+    ensures granted { Adds (granted_in runs.old.words heads pages) (granted_in runs.new.words heads pages) (record { from = at; len = n; control = control }) }
+{
+    cut(runs, r, heads, pages, at, n, len);
+    if control {
+        mark(runs, r, heads, pages, at, 4 * n + 2);
+    } else {
+        mark(runs, r, heads, pages, at, 4 * n + 1);
+    }
+}
+
+fn mark_of(control: bool) -> u64
+    ensures { result ≡ cond control 2 1 }
+{
+    if control { 2 } else { 1 }
+}
+
+/// Frees the run of page `at`, where a granted run has this first page, length and mark.
+pub(crate) fn release(
+    runs: &mut Part,
+    r: &Region,
+    heads: u64,
+    pages: u64,
+    at: u64,
+    n: u64,
+    control: bool,
+) -> bool
+    requires here { runs.old.region ≡ r.now }
+    requires small { heads + pages < 2 ^ 27 }
+    requires runs { IsRuns runs.old.words heads pages }
+    requires inside { (at < pages) × (n < 2 ^ 32) }
+    ensures region { runs.new.region ≡ runs.old.region }
+    ensures runs { IsRuns runs.new.words heads pages }
+    ensures freed { MatchBool result (IsFree pages (granted_in runs.new.words heads pages) at n × Adds (granted_in runs.new.words heads pages) (granted_in runs.old.words heads pages) (record { from = at; len = n; control = control })) ((runs.new ≡ runs.old) × ((rest : List Granted) → Adds rest (granted_in runs.old.words heads pages) (record { from = at; len = n; control = control }) → ⊥)) }
+{
+    let wanted = 4 * n + mark_of(control);
+    let found = runs.load(r, heads + at);
+    if found != wanted {
+        return false;
+    }
+    mark(runs, r, heads, pages, at, 4 * n);
+    true
+}

@@ -1,0 +1,4 @@
+pub mod History
+pub mod Ruled
+pub mod Told
+pub mod Shown

@@ -1,0 +1,191 @@
+-- The rule of a shelf's table, and what each step tells.
+-- X is what a slot holds, N a name, S a state, C a call and R a reply.
+use Rattle.std.specs.Prelude.{◌≡◌, ◌≢◌, ℕ, ◌+◌, ◌*◌, ◌%◌, ◌<◌, ◌≤◌, ◌==◌, if◌then◌else◌, List, [], ◌∷◌, ◌++◌, length, slice_index, replicate, Option, Some}
+use mathlib.Core.Option.{some}
+use lib.ListN.{get_elem?}
+use Rattle.atomic_table.specs.Table.{State, Me, Step, rest}
+use Rattle.lock_book.specs.declared.view.Entry.{Entry}
+use Rattle.lock_book.specs.declared.view.Stage.{Stage}
+use Rattle.lock_book.specs.declared.view.Stage.TheVariants.{Idle, Waiting, Holding}
+use Rattle.lock_book.specs.declared.view.View.{View}
+use Rattle.lock_book.specs.History.{entry, last_of, calls_by, calls_at, StartsWith, IsLegal, row_at, put_row, longer_rows, first_row, other_rows}
+
+-- f of each view, added up
+abbrev pub total : {V : Type 0} → (V → ℕ) → List V → ℕ
+total f [] = 0
+total f (v ∷ vs) = f v + total f vs
+
+abbrev pub tickets : ℕ → Stage → ℕ
+tickets i Idle = 0
+tickets i (Waiting j t) = if j == i then 1 else 0
+tickets i (Holding j t) = if j == i then 1 else 0
+
+abbrev pub holders : ℕ → Stage → ℕ
+holders i Idle = 0
+holders i (Waiting j t) = 0
+holders i (Holding j t) = if j == i then 1 else 0
+
+abbrev pub HasTicket : ℕ → ℕ → Stage → Type 0
+HasTicket i t Idle = ⊥
+HasTicket i t (Waiting j u) = (j ≡ i) × (u ≡ t)
+HasTicket i t (Holding j u) = (j ≡ i) × (u ≡ t)
+
+-- of one value: the tickets drawn and served, and its history
+pub record Line (S C R : Type 0) : Type 0 where
+  pub drawn : ℕ
+  pub served : ℕ
+  pub log : List (Entry S C R)
+
+module _ {N S C R : Type 0} where
+  -- the seat stands for the caller n
+  abbrev pub Stands : ℕ → (View N S C R) → Type 0
+  Stands n v = (v.from ≤ n) × (n < v.from + length v.owns)
+
+  -- the calls at the value i of the k-th caller that the seat stands for
+  abbrev pub mine_at : (View N S C R) → ℕ → ℕ → List (Entry S C R)
+  mine_at v k i = calls_at i (row_at v.owns k)
+
+  abbrev pub seen_at : (View N S C R) → ℕ → List (Entry S C R)
+  seen_at v i = row_at v.seen i
+
+  abbrev pub told_at : (View N S C R) → ℕ → List (Entry S C R)
+  told_at v i = row_at v.told i
+
+  abbrev pub at_stage : (View N S C R) → Stage → (View N S C R)
+  at_stage v g = record { opens = v.opens; callers = v.callers; from = v.from; owns = v.owns; seen = v.seen; told = v.told; stage = g }
+
+  abbrev pub seeing : (View N S C R) → ℕ → List (Entry S C R) → Stage → (View N S C R)
+  seeing v i log g = record { opens = v.opens; callers = v.callers; from = v.from; owns = v.owns; seen = put_row v.seen i log; told = v.told; stage = g }
+
+  -- the one caller of the seat made a call at the value i
+  abbrev pub with_entry : (View N S C R) → ℕ → Entry S C R → (View N S C R)
+  with_entry v i e = record { opens = v.opens; callers = v.callers; from = v.from; owns = (row_at v.owns 0 ++ (i, e) ∷ []) ∷ []; seen = put_row v.seen i (seen_at v i ++ e ∷ []); told = v.told; stage = v.stage }
+
+  abbrev pub merged : (View N S C R) → (View N S C R)
+  merged v = record { opens = v.opens; callers = v.callers; from = v.from; owns = v.owns; seen = longer_rows v.seen v.told; told = []; stage = v.stage }
+
+  abbrev pub first_caller : (View N S C R) → (View N S C R)
+  first_caller v = record { opens = v.opens; callers = v.callers; from = v.from; owns = first_row v.owns; seen = v.seen; told = v.told; stage = v.stage }
+
+  abbrev pub other_callers : (View N S C R) → (View N S C R)
+  other_callers v = record { opens = v.opens; callers = v.callers; from = v.from + 1; owns = other_rows v.owns; seen = v.seen; told = v.told; stage = Idle }
+
+  abbrev pub note : (View N S C R) → (View N S C R)
+  note v = record { opens = v.opens; callers = v.callers; from = 0; owns = []; seen = v.seen; told = []; stage = Idle }
+
+  abbrev pub informed : (View N S C R) → (View N S C R) → (View N S C R)
+  informed v w = record { opens = v.opens; callers = v.callers; from = v.from; owns = v.owns; seen = v.seen; told = w.seen; stage = v.stage }
+
+  abbrev pub together : (View N S C R) → (View N S C R) → (View N S C R)
+  together v w = record { opens = v.opens; callers = v.callers; from = v.from; owns = v.owns ++ w.owns; seen = longer_rows v.seen w.seen; told = []; stage = v.stage }
+
+  abbrev pub nobody : (View N S C R)
+  nobody = record { opens = []; callers = 0; from = 0; owns = []; seen = []; told = []; stage = Idle }
+
+  abbrev pub newcomers : List (N × S) → ℕ → (View N S C R)
+  newcomers opens callers = record { opens = opens; callers = callers; from = 0; owns = replicate callers []; seen = []; told = []; stage = Idle }
+
+  module _ (opens : List (N × S)) (callers : ℕ) (lines : ℕ → Line S C R) where
+    abbrev pub StageOk : (View N S C R) → Stage → Type 0
+    StageOk v Idle = Unit {0}
+    StageOk v (Waiting i t) = (length v.owns ≡ 1) × (i < length opens) × ((lines i).served ≤ t) × (t < (lines i).drawn)
+    StageOk v (Holding i t) = (length v.owns ≡ 1) × (i < length opens) × (t ≡ (lines i).served) × (t < (lines i).drawn) × (seen_at v i ≡ (lines i).log)
+
+    -- what is true of the view of a seat
+    pub record Knows (v : (View N S C R)) : Type 0 where
+      pub opened : 0 < length v.owns → v.opens ≡ opens
+      pub counted : 0 < length v.owns → v.callers ≡ callers
+      pub below : 0 < length v.owns → v.from + length v.owns ≤ callers
+      pub seen : (i : ℕ) → StartsWith (lines i).log (seen_at v i)
+      pub told : (i : ℕ) → StartsWith (lines i).log (told_at v i)
+      pub mine : (k i : ℕ) → k < length v.owns → mine_at v k i ≡ calls_by (v.from + k) (lines i).log
+      pub mine_seen : (k i : ℕ) → k < length v.owns → mine_at v k i ≡ calls_by (v.from + k) (seen_at v i)
+      pub staged : StageOk v v.stage
+
+  module _ {X : Type 0} (slot_name : X → N) (slot_state : X → S) (legal : N → ℕ → S → C → R → S → Type 0) where
+    -- what is true of the value i, which opened as o
+    pub record LineOk (callers : ℕ) (words : List ℕ) (homes : List (mathlib.Core.Option.Option X)) (views : List (View N S C R)) (i : ℕ) (o : N × S) (l : Line S C R) : Type 0 where
+      pub ticket : slice_index words (3 * i) ≡ l.drawn % 18446744073709551616
+      pub serving : slice_index words (3 * i + 1) ≡ l.served % 18446744073709551616
+      pub tally : slice_index words (3 * i + 2) ≡ length l.log % 18446744073709551616
+      pub queue : l.served + total (λ v. tickets i v.stage) views ≡ l.drawn
+      pub lawful : IsLegal (legal o.0) o.1 l.log
+      pub at_home : total (λ v. holders i v.stage) views ≡ 0 → (x : X) × (get_elem? homes i ≡ some (some x)) × (slot_name x ≡ o.0) × (slot_state x ≡ last_of o.1 l.log)
+
+    -- Each value has one legal history. A value at home has its last state and its name, tickets are unique, and each caller's entries are the calls that its seat made
+    pub record Ruled (opens : List (N × S)) (callers : ℕ) (s : State X (View N S C R)) : Type 0 where
+      pub lines : ℕ → Line S C R
+      pub few : callers < 4294967296
+      pub some_value : 0 < length opens
+      pub wide : length s.words ≡ 3 * length opens
+      pub each_line : (i : ℕ) (o : N × S) → get_elem? opens i ≡ some o → LineOk callers s.words s.homes s.views i o (lines i)
+      pub bounded : (i n : ℕ) → callers ≤ n → calls_by n (lines i).log ≡ []
+      pub seats : total (λ v. length v.owns) s.views ≡ callers
+      pub each_seat : (id : ℕ) (v : (View N S C R)) → get_elem? s.views id ≡ some v → Knows opens callers lines v
+      pub apart : (id other : ℕ) (v w : (View N S C R)) → get_elem? s.views id ≡ some v → get_elem? s.views other ≡ some w → (i t : ℕ) → HasTicket i t v.stage → HasTicket i t w.stage → id ≡ other
+      pub numbers : (id other : ℕ) (v w : (View N S C R)) → get_elem? s.views id ≡ some v → get_elem? s.views other ≡ some w → (n : ℕ) → Stands n v → Stands n w → id ≡ other
+
+    -- a ticket was drawn, and the word found is its number
+    abbrev pub ticketed : Step X → Me X (View N S C R) → ℕ → Me X (View N S C R) → Type 0
+    ticketed st m r m' = (i : ℕ) → st.word ≡ 3 * i → (t : ℕ) × (r ≡ t % 18446744073709551616) × (m'.1 ≡ m.1) × (m'.0 ≡ at_stage m.0 (Waiting i t))
+
+    -- the seat's turn came: it has the value, and has seen its history so far
+    pub record Turned (m : Me X (View N S C R)) (i t : ℕ) (m' : Me X (View N S C R)) : Type 0 where
+      pub log : List (Entry S C R)
+      pub slot : X
+      pub took : m'.1 ≡ (i, slot) ∷ m.1
+      pub view : m'.0 ≡ seeing m.0 i log (Holding i t)
+      pub begins : StartsWith log (seen_at m.0 i)
+      pub known : (o : N × S) → get_elem? m.0.opens i ≡ some o → IsLegal (legal o.0) o.1 log × (slot_name slot ≡ o.0) × (slot_state slot ≡ last_of o.1 log)
+      pub mine : mine_at m.0 0 i ≡ calls_by m.0.from log
+      pub bounded : (n : ℕ) → m.0.callers ≤ n → calls_by n log ≡ []
+
+    abbrev pub turned_to : Step X → Me X (View N S C R) → ℕ → Me X (View N S C R) → Type 0
+    turned_to st m r m' = (i t : ℕ) → m.0.stage ≡ Waiting i t → (r ≡ t % 18446744073709551616 → Turned m i t m') × (r ≢ t % 18446744073709551616 → m' ≡ m)
+
+    -- the call that the slot tells of stands in the history
+    abbrev pub committed : (X → Option (C × R)) → Step X → Me X (View N S C R) → ℕ → Me X (View N S C R) → Type 0
+    committed made st m r m' = (i : ℕ) (x : X) (c : C) (y : R) → st.word ≡ 3 * i + 2 → m.1 ≡ (i, x) ∷ [] → made x ≡ Some (c, y) → (m'.1 ≡ m.1) × (m'.0 ≡ with_entry m.0 i (entry m.0.from c y (slot_state x)))
+
+    abbrev pub passed_on : Step X → Me X (View N S C R) → ℕ → Me X (View N S C R) → Type 0
+    passed_on st m r m' = (m'.1 ≡ rest m.1) × (m'.0 ≡ at_stage m.0 Idle)
+
+    -- what was seen and what was told are beginnings of one legal history, and the longer of the two is seen
+    pub record Looks (v w : (View N S C R)) : Type 0 where
+      pub view : w ≡ merged v
+      pub seen : (i : ℕ) → StartsWith (seen_at w i) (seen_at v i)
+      pub told : (i : ℕ) → StartsWith (seen_at w i) (told_at v i)
+      pub lawful : 0 < length v.owns → (i : ℕ) (o : N × S) → get_elem? v.opens i ≡ some o → IsLegal (legal o.0) o.1 (seen_at w i)
+      pub mine : (k i : ℕ) → k < length v.owns → mine_at v k i ≡ calls_by (v.from + k) (seen_at w i)
+      pub bounded : 0 < length v.owns → (i n : ℕ) → v.callers ≤ n → calls_by n (seen_at w i) ≡ []
+
+    abbrev pub looked : Step X → Me X (View N S C R) → ℕ → Me X (View N S C R) → Type 0
+    looked st m r m' = (m'.1 ≡ m.1) × Looks m.0 m'.0
+
+module _ {N S C R : Type 0} where
+  -- the seat of one caller, which stands in no queue
+  pub record IsFree (v : View N S C R) : Type 0 where
+    pub owns : length v.owns ≡ 1
+    pub stage : v.stage ≡ Idle
+
+  -- the second view is of a seat of the same caller at the same shelf
+  pub record IsSame (v w : View N S C R) : Type 0 where
+    pub opens : w.opens ≡ v.opens
+    pub callers : w.callers ≡ v.callers
+    pub from : w.from ≡ v.from
+    pub free : IsFree w
+
+  -- the seat of so many callers from the one with this number on, which have made no call
+  abbrev pub fresh_pass : List (N × S) → ℕ → ℕ → ℕ → View N S C R
+  fresh_pass opens callers from count = record { opens = opens; callers = callers; from = from; owns = replicate count []; seen = []; told = []; stage = Idle }
+
+-- a number for each stage, 0 for none
+abbrev pub stage_number : Stage → ℕ
+stage_number Idle = 0
+stage_number (Waiting i t) = 1
+stage_number (Holding i t) = 2
+
+-- the view of a pass, which has one
+abbrev pub view_of : {N S C R : Type 0} → List (View N S C R) → View N S C R
+view_of [] = nobody
+view_of (v ∷ vs) = v

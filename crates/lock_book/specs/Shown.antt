@@ -1,0 +1,79 @@
+-- What a contract sees of a shelf, of its passes and of a closed shelf.
+use Rattle.std.specs.Prelude.{◌≡◌, ℕ, ◌≤◌, List, [], length}
+use mathlib.Core.Option.{some}
+use lib.ListN.{get_elem?}
+use Rattle.lock_book.specs.declared.kept.Kept.{Ghosts}
+use Rattle.lock_book.specs.declared.view.Entry.{Entry}
+use Rattle.lock_book.specs.declared.shelf.Pass.{Pass}
+use Rattle.lock_book.specs.declared.shelf.Shelf.{Shelf}
+use Rattle.lock_book.specs.declared.close.Closed.{Closed}
+use Rattle.lock_book.specs.History.{calls_by, StartsWith, IsLegal}
+use Rattle.lock_book.specs.Ruled.{mine_at, seen_at, view_of}
+use Rattle.lock_book.specs.Told.{IsPass, Adds, Meets}
+
+-- T is the kept type, E, I and O its environment, input and output, N, S, C and R its names, states, calls and replies, and g its meanings
+module _ {T E I O N S C R : Type 0} where
+  -- the name of each value, in order, and the state in which it was shelved
+  abbrev pub opens_of : Shelf T E I O N S C R → List (N × S)
+  opens_of s = s.board.shared.key.0.value
+
+  -- how many values the shelf has
+  abbrev pub count_of : Shelf T E I O N S C R → ℕ
+  count_of s = s.count
+
+  -- how many callers the shelf has
+  abbrev pub callers_of : Shelf T E I O N S C R → ℕ
+  callers_of s = s.callers
+
+module _ {T E I O N S C R : Type 0} {g : Ghosts T E I O N S C R} where
+  -- the number of the pass's caller
+  abbrev pub number_of : Pass T E I O N S C R g → ℕ
+  number_of p = (view_of p.badge.views).from
+
+  -- of the value at a place, the history that the pass has seen
+  abbrev pub seen_of : Pass T E I O N S C R g → ℕ → List (Entry S C R)
+  seen_of p i = seen_at (view_of p.badge.views) i
+
+  -- of the value at a place, the pass's own calls
+  abbrev pub mine_of : Pass T E I O N S C R g → ℕ → List (Entry S C R)
+  mine_of p i = mine_at (view_of p.badge.views) 0 i
+
+  -- the pass is one of this shelf's, with what is always true of such a pass
+  pub record Belongs (s : Shelf T E I O N S C R) (p : Pass T E I O N S C R g) : Type 0 where
+    pub table : p.badge.table_id ≡ s.board.shared.table_id
+    pub opens : (view_of p.badge.views).opens ≡ opens_of s
+    pub callers : (view_of p.badge.views).callers ≡ callers_of s
+    pub stands : IsPass g.legal (opens_of s) (callers_of s) (number_of p) (seen_of p) (mine_of p)
+
+  -- the passes of all callers, in order of their numbers
+  pub record AreAll (s : Shelf T E I O N S C R) (passes : List (Pass T E I O N S C R g)) : Type 0 where
+    pub count : length passes ≡ callers_of s
+    pub each : (k : ℕ) (p : Pass T E I O N S C R g) → get_elem? passes k ≡ some p → Belongs s p
+    pub numbers : (k : ℕ) (p : Pass T E I O N S C R g) → get_elem? passes k ≡ some p → number_of p ≡ k
+
+  -- what a call c with the reply r at one value made of the pass p, which is q afterwards
+  abbrev pub Called : Shelf T E I O N S C R → Pass T E I O N S C R g → Pass T E I O N S C R g → ℕ → C → R → Type 0
+  Called s p q at c r = Adds g.legal (opens_of s) (number_of p) (seen_of p) (mine_of p) (seen_of q) (mine_of q) at c r
+
+  -- what a meeting with `other` made of the pass p, which is q afterwards
+  abbrev pub Met : Pass T E I O N S C R g → Pass T E I O N S C R g → Pass T E I O N S C R g → Type 0
+  Met p other q = Meets (seen_of p) (mine_of p) (seen_of other) (seen_of q) (mine_of q)
+
+  -- how many values a closed shelf has left
+  abbrev pub left_of : Closed T E I O N S C R g → ℕ
+  left_of c = c.left
+
+  -- the name of each value of a closed shelf, in order, and the state in which it was shelved
+  abbrev pub opened_of : Closed T E I O N S C R g → List (N × S)
+  opened_of c = c.note.me.0.opens
+
+  -- of the value at a place of a closed shelf, its whole history
+  abbrev pub whole_of : Closed T E I O N S C R g → ℕ → List (Entry S C R)
+  whole_of c i = seen_at c.note.me.0 i
+
+  -- What a closed shelf shows of its passes: each value's history is legal and begins with what each pass had seen; the entries of a caller are the own calls of its pass, and there are no others
+  pub record Ended (s : Shelf T E I O N S C R) (passes : List (Pass T E I O N S C R g)) (c : Closed T E I O N S C R g) : Type 0 where
+    pub lawful : (i : ℕ) (o : N × S) → get_elem? (opens_of s) i ≡ some o → IsLegal (g.legal o.0) o.1 (whole_of c i)
+    pub begins : (n i : ℕ) (p : Pass T E I O N S C R g) → get_elem? passes n ≡ some p → StartsWith (whole_of c i) (seen_of p i)
+    pub mine : (n i : ℕ) (p : Pass T E I O N S C R g) → get_elem? passes n ≡ some p → calls_by n (whole_of c i) ≡ mine_of p i
+    pub no_others : (i n : ℕ) → callers_of s ≤ n → calls_by n (whole_of c i) ≡ []

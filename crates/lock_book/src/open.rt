@@ -1,0 +1,90 @@
+//! How a shelf is made: each value goes into a slot, and a pass is cut off for each caller.
+ghost use Rattle.std.specs.Prelude.{◌≡◌, ℕ, ◌+◌, ◌-◌, ◌*◌, ◌^◌, ◌<◌, ◌≤◌, List, [], ◌∷◌, length, map, replicate, IfOk, None};
+ghost use mathlib.Core.Option.{some};
+ghost use lib.ListN.{get_elem?};
+ghost use Rattle.lock_book.specs.Ruled.{fresh_pass, view_of};
+ghost use Rattle.lock_book.specs.Shown.{AreAll, callers_of, count_of, mine_of, opens_of, seen_of};
+
+use crate::Kept;
+use crate::noted::Noted;
+use crate::shelf::{Pass, Shelf};
+use crate::table::{Board, Callers, Held, Opens, Place, Slot};
+use atomic_table::{Refused, Table};
+use std::alloc::{AllocError, Global};
+
+const MOST: usize = 1 << 60;
+
+// Each value in a slot of its own.
+fn shelved<T: Kept>(alloc: Global, values: Vec<T>) -> Result<Vec<Held<T>>, AllocError>
+    ensures { IfOk result (λ v. v.items ≡ map (λ x. record { value = x; made = None }) values.items) }
+{
+    values
+        .into_iter()
+        .map(|value| Slot { value, made: None })
+        .collect(alloc)
+}
+
+fn zeros(alloc: Global, count: usize) -> Result<Vec<u64>, AllocError>
+    ensures { IfOk result (λ v. v.items ≡ replicate count 0) }
+{
+    vec![in alloc; 0u64; count]
+}
+
+// A pass for each caller.
+fn deal<T: Kept>(
+    alloc: Global,
+    board: &Board<T>,
+    whole: Place<T>,
+    callers: u32,
+) -> Result<Vec<Pass<T>>, AllocError>
+    requires own { (whole.table_id ≡ board.now.shared.table_id) × (0 < board.now.shared.table_id.words) × (whole.me.1 ≡ []) }
+    requires view { whole.me.0 ≡ fresh_pass whole.me.0.opens callers 0 callers }
+    ensures count { IfOk result (λ v. length v.items ≡ callers) }
+    ensures each { IfOk result (λ v. (k : ℕ) (p : _) → get_elem? v.items k ≡ some p → (p.badge.table_id ≡ board.now.shared.table_id) × (view_of p.badge.views ≡ fresh_pass whole.me.0.opens callers k 1) × (k < callers)) }
+{
+    let mut passes = Vec::new(alloc);
+    let mut rest = whole;
+    for number in 0..callers {
+        let next = board.shared.split_seat::<Callers>(&mut rest);
+        passes.push(Pass::new(rest, number))?;
+        rest = next;
+    }
+    Ok(passes)
+}
+
+impl<T: Kept> Shelf<T> {
+    /// A shelf of these values, in their order, and a pass for each caller, numbered from 0. Where there is no memory,
+    /// the values are dropped.
+    pub fn new(
+        alloc: Global,
+        values: Vec<T>,
+        callers: u32,
+    ) -> Result<(Shelf<T>, Vec<Pass<T>>), AllocError>
+        requires values { 0 < length values.items }
+        requires callers { 0 < callers }
+        ensures counts { IfOk result (λ r. (count_of r.0 ≡ length values.items) × (callers_of r.0 ≡ callers)) }
+        ensures opens { IfOk result (λ r. opens_of r.0 ≡ map (λ x. (T.name x, T.state x)) values.items) }
+        ensures passes { IfOk result (λ r. AreAll r.0 r.1.items) }
+        ensures fresh { IfOk result (λ r. (k : ℕ) (p : _) → get_elem? r.1.items k ≡ some p → (i : ℕ) → (seen_of p i ≡ []) × (mine_of p i ≡ [])) }
+    {
+        let count = values.len();
+        if count > MOST {
+            return Err(AllocError);
+        }
+        let opens: Noted<Opens<T>> = Noted::of(&values);
+        let slots = shelved(alloc, values)?;
+        let words = zeros(alloc, 3 * count)?;
+        let about = (opens, callers);
+        let (board, whole) = match Table::new(alloc, words.as_slice(), slots, &about) {
+            Ok(made) => made,
+            Err(Refused { slots: _ }) => return Err(AllocError),
+        };
+        let passes = deal(alloc, &board, whole, callers)?;
+        let shelf = Shelf {
+            board,
+            count,
+            callers,
+        };
+        Ok((shelf, passes))
+    }
+}

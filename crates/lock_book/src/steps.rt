@@ -1,0 +1,116 @@
+//! The moves of the lock, one by one: draw a ticket, wait for the turn, apply the call, commit it, pass the turn on.
+//! What is known between two of them is the stage of the seat and the value that it carries.
+ghost use Rattle.std.specs.Prelude.{◌≡◌, ℕ, ◌+◌, ◌*◌, ◌%◌, ◌^◌, ◌<◌, ◌≤◌, [], ◌∷◌, length, Some};
+ghost use mathlib.Core.Option.{some};
+ghost use lib.ListN.{get_elem?};
+ghost use Rattle.lock_book.specs.declared.view.Stage.TheVariants.{Idle, Waiting, Holding};
+ghost use Rattle.lock_book.specs.Ruled.{at_stage, with_entry, seen_at, Turned};
+ghost use Rattle.lock_book.specs.History.{entry, last_of, made_of};
+
+use crate::Kept;
+use crate::noted::Noted;
+use crate::table::{Board, Commit, Held, Next, Place, Ticket, Turn};
+use crossbeam_utils::Backoff;
+use std::sync::Wait;
+
+// Draws a ticket for the value `at`.
+pub(crate) fn draw_ticket<T: Kept>(board: &Board<T>, seat: &mut Place<T>, at: usize) -> u64
+    requires own { seat.old.table_id ≡ board.now.shared.table_id }
+    requires word { (at < length board.now.shared.key.0.value) × (3 * at + 3 ≤ board.now.shared.table_id.words) }
+    requires fits { 3 * at + 3 < 2 ^ 64 }
+    requires idle { (seat.old.me.0.stage ≡ Idle) × (length seat.old.me.0.owns ≡ 1) }
+    ensures own { seat.new.table_id ≡ seat.old.table_id }
+    ensures ticket { (t : ℕ) × (result ≡ t % 2 ^ 64) × (seat.new.me.1 ≡ seat.old.me.1) × (seat.new.me.0 ≡ at_stage seat.old.me.0 (Waiting at t)) }
+{
+    board.shared.fetch_add::<Ticket>(seat, 3 * at, 1)
+}
+
+// Waits until the ticket is served. The seat then has the value.
+pub(crate) fn wait_turn<T: Kept, R: Wait>(
+    rt: &R,
+    board: &Board<T>,
+    seat: &mut Place<T>,
+    at: usize,
+    ticket: u64,
+)
+    requires own { seat.old.table_id ≡ board.now.shared.table_id }
+    requires word { 3 * at + 3 ≤ board.now.shared.table_id.words }
+    requires fits { 3 * at + 3 < 2 ^ 64 }
+    requires waiting { (t : ℕ) × (ticket ≡ t % 2 ^ 64) × (seat.old.me.0.stage ≡ Waiting at t) }
+    ensures own { seat.new.table_id ≡ seat.old.table_id }
+    ensures turn { (t : ℕ) × Turned (λ x. T.name x.value) (λ x. T.state x.value) T.legal seat.old.me at t seat.new.me }
+{
+    let backoff = Backoff::new();
+    for _ in rt.forever() {
+        if board.shared.load::<Turn>(seat, 3 * at + 1) == ticket {
+            return;
+        }
+        backoff.snooze();
+    }
+    unreachable!()
+}
+
+impl<T: Kept> Held<T> {
+    fn apply(&mut self, env: &T::Env, input: T::In) -> T::Out
+        requires env { T.env_fits (T.name self.old.value) env.now }
+        requires input { (n : ℕ) × T.in_fits (T.name self.old.value) n input }
+        ensures legal { (n : ℕ) → T.in_fits (T.name self.old.value) n input → T.legal (T.name self.old.value) n (T.state self.old.value) (T.call input) (T.reply result) (T.state self.new.value) }
+        ensures name { T.name self.new.value ≡ T.name self.old.value }
+        ensures output { T.out_fits (T.name self.old.value) input result }
+        ensures noted { made_of T.call T.reply self.new.made ≡ Some (T.call input, T.reply result) }
+    {
+        let asked: Noted<T::In> = Noted::of(&input);
+        let output = self.value.apply(env, input);
+        let told: Noted<T::Out> = Noted::of(&output);
+        self.made = Some((asked, told));
+        output
+    }
+}
+
+// Applies the call to the value that the seat has.
+pub(crate) fn serve<T: Kept>(
+    board: &Board<T>,
+    seat: &mut Place<T>,
+    at: usize,
+    env: &T::Env,
+    input: T::In,
+) -> T::Out
+    requires own { seat.old.table_id ≡ board.now.shared.table_id }
+    requires held { (x : _) × (seat.old.me.1 ≡ (at, x) ∷ []) × T.env_fits (T.name x.value) env.now × T.in_fits (T.name x.value) seat.old.me.0.from input }
+    ensures own { (seat.new.table_id ≡ seat.old.table_id) × (seat.new.me.0 ≡ seat.old.me.0) }
+    ensures served { (x : _) × (y : _) × (seat.old.me.1 ≡ (at, x) ∷ []) × (seat.new.me.1 ≡ (at, y) ∷ [])
+        × T.legal (T.name x.value) seat.old.me.0.from (T.state x.value) (T.call input) (T.reply result) (T.state y.value) × (T.name y.value ≡ T.name x.value) × T.out_fits (T.name x.value) input result
+        × (made_of T.call T.reply y.made ≡ Some (T.call input, T.reply result)) }
+{
+    seat.slot_mut(&board.shared, at).apply(env, input)
+}
+
+// Adds the call to the history of the value that the seat has.
+pub(crate) fn commit_call<T: Kept>(board: &Board<T>, seat: &mut Place<T>, at: usize)
+    requires own { seat.old.table_id ≡ board.now.shared.table_id }
+    requires word { 3 * at + 3 ≤ board.now.shared.table_id.words }
+    requires fits { 3 * at + 3 < 2 ^ 64 }
+    requires holding { (t : ℕ) × (seat.old.me.0.stage ≡ Holding at t) }
+    requires held { (x : _) × (c : _) × (r : _) × (seat.old.me.1 ≡ (at, x) ∷ []) × (made_of T.call T.reply x.made ≡ Some (c, r))
+        × ((o : _) → get_elem? seat.old.me.0.opens at ≡ some o → T.legal o.0 seat.old.me.0.from (last_of o.1 (seen_at seat.old.me.0 at)) c r (T.state x.value)) }
+    ensures own { seat.new.table_id ≡ seat.old.table_id }
+    ensures added { (x : _) (c : _) (r : _) → seat.old.me.1 ≡ (at, x) ∷ [] → made_of T.call T.reply x.made ≡ Some (c, r)
+        → (seat.new.me.1 ≡ seat.old.me.1) × (seat.new.me.0 ≡ with_entry seat.old.me.0 at (entry seat.old.me.0.from c r (T.state x.value))) }
+{
+    board.shared.fetch_add::<Commit>(seat, 3 * at + 2, 1);
+}
+
+// Gives the value back, and serves the next ticket.
+pub(crate) fn pass_on<T: Kept>(board: &Board<T>, seat: &mut Place<T>, at: usize)
+    requires own { seat.old.table_id ≡ board.now.shared.table_id }
+    requires word { (3 * at + 3 ≤ board.now.shared.table_id.words) × (at < board.now.shared.table_id.slots) }
+    requires fits { 3 * at + 3 < 2 ^ 64 }
+    requires holding { (t : ℕ) × (seat.old.me.0.stage ≡ Holding at t) }
+    requires held { (x : _) × (seat.old.me.1 ≡ (at, x) ∷ [])
+        × ((o : _) → get_elem? seat.old.me.0.opens at ≡ some o → (T.name x.value ≡ o.0) × (T.state x.value ≡ last_of o.1 (seen_at seat.old.me.0 at))) }
+    ensures own { seat.new.table_id ≡ seat.old.table_id }
+    ensures free { (x : _) → seat.old.me.1 ≡ (at, x) ∷ [] → seat.new.me.1 ≡ [] }
+    ensures view { seat.new.me.0 ≡ at_stage seat.old.me.0 Idle }
+{
+    board.shared.fetch_add::<Next>(seat, 3 * at + 1, 1);
+}

@@ -1,0 +1,38 @@
+//! What a seat at the table knows. It stands in the proofs alone: no value of these types is made.
+use std::collections::LinkedList;
+
+/// One call in a history: the caller's number, the call, the reply and the state after it.
+pub struct Entry<S, C, R> {
+    pub by: u64,
+    pub call: C,
+    pub reply: R,
+    pub after: S,
+}
+
+/// Where a seat stands in a queue: the value's place and its ticket.
+pub enum Stage {
+    /// In no queue.
+    Idle,
+    /// With a ticket that was not served yet.
+    Waiting(u64, u64),
+    /// With the value.
+    Holding(u64, u64),
+}
+
+/// What is known of a shelf by the callers that a seat stands for.
+pub struct View<N, S, C, R> {
+    /// The name and the opening state of each value.
+    pub opens: LinkedList<(N, S)>,
+    /// How many callers the shelf has.
+    pub callers: u64,
+    /// The number of the first caller that the seat stands for.
+    pub from: u64,
+    /// Of each caller that it stands for, the calls that it made, each with the place of its value.
+    pub owns: LinkedList<LinkedList<(u64, Entry<S, C, R>)>>,
+    /// Of each value, the history that was seen.
+    pub seen: LinkedList<LinkedList<Entry<S, C, R>>>,
+    /// Of each value, the history that the seat was told of.
+    pub told: LinkedList<LinkedList<Entry<S, C, R>>>,
+    /// The place in a queue, of a seat of one caller.
+    pub stage: Stage,
+}

@@ -1,0 +1,42 @@
+-- What a query answers: its status, and what its table is.
+use Rattle.std.specs.Prelude.{◌≡◌, ℕ, List, [], ◌∷◌, Option, None, Some, IfSome, String, length, map, string_bytes}
+use Rattle.csv_rows.specs.Records.{records_of}
+use Rattle.par_model.specs.Named.{NamedPlan}
+use Rattle.par_model.specs.Outcome.{Outcome, IsAnswer, outcome, Usage, TooManyBytes, NoHeader, TooManyRows, NoColumn, Refused, Table}
+use Rattle.par_gather.specs.declared.status.TheConstants.{MISUSED, NOT_BUILT, NO_MEMORY, READ_FAULT, TABLE, WRITE_FAULT}
+
+-- every status there is
+abbrev pub statuses : List ℕ
+statuses = TABLE ∷ MISUSED ∷ READ_FAULT ∷ WRITE_FAULT ∷ NO_MEMORY ∷ NOT_BUILT ∷ []
+
+-- the status of an outcome
+abbrev pub status_of : Outcome → ℕ
+status_of Usage = NOT_BUILT
+status_of TooManyBytes = NOT_BUILT
+status_of NoHeader = MISUSED
+status_of TooManyRows = NOT_BUILT
+status_of (NoColumn name) = MISUSED
+status_of (Refused rows) = NOT_BUILT
+status_of Table = TABLE
+
+-- the bytes of each word
+abbrev pub texts : {A : Type 0} → List (String A) → List (List ℕ)
+texts words = map string_bytes words
+
+-- the outcome of a plan, or of words that are none, over bytes
+abbrev pub outcome_over : Option NamedPlan → List ℕ → Outcome
+outcome_over plan bytes = outcome plan (length bytes) (records_of bytes)
+
+-- a text is that of the table of the records of bytes
+abbrev pub IsTextOver : Option NamedPlan → List ℕ → List ℕ → Type 0
+IsTextOver None bytes text = ⊥
+IsTextOver (Some plan) bytes text = IsAnswer plan (records_of bytes) text
+
+-- the outcome over bytes is a table, and this is its text
+pub record IsTableText (plan : Option NamedPlan) (bytes text : List ℕ) : Type 0 where
+  pub has_table : outcome_over plan bytes ≡ Table
+  pub is_text : IsTextOver plan bytes text
+
+-- the outcome of a plan over what a source had left, where that is told
+abbrev pub IsOutcome : Option NamedPlan → Option (List ℕ) → Outcome → Type 0
+IsOutcome plan left o = IfSome left (λ bytes. o ≡ outcome_over plan bytes)

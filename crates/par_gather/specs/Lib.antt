@@ -1,0 +1,6 @@
+pub mod Answers
+pub mod Counting
+pub mod Lines
+pub mod Stops
+pub mod Words
+pub mod Written

@@ -1,0 +1,13 @@
+pub mod Aggregate
+pub mod Columns
+pub mod Decimal
+pub mod Integer
+pub mod Keep
+pub mod Key
+pub mod Named
+pub mod Outcome
+pub mod Plan
+pub mod PlanLayout
+pub mod Record
+pub mod Refuse
+pub mod Table

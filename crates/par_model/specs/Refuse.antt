@@ -1,0 +1,59 @@
+-- Which rows are refused, and for which cause.
+use Rattle.std.specs.Prelude.{◌==◌, ◌&&◌, ℕ, Bool, true, false, not, List, length, Option, Some, None, if◌then◌else◌, is_none, nat_lt, option_map}
+use Rattle.std.specs.List.{enumerate_from, filter_map, position_from}
+use Rattle.std.specs.Option.{option_map_or}
+use Rattle.par_model.specs.Integer.{integer_of}
+use Rattle.par_model.specs.Keep.{is_kept}
+use Rattle.par_model.specs.Key.{key_of}
+use Rattle.par_model.specs.Plan.{Plan}
+use Rattle.par_model.specs.Record.{field_of, is_null}
+use Rattle.par_model.specs.declared.plan.Item.{Item}
+use Rattle.par_model.specs.declared.plan.ItemKind.{ItemKind}
+use Rattle.par_model.specs.declared.plan.ItemKind.TheVariants as kind
+use Rattle.par_model.specs.declared.refusal.Refusal.{Refusal}
+
+-- the longest encoded key of a group
+abbrev pub longest_key : ℕ
+longest_key = 248
+
+-- whether an aggregate reads integers
+abbrev pub reads_integers : ItemKind → Bool
+reads_integers kind.Rows = false
+reads_integers kind.Count = false
+reads_integers kind.Sum = true
+reads_integers kind.Min = true
+reads_integers kind.Max = true
+reads_integers kind.Avg = true
+
+-- whether a field is neither null nor an integer
+abbrev pub is_no_integer : List ℕ → Bool
+is_no_integer field = not (is_null field) && is_none (integer_of field)
+
+-- whether an aggregate cannot read its field of a row
+abbrev pub is_unreadable : List (List ℕ) → Item → Bool
+is_unreadable row item = reads_integers item.kind && is_no_integer (field_of row item.column)
+
+-- a refusal for a cause that names no item, and the one for the item at a place
+abbrev pub refused_for : ℕ → Option Refusal
+refused_for cause = Some (record { cause = cause; item = 0 })
+
+abbrev pub refused_at : ℕ → Refusal
+refused_at place = record { cause = 3; item = place }
+
+-- why a row is refused, the first that holds: its number of fields, the filter's field, and for a row that is kept its
+-- key's length and then the first item, from the left, that cannot read its field
+unfoldable pub refusal : Plan → ℕ → List (List ℕ) → Option Refusal
+refusal plan width row =
+    if not (length row == width) then refused_for 1
+    else (if option_map_or (λ filter. is_no_integer (field_of row filter.column)) plan.filter false then refused_for 4
+    else (if not (is_kept plan row) then None
+    else (if nat_lt longest_key (length (key_of plan row)) then refused_for 2
+    else option_map refused_at (position_from (is_unreadable row) 0 plan.items))))
+
+-- the number of a row with the cause for which it is refused, if it is
+abbrev pub numbered_refusal : Plan → ℕ → ℕ × List (List ℕ) → Option (ℕ × Refusal)
+numbered_refusal plan width row = option_map (λ cause. (row.0, cause)) (refusal plan width row.1)
+
+-- the rows that are refused, each with its number, counted from 1, and its cause
+unfoldable pub refused_rows : Plan → ℕ → List (List (List ℕ)) → List (ℕ × Refusal)
+refused_rows plan width rows = filter_map (numbered_refusal plan width) (enumerate_from 1 rows)

@@ -1,0 +1,11 @@
+pub mod Slots
+pub mod Keys
+pub mod Refusals
+pub mod Places
+pub mod Maps
+pub mod OneRow
+pub mod Blocks
+pub mod Ideal
+pub mod Fits
+pub mod Combining
+pub mod Adding
