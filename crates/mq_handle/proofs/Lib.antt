@@ -1,0 +1,7 @@
+pub mod Decoding
+pub mod Whole
+pub mod Filling
+pub mod Sends
+pub mod Hands
+pub mod Receipts
+pub mod Uses

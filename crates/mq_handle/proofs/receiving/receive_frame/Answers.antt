@@ -1,0 +1,65 @@
+use Rattle.std.proofs.Common.{◌≡◌, ℕ, Option, take, length, Some, sym, ap, subst, arith}
+use Rattle.ring_rule.specs.Ring.{Ring, Receiving}
+use Rattle.mq_ring.specs.Ends.{ReceivingEnd}
+use Rattle.mq_handle.specs.declared.answers.ReceiveAnswer.{ReceiveAnswer}
+use Rattle.mq_handle.specs.Receives.{IsReceived}
+use Rattle.mq_handle.specs.Looking.{Finds}
+use Rattle.mq_handle.specs.Taking.{InHand, before_of}
+use Rattle.mq_handle.specs.declared.answers.ReceiveAnswer.TheVariants.{Message, WouldBlock, Detached}
+use Rattle.mq_handle.specs.ReceiveAnswers.{HasPlace}
+use Rattle.mq_handle.proofs.Hands.{hand_low}
+use Rattle.mq_handle.proofs.Sends.{chosen_true, chosen_false}
+use Rattle.mq_handle.proofs.Receipts.{came, same_whole, gives_on, received_is}
+use Rattle.mq_handle.proofs.receiving.receive_frame.Goals as goal
+
+pub returns-in-Some-clause-answer : goal.returns-in-Some-clause-answer
+returns-in-Some-clause-answer c =
+    let more = chosen_false _ _ c.loop-whole.whole c.loop-whole-test.true c.loop-whole.invariant.whole in
+    let before : InHand c.loop-whole.rx.end.ring.max (before_of c.args.rx.now.end c.args.taken.words) c.args.rx.now.end.taken c.args.buffer.now c.args.taken.words c.args.taken.len =
+    subst (λ (r : Ring). InHand r.max (before_of c.args.rx.now.end c.args.taken.words) c.args.rx.now.end.taken c.args.buffer.now c.args.taken.words c.args.taken.len) (sym c.loop-whole.invariant.takes.ring) c.requires.hand in
+    let same = same_whole _ _ _ _ _ _ _ _ _ _ before c.requires.unfinished c.loop-whole.invariant.hand more.0 in
+    let found : Finds c.loop-whole.rx.end c.look_for_words-answer.new.rx.end c.look_for_words-answer.result.0.ready (Some c.in-Some.answer) =
+    subst (λ (a : Option ReceiveAnswer). Finds c.loop-whole.rx.end c.look_for_words-answer.new.rx.end c.look_for_words-answer.result.0.ready a) c.in-Some.is c.look_for_words-answer.ensures.found in
+    gives_on c.args.rx.now.end c.loop-whole.rx.end c.look_for_words-answer.new.rx.end c.look_for_words-answer.result.0.ready c.look_for_words-answer.result.0.len c.loop-whole.buffer c.in-Some.answer c.loop-whole.invariant.takes.turn same found
+
+pub returns-clause-hand : goal.returns-clause-hand
+returns-clause-hand c =
+    let full = chosen_true _ _ c.loop-whole.whole c.loop-whole-test.false c.loop-whole.invariant.whole in
+    let before : InHand c.loop-whole.rx.end.ring.max (before_of c.args.rx.now.end c.args.taken.words) c.args.rx.now.end.taken c.args.buffer.now c.args.taken.words c.args.taken.len =
+    subst (λ (r : Ring). InHand r.max (before_of c.args.rx.now.end c.args.taken.words) c.args.rx.now.end.taken c.args.buffer.now c.args.taken.words c.args.taken.len) (sym c.loop-whole.invariant.takes.ring) c.requires.hand in
+    let room : length c.loop-whole.buffer ≡ c.loop-whole.rx.end.ring.max = omega (arith, c.loop-whole.auto.buffer, c.requires.room, ap (λ (r : Ring). r.max) c.loop-whole.invariant.takes.ring) in
+    let m = came _ _ _ _ _ _ _ _ _ _ before c.requires.unfinished c.loop-whole.invariant.hand full room in
+    let last : c.finish_taking.new.rx.end ≡ record c.loop-whole.rx.end { returned = c.finish_taking.new.rx.end.returned; turn = c.finish_taking.new.rx.end.turn } = ap (λ (o : ReceivingEnd). o.end) c.finish_taking.ensures.kept in
+    subst (λ (q : Receiving). InHand q.ring.max (before_of q c.finish_taking.result.words) q.taken c.loop-whole.buffer c.finish_taking.result.words c.finish_taking.result.len) (sym last)
+    (subst (λ (w : ℕ). InHand c.loop-whole.rx.end.ring.max (before_of c.loop-whole.rx.end w) c.loop-whole.rx.end.taken c.loop-whole.buffer w c.finish_taking.result.len) (sym c.finish_taking.ensures.next.0)
+    (subst (λ (l : ℕ). InHand c.loop-whole.rx.end.ring.max (before_of c.loop-whole.rx.end 0) c.loop-whole.rx.end.taken c.loop-whole.buffer 0 l) (sym c.finish_taking.ensures.next.1) m.hand))
+
+pub returns-clause-answer : goal.returns-clause-answer
+returns-clause-answer c =
+    let full = chosen_true _ _ c.loop-whole.whole c.loop-whole-test.false c.loop-whole.invariant.whole in
+    let before : InHand c.loop-whole.rx.end.ring.max (before_of c.args.rx.now.end c.args.taken.words) c.args.rx.now.end.taken c.args.buffer.now c.args.taken.words c.args.taken.len =
+    subst (λ (r : Ring). InHand r.max (before_of c.args.rx.now.end c.args.taken.words) c.args.rx.now.end.taken c.args.buffer.now c.args.taken.words c.args.taken.len) (sym c.loop-whole.invariant.takes.ring) c.requires.hand in
+    let room : length c.loop-whole.buffer ≡ c.loop-whole.rx.end.ring.max = omega (arith, c.loop-whole.auto.buffer, c.requires.room, ap (λ (r : Ring). r.max) c.loop-whole.invariant.takes.ring) in
+    let m = came _ _ _ _ _ _ _ _ _ _ before c.requires.unfinished c.loop-whole.invariant.hand full room in
+    let last : c.finish_taking.new.rx.end ≡ record c.loop-whole.rx.end { returned = c.finish_taking.new.rx.end.returned; turn = c.finish_taking.new.rx.end.turn } = ap (λ (o : ReceivingEnd). o.end) c.finish_taking.ensures.kept in
+    subst (λ (q : Receiving). IsReceived c.args.rx.now.end q (take c.finish_taking.result.len c.loop-whole.buffer)) (sym last)
+    (subst (λ (l : ℕ). IsReceived c.args.rx.now.end (record c.loop-whole.rx.end { returned = c.finish_taking.new.rx.end.returned; turn = c.finish_taking.new.rx.end.turn }) (take l c.loop-whole.buffer)) (sym c.finish_taking.ensures.next.1)
+    (received_is c.args.rx.now.end c.loop-whole.rx.end c.loop-whole.buffer c.loop-whole.taken.len c.finish_taking.new.rx.end.returned c.finish_taking.new.rx.end.turn c.loop-whole.invariant.takes m c.finish_taking.ensures.returned))
+
+pub returns-clause-place : goal.returns-clause-place
+returns-clause-place c =
+    let full = chosen_true _ _ c.loop-whole.whole c.loop-whole-test.false c.loop-whole.invariant.whole in
+    let low = hand_low _ _ _ _ _ _ c.loop-whole.invariant.hand (omega (arith, full)) in
+    omega (arith, low.1, c.loop-whole.auto.buffer, c.requires.room, ap (λ (r : Ring). r.max) c.loop-whole.invariant.takes.ring, c.finish_taking.ensures.next.1)
+
+-- any other answer asks for no place
+none_asked : (answer : ReceiveAnswer) (old new : Receiving) (ready len room : ℕ) → Finds old new ready (Some answer) → HasPlace answer len room
+none_asked Message old new ready len room f = absurd f
+none_asked WouldBlock old new ready len room f = tt
+none_asked Detached old new ready len room f = tt
+
+pub returns-in-Some-clause-place : goal.returns-in-Some-clause-place
+returns-in-Some-clause-place c =
+    let found : Finds c.loop-whole.rx.end c.look_for_words-answer.new.rx.end c.look_for_words-answer.result.0.ready (Some c.in-Some.answer) =
+    subst (λ (a : Option ReceiveAnswer). Finds c.loop-whole.rx.end c.look_for_words-answer.new.rx.end c.look_for_words-answer.result.0.ready a) c.in-Some.is c.look_for_words-answer.ensures.found in
+    none_asked c.in-Some.answer c.loop-whole.rx.end c.look_for_words-answer.new.rx.end c.look_for_words-answer.result.0.ready c.look_for_words-answer.result.0.len (length c.loop-whole.buffer) found

@@ -1,0 +1,14 @@
+use Rattle.std.proofs.Common.{◌≡◌, false}
+use Rattle.mq_handle.specs.Sends.{Continues}
+use Rattle.mq_handle.specs.Waiting.{SendsOn}
+use Rattle.mq_handle.proofs.sender.Sender.send.Given as goal
+
+abbrev pub invariant-loop : goal.invariant-loop
+invariant-loop g l = record {
+  can_next : (goal.iterator-loop g).can_next l.iterator';
+  finite : (goal.iterator-loop g).is_finite l.iterator';
+  kept : l.self ≡ record l.fn.self { end = l.self.end };
+  on : SendsOn l.fn.self.end l.self.end;
+  stays : l.self.end.gone ≡ false;
+  continues : Continues l.self.end.put l.message;
+}

@@ -1,0 +1,68 @@
+use Rattle.std.proofs.Common.{◌≡◌, ℕ, ◌+◌, ◌-◌, ◌<◌, List, ◌∷◌, [], ◌++◌, length, take, sym, ap, subst, ◌∙◌, arith}
+use Rattle.ring_rule.specs.Frames.{frame, IsFramed}
+use Rattle.ring_rule.specs.Ring.{Ring, Sending}
+use Rattle.ring_rule.specs.Ends.{puts}
+use Rattle.mq_ring.specs.Ends.{SendingEnd}
+use Rattle.mq_handle.specs.Held.{Counted}
+use Rattle.mq_handle.specs.Filling.{base_of, Fills}
+use Rattle.mq_handle.proofs.Filling.{length-frame, less_put, looked, looked_full, put_framed, put_more, fills_put, counted_put, only_on, only_is}
+use Rattle.mq_handle.proofs.storing.fill.Goals as goal
+
+pub returns-then-counts-eq0-clause-fills : goal.returns-then-counts-eq0-clause-fills
+returns-then-counts-eq0-clause-fills c =
+    let total = length-frame c.args.message.now in
+    let less = less_put _ _ _ c.loop-counts.counts.stored c.loop-counts.invariant.put (omega (arith, c.loop-counts-test.true, c.words_of-total.ensures)) in
+    (looked _ _ _ _ _ _ _ _ c.loop-counts.invariant.fills c.loop-counts.invariant.counted less c.look_for_room-counts.ensures.looks).0
+
+pub returns-then-counts-eq0-clause-all : goal.returns-then-counts-eq0-clause-all
+returns-then-counts-eq0-clause-all c =
+    let total = length-frame c.args.message.now in (
+      omega (arith, c.loop-counts-test.true, c.words_of-total.ensures, c.look_for_room-counts.ensures.stored),
+      looked_full _ _ _ _ _ _ _ _ c.loop-counts.invariant.fills c.loop-counts.invariant.counted c.look_for_room-counts.ensures.counted c.if-counts-eq0.true c.look_for_room-counts.ensures.looks,
+    )
+
+pub frame_word-requires : goal.frame_word-requires
+frame_word-requires c =
+    let total = length-frame c.args.message.now in
+    omega (arith, c.loop-counts-test.true, c.words_of-total.ensures, c.look_for_room-counts.ensures.stored)
+
+-- the words that are there before the next one is put
+abbrev Here : List ℕ → List ℕ → List ℕ → ℕ → Type 0
+Here base all put k = put ≡ base ++ take k all
+
+pub put-requires-clause-framed : goal.put-requires-clause-framed
+put-requires-clause-framed c =
+    let total = length-frame c.args.message.now in
+    let low : c.look_for_room-counts.result.stored < length (frame c.args.message.now) = omega (arith, c.loop-counts-test.true, c.words_of-total.ensures, c.look_for_room-counts.ensures.stored) in
+    let less = less_put _ _ _ c.loop-counts.counts.stored c.loop-counts.invariant.put (omega (arith, c.loop-counts-test.true, c.words_of-total.ensures)) in
+    let l = looked _ _ _ _ _ _ _ _ c.loop-counts.invariant.fills c.loop-counts.invariant.counted less c.look_for_room-counts.ensures.looks in
+    let here : Here (base_of c.args.tx.now.end c.args.counts.stored) (frame c.args.message.now) c.look_for_room-counts.new.tx.end.put c.look_for_room-counts.result.stored =
+    l.1 ∙ c.loop-counts.invariant.put ∙ ap (λ (k : ℕ). base_of c.args.tx.now.end c.args.counts.stored ++ take k (frame c.args.message.now)) (sym c.look_for_room-counts.ensures.stored) in
+    subst (λ (r : Ring). IsFramed r.max (c.look_for_room-counts.new.tx.end.put ++ (c.frame_word.result ∷ []))) (sym l.0.ring)
+    (put_framed _ _ _ _ c.look_for_room-counts.result.stored _ c.requires.framed low c.frame_word.ensures here)
+
+pub overflow_add-counts-in-loop-counts : goal.overflow_add-counts-in-loop-counts
+overflow_add-counts-in-loop-counts c = omega (arith, c.look_for_room-counts.ensures.counted.few, c.look_for_room-counts.ensures.counted.small, c.if-counts-eq0.false)
+
+pub loop-counts-preserved : goal.loop-counts-preserved
+loop-counts-preserved c =
+    let total = length-frame c.args.message.now in
+    let low : c.look_for_room-counts.result.stored < length (frame c.args.message.now) = omega (arith, c.loop-counts-test.true, c.words_of-total.ensures, c.look_for_room-counts.ensures.stored) in
+    let less = less_put _ _ _ c.loop-counts.counts.stored c.loop-counts.invariant.put (omega (arith, c.loop-counts-test.true, c.words_of-total.ensures)) in
+    let l = looked _ _ _ _ _ _ _ _ c.loop-counts.invariant.fills c.loop-counts.invariant.counted less c.look_for_room-counts.ensures.looks in
+    let here : Here (base_of c.args.tx.now.end c.args.counts.stored) (frame c.args.message.now) c.look_for_room-counts.new.tx.end.put c.look_for_room-counts.result.stored =
+    l.1 ∙ c.loop-counts.invariant.put ∙ ap (λ (k : ℕ). base_of c.args.tx.now.end c.args.counts.stored ++ take k (frame c.args.message.now)) (sym c.look_for_room-counts.ensures.stored) in
+    let end : c.put.new.self.end ≡ puts c.look_for_room-counts.new.tx.end c.frame_word.result = ap (λ (o : SendingEnd). o.end) c.put.ensures in
+    record {
+      kept = only_on c.args.tx.now c.look_for_room-counts.new.tx c.put.new.self (only_on c.args.tx.now c.loop-counts.tx c.look_for_room-counts.new.tx c.loop-counts.invariant.kept c.look_for_room-counts.ensures.kept) (only_is c.look_for_room-counts.new.tx c.put.new.self _ c.put.ensures);
+      fills = subst (λ (s : Sending). Fills c.args.tx.now.end s (length (base_of c.args.tx.now.end c.args.counts.stored ++ frame c.args.message.now))) (sym end) (fills_put c.args.tx.now.end c.look_for_room-counts.new.tx.end _ c.frame_word.result l.0);
+      counted = subst (λ (s : Sending). Counted s (c.look_for_room-counts.result.free - 1) (c.look_for_room-counts.result.unpublished + 1)) (sym end)
+          (counted_put c.look_for_room-counts.new.tx.end _ _ c.frame_word.result c.look_for_room-counts.ensures.counted (omega (arith, c.if-counts-eq0.false)));
+      stored = omega (arith, low);
+      put = ap (λ (s : Sending). s.put) end ∙ put_more _ _ _ c.look_for_room-counts.result.stored _ low c.frame_word.ensures here;
+    }
+
+pub returns-clause-all : goal.returns-clause-all
+returns-clause-all c =
+    let total = length-frame c.args.message.now in
+    omega (arith, c.loop-counts-test.false, c.words_of-total.ensures, c.loop-counts.invariant.stored)

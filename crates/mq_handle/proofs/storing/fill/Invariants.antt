@@ -1,0 +1,17 @@
+use Rattle.std.proofs.Common.{◌≡◌, ◌++◌, ◌≤◌, ◌-◌, length, take}
+use Rattle.ring_rule.specs.Frames.{frame}
+use Rattle.mq_handle.specs.Held.{Counted}
+use Rattle.mq_handle.specs.Filling.{Fills, base_of}
+use Rattle.mq_handle.proofs.storing.fill.Given as goal
+
+abbrev pub invariant-loop-counts : goal.invariant-loop-counts
+invariant-loop-counts l = record {
+  kept : l.tx ≡ record l.fn.tx { end = l.tx.end };
+  fills : Fills l.fn.tx.end l.tx.end (length (base_of l.fn.tx.end l.fn.counts.stored ++ frame l.message));
+  counted : Counted l.tx.end l.counts.free l.counts.unpublished;
+  stored : l.counts.stored ≤ length (frame l.message);
+  put : l.tx.end.put ≡ base_of l.fn.tx.end l.fn.counts.stored ++ take l.counts.stored (frame l.message);
+}
+
+abbrev pub decreases-loop-counts : goal.decreases-loop-counts
+decreases-loop-counts l = l.total - l.counts.stored

@@ -1,0 +1,13 @@
+use Rattle.std.proofs.Common.{ap, subst, sym, ◌+◌}
+use Rattle.ring_rule.specs.Ring.{Receiving}
+use Rattle.mq_ring.specs.Ends.{ReceivingEnd}
+use Rattle.mq_handle.specs.Taking.{InHand, before_of}
+use Rattle.mq_handle.proofs.Hands.{hand_more}
+use Rattle.mq_handle.proofs.taking.take_word.Goals as goal
+
+pub returns-clause-hand : goal.returns-clause-hand
+returns-clause-hand c =
+    let end = ap (λ (o : ReceivingEnd). o.end) c.take-word.ensures.end in
+    let hand : InHand c.args.rx.now.end.ring.max (before_of c.args.rx.now.end c.args.taken.words) c.take-word.new.self.end.taken c.keep_word-len.new.buffer (c.args.taken.words + 1) c.keep_word-len.result =
+    hand_more _ _ _ _ _ _ _ _ c.take-word.result _ c.requires.hand c.requires.unfinished (ap (λ (q : Receiving). q.taken) end) c.take-word.ensures.framed c.keep_word-len.ensures.first c.keep_word-len.ensures.more in
+    subst (λ (q : Receiving). InHand q.ring.max (before_of c.args.rx.now.end c.args.taken.words) c.take-word.new.self.end.taken c.keep_word-len.new.buffer (c.args.taken.words + 1) c.keep_word-len.result) (sym end) hand

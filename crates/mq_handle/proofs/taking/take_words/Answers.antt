@@ -1,0 +1,20 @@
+use Rattle.std.proofs.Common.{ℕ, List, subst, arith}
+use Rattle.mq_handle.specs.Taking.{InHand}
+use Rattle.mq_handle.proofs.Hands.{base_same, hand_open, takes_on, only_on}
+use Rattle.mq_handle.proofs.taking.take_words.Goals as goal
+
+pub loop-taken-smaller : goal.loop-taken-smaller
+loop-taken-smaller c = omega (arith, c.take_word-taken.ensures.one.1)
+
+pub loop-taken-preserved : goal.loop-taken-preserved
+loop-taken-preserved c =
+    let base = base_same _ _ _ _ _ _ c.loop-taken.invariant.hand in
+    record {
+      kept = only_on c.args.rx.now c.loop-taken.rx c.take_word-taken.new.rx c.loop-taken.invariant.kept c.take_word-taken.ensures.kept;
+      takes = takes_on _ _ _ c.loop-taken.invariant.takes c.take_word-taken.ensures.takes;
+      counted = c.take_word-taken.ensures.counted;
+      hand = subst (λ (b : List ℕ). InHand c.take_word-taken.new.rx.end.ring.max b c.take_word-taken.new.rx.end.taken c.take_word-taken.new.buffer c.take_word-taken.result.words c.take_word-taken.result.len) base c.take_word-taken.ensures.hand;
+      unfinished = hand_open _ _ _ _ _ _ c.take_word-taken.ensures.hand (omega (arith, c.take_word-taken.ensures.one.0)) (λ e. c.if-taken-words_of.false (omega (arith, e, c.words_of.ensures)));
+      further = omega (arith, c.loop-taken.invariant.further, c.take_word-taken.ensures.one);
+      more = omega (arith, c.loop-taken.invariant.more, c.take_word-taken.ensures.one.0);
+    }

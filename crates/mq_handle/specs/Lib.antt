@@ -1,0 +1,10 @@
+pub mod Messages
+pub mod Sends
+pub mod SendAnswers
+pub mod Held
+pub mod Filling
+pub mod Receives
+pub mod Taking
+pub mod ReceiveAnswers
+pub mod Looking
+pub mod Waiting

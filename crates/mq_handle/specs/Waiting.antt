@@ -1,0 +1,33 @@
+-- What the calls that wait answer: what their last try did, before which the messages were those at entry.
+use Rattle.std.specs.Prelude.{◌≡◌, ℕ, ◌<◌, ◌≤◌, Bool, List, [], length}
+use Rattle.ring_rule.specs.Ring.{Sending, Receiving}
+use Rattle.ring_rule.specs.Ends.{sender_sees_flag}
+use Rattle.mq_handle.specs.Messages.{whole_of}
+use Rattle.mq_handle.specs.Sends.{IsSent}
+use Rattle.mq_handle.specs.Receives.{IsReceived, IsOver}
+use Rattle.mq_handle.specs.declared.answers.SendDone.{SendDone}
+use Rattle.mq_handle.specs.declared.answers.ReceiveDone.{ReceiveDone}
+use Rattle.mq_handle.specs.declared.answers.SendDone.TheVariants.{Sent, TooLong}
+use Rattle.mq_handle.specs.declared.answers.SendDone.TheVariants.{Detached as SendDetached}
+use Rattle.mq_handle.specs.declared.answers.ReceiveDone.TheVariants.{Message, Detached}
+
+-- the end before the last try of a send: tries that would block went before it
+pub record SendsOn (old last : Sending) : Type 0 where
+  pub ring : last.ring ≡ old.ring
+  pub whole : whole_of last.put ≡ whole_of old.put
+  pub turn : old.turn ≤ last.turn
+
+abbrev pub EndsSend : Sending → Sending → List ℕ → Bool → SendDone → Type 0
+EndsSend old new message flush Sent = (last : Sending) × SendsOn old last × IsSent last new message flush
+EndsSend old new message flush SendDetached = (last : Sending) × SendsOn old last × (length message ≤ last.ring.max) × (new ≡ sender_sees_flag last 1)
+EndsSend old new message flush (TooLong len) = (old.ring.max < length message) × (len ≡ length message) × (whole_of new.put ≡ whole_of old.put)
+
+-- the end before the last try of a receive
+pub record ReceivesOn (old last : Receiving) : Type 0 where
+  pub ring : last.ring ≡ old.ring
+  pub whole : whole_of last.taken ≡ whole_of old.taken
+  pub turn : old.turn ≤ last.turn
+
+abbrev pub EndsReceive : Receiving → Receiving → List ℕ → ReceiveDone → Type 0
+EndsReceive old new message Message = (last : Receiving) × ReceivesOn old last × IsReceived last new message
+EndsReceive old new message Detached = (last : Receiving) × ReceivesOn old last × (whole_of new.taken ≡ whole_of old.taken) × (message ≡ []) × IsOver last new

@@ -1,0 +1,114 @@
+//! The receiving end of a queue.
+ghost use Rattle.std.specs.Prelude.{◌≡◌, ◌≤◌, false, true, [], length};
+ghost use Rattle.ring_rule.specs.Ring.{Receiving};
+ghost use Rattle.ring_rule.specs.Ends.{receiver_leaves};
+ghost use Rattle.mq_handle.specs.Held.{IsUnread};
+ghost use Rattle.mq_handle.specs.Receives.{incoming};
+ghost use Rattle.mq_handle.specs.ReceiveAnswers.{Gives};
+
+use crate::answers::ReceiveAnswer;
+use crate::receiving::receive_frame;
+use crate::taking::Taken;
+use mq_ring::RingRx;
+use region_words::Region;
+use std::marker::Model;
+
+/// The receiving end of a queue. Contracts see the ring's end, of whose words `whole_of` gives the messages received, and the message of
+/// the last receive call.
+#[derive(Drop)]
+pub struct Receiver {
+    pub(crate) rx: RingRx,
+    buffer: Vec<u8>,
+    taken: Taken,
+    whole: bool,
+    gone: bool,
+}
+
+impl Model for Receiver {
+    ghost use Rattle.std.specs.Prelude.{[], cond, take, List, ℕ};
+    ghost use Rattle.mq_handle.specs.Receives.{Incoming, incoming_code, incoming};
+    ghost use Rattle.mq_handle.specs.Taking.{IsReceiver};
+
+    ghost Value = { Incoming };
+
+    ghost coded = { incoming_code };
+
+    ghost view = { λ q. incoming q.rx.region q.rx.end q.rx.told (cond {A = List ℕ} q.whole (take q.taken.len q.buffer.items) []) };
+
+    ghost invariant = { λ q. IsReceiver q.rx.end q.buffer.items q.taken.words q.taken.len q.taken.ready q.taken.unreturned q.whole q.gone };
+}
+
+impl Receiver {
+    // The receiving end over a ring from which nothing was taken, with a buffer for the greatest message.
+    pub(crate) fn new(rx: RingRx, buffer: Vec<u8>) -> Receiver
+        requires unread { IsUnread rx.end }
+        requires room { length buffer.items ≡ rx.end.ring.max }
+        ensures { result ≡ incoming rx.region rx.end rx.told [] }
+    {
+        let _size = rx.words();
+        let taken = Taken {
+            words: 0,
+            len: 0,
+            ready: 0,
+            unreturned: 0,
+        };
+        Receiver {
+            rx,
+            buffer,
+            taken,
+            whole: false,
+            gone: false,
+        }
+    }
+
+    /// Takes the next message off the ring, if a whole one is there. Each byte is copied once, from the ring to the receiver's buffer.
+    /// It returns after at most as many words as the greatest message has.
+    pub fn try_receive(&mut self, r: &Region) -> ReceiveAnswer
+        requires here { self.old.region ≡ r.now }
+        requires stays { self.old.end.gone ≡ false }
+        ensures kept { self.new ≡ incoming self.old.region self.new.end self.old.told self.new.message }
+        ensures ring { self.new.end.ring ≡ self.old.end.ring }
+        ensures stays { self.new.end.gone ≡ false }
+        ensures later { self.old.end.turn ≤ self.new.end.turn }
+        ensures answer { Gives self.old.end self.new.end self.new.message result }
+    {
+        let buffer = self.buffer.as_mut_slice();
+        let (taken, answer) = receive_frame(&mut self.rx, r, buffer, self.taken);
+        self.taken = taken;
+        self.whole = answer == ReceiveAnswer::Message;
+        answer
+    }
+
+    /// The message of the last receive call, where it answered Message; else nothing.
+    pub fn message(&self) -> &[u8]
+        ensures { result.now ≡ self.now.message }
+    {
+        if self.whole {
+            &self.buffer[..self.taken.len as usize]
+        } else {
+            &[]
+        }
+    }
+
+    /// Tells the sender that nothing more is received. On a detached end it does nothing.
+    pub fn detach(&mut self, r: &Region)
+        requires here { self.old.region ≡ r.now }
+        ensures first { self.old.end.gone ≡ false → self.new ≡ record self.old { end = receiver_leaves self.old.end } }
+        ensures again { self.old.end.gone ≡ true → self.new ≡ self.old }
+    {
+        if self.gone {
+            return;
+        }
+        self.rx.set_flag(r);
+        self.gone = true;
+    }
+
+    // The ring's end, for the way home.
+    pub(crate) fn into_ring(self) -> RingRx
+        ensures here { result.region ≡ self.region }
+        ensures end { (result.end ≡ self.end) × (result.told ≡ self.told) }
+    {
+        let Receiver { rx, .. } = self;
+        rx
+    }
+}

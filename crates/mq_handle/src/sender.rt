@@ -1,0 +1,139 @@
+//! The sending end of a queue.
+ghost use Rattle.std.specs.Prelude.{◌≡◌, ◌<◌, ◌≤◌, ◌+◌, false, true, length};
+ghost use Rattle.ring_rule.specs.Ring.{Sending};
+ghost use Rattle.ring_rule.specs.Ends.{publishes, sender_leaves};
+ghost use Rattle.mq_handle.specs.Sends.{Continues, StaysOpen};
+ghost use Rattle.mq_handle.specs.SendAnswers.{Answers};
+ghost use Rattle.mq_handle.specs.Held.{Counted, InFrames, IsUnsent};
+
+use crate::answers::SendAnswer;
+use crate::storing::{Counts, fill, finish};
+use mq_ring::RingTx;
+use region_words::Region;
+use std::marker::Model;
+
+/// The sending end of a queue. Contracts see the ring's end, of whose words `whole_of` gives the messages sent.
+#[derive(Drop)]
+pub struct Sender {
+    pub(crate) tx: RingTx,
+    counts: Counts,
+    gone: bool,
+}
+
+impl Model for Sender {
+    ghost use Rattle.mq_ring.specs.Ends.{SendingEnd, sending_end_code};
+    ghost use Rattle.mq_handle.specs.Held.{IsSender};
+
+    ghost Value = { SendingEnd };
+
+    ghost coded = { sending_end_code };
+
+    ghost view = { λ s. s.tx };
+
+    ghost invariant = { λ s. IsSender s.tx.end s.counts.stored s.counts.free s.counts.unpublished s.gone };
+}
+
+impl Sender {
+    // The sending end over a ring on which nothing was put.
+    pub(crate) fn new(tx: RingTx) -> Sender
+        requires { IsUnsent tx.end }
+        ensures { result ≡ tx }
+    {
+        let free = tx.words();
+        let counts = Counts {
+            stored: 0,
+            free,
+            unpublished: 0,
+        };
+        Sender {
+            tx,
+            counts,
+            gone: false,
+        }
+    }
+
+    /// Puts the message on the ring as far as there is room. Where a part of a frame is stored, the message has to be that frame's: repeat
+    /// the call with it. Where the message fits it costs one load, one store a word and at most one store of the count. `flush` lets the
+    /// receiver see the message at once; without it the last quarter of the ring may stay unseen until a later call.
+    pub fn try_send(&mut self, r: &Region, message: &[u8], flush: bool) -> SendAnswer
+        requires here { self.old.region ≡ r.now }
+        requires stays { self.old.end.gone ≡ false }
+        requires continues { Continues self.old.end.put message.now }
+        ensures kept { self.new ≡ record self.old { end = self.new.end } }
+        ensures stays { StaysOpen self.old.end self.new.end }
+        ensures answer { Answers self.old.end self.new.end message.now flush result }
+    {
+        let (counts, answer) = send_frame(&mut self.tx, r, message, self.counts, flush);
+        self.counts = counts;
+        answer
+    }
+
+    /// Lets the receiver see all that was put.
+    pub fn flush(&mut self, r: &Region)
+        requires here { self.old.region ≡ r.now }
+        requires stays { self.old.end.gone ≡ false }
+        ensures { self.new ≡ record self.old { end = publishes self.old.end } }
+    {
+        self.tx.publish(r);
+        self.counts.unpublished = 0;
+    }
+
+    /// Lets the receiver see all that was put, and tells it that no more comes. On a detached end it does nothing.
+    pub fn detach(&mut self, r: &Region)
+        requires here { self.old.region ≡ r.now }
+        ensures first { self.old.end.gone ≡ false → self.new ≡ record self.old { end = sender_leaves (publishes self.old.end) } }
+        ensures again { self.old.end.gone ≡ true → self.new ≡ self.old }
+    {
+        if self.gone {
+            return;
+        }
+        self.tx.publish(r);
+        self.tx.set_flag(r);
+        self.counts.unpublished = 0;
+        self.gone = true;
+    }
+
+    // The ring's end, for the way home. It tells that a sender that is gone has published all that it put.
+    pub(crate) fn into_ring(self) -> RingTx
+        ensures ring { result ≡ self }
+        ensures flushed { self.end.gone ≡ true → self.end.published ≡ length self.end.put }
+    {
+        let Sender { tx, .. } = self;
+        tx
+    }
+}
+
+/// One try to send, by the ring's end.
+fn send_frame(
+    tx: &mut RingTx,
+    r: &Region,
+    message: &[u8],
+    counts: Counts,
+    flush: bool,
+) -> (Counts, SendAnswer)
+    requires here { tx.old.region ≡ r.now }
+    requires stays { tx.old.end.gone ≡ false }
+    requires counted { Counted tx.old.end counts.free counts.unpublished }
+    requires framed { InFrames tx.old.end.ring.max tx.old.end.put counts.stored }
+    requires continues { Continues tx.old.end.put message.now }
+    ensures kept { tx.new ≡ record tx.old { end = tx.new.end } }
+    ensures stays { StaysOpen tx.old.end tx.new.end }
+    ensures answer { Answers tx.old.end tx.new.end message.now flush result.1 }
+    ensures counted { Counted tx.new.end result.0.free result.0.unpublished }
+    ensures framed { InFrames tx.new.end.ring.max tx.new.end.put result.0.stored }
+{
+    let length = message.len() as u64;
+    if length > u64::from(tx.max()) {
+        return (counts, SendAnswer::TooLong { length });
+    }
+    if tx.look_flag(r) {
+        return (counts, SendAnswer::Detached);
+    }
+    let (counts, done) = fill(tx, r, message, counts);
+    if !done {
+        let stored = counts.stored;
+        return (counts, SendAnswer::WouldBlock { stored });
+    }
+    let counts = finish(tx, r, counts, flush);
+    (counts, SendAnswer::Sent)
+}

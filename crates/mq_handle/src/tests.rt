@@ -1,0 +1,259 @@
+//! Sends and receives in a row, and a stream between two threads.
+ghost use Rattle.std.specs.Prelude.{◌≡◌, ◌<◌, ◌≤◌, ◌*◌, ◌+◌, ◌^◌, [], false, ℕ, IsSome, IfSome};
+ghost use Rattle.word_map.specs.WordMap.{at as word_at};
+ghost use Rattle.mq_handle.specs.Messages.{left_of};
+
+use crate::{ReceiveAnswer, ReceiveDone, Receiver, SendAnswer, SendDone, Sender, attach};
+use mq_ring::Ring;
+use region_words::{Chunk, Part, Region};
+use rel_pointer::RelPtr;
+use std::alloc::Global;
+use std::sync::Wait;
+use std::thread::{Threads, join};
+
+/// A queue over the words behind word 0.
+fn queue_of(
+    alloc: Global,
+    r: &Region,
+    part: &mut Part,
+    words: u64,
+    from: u64,
+    max: u32,
+) -> Option<(Sender, Receiver)>
+    requires here { part.old.region ≡ r.now }
+    requires power { (e : ℕ) × (words ≡ 2 ^ e) × (e ≤ 20) }
+    requires max { max ≤ 1048576 }
+    requires owns { (k : ℕ) → 1 ≤ k → k < 1 + (words + 3) → IsSome (word_at part.old.words k) }
+    ensures here { IfSome result (λ ends. (ends.0.region ≡ r.now) × (ends.1.region ≡ r.now)) }
+    ensures stays { IfSome result (λ ends. (ends.0.end.gone ≡ false) × (ends.1.end.gone ≡ false)) }
+    ensures fresh { IfSome result (λ ends. left_of ends.0.end.put ≡ []) }
+{
+    let words_of_ring = part.split(r, 1, words + 3);
+    let chunk = Chunk {
+        at: RelPtr::of(1),
+        bytes: 8 * (words + 3),
+        part: words_of_ring,
+    };
+    let (tx, rx) = Ring::create(r, chunk, words, from, max);
+    match attach(alloc, tx, rx) {
+        Ok(ends) => Some(ends),
+        Err(_) => None,
+    }
+}
+
+/// A message of ten bytes goes through; of the next one word is stored; then it follows, the sender goes, and its message is still there.
+fn part_of_a_message(r: &Region, s: &mut Sender, q: &mut Receiver) -> bool
+    requires here { (s.old.region ≡ r.now) × (q.old.region ≡ r.now) }
+    requires stays { (s.old.end.gone ≡ false) × (q.old.end.gone ≡ false) }
+    requires fresh { left_of s.old.end.put ≡ [] }
+{
+    let SendAnswer::Sent = s.try_send(r, b"abcdefgh12", true) else {
+        return false;
+    };
+    let SendAnswer::WouldBlock { stored: 1 } = s.try_send(r, b"xyz", true) else {
+        return false;
+    };
+    let ReceiveAnswer::Message = q.try_receive(r) else {
+        return false;
+    };
+    if q.message() != b"abcdefgh12".as_slice() {
+        return false;
+    }
+    let SendAnswer::Sent = s.try_send(r, b"xyz", true) else {
+        return false;
+    };
+    s.detach(r);
+    let ReceiveAnswer::Message = q.try_receive(r) else {
+        return false;
+    };
+    if q.message() != b"xyz".as_slice() {
+        return false;
+    }
+    q.try_receive(r) == ReceiveAnswer::Detached
+}
+
+/// A message that is longer than the ring and crosses the wrap of the counts.
+fn longer_than_the_ring(r: &Region, s: &mut Sender, q: &mut Receiver) -> bool
+    requires here { (s.old.region ≡ r.now) × (q.old.region ≡ r.now) }
+    requires stays { (s.old.end.gone ≡ false) × (q.old.end.gone ≡ false) }
+    requires fresh { left_of s.old.end.put ≡ [] }
+{
+    let long = b"0123456789012345678901234567890123456789";
+    let SendAnswer::WouldBlock { stored: 4 } = s.try_send(r, long, true) else {
+        return false;
+    };
+    let ReceiveAnswer::WouldBlock = q.try_receive(r) else {
+        return false;
+    };
+    let SendAnswer::Sent = s.try_send(r, long, true) else {
+        return false;
+    };
+    let ReceiveAnswer::Message = q.try_receive(r) else {
+        return false;
+    };
+    if q.message() != long.as_slice() {
+        return false;
+    }
+    let too_long = b"01234567890123456789012345678901234567890";
+    let SendAnswer::TooLong { length: 41 } = s.try_send(r, too_long, true) else {
+        return false;
+    };
+    let SendAnswer::Sent = s.try_send(r, b"", true) else {
+        return false;
+    };
+    q.try_receive(r) == ReceiveAnswer::Message && q.message().is_empty()
+}
+
+/// The receiver goes first.
+fn nobody_receives(r: &Region, s: &mut Sender, q: &mut Receiver) -> bool
+    requires here { (s.old.region ≡ r.now) × (q.old.region ≡ r.now) }
+    requires stays { (s.old.end.gone ≡ false) × (q.old.end.gone ≡ false) }
+    requires fresh { left_of s.old.end.put ≡ [] }
+{
+    let ReceiveAnswer::WouldBlock = q.try_receive(r) else {
+        return false;
+    };
+    q.detach(r);
+    s.try_send(r, b"a", true) == SendAnswer::Detached
+}
+
+/// Without flush, the receiver sees nothing until more than a quarter of the ring is unpublished.
+fn by_quarters(r: &Region, s: &mut Sender, q: &mut Receiver) -> bool
+    requires here { (s.old.region ≡ r.now) × (q.old.region ≡ r.now) }
+    requires stays { (s.old.end.gone ≡ false) × (q.old.end.gone ≡ false) }
+    requires fresh { left_of s.old.end.put ≡ [] }
+{
+    let SendAnswer::Sent = s.try_send(r, b"ab", false) else {
+        return false;
+    };
+    let ReceiveAnswer::WouldBlock = q.try_receive(r) else {
+        return false;
+    };
+    let SendAnswer::Sent = s.try_send(r, b"ab", false) else {
+        return false;
+    };
+    let ReceiveAnswer::WouldBlock = q.try_receive(r) else {
+        return false;
+    };
+    let SendAnswer::Sent = s.try_send(r, b"ab", false) else {
+        return false;
+    };
+    q.try_receive(r) == ReceiveAnswer::Message && q.message() == b"ab".as_slice()
+}
+
+/// The bytes of the message with this number, which has 0 to 600 of them.
+fn write_message(out: &mut [u8; 600], number: u64) -> usize
+    requires { number ≤ 2 ^ 32 }
+    ensures { result ≤ 600 }
+{
+    let len = (number % 601) as usize;
+    for i in 0..len {
+        out[i] = ((number + i as u64) % 251) as u8;
+    }
+    len
+}
+
+/// Sends the messages in order. Answers whether all were sent.
+fn send_all<R: Wait>(rt: &R, r: &Region, mut s: Sender, count: u64) -> bool
+    requires here { s.region ≡ r.now }
+    requires stays { s.end.gone ≡ false }
+    requires fresh { left_of s.end.put ≡ [] }
+    requires few { count ≤ 2 ^ 32 }
+{
+    let mut bytes = [0u8; 600];
+    for number in 0..count {
+        let len = write_message(&mut bytes, number);
+        let SendDone::Sent = s.send(rt, r, &bytes[..len], number % 3 == 0) else {
+            return false;
+        };
+    }
+    s.detach(r);
+    true
+}
+
+/// Receives the messages, and then that the sender is gone. Answers whether all were whole and in order.
+fn receive_all<R: Wait>(rt: &R, r: &Region, mut q: Receiver, count: u64) -> bool
+    requires here { q.region ≡ r.now }
+    requires stays { q.end.gone ≡ false }
+    requires few { count ≤ 2 ^ 32 }
+{
+    let mut bytes = [0u8; 600];
+    for number in 0..count {
+        let len = write_message(&mut bytes, number);
+        let ReceiveDone::Message = q.receive(rt, r) else {
+            return false;
+        };
+        if q.message() != &bytes[..len] {
+            return false;
+        }
+    }
+    q.receive(rt, r) == ReceiveDone::Detached
+}
+
+/// One thread sends, one receives.
+fn stream<R: Threads + Wait + Sync>(rt: &R, r: &Region, s: Sender, q: Receiver, count: u64) -> bool
+    requires here { (s.region ≡ r.now) × (q.region ≡ r.now) }
+    requires stays { (s.end.gone ≡ false) × (q.end.gone ≡ false) }
+    requires fresh { left_of s.end.put ≡ [] }
+    requires few { count ≤ 2 ^ 32 }
+{
+    let (sent, received) = join(
+        rt,
+        || -> bool
+            requires { (s.region ≡ r.now) × (s.end.gone ≡ false) × (left_of s.end.put ≡ []) × (count ≤ 2 ^ 32) }
+        { send_all(rt, r, s, count) },
+        || -> bool
+            requires { (q.region ≡ r.now) × (q.end.gone ≡ false) × (count ≤ 2 ^ 32) }
+        { receive_all(rt, r, q, count) },
+    );
+    sent && received
+}
+
+/// A new region, and a queue in it.
+fn new_queue(alloc: Global, words: u64, from: u64, max: u32) -> Option<(Region, Sender, Receiver)>
+    requires power { (e : ℕ) × (words ≡ 2 ^ e) × (e ≤ 20) }
+    requires small { words ≤ 2 ^ 20 }
+    requires max { max ≤ 1048576 }
+    ensures here { IfSome result (λ made. (made.1.region ≡ made.0) × (made.2.region ≡ made.0)) }
+    ensures stays { IfSome result (λ made. (made.1.end.gone ≡ false) × (made.2.end.gone ≡ false)) }
+    ensures fresh { IfSome result (λ made. left_of made.1.end.put ≡ []) }
+{
+    let Ok((region, part)) = Region::new(alloc, words as usize + 4) else {
+        return None;
+    };
+    let mut part = part;
+    let (s, q) = queue_of(alloc, &region, &mut part, words, from, max)?;
+    Some((region, s, q))
+}
+
+#[test]
+fn a_part_of_a_message_is_stored(rt: HostRuntime) {
+    let (r, mut s, mut q) = new_queue(rt.alloc(), 4, 0, 64).expect(&rt, "memory");
+    assert!(rt; part_of_a_message(&r, &mut s, &mut q));
+}
+
+#[test]
+fn a_message_is_longer_than_the_ring(rt: HostRuntime) {
+    let (r, mut s, mut q) = new_queue(rt.alloc(), 4, 18446744073709551614, 40).expect(
+        &rt, "memory",
+    );
+    assert!(rt; longer_than_the_ring(&r, &mut s, &mut q));
+}
+
+#[test]
+fn the_receiver_goes_first(rt: HostRuntime) {
+    let (r, mut s, mut q) = new_queue(rt.alloc(), 4, 0, 64).expect(&rt, "memory");
+    assert!(rt; nobody_receives(&r, &mut s, &mut q));
+}
+
+#[test]
+fn counts_are_published_by_quarters(rt: HostRuntime) {
+    let (r, mut s, mut q) = new_queue(rt.alloc(), 16, 0, 64).expect(&rt, "memory");
+    assert!(rt; by_quarters(&r, &mut s, &mut q));
+}
+
+#[test]
+fn a_stream_is_whole_and_in_order(rt: HostRuntime) {
+    let (r, s, q) = new_queue(rt.alloc(), 64, 0, 600).expect(&rt, "memory");
+    assert!(rt; stream(&rt, &r, s, q, 100000));
+}
