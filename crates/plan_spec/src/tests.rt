@@ -1,7 +1,13 @@
 //! What no clause says: that words are read, and what `clap` makes of them.
 
+ghost use Rattle.std.specs.Prelude.{◌≡◌, IfSome, map, string_bytes};
+ghost use Rattle.csv_rows.specs.Records.{record_at};
+ghost use Rattle.par_model.specs.Named.{bound_plan};
+ghost use Rattle.plan_spec.specs.Query.{query_of};
+
 use crate::{Plan, PlanAnswer};
-use csv_rows::rows;
+use csv_rows::{RowStore, rows};
+use par_model::BoundPlan;
 use std::alloc::{AllocError, Global};
 use std::test::Fail;
 
@@ -14,6 +20,15 @@ fn owned(alloc: Global, words: &str) -> Result<Vec<String>, AllocError> {
         }
     }
     Ok(list)
+}
+
+// The plan of the words over the columns of the store's header, if there is one: the caller of
+// CALLING.md.
+fn bound_words(alloc: Global, words: &[String], store: &RowStore) -> Option<BoundPlan>
+    ensures { IfSome result (λ bound. IfSome (query_of (map string_bytes words.now)) (λ query. bound ≡ bound_plan (record_at store.now 0) query.plan)) }
+{
+    let plan = Plan::of_words(alloc, words).ok()?;
+    plan.bind(store).ok()
 }
 
 // Words that are a plan, and words that are none.
@@ -66,20 +81,18 @@ fn binds(rt: HostRuntime) -> Result<(), Fail> {
     };
     let words = "--group g --agg count,sum:v --where v<2 --workers 7";
     let list = owned(rt.alloc(), words)?;
-    let Ok(plan) = Plan::of_words(rt.alloc(), list.as_slice()) else {
-        assert!(rt; false);
-        return Ok(());
-    };
-    assert_eq!(rt; plan.workers(), 7);
-    assert_eq!(rt; plan.area_pages(), 2048);
-    match plan.bind(&store) {
-        Ok(bound) => {
+    if let Ok(plan) = Plan::of_words(rt.alloc(), list.as_slice()) {
+        assert_eq!(rt; plan.workers(), 7);
+        assert_eq!(rt; plan.area_pages(), 2048);
+    }
+    match bound_words(rt.alloc(), list.as_slice(), &store) {
+        Some(bound) => {
             assert_eq!(rt; bound.groups[0], 0);
             assert_eq!(rt; bound.items[1].column, 1);
             assert_eq!(rt; bound.item_count, 2);
             assert!(rt; bound.filter.is_some() && !bound.hash);
         }
-        Err(missing) => assert!(rt; false, "{missing:?}"),
+        None => assert!(rt; false),
     }
     let list = owned(rt.alloc(), "--group g --agg sum:v,max:w --where u=1")?;
     if let Ok(plan) = Plan::of_words(rt.alloc(), list.as_slice()) {
