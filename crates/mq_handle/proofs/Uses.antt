@@ -1,5 +1,5 @@
 -- When a send may follow.
-use Rattle.std.proofs.Common.{◌≡◌, ℕ, List, [], length, take, All, ◌+◌, ◌<◌, ◌≤◌, Bool, true, false, cond, Option, Some, None, IsSome, is_some, refl, sym, ap, ◌∙◌, arith}
+use Rattle.std.proofs.Common.{◌≡◌, ℕ, List, [], length, take, All, ◌+◌, ◌<◌, ◌≤◌, Bool, true, false, cond, Option, None, IsSome, is_some, refl, sym, ap, ◌∙◌, arith}
 use Rattle.word_map.specs.WordMap.{WordMap, at, is_within, range_of, HasJust}
 use Rattle.word_map.proofs.Maps.{at-range, within_is}
 use Rattle.rel_pointer.specs.Bytes.{AllBytes}
