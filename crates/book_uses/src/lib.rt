@@ -17,5 +17,5 @@ pub use counter::Counter;
 pub use crossing::{Cabinet, CabinetPass, Lent, One, cross};
 pub use drawer::Drawer;
 pub use numbered::{Numbered, Tag};
-pub use round::{put_in, take_out};
+pub use round::{put_in, round_trip, take_out};
 pub use twice::{added_by_two, closed_by_two};

@@ -55,3 +55,33 @@ pub fn put_in<R: Wait, O: Tag>(
         _ => None,
     }
 }
+
+/// Puts a part into an empty drawer and takes it out again. The one caller of a shelf knows that nobody came between: it
+/// gets a part back that has the same word.
+pub fn round_trip<R: Wait, O: Tag>(
+    rt: &R,
+    region: &Region,
+    shelf: &Shelf<Numbered<O>>,
+    pass: &mut Pass<Numbered<O>>,
+    part: Part,
+    at: u64,
+) -> (Part, u64)
+    requires own { Belongs shelf.now pass.old × (0 < count_of shelf.now) }
+    requires lone { callers_of shelf.now ≡ 1 }
+    requires name { (o : _) → get_elem? (opens_of shelf.now) 0 ≡ some o → (region.now ≡ o.0.region) × (at ≡ o.0.at) }
+    requires empty { (o : _) → get_elem? (opens_of shelf.now) 0 ≡ some o → last_of o.1 (seen_of pass.old 0) ≡ None }
+    requires part { (part.region ≡ region.now) × IsSome (word_at part.words at) }
+    ensures own { Belongs shelf.now pass.new × (number_of pass.new ≡ number_of pass.old) }
+    ensures region { result.0.region ≡ region.now }
+    ensures loaded { word_at result.0.words at ≡ Some result.1 }
+    ensures same_word { word_at part.words at ≡ Some result.1 }
+{
+    let Answer::Stored(_) = shelf.call(rt, region, pass, 0, Ask::PutIn(part)) else {
+        unreachable!()
+    };
+    let Answer::Taken(mut back, _word, _tag) = shelf.call(rt, region, pass, 0, Ask::TakeOut) else {
+        unreachable!()
+    };
+    let word = back.load(region, at);
+    (back, word)
+}

@@ -1,11 +1,12 @@
 //! Two threads that add a thousand times each, and a part that goes into a drawer and comes out, run.
-ghost use Rattle.std.specs.Prelude.{◌≡◌, ◌<◌, IfOk, Some};
+ghost use Rattle.std.specs.Prelude.{◌≡◌, ◌<◌, IfOk, None, Some};
 ghost use mathlib.Core.Option.{some};
 ghost use lib.ListN.{get_elem?};
 ghost use Rattle.word_map.specs.WordMap.{at as word_at};
-ghost use Rattle.lock_book.specs.Shown.{Belongs, count_of, opens_of};
+ghost use Rattle.lock_book.specs.History.{last_of};
+ghost use Rattle.lock_book.specs.Shown.{Belongs, callers_of, count_of, opens_of, seen_of};
 
-use crate::{Numbered, Tag, added_by_two, put_in, take_out};
+use crate::{Numbered, Tag, added_by_two, put_in, round_trip, take_out};
 use lock_book::{Pass, Shelf};
 use region_words::{Part, Region};
 use std::alloc::{AllocError, Global};
@@ -45,7 +46,9 @@ fn one_drawer(
     base: Part,
 ) -> Result<(Shelf<Numbered<Nine>>, Pass<Numbered<Nine>>), AllocError>
     ensures own { IfOk result (λ r. Belongs r.0 r.1 × (0 < count_of r.0)) }
+    ensures lone { IfOk result (λ r. callers_of r.0 ≡ 1) }
     ensures name { IfOk result (λ r. (o : _) → get_elem? (opens_of r.0) 0 ≡ some o → (o.0.region ≡ base.region) × (o.0.at ≡ 1)) }
+    ensures empty { IfOk result (λ r. (o : _) → get_elem? (opens_of r.0) 0 ≡ some o → last_of o.1 (seen_of r.1 0) ≡ None) }
 {
     let mut drawers = Vec::new(alloc);
     drawers.push(Numbered::new(0, base, 1))?;
@@ -60,6 +63,8 @@ fn one_drawer(
 fn a_part_goes_in_and_comes_out(rt: HostRuntime) -> Result<(), Fail> {
     let (region, base, one) = with_77(rt.alloc())?;
     let (shelf, mut pass) = one_drawer(rt.alloc(), base)?;
+    let (one, word) = round_trip(&rt, &region, &shelf, &mut pass, one, 1);
+    assert_eq!(rt; word, 77);
     let back = put_in(&rt, &region, &shelf, &mut pass, one, 1);
     assert!(rt; back.is_none());
     let taken = take_out(&rt, &region, &shelf, &mut pass, 1).expect(&rt, "a part");

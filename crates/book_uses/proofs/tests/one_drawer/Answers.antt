@@ -1,4 +1,6 @@
 use Rattle.std.proofs.Common.{◌∙◌, sym, ap, arith, length}
+use Rattle.lock_book.specs.History.{last_of}
+use Rattle.book_uses.specs.Drawers.{held_word}
 use Rattle.book_uses.proofs.Sums.{first_of, only}
 use Rattle.book_uses.proofs.tests.one_drawer.Goals as goal
 
@@ -11,3 +13,10 @@ returns-clause-name c = λ o at.
     let n = c.new.ensures in
     let first = first_of _ _ _ _ _ o c.in_ok-shelf.ensures.opens c.in_ok-push.ensures.items c.new-drawers.ensures.items at in
     (ap (λ z. z.0.region) (sym first) ∙ ap (λ p. p.region) n.1, ap (λ z. z.0.at) (sym first) ∙ n.2)
+
+pub returns-clause-empty : goal.returns-clause-empty
+returns-clause-empty c = λ o at.
+    let s = c.in_ok-shelf.ensures in
+    let first = first_of _ _ _ _ _ o s.opens c.in_ok-push.ensures.items c.new-drawers.ensures.items at in
+    let fresh = (s.fresh 0 c.in-Some.pass (only _ _ _ c.in-Some.ensures.items (s.passes.count ∙ s.counts.1)) 0).0 in
+    ap (last_of o.1) fresh ∙ (ap (λ z. z.1) (sym first) ∙ ap (λ h. held_word h c.new.result.drawer.word) c.new.ensures.3)
