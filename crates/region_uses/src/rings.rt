@@ -38,12 +38,7 @@ pub fn hand_over(r: &Region, tx: &mut RingTx, rx: &mut RingRx) -> u64
 }
 
 /// Each end works in a thread of its own: the sender publishes, then the receiver looks.
-pub fn one_by_one<R: Threads + Sync>(
-    rt: &R,
-    r: &Region,
-    tx: RingTx,
-    rx: RingRx,
-) -> (RingTx, RingRx)
+pub fn one_by_one<R: Threads + Sync>(rt: &R, r: &Region, tx: RingTx, rx: RingRx) -> (RingTx, RingRx)
     requires here { tx.region ≡ r.now }
     requires rx_here { rx.region ≡ r.now }
     requires stays { (tx.end.gone ≡ false) × (rx.end.gone ≡ false) }
