@@ -15,7 +15,7 @@ objects_fit s q e h =
     eighth : (t q : ℕ) → 8 * t * q ≤ 65536 → t * q ≤ 8192
     eighth t q h = omega arith
 
-bits_before : (class m : ℕ) → IsClass class → ((38 - class) * m ≤ 36 * m) × (m ≤ (38 - class) * m)
+pub bits_before : (class m : ℕ) → IsClass class → ((38 - class) * m ≤ 36 * m) × (m ≤ (38 - class) * m)
 bits_before class m c =
     let a : m * (38 - class) ≤ m * 36 = mul-le-mul_left m (let y : 38 - class ≤ 36 = omega (arith, c.low) in y) in
     let b : m * 1 ≤ m * (38 - class) = mul-le-mul_left m (let y : 1 ≤ 38 - class = omega (arith, c.high) in y) in

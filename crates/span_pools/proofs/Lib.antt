@@ -10,3 +10,4 @@ pub mod Pools
 pub mod Adds
 pub mod Empty
 pub mod Frees
+pub mod Offers

@@ -52,3 +52,9 @@ pub record IsSuperblock (region : TableId) (l : Layout) (at_word pages : ℕ) (w
   pub pages_is : pages ≡ 16
   pub here : words.region ≡ region
   pub records_are : IsSomeAnd records (λ o. (o.region ≡ region) × HasJust o.words (record_at l page) 112)
+
+-- the superblocks stand in an area of this many pages whose page 0 begins at word `from`
+pub record IsOver (l : Layout) (from of_pages : ℕ) : Type 0 where
+  pub first : l.first ≡ from
+  pub pages : l.pages ≡ of_pages
+  pub records : l.records ≡ records_at from of_pages

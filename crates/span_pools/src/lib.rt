@@ -10,5 +10,7 @@ mod layout;
 mod marks;
 mod objects;
 mod pool;
+#[cfg(test)]
+mod tests;
 
 pub use pool::Pool;
