@@ -1,5 +1,5 @@
 -- A run of 16 pages with its records is a superblock for a pool over these pages; one that a pool gives back may be given to the pages.
-use Rattle.std.proofs.Common.{◌≡◌, ℕ, ◌+◌, ◌*◌, ◌≤◌, Bool, true, false, Option, Some, None, is_some, IsSomeAnd, refl, sym, ap, subst, ◌∙◌, arith}
+use Rattle.std.proofs.Common.{◌≡◌, ℕ, ◌+◌, ◌*◌, ◌/◌, ◌%◌, ◌≤◌, Bool, true, false, Option, Some, None, is_some, IsSomeAnd, refl, sym, ap, subst, ◌∙◌, arith}
 use Rattle.atomic_table.specs.Seated.{TableId}
 use Rattle.word_map.specs.WordMap.{HasJust}
 use Rattle.region_words.specs.Parts.{Owned}
@@ -8,7 +8,9 @@ use Rattle.free_pages.specs.Book.{IsRunOf, MayGive}
 use Rattle.free_pages.specs.Book as pages
 use Rattle.span_pools.specs.declared.layout.Layout.{Layout}
 use Rattle.span_pools.specs.Places.{base, record_at}
-use Rattle.span_pools.specs.Book.{IsSuperblock, IsOver}
+use Rattle.size_classes.specs.Classes.{IsClass, class_size}
+use Rattle.size_classes.proofs.Sizes.{class_words}
+use Rattle.span_pools.specs.Book.{IsSuperblock, IsOver, layout_of}
 
 some_records : (region : TableId) (first pages from n : ℕ) (o : Option Owned) → HasRecords region first pages from n true o → IsSomeAnd o (λ x. (x.region ≡ region) × HasJust x.words (records_at first pages + 7 * from) (7 * n))
 some_records region first pages from n (Some o) h = h
@@ -38,3 +40,13 @@ superblock_may_go b l place pages words records o s = record {
       (given b.region b.first b.state.pages s.page records
       (subst (λ (z : ℕ). IsSomeAnd records (λ x. (x.region ≡ b.region) × HasJust x.words (z + 7 * s.page) 112)) o.records s.records_are)));
 }
+
+-- an object has just the bytes of its class
+pub object_bytes : (class first pages : ℕ) → IsClass class → 8 * (layout_of class first pages).size ≡ class_size class
+object_bytes class first pages c = whole (class_size class) (class_words class c)
+  where
+    whole : (x : ℕ) → x % 8 ≡ 0 → 8 * (x / 8) ≡ x
+    whole x e = omega arith
+
+pub layout_over : (class first pages : ℕ) → IsOver (layout_of class first pages) first pages
+layout_over class first pages = record { first = refl; pages = refl; records = refl }

@@ -136,16 +136,16 @@ pub(crate) fn release(
     r: &Region,
     at: Layout,
     page: u64,
-    part: Part,
+    last: Part,
 ) -> (Part, Part)
-    requires here { (words.old.region ≡ r.now) × (records.old.region ≡ r.now) × (part.region ≡ r.now) }
+    requires here { (words.old.region ≡ r.now) × (records.old.region ≡ r.now) × (last.region ≡ r.now) }
     requires layout { IsLayout at }
     requires inside { page + 16 ≤ at.pages }
-    requires words { Disjoint words.old.words part.words → (k : ℕ) → is_within (base at page) 8192 k ≡ true → (owns words.old.words k || owns part.words k) ≡ true }
+    requires words { Disjoint words.old.words last.words → (k : ℕ) → is_within (base at page) 8192 k ≡ true → (owns words.old.words k || owns last.words k) ≡ true }
     requires records { (k : ℕ) → is_within (record_at at page) 112 k ≡ true → owns records.old.words k ≡ true }
-    ensures { IsReleased at page records.old words.old part records.new words.new result.0 result.1 }
+    ensures { IsReleased at page records.old words.old last records.new words.new result.0 result.1 }
 {
-    words.join(r, part);
+    words.join(r, last);
     let run = words.split(r, at.first + 512 * page, 8192);
     (run, records.split(r, at.records + 7 * page, 112))
 }
