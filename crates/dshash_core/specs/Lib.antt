@@ -1,0 +1,4 @@
+pub mod Key
+pub mod Chains
+pub mod Hung
+pub mod Walk

@@ -1,0 +1,9 @@
+//! One partition of the shared hash table (dshash.c): a finite map from keys to states, kept in a region's words.
+#![tactic(auto)]
+
+mod buckets;
+mod key;
+mod words;
+
+pub use buckets::Buckets;
+pub use key::{hash_key, item_bytes, pack_key, unpack_key};
