@@ -3,7 +3,11 @@
 
 mod buckets;
 mod key;
+mod object;
+mod outcome;
 mod words;
 
 pub use buckets::Buckets;
 pub use key::{hash_key, item_bytes, pack_key, unpack_key};
+pub use object::CellObject;
+pub use outcome::CoreOut;
