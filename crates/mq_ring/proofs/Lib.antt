@@ -1,0 +1,5 @@
+pub mod Counts
+pub mod SenderSteps
+pub mod ReceiverSteps
+pub mod Meetings
+pub mod Makings

@@ -1,0 +1,24 @@
+use Rattle.std.proofs.Common.{ap, sym, ◌∙◌, arith}
+use Rattle.mq_ring.specs.Ends.{SendingEnd, ReceivingEnd}
+use Rattle.mq_ring.proofs.Counts.{in_region}
+use Rattle.mq_ring.proofs.Meetings.{join_allows, joined, load_allows, told, part_allows}
+use Rattle.mq_ring.proofs.meeting.meet.Goals as goal
+
+pub join_as-requires-clause-allowed : goal.join_as-requires-clause-allowed
+join_as-requires-clause-allowed c =
+    let ring = ap (λ (x : SendingEnd). x.end.ring) c.tx.view_is ∙ c.requires.one_ring ∙ sym (ap (λ (x : ReceivingEnd). x.end.ring) c.rx.view_is) in
+    let yours = ap (λ x. x.me) c.replace-receiver.ensures.value ∙ c.rx.invariant.receives in
+    join_allows _ c.tx.inside.seat.id c.replace-receiver.result.id c.tx.inside.seat.me c.replace-receiver.result.me _ _ _ _ c.tx.invariant.0.sends yours ring
+
+pub load_as-requires-clause-allowed : goal.load_as-requires-clause-allowed
+load_as-requires-clause-allowed c =
+    let same = ap (λ (x : SendingEnd). x.region) c.tx.view_is ∙ c.requires.here in
+    let more = in_region c.tx.inside.seat.table_id _ _ _ _ _ 0 c.tx.invariant.0.lies same (omega arith) in
+    let yours = ap (λ x. x.me) c.replace-receiver.ensures.value ∙ c.rx.invariant.receives in
+    load_allows _ _ c.join_as.new.seat.id c.join_as.new.seat.me _ _ _ more (joined c.tx.inside.seat.me c.replace-receiver.result.me c.join_as.new.seat.me _ _ _ _ c.tx.invariant.0.sends yours c.join_as.ensures.both)
+
+pub split_as-receiver-requires-clause-allowed : goal.split_as-receiver-requires-clause-allowed
+split_as-receiver-requires-clause-allowed c =
+    let yours = ap (λ x. x.me) c.replace-receiver.ensures.value ∙ c.rx.invariant.receives in
+    let done = joined c.tx.inside.seat.me c.replace-receiver.result.me c.join_as.new.seat.me _ _ _ _ c.tx.invariant.0.sends yours c.join_as.ensures.both in
+    part_allows _ c.load_as.new.seat.id c.load_as.new.seat.me _ _ _ (told c.join_as.new.seat.me c.load_as.new.seat.me _ _ _ done c.load_as.ensures.told).1

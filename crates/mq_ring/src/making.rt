@@ -1,0 +1,88 @@
+//! A ring is made of a chunk.
+ghost use Rattle.std.specs.Prelude.{◌≡◌, ℕ, ◌+◌, ◌*◌, ◌^◌, ◌<◌, ◌≤◌, [], None};
+ghost use Rattle.word_map.specs.WordMap.{rest_of, values_from};
+ghost use Rattle.ring_rule.specs.Ends.{first_sending, first_receiving};
+ghost use Rattle.region_rule.specs.RingMap.{IsFresh};
+ghost use Rattle.region_rule.specs.View.{Own};
+ghost use Rattle.region_words.specs.Parts.{own_map};
+ghost use Rattle.mq_ring.specs.Ends.{sending_end, receiving_end, ring_of, LiesIn};
+
+use crate::receiver::RingRx;
+use crate::sender::RingTx;
+use crate::site::Site;
+use atomic_table::Seat;
+use region_rule::{Known, Makes, Shape};
+use region_words::{Chunk, Region};
+use std::marker::Brand;
+
+/// A ring that is to be made; its two ends are the values to hold.
+pub struct Ring;
+
+impl Ring {
+    /// Makes a ring of the first `words + 3` words of a chunk, and keeps the rest of it in the sender's end. Both counts begin at `from`;
+    /// a message has at most `max` bytes. The cells keep what their words held.
+    pub fn create(r: &Region, chunk: Chunk, words: u64, from: u64, max: u32) -> (RingTx, RingRx)
+        requires here { chunk.part.region ≡ r.now }
+        requires power { (e : ℕ) × (words ≡ 2 ^ e) × (e ≤ 20) }
+        requires room { 8 * (words + 3) ≤ chunk.bytes }
+        requires max { max ≤ 1048576 }
+        ensures tx { result.0 ≡ sending_end r.now (first_sending (ring_of chunk.at words from max) (values_from chunk.part.words (chunk.at + 3) words)) None (rest_of chunk.part.words chunk.at (words + 3)) chunk.bytes }
+        ensures rx { result.1 ≡ receiving_end r.now (first_receiving (ring_of chunk.at words from max)) None }
+    {
+        let Chunk {
+            at,
+            bytes,
+            part: mut rest,
+        } = chunk;
+        let base = at.word();
+        rest.is_small();
+        let mut part = rest.split(r, base, words + 3);
+        part.store(r, base, from);
+        part.store(r, base + 1, from);
+        part.store(r, base + 2, 0);
+        let spare = rest.split(r, base, 0).into_seat();
+        let site = Site {
+            base,
+            size: words,
+            max,
+            bytes,
+            rest,
+        };
+        part_ends::<Brand>(r, part.into_seat(), spare, site, from)
+    }
+}
+
+// The owner of a fresh ring becomes its two ends. `J` names the ring, since a cut can't take it as an argument.
+fn part_ends<J: Shape>(
+    r: &Region,
+    mut seat: Seat<(), Known>,
+    spare: Seat<(), Known>,
+    site: Site,
+    from: u64,
+) -> (RingTx, RingRx)
+    requires here { seat.table_id ≡ r.now }
+    requires rest { site.rest.region ≡ r.now }
+    requires ring { J.ring ≡ ring_of site.base site.size from site.max }
+    requires owns { seat.me ≡ (Own (own_map seat.me.0) None, []) }
+    requires fresh { IsFresh (own_map seat.me.0) J.ring }
+    requires lies { LiesIn r.now J.ring site.base site.size site.max }
+    ensures tx { result.0 ≡ sending_end r.now (first_sending J.ring (values_from (own_map seat.me.0) (J.ring.base + 3) J.ring.size)) None site.rest.words site.bytes }
+    ensures rx { result.1 ≡ receiving_end r.now (first_receiving J.ring) None }
+{
+    let _ = from;
+    let receiver = r.split_as::<Makes<J>>(&mut seat);
+    let rx = RingRx {
+        seat: receiver,
+        base: site.base,
+        size: site.size,
+        max: site.max,
+        position: from,
+    };
+    let tx = RingTx {
+        seat,
+        spare: Some(spare),
+        site,
+        position: from,
+    };
+    (tx, rx)
+}

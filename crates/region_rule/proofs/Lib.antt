@@ -1,0 +1,12 @@
+pub mod Turns
+pub mod Apart
+pub mod Owners
+pub mod Partners
+pub mod Rings
+pub mod Meets
+pub mod Keeps
+pub mod Runs
+pub mod Allows
+pub mod OwnerSteps
+pub mod RingSteps
+pub mod Effected

@@ -1,0 +1,140 @@
+-- What a table asks of the steps of the ends of a ring.
+use Rattle.std.proofs.Common.{◌≡◌, ◌≢◌, ℕ, ◌+◌, ◌<◌, ◌≤◌, Bool, true, false, cond, [], ◌∷◌, ◌++◌, length, Option, Some, None, IfSome, refl, sym, ap, subst, ◌∙◌, arith, eq-eqb, ne_eqb}
+use mathlib.Core.Option.{some-injective}
+use mathlib.Core.Logic.{dite}
+use native.Mathlib.Decide.{ℕ_discrete}
+use Rattle.atomic_table.specs.Table.{Allows, Splits, Joins}
+use Rattle.word_map.specs.WordMap.{WordMap}
+use Rattle.ring_rule.specs.Frames.{IsFramed}
+use Rattle.ring_rule.specs.Ring.{Ring, Sending, Receiving, WasSending, WasReceiving, place_of, count_word, flag_word}
+use Rattle.ring_rule.specs.Ends.{IsReadCount, IsWrittenCount, looks_read, puts, publishes, sender_leaves, sender_sees_flag, looks_written, looks_last, sees_written, takes, gives_back, receiver_leaves, receiver_sees_flag}
+use Rattle.ring_rule.proofs.Counts.{read_count, written_count}
+use Rattle.ring_rule.proofs.Sends.{sender_finds}
+use Rattle.ring_rule.proofs.Receives.{receiver_finds}
+use Rattle.region_rule.specs.RingMap.{IsFresh, ring_map}
+use Rattle.region_rule.specs.View.{Own, Sender, Receiver, Done, Spent, Olds}
+use Rattle.region_rule.specs.Sound.{World, Sees}
+use Rattle.region_rule.specs.Steps.{Event, Happens, Finds, Ruled, MakeRing, LoadRead, StoreData, StoreWritten, LoadWritten, LoadData, StoreRead, StoreSenderFlag, StoreReceiverFlag, LoadSenderFlag, LoadReceiverFlag, LoadWrittenLast, JoinEnds, LoadDone, EndDone, PartAgain, seen_anew}
+use Rattle.region_rule.specs.Tells.{sender_view, receiver_view, done_view, sender_again, receiver_again, TellsLookRead, TellsPut, TellsPublish, TellsLookWritten, TellsTake, TellsGiveBack, TellsLeave, TellsFlag, TellsDone, TellsEnd}
+use Rattle.region_rule.proofs.Allows.{load_allows, store_allows, split_allows, join_allows}
+use Rattle.region_rule.proofs.Partners.{receiver_of, sender_of}
+
+pub make_ring_allowed : (count id : ℕ) (r : Ring) (m : WordMap) (o : Olds) → IsFresh m r → Splits (Ruled count) id (Own m o) (sender_view r (Own m o)) (receiver_view r (Own m o))
+make_ring_allowed count id r m o fresh = split_allows count id (Own m o) (sender_view r (Own m o)) (receiver_view r (Own m o)) (λ w here. (MakeRing id r, (m, o, here, fresh, refl)))
+
+-- THE SENDER
+told_returned : (t : Option Receiving) (q : Receiving) → IfSome t (λ old. WasReceiving old q) → IfSome t (λ old. old.returned ≤ q.returned)
+told_returned (Some old) q h = h.returned
+told_returned None q h = tt
+
+pub look_read_allowed : (count slots id : ℕ) (s : Sending) (t : Option Receiving) → s.gone ≡ false → s.ring.base + 1 < count
+    → Allows (Ruled count) slots id (Sender s t, []) (s.ring.base + 1) (λ n. n) (λ n after. TellsLookRead (Sender s t) n after.0 × (after.1 ≡ []))
+look_read_allowed count slots id s t stays inside = load_allows count slots id (s.ring.base + 1) (Sender s t) (TellsLookRead (Sender s t)) inside
+    (λ w x sound here found.
+    let o = receiver_of w id s t sound here in
+    let n : ℕ = o.end.returned in
+    let c = read_count w.words s t o.end o.told (sound.honest id (Sender s t) here) o.receiving o.paired in
+    let is : x ≡ count_word s.ring n = some-injective x (count_word s.ring n) (sym found ∙ c.0) in
+    let count_is : IsReadCount s x n = record { word = is; below = c.1.below; near = c.1.near } in
+    (Sender (looks_read s n) t, LoadRead id x, (s, t, n, here, stays, found, count_is, refl), (n, refl, count_is, o.paired.tied.room, told_returned t o.end o.paired.told_sender)))
+
+pub put_allowed : (count slots id x : ℕ) (s : Sending) (t : Option Receiving) → s.gone ≡ false → length s.put < s.room + s.ring.size → IsFramed s.ring.max (s.put ++ x ∷ []) → x < 18446744073709551616
+    → Allows (Ruled count) slots id (Sender s t, []) (place_of s.ring (length s.put)) (λ _. x) (λ _ after. TellsPut (Sender s t) x after.0 × (after.1 ≡ []))
+put_allowed count slots id x s t stays room framed small = store_allows count slots id (place_of s.ring (length s.put)) x (Sender s t) (TellsPut (Sender s t) x)
+    (λ w sound here. (Sender (puts s x) t, StoreData id x, (s, t, here, stays, room, framed, small, refl), refl))
+
+pub publish_allowed : (count slots id : ℕ) (s : Sending) (t : Option Receiving) → s.gone ≡ false
+    → Allows (Ruled count) slots id (Sender s t, []) s.ring.base (λ _. count_word s.ring (length s.put)) (λ _ after. TellsPublish (Sender s t) after.0 × (after.1 ≡ []))
+publish_allowed count slots id s t stays = store_allows count slots id s.ring.base (count_word s.ring (length s.put)) (Sender s t) (TellsPublish (Sender s t))
+    (λ w sound here. (Sender (publishes s) t, StoreWritten id, (s, t, here, stays, refl), refl))
+
+pub sender_leaves_allowed : (count slots id : ℕ) (s : Sending) (t : Option Receiving) → s.gone ≡ false
+    → Allows (Ruled count) slots id (Sender s t, []) (s.ring.base + 2) (λ _. 1) (λ _ after. TellsLeave (Sender s t) after.0 × (after.1 ≡ []))
+sender_leaves_allowed count slots id s t stays = store_allows count slots id (s.ring.base + 2) 1 (Sender s t) (TellsLeave (Sender s t))
+    (λ w sound here. (Sender (sender_leaves s) t, StoreSenderFlag id, (s, t, here, stays, refl), refl))
+
+flag_small : (b : Bool) → flag_word b ≤ 1
+flag_small true = omega arith
+flag_small false = omega arith
+
+told_gone : (t : Option Receiving) (q : Receiving) (x : ℕ) → x ≡ flag_word q.gone → IfSome t (λ old. WasReceiving old q) → IfSome t (λ old. old.gone ≡ true → x ≡ 1)
+told_gone (Some old) q x e h = λ g. e ∙ ap flag_word (h.gone g)
+told_gone None q x e h = tt
+
+pub sender_flag_allowed : (count slots id : ℕ) (s : Sending) (t : Option Receiving) → s.gone ≡ false → s.ring.base + 2 < count
+    → Allows (Ruled count) slots id (Sender s t, []) (s.ring.base + 2) (λ n. n) (λ n after. TellsFlag (Sender s t) n after.0 × (after.1 ≡ []))
+sender_flag_allowed count slots id s t stays inside = load_allows count slots id (s.ring.base + 2) (Sender s t) (TellsFlag (Sender s t)) inside
+    (λ w x sound here found.
+    let o = receiver_of w id s t sound here in
+    let is = sender_finds w.words s t o.end o.told x stays o.paired found in
+    (Sender (sender_sees_flag s x) t, LoadSenderFlag id x, (s, t, here, stays, found, refl), (refl, subst (λ (z : ℕ). z ≤ 1) (sym is) (flag_small o.end.gone), told_gone t o.end x is o.paired.told_sender)))
+
+-- THE RECEIVER
+told_published : (u : Option Sending) (s : Sending) → IfSome u (λ old. WasSending old s) → IfSome u (λ old. old.published ≤ s.published)
+told_published (Some old) s h = h.published
+told_published None s h = tt
+
+-- one load of the written count is of the one kind or the other, by the last note of the flag
+written_event : (w : World) (id x n : ℕ) (q : Receiving) (u : Option Sending) → q.gone ≡ false → Sees w id (Receiver q u) → Finds w q.ring.base x → IsWrittenCount q x n
+    → (e : Event) × Happens e w (seen_anew w id (Receiver (sees_written q n) u))
+written_event w id x n q u stays here found count = dite (ℕ_discrete q.flag_value 1)
+    (λ (one : q.flag_value ≡ 1). (LoadWrittenLast id x, (q, u, n, here, stays, one, found, count, ap (λ b. seen_anew w id (Receiver (cond b (looks_last q n) (looks_written q n)) u)) (eq-eqb q.flag_value 1 one))))
+    (λ (other : q.flag_value ≢ 1). (LoadWritten id x, (q, u, n, here, stays, other, found, count, ap (λ b. seen_anew w id (Receiver (cond b (looks_last q n) (looks_written q n)) u)) (ne_eqb q.flag_value 1 other))))
+
+pub look_written_allowed : (count slots id : ℕ) (q : Receiving) (u : Option Sending) → q.gone ≡ false → q.ring.base < count
+    → Allows (Ruled count) slots id (Receiver q u, []) q.ring.base (λ n. n) (λ n after. TellsLookWritten (Receiver q u) n after.0 × (after.1 ≡ []))
+look_written_allowed count slots id q u stays inside = load_allows count slots id q.ring.base (Receiver q u) (TellsLookWritten (Receiver q u)) inside
+    (λ w x sound here found.
+    let o = sender_of w id q u sound here in
+    let n : ℕ = o.end.published in
+    let c = written_count w.words o.end o.told q u o.sending (sound.honest id (Receiver q u) here) o.paired in
+    let is : x ≡ count_word q.ring n = some-injective x (count_word q.ring n) (sym found ∙ c.0) in
+    let count_is : IsWrittenCount q x n = record { word = is; above = c.1.above; near = c.1.near } in
+    let e = written_event w id x n q u stays here found count_is in
+    (Receiver (sees_written q n) u, e.0, e.1, (n, refl, count_is, o.paired.tied.avail, told_published u o.end o.paired.told_receiver)))
+
+pub take_allowed : (count slots id : ℕ) (q : Receiving) (u : Option Sending) → q.gone ≡ false → length q.taken < q.avail → place_of q.ring (length q.taken) < count
+    → Allows (Ruled count) slots id (Receiver q u, []) (place_of q.ring (length q.taken)) (λ n. n) (λ n after. TellsTake (Receiver q u) n after.0 × (after.1 ≡ []))
+take_allowed count slots id q u stays more inside = load_allows count slots id (place_of q.ring (length q.taken)) (Receiver q u) (TellsTake (Receiver q u)) inside
+    (λ w x sound here found. (Receiver (takes q x) u, LoadData id x, (q, u, here, stays, more, found, refl), refl))
+
+pub give_back_allowed : (count slots id : ℕ) (q : Receiving) (u : Option Sending) → q.gone ≡ false
+    → Allows (Ruled count) slots id (Receiver q u, []) (q.ring.base + 1) (λ _. count_word q.ring (length q.taken)) (λ _ after. TellsGiveBack (Receiver q u) after.0 × (after.1 ≡ []))
+give_back_allowed count slots id q u stays = store_allows count slots id (q.ring.base + 1) (count_word q.ring (length q.taken)) (Receiver q u) (TellsGiveBack (Receiver q u))
+    (λ w sound here. (Receiver (gives_back q) u, StoreRead id, (q, u, here, stays, refl), refl))
+
+pub receiver_leaves_allowed : (count slots id : ℕ) (q : Receiving) (u : Option Sending) → q.gone ≡ false
+    → Allows (Ruled count) slots id (Receiver q u, []) (q.ring.base + 2) (λ _. 1) (λ _ after. TellsLeave (Receiver q u) after.0 × (after.1 ≡ []))
+receiver_leaves_allowed count slots id q u stays = store_allows count slots id (q.ring.base + 2) 1 (Receiver q u) (TellsLeave (Receiver q u))
+    (λ w sound here. (Receiver (receiver_leaves q) u, StoreReceiverFlag id, (q, u, here, stays, refl), refl))
+
+told_left : (u : Option Sending) (s : Sending) (x : ℕ) → x ≡ flag_word s.gone → IfSome u (λ old. WasSending old s) → IfSome u (λ old. old.gone ≡ true → x ≡ 1)
+told_left (Some old) s x e h = λ g. e ∙ ap flag_word (h.gone g)
+told_left None s x e h = tt
+
+pub receiver_flag_allowed : (count slots id : ℕ) (q : Receiving) (u : Option Sending) → q.gone ≡ false → q.ring.base + 2 < count
+    → Allows (Ruled count) slots id (Receiver q u, []) (q.ring.base + 2) (λ n. n) (λ n after. TellsFlag (Receiver q u) n after.0 × (after.1 ≡ []))
+receiver_flag_allowed count slots id q u stays inside = load_allows count slots id (q.ring.base + 2) (Receiver q u) (TellsFlag (Receiver q u)) inside
+    (λ w x sound here found.
+    let o = sender_of w id q u sound here in
+    let is = receiver_finds w.words o.end o.told q u x stays o.paired found in
+    (Receiver (receiver_sees_flag q x) u, LoadReceiverFlag id x, (q, u, here, stays, found, refl), (refl, subst (λ (z : ℕ). z ≤ 1) (sym is) (flag_small o.end.gone), told_left u o.end x is o.paired.told_receiver)))
+
+-- BOTH
+pub join_ends_allowed : (count id other : ℕ) (s : Sending) (t : Option Receiving) (q : Receiving) (u : Option Sending) → s.ring ≡ q.ring
+    → Joins (Ruled count) id (Sender s t) other (Receiver q u) (done_view (Sender s t) (Receiver q u)) Spent
+join_ends_allowed count id other s t q u same = join_allows count id other (Sender s t) (Receiver q u) (Done (ring_map s q) s q)
+    (λ w here at_other apart. (JoinEnds id other, (s, t, q, u, here, at_other, same, apart, refl)))
+
+pub load_done_allowed : (count slots id k : ℕ) (m : WordMap) (s : Sending) (q : Receiving) → k < count
+    → Allows (Ruled count) slots id (Done m s q, []) k (λ n. n) (λ n after. TellsDone (Done m s q) after.0 × (after.1 ≡ []))
+load_done_allowed count slots id k m s q inside = load_allows count slots id k (Done m s q) (λ n after. TellsDone (Done m s q) after) inside
+    (λ w x sound here found. (Done m s q, LoadDone id k x, (m, s, q, here, found, refl), ((sound.honest id (Done m s q) here).2, refl)))
+
+pub end_done_allowed : (count slots id k : ℕ) (m : WordMap) (s : Sending) (q : Receiving) → k < count
+    → Allows (Ruled count) slots id (Done m s q, []) k (λ n. n) (λ n after. TellsEnd (Done m s q) after.0 × (after.1 ≡ []))
+end_done_allowed count slots id k m s q inside = load_allows count slots id k (Done m s q) (λ n after. TellsEnd (Done m s q) after) inside
+    (λ w x sound here found. (Own m None, EndDone id k x, (m, s, q, here, found, refl), ((sound.honest id (Done m s q) here).2, refl)))
+
+pub part_again_allowed : (count id : ℕ) (m : WordMap) (s : Sending) (q : Receiving) → Splits (Ruled count) id (Done m s q) (sender_again (Done m s q)) (receiver_again (Done m s q))
+part_again_allowed count id m s q = split_allows count id (Done m s q) (Sender s (Some q)) (Receiver q (Some s)) (λ w here. (PartAgain id, (m, s, q, here, refl)))

@@ -1,0 +1,119 @@
+-- What each step tells its token, and the views that a cut and a join leave. No step tells anything to a token of another kind.
+use Rattle.std.specs.Prelude.{◌≡◌, ℕ, ◌+◌, ◌≤◌, true, Some, None, IfSome}
+use Rattle.std.specs.FinMap as fin
+use Rattle.word_map.specs.WordMap.{at, range_of, rest_of, union, values_from}
+use Rattle.ring_rule.specs.Ring.{Ring, AreEnds}
+use Rattle.ring_rule.specs.Ends.{first_sending, first_receiving, IsReadCount, IsWrittenCount, looks_read, puts, publishes, sender_leaves, sender_sees_flag, sees_written, takes, gives_back, receiver_leaves, receiver_sees_flag}
+use Rattle.region_rule.specs.RingMap.{ring_map}
+use Rattle.region_rule.specs.View.{View, Own, Frozen, Sender, Receiver, Done}
+use Rattle.region_rule.specs.Sound.{OldsApart}
+
+-- an owner that loads word k finds n: its own value, if it has the word. The two maps of its last join had no word in common
+abbrev pub TellsLoad : View → ℕ → ℕ → View → Type 0
+TellsLoad (Own m olds) k n after = IfSome (at m k) (λ x. x ≡ n) × OldsApart olds × (after ≡ Own m None)
+TellsLoad u k n after = ⊥
+
+-- an owner that stores n in word k has its map with n there
+abbrev pub TellsStore : View → ℕ → ℕ → View → Type 0
+TellsStore (Own m olds) k n after = after ≡ Own (fin.insert m k n) olds
+TellsStore u k n after = ⊥
+
+-- an owner keeps all but a range of its words
+abbrev pub rest_view : ℕ → ℕ → View → View
+rest_view from len (Own m olds) = Own (rest_of m from len) olds
+rest_view from len u = u
+
+-- a new token has the range
+abbrev pub range_view : ℕ → ℕ → View → View
+range_view from len (Own m olds) = Own (range_of m from len) None
+range_view from len u = u
+
+-- an owner takes in another
+abbrev pub both_view : View → View → View
+both_view (Own m one) (Own n other) = Own (union m n) (Some (m, n))
+both_view u v = u
+
+-- an owner freezes its words
+abbrev pub TellsFreeze : View → View → Type 0
+TellsFreeze (Own m olds) after = after ≡ Frozen m
+TellsFreeze u after = ⊥
+
+-- a load of a frozen word finds its value
+abbrev pub TellsFrozen : View → ℕ → ℕ → View → Type 0
+TellsFrozen (Frozen m) k n after = IfSome (at m k) (λ x. x ≡ n) × (after ≡ Frozen m)
+TellsFrozen u k n after = ⊥
+
+-- an owner of just a ring becomes its sender, and a new token its receiver
+abbrev pub sender_view : Ring → View → View
+sender_view r (Own m olds) = Sender (first_sending r (values_from m (r.base + 3) r.size)) None
+sender_view r u = u
+
+abbrev pub receiver_view : Ring → View → View
+receiver_view r (Own m olds) = Receiver (first_receiving r) None
+receiver_view r u = u
+
+-- a sender that loads the read count finds the word of a count that is no less than it saw, nor than it was told of
+abbrev pub TellsLookRead : View → ℕ → View → Type 0
+TellsLookRead (Sender s t) x after = (n : ℕ) × (after ≡ Sender (looks_read s n) t) × IsReadCount s x n × (s.room ≤ n) × IfSome t (λ old. old.returned ≤ n)
+TellsLookRead u x after = ⊥
+
+-- a sender stores a word
+abbrev pub TellsPut : View → ℕ → View → Type 0
+TellsPut (Sender s t) x after = after ≡ Sender (puts s x) t
+TellsPut u x after = ⊥
+
+-- a sender stores the written count
+abbrev pub TellsPublish : View → View → Type 0
+TellsPublish (Sender s t) after = after ≡ Sender (publishes s) t
+TellsPublish u after = ⊥
+
+-- a receiver that loads the written count finds the word of a count, likewise. By its last note of the flag it has seen all or not
+abbrev pub TellsLookWritten : View → ℕ → View → Type 0
+TellsLookWritten (Receiver q u) x after = (n : ℕ) × (after ≡ Receiver (sees_written q n) u) × IsWrittenCount q x n × (q.avail ≤ n) × IfSome u (λ old. old.published ≤ n)
+TellsLookWritten v x after = ⊥
+
+-- a receiver takes a word
+abbrev pub TellsTake : View → ℕ → View → Type 0
+TellsTake (Receiver q u) x after = after ≡ Receiver (takes q x) u
+TellsTake v x after = ⊥
+
+-- a receiver stores the read count
+abbrev pub TellsGiveBack : View → View → Type 0
+TellsGiveBack (Receiver q u) after = after ≡ Receiver (gives_back q) u
+TellsGiveBack v after = ⊥
+
+-- an end sets the flag
+abbrev pub TellsLeave : View → View → Type 0
+TellsLeave (Sender s t) after = after ≡ Sender (sender_leaves s) t
+TellsLeave (Receiver q u) after = after ≡ Receiver (receiver_leaves q) u
+TellsLeave u after = ⊥
+
+-- an end loads the flag and finds 0 or 1; 1 where it was told that the other end is gone
+abbrev pub TellsFlag : View → ℕ → View → Type 0
+TellsFlag (Sender s t) x after = (after ≡ Sender (sender_sees_flag s x) t) × (x ≤ 1) × IfSome t (λ old. old.gone ≡ true → x ≡ 1)
+TellsFlag (Receiver q u) x after = (after ≡ Receiver (receiver_sees_flag q x) u) × (x ≤ 1) × IfSome u (λ old. old.gone ≡ true → x ≡ 1)
+TellsFlag u x after = ⊥
+
+-- two ends are joined
+abbrev pub done_view : View → View → View
+done_view (Sender s t) (Receiver q u) = Done (ring_map s q) s q
+done_view u v = u
+
+-- they part again
+abbrev pub sender_again : View → View
+sender_again (Done m s q) = Sender s (Some q)
+sender_again u = u
+
+abbrev pub receiver_again : View → View
+receiver_again (Done m s q) = Receiver q (Some s)
+receiver_again u = u
+
+-- the joined ends learn what holds of them together
+abbrev pub TellsDone : View → View → Type 0
+TellsDone (Done m s q) after = AreEnds s q × (after ≡ Done m s q)
+TellsDone u after = ⊥
+
+-- the joined ends become the owner of the ring's words
+abbrev pub TellsEnd : View → View → Type 0
+TellsEnd (Done m s q) after = AreEnds s q × (after ≡ Own m None)
+TellsEnd u after = ⊥

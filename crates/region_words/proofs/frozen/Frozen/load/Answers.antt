@@ -1,0 +1,5 @@
+use Rattle.region_words.proofs.Frozens.{load_frozen_asks}
+use Rattle.region_words.proofs.frozen.Frozen.load.Goals as goal
+
+pub load_as-requires-clause-allowed : goal.load_as-requires-clause-allowed
+load_as-requires-clause-allowed c = (load_frozen_asks c.self.inside.seat.table_id _ c.self.inside.seat.id c.args.at c.self.inside.seat.me _ c.self.invariant c.self.view_is c.requires.here c.requires.has).1

@@ -1,0 +1,128 @@
+//! A part: words that one holder owns. Only a `&mut Part` reads or changes them, so what it reads is what it stored.
+ghost use Rattle.std.specs.Prelude.{[], None, ◌≡◌, ℕ, ◌+◌, ◌<◌, ◌≤◌, ◌^◌, Some, IsSome};
+ghost use Rattle.std.specs.FinMap as fin;
+ghost use Rattle.word_map.specs.WordMap.{at as word_at, range_of, rest_of, union, Disjoint};
+ghost use Rattle.region_rule.specs.View.{Own};
+ghost use Rattle.region_words.specs.Parts.{owned, own_map, IsBelow, IsSized};
+
+use crate::frozen::Frozen;
+use crate::region::Region;
+use atomic_table::Seat;
+use region_rule::{Cuts, Freezes, Glues, Known, Loads, Range, Stores};
+use std::marker::{Brand, Model};
+
+/// A token that owns some words of a region. Contracts see its region and the map from its words' numbers to their values. It has no bytes;
+/// where it is dropped nobody can reach its words any more.
+#[derive(Drop)]
+pub struct Part {
+    pub(crate) seat: Seat<(), Known>,
+}
+
+impl Model for Part {
+    ghost use Rattle.region_words.specs.Parts.{Owned, owned_code, owned, own_map, IsPart};
+
+    ghost Value = { Owned };
+
+    ghost coded = { owned_code };
+
+    ghost view = { λ p. owned p.seat.table_id (own_map p.seat.me.0) };
+
+    ghost invariant = { λ p. IsPart p.seat.table_id p.seat.me };
+}
+
+impl Part {
+    /// The value of a word: one load.
+    #[inline]
+    pub fn load(&mut self, r: &Region, at: u64) -> u64
+        requires here { self.old.region ≡ r.now }
+        requires owns { IsSome (word_at self.old.words at) }
+        ensures found { word_at self.old.words at ≡ Some result }
+        ensures same { self.new ≡ self.old }
+    {
+        r.load_as::<Loads>(&mut self.seat, at)
+    }
+
+    /// Changes a word: one store.
+    #[inline]
+    pub fn store(&mut self, r: &Region, at: u64, value: u64)
+        requires here { self.old.region ≡ r.now }
+        requires owns { IsSome (word_at self.old.words at) }
+        ensures { self.new ≡ owned self.old.region (fin.insert self.old.words at value) }
+    {
+        r.store_as::<Stores>(&mut self.seat, at, value);
+    }
+
+    /// The new part has the `len` words from `from`, and this one keeps the others.
+    pub fn split(&mut self, r: &Region, from: u64, len: u64) -> Part
+        requires here { self.old.region ≡ r.now }
+        requires owns { (k : ℕ) → from ≤ k → k < from + len → IsSome (word_at self.old.words k) }
+        ensures rest { self.new ≡ owned self.old.region (rest_of self.old.words from len) }
+        ensures range { result ≡ owned self.old.region (range_of self.old.words from len) }
+    {
+        self.cut::<Brand>(r, from, len)
+    }
+
+    // The same for the range that `J` names, since a cut can't take it as an argument.
+    fn cut<J: Range>(&mut self, r: &Region, from: u64, len: u64) -> Part
+        requires here { self.old.region ≡ r.now }
+        requires range { (J.from ≡ from) × (J.len ≡ len) }
+        ensures rest { self.new ≡ owned self.old.region (rest_of self.old.words J.from J.len) }
+        ensures range { result ≡ owned self.old.region (range_of self.old.words J.from J.len) }
+    {
+        let _ = (from, len);
+        Part {
+            seat: r.split_as::<Cuts<J>>(&mut self.seat),
+        }
+    }
+
+    /// This part has the words of both, which had none in common.
+    pub fn join(&mut self, r: &Region, other: Part)
+        requires here { self.old.region ≡ r.now }
+        requires other_here { other.region ≡ r.now }
+        ensures both { self.new ≡ owned self.old.region (union self.old.words other.words) }
+        ensures apart { Disjoint self.old.words other.words }
+    {
+        let Part { seat } = other;
+        r.join_as::<Glues>(&mut self.seat, seat);
+        r.load_as::<Loads>(&mut self.seat, 0);
+    }
+
+    /// From now on no word of the part changes, and it can be shared.
+    pub fn freeze(self, r: &Region) -> Frozen
+        requires { self.region ≡ r.now }
+        ensures { result ≡ self }
+    {
+        let Part { mut seat } = self;
+        r.load_as::<Freezes>(&mut seat, 0);
+        Frozen { seat }
+    }
+
+    /// Tells that each word's number is below 2^26, so that places can be added up. It does nothing.
+    #[inline]
+    pub fn is_small(&self)
+        ensures { (k : ℕ) → IsSome (word_at self.now.words k) → k < 2 ^ 26 }
+    {
+        let _ = &self.seat;
+    }
+
+    /// The token of the part, for a crate that makes one of another kind of it.
+    pub fn into_seat(self) -> Seat<(), Known>
+        ensures region { result.table_id ≡ self.region }
+        ensures owns { result.me ≡ (Own self.words None, []) }
+        ensures below { IsBelow self.words self.region.words }
+        ensures sized { IsSized self.region }
+    {
+        let Part { seat } = self;
+        seat
+    }
+
+    /// The part of a token that owns its words, for a crate that has made one.
+    pub fn of_seat(seat: Seat<(), Known>) -> Part
+        requires owns { seat.me ≡ (Own (own_map seat.me.0) None, []) }
+        requires below { IsBelow (own_map seat.me.0) seat.table_id.words }
+        requires sized { IsSized seat.table_id }
+        ensures { result ≡ owned seat.table_id (own_map seat.me.0) }
+    {
+        Part { seat }
+    }
+}
