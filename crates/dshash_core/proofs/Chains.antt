@@ -97,3 +97,13 @@ stored_next old p a i xs s has = record {
     below = λ k h. word_other p.words (a + i) (get_or xs i 0) k (λ e. omega arith) ∙ s.below k h;
     behind = λ k h. word_other p.words (a + i) (get_or xs i 0) k (λ e. omega arith) ∙ s.behind k (omega arith)
 }
+
+-- an item that was written word by word
+pub filled : (p0 p1 p2 p3 : WordMap) (a hash : ℕ) (key value : List ℕ) → p1 ≡ fin.insert p0 (a + 1) hash
+    → ((k : ℕ) → k < a + 2 → word p2 k ≡ word p1 k) → words_at (word p2) (a + 2) (length key) ≡ key
+    → ((k : ℕ) → k < a + 2 + length key → word p3 k ≡ word p2 k) → words_at (word p3) (a + 2 + length key) (length value) ≡ value
+    → (item_at (word p3) (length key) (length value) a ≡ record { at = a; key = key; value = value }) × (word p3 (a + 1) ≡ hash)
+filled p0 p1 p2 p3 a hash key value first below key_is below2 value_is =
+    let same : words_at (word p3) (a + 2) (length key) ≡ key = words_at-same (word p3) (word p2) (a + 2) (length key) (λ k low high. below2 k high) ∙ key_is in
+    ((λ i. record { at = a; key = same i; value = value_is i }),
+    below2 (a + 1) (omega arith) ∙ below (a + 1) (omega arith) ∙ ap (λ (m : WordMap). word m (a + 1)) first ∙ word_same p0 (a + 1) hash (a + 1) refl)

@@ -32,7 +32,7 @@ apart_cases a n b k s = ⊎_elim (λ (h : a < b). inl (s.0 h)) (λ (h : b ≤ a)
 pub apart_turned : (a n b k : ℕ) → IsApart a n b k → 0 < n → 0 < k → IsApart b k a n
 apart_turned a n b k s p q = ⊎_elim (λ (h : a + n ≤ b). (λ x. omega arith, λ x. omega arith)) (λ (h : b + k ≤ a). (λ x. omega arith, λ x. omega arith)) (apart_cases a n b k s)
 
-any_among : (q : ℕ) (xs : List ℕ) → list_any (eqb q) xs ≡ true → Among q xs
+pub any_among : (q : ℕ) (xs : List ℕ) → list_any (eqb q) xs ≡ true → Among q xs
 any_among q [] e = cc
 any_among q (x ∷ xs) e = ⊎_elim (λ (s : q ≡ x). inl s) (λ (n : q ≢ x). inr (any_among q xs (sym (ap (λ (b : Bool). b || list_any (eqb q) xs) (ne_eqb q x n)) ∙ e))) (same_or_not q x)
 
@@ -40,7 +40,7 @@ others : (x : ℕ) (xs : List ℕ) → ((y : ℕ) → Among y xs → y ≢ x) �
 others x [] h = tt
 others x (y ∷ xs) h = (ne_eqb x y (λ e. h y (inl refl) (sym e)), others x xs (λ z m. h z (inr m)))
 
-are_distinct : (xs : List ℕ) → AreDistinct xs → IsDistinct eqb xs
+pub are_distinct : (xs : List ℕ) → AreDistinct xs → IsDistinct eqb xs
 unfolding IsDistinct
 are_distinct [] d = tt
 are_distinct (x ∷ xs) d = (others x xs d.0, are_distinct xs d.1)

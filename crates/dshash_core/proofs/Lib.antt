@@ -6,3 +6,6 @@ pub mod Rows
 pub mod Hooks
 pub mod Views
 pub mod Changes
+pub mod Maps
+pub mod Flats
+pub mod Calls

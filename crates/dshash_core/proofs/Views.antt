@@ -1,6 +1,6 @@
 -- What the words of a slice tell of the chains that contracts see.
-use Rattle.std.proofs.Common.{◌≡◌, ◌≢◌, ℕ, ◌+◌, ◌*◌, ◌/◌, ◌<◌, ◌≤◌, ◌⊎◌, inl, inr, List, [], ◌∷◌, ◌++◌, map, length, get_or, set, Option, Some, None, MatchOption, IsSome, refl, sym, ap, subst, ◌∙◌, arith, ⊎_elim, Fits, w64}
-use Rattle.std.proofs.lemmas.List.{map-append}
+use Rattle.std.proofs.Common.{◌≡◌, ◌≢◌, ℕ, ◌+◌, ◌*◌, ◌/◌, ◌<◌, ◌≤◌, ◌⊎◌, inl, inr, List, [], ◌∷◌, ◌++◌, zero, suc, map, length, get_or, set, Option, Some, None, MatchOption, IsSome, refl, sym, ap, subst, ◌∙◌, arith, ⊎_elim, Fits, w64}
+use Rattle.std.proofs.lemmas.List.{map-append, length-map}
 use Rattle.word_map.specs.WordMap.{WordMap, at}
 use Rattle.region_words.specs.Parts.{Owned}
 use Rattle.dshash_core.specs.Key.{hash_of}
@@ -11,6 +11,9 @@ use Rattle.dshash_core.specs.declared.words.Spot.{Spot}
 use Rattle.dshash_core.specs.Walk.{IsReadable, IsPlaced, IsNowhere, IsHungIn, IsTakenOut}
 use Rattle.dshash_core.proofs.Rows.{each_below-get, length-each_below, each_below-set, ats-map, ats-append, AreRead, read_all, are_read, at_among, item_at-same}
 use Rattle.dshash_core.proofs.Hangs.{apart_cases, without_other, among_middle, behind_among, among_left, put, put_same, put_other, hung_kept, hung_pushed, hung_unlinked, hung_places, rehang, IsPushed, IsUnlinked}
+use Rattle.std.proofs.lemmas.Map.Steps.{length-le_from_distinct_below}
+use Rattle.dshash_core.specs.Cells.{all_items}
+use Rattle.dshash_core.proofs.Hangs.{any_among, are_distinct}
 use Rattle.dshash_core.proofs.Hooks.{most_is}
 use Rattle.dshash_core.proofs.Chains.{word_is}
 
@@ -51,6 +54,38 @@ pub among_more : {A : Type 0} (x y : A) (xs ys : List A) → Among x (xs ++ ys) 
 among_more x y [] ys m = inr m
 among_more x y (z ∷ xs) ys (inl e) = inl e
 among_more x y (z ∷ xs) ys (inr m) = inr (among_more x y xs ys m)
+
+distinct_append : (xs ys : List ℕ) → AreDistinct xs → AreDistinct ys → ((a : ℕ) → Among a xs → Among a ys → ⊥) → AreDistinct (xs ++ ys)
+distinct_append [] ys d e far = e
+distinct_append (x ∷ xs) ys d e far = (
+    (λ y m. ⊎_elim (λ (n : Among y xs). d.0 y n) (λ (n : Among y ys). λ s. far x (inl refl) (subst (λ (z : ℕ). Among z ys) s n)) (either_side y xs ys m)),
+    distinct_append xs ys d.1 e (λ a m n. far a (inr m) n))
+  where
+    either_side : (a : ℕ) (ps qs : List ℕ) → Among a (ps ++ qs) → Among a ps ⊎ Among a qs
+    either_side a [] qs m = inr m
+    either_side a (p ∷ ps) qs (inl e) = inl (inl e)
+    either_side a (p ∷ ps) qs (inr m) = ⊎_elim (λ n. inl (inr n)) (λ n. inr n) (either_side a ps qs m)
+
+-- a place of all items is one of some chain's
+place_in : (chains : List (List Item)) (a : ℕ) → Among a (ats (all_items chains)) → (i : ℕ) × (i < length chains) × Among a (ats (get_or chains i []))
+place_in [] a m = absurd m
+place_in (c ∷ cs) a m = ⊎_elim
+    (λ (n : Among a (ats c)). (0, omega arith, n))
+    (λ (n : Among a (ats (all_items cs))). let r = place_in cs a n in (suc r.0, (let l : r.0 < length cs = r.1 in let s : suc r.0 < suc (length cs) = omega arith in s), r.2))
+    (either_side a (ats c) (ats (all_items cs)) (subst (λ (l : List ℕ). Among a l) (ats-append c (all_items cs)) m))
+  where
+    either_side : (b : ℕ) (ps qs : List ℕ) → Among b (ps ++ qs) → Among b ps ⊎ Among b qs
+    either_side b [] qs m = inr m
+    either_side b (p ∷ ps) qs (inl e) = inl (inl e)
+    either_side b (p ∷ ps) qs (inr m) = ⊎_elim (λ n. inl (inr n)) (λ n. inr n) (either_side b ps qs m)
+
+all_distinct : (chains : List (List Item)) → ((i : ℕ) → i < length chains → AreDistinct (ats (get_or chains i [])))
+    → ((i j a : ℕ) → i < length chains → j < length chains → Among a (ats (get_or chains i [])) → Among a (ats (get_or chains j [])) → i ≡ j) → AreDistinct (ats (all_items chains))
+all_distinct [] d once = tt
+all_distinct (c ∷ cs) d once = subst (λ (l : List ℕ). AreDistinct l) (sym (ats-append c (all_items cs)))
+    (distinct_append (ats c) (ats (all_items cs)) (d 0 (omega arith))
+      (all_distinct cs (λ i l. d (suc i) (omega arith)) (λ i j a l k m n. let e : suc i ≡ suc j = once (suc i) (suc j) a (omega arith) (omega arith) m n in omega arith))
+      (λ a m n. let r = place_in cs a n in let b : r.0 < length cs = r.1 in let e : 0 ≡ suc r.0 = once 0 (suc r.0) a (omega arith) (omega arith) m r.2 in let z : ⊥ = omega arith in z))
 
 module _ (b : Inside) (h : Stands b) where
   abbrev value : Hung
@@ -103,6 +138,20 @@ module _ (b : Inside) (h : Stands b) where
       chain = chain_is i l ∙ ap (λ (c : List ℕ). map reading c) p.splits ∙ map-append reading p.before (place ∷ p.after);
       behind = ap (λ (c : List ℕ). link_behind (b.slice + i) c) (ats-map (word b.part.words) b.key_words b.value_words p.before) ∙ p.linked
     }, refl, p.here)
+
+  -- all items together are at most as many as there are words
+  pub are_few : length (all_items value.chains) ≤ 67108864
+  are_few =
+      let room : 2 + b.key_words + b.value_words ≤ b.item_bytes / 8 = h.fits in
+      let of_chain : (i : ℕ) → i < length value.chains → ats (chain_of value i) ≡ chain_places b.part.words b.slice i = λ i l. places_are i (omega (arith, len_is)) in
+      let all : AreDistinct (ats (all_items value.chains)) = all_distinct value.chains
+        (λ i l. subst (λ (c : List ℕ). AreDistinct c) (sym (of_chain i l)) (h.distinct i (omega (arith, len_is))))
+        (λ i j a l k m n. h.once i j a (omega (arith, len_is)) (omega (arith, len_is)) (subst (λ (c : List ℕ). Among a c) (of_chain i l) m) (subst (λ (c : List ℕ). Among a c) (of_chain j k) n)) in
+      let few : length (ats (all_items value.chains)) ≤ most_words = length-le_from_distinct_below (ats (all_items value.chains)) most_words (are_distinct (ats (all_items value.chains)) all) (λ q e.
+        let r = place_in value.chains q (any_among q (ats (all_items value.chains)) e) in
+        let l : r.0 < b.buckets = omega (arith, r.1, len_is) in
+        h.below q ((h.items r.0 q l (subst (λ (c : List ℕ). Among q c) (of_chain r.0 r.1) r.2)).owned q (omega arith) (omega arith))) in
+      omega (arith, few, most_is, length-map (all_items value.chains) (λ (it : Item). it.at))
 
   -- where a spot is
   pub spot_in : (i link : ℕ) (it : Item) (s : IsSpot value i link it) → Among it (chain_of value i)

@@ -4,9 +4,10 @@
 //! Who holds the `Buckets` owns the words of the slice and of all items, and he alone changes them, at any time: a link when an item is
 //! hung in or taken out, an item's value when it is written. An item's hash and key never change while it hangs.
 //! `AreHung` says how the words stand for the chains; no two items have a word in common, and no item hangs twice.
-ghost use Rattle.std.specs.Prelude.{◌≡◌, ◌≢◌, ℕ, ◌+◌, ◌*◌, ◌/◌, ◌<◌, ◌≤◌, List, [], ◌∷◌, ◌++◌, length, replicate, MatchOption};
+ghost use Rattle.std.specs.Prelude.{◌≡◌, ◌≢◌, ℕ, ◌+◌, ◌*◌, ◌/◌, ◌<◌, ◌≤◌, List, [], ◌∷◌, ◌++◌, ◌^◌, length, replicate, MatchOption};
 ghost use Rattle.dshash_core.specs.Key.{hash_of};
 ghost use Rattle.dshash_core.specs.Chains.{word, words_at, Item, item_at};
+ghost use Rattle.dshash_core.specs.Cells.{all_items};
 ghost use Rattle.dshash_core.specs.Hung.{Hung, Layout, chain_of, with_chain, IsSpot, Holds, HasItem, HasNoItem, IsItemChunk, first_place};
 
 use crate::words::{Spot, blank, hang_in, load_words, seek, store_words, take_out};
@@ -69,6 +70,20 @@ impl Buckets {
         ensures { result ≡ length self.now.chains }
     {
         self.buckets
+    }
+
+    /// The words of a key.
+    pub fn key_words(&self) -> u64
+        ensures { result ≡ self.now.layout.key_words }
+    {
+        self.key_words
+    }
+
+    /// Tells that the items are at most as many as a region has words. It does nothing.
+    pub(crate) fn are_few(&self)
+        ensures { length (all_items self.now.chains) ≤ 2 ^ 26 }
+    {
+        let _ = &self.buckets;
     }
 
     /// Looks for the key in its bucket's chain.

@@ -5,9 +5,11 @@ mod buckets;
 mod key;
 mod object;
 mod outcome;
+mod sizes;
 mod words;
 
 pub use buckets::Buckets;
 pub use key::{hash_key, item_bytes, pack_key, unpack_key};
 pub use object::CellObject;
 pub use outcome::CoreOut;
+pub use sizes::bucket_count;

@@ -1,13 +1,13 @@
 //! Words in a row of a part, and the walk along one chain of items.
-ghost use Rattle.std.specs.Prelude.{◌≡◌, ℕ, ◌+◌, ◌<◌, ◌≤◌, ◌↔◌, length, IsSome, IsTrue, MatchOption, is_some};
+ghost use Rattle.std.specs.Prelude.{◌≡◌, ℕ, ◌+◌, ◌/◌, ◌<◌, ◌≤◌, ◌↔◌, length, IsSome, IsTrue, MatchOption, is_some};
 ghost use Rattle.std.specs.FinMap as fin;
 ghost use Rattle.word_map.specs.WordMap.{at as word_at, HasJust};
 ghost use Rattle.region_words.specs.Parts.{owned};
 ghost use Rattle.dshash_core.specs.Key.{hash_of};
-ghost use Rattle.dshash_core.specs.Chains.{word, words_at, most_words, places, IsChain, Among};
+ghost use Rattle.dshash_core.specs.Chains.{word, words_at, most_words, places, IsChain, Among, Item, item_at};
 ghost use Rattle.dshash_core.specs.Walk.{IsReadable, IsPlaced, IsNowhere, IsHungIn, IsTakenOut};
 
-use region_words::{Part, Region};
+use region_words::{Chunk, Part, Region};
 
 /// Where an item stands, and which word links to it.
 #[derive(Clone, Copy)]
@@ -153,4 +153,28 @@ pub(crate) fn blank(part: &mut Part, r: &Region, from: u64, len: u64)
     for i in 0..len {
         part.store(r, from + i, 0);
     }
+}
+
+/// Fills a chunk with an item that is not hung in yet: its hash, its key and its value.
+pub(crate) fn fill(item: Chunk, r: &Region, hash: u64, key: &[u64], value: &[u64]) -> Chunk
+    requires here { item.part.region ≡ r.now }
+    requires room { 2 + length key.now + length value.now ≤ item.bytes / 8 }
+    requires hash { hash ≡ hash_of key.now }
+    ensures place { (result.at ≡ item.at) × (result.bytes ≡ item.bytes) × (result.part.region ≡ item.part.region) }
+    ensures item { item_at (word result.part.words) (length key.now) (length value.now) result.at ≡ record { at = item.at; key = key.now; value = value.now } }
+    ensures hashed { word result.part.words (result.at + 1) ≡ hash_of key.now }
+{
+    let Chunk {
+        at,
+        bytes,
+        mut part,
+    } = item;
+    part.is_small();
+    let place = at.word();
+    put_word(&mut part, r, place + 1, hash);
+    let key_place = place + 2;
+    store_words(&mut part, r, key_place, key);
+    let value_place = key_place + key.len() as u64;
+    store_words(&mut part, r, value_place, value);
+    Chunk { at, bytes, part }
 }
