@@ -8,4 +8,4 @@ pub mod Views
 pub mod Changes
 pub mod Maps
 pub mod Flats
-pub mod Calls
+pub mod Steps

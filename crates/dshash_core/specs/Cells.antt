@@ -77,3 +77,20 @@ pub record AreCells (size count value_words : ℕ) (h : Hung) : Type 0 where
   pub counted : count ≡ length (all_items h.chains)
   pub values : h.layout.value_words ≡ value_words
   pub roomy : IsRoomy size count
+
+-- what contracts see of a partition with these buckets
+abbrev pub partition_seen : {S : Type 0} → (List ℕ → S) → Hung → ℕ → PartitionView S
+partition_seen decoded h size = record {
+    region = h.region;
+    slice = h.slice;
+    words = h.words;
+    key_words = h.layout.key_words;
+    item_bytes = h.layout.item_bytes;
+    size = size;
+    cells = cells_of decoded h.chains
+}
+
+-- the fields of a partition: its buckets hold a map of a size, and the buffer has room for a value
+pub record IsPartition (value_words size count : ℕ) (h : Hung) (buffer : List ℕ) : Type 0 where
+  pub cells : AreCells size count value_words h
+  pub buffer_long : length buffer ≡ value_words

@@ -25,29 +25,29 @@ removes m key next = fin.contains_key m key && is_none next
 abbrev pub is_full : {S : Type 0} → KeyMap S → ℕ → Bool
 is_full m size = nat_lt (full_above size) (fin.len m) && nat_lt size 20
 
-module _ {S C R : Type 0} (step : Option S → C → Option S × R) (size : ℕ) (before : KeyMap S) (key : List ℕ) (call : C) (spare : Bool) where
-  -- what the step makes of the key's state
-  abbrev pub next_of : Option S
-  next_of = (step (fin.get before key) call).0
+-- what the step makes of the key's state
+abbrev pub next_of : {S C R : Type 0} → (Option S → C → Option S × R) → KeyMap S → List ℕ → C → Option S
+next_of step before key call = (step (fin.get before key) call).0
 
+module _ {S C R : Type 0} (step : Option S → C → Option S × R) (size : ℕ) (before : KeyMap S) (key : List ℕ) (call : C) (spare : Bool) where
   -- the call was made: the key has the state of its step and no other key changes
   pub record IsDone (reply : R) (unused freed : Bool) (after : KeyMap S) : Type 0 where
     pub replied : reply ≡ (step (fin.get before key) call).1
-    pub steps : after ≡ changed before key next_of
-    pub may : would_insert before key next_of ≡ true → (is_full before size ≡ false) × (spare ≡ true)
-    pub unused_is : unused ≡ (spare && not (would_insert before key next_of))
-    pub freed_is : freed ≡ removes before key next_of
+    pub steps : after ≡ changed before key (next_of step before key call)
+    pub may : would_insert before key (next_of step before key call) ≡ true → (is_full before size ≡ false) × (spare ≡ true)
+    pub unused_is : unused ≡ (spare && not (would_insert before key (next_of step before key call)))
+    pub freed_is : freed ≡ removes before key (next_of step before key call)
 
   -- the call would insert, may do so, and brought no item
   pub record IsNeedItem (after : KeyMap S) : Type 0 where
-    pub inserts : would_insert before key next_of ≡ true
+    pub inserts : would_insert before key (next_of step before key call) ≡ true
     pub room : is_full before size ≡ false
     pub bare : spare ≡ false
     pub same : after ≡ before
 
   -- the call would insert into a full partition of that size, and gets its item back
   pub record IsTooFull (told : ℕ) (back : Bool) (after : KeyMap S) : Type 0 where
-    pub inserts : would_insert before key next_of ≡ true
+    pub inserts : would_insert before key (next_of step before key call) ≡ true
     pub full : is_full before size ≡ true
     pub told_is : told ≡ size
     pub back_is : back ≡ spare

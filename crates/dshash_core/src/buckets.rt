@@ -79,9 +79,10 @@ impl Buckets {
         self.key_words
     }
 
-    /// Tells that the items are at most as many as a region has words. It does nothing.
-    pub(crate) fn are_few(&self)
-        ensures { length (all_items self.now.chains) ≤ 2 ^ 26 }
+    /// Tells that an item has room for its key and its value, and that the items are at most as many as a region has words. It does nothing.
+    pub(crate) fn is_sound(&self)
+        ensures fits { 2 + self.now.layout.key_words + self.now.layout.value_words ≤ self.now.layout.item_bytes / 8 }
+        ensures few { length (all_items self.now.chains) ≤ 2 ^ 26 }
     {
         let _ = &self.buckets;
     }

@@ -2,9 +2,11 @@
 #![tactic(auto)]
 
 mod buckets;
+mod calls;
 mod key;
 mod object;
 mod outcome;
+mod partition;
 mod sizes;
 mod words;
 
@@ -12,4 +14,5 @@ pub use buckets::Buckets;
 pub use key::{hash_key, item_bytes, pack_key, unpack_key};
 pub use object::CellObject;
 pub use outcome::CoreOut;
+pub use partition::Partition;
 pub use sizes::bucket_count;

@@ -1,15 +1,20 @@
 -- The calls of a partition, on its chains: what was done and what was refused.
-use Rattle.std.proofs.Common.{◌≡◌, ◌≢◌, ℕ, zero, suc, ◌+◌, ◌<◌, ◌≤◌, ◌⊎◌, Bool, true, false, not, ◌&&◌, List, [], ◌∷◌, ◌++◌, length, Option, Some, None, is_some, is_none, nat_lt, refl, sym, ap, subst, ◌∙◌, arith}
+use Rattle.std.proofs.Common.{◌≡◌, ◌≢◌, ℕ, zero, suc, ◌+◌, ◌-◌, ◌/◌, ◌^◌, ◌<◌, ◌≤◌, ◌⊎◌, Bool, true, false, not, ◌&&◌, List, [], ◌∷◌, ◌++◌, length, Option, Some, None, is_some, is_none, nat_lt, refl, sym, ap, subst, ◌∙◌, arith}
 use Rattle.std.specs.FinMap as fin
+use Rattle.std.proofs.lemmas.Nat.{mod_below, pow_pos}
 use Rattle.std.proofs.lemmas.Bool.Decides.{nat_tests}
 use Rattle.dshash_core.proofs.Maps.{remove_missing}
 use Rattle.dshash_core.specs.Key.{hash_of}
 use Rattle.dshash_core.specs.Chains.{Among, Item}
 use Rattle.dshash_core.specs.Hung.{Hung, chain_of, with_chain, IsSpot, HasNoItem, HasItem}
-use Rattle.dshash_core.specs.Cells.{KeyMap, bucket_of, full_above, IsRoomy, all_items, cells_of, AreCells}
+use Rattle.dshash_core.specs.Cells.{KeyMap, bucket_of, buckets_of, full_above, IsRoomy, all_items, cells_of, AreCells}
 use Rattle.dshash_core.specs.Outcome.{changed, would_insert, removes, is_full, next_of, IsDone, IsNeedItem, IsTooFull}
 use Rattle.dshash_core.specs.Calls.{IsCalled}
 use Rattle.dshash_core.proofs.Flats.{nowhere, pushed_cells, pushed_map, spot_get, spot_counted, taken_cells, taken_map, written_cells, written_map, cells_len, cells_missing}
+
+-- a hash's bucket is one of the partition's
+pub bucket_in : (size count value_words : ℕ) (h : Hung) → AreCells size count value_words h → (hash : ℕ) → bucket_of size hash < length h.chains
+bucket_in size count value_words h k hash = let below : bucket_of size hash < buckets_of size = mod_below (hash / 2 ^ (32 - size)) (2 ^ (size - 7)) (pow_pos (size - 7)) in omega (arith, k.buckets, below)
 
 -- a partition that isn't full may take one key more
 may_grow : (size count : ℕ) → IsRoomy size count → (nat_lt (full_above size) count && nat_lt size 20) ≡ false → IsRoomy size (count + 1)
@@ -32,7 +37,7 @@ module _ {S C R : Type 0} (step : Option S → C → Option S × R) (decoded : L
     stepped : (next, reply) ≡ step (fin.get before key) call
     stepped = is ∙ ap (λ (o : Option S). step o call) (sym found)
 
-    next_is : next ≡ next_of step size before key call spare
+    next_is : next ≡ next_of step before key call
     next_is = ap (λ (p : Option S × R). p.0) stepped
 
     there : (o : Option S) → would_insert before key o ≡ false
@@ -53,7 +58,7 @@ module _ {S C R : Type 0} (step : Option S → C → Option S × R) (decoded : L
         record {
           replied = ap (λ (p : Option S × R). p.1) stepped;
           steps = subst P next_is e;
-          may = λ w. let n : false ≡ true = sym (there (next_of step size before key call spare)) ∙ w in cc;
+          may = λ w. let n : false ≡ true = sym (there (next_of step before key call)) ∙ w in cc;
           unused_is = subst W next_is (sym no_more);
           freed_is = subst F next_is f
         }
@@ -97,7 +102,7 @@ module _ {S C R : Type 0} (step : Option S → C → Option S × R) (decoded : L
     stepped_new : (next, reply) ≡ step (fin.get before key) call
     stepped_new = is ∙ ap (λ (o : Option S). step o call) (sym missing)
 
-    next_new : next ≡ next_of step size before key call spare
+    next_new : next ≡ next_of step before key call
     next_new = ap (λ (p : Option S × R). p.0) stepped_new
 
     absent : (o : Option S) → would_insert before key o ≡ is_some o
@@ -106,8 +111,8 @@ module _ {S C R : Type 0} (step : Option S → C → Option S × R) (decoded : L
     keeps : (o : Option S) → removes before key o ≡ false
     keeps o = ap (λ (g : Option S). is_some g && is_none o) missing
 
-    inserts : (state : S) → next ≡ Some state → would_insert before key (next_of step size before key call spare) ≡ true
-    inserts state e = absent (next_of step size before key call spare) ∙ ap (λ (o : Option S). is_some o) (sym next_new ∙ e)
+    inserts : (state : S) → next ≡ Some state → would_insert before key (next_of step before key call) ≡ true
+    inserts state e = absent (next_of step before key call) ∙ ap (λ (o : Option S). is_some o) (sym next_new ∙ e)
 
     full_is : is_full before size ≡ (nat_lt (full_above size) count && nat_lt size 20)
     full_is = ap (λ (n : ℕ). nat_lt (full_above size) n && nat_lt size 20) (cells_len size count value_words h k decoded)
@@ -115,8 +120,8 @@ module _ {S C R : Type 0} (step : Option S → C → Option S × R) (decoded : L
     -- it makes none: nothing has changed
     pub passed : next ≡ None → IsCalled step decoded size count value_words h h key call spare reply spare false
     passed e =
-        let gone : is_some (next_of step size before key call spare) ≡ false = ap (λ (o : Option S). is_some o) (sym next_new ∙ e) in
-        let no : would_insert before key (next_of step size before key call spare) ≡ false = absent (next_of step size before key call spare) ∙ gone in
+        let gone : is_some (next_of step before key call) ≡ false = ap (λ (o : Option S). is_some o) (sym next_new ∙ e) in
+        let no : would_insert before key (next_of step before key call) ≡ false = absent (next_of step before key call) ∙ gone in
         record {
           same = refl;
           cells = k;
@@ -125,7 +130,7 @@ module _ {S C R : Type 0} (step : Option S → C → Option S × R) (decoded : L
             steps = sym (ap (λ (o : Option S). changed before key o) (sym next_new ∙ e) ∙ unchanged);
             may = λ w. let n : false ≡ true = sym no ∙ w in cc;
             unused_is = sym (ap (λ (b : Bool). spare && not b) no ∙ whole spare);
-            freed_is = sym (keeps (next_of step size before key call spare))
+            freed_is = sym (keeps (next_of step before key call))
           }
         }
       where
@@ -141,7 +146,7 @@ module _ {S C R : Type 0} (step : Option S → C → Option S × R) (decoded : L
         → new ≡ with_chain h i (it ∷ chain_of h i)
         → IsCalled step decoded size (count + 1) value_words h new key call spare reply false false
     inserted new state it e key_is reads has room n =
-        let w : would_insert before key (next_of step size before key call spare) ≡ true = inserts state e in
+        let w : would_insert before key (next_of step before key call) ≡ true = inserts state e in
         let other : (x : Item) → Among x (all_items h.chains) → x.key ≢ it.key = λ x m s. fresh x m (s ∙ key_is) in
         let place : bucket_of size (hash_of it.key) ≡ i = ap (λ (q : List ℕ). bucket_of size (hash_of q)) key_is ∙ sym own in
         let roomy : IsRoomy size (count + 1) = may_grow size count k.roomy room in
@@ -154,7 +159,7 @@ module _ {S C R : Type 0} (step : Option S → C → Option S × R) (decoded : L
               ∙ ap (λ (o : Option S). changed before key o) (sym e ∙ next_new);
             may = λ z. (full_is ∙ room, has);
             unused_is = sym (ap (λ (b : Bool). spare && not b) w ∙ none_left spare);
-            freed_is = sym (keeps (next_of step size before key call spare))
+            freed_is = sym (keeps (next_of step before key call))
           }
         }
       where

@@ -1,8 +1,0 @@
-use Rattle.std.proofs.Common.{◌≤◌, length, subst}
-use Rattle.dshash_core.specs.Hung.{Hung}
-use Rattle.dshash_core.specs.Cells.{all_items}
-use Rattle.dshash_core.proofs.Views.{are_few}
-use Rattle.dshash_core.proofs.buckets.Buckets.are_few.Goals as goal
-
-pub returns : goal.returns
-returns c = subst (λ (h : Hung). length (all_items h.chains) ≤ 67108864) c.self.view_is (are_few c.self.inside c.self.invariant)
