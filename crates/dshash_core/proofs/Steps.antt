@@ -9,7 +9,9 @@ use Rattle.dshash_core.specs.Chains.{Among, Item}
 use Rattle.dshash_core.specs.Hung.{Hung, chain_of, with_chain, IsSpot, HasNoItem, HasItem}
 use Rattle.dshash_core.specs.Cells.{KeyMap, bucket_of, buckets_of, full_above, IsRoomy, all_items, cells_of, AreCells}
 use Rattle.dshash_core.specs.Outcome.{changed, would_insert, removes, is_full, next_of, IsDone, IsNeedItem, IsTooFull}
-use Rattle.dshash_core.specs.Calls.{IsCalled}
+use Rattle.dshash_core.specs.Calls.{IsCalled, IsAnswered}
+use Rattle.dshash_core.specs.declared.outcome.CoreOut.{CoreOut}
+use Rattle.dshash_core.specs.declared.outcome.CoreOut.TheVariants.{Done, NeedItem, TooFull}
 use Rattle.dshash_core.proofs.Flats.{nowhere, pushed_cells, pushed_map, spot_get, spot_counted, taken_cells, taken_map, written_cells, written_map, cells_len, cells_missing}
 
 -- a hash's bucket is one of the partition's
@@ -172,3 +174,10 @@ module _ {S C R : Type 0} (step : Option S → C → Option S × R) (decoded : L
 
     pub too_full : (state : S) → next ≡ Some state → (nat_lt (full_above size) count && nat_lt size 20) ≡ true → IsTooFull step size before key call spare size spare before
     too_full state e full = record { inserts = inserts state e; full = full_is ∙ full; told_is = refl; back_is = refl; same = refl }
+
+-- an answer leaves the chains of a partition of that size
+pub answered_cells : {O D S C R : Type 0} (step : Option S → C → Option S × R) (decoded : List ℕ → S) (size count after value_words : ℕ) (old new : Hung) (key : List ℕ) (call : C) (spare : Bool) (out : CoreOut O S D R)
+    → AreCells size count value_words old → IsAnswered step decoded size count after value_words old new key call spare out → AreCells size after value_words new
+answered_cells step decoded size count after value_words old new key call spare (Done reply unused freed) k a = a.cells
+answered_cells step decoded size count after value_words old new key call spare NeedItem k a = subst (λ (u : Hung). AreCells size after value_words u) (sym a.0) (subst (λ (n : ℕ). AreCells size n value_words old) (sym a.1) k)
+answered_cells step decoded size count after value_words old new key call spare (TooFull told back) k a = subst (λ (u : Hung). AreCells size after value_words u) (sym a.0) (subst (λ (n : ℕ). AreCells size n value_words old) (sym a.1) k)

@@ -37,6 +37,10 @@ chain_first : (w : ℕ → ℕ) (link : ℕ) (items : List Item) → IsChain w l
 chain_first w link [] c = c
 chain_first w link (it ∷ items) c = c.0
 
+chain_ends : (w : ℕ → ℕ) (link : ℕ) (items : List Item) → IsChain w link (ats items) → link ≡ 0 → items ≡ []
+chain_ends w link [] c z = refl
+chain_ends w link (it ∷ items) c z = let low : 0 < it.at = c.1 in let e : link ≡ it.at = c.0 in absurd (omega arith)
+
 chain_next : (w : ℕ → ℕ) (link a : ℕ) (xs ys : List ℕ) → IsChain w link (xs ++ a ∷ ys) → IsChain w (w a) ys
 chain_next w link a [] ys c = c.2
 chain_next w link a (x ∷ xs) ys c = chain_next w (w x) a xs ys c.2
@@ -228,3 +232,17 @@ module _ (b : Inside) (h : Stands b) where
         ∙ chain_first (word b.part.words) (word b.part.words it.at) after
           (chain_next (word b.part.words) (word b.part.words (b.slice + i)) it.at (ats before) (ats after)
             (subst (λ (c : List ℕ). IsChain (word b.part.words) (word b.part.words (b.slice + i)) c) places (h.linked i (bucket_in i l))))
+
+    pub first_ends : (i link : ℕ) → i < length v.chains → at b.part.words (b.slice + i) ≡ Some link → link ≡ 0 → chain_of v i ≡ []
+    first_ends i link l e z = subst (λ (u : Hung). chain_of u i ≡ []) is
+        (chain_ends (word b.part.words) (word b.part.words (b.slice + i)) (chain_of value i) (subst (λ (c : List ℕ). IsChain (word b.part.words) (word b.part.words (b.slice + i)) c) (sym (places_are i (bucket_in i l))) (h.linked i (bucket_in i l)))
+          (word_is b.part.words (b.slice + i) link e ∙ z))
+
+    pub next_ends : (i place link : ℕ) → i < length v.chains → at b.part.words place ≡ Some link → (before after : List Item) (it : Item) → chain_of v i ≡ before ++ it ∷ after → it.at ≡ place → link ≡ 0 → after ≡ []
+    next_ends i place link l e before after it splits s z =
+        let own : chain_of value i ≡ before ++ it ∷ after = ap (λ (u : Hung). chain_of u i) is ∙ splits in
+        let places : chain_places b.part.words b.slice i ≡ ats before ++ it.at ∷ ats after = sym (places_are i (bucket_in i l)) ∙ ap ats own ∙ ats-append before (it ∷ after) in
+        chain_ends (word b.part.words) (word b.part.words it.at) after
+          (chain_next (word b.part.words) (word b.part.words (b.slice + i)) it.at (ats before) (ats after)
+            (subst (λ (c : List ℕ). IsChain (word b.part.words) (word b.part.words (b.slice + i)) c) places (h.linked i (bucket_in i l))))
+          (ap (word b.part.words) s ∙ word_is b.part.words place link e ∙ z)

@@ -175,6 +175,7 @@ impl Buckets {
         requires bucket { bucket < length self.old.chains }
         ensures same { self.new ≡ self.old }
         ensures first { result ≡ first_place (chain_of self.old bucket) }
+        ensures ends { result ≡ 0 → chain_of self.old bucket ≡ [] }
     {
         self.part.load(r, self.slice + bucket)
     }
@@ -186,6 +187,7 @@ impl Buckets {
         requires item { (before : List Item) × (after : List Item) × (it : Item) × (chain_of self.old bucket ≡ before ++ it ∷ after) × (it.at ≡ item) }
         ensures same { self.new ≡ self.old }
         ensures next { (before after : List Item) (it : Item) → chain_of self.old bucket ≡ before ++ it ∷ after → it.at ≡ item → result ≡ first_place after }
+        ensures ends { (before after : List Item) (it : Item) → chain_of self.old bucket ≡ before ++ it ∷ after → it.at ≡ item → result ≡ 0 → after ≡ [] }
     {
         let _ = bucket;
         self.part.load(r, item)

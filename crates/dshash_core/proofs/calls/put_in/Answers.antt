@@ -1,6 +1,7 @@
-use Rattle.std.proofs.Common.{◌≡◌, ℕ, ◌+◌, ◌/◌, ◌<◌, ◌≤◌, Bool, true, false, Option, Some, None, IfSome, is_some, length, arith, ap, sym, subst, ◌∙◌, refl, nat_lt, ◌&&◌}
+use Rattle.std.proofs.Common.{◌≡◌, ℕ, ◌+◌, ◌/◌, ◌<◌, ◌≤◌, Bool, true, false, List, ◌∷◌, Option, Some, None, IfSome, is_some, length, arith, ap, sym, subst, ◌∙◌, refl, nat_lt, ◌&&◌}
 use Rattle.region_words.specs.declared.chunk.Chunk.{Chunk}
 use Rattle.dshash_core.specs.Key.{hash_of}
+use Rattle.dshash_core.specs.Hung.{with_chain, chain_of}
 use Rattle.dshash_core.specs.Cells.{bucket_of, full_above}
 use Rattle.dshash_core.specs.Calls.{IsCalled}
 use Rattle.dshash_core.proofs.Steps.{bucket_in, passed, inserted, needs_item, too_full}
@@ -20,7 +21,7 @@ returns-then-is_full_at-clause-answered g c = (refl, refl,
       (sym c.is_full_at.ensures ∙ c.if-is_full_at.true))
 
 pub insert-requires-clause-room : goal.insert-requires-clause-room
-insert-requires-clause-room g c =
+insert-requires-clause-room g c κs lives =
     let spare = subst (λ (o : Option Chunk). IfSome o (λ k. (k.part.region ≡ c.args.r.now) × (k.bytes ≡ c.args.buckets.now.layout.item_bytes))) c.in-Some-spare.is c.requires.spare in
     let bytes : c.in-Some-spare.item.bytes ≡ c.args.buckets.now.layout.item_bytes = spare.1 in
     subst (λ (n : ℕ). 2 + length c.args.key.now + g.O.CellObject.VALUE_WORDS ≤ n / 8) (sym bytes)
@@ -36,7 +37,7 @@ returns-in-Some-spare-clause-answered g c =
       (ap (bucket_of c.args.size) c.requires.hash) c.requires.absent c.first_step-next.result.0 c.first_step-next.result.1 c.first_step-next.ensures
       c.insert.new.buckets c.in-Some.state made.0 c.in-Some.is made.1 made.2 (ap (λ (o : Option Chunk). is_some o) c.in-Some-spare.is)
       (sym c.is_full_at.ensures ∙ c.if-is_full_at.false)
-      ?
+      (subst (λ (j : ℕ). c.insert.new.buckets ≡ with_chain c.args.buckets.now j (made.0 ∷ chain_of c.args.buckets.now j)) c.bucket_of_hash-bucket.ensures made.3)
 
 pub returns-in-None-spare-clause-answered : goal.returns-in-None-spare-clause-answered
 returns-in-None-spare-clause-answered g c = (refl, refl,

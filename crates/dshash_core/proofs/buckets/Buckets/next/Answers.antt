@@ -1,6 +1,6 @@
 use Rattle.std.proofs.Common.{◌≡◌, ◌+◌, ◌/◌, ◌≤◌, ◌++◌, ◌∷◌, List, arith, ap, sym, subst, ◌∙◌}
 use Rattle.dshash_core.specs.Chains.{Item, Among}
-use Rattle.dshash_core.proofs.Views.{held_at, next_is, among_here}
+use Rattle.dshash_core.proofs.Views.{held_at, next_is, next_ends, among_here}
 use Rattle.dshash_core.proofs.buckets.Buckets.next.Goals as goal
 
 pub load-requires-clause-owns : goal.load-requires-clause-owns
@@ -12,3 +12,6 @@ load-requires-clause-owns c =
 
 pub returns-clause-next : goal.returns-clause-next
 returns-clause-next c = next_is c.self.inside c.self.invariant c.args.self.now c.self.view_is c.args.bucket c.args.item c.load.result c.requires.bucket c.load.ensures.found
+
+pub returns-clause-ends : goal.returns-clause-ends
+returns-clause-ends c = next_ends c.self.inside c.self.invariant c.args.self.now c.self.view_is c.args.bucket c.args.item c.load.result c.requires.bucket c.load.ensures.found

@@ -1,10 +1,10 @@
-use Rattle.std.proofs.Common.{rules, ◌≡◌, ◌+◌, ◌*◌, ◌/◌, ◌<◌, ◌≤◌, length, is_some, IfOk, IfSome, MatchOption, ℕ, ◌-◌, ◌%◌, Bool, true, false, nat_eq, nat_lt, List, [], ◌∷◌, ◌++◌, slice_index_or, slice_set, bit_and, bit_or, Fits, w8, w32, w64, Bor, MutBor}
+use Rattle.std.proofs.Common.{◌≡◌, ap, sym, ◌∙◌}
 use Rattle.std.specs.FinMap as fin
-use Rattle.dshash_core.specs.Key.{item_size}
-use Rattle.dshash_core.specs.Cells.{IsRoomy}
-use Rattle.dshash_core.specs.Outcome.{IsOutcome, HandsOut}
+use Rattle.dshash_core.specs.Cells.{PartitionView}
+use Rattle.dshash_core.proofs.Flats.{cells_len}
 use Rattle.dshash_core.proofs.partition.Partition.count.Goals as goal
 
--- src/partition.rt:86:5
 pub returns-clause-is : goal.returns-clause-is
-returns-clause-is g c = ?
+returns-clause-is g c =
+    sym (cells_len c.self.inside.size c.self.inside.count g.O.CellObject.VALUE_WORDS c.self.inside.buckets c.self.invariant.cells g.O.CellObject.decoded)
+    ∙ ap (λ (v : PartitionView g.row.O-State.Denot). fin.len v.cells) c.self.view_is
