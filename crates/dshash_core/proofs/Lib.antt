@@ -9,3 +9,4 @@ pub mod Changes
 pub mod Maps
 pub mod Flats
 pub mod Steps
+pub mod Moves

@@ -41,6 +41,11 @@ chain_ends : (w : ℕ → ℕ) (link : ℕ) (items : List Item) → IsChain w li
 chain_ends w link [] c z = refl
 chain_ends w link (it ∷ items) c z = let low : 0 < it.at = c.1 in let e : link ≡ it.at = c.0 in absurd (omega arith)
 
+-- a place that is not 0 is that of a first item
+pub first_item : (items : List Item) (place : ℕ) → place ≡ first_place items → place ≢ 0 → (it : Item) × (rest : List Item) × (items ≡ it ∷ rest) × (it.at ≡ place)
+first_item [] place e n = absurd (n e)
+first_item (it ∷ rest) place e n = (it, rest, refl, sym e)
+
 chain_next : (w : ℕ → ℕ) (link a : ℕ) (xs ys : List ℕ) → IsChain w link (xs ++ a ∷ ys) → IsChain w (w a) ys
 chain_next w link a [] ys c = c.2
 chain_next w link a (x ∷ xs) ys c = chain_next w (w x) a xs ys c.2

@@ -110,3 +110,13 @@ pub record IsItemChunk (place : ℕ) (words : WordMap) (layout : Layout) (it : I
 abbrev pub first_place : List Item → ℕ
 first_place [] = 0
 first_place (it ∷ items) = it.at
+
+-- a chunk at the place is the first item of bucket i of `old`, and `new` is without it
+pub record IsFirst (old new : Hung) (i place bytes : ℕ) (part : Owned) : Type 0 where
+  pub it : Item
+  pub rest : List Item
+  pub chain : chain_of old i ≡ it ∷ rest
+  pub without : new ≡ with_chain old i rest
+  pub item : IsItemChunk place part.words old.layout it
+  pub here : part.region ≡ old.region
+  pub whole : bytes ≡ old.layout.item_bytes

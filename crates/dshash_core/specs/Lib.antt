@@ -5,3 +5,4 @@ pub mod Walk
 pub mod Cells
 pub mod Outcome
 pub mod Calls
+pub mod Listing

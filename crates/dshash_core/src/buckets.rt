@@ -4,11 +4,11 @@
 //! Who holds the `Buckets` owns the words of the slice and of all items, and he alone changes them, at any time: a link when an item is
 //! hung in or taken out, an item's value when it is written. An item's hash and key never change while it hangs.
 //! `AreHung` says how the words stand for the chains; no two items have a word in common, and no item hangs twice.
-ghost use Rattle.std.specs.Prelude.{◌≡◌, ◌≢◌, ℕ, ◌+◌, ◌*◌, ◌/◌, ◌<◌, ◌≤◌, List, [], ◌∷◌, ◌++◌, ◌^◌, length, replicate, MatchOption};
+ghost use Rattle.std.specs.Prelude.{◌≡◌, ◌≢◌, ℕ, ◌+◌, ◌*◌, ◌/◌, ◌<◌, ◌≤◌, List, [], ◌∷◌, ◌++◌, ◌^◌, length, replicate, MatchOption, IfSome, IfNone};
 ghost use Rattle.dshash_core.specs.Key.{hash_of};
 ghost use Rattle.dshash_core.specs.Chains.{word, words_at, Item, item_at};
 ghost use Rattle.dshash_core.specs.Cells.{all_items};
-ghost use Rattle.dshash_core.specs.Hung.{Hung, Layout, chain_of, with_chain, IsSpot, Holds, HasItem, HasNoItem, IsItemChunk, first_place};
+ghost use Rattle.dshash_core.specs.Hung.{Hung, Layout, chain_of, with_chain, IsSpot, Holds, HasItem, HasNoItem, IsItemChunk, IsFirst, first_place};
 
 use crate::words::{Spot, blank, hang_in, load_words, seek, store_words, take_out};
 use region_words::{Chunk, Part, Region};
@@ -77,6 +77,13 @@ impl Buckets {
         ensures { result ≡ self.now.layout.key_words }
     {
         self.key_words
+    }
+
+    /// The bytes of an item's chunk.
+    pub fn item_bytes(&self) -> u64
+        ensures { result ≡ self.now.layout.item_bytes }
+    {
+        self.item_bytes
     }
 
     /// Tells that an item has room for its key and its value, and that the items are at most as many as a region has words. It does nothing.
@@ -191,6 +198,21 @@ impl Buckets {
     {
         let _ = bucket;
         self.part.load(r, item)
+    }
+
+    /// Takes the first item of a bucket out, whole.
+    pub fn pop(&mut self, r: &Region, bucket: u64) -> Option<Chunk>
+        requires here { self.old.region ≡ r.now }
+        requires bucket { bucket < length self.old.chains }
+        ensures none { IfNone result ((chain_of self.old bucket ≡ []) × (self.new ≡ self.old)) }
+        ensures some { IfSome result (λ c. IsFirst self.old self.new bucket c.at c.bytes c.part) }
+    {
+        let item = self.first(r, bucket);
+        if item == 0 {
+            return None;
+        }
+        let link = self.slice + bucket;
+        Some(self.unlink(r, bucket, Spot { link, item }))
     }
 
     /// The slice, without the items.

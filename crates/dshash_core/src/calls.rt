@@ -56,7 +56,7 @@ fn insert<O: CellObject>(
     r: &Region,
     buffer: &mut [u64],
     bucket: u64,
-    hash: u32,
+    hash: u64,
     key: &[u64],
     state: &O::State,
     item: Chunk,
@@ -72,7 +72,7 @@ fn insert<O: CellObject>(
     ensures { (it : Item) × (it.key ≡ key.now) × (O.decoded it.value ≡ state.now) × (buckets.new ≡ with_chain buckets.old bucket (it ∷ chain_of buckets.old bucket)) }
 {
     O::encode(state, buffer);
-    let item = fill(item, r, u64::from(hash), key, buffer);
+    let item = fill(item, r, hash, key, buffer);
     buckets.push(r, bucket, item);
 }
 
@@ -91,7 +91,7 @@ fn put_in<O: CellObject>(
     count: &mut u64,
     buffer: &mut [u64],
     size: u32,
-    hash: u32,
+    hash: u64,
     key: &[u64],
     call: &O::Call,
     spare: Option<Chunk>,
@@ -155,9 +155,9 @@ pub(crate) fn answer<O: CellObject>(
     ensures answered { IsAnswered O.stepped O.decoded size count.old count.new O.VALUE_WORDS buckets.old buckets.new key.now call.now (is_some spare) result }
     ensures handed { HandsOut buckets.old.region buckets.old.layout.item_bytes spare result }
 {
-    let hash = hash_key(key);
+    let hash = u64::from(hash_key(key));
     let bucket = bucket_of_hash(size, hash);
-    match buckets.find(r, bucket, u64::from(hash), key) {
+    match buckets.find(r, bucket, hash, key) {
         Some(spot) => {
             let (reply, freed) = change::<O>(buckets, r, count, buffer, bucket, spot, call);
             CoreOut::Done {

@@ -3,14 +3,18 @@
 
 mod buckets;
 mod calls;
+mod entries;
 mod key;
 mod object;
 mod outcome;
 mod partition;
 mod sizes;
+#[cfg(test)]
+mod tests;
 mod words;
 
 pub use buckets::Buckets;
+pub use entries::{Entry, KeyWords};
 pub use key::{hash_key, item_bytes, pack_key, unpack_key};
 pub use object::CellObject;
 pub use outcome::CoreOut;

@@ -4,20 +4,25 @@
 //! Who holds the partition owns the words of its bucket slice and of its items, so a call is one step of one thread: behind a lock it is one
 //! event of the table. `IsPartition` says what is always so: each item hangs in the bucket of its key's hash, each key once, the count is the
 //! number of keys, and there are at most three quarters as many keys as buckets and one more, or the size is 20.
-ghost use Rattle.std.specs.Prelude.{◌≡◌, ◌+◌, ◌*◌, ◌/◌, ◌<◌, ◌≤◌, length, is_some, IfOk, IfSome, MatchOption};
+ghost use Rattle.std.specs.Prelude.{◌≡◌, false, ◌+◌, ◌*◌, ◌/◌, ◌<◌, ◌≤◌, length, is_some, IfOk, IfSome, MatchOption};
 ghost use Rattle.std.specs.FinMap as fin;
 ghost use Rattle.dshash_core.specs.Key.{item_size};
-ghost use Rattle.dshash_core.specs.Cells.{IsRoomy};
-ghost use Rattle.dshash_core.specs.Outcome.{IsOutcome, HandsOut};
+ghost use Rattle.dshash_core.specs.Cells.{IsRoomy, AreCells, buckets_of, cells_of};
+ghost use Rattle.dshash_core.specs.Outcome.{IsOutcome, HandsOut, ListsAll};
+ghost use Rattle.dshash_core.specs.Listing.{pairs_of};
+ghost use Rattle.dshash_core.specs.Chains.{Item};
+ghost use Rattle.dshash_core.specs.Hung.{IsItemChunk};
 
 use crate::buckets::Buckets;
 use crate::calls::answer;
+use crate::entries::{Entry, list_all};
 use crate::object::CellObject;
 use crate::outcome::CoreOut;
-use crate::sizes::LEAST_SIZE;
+use crate::sizes::{LEAST_SIZE, bucket_count, bucket_of_hash};
 use region_words::{Chunk, Region};
 use std::alloc::{AllocError, Global};
 use std::marker::{Model, PhantomData};
+use std::mem;
 
 /// One partition. Contracts see its region, its slice, its size and the map of states under their keys.
 #[derive(Drop)]
@@ -116,5 +121,55 @@ impl<O: CellObject> Partition<O> {
             call,
             spare,
         )
+    }
+
+    /// Each key with its state, in no stated order.
+    pub fn list(&mut self, alloc: Global, r: &Region) -> Result<Vec<Entry<O>>, AllocError>
+        requires here { self.old.region ≡ r.now }
+        ensures same { self.new ≡ self.old }
+        ensures all { IfOk result (λ v. ListsAll self.old.cells (pairs_of v.items)) }
+    {
+        list_all::<O>(&mut self.buckets, alloc, r, self.buffer.as_mut_slice())
+    }
+
+    /// Begins a move: the partition is empty, on a new slice and with the size that it is to have. Its chains of before are handed out; whoever
+    /// moves gives their items back by `take_in`.
+    pub fn start_over(&mut self, r: &Region, size: u32, slice: Chunk) -> Buckets
+        requires here { (self.old.region ≡ r.now) × (slice.part.region ≡ r.now) }
+        requires size { (7 ≤ size) × (size ≤ 20) }
+        requires room { buckets_of size ≤ slice.bytes / 8 }
+        ensures fresh { self.new ≡ record self.old { slice = slice.at; words = slice.bytes / 8; size = size; cells = fin.empty } }
+        ensures place { (result.region ≡ self.old.region) × (result.slice ≡ self.old.slice) × (result.words ≡ self.old.words) }
+        ensures layout { (result.layout.key_words ≡ self.old.key_words) × (result.layout.value_words ≡ O.VALUE_WORDS) × (result.layout.item_bytes ≡ self.old.item_bytes) }
+        ensures cells { AreCells self.old.size (fin.len self.old.cells) O.VALUE_WORDS result × (cells_of O.decoded result.chains ≡ self.old.cells) }
+    {
+        self.buckets.is_sound();
+        let buckets = Buckets::new(
+            r,
+            slice,
+            bucket_count(size),
+            self.buckets.key_words(),
+            O::VALUE_WORDS as u64,
+            self.buckets.item_bytes(),
+        );
+        self.size = size;
+        self.count = 0;
+        mem::replace(&mut self.buckets, buckets)
+    }
+
+    /// Takes in an item that another chain held, whole.
+    pub fn take_in(&mut self, r: &Region, item: Chunk)
+        requires here { (self.old.region ≡ r.now) × (item.part.region ≡ r.now) }
+        requires size { item.bytes ≡ self.old.item_bytes }
+        requires item { (it : Item) × IsItemChunk item.at item.part.words (record { key_words = self.old.key_words; value_words = O.VALUE_WORDS; item_bytes = self.old.item_bytes }) it × (fin.contains_key self.old.cells it.key ≡ false) }
+        requires room { IsRoomy self.old.size (fin.len self.old.cells + 1) }
+        ensures { (it : Item) → IsItemChunk item.at item.part.words (record { key_words = self.old.key_words; value_words = O.VALUE_WORDS; item_bytes = self.old.item_bytes }) it → self.new ≡ record self.old { cells = fin.insert self.old.cells it.key (O.decoded it.value) } }
+    {
+        let mut item = item;
+        self.buckets.is_sound();
+        let hash = item.load(r, 1);
+        let bucket = bucket_of_hash(self.size, hash);
+        self.count += 1;
+        self.buckets.push(r, bucket, item);
     }
 }

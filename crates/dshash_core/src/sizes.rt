@@ -17,11 +17,11 @@ pub fn bucket_count(size: u32) -> u64
 }
 
 /// The bucket of a hash.
-pub(crate) fn bucket_of_hash(size: u32, hash: u32) -> u64
+pub(crate) fn bucket_of_hash(size: u32, hash: u64) -> u64
     requires { (7 ≤ size) × (size ≤ 20) }
     ensures { result ≡ bucket_of size hash }
 {
-    u64::from(hash >> (32 - size)) % bucket_count(size)
+    (hash >> (32 - size)) % bucket_count(size)
 }
 
 /// Whether a partition of so many keys has to grow before it inserts.
