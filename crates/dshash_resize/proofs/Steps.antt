@@ -1,7 +1,8 @@
 -- The steps of a move: it begins with all keys in the former chains, an item goes over, and it ends with none left.
-use Rattle.std.proofs.Common.{◌≡◌, ◌≢◌, ℕ, zero, suc, ◌+◌, ◌-◌, ◌<◌, ◌≤◌, ◌⊎◌, Bool, true, false, cond, List, [], ◌∷◌, ◌++◌, map, length, get_or, set, Option, Some, None, is_some, IsSome, refl, sym, ap, subst, ◌∙◌, arith, ⊎_elim, nat_cmp}
+use Rattle.std.proofs.Common.{◌≡◌, ◌≢◌, ℕ, zero, suc, ◌+◌, ◌-◌, ◌^◌, ◌<◌, ◌≤◌, ◌⊎◌, Bool, true, false, cond, List, [], ◌∷◌, ◌++◌, map, length, get_or, set, Option, Some, None, is_some, IsSome, refl, sym, ap, subst, ◌∙◌, arith, ⊎_elim, nat_cmp}
 use Rattle.std.proofs.lemmas.List.{get_or-set_same, get_or-set_other}
 use Rattle.std.proofs.Math.ListN.{length-set}
+use Rattle.std.proofs.lemmas.Nat.{pow_below}
 use Rattle.std.specs.Cmp.Lexicographic.{slice_cmp, nat_list_cmp_total}
 use Rattle.std.specs.FinMap as fin
 use Rattle.dshash_core.specs.Chains.{Among, Item}
@@ -118,3 +119,35 @@ ends {S} decoded value_words former total all p from m none =
     or_none : (o : Option S) → either_of o None ≡ o
     or_none (Some s) = refl
     or_none None = refl
+
+-- a larger partition has room for as many keys
+pub grows : (size to keys : ℕ) → IsRoomy size keys → size < to → to ≤ 20 → IsRoomy to keys
+grows size to keys r more most =
+    let low : 7 ≤ size = r.from in
+    let powers : 2 ^ (size - 7) < 2 ^ (to - 7) = pow_below (size - 7) (to - 7) (omega arith) in
+    let now : keys ≤ full_above size + 1 = r.few (omega arith) in
+    record { from = omega arith; to = most; few = λ z. omega (arith, powers, now) }
+
+-- going on from where the move has come to
+pub moved_on : {S : Type 0} (decoded : List ℕ → S) (value_words : ℕ) (q p r : PartitionView S) (first from next : Hung) (i : ℕ) (it : Item) (rest : List Item)
+    → IsMovedOn decoded value_words q first p from → i < length from.chains → chain_of from i ≡ it ∷ rest → next ≡ with_chain from i rest → r ≡ record p { cells = fin.insert p.cells it.key (decoded it.value) }
+    → IsMovedOn decoded value_words q first r next
+moved_on {S} decoded value_words q p r first from next i it rest m l chain without taken = record {
+    same = taken ∙ (λ t. record (m.same t) { cells = fin.insert p.cells it.key (decoded it.value) }) ∙ (λ t. record q { cells = (sym taken t).cells });
+    chains_same = without ∙ (λ t. record (m.chains_same t) { chains = set from.chains i rest }) ∙ (λ t. record first { chains = (sym without t).chains });
+    buckets_same = ap (λ (u : Hung). length u.chains) without ∙ length-set from.chains i rest ∙ m.buckets_same;
+    moving = λ former total all k. subst (λ (w : PartitionView S). IsMoving decoded value_words former total all w next) (sym taken)
+      (goes_over decoded value_words former total all p from next i it rest (m.moving former total all k) l chain without)
+}
+
+pub shorter : (from next : Hung) (i : ℕ) (it : Item) (rest : List Item) → i < length from.chains → chain_of from i ≡ it ∷ rest → next ≡ with_chain from i rest → length (chain_of next i) < length (chain_of from i)
+shorter from next i it rest l chain without =
+    let now : length (chain_of next i) ≡ length rest = ap (λ (u : Hung). length (chain_of u i)) without ∙ ap (λ (c : List Item). length c) (get_or-set_same from.chains i rest [] l) in
+    let was : length (chain_of from i) ≡ suc (length rest) = ap (λ (c : List Item). length c) chain in
+    omega arith
+
+pub still_empty : (from next : Hung) (i : ℕ) (it : Item) (rest : List Item) (j : ℕ) → chain_of from i ≡ it ∷ rest → next ≡ with_chain from i rest → chain_of from j ≡ [] → chain_of next j ≡ []
+still_empty from next i it rest j chain without none = ⊎_elim
+    (λ (e : j ≡ i). let z : it ∷ rest ≡ [] = sym chain ∙ ap (λ (n : ℕ). chain_of from n) (sym e) ∙ none in cc)
+    (λ (n : j ≢ i). stays_empty from next i rest j without n none)
+    (same_or_not j i)

@@ -14,6 +14,7 @@ use region_words::{Chunk, Region};
 fn move_chain<O: CellObject>(p: &mut Partition<O>, r: &Region, from: &mut Buckets, bucket: u64)
     requires here { (p.old.region ≡ r.now) × (from.old.region ≡ r.now) }
     requires bucket { bucket < length from.old.chains }
+    requires moving { (former : ℕ) × (total : ℕ) × (all : KeyMap O.State) × IsMoving O.decoded O.VALUE_WORDS former total all p.old from.old }
     ensures moved { IsMovedOn O.decoded O.VALUE_WORDS p.old from.old p.new from.new }
     ensures done { chain_of from.new bucket ≡ [] }
     ensures others { (i : ℕ) → chain_of from.old i ≡ [] → chain_of from.new i ≡ [] }
@@ -31,7 +32,7 @@ pub fn move_partition<O: CellObject>(p: &mut Partition<O>, r: &Region, size: u32
     ensures moved { p.new ≡ record p.old { slice = slice.at; words = slice.bytes / 8; size = size } }
     ensures slice { (result.part.region ≡ p.old.region) × (result.at ≡ p.old.slice) × (result.bytes ≡ 8 * p.old.words) }
 {
-    p.size();
+    let _ = p.count();
     let mut from = p.start_over(r, size, slice);
     for bucket in 0..from.len() {
         move_chain(p, r, &mut from, bucket);
