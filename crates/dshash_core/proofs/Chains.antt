@@ -88,14 +88,14 @@ pub record Stored (old new : Owned) (a i : ℕ) (xs : List ℕ) : Type 0 where
 
 pub stored_next : (old p : Owned) (a i : ℕ) (xs : List ℕ) → Stored old p a i xs → IsSome (at p.words (a + i)) → Stored old (owned p.region (fin.insert p.words (a + i) (get_or xs i 0))) a (i + 1) xs
 stored_next old p a i xs s has = record {
-    region = s.region;
-    keys = λ k. insert-keys p.words (a + i) (get_or xs i 0) k has ∙ s.keys k;
-    stored = λ k h. ⊎_elim
-        (λ (e : k ≡ i). word_same p.words (a + i) (get_or xs i 0) (a + k) (ap (λ (j : ℕ). a + j) e) ∙ ap (λ (j : ℕ). get_or xs j 0) (sym e))
-        (λ (n : k ≢ i). word_other p.words (a + i) (get_or xs i 0) (a + k) (λ e. n (omega arith)) ∙ s.stored k (omega arith))
-        (same_or_not k i);
-    below = λ k h. word_other p.words (a + i) (get_or xs i 0) k (λ e. omega arith) ∙ s.below k h;
-    behind = λ k h. word_other p.words (a + i) (get_or xs i 0) k (λ e. omega arith) ∙ s.behind k (omega arith)
+  region = s.region;
+  keys = λ k. insert-keys p.words (a + i) (get_or xs i 0) k has ∙ s.keys k;
+  stored = λ k h. ⊎_elim
+      (λ (e : k ≡ i). word_same p.words (a + i) (get_or xs i 0) (a + k) (ap (λ (j : ℕ). a + j) e) ∙ ap (λ (j : ℕ). get_or xs j 0) (sym e))
+      (λ (n : k ≢ i). word_other p.words (a + i) (get_or xs i 0) (a + k) (λ e. n (omega arith)) ∙ s.stored k (omega arith))
+      (same_or_not k i);
+  below = λ k h. word_other p.words (a + i) (get_or xs i 0) k (λ e. omega arith) ∙ s.below k h;
+  behind = λ k h. word_other p.words (a + i) (get_or xs i 0) k (λ e. omega arith) ∙ s.behind k (omega arith);
 }
 
 -- an item that was written word by word
@@ -104,6 +104,7 @@ pub filled : (p0 p1 p2 p3 : WordMap) (a hash : ℕ) (key value : List ℕ) → p
     → ((k : ℕ) → k < a + 2 + length key → word p3 k ≡ word p2 k) → words_at (word p3) (a + 2 + length key) (length value) ≡ value
     → (item_at (word p3) (length key) (length value) a ≡ record { at = a; key = key; value = value }) × (word p3 (a + 1) ≡ hash)
 filled p0 p1 p2 p3 a hash key value first below key_is below2 value_is =
-    let same : words_at (word p3) (a + 2) (length key) ≡ key = words_at-same (word p3) (word p2) (a + 2) (length key) (λ k low high. below2 k high) ∙ key_is in
-    ((λ i. record { at = a; key = same i; value = value_is i }),
-    below2 (a + 1) (omega arith) ∙ below (a + 1) (omega arith) ∙ ap (λ (m : WordMap). word m (a + 1)) first ∙ word_same p0 (a + 1) hash (a + 1) refl)
+    let same : words_at (word p3) (a + 2) (length key) ≡ key = words_at-same (word p3) (word p2) (a + 2) (length key) (λ k low high. below2 k high) ∙ key_is in (
+      (λ i. record { at = a; key = same i; value = value_is i }),
+      below2 (a + 1) (omega arith) ∙ below (a + 1) (omega arith) ∙ ap (λ (m : WordMap). word m (a + 1)) first ∙ word_same p0 (a + 1) hash (a + 1) refl,
+    )

@@ -27,7 +27,7 @@ cut (c ∷ cs) (suc i) l =
       front = c ++ r.front;
       back = r.back;
       whole = ap (λ (x : List Item). c ++ x) r.whole ∙ sym (append_assoc c r.front (get_or cs i [] ++ r.back));
-      changed = λ d. ap (λ (x : List Item). c ++ x) (r.changed d) ∙ sym (append_assoc c r.front (d ++ r.back))
+      changed = λ d. ap (λ (x : List Item). c ++ x) (r.changed d) ∙ sym (append_assoc c r.front (d ++ r.back));
     }
 
 among_front : {A : Type 0} (x : A) (xs ys : List A) → Among x xs → Among x (xs ++ ys)
@@ -93,7 +93,7 @@ module _ (size count value_words : ℕ) (h : Hung) (k : AreCells size count valu
             keyed = subst (λ (d : List Item). AreKeyed d) (sym next) (keyed_pushed it r.front (chain_of h i ++ r.back) (subst (λ (d : List Item). AreKeyed d) r.whole k.keyed) (in_front r));
             counted = omega (arith, k.counted, ap length next, ap length r.whole, length-append r.front (it ∷ (chain_of h i ++ r.back)), length-append r.front (chain_of h i ++ r.back));
             values = k.values;
-            roomy = roomy
+            roomy = roomy;
           }
 
       pub pushed_map : {S : Type 0} (decoded : List ℕ → S) → cells_of decoded (set h.chains i (it ∷ chain_of h i)) ≡ fin.insert (cells_of decoded h.chains) it.key (decoded it.value)
@@ -139,7 +139,7 @@ module _ (size count value_words : ℕ) (h : Hung) (k : AreCells size count valu
             keyed = subst (λ (d : List Item). AreKeyed d) (sym (changed_whole r s.after)) (keyed_taken it (r.front ++ s.before) (s.after ++ r.back) (subst (λ (d : List Item). AreKeyed d) (whole r) k.keyed));
             counted = omega (arith, e, k.counted, ap length (whole r), ap length (changed_whole r s.after), length-append (r.front ++ s.before) (it ∷ (s.after ++ r.back)), length-append (r.front ++ s.before) (s.after ++ r.back));
             values = k.values;
-            roomy = fewer n e
+            roomy = fewer n e;
           }
 
       pub taken_map : {S : Type 0} (decoded : List ℕ → S) → cells_of decoded (set h.chains i (s.before ++ s.after)) ≡ fin.remove (cells_of decoded h.chains) it.key
@@ -157,13 +157,13 @@ module _ (size count value_words : ℕ) (h : Hung) (k : AreCells size count valu
           record {
             buckets = length-set h.chains i (s.before ++ new ∷ s.after) ∙ k.buckets;
             placed = changed_placed (s.before ++ new ∷ s.after) (λ x m. ⊎_elim
-              (λ (e : x ≡ new). ap (λ (y : Item). bucket_of size (hash_of y.key)) e ∙ k.placed i it l here)
-              (λ (n : Among x (s.before ++ s.after)). k.placed i x l (subst (λ (d : List Item). Among x d) (sym s.chain) (among_more x it s.before s.after n)))
-              (among_split x new s.before s.after m));
+                (λ (e : x ≡ new). ap (λ (y : Item). bucket_of size (hash_of y.key)) e ∙ k.placed i it l here)
+                (λ (n : Among x (s.before ++ s.after)). k.placed i x l (subst (λ (d : List Item). Among x d) (sym s.chain) (among_more x it s.before s.after n)))
+                (among_split x new s.before s.after m));
             keyed = subst (λ (d : List Item). AreKeyed d) (sym (changed_whole r (new ∷ s.after))) (keyed_written it value (r.front ++ s.before) (s.after ++ r.back) (subst (λ (d : List Item). AreKeyed d) (whole r) k.keyed));
             counted = omega (arith, k.counted, ap length (whole r), ap length (changed_whole r (new ∷ s.after)), length-append (r.front ++ s.before) (it ∷ (s.after ++ r.back)), length-append (r.front ++ s.before) (new ∷ (s.after ++ r.back)));
             values = k.values;
-            roomy = k.roomy
+            roomy = k.roomy;
           }
 
       pub written_map : {S : Type 0} (decoded : List ℕ → S) (value : List ℕ) → cells_of decoded (set h.chains i (s.before ++ record it { value = value } ∷ s.after)) ≡ fin.insert (cells_of decoded h.chains) it.key (decoded value)

@@ -37,45 +37,53 @@ read o p e = ap (λ (q : Option ℕ). unwrap_or q 0) e
 pub hung_in : (m n v : WordMap) (link a first : ℕ) → Disjoint m n → IsSome (at m link) → IsSome (at n a) → word m link ≡ first
     → v ≡ fin.insert (fin.insert (union m n) a first) link a → ((k : ℕ) → IsSome (at v k) → k < 67108864) → IsHungIn m n v link a
 hung_in m n v link a first d has_link has_a is_first v_is small = record {
-    keeps = λ k h. keys k ∙ left_some k h;
-    gains = λ k h. keys k ∙ right_some k h;
-    below = λ k h. subst (λ (x : ℕ). k < x) (sym most_is) (small k h);
-    apart = not_both m n d;
-    linked = words link ∙ word_same w1 link a link refl;
-    next = words a ∙ word_other w1 link a a (λ e. link_not_a (sym e)) ∙ word_same w0 a first a refl ∙ sym is_first;
-    others = λ k h far. words k ∙ word_other w1 link a k far ∙ word_other w0 a first k (λ e. not_both m n d k h (subst (λ (x : ℕ). IsSome (at n x)) (sym e) has_a)) ∙ read (at w0 k) (at m k) (union_left m n k d h);
-    body = λ k h far. words k ∙ word_other w1 link a k (λ e. not_both m n d k (subst (λ (x : ℕ). IsSome (at m x)) (sym e) has_link) h) ∙ word_other w0 a first k far ∙ read (at w0 k) (at n k) (union_right m n k h)
+  keeps = λ k h. keys k ∙ left_some k h;
+  gains = λ k h. keys k ∙ right_some k h;
+  below = λ k h. subst (λ (x : ℕ). k < x) (sym most_is) (small k h);
+  apart = not_both m n d;
+  linked = words link ∙ word_same w1 link a link refl;
+  next = words a ∙ word_other w1 link a a (λ e. link_not_a (sym e)) ∙ word_same w0 a first a refl ∙ sym is_first;
+  others = λ k h far. words k ∙ word_other w1 link a k far ∙ word_other w0 a first k (λ e. not_both m n d k h (subst (λ (x : ℕ). IsSome (at n x)) (sym e) has_a)) ∙ read (at w0 k) (at m k) (union_left m n k d h);
+  body = λ k h far. words k ∙ word_other w1 link a k (λ e. not_both m n d k (subst (λ (x : ℕ). IsSome (at m x)) (sym e) has_link) h) ∙ word_other w0 a first k far ∙ read (at w0 k) (at n k) (union_right m n k h);
 }
   where
     w0 : WordMap
     w0 = union m n
+
     w1 : WordMap
     w1 = fin.insert w0 a first
+
     words : (k : ℕ) → word v k ≡ word (fin.insert w1 link a) k
     words k = ap (λ (x : WordMap). word x k) v_is
+
     link_not_a : link ≢ a
     link_not_a e = not_both m n d link has_link (subst (λ (x : ℕ). IsSome (at n x)) (sym e) has_a)
+
     left_some : (k : ℕ) → IsSome (at m k) → is_some (at w0 k) ≡ true
     left_some k h = ap is_some (union_left m n k d h) ∙ h
+
     right_some : (k : ℕ) → IsSome (at n k) → is_some (at w0 k) ≡ true
     right_some k h = ap is_some (union_right m n k h) ∙ h
+
     keys : (k : ℕ) → is_some (at v k) ≡ is_some (at w0 k)
     keys k = ap (λ (x : WordMap). is_some (at x k)) v_is ∙ insert-keys w1 link a k (insert-keys w0 a first link (right_some a has_a) ∙ left_some link has_link) ∙ insert-keys w0 a first k (right_some a has_a)
 
 pub taken_out : (m m1 v item : WordMap) (link a n next : ℕ) → IsSome (at m link) → 0 < n → (a ≤ link → a + n ≤ link) → word m a ≡ next
     → m1 ≡ fin.insert m link next → v ≡ rest_of m1 a n → item ≡ range_of m1 a n → ((k : ℕ) → IsSome (at v k) → k < 67108864) → IsTakenOut m v item link a n
 taken_out m m1 v item link a n next has_link some far next_is m1_is v_is item_is small = record {
-    keeps = λ k h out. ap is_some (left k out) ∙ ap (λ (x : WordMap). is_some (at x k)) m1_is ∙ insert-keys m link next k has_link ∙ h;
-    below = λ k h. subst (λ (x : ℕ). k < x) (sym most_is) (small k h);
-    linked = read (at v link) (at m1 link) (left link (λ low high. let z : a + n ≤ link = far low in let y : ⊥ = omega arith in y)) ∙ words link ∙ word_same m link next link refl ∙ sym next_is;
-    others = λ k out other. read (at v k) (at m1 k) (left k out) ∙ words k ∙ word_other m link next k other;
-    taken = λ k low high. read (at item k) (at m1 k) (inside k low high) ∙ words k ∙ word_other m link next k (λ e. let p : a ≤ link = omega arith in let z : a + n ≤ link = far p in let y : ⊥ = omega arith in y)
+  keeps = λ k h out. ap is_some (left k out) ∙ ap (λ (x : WordMap). is_some (at x k)) m1_is ∙ insert-keys m link next k has_link ∙ h;
+  below = λ k h. subst (λ (x : ℕ). k < x) (sym most_is) (small k h);
+  linked = read (at v link) (at m1 link) (left link (λ low high. let z : a + n ≤ link = far low in let y : ⊥ = omega arith in y)) ∙ words link ∙ word_same m link next link refl ∙ sym next_is;
+  others = λ k out other. read (at v k) (at m1 k) (left k out) ∙ words k ∙ word_other m link next k other;
+  taken = λ k low high. read (at item k) (at m1 k) (inside k low high) ∙ words k ∙ word_other m link next k (λ e. let p : a ≤ link = omega arith in let z : a + n ≤ link = far p in let y : ⊥ = omega arith in y);
 }
   where
     words : (k : ℕ) → word m1 k ≡ word (fin.insert m link next) k
     words k = ap (λ (x : WordMap). word x k) m1_is
+
     left : (k : ℕ) → (a ≤ k → k < a + n → ⊥) → at v k ≡ at m1 k
     left k out = ap (λ (x : WordMap). at x k) v_is ∙ at-rest_out m1 a n k (within_false a n k out)
+
     inside : (k : ℕ) → a ≤ k → k < a + n → at item k ≡ at m1 k
     inside k low high = ap (λ (x : WordMap). at x k) item_is ∙ at-range_in m1 a n k (within_true a n k low high)
 

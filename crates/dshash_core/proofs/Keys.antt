@@ -55,5 +55,6 @@ reads_bytes key bytes out all short e long each =
   where
     cut : length (take (length bytes) out) ≡ length bytes
     cut = length-take (length bytes) out ∙ let m : min (length bytes) (length out) ≡ length bytes = omega arith in m
+
     own : (k : ℕ) → is_of_word (k / 8) k ≡ true
     own k = grind (arith, nat_tests)

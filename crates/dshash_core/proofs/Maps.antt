@@ -104,33 +104,34 @@ module _ {S : Type 0} (decoded : List ℕ → S) where
   pub table_taken : (it : Item) (xs ys : List Item) → AreKeyed (xs ++ it ∷ ys) → table (xs ++ ys) ≡ fin.remove (table (xs ++ it ∷ ys)) it.key
   table_taken it xs ys k = same (table (xs ++ ys)) (fin.remove (table (xs ++ it ∷ ys)) it.key) (λ q. sym (
       fin.get-remove nat_list_cmp_total (table (xs ++ it ∷ ys)) it.key q ∙ ⊎_elim
-        (λ (e : q ≡ it.key). ap (λ (b : Bool). cond b None (fin.get (table (xs ++ it ∷ ys)) q)) (same_key q it.key e) ∙ sym (get_missing (xs ++ ys) q (λ x m s. keyed_before it xs ys k x m (s ∙ e))))
-        (λ (n : q ≢ it.key). ap (λ (b : Bool). cond b None (fin.get (table (xs ++ it ∷ ys)) q)) (other_key q it.key n) ∙ get_is (xs ++ it ∷ ys) q ∙ look_skip it xs ys q n ∙ sym (get_is (xs ++ ys) q))
-        (keys_same_or_not q it.key)))
+      (λ (e : q ≡ it.key). ap (λ (b : Bool). cond b None (fin.get (table (xs ++ it ∷ ys)) q)) (same_key q it.key e) ∙ sym (get_missing (xs ++ ys) q (λ x m s. keyed_before it xs ys k x m (s ∙ e))))
+      (λ (n : q ≢ it.key). ap (λ (b : Bool). cond b None (fin.get (table (xs ++ it ∷ ys)) q)) (other_key q it.key n) ∙ get_is (xs ++ it ∷ ys) q ∙ look_skip it xs ys q n ∙ sym (get_is (xs ++ ys) q))
+      (keys_same_or_not q it.key)))
 
   pub table_written : (it : Item) (value : List ℕ) (xs ys : List Item) → AreKeyed (xs ++ it ∷ ys)
       → table (xs ++ record it { value = value } ∷ ys) ≡ fin.insert (table (xs ++ it ∷ ys)) it.key (decoded value)
   table_written it value xs ys k =
       let new = record it { value = value } in
       same (table (xs ++ new ∷ ys)) (fin.insert (table (xs ++ it ∷ ys)) it.key (decoded value)) (λ q. get_is (xs ++ new ∷ ys) q ∙ ⊎_elim
-        (λ (e : q ≡ it.key). ap (look (xs ++ new ∷ ys)) e ∙ look_hit new xs ys (λ x m. keyed_before it xs ys k x (front x xs ys m)) ∙ sym (put_here (table (xs ++ it ∷ ys)) it.key (decoded value) q e))
-        (λ (n : q ≢ it.key). look_skip new xs ys q n ∙ sym (look_skip it xs ys q n) ∙ sym (get_is (xs ++ it ∷ ys) q) ∙ sym (put_there (table (xs ++ it ∷ ys)) it.key (decoded value) q n))
-        (keys_same_or_not q it.key))
+      (λ (e : q ≡ it.key). ap (look (xs ++ new ∷ ys)) e ∙ look_hit new xs ys (λ x m. keyed_before it xs ys k x (front x xs ys m)) ∙ sym (put_here (table (xs ++ it ∷ ys)) it.key (decoded value) q e))
+      (λ (n : q ≢ it.key). look_skip new xs ys q n ∙ sym (look_skip it xs ys q n) ∙ sym (get_is (xs ++ it ∷ ys) q) ∙ sym (put_there (table (xs ++ it ∷ ys)) it.key (decoded value) q n))
+      (keys_same_or_not q it.key))
 
 -- to take out a key that is not there changes nothing
 pub remove_missing : {S : Type 0} (m : KeyMap S) (k : List ℕ) → fin.get m k ≡ None → fin.remove m k ≡ m
 remove_missing {S} m k none = fin.same_map nat_list_cmp_total key_antisymmetric (fin.remove m k) m (λ q.
     fin.get-remove nat_list_cmp_total m k q ∙ ⊎_elim
-      (λ (e : q ≡ k). ap (λ (b : Bool). cond b None (fin.get m q)) (same_key q k e) ∙ sym (ap (fin.get m) e ∙ none))
-      (λ (n : q ≢ k). ap (λ (b : Bool). cond b None (fin.get m q)) (other_key q k n))
-      (keys_same_or_not q k))
+    (λ (e : q ≡ k). ap (λ (b : Bool). cond b None (fin.get m q)) (same_key q k e) ∙ sym (ap (fin.get m) e ∙ none))
+    (λ (n : q ≢ k). ap (λ (b : Bool). cond b None (fin.get m q)) (other_key q k n))
+    (keys_same_or_not q k))
 
 -- keyed items stay keyed
 pub keyed_pushed : (it : Item) (xs ys : List Item) → AreKeyed (xs ++ ys) → ((x : Item) → Among x (xs ++ ys) → x.key ≢ it.key) → AreKeyed (xs ++ it ∷ ys)
 keyed_pushed it [] ys k fresh = (fresh, k)
 keyed_pushed it (y ∷ xs) ys k fresh = (
-    (λ x m. ⊎_elim (λ (e : x ≡ it). λ s. fresh y (inl refl) (sym s ∙ ap (λ (z : Item). z.key) e)) (λ n. k.0 x n) (among_split x it xs ys m)),
-    keyed_pushed it xs ys k.1 (λ x m. fresh x (inr m)))
+  (λ x m. ⊎_elim (λ (e : x ≡ it). λ s. fresh y (inl refl) (sym s ∙ ap (λ (z : Item). z.key) e)) (λ n. k.0 x n) (among_split x it xs ys m)),
+  keyed_pushed it xs ys k.1 (λ x m. fresh x (inr m)),
+)
 
 pub keyed_taken : (it : Item) (xs ys : List Item) → AreKeyed (xs ++ it ∷ ys) → AreKeyed (xs ++ ys)
 keyed_taken it [] ys k = k.1
@@ -139,5 +140,6 @@ keyed_taken it (y ∷ xs) ys k = ((λ x m. k.0 x (among_more x it xs ys m)), key
 pub keyed_written : (it : Item) (value : List ℕ) (xs ys : List Item) → AreKeyed (xs ++ it ∷ ys) → AreKeyed (xs ++ record it { value = value } ∷ ys)
 keyed_written it value [] ys k = k
 keyed_written it value (y ∷ xs) ys k = (
-    (λ x m. ⊎_elim (λ (e : x ≡ record it { value = value }). λ s. k.0 it (among_here it xs ys) (sym (ap (λ (z : Item). z.key) e) ∙ s)) (λ n. k.0 x (among_more x it xs ys n)) (among_split x (record it { value = value }) xs ys m)),
-    keyed_written it value xs ys k.1)
+  (λ x m. ⊎_elim (λ (e : x ≡ record it { value = value }). λ s. k.0 it (among_here it xs ys) (sym (ap (λ (z : Item). z.key) e) ∙ s)) (λ n. k.0 x (among_more x it xs ys n)) (among_split x (record it { value = value }) xs ys m)),
+  keyed_written it value xs ys k.1,
+)

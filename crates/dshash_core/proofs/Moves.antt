@@ -34,8 +34,8 @@ either_result (Err e) P Q f h = h
 
 pub lists_all : {S : Type 0} (decoded : List ℕ → S) (size count value_words : ℕ) (h : Hung) → AreCells size count value_words h → (pairs : List (List ℕ × S)) → pairs ≡ map (entry_of decoded) (all_items h.chains) → ListsAll (cells_of decoded h.chains) pairs
 lists_all {S} decoded size count value_words h k pairs e = record {
-    all = ap (λ (es : List (List ℕ × S)). fin.from_entries es) e;
-    once = ap (λ (es : List (List ℕ × S)). length es) e ∙ length-map (all_items h.chains) (entry_of decoded) ∙ sym (table_len decoded (all_items h.chains) k.keyed)
+  all = ap (λ (es : List (List ℕ × S)). fin.from_entries es) e;
+  once = ap (λ (es : List (List ℕ × S)). length es) e ∙ length-map (all_items h.chains) (entry_of decoded) ∙ sym (table_len decoded (all_items h.chains) k.keyed);
 }
 
 no_items : (n : ℕ) → all_items (replicate n []) ≡ []
@@ -54,12 +54,12 @@ length-none (suc n) = ap suc (length-none n)
 -- empty chains stand for the empty map
 pub empty_cells : (size value_words n : ℕ) (h : Hung) → 7 ≤ size → size ≤ 20 → n ≡ buckets_of size → h.chains ≡ replicate n [] → h.layout.value_words ≡ value_words → AreCells size 0 value_words h
 empty_cells size value_words n h low high e c v = record {
-    buckets = ap length c ∙ length-none n ∙ e;
-    placed = λ i it l m. absurd (nothing_in n i it (subst (λ (cs : List (List Item)). Among it (get_or cs i [])) c m));
-    keyed = subst (λ (its : List Item). AreKeyed its) (sym (ap all_items c ∙ no_items n)) tt;
-    counted = sym (ap (λ (cs : List (List Item)). length (all_items cs)) c ∙ ap (λ (its : List Item). length its) (no_items n));
-    values = v;
-    roomy = record { from = low; to = high; few = λ s. omega arith }
+  buckets = ap length c ∙ length-none n ∙ e;
+  placed = λ i it l m. absurd (nothing_in n i it (subst (λ (cs : List (List Item)). Among it (get_or cs i [])) c m));
+  keyed = subst (λ (its : List Item). AreKeyed its) (sym (ap all_items c ∙ no_items n)) tt;
+  counted = sym (ap (λ (cs : List (List Item)). length (all_items cs)) c ∙ ap (λ (its : List Item). length its) (no_items n));
+  values = v;
+  roomy = record { from = low; to = high; few = λ s. omega arith };
 }
 
 pub empty_map : {S : Type 0} (decoded : List ℕ → S) (n : ℕ) (chains : List (List Item)) → chains ≡ replicate n [] → cells_of decoded chains ≡ fin.empty
@@ -87,9 +87,10 @@ taken_in {S} decoded size count value_words h new k i hash it is place none room
     let l : i < length h.chains = subst (λ (j : ℕ). j < length h.chains) (sym place) (bucket_in size count value_words h k hash) in
     let own : bucket_of size (hash_of it.key) ≡ i = ap (bucket_of size) (sym is) ∙ sym place in
     let fresh : (x : Item) → Among x (all_items h.chains) → x.key ≢ it.key = λ x m s.
-      let t : true ≡ false = sym (ap (λ (o : Option S). is_some o) (held decoded (all_items h.chains) k.keyed x m)) ∙ ap (λ (q : List ℕ). fin.contains_key (cells_of decoded h.chains) q) s ∙ none in cc in
-    (subst (λ (u : Hung). AreCells size (count + 1) value_words u) (sym e) (pushed_cells size count value_words h k i l it own fresh roomy),
-    ap (λ (u : Hung). cells_of decoded u.chains) e ∙ pushed_map size count value_words h k i l it own fresh decoded)
+    let t : true ≡ false = sym (ap (λ (o : Option S). is_some o) (held decoded (all_items h.chains) k.keyed x m)) ∙ ap (λ (q : List ℕ). fin.contains_key (cells_of decoded h.chains) q) s ∙ none in cc in (
+      subst (λ (u : Hung). AreCells size (count + 1) value_words u) (sym e) (pushed_cells size count value_words h k i l it own fresh roomy),
+      ap (λ (u : Hung). cells_of decoded u.chains) e ∙ pushed_map size count value_words h k i l it own fresh decoded,
+    )
 
 -- an item's chunk after its hash was read
 pub chunk_of : (a b : ℕ) (p q : Owned) (l m : Layout) (it : Item) → b ≡ a → q ≡ p → l ≡ m → IsItemChunk a p.words l it → IsItemChunk b q.words m it

@@ -62,7 +62,7 @@ module _ {S C R : Type 0} (step : Option S → C → Option S × R) (decoded : L
           steps = subst P next_is e;
           may = λ w. let n : false ≡ true = sym (there (next_of step before key call)) ∙ w in cc;
           unused_is = subst W next_is (sym no_more);
-          freed_is = subst F next_is f
+          freed_is = subst F next_is f;
         }
 
     pub updated : (new : Hung) (state : S) (value : List ℕ) → next ≡ Some state → decoded value ≡ state
@@ -74,10 +74,10 @@ module _ {S C R : Type 0} (step : Option S → C → Option S × R) (decoded : L
           same = refl;
           cells = written_cells size count value_words h k i l link item.0 item.1 value;
           done = done (cells_of decoded made.chains)
-            (written_map size count value_words h k i l link item.0 item.1 decoded value
+              (written_map size count value_words h k i l link item.0 item.1 decoded value
               ∙ (λ t. fin.insert before (item.3 t) (reads t)) ∙ ap (λ (o : Option S). changed before key o) (sym e))
-            false
-            (sym (ap (λ (g : Option S). is_some g && is_none next) found ∙ ap (λ (o : Option S). is_none o) e))
+              false
+              (sym (ap (λ (g : Option S). is_some g && is_none next) found ∙ ap (λ (o : Option S). is_none o) e));
         }
 
     pub removed : (new : Hung) (after : ℕ) → next ≡ None → after + 1 ≡ count → new ≡ with_chain h i (item.1.before ++ item.1.after)
@@ -88,9 +88,9 @@ module _ {S C R : Type 0} (step : Option S → C → Option S × R) (decoded : L
           same = refl;
           cells = taken_cells size count value_words h k i l link item.0 item.1 after less;
           done = done (cells_of decoded made.chains)
-            (taken_map size count value_words h k i l link item.0 item.1 decoded ∙ (λ t. fin.remove before (item.3 t)) ∙ ap (λ (o : Option S). changed before key o) (sym e))
-            true
-            (sym (ap (λ (g : Option S). is_some g && is_none next) found ∙ ap (λ (o : Option S). is_none o) e))
+              (taken_map size count value_words h k i l link item.0 item.1 decoded ∙ (λ t. fin.remove before (item.3 t)) ∙ ap (λ (o : Option S). changed before key o) (sym e))
+              true
+              (sym (ap (λ (g : Option S). is_some g && is_none next) found ∙ ap (λ (o : Option S). is_none o) e));
         }
 
   -- what it makes of a key that is not
@@ -132,13 +132,14 @@ module _ {S C R : Type 0} (step : Option S → C → Option S × R) (decoded : L
             steps = sym (ap (λ (o : Option S). changed before key o) (sym next_new ∙ e) ∙ unchanged);
             may = λ w. let n : false ≡ true = sym no ∙ w in cc;
             unused_is = sym (ap (λ (b : Bool). spare && not b) no ∙ whole spare);
-            freed_is = sym (keeps (next_of step before key call))
-          }
+            freed_is = sym (keeps (next_of step before key call));
+          };
         }
       where
         whole : (b : Bool) → (b && true) ≡ b
         whole true = refl
         whole false = refl
+
         unchanged : fin.remove before key ≡ before
         unchanged = remove_missing before key missing
 
@@ -158,11 +159,11 @@ module _ {S C R : Type 0} (step : Option S → C → Option S × R) (decoded : L
           done = record {
             replied = ap (λ (p : Option S × R). p.1) stepped_new;
             steps = pushed_map size count value_words h k i l it place other decoded ∙ (λ t. fin.insert before (key_is t) (reads t))
-              ∙ ap (λ (o : Option S). changed before key o) (sym e ∙ next_new);
+                ∙ ap (λ (o : Option S). changed before key o) (sym e ∙ next_new);
             may = λ z. (full_is ∙ room, has);
             unused_is = sym (ap (λ (b : Bool). spare && not b) w ∙ none_left spare);
-            freed_is = sym (keeps (next_of step before key call))
-          }
+            freed_is = sym (keeps (next_of step before key call));
+          };
         }
       where
         none_left : (b : Bool) → (b && false) ≡ false

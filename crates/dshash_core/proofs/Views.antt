@@ -67,8 +67,9 @@ among_more x y (z ∷ xs) ys (inr m) = inr (among_more x y xs ys m)
 distinct_append : (xs ys : List ℕ) → AreDistinct xs → AreDistinct ys → ((a : ℕ) → Among a xs → Among a ys → ⊥) → AreDistinct (xs ++ ys)
 distinct_append [] ys d e far = e
 distinct_append (x ∷ xs) ys d e far = (
-    (λ y m. ⊎_elim (λ (n : Among y xs). d.0 y n) (λ (n : Among y ys). λ s. far x (inl refl) (subst (λ (z : ℕ). Among z ys) s n)) (either_side y xs ys m)),
-    distinct_append xs ys d.1 e (λ a m n. far a (inr m) n))
+  (λ y m. ⊎_elim (λ (n : Among y xs). d.0 y n) (λ (n : Among y ys). λ s. far x (inl refl) (subst (λ (z : ℕ). Among z ys) s n)) (either_side y xs ys m)),
+  distinct_append xs ys d.1 e (λ a m n. far a (inr m) n),
+)
   where
     either_side : (a : ℕ) (ps qs : List ℕ) → Among a (ps ++ qs) → Among a ps ⊎ Among a qs
     either_side a [] qs m = inr m
@@ -93,8 +94,8 @@ all_distinct : (chains : List (List Item)) → ((i : ℕ) → i < length chains 
 all_distinct [] d once = tt
 all_distinct (c ∷ cs) d once = subst (λ (l : List ℕ). AreDistinct l) (sym (ats-append c (all_items cs)))
     (distinct_append (ats c) (ats (all_items cs)) (d 0 (omega arith))
-      (all_distinct cs (λ i l. d (suc i) (omega arith)) (λ i j a l k m n. let e : suc i ≡ suc j = once (suc i) (suc j) a (omega arith) (omega arith) m n in omega arith))
-      (λ a m n. let r = place_in cs a n in let b : r.0 < length cs = r.1 in let e : 0 ≡ suc r.0 = once 0 (suc r.0) a (omega arith) (omega arith) m r.2 in let z : ⊥ = omega arith in z))
+    (all_distinct cs (λ i l. d (suc i) (omega arith)) (λ i j a l k m n. let e : suc i ≡ suc j = once (suc i) (suc j) a (omega arith) (omega arith) m n in omega arith))
+    (λ a m n. let r = place_in cs a n in let b : r.0 < length cs = r.1 in let e : 0 ≡ suc r.0 = once 0 (suc r.0) a (omega arith) (omega arith) m r.2 in let z : ⊥ = omega arith in z))
 
 module _ (b : Inside) (h : Stands b) where
   abbrev value : Hung
@@ -141,12 +142,17 @@ module _ (b : Inside) (h : Stands b) where
   none_found i key l n it m e = n it.at (place_of i it l m) (ap (λ (x : Item). x.key) (reads i l it m) ∙ e)
 
   pub one_found : (i link place : ℕ) (key : List ℕ) → i < b.buckets → IsPlaced (word b.part.words) (chain_places b.part.words b.slice i) (b.slice + i) link place b.key_words key → HasItem value i link place key
-  one_found i link place key l p = (reading place, record {
+  one_found i link place key l p = (
+    reading place,
+    record {
       before = map reading p.before;
       after = map reading p.after;
       chain = chain_is i l ∙ ap (λ (c : List ℕ). map reading c) p.splits ∙ map-append reading p.before (place ∷ p.after);
-      behind = ap (λ (c : List ℕ). link_behind (b.slice + i) c) (ats-map (word b.part.words) b.key_words b.value_words p.before) ∙ p.linked
-    }, refl, p.here)
+      behind = ap (λ (c : List ℕ). link_behind (b.slice + i) c) (ats-map (word b.part.words) b.key_words b.value_words p.before) ∙ p.linked;
+    },
+    refl,
+    p.here,
+  )
 
   -- all items together are at most as many as there are words
   pub are_few : length (all_items value.chains) ≤ 67108864
@@ -154,12 +160,12 @@ module _ (b : Inside) (h : Stands b) where
       let room : 2 + b.key_words + b.value_words ≤ b.item_bytes / 8 = h.fits in
       let of_chain : (i : ℕ) → i < length value.chains → ats (chain_of value i) ≡ chain_places b.part.words b.slice i = λ i l. places_are i (omega (arith, len_is)) in
       let all : AreDistinct (ats (all_items value.chains)) = all_distinct value.chains
-        (λ i l. subst (λ (c : List ℕ). AreDistinct c) (sym (of_chain i l)) (h.distinct i (omega (arith, len_is))))
-        (λ i j a l k m n. h.once i j a (omega (arith, len_is)) (omega (arith, len_is)) (subst (λ (c : List ℕ). Among a c) (of_chain i l) m) (subst (λ (c : List ℕ). Among a c) (of_chain j k) n)) in
+      (λ i l. subst (λ (c : List ℕ). AreDistinct c) (sym (of_chain i l)) (h.distinct i (omega (arith, len_is))))
+      (λ i j a l k m n. h.once i j a (omega (arith, len_is)) (omega (arith, len_is)) (subst (λ (c : List ℕ). Among a c) (of_chain i l) m) (subst (λ (c : List ℕ). Among a c) (of_chain j k) n)) in
       let few : length (ats (all_items value.chains)) ≤ most_words = length-le_from_distinct_below (ats (all_items value.chains)) most_words (are_distinct (ats (all_items value.chains)) all) (λ q e.
-        let r = place_in value.chains q (any_among q (ats (all_items value.chains)) e) in
-        let l : r.0 < b.buckets = omega (arith, r.1, len_is) in
-        h.below q ((h.items r.0 q l (subst (λ (c : List ℕ). Among q c) (of_chain r.0 r.1) r.2)).owned q (omega arith) (omega arith))) in
+      let r = place_in value.chains q (any_among q (ats (all_items value.chains)) e) in
+      let l : r.0 < b.buckets = omega (arith, r.1, len_is) in
+      h.below q ((h.items r.0 q l (subst (λ (c : List ℕ). Among q c) (of_chain r.0 r.1) r.2)).owned q (omega arith) (omega arith))) in
       omega (arith, few, most_is, length-map (all_items value.chains) (λ (it : Item). it.at))
 
   -- where a spot is
@@ -172,9 +178,9 @@ module _ (b : Inside) (h : Stands b) where
   -- the link is a word of the slice or the first word of an item before
   pub spot_link : (i link : ℕ) (it : Item) → (s : IsSpot value i link it) → (link ≡ b.slice + i) ⊎ Among link (ats s.before)
   spot_link i link it s = ⊎_elim
-    (λ (e : link_behind (b.slice + i) (ats s.before) ≡ b.slice + i). inl (sym s.behind ∙ e))
-    (λ (m : Among (link_behind (b.slice + i) (ats s.before)) (ats s.before)). inr (subst (λ (x : ℕ). Among x (ats s.before)) s.behind m))
-    (behind_among (b.slice + i) (ats s.before))
+      (λ (e : link_behind (b.slice + i) (ats s.before) ≡ b.slice + i). inl (sym s.behind ∙ e))
+      (λ (m : Among (link_behind (b.slice + i) (ats s.before)) (ats s.before)). inr (subst (λ (x : ℕ). Among x (ats s.before)) s.behind m))
+      (behind_among (b.slice + i) (ats s.before))
 
   before_in : (i link : ℕ) (it : Item) → i < b.buckets → (s : IsSpot value i link it) → Among link (ats s.before) → Among link (chain_places b.part.words b.slice i)
   before_in i link it l s m = subst (λ (c : List ℕ). Among link c) (sym (spot_splits i link it l s)) (among_left link (ats s.before) (it.at ∷ ats s.after) m)
@@ -193,13 +199,13 @@ module _ (b : Inside) (h : Stands b) where
       let all : AreDistinct (ats s.before ++ it.at ∷ ats s.after) = subst (λ (c : List ℕ). AreDistinct c) (spot_splits i link it l s) (h.distinct i l) in
       let here : Among it.at (chain_places b.part.words b.slice i) = place_of i it l (spot_in i link it s) in
       ⊎_elim (λ (e : link ≡ b.slice + i). ⊎_elim
-          (λ (o : b.slice + b.words ≤ it.at). omega arith)
-          (λ (o : it.at + b.item_bytes / 8 ≤ b.slice). omega arith)
-          (apart_cases b.slice b.words it.at (b.item_bytes / 8) (h.items i it.at l here).apart))
+      (λ (o : b.slice + b.words ≤ it.at). omega arith)
+      (λ (o : it.at + b.item_bytes / 8 ≤ b.slice). omega arith)
+      (apart_cases b.slice b.words it.at (b.item_bytes / 8) (h.items i it.at l here).apart))
       (λ (m : Among link (ats s.before)). ⊎_elim
-          (λ (o : link + b.item_bytes / 8 ≤ it.at). omega arith)
-          (λ (o : it.at + b.item_bytes / 8 ≤ link). o)
-          (apart_cases link (b.item_bytes / 8) it.at (b.item_bytes / 8) (h.apart i i link it.at l l (before_in i link it l s m) here (without_other link it.at (ats s.before) (ats s.after) all (among_left link (ats s.before) (ats s.after) m)))))
+      (λ (o : link + b.item_bytes / 8 ≤ it.at). omega arith)
+      (λ (o : it.at + b.item_bytes / 8 ≤ link). o)
+      (apart_cases link (b.item_bytes / 8) it.at (b.item_bytes / 8) (h.apart i i link it.at l l (before_in i link it l s m) here (without_other link it.at (ats s.before) (ats s.after) all (among_left link (ats s.before) (ats s.after) m)))))
       (spot_link i link it s)
 
   module _ (v : Hung) (is : seen b ≡ v) where
@@ -211,9 +217,9 @@ module _ (b : Inside) (h : Stands b) where
         → MatchOption o (HasNoItem v i key) (λ s. HasItem v i s.link s.item key)
     finds o i key l e m = subst (λ (u : Hung). MatchOption o (HasNoItem u i key) (λ s. HasItem u i s.link s.item key)) is
         (either_option o (IsNowhere (word b.part.words) (chain_places b.part.words b.slice i) b.key_words key) (HasNoItem value i key)
-          (λ s. IsPlaced (word b.part.words) (chain_places b.part.words b.slice i) (b.slice + i) s.link s.item b.key_words key) (λ s. HasItem value i s.link s.item key)
-          (none_found i key (bucket_in i l)) (λ s p. one_found i s.link s.item key (bucket_in i l) p)
-          (subst (λ (n : ℕ). MatchOption o (IsNowhere (word b.part.words) (chain_places b.part.words b.slice i) n key) (λ s. IsPlaced (word b.part.words) (chain_places b.part.words b.slice i) (b.slice + i) s.link s.item n key)) (e ∙ ap (λ (u : Hung). u.layout.key_words) (sym is)) m))
+        (λ s. IsPlaced (word b.part.words) (chain_places b.part.words b.slice i) (b.slice + i) s.link s.item b.key_words key) (λ s. HasItem value i s.link s.item key)
+        (none_found i key (bucket_in i l)) (λ s p. one_found i s.link s.item key (bucket_in i l) p)
+        (subst (λ (n : ℕ). MatchOption o (IsNowhere (word b.part.words) (chain_places b.part.words b.slice i) n key) (λ s. IsPlaced (word b.part.words) (chain_places b.part.words b.slice i) (b.slice + i) s.link s.item n key)) (e ∙ ap (λ (u : Hung). u.layout.key_words) (sym is)) m))
 
     pub first_is : (i link : ℕ) → i < length v.chains → at b.part.words (b.slice + i) ≡ Some link → link ≡ first_place (chain_of v i)
     first_is i link l e = subst (λ (u : Hung). link ≡ first_place (chain_of u i)) is
@@ -235,19 +241,19 @@ module _ (b : Inside) (h : Stands b) where
         sym (word_is b.part.words place link e)
         ∙ ap (word b.part.words) (sym s)
         ∙ chain_first (word b.part.words) (word b.part.words it.at) after
-          (chain_next (word b.part.words) (word b.part.words (b.slice + i)) it.at (ats before) (ats after)
-            (subst (λ (c : List ℕ). IsChain (word b.part.words) (word b.part.words (b.slice + i)) c) places (h.linked i (bucket_in i l))))
+        (chain_next (word b.part.words) (word b.part.words (b.slice + i)) it.at (ats before) (ats after)
+        (subst (λ (c : List ℕ). IsChain (word b.part.words) (word b.part.words (b.slice + i)) c) places (h.linked i (bucket_in i l))))
 
     pub first_ends : (i link : ℕ) → i < length v.chains → at b.part.words (b.slice + i) ≡ Some link → link ≡ 0 → chain_of v i ≡ []
     first_ends i link l e z = subst (λ (u : Hung). chain_of u i ≡ []) is
         (chain_ends (word b.part.words) (word b.part.words (b.slice + i)) (chain_of value i) (subst (λ (c : List ℕ). IsChain (word b.part.words) (word b.part.words (b.slice + i)) c) (sym (places_are i (bucket_in i l))) (h.linked i (bucket_in i l)))
-          (word_is b.part.words (b.slice + i) link e ∙ z))
+        (word_is b.part.words (b.slice + i) link e ∙ z))
 
     pub next_ends : (i place link : ℕ) → i < length v.chains → at b.part.words place ≡ Some link → (before after : List Item) (it : Item) → chain_of v i ≡ before ++ it ∷ after → it.at ≡ place → link ≡ 0 → after ≡ []
     next_ends i place link l e before after it splits s z =
         let own : chain_of value i ≡ before ++ it ∷ after = ap (λ (u : Hung). chain_of u i) is ∙ splits in
         let places : chain_places b.part.words b.slice i ≡ ats before ++ it.at ∷ ats after = sym (places_are i (bucket_in i l)) ∙ ap ats own ∙ ats-append before (it ∷ after) in
         chain_ends (word b.part.words) (word b.part.words it.at) after
-          (chain_next (word b.part.words) (word b.part.words (b.slice + i)) it.at (ats before) (ats after)
-            (subst (λ (c : List ℕ). IsChain (word b.part.words) (word b.part.words (b.slice + i)) c) places (h.linked i (bucket_in i l))))
-          (ap (word b.part.words) s ∙ word_is b.part.words place link e ∙ z)
+        (chain_next (word b.part.words) (word b.part.words (b.slice + i)) it.at (ats before) (ats after)
+        (subst (λ (c : List ℕ). IsChain (word b.part.words) (word b.part.words (b.slice + i)) c) places (h.linked i (bucket_in i l))))
+        (ap (word b.part.words) s ∙ word_is b.part.words place link e ∙ z)

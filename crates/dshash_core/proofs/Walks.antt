@@ -68,7 +68,7 @@ module _ (m : WordMap) (chain : List ℕ) (link behind item key_words : ℕ) (ke
         splits = h.1 ∙ sym (append_assoc k.before (item ∷ []) h.0);
         linked = link_behind-last link item k.before;
         leads = h.2;
-        others = λ a a_in. ⊎_elim (λ (e : a ≡ item). subst (λ (b : ℕ). words_at (word m) (b + 2) key_words ≢ key) (sym e) other) (λ b_in. k.others a b_in) (among_last a item k.before a_in)
+        others = λ a a_in. ⊎_elim (λ (e : a ≡ item). subst (λ (b : ℕ). words_at (word m) (b + 2) key_words ≢ key) (sym e) other) (λ b_in. k.others a b_in) (among_last a item k.before a_in);
       }
 
   pub walk_shorter : (n : ℕ) → length chain ≤ n → Walked m chain link behind item key_words key → item ≢ 0 → length (places (word m) n (word m item)) < length (places (word m) n item)

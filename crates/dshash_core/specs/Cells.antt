@@ -81,13 +81,13 @@ pub record AreCells (size count value_words : ℕ) (h : Hung) : Type 0 where
 -- what contracts see of a partition with these buckets
 abbrev pub partition_seen : {S : Type 0} → (List ℕ → S) → Hung → ℕ → PartitionView S
 partition_seen decoded h size = record {
-    region = h.region;
-    slice = h.slice;
-    words = h.words;
-    key_words = h.layout.key_words;
-    item_bytes = h.layout.item_bytes;
-    size = size;
-    cells = cells_of decoded h.chains
+  region = h.region;
+  slice = h.slice;
+  words = h.words;
+  key_words = h.layout.key_words;
+  item_bytes = h.layout.item_bytes;
+  size = size;
+  cells = cells_of decoded h.chains;
 }
 
 -- the fields of a partition: its buckets hold a map of a size, and the buffer has room for a value

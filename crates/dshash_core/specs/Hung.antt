@@ -67,11 +67,11 @@ chain_items m slice key_words value_words i = map (item_at (word m) key_words va
 -- what the words of a slice stand for
 abbrev pub hung : Owned → ℕ → ℕ → ℕ → ℕ → ℕ → ℕ → Hung
 hung part slice words buckets key_words value_words item_bytes = record {
-    region = part.region;
-    slice = slice;
-    words = words;
-    layout = record { key_words = key_words; value_words = value_words; item_bytes = item_bytes };
-    chains = each_below (chain_items part.words slice key_words value_words) buckets
+  region = part.region;
+  slice = slice;
+  words = words;
+  layout = record { key_words = key_words; value_words = value_words; item_bytes = item_bytes };
+  chains = each_below (chain_items part.words slice key_words value_words) buckets;
 }
 
 -- the items of bucket i

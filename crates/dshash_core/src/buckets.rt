@@ -41,7 +41,14 @@ impl Model for Buckets {
 
 impl Buckets {
     /// Empty chains on the slice, which has a word for each bucket. An item is to take `item_bytes` bytes.
-    pub fn new(r: &Region, slice: Chunk, buckets: u64, key_words: u64, value_words: u64, item_bytes: u64) -> Buckets
+    pub fn new(
+        r: &Region,
+        slice: Chunk,
+        buckets: u64,
+        key_words: u64,
+        value_words: u64,
+        item_bytes: u64,
+    ) -> Buckets
         requires here { slice.part.region ≡ r.now }
         requires room { buckets ≤ slice.bytes / 8 }
         requires fits { 2 + key_words + value_words ≤ item_bytes / 8 }
@@ -162,13 +169,7 @@ impl Buckets {
         ensures item { (it : Item) (s : IsSpot self.old bucket spot.link it) → it.at ≡ spot.item → IsItemChunk result.at result.part.words self.old.layout it }
     {
         let _ = bucket;
-        let part = take_out(
-            &mut self.part,
-            r,
-            spot.link,
-            spot.item,
-            self.item_bytes / 8,
-        );
+        let part = take_out(&mut self.part, r, spot.link, spot.item, self.item_bytes / 8);
         Chunk {
             at: RelPtr::of(spot.item),
             bytes: self.item_bytes,

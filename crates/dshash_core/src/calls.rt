@@ -8,9 +8,9 @@ ghost use Rattle.dshash_core.specs.Outcome.{HandsOut};
 ghost use Rattle.dshash_core.specs.Calls.{IsCalled, IsAnswered};
 
 use crate::buckets::Buckets;
+use crate::key::hash_key;
 use crate::object::CellObject;
 use crate::outcome::CoreOut;
-use crate::key::hash_key;
 use crate::sizes::{bucket_of_hash, is_full_at};
 use crate::words::{Spot, fill};
 use region_words::{Chunk, Region};

@@ -42,7 +42,13 @@ pub struct Entry<O: CellObject> {
 }
 
 /// Reads the entry of an item.
-fn read_entry<O: CellObject>(buckets: &mut Buckets, alloc: Global, r: &Region, buffer: &mut [u64], item: u64) -> Result<Entry<O>, AllocError>
+fn read_entry<O: CellObject>(
+    buckets: &mut Buckets,
+    alloc: Global,
+    r: &Region,
+    buffer: &mut [u64],
+    item: u64,
+) -> Result<Entry<O>, AllocError>
     requires here { buckets.old.region ≡ r.now }
     requires item { (it : Item) × Holds buckets.old it × (it.at ≡ item) }
     requires buffer { length buffer.old ≡ O.VALUE_WORDS }
@@ -60,7 +66,14 @@ fn read_entry<O: CellObject>(buckets: &mut Buckets, alloc: Global, r: &Region, b
 }
 
 /// Adds the entries of a bucket's chain.
-fn list_chain<O: CellObject>(buckets: &mut Buckets, alloc: Global, r: &Region, buffer: &mut [u64], bucket: u64, entries: &mut Vec<Entry<O>>) -> Result<(), AllocError>
+fn list_chain<O: CellObject>(
+    buckets: &mut Buckets,
+    alloc: Global,
+    r: &Region,
+    buffer: &mut [u64],
+    bucket: u64,
+    entries: &mut Vec<Entry<O>>,
+) -> Result<(), AllocError>
     requires here { buckets.old.region ≡ r.now }
     requires bucket { bucket < length buckets.old.chains }
     requires buffer { length buffer.old ≡ O.VALUE_WORDS }
@@ -78,7 +91,12 @@ fn list_chain<O: CellObject>(buckets: &mut Buckets, alloc: Global, r: &Region, b
 }
 
 /// The entries of all chains.
-pub(crate) fn list_all<O: CellObject>(buckets: &mut Buckets, alloc: Global, r: &Region, buffer: &mut [u64]) -> Result<Vec<Entry<O>>, AllocError>
+pub(crate) fn list_all<O: CellObject>(
+    buckets: &mut Buckets,
+    alloc: Global,
+    r: &Region,
+    buffer: &mut [u64],
+) -> Result<Vec<Entry<O>>, AllocError>
     requires here { buckets.old.region ≡ r.now }
     requires buffer { length buffer.old ≡ O.VALUE_WORDS }
     requires values { buckets.old.layout.value_words ≡ O.VALUE_WORDS }

@@ -10,9 +10,10 @@ fn hash_word(hash: u32, word: u64) -> u32
     ensures { result ≡ fnv_word hash word }
 {
     let bytes = word.to_le_bytes();
-    bytes
-        .iter()
-        .fold(hash, |h, byte| (h ^ u32::from(*byte)).wrapping_mul(0x0100_0193))
+    bytes.iter().fold(
+        hash,
+        |h, byte| (h ^ u32::from(*byte)).wrapping_mul(0x0100_0193),
+    )
 }
 
 /// Spreads the hash's last bytes over all of its bits.

@@ -6,8 +6,11 @@ ghost use Rattle.std.specs.Option.{option_copied};
 pub trait CellObject {
     /// The words that a state takes.
     const VALUE_WORDS: usize;
+
     type State: Copy + Send;
+
     type Call: Copy + Send;
+
     type Reply: Send + Drop;
 
     ghost VALUE_WORDS: { ℕ };

@@ -14,5 +14,8 @@ pub enum CoreOut<O: CellObject> {
     /// The call would insert and brought no spare item: nothing has changed.
     NeedItem,
     /// The call would insert and the partition has to grow first: nothing has changed.
-    TooFull { size: u32, spare: Option<Chunk> },
+    TooFull {
+        size: u32,
+        spare: Option<Chunk>,
+    },
 }

@@ -33,12 +33,12 @@ not_yet : {S : Type 0} (o p : Option S) (s : S) → (IsSome o → p ≡ None) �
 not_yet (Some x) p s h e = let n : p ≡ None = h refl in cc
 not_yet None p s h e = refl
 
-pub first_spot : (from : Hung) (i : ℕ) (it : Item) (rest : List Item) → chain_of from i ≡ it ∷ rest → IsSpot from i (from.slice + i) it
+abbrev pub first_spot : (from : Hung) (i : ℕ) (it : Item) (rest : List Item) → chain_of from i ≡ it ∷ rest → IsSpot from i (from.slice + i) it
 first_spot from i it rest e = record { before = []; after = rest; chain = e; behind = refl }
 
 module _ {S : Type 0} (decoded : List ℕ → S) (value_words former total : ℕ) (all : KeyMap S) (p : PartitionView S) (from next : Hung) (i : ℕ) (it : Item) (rest : List Item)
     (m : IsMoving decoded value_words former total all p from) (l : i < length from.chains) (chain : chain_of from i ≡ it ∷ rest) (without : next ≡ with_chain from i rest) where
-  spot : IsSpot from i (from.slice + i) it
+  abbrev spot : IsSpot from i (from.slice + i) it
   spot = first_spot from i it rest chain
 
   some_left : 0 < m.left
@@ -61,27 +61,27 @@ module _ {S : Type 0} (decoded : List ℕ → S) (value_words former total : ℕ
   goes_over =
       let less : m.left - 1 + 1 ≡ m.left = omega (arith, some_left) in
       let now : cells_of decoded next.chains ≡ fin.remove (cells_of decoded from.chains) it.key =
-        ap (λ (u : Hung). cells_of decoded u.chains) without ∙ taken_map former m.left value_words from m.chains i l (from.slice + i) it spot decoded in
+      ap (λ (u : Hung). cells_of decoded u.chains) without ∙ taken_map former m.left value_words from m.chains i l (from.slice + i) it spot decoded in
       let more : fin.len (fin.insert p.cells it.key (decoded it.value)) ≡ fin.len p.cells + 1 =
-        fin.len-insert nat_list_cmp_total p.cells it.key (decoded it.value) ∙ ap (λ (o : Option S). cond (is_some o) (fin.len p.cells) (fin.len p.cells + 1)) new_key in
+      fin.len-insert nat_list_cmp_total p.cells it.key (decoded it.value) ∙ ap (λ (o : Option S). cond (is_some o) (fin.len p.cells) (fin.len p.cells + 1)) new_key in
       record {
         left = m.left - 1;
         chains = subst (λ (u : Hung). AreCells former (m.left - 1) value_words u) (sym without) (taken_cells former m.left value_words from m.chains i l (from.slice + i) it spot (m.left - 1) less);
         counted = omega (arith, more, m.counted, some_left);
         roomy = m.roomy;
         whole = λ q. m.whole q ∙ ⊎_elim
-          (λ (e : q ≡ it.key). (λ t. either_of (fin.get p.cells (e t)) (fin.get (cells_of decoded from.chains) (e t)))
+            (λ (e : q ≡ it.key). (λ t. either_of (fin.get p.cells (e t)) (fin.get (cells_of decoded from.chains) (e t)))
             ∙ (λ t. either_of (new_key t) (in_chains t))
             ∙ ap (λ (o : Option S). either_of o (fin.get (cells_of decoded next.chains) q)) (sym (put_here p.cells it.key (decoded it.value) q e)))
-          (λ (n : q ≢ it.key).
+            (λ (n : q ≢ it.key).
             (λ t. either_of (sym (put_there p.cells it.key (decoded it.value) q n) t) (sym (ap (λ (u : KeyMap S). fin.get u q) now ∙ gone_there (cells_of decoded from.chains) it.key q n) t)))
-          (keys_same_or_not q it.key);
+            (keys_same_or_not q it.key);
         apart = λ q h. ap (λ (u : KeyMap S). fin.get u q) now ∙ ⊎_elim
-          (λ (e : q ≡ it.key). gone_here (cells_of decoded from.chains) it.key q e)
-          (λ (n : q ≢ it.key). gone_there (cells_of decoded from.chains) it.key q n ∙ m.apart q (sym (ap (λ (o : Option S). is_some o) (put_there p.cells it.key (decoded it.value) q n)) ∙ h))
-          (keys_same_or_not q it.key);
+            (λ (e : q ≡ it.key). gone_here (cells_of decoded from.chains) it.key q e)
+            (λ (n : q ≢ it.key). gone_there (cells_of decoded from.chains) it.key q n ∙ m.apart q (sym (ap (λ (o : Option S). is_some o) (put_there p.cells it.key (decoded it.value) q n)) ∙ h))
+            (keys_same_or_not q it.key);
         key_words = ap (λ (u : Hung). u.layout.key_words) without ∙ m.key_words;
-        item_bytes = ap (λ (u : Hung). u.layout.item_bytes) without ∙ m.item_bytes
+        item_bytes = ap (λ (u : Hung). u.layout.item_bytes) without ∙ m.item_bytes;
       }
 
 -- the other buckets' chains stay empty
@@ -101,7 +101,7 @@ begins {S} decoded value_words former all p from chains is empty roomy kw ib =
       whole = λ q. ap (λ (u : KeyMap S). fin.get u q) (sym is) ∙ ap (λ (o : Option S). either_of o (fin.get (cells_of decoded from.chains) q)) (sym (none q));
       apart = λ q h. let f : is_some (fin.get p.cells q) ≡ false = ap (λ (o : Option S). is_some o) (none q) in let z : true ≡ false = sym h ∙ f in cc;
       key_words = kw;
-      item_bytes = ib
+      item_bytes = ib;
     }
 
 nothing_left : (chains : List (List Item)) → ((i : ℕ) → i < length chains → get_or chains i [] ≡ []) → all_items chains ≡ []
@@ -113,7 +113,7 @@ pub ends : {S : Type 0} (decoded : List ℕ → S) (value_words former total : �
     → ((i : ℕ) → i < length from.chains → chain_of from i ≡ []) → p.cells ≡ all
 ends {S} decoded value_words former total all p from m none =
     let gone : (q : List ℕ) → fin.get (cells_of decoded from.chains) q ≡ None = λ q.
-      ap (λ (items : List Item). fin.get {R = slice_cmp nat_cmp} (fin.from_entries (map (entry_of decoded) items)) q) (nothing_left from.chains none) ∙ fin.get-empty (slice_cmp nat_cmp) q in
+    ap (λ (items : List Item). fin.get {R = slice_cmp nat_cmp} (fin.from_entries (map (entry_of decoded) items)) q) (nothing_left from.chains none) ∙ fin.get-empty (slice_cmp nat_cmp) q in
     fin.same_map nat_list_cmp_total key_antisymmetric p.cells all (λ q. sym (m.whole q ∙ ap (λ (o : Option S). either_of (fin.get p.cells q) o) (gone q) ∙ or_none (fin.get p.cells q)))
   where
     or_none : (o : Option S) → either_of o None ≡ o
@@ -133,11 +133,11 @@ pub moved_on : {S : Type 0} (decoded : List ℕ → S) (value_words : ℕ) (q p 
     → IsMovedOn decoded value_words q first p from → i < length from.chains → chain_of from i ≡ it ∷ rest → next ≡ with_chain from i rest → r ≡ record p { cells = fin.insert p.cells it.key (decoded it.value) }
     → IsMovedOn decoded value_words q first r next
 moved_on {S} decoded value_words q p r first from next i it rest m l chain without taken = record {
-    same = taken ∙ (λ t. record (m.same t) { cells = fin.insert p.cells it.key (decoded it.value) }) ∙ (λ t. record q { cells = (sym taken t).cells });
-    chains_same = without ∙ (λ t. record (m.chains_same t) { chains = set from.chains i rest }) ∙ (λ t. record first { chains = (sym without t).chains });
-    buckets_same = ap (λ (u : Hung). length u.chains) without ∙ length-set from.chains i rest ∙ m.buckets_same;
-    moving = λ former total all k. subst (λ (w : PartitionView S). IsMoving decoded value_words former total all w next) (sym taken)
-      (goes_over decoded value_words former total all p from next i it rest (m.moving former total all k) l chain without)
+  same = taken ∙ (λ t. record (m.same t) { cells = fin.insert p.cells it.key (decoded it.value) }) ∙ (λ t. record q { cells = (sym taken t).cells });
+  chains_same = without ∙ (λ t. record (m.chains_same t) { chains = set from.chains i rest }) ∙ (λ t. record first { chains = (sym without t).chains });
+  buckets_same = ap (λ (u : Hung). length u.chains) without ∙ length-set from.chains i rest ∙ m.buckets_same;
+  moving = λ former total all k. subst (λ (w : PartitionView S). IsMoving decoded value_words former total all w next) (sym taken)
+      (goes_over decoded value_words former total all p from next i it rest (m.moving former total all k) l chain without);
 }
 
 pub shorter : (from next : Hung) (i : ℕ) (it : Item) (rest : List Item) → i < length from.chains → chain_of from i ≡ it ∷ rest → next ≡ with_chain from i rest → length (chain_of next i) < length (chain_of from i)
@@ -151,3 +151,8 @@ still_empty from next i it rest j chain without none = ⊎_elim
     (λ (e : j ≡ i). let z : it ∷ rest ≡ [] = sym chain ∙ ap (λ (n : ℕ). chain_of from n) (sym e) ∙ none in cc)
     (λ (n : j ≢ i). stays_empty from next i rest j without n none)
     (same_or_not j i)
+
+-- the items' shape is the partition's
+pub layout_is : {S : Type 0} (decoded : List ℕ → S) (value_words former total : ℕ) (all : KeyMap S) (p : PartitionView S) (from : Hung) → IsMoving decoded value_words former total all p from
+    → from.layout ≡ record { key_words = p.key_words; value_words = value_words; item_bytes = p.item_bytes }
+layout_is decoded value_words former total all p from m = λ t. record { key_words = m.key_words t; value_words = m.chains.values t; item_bytes = m.item_bytes t }

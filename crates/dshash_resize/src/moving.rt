@@ -25,7 +25,12 @@ fn move_chain<O: CellObject>(p: &mut Partition<O>, r: &Region, from: &mut Bucket
 }
 
 /// Moves a partition to a larger slice, of 2^(size - 7) words or more. Its map and its count stay, and its former slice is handed out.
-pub fn move_partition<O: CellObject>(p: &mut Partition<O>, r: &Region, size: u32, slice: Chunk) -> Chunk
+pub fn move_partition<O: CellObject>(
+    p: &mut Partition<O>,
+    r: &Region,
+    size: u32,
+    slice: Chunk,
+) -> Chunk
     requires here { (p.old.region ≡ r.now) × (slice.part.region ≡ r.now) }
     requires size { (p.old.size < size) × (size ≤ 20) }
     requires room { buckets_of size ≤ slice.bytes / 8 }

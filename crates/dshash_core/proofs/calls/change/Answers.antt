@@ -23,13 +23,13 @@ returns-in-Some-clause-called g c = λ size key spare k item.
     let read : c.read_value.new.out ≡ item.0.value = c.read_value.ensures.value item.0 (c.args.bucket, c.requires.bucket, held) item.2 in
     let state : c.decode-state.result ≡ g.O.CellObject.decoded item.0.value = c.decode-state.ensures ∙ ap g.O.CellObject.decoded read in
     let P : Hung → Type 0 = λ u. (s : IsSpot u c.args.bucket c.args.spot.link item.0) → item.0.at ≡ c.args.spot.item
-      → c.write_value.new.self ≡ with_chain u c.args.bucket (s.before ++ record item.0 { value = c.encode.new.out } ∷ s.after) in
+    → c.write_value.new.self ≡ with_chain u c.args.bucket (s.before ++ record item.0 { value = c.encode.new.out } ∷ s.after) in
     updated g.O.CellObject.stepped g.O.CellObject.decoded size c.args.count.now g.O.CellObject.VALUE_WORDS c.args.buckets.now k c.args.bucket c.requires.bucket key c.args.call.now spare
-      c.args.spot.link c.args.spot.item item c.step-next.result.0 c.step-next.result.1
-      (c.step-next.ensures ∙ (λ i. g.O.CellObject.stepped (Some (state i)) c.args.call.now))
-      c.write_value.new.self c.in-Some.next c.encode.new.out c.in-Some.is
-      (ap g.O.CellObject.decoded c.encode.ensures.words ∙ g.met.O.CellObject.reads_back c.in-Some.next c.encode.ensures.value)
-      (subst P c.read_value.ensures.same (c.write_value.ensures item.0) item.1 item.2)
+    c.args.spot.link c.args.spot.item item c.step-next.result.0 c.step-next.result.1
+    (c.step-next.ensures ∙ (λ i. g.O.CellObject.stepped (Some (state i)) c.args.call.now))
+    c.write_value.new.self c.in-Some.next c.encode.new.out c.in-Some.is
+    (ap g.O.CellObject.decoded c.encode.ensures.words ∙ g.met.O.CellObject.reads_back c.in-Some.next c.encode.ensures.value)
+    (subst P c.read_value.ensures.same (c.write_value.ensures item.0) item.1 item.2)
 
 pub returns-in-None-clause-called : goal.returns-in-None-clause-called
 returns-in-None-clause-called g c = λ size key spare k item.
@@ -38,9 +38,9 @@ returns-in-None-clause-called g c = λ size key spare k item.
     let state : c.decode-state.result ≡ g.O.CellObject.decoded item.0.value = c.decode-state.ensures ∙ ap g.O.CellObject.decoded read in
     let some : 0 < c.args.count.now = spot_counted size c.args.count.now g.O.CellObject.VALUE_WORDS c.args.buckets.now k c.args.bucket c.requires.bucket c.args.spot.link item.0 item.1 in
     let P : Hung → Type 0 = λ u. (s : IsSpot u c.args.bucket c.args.spot.link item.0) → item.0.at ≡ c.args.spot.item
-      → c.unlink.new.self ≡ with_chain u c.args.bucket (s.before ++ s.after) in
+    → c.unlink.new.self ≡ with_chain u c.args.bucket (s.before ++ s.after) in
     removed g.O.CellObject.stepped g.O.CellObject.decoded size c.args.count.now g.O.CellObject.VALUE_WORDS c.args.buckets.now k c.args.bucket c.requires.bucket key c.args.call.now spare
-      c.args.spot.link c.args.spot.item item c.step-next.result.0 c.step-next.result.1
-      (c.step-next.ensures ∙ (λ i. g.O.CellObject.stepped (Some (state i)) c.args.call.now))
-      c.unlink.new.self (c.args.count.now - 1) c.in-None.is (omega arith)
-      (subst P c.read_value.ensures.same (c.unlink.ensures.rest item.0) item.1 item.2)
+    c.args.spot.link c.args.spot.item item c.step-next.result.0 c.step-next.result.1
+    (c.step-next.ensures ∙ (λ i. g.O.CellObject.stepped (Some (state i)) c.args.call.now))
+    c.unlink.new.self (c.args.count.now - 1) c.in-None.is (omega arith)
+    (subst P c.read_value.ensures.same (c.unlink.ensures.rest item.0) item.1 item.2)

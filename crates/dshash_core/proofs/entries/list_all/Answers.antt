@@ -12,9 +12,9 @@ loop-bucket-preserved g c =
     record {
       same = c.in_ok-list_chain.ensures.same ∙ i.same;
       entries = c.in_ok-list_chain.ensures.entries
-        ∙ (λ t. i.entries t ++ map step (chain_of (i.same t) c.loop-bucket.bucket))
-        ∙ sym (listed_more step c.args.buckets.now.chains c.loop-bucket.bucket l);
-      long = c.list_chain.auto.buffer ∙ i.long
+          ∙ (λ t. i.entries t ++ map step (chain_of (i.same t) c.loop-bucket.bucket))
+          ∙ sym (listed_more step c.args.buckets.now.chains c.loop-bucket.bucket l);
+      long = c.list_chain.auto.buffer ∙ i.long;
     }
 
 pub returns-clause-entries : goal.returns-clause-entries

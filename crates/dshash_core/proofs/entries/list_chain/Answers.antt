@@ -26,12 +26,17 @@ loop-item-preserved g c =
     let same : c.read_entry.new.buckets ≡ c.args.buckets.now = c.in_ok-entry.ensures.same ∙ i.2 in
     let now : chain_of c.read_entry.new.buckets c.args.bucket ≡ i.0 ++ f.0 ∷ f.1 = ap (λ (u : Hung). chain_of u c.args.bucket) same ∙ splits in
     let entry = c.in_ok-entry.ensures.entry f.0 (subst (λ (u : Hung). Holds u f.0) (sym i.2) (c.args.bucket, c.requires.bucket, held)) f.3 in
-    let step = entry_of g.O.CellObject.decoded in
-    (i.0 ++ f.0 ∷ [], f.1, c.next-item.ensures.same ∙ same, splits ∙ sym (append_assoc i.0 (f.0 ∷ []) f.1),
-      c.next-item.ensures.next i.0 f.1 f.0 now f.3, c.next-item.ensures.ends i.0 f.1 f.0 now f.3,
+    let step = entry_of g.O.CellObject.decoded in (
+      i.0 ++ f.0 ∷ [],
+      f.1,
+      c.next-item.ensures.same ∙ same,
+      splits ∙ sym (append_assoc i.0 (f.0 ∷ []) f.1),
+      c.next-item.ensures.next i.0 f.1 f.0 now f.3,
+      c.next-item.ensures.ends i.0 f.1 f.0 now f.3,
       ap pairs_of c.in_ok-push.ensures.items
-        ∙ map-append (λ e. (e.key, e.state)) c.loop-item.entries.items (c.in_ok-entry.entry ∷ [])
-        ∙ (λ t. i.6 t ++ entry t ∷ [])
-        ∙ append_assoc (pairs_of c.args.entries.now.items) (map step i.0) (step f.0 ∷ [])
-        ∙ ap (λ l. pairs_of c.args.entries.now.items ++ l) (sym (map-append step i.0 (f.0 ∷ []))),
-      c.read_entry.auto.buffer ∙ i.7)
+          ∙ map-append (λ e. (e.key, e.state)) c.loop-item.entries.items (c.in_ok-entry.entry ∷ [])
+          ∙ (λ t. i.6 t ++ entry t ∷ [])
+          ∙ append_assoc (pairs_of c.args.entries.now.items) (map step i.0) (step f.0 ∷ [])
+          ∙ ap (λ l. pairs_of c.args.entries.now.items ++ l) (sym (map-append step i.0 (f.0 ∷ []))),
+      c.read_entry.auto.buffer ∙ i.7,
+    )

@@ -10,7 +10,7 @@ bounds-key-0 c = omega (arith, packed_long _ _ c.requires.packs)
 
 pub returns : goal.returns
 returns c = λ bytes all short packs. record {
-    0 = packed_head _ bytes packs;
-    1 = subst (λ (n : ℕ). take n c.loop-i.out ≡ bytes) (sym (packed_head _ bytes packs))
-        (reads_bytes c.args.key.now bytes c.loop-i.out all short packs c.loop-i.invariant.long (λ k h. c.loop-i.invariant.bytes k (omega arith) h))
+  0 = packed_head _ bytes packs;
+  1 = subst (λ (n : ℕ). take n c.loop-i.out ≡ bytes) (sym (packed_head _ bytes packs))
+      (reads_bytes c.args.key.now bytes c.loop-i.out all short packs c.loop-i.invariant.long (λ k h. c.loop-i.invariant.bytes k (omega arith) h));
 }

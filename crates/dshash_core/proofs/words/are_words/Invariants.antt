@@ -4,6 +4,6 @@ use Rattle.dshash_core.proofs.words.are_words.Given as goal
 
 abbrev pub invariant-loop-i : goal.invariant-loop-i
 invariant-loop-i l = record {
-    same : l.part ≡ l.initial.part;
-    equal : (k : ℕ) → k < l.i → word l.initial.part.words (l.at + k) ≡ get_or l.words k 0
+  same : l.part ≡ l.initial.part;
+  equal : (k : ℕ) → k < l.i → word l.initial.part.words (l.at + k) ≡ get_or l.words k 0;
 }

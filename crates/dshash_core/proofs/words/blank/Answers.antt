@@ -16,8 +16,8 @@ loop-i-preserved c =
     record {
       region = ap (λ (p : Owned). p.region) c.store.ensures ∙ c.loop-i.invariant.region;
       zeros = λ k low high. ap (λ (x : WordMap). word x k) is ∙ ⊎_elim
-        (λ (e : k ≡ here). word_same m here 0 k e)
-        (λ (n : k ≢ here). word_other m here 0 k n ∙ c.loop-i.invariant.zeros k low (omega arith))
-        (same_or_not k here);
-      keys = λ k. ap (λ (x : WordMap). is_some (at x k)) is ∙ insert-keys m here 0 k has ∙ c.loop-i.invariant.keys k
+          (λ (e : k ≡ here). word_same m here 0 k e)
+          (λ (n : k ≢ here). word_other m here 0 k n ∙ c.loop-i.invariant.zeros k low (omega arith))
+          (same_or_not k here);
+      keys = λ k. ap (λ (x : WordMap). is_some (at x k)) is ∙ insert-keys m here 0 k has ∙ c.loop-i.invariant.keys k;
     }

@@ -5,7 +5,7 @@ use Rattle.dshash_core.proofs.words.blank.Given as goal
 
 abbrev pub invariant-loop-i : goal.invariant-loop-i
 invariant-loop-i l = record {
-    region : l.part.region ≡ l.fn.part.region;
-    zeros : (k : ℕ) → l.from ≤ k → k < l.from + l.i → word l.part.words k ≡ 0;
-    keys : (k : ℕ) → is_some (at l.part.words k) ≡ is_some (at l.fn.part.words k)
+  region : l.part.region ≡ l.fn.part.region;
+  zeros : (k : ℕ) → l.from ≤ k → k < l.from + l.i → word l.part.words k ≡ 0;
+  keys : (k : ℕ) → is_some (at l.part.words k) ≡ is_some (at l.fn.part.words k);
 }

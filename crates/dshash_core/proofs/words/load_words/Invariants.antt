@@ -4,6 +4,6 @@ use Rattle.dshash_core.proofs.words.load_words.Given as goal
 
 abbrev pub invariant-loop-i : goal.invariant-loop-i
 invariant-loop-i l = record {
-    same : l.part ≡ l.initial.part;
-    read : (k : ℕ) → k < l.i → get_or l.out k 0 ≡ word l.initial.part.words (l.at + k)
+  same : l.part ≡ l.initial.part;
+  read : (k : ℕ) → k < l.i → get_or l.out k 0 ≡ word l.initial.part.words (l.at + k);
 }

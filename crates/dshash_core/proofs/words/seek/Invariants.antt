@@ -5,8 +5,8 @@ use Rattle.dshash_core.proofs.words.seek.Given as goal
 
 abbrev pub invariant-loop-item : goal.invariant-loop-item
 invariant-loop-item l = record {
-    same : l.part ≡ l.fn.part;
-    walked : Walked l.fn.part.words (places (word l.fn.part.words) most_words (word l.fn.part.words l.link)) l.link l.behind l.item (length l.key) l.key
+  same : l.part ≡ l.fn.part;
+  walked : Walked l.fn.part.words (places (word l.fn.part.words) most_words (word l.fn.part.words l.link)) l.link l.behind l.item (length l.key) l.key;
 }
 
 abbrev pub decreases-loop-item : goal.decreases-loop-item

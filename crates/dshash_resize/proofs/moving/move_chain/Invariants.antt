@@ -5,8 +5,8 @@ use Rattle.dshash_resize.proofs.moving.move_chain.Given as goal
 
 abbrev pub invariant-loop-item : goal.invariant-loop-item
 invariant-loop-item g l = record {
-    moved : IsMovedOn g.O.CellObject.decoded g.O.CellObject.VALUE_WORDS l.fn.p l.fn.from l.p l.from;
-    others : (i : ℕ) → chain_of l.fn.from i ≡ [] → chain_of l.from i ≡ []
+  moved : IsMovedOn g.O.CellObject.decoded g.O.CellObject.VALUE_WORDS l.fn.p l.fn.from l.p l.from;
+  others : (i : ℕ) → chain_of l.fn.from i ≡ [] → chain_of l.from i ≡ [];
 }
 
 abbrev pub decreases-loop-item : goal.decreases-loop-item

@@ -16,7 +16,7 @@ seek-requires-clause-chain c = c.self.invariant.linked c.args.bucket (bucket_in 
 pub seek-requires-clause-items : goal.seek-requires-clause-items
 seek-requires-clause-items c = λ a m.
     subst (λ (n : ℕ). IsReadable c.self.inside.part.words n a) (ap (λ (h : Hung). h.layout.key_words) c.self.view_is ∙ sym c.requires.key)
-        (readable c.self.inside c.self.invariant c.args.bucket a (bucket_in c.self.inside c.self.invariant c.args.self.now c.self.view_is c.args.bucket c.requires.bucket) m)
+    (readable c.self.inside c.self.invariant c.args.bucket a (bucket_in c.self.inside c.self.invariant c.args.self.now c.self.view_is c.args.bucket c.requires.bucket) m)
 
 pub returns-clause-found : goal.returns-clause-found
 returns-clause-found c = finds c.self.inside c.self.invariant c.args.self.now c.self.view_is c.seek.result c.args.bucket c.args.key.now c.requires.bucket c.requires.key c.seek.ensures.found

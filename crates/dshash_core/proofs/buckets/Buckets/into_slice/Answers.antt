@@ -11,6 +11,6 @@ invariant_of-result c =
       valid = subst (λ (a : ℕ). 0 < a) (sym c.of.ensures) c.self.invariant.low;
       whole = omega arith;
       just = subst (λ (a : ℕ). HasJust c.split.result.words a (8 * c.self.inside.words / 8)) (sym c.of.ensures)
-        (subst (λ (n : ℕ). HasJust c.split.result.words c.self.inside.slice n) (sym words)
-          (taken_just c.self.inside.part.words c.split.result.words c.self.inside.slice c.self.inside.words c.self.invariant.owned (ap (λ (p : Owned). p.words) c.split.ensures.range)))
+          (subst (λ (n : ℕ). HasJust c.split.result.words c.self.inside.slice n) (sym words)
+          (taken_just c.self.inside.part.words c.split.result.words c.self.inside.slice c.self.inside.words c.self.invariant.owned (ap (λ (p : Owned). p.words) c.split.ensures.range)));
     }

@@ -25,5 +25,5 @@ returns-clause-some c =
       without = subst (λ (u : Hung). c.unlink.new.self ≡ with_chain u c.args.bucket f.1) c.first-item.ensures.same (c.unlink.ensures.rest f.0 s f.3);
       item = subst (λ (u : Hung). IsItemChunk c.unlink.result.at c.unlink.result.part.words u.layout f.0) c.first-item.ensures.same (c.unlink.ensures.item f.0 s f.3);
       here = c.unlink.ensures.here.0 ∙ ap (λ (u : Hung). u.region) c.first-item.ensures.same;
-      whole = c.unlink.ensures.here.2 ∙ ap (λ (u : Hung). u.layout.item_bytes) c.first-item.ensures.same
+      whole = c.unlink.ensures.here.2 ∙ ap (λ (u : Hung). u.layout.item_bytes) c.first-item.ensures.same;
     }

@@ -22,10 +22,10 @@ invariant_of-self c =
     let k = c.requires.item in
     let it = subst (λ (u : Hung). IsItemChunk c.args.item.at c.args.item.part.words u.layout k.0) (sym c.self.view_is) k.1 in
     pushed_stands b c.self.invariant c.hang_in.new.part c.args.item.part.words c.args.bucket c.args.item.at k.0 l c.hang_in.ensures.region
-        (subst (λ (a : ℕ). IsHungIn b.part.words c.args.item.part.words c.hang_in.new.part.words (b.slice + c.args.bucket) a) c.word.ensures c.hang_in.ensures.hung)
-        (subst (λ (n : ℕ). HasJust c.args.item.part.words c.args.item.at (n / 8)) size c.args.item.just)
-        (subst (λ (n : ℕ). n % 8 ≡ 0) size c.args.item.whole)
-        c.args.item.valid it.reads it.hashed
+    (subst (λ (a : ℕ). IsHungIn b.part.words c.args.item.part.words c.hang_in.new.part.words (b.slice + c.args.bucket) a) c.word.ensures c.hang_in.ensures.hung)
+    (subst (λ (n : ℕ). HasJust c.args.item.part.words c.args.item.at (n / 8)) size c.args.item.just)
+    (subst (λ (n : ℕ). n % 8 ≡ 0) size c.args.item.whole)
+    c.args.item.valid it.reads it.hashed
 
 pub returns : goal.returns
 returns c = λ it is_item.
@@ -35,8 +35,8 @@ returns c = λ it is_item.
     let own = subst (λ (u : Hung). IsItemChunk c.args.item.at c.args.item.part.words u.layout it) (sym c.self.view_is) is_item in
     let P : Hung → Type 0 = λ u. seen (record b { part = c.hang_in.new.part }) ≡ with_chain u c.args.bucket (it ∷ chain_of u c.args.bucket) in
     subst P c.self.view_is
-      (pushed_seen b c.self.invariant c.hang_in.new.part c.args.item.part.words c.args.bucket c.args.item.at it l c.hang_in.ensures.region
-        (subst (λ (a : ℕ). IsHungIn b.part.words c.args.item.part.words c.hang_in.new.part.words (b.slice + c.args.bucket) a) c.word.ensures c.hang_in.ensures.hung)
-        (subst (λ (n : ℕ). HasJust c.args.item.part.words c.args.item.at (n / 8)) size c.args.item.just)
-        (subst (λ (n : ℕ). n % 8 ≡ 0) size c.args.item.whole)
-        c.args.item.valid own.reads own.hashed)
+    (pushed_seen b c.self.invariant c.hang_in.new.part c.args.item.part.words c.args.bucket c.args.item.at it l c.hang_in.ensures.region
+    (subst (λ (a : ℕ). IsHungIn b.part.words c.args.item.part.words c.hang_in.new.part.words (b.slice + c.args.bucket) a) c.word.ensures c.hang_in.ensures.hung)
+    (subst (λ (n : ℕ). HasJust c.args.item.part.words c.args.item.at (n / 8)) size c.args.item.just)
+    (subst (λ (n : ℕ). n % 8 ≡ 0) size c.args.item.whole)
+    c.args.item.valid own.reads own.hashed)

@@ -27,15 +27,15 @@ take_out-part-requires-clause-apart c =
     let b = c.self.inside in
     let l = bucket_in b c.self.invariant c.args.self.now c.self.view_is c.args.bucket c.requires.bucket in
     subst (λ (a : ℕ). a ≤ c.args.spot.link → a + b.item_bytes / 8 ≤ c.args.spot.link) c.requires.spot.2
-      (spot_apart b c.self.invariant c.args.bucket c.args.spot.link c.requires.spot.0 l (spot_of b c.self.invariant c.args.self.now c.self.view_is c.args.bucket c.args.spot.link c.requires.spot.0 c.requires.spot.1))
+    (spot_apart b c.self.invariant c.args.bucket c.args.spot.link c.requires.spot.0 l (spot_of b c.self.invariant c.args.self.now c.self.view_is c.args.bucket c.args.spot.link c.requires.spot.0 c.requires.spot.1))
 
 pub invariant_of-self : goal.invariant_of-self
 invariant_of-self c =
     let b = c.self.inside in
     let l = bucket_in b c.self.invariant c.args.self.now c.self.view_is c.args.bucket c.requires.bucket in
     taken_stands b c.self.invariant c.take_out-part.new.part c.take_out-part.result.words c.args.bucket c.args.spot.link c.requires.spot.0 l
-      (spot_of b c.self.invariant c.args.self.now c.self.view_is c.args.bucket c.args.spot.link c.requires.spot.0 c.requires.spot.1) c.take_out-part.ensures.region
-      (subst (λ (a : ℕ). IsTakenOut b.part.words c.take_out-part.new.part.words c.take_out-part.result.words c.args.spot.link a (b.item_bytes / 8)) (sym c.requires.spot.2) c.take_out-part.ensures.out)
+    (spot_of b c.self.invariant c.args.self.now c.self.view_is c.args.bucket c.args.spot.link c.requires.spot.0 c.requires.spot.1) c.take_out-part.ensures.region
+    (subst (λ (a : ℕ). IsTakenOut b.part.words c.take_out-part.new.part.words c.take_out-part.result.words c.args.spot.link a (b.item_bytes / 8)) (sym c.requires.spot.2) c.take_out-part.ensures.out)
 
 pub invariant_of-result : goal.invariant_of-result
 invariant_of-result c =
@@ -45,7 +45,7 @@ invariant_of-result c =
     record {
       valid = subst (λ (a : ℕ). 0 < a) (sym c.of.ensures) (positive b c.self.invariant c.args.bucket c.args.spot.item l m);
       whole = (c.self.invariant.items c.args.bucket c.args.spot.item l m).whole;
-      just = subst (λ (a : ℕ). HasJust c.take_out-part.result.words a (b.item_bytes / 8)) (sym c.of.ensures) c.take_out-part.ensures.item.1
+      just = subst (λ (a : ℕ). HasJust c.take_out-part.result.words a (b.item_bytes / 8)) (sym c.of.ensures) c.take_out-part.ensures.item.1;
     }
 
 pub returns-clause-rest : goal.returns-clause-rest
@@ -54,9 +54,9 @@ returns-clause-rest c = λ it s e.
     let l = bucket_in b c.self.invariant c.args.self.now c.self.view_is c.args.bucket c.requires.bucket in
     let P : Hung → Type 0 = λ u. (t : IsSpot u c.args.bucket c.args.spot.link it) → seen (record b { part = c.take_out-part.new.part }) ≡ with_chain u c.args.bucket (t.before ++ t.after) in
     subst P c.self.view_is
-      (λ t. taken_seen b c.self.invariant c.take_out-part.new.part c.take_out-part.result.words c.args.bucket c.args.spot.link it l t c.take_out-part.ensures.region
-        (subst (λ (a : ℕ). IsTakenOut b.part.words c.take_out-part.new.part.words c.take_out-part.result.words c.args.spot.link a (b.item_bytes / 8)) (sym e) c.take_out-part.ensures.out))
-      s
+    (λ t. taken_seen b c.self.invariant c.take_out-part.new.part c.take_out-part.result.words c.args.bucket c.args.spot.link it l t c.take_out-part.ensures.region
+    (subst (λ (a : ℕ). IsTakenOut b.part.words c.take_out-part.new.part.words c.take_out-part.result.words c.args.spot.link a (b.item_bytes / 8)) (sym e) c.take_out-part.ensures.out))
+    s
 
 pub returns-clause-item : goal.returns-clause-item
 returns-clause-item c = λ it s e.
@@ -64,7 +64,7 @@ returns-clause-item c = λ it s e.
     let l = bucket_in b c.self.invariant c.args.self.now c.self.view_is c.args.bucket c.requires.bucket in
     let P : Hung → Type 0 = λ u. (t : IsSpot u c.args.bucket c.args.spot.link it) → IsItemChunk it.at c.take_out-part.result.words u.layout it in
     subst (λ (a : ℕ). IsItemChunk a c.take_out-part.result.words c.args.self.now.layout it) (e ∙ sym c.of.ensures)
-      (subst P c.self.view_is
-        (λ t. taken_item b c.self.invariant c.take_out-part.new.part c.take_out-part.result.words c.args.bucket c.args.spot.link it l t c.take_out-part.ensures.region
-          (subst (λ (a : ℕ). IsTakenOut b.part.words c.take_out-part.new.part.words c.take_out-part.result.words c.args.spot.link a (b.item_bytes / 8)) (sym e) c.take_out-part.ensures.out))
-        s)
+    (subst P c.self.view_is
+    (λ t. taken_item b c.self.invariant c.take_out-part.new.part c.take_out-part.result.words c.args.bucket c.args.spot.link it l t c.take_out-part.ensures.region
+    (subst (λ (a : ℕ). IsTakenOut b.part.words c.take_out-part.new.part.words c.take_out-part.result.words c.args.spot.link a (b.item_bytes / 8)) (sym e) c.take_out-part.ensures.out))
+    s)

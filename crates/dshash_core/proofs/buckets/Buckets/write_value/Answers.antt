@@ -39,7 +39,7 @@ invariant_of-self c =
     let m = spot_place b c.self.invariant c.args.self.now c.self.view_is c.args.bucket c.args.spot.link c.args.spot.item c.requires.bucket c.requires.spot in
     let long : length c.args.value.now ≡ b.value_words = c.requires.value ∙ ap (λ (u : Hung). u.layout.value_words) (sym c.self.view_is) in
     written_stands b c.self.invariant c.store_words.new.part c.args.bucket c.args.spot.item (length c.args.value.now) l long m
-        record { region = c.store_words.ensures.region; keys = c.store_words.ensures.keys; below = c.store_words.ensures.below; behind = c.store_words.ensures.behind }
+    record { region = c.store_words.ensures.region; keys = c.store_words.ensures.keys; below = c.store_words.ensures.below; behind = c.store_words.ensures.behind }
 
 pub returns : goal.returns
 returns c = λ it s e.
@@ -50,8 +50,8 @@ returns c = λ it s e.
     let p = c.store_words.new.part in
     let P : Hung → Type 0 = λ u. (t : IsSpot u c.args.bucket c.args.spot.link it) → seen (record b { part = p }) ≡ with_chain u c.args.bucket (t.before ++ record it { value = c.args.value.now } ∷ t.after) in
     subst P c.self.view_is
-        (λ t. written_seen b c.self.invariant p c.args.bucket c.args.spot.item (length c.args.value.now) l long m
-            record { region = c.store_words.ensures.region; keys = c.store_words.ensures.keys; below = c.store_words.ensures.below; behind = c.store_words.ensures.behind }
-            c.args.spot.link it c.args.value.now t e
-            (ap (λ (n : ℕ). words_at (word p.words) (c.args.spot.item + 2 + b.key_words) n) (sym long) ∙ c.store_words.ensures.words))
-        s
+    (λ t. written_seen b c.self.invariant p c.args.bucket c.args.spot.item (length c.args.value.now) l long m
+    record { region = c.store_words.ensures.region; keys = c.store_words.ensures.keys; below = c.store_words.ensures.below; behind = c.store_words.ensures.behind }
+    c.args.spot.link it c.args.value.now t e
+    (ap (λ (n : ℕ). words_at (word p.words) (c.args.spot.item + 2 + b.key_words) n) (sym long) ∙ c.store_words.ensures.words))
+    s

@@ -9,6 +9,6 @@ pub returns-clause-all : goal.returns-clause-all
 returns-clause-all g c =
     let P : PartitionView g.row.O-State.Denot → Type 0 = λ w. IfOk c.list_all.result (λ v. ListsAll w.cells (pairs_of v.items)) in
     subst P c.self.view_is
-      (either_result c.list_all.result _ _
-        (λ v e. lists_all g.O.CellObject.decoded c.self.inside.size c.self.inside.count g.O.CellObject.VALUE_WORDS c.self.inside.buckets c.self.invariant.cells (pairs_of v.items) e)
-        c.list_all.ensures.entries)
+    (either_result c.list_all.result _ _
+    (λ v e. lists_all g.O.CellObject.decoded c.self.inside.size c.self.inside.count g.O.CellObject.VALUE_WORDS c.self.inside.buckets c.self.invariant.cells (pairs_of v.items) e)
+    c.list_all.ensures.entries)

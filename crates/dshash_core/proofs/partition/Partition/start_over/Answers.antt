@@ -15,8 +15,8 @@ invariant_of-self g c =
     let now = c.replace.ensures.after ∙ c.new-buckets.ensures in
     record {
       cells = empty_cells c.args.size g.O.CellObject.VALUE_WORDS c.bucket_count.result c.replace.new.dest c.requires.size.0 c.requires.size.1 c.bucket_count.ensures
-        (ap (λ (u : Hung). u.chains) now) (ap (λ (u : Hung). u.layout.value_words) now ∙ c.VALUE_WORDS.ensures);
-      buffer_long = c.self.invariant.buffer_long
+          (ap (λ (u : Hung). u.chains) now) (ap (λ (u : Hung). u.layout.value_words) now ∙ c.VALUE_WORDS.ensures);
+      buffer_long = c.self.invariant.buffer_long;
     }
 
 pub returns-clause-fresh : goal.returns-clause-fresh
@@ -35,7 +35,8 @@ returns-clause-cells g c =
     let b = c.self.inside.buckets in
     let P : PartitionView g.row.O-State.Denot → Type 0 = λ w. AreCells w.size (fin.len w.cells) g.O.CellObject.VALUE_WORDS c.replace.result × (cells_of g.O.CellObject.decoded c.replace.result.chains ≡ w.cells) in
     let len = cells_len c.self.inside.size c.self.inside.count g.O.CellObject.VALUE_WORDS b c.self.invariant.cells g.O.CellObject.decoded in
-    subst P c.self.view_is
-      (subst (λ (u : Hung). AreCells c.self.inside.size (fin.len (cells_of g.O.CellObject.decoded b.chains)) g.O.CellObject.VALUE_WORDS u) (sym c.replace.ensures.value)
-        (subst (λ (n : ℕ). AreCells c.self.inside.size n g.O.CellObject.VALUE_WORDS b) (sym len) c.self.invariant.cells),
-      ap (λ (u : Hung). cells_of g.O.CellObject.decoded u.chains) c.replace.ensures.value)
+    subst P c.self.view_is (
+      subst (λ (u : Hung). AreCells c.self.inside.size (fin.len (cells_of g.O.CellObject.decoded b.chains)) g.O.CellObject.VALUE_WORDS u) (sym c.replace.ensures.value)
+          (subst (λ (n : ℕ). AreCells c.self.inside.size n g.O.CellObject.VALUE_WORDS b) (sym len) c.self.invariant.cells),
+      ap (λ (u : Hung). cells_of g.O.CellObject.decoded u.chains) c.replace.ensures.value,
+    )
