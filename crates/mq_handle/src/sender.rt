@@ -24,7 +24,7 @@ pub struct Sender {
 impl Model for Sender {
     ghost use Rattle.mq_ring.specs.Ends.{SendingEnd, sending_end_code};
     ghost use Rattle.mq_handle.specs.Told.{SendFound};
-ghost use Rattle.mq_handle.specs.Held.{IsSender};
+    ghost use Rattle.mq_handle.specs.Held.{IsSender};
 
     ghost Value = { SendingEnd };
 
