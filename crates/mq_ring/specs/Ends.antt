@@ -20,6 +20,7 @@ pub record SendingEnd : Type 0 where
   pub rest : WordMap
   pub bytes : ℕ
 
+-- such an end, of its five parts
 abbrev pub sending_end : TableId → Sending → Option Receiving → WordMap → ℕ → SendingEnd
 sending_end region s told rest bytes = record { region = region; end = s; told = told; rest = rest; bytes = bytes }
 
@@ -29,6 +30,7 @@ pub record ReceivingEnd : Type 0 where
   pub end : Receiving
   pub told : Option Sending
 
+-- such an end, of its three parts
 abbrev pub receiving_end : TableId → Receiving → Option Sending → ReceivingEnd
 receiving_end region q told = record { region = region; end = q; told = told }
 
@@ -40,6 +42,7 @@ pub record EndsHome : Type 0 where
   pub rest : WordMap
   pub bytes : ℕ
 
+-- such ends, of their five parts
 abbrev pub ends_home : TableId → Sending → Receiving → WordMap → ℕ → EndsHome
 ends_home region s q rest bytes = record { region = region; sender = s; receiver = q; rest = rest; bytes = bytes }
 
@@ -47,15 +50,17 @@ ends_home region s q rest bytes = record { region = region; sender = s; receiver
 abbrev pub ring_of : ℕ → ℕ → ℕ → ℕ → Ring
 ring_of base size from max = record { base = base; size = size; start = from; max = max }
 
--- the codes by which proofs tell these values apart
+-- the code by which proofs tell sending ends apart
 abbrev pub sending_end_code : Coded SendingEnd
 sending_end_code = code_by (TableId × (Sending × (Option Receiving × (WordMap × ℕ)))) (coded× table_id_coded (coded× sending_code (coded× (coded_option receiving_code) (coded× map_code coded_ℕ))))
     (λ p. (p.region, (p.end, (p.told, (p.rest, p.bytes))))) (λ p. record { region = p.0; end = p.1.0; told = p.1.1.0; rest = p.1.1.1.0; bytes = p.1.1.1.1 }) (λ _. refl)
 
+-- the code of receiving ends
 abbrev pub receiving_end_code : Coded ReceivingEnd
 receiving_end_code = code_by (TableId × (Receiving × Option Sending)) (coded× table_id_coded (coded× receiving_code (coded_option sending_code)))
     (λ p. (p.region, (p.end, p.told))) (λ p. record { region = p.0; end = p.1.0; told = p.1.1 }) (λ _. refl)
 
+-- the code of ends that came home
 abbrev pub ends_home_code : Coded EndsHome
 ends_home_code = code_by (TableId × (Sending × (Receiving × (WordMap × ℕ)))) (coded× table_id_coded (coded× sending_code (coded× receiving_code (coded× map_code coded_ℕ))))
     (λ p. (p.region, (p.sender, (p.receiver, (p.rest, p.bytes))))) (λ p. record { region = p.0; sender = p.1.0; receiver = p.1.1.0; rest = p.1.1.1.0; bytes = p.1.1.1.1 }) (λ _. refl)
@@ -70,6 +75,7 @@ tx_of (Sender s t) = s
 tx_of (Done m s q) = s
 tx_of v = first_sending no_ring []
 
+-- and what it was told of the receiver's
 abbrev pub tx_told : View → Option Receiving
 tx_told (Sender s t) = t
 tx_told v = None
@@ -80,6 +86,7 @@ rx_of (Receiver q u) = q
 rx_of (Done m s q) = q
 rx_of v = first_receiving no_ring
 
+-- and what it was told of the sender's
 abbrev pub rx_told : View → Option Sending
 rx_told (Receiver q u) = u
 rx_told v = None

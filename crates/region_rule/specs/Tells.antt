@@ -44,11 +44,12 @@ abbrev pub TellsFrozen : View → ℕ → ℕ → View → Type 0
 TellsFrozen (Frozen m) k n after = IfSome (at m k) (λ x. x ≡ n) × (after ≡ Frozen m)
 TellsFrozen u k n after = ⊥
 
--- an owner of just a ring becomes its sender, and a new token its receiver
+-- an owner of just a ring becomes its sender
 abbrev pub sender_view : Ring → View → View
 sender_view r (Own m olds) = Sender (first_sending r (values_from m (r.base + 3) r.size)) None
 sender_view r u = u
 
+-- the receiver's view of a ring that is made
 abbrev pub receiver_view : Ring → View → View
 receiver_view r (Own m olds) = Receiver (first_receiving r) None
 receiver_view r u = u
@@ -100,11 +101,12 @@ abbrev pub done_view : View → View → View
 done_view (Sender s t) (Receiver q u) = Done (ring_map s q) s q
 done_view u v = u
 
--- they part again
+-- they part: the joined token is the sender again
 abbrev pub sender_again : View → View
 sender_again (Done m s q) = Sender s (Some q)
 sender_again u = u
 
+-- and the new token is the receiver again
 abbrev pub receiver_again : View → View
 receiver_again (Done m s q) = Receiver q (Some s)
 receiver_again u = u

@@ -34,6 +34,7 @@ map_code = fin.code coded_ℕ coded_ℕ
 abbrev Stored : Type 0
 Stored = (WordMap × Olds) ⊎ (WordMap ⊎ ((Sending × Option Receiving) ⊎ ((Receiving × Option Sending) ⊎ ((WordMap × (Sending × Receiving)) ⊎ Unit {0}))))
 
+-- a view as such choices
 abbrev stored : View → Stored
 stored (Own m olds) = inl (m, olds)
 stored (Frozen m) = inr (inl m)
@@ -42,6 +43,7 @@ stored (Receiver q told) = inr (inr (inr (inl (q, told))))
 stored (Done m s q) = inr (inr (inr (inr (inl (m, (s, q))))))
 stored Spent = inr (inr (inr (inr (inr tt))))
 
+-- and back
 abbrev restored : Stored → View
 restored (inl p) = Own p.0 p.1
 restored (inr (inl m)) = Frozen m
@@ -50,6 +52,7 @@ restored (inr (inr (inr (inl p)))) = Receiver p.0 p.1
 restored (inr (inr (inr (inr (inl p))))) = Done p.0 p.1.0 p.1.1
 restored (inr (inr (inr (inr (inr _))))) = Spent
 
+-- nothing is lost on the way
 pub restored-stored : (v : View) → restored (stored v) ≡ v
 restored-stored (Own m olds) = refl
 restored-stored (Frozen m) = refl

@@ -12,6 +12,7 @@ pub record Owned : Type 0 where
   pub region : TableId
   pub words : WordMap
 
+-- such words, of a region and a map
 abbrev pub owned : TableId → WordMap → Owned
 owned region words = record { region = region; words = words }
 

@@ -128,13 +128,14 @@ pub record IsReceiving (words : List ℕ) (q : Receiving) : Type 0 where
   pub own : IsReceivingEnd q
   pub read : get_elem? words (q.ring.base + 1) ≡ some (count_word q.ring q.returned)
 
--- what an end was told of the other is no more than what holds of it
+-- what a sender was told of the receiver is no more than what holds of it
 pub record WasReceiving (old q : Receiving) : Type 0 where
   pub ring : old.ring ≡ q.ring
   pub returned : old.returned ≤ q.returned
   pub avail : old.avail ≤ q.avail
   pub gone : old.gone ≡ true → q.gone ≡ true
 
+-- what a receiver was told of the sender is no more than what holds of it
 pub record WasSending (old s : Sending) : Type 0 where
   pub ring : old.ring ≡ s.ring
   pub published : old.published ≤ s.published
