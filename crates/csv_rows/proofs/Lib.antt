@@ -1,4 +1,3 @@
 pub mod AllRecords
 pub mod Filled
 pub mod Groups
-pub mod Magnitudes

@@ -1,4 +1,3 @@
-pub mod Magnitude
 pub mod Records
 pub mod Store
 pub mod Turns

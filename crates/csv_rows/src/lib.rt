@@ -7,13 +7,12 @@
 #![tactic(auto)]
 
 mod input;
-mod integer;
 mod records;
 mod store;
 #[cfg(test)]
 mod tests;
 
 pub use input::{MOST_BYTES, ReadAnswer, read_all};
-pub use integer::read_integer;
 pub use records::{MOST_RECORDS, RowsAnswer, rows};
+pub use par_model::read_integer;
 pub use store::RowStore;

@@ -3,7 +3,7 @@
 ghost use Rattle.std.specs.Prelude.{◌≡◌, IfSome};
 ghost use Rattle.csv_rows.specs.Records.{records_of};
 
-use crate::{RowStore, read_all, read_integer, rows};
+use crate::{RowStore, read_all, rows};
 use par_io::{MemSource, Source};
 use std::alloc::{AllocError, Global};
 use std::test::Fail;
@@ -68,27 +68,4 @@ fn sources(rt: HostRuntime) -> Result<(), Fail> {
         }
     }
     Ok(())
-}
-
-#[test]
-fn integers(rt: HostRuntime) {
-    let table: [(&str, Option<i64>); 14] = [
-        ("0", Some(0)),
-        (" 7 ", Some(7)),
-        ("-3", Some(-3)),
-        ("  +5", Some(5)),
-        ("0000000000000000000000012", Some(12)),
-        ("9223372036854775807", Some(i64::MAX)),
-        ("9223372036854775808", None),
-        ("-9223372036854775808", Some(i64::MIN)),
-        ("-9223372036854775809", None),
-        ("", None),
-        (" - ", None),
-        ("1 2", None),
-        ("\t1", None),
-        ("1.0", None),
-    ];
-    for (text, want) in table {
-        assert_eq!(rt; read_integer(text.as_bytes()), want, "{text}");
-    }
 }

@@ -6,9 +6,12 @@ use mathlib.Core.Option.{some}
 use lib.ListN.{get_elem?}
 use Rattle.lock_book.specs.declared.view.Entry.{Entry}
 use Rattle.lock_book.specs.History.{entry, last_of, calls_by, StartsWith, IsLegal}
+use Rattle.lock_book.specs.declared.kept.Kept.{Ghosts}
+use Rattle.lock_book.specs.declared.shelf.Pass.{Pass}
 use Rattle.lock_book.specs.declared.shelf.Shelf.{Shelf}
 use Rattle.lock_book.specs.Told.{Histories, IsPass, Adds}
-use Rattle.lock_book.specs.Shown.{count_of, opens_of}
+use Rattle.lock_book.specs.Shown.{Belongs, Called, callers_of, count_of, mine_of, number_of, opens_of, seen_of}
+use Rattle.lock_book.proofs.Histories.{last_snoc}
 use Rattle.lock_book.proofs.Totals.{there}
 
 module _ {S C R : Type 0} where
@@ -129,3 +132,17 @@ module _ {N S C R : Type 0} (legal : N → ℕ → S → C → R → S → Type 
 -- each place of a shelf has a name
 pub opens_at : {T E I O N S C R : Type 0} (s : Shelf T E I O N S C R) (at : ℕ) → at < count_of s → (o : N × S) × (get_elem? (opens_of s) at ≡ some o)
 opens_at s at low = let sized = s.sized in there (opens_of s) at (omega arith)
+
+module _ {T E I O N S C R : Type 0} {g : Ghosts T E I O N S C R} where
+  -- a lone caller's call is legal right after what it had seen, and leaves what it has seen then
+  pub lone_call : (s : Shelf T E I O N S C R) (p q : Pass T E I O N S C R g) (at : ℕ) (c : C) (r : R) → callers_of s ≡ 1 → Belongs s p → Belongs s q → number_of q ≡ number_of p → (a : Called s p q at c r) → (o : N × S) → get_elem? (opens_of s) at ≡ some o
+      → g.legal o.0 (number_of p) (last_of o.1 (seen_of p at)) c r a.after × (last_of o.1 (seen_of q at) ≡ a.after)
+  lone_call s p q at c r one b d same a o eo =
+      let low = b.stands.below in
+      let first : number_of p ≡ 0 = omega arith in
+      let P : IsPass g.legal (opens_of s) 1 0 (seen_of p) (mine_of p) = subst (λ (z : ℕ × ℕ). IsPass g.legal (opens_of s) z.0 z.1 (seen_of p) (mine_of p)) (λ n. (one n, first n)) b.stands in
+      let Q : IsPass g.legal (opens_of s) 1 0 (seen_of q) (mine_of q) = subst (λ (z : ℕ × ℕ). IsPass g.legal (opens_of s) z.0 z.1 (seen_of q) (mine_of q)) (λ n. (one n, (same ∙ first) n)) d.stands in
+      let step : (n : ℕ) → n ≡ 0 → (x : Adds g.legal (opens_of s) n (seen_of p) (mine_of p) (seen_of q) (mine_of q) at c r) → g.legal o.0 n (last_of o.1 (seen_of p at)) c r x.after =
+      λ n e. subst (λ (m : ℕ). (x : Adds g.legal (opens_of s) m (seen_of p) (mine_of p) (seen_of q) (mine_of q) at c r) → g.legal o.0 m (last_of o.1 (seen_of p at)) c r x.after) (sym e)
+      (λ x. lone_step g.legal (opens_of s) (seen_of p) (mine_of p) (seen_of q) (mine_of q) at c r P Q x o eo) in
+      (step (number_of p) first a, ap (last_of o.1) a.ends ∙ last_snoc o.1 a.before _)

@@ -8,3 +8,4 @@ pub mod Taking
 pub mod ReceiveAnswers
 pub mod Looking
 pub mod Waiting
+pub mod Told

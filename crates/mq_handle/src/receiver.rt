@@ -5,6 +5,7 @@ ghost use Rattle.ring_rule.specs.Ends.{receiver_leaves};
 ghost use Rattle.mq_handle.specs.Held.{IsUnread};
 ghost use Rattle.mq_handle.specs.Receives.{incoming};
 ghost use Rattle.mq_handle.specs.ReceiveAnswers.{Gives};
+ghost use Rattle.mq_handle.specs.Told.{ReceiveFound};
 
 use crate::answers::ReceiveAnswer;
 use crate::receiving::receive_frame;
@@ -71,6 +72,7 @@ impl Receiver {
         ensures stays { self.new.end.gone ≡ false }
         ensures later { self.old.end.turn ≤ self.new.end.turn }
         ensures answer { Gives self.old.end self.new.end self.new.message result }
+        ensures told { ReceiveFound self.old.told self.new.end result }
     {
         let buffer = self.buffer.as_mut_slice();
         let (taken, answer) = receive_frame(&mut self.rx, r, buffer, self.taken);

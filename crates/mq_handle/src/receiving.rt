@@ -1,6 +1,7 @@
 //! One try to receive, by the ring's end.
 ghost use Rattle.std.specs.Prelude.{◌≡◌, ◌-◌, ◌<◌, ◌≤◌, false, length};
 ghost use Rattle.mq_handle.specs.ReceiveAnswers.{Gives, message_of, HasPlace};
+ghost use Rattle.mq_handle.specs.Told.{ReceiveFound};
 ghost use Rattle.mq_handle.specs.Taking.{Ready, InHand, IsOpen, before_of};
 
 use crate::answers::ReceiveAnswer;
@@ -30,6 +31,7 @@ pub(crate) fn receive_frame(
     ensures hand { InHand rx.new.end.ring.max (before_of rx.new.end result.0.words) rx.new.end.taken buffer.new result.0.words result.0.len }
     ensures unfinished { IsOpen result.0.words result.0.len }
     ensures answer { Gives rx.old.end rx.new.end (message_of result.1 buffer.new result.0.len) result.1 }
+    ensures told { ReceiveFound rx.old.told rx.new.end result.1 }
     ensures place { HasPlace result.1 result.0.len (length buffer.new) }
 {
     let (first, done) = take_words(rx, r, buffer, taken);

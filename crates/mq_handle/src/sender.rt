@@ -4,6 +4,7 @@ ghost use Rattle.ring_rule.specs.Ring.{Sending};
 ghost use Rattle.ring_rule.specs.Ends.{publishes, sender_leaves};
 ghost use Rattle.mq_handle.specs.Sends.{Continues, StaysOpen};
 ghost use Rattle.mq_handle.specs.SendAnswers.{Answers};
+ghost use Rattle.mq_handle.specs.Told.{SendFound};
 ghost use Rattle.mq_handle.specs.Held.{Counted, InFrames, IsUnsent};
 
 use crate::answers::SendAnswer;
@@ -22,6 +23,7 @@ pub struct Sender {
 
 impl Model for Sender {
     ghost use Rattle.mq_ring.specs.Ends.{SendingEnd, sending_end_code};
+    ghost use Rattle.mq_handle.specs.Told.{SendFound};
     ghost use Rattle.mq_handle.specs.Held.{IsSender};
 
     ghost Value = { SendingEnd };
@@ -62,6 +64,7 @@ impl Sender {
         ensures kept { self.new ≡ record self.old { end = self.new.end } }
         ensures stays { StaysOpen self.old.end self.new.end }
         ensures answer { Answers self.old.end self.new.end message.now flush result }
+        ensures told { SendFound self.old.told self.new.end result }
     {
         let (counts, answer) = send_frame(&mut self.tx, r, message, self.counts, flush);
         self.counts = counts;
@@ -119,6 +122,7 @@ fn send_frame(
     ensures kept { tx.new ≡ record tx.old { end = tx.new.end } }
     ensures stays { StaysOpen tx.old.end tx.new.end }
     ensures answer { Answers tx.old.end tx.new.end message.now flush result.1 }
+    ensures told { SendFound tx.old.told tx.new.end result.1 }
     ensures counted { Counted tx.new.end result.0.free result.0.unpublished }
     ensures framed { InFrames tx.new.end.ring.max tx.new.end.put result.0.stored }
 {

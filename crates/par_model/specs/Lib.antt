@@ -4,6 +4,7 @@ pub mod Decimal
 pub mod Integer
 pub mod Keep
 pub mod Key
+pub mod Magnitude
 pub mod Named
 pub mod Outcome
 pub mod Plan

@@ -6,14 +6,18 @@
 //! loop, a map or a thread, so that each way to run a query is measured by the same words.
 #![tactic(auto)]
 
+pub mod integer;
 pub mod plan;
 pub mod refusal;
 pub mod row;
+pub mod slow;
 pub mod state;
 
+pub use integer::read_integer;
 pub use plan::{BoundPlan, Filter, FilterOp, Item, ItemKind};
 pub use refusal::Refusal;
 pub use row::{Field, Row};
+pub use slow::slow_refusal;
 pub use state::{AggState, SlotState};
 
 #[cfg(test)]

@@ -1,6 +1,7 @@
 //! A row on its own, as plain vectors of bytes: the form that the slow definitions are run on.
 
-ghost use Rattle.std.specs.Prelude.{◌≡◌};
+ghost use Rattle.std.specs.Prelude.{◌≡◌, ◌<◌, length};
+ghost use Rattle.par_model.specs.Record.{field_of};
 
 use std::marker::Model;
 
@@ -47,5 +48,21 @@ impl Row {
         ensures { result ≡ fields.items }
     {
         Row { fields }
+    }
+
+    // How many fields it has.
+    pub(crate) fn width(&self) -> usize
+        ensures { result ≡ length self.now }
+    {
+        self.fields.len()
+    }
+
+    // The bytes of the field in a column.
+    pub(crate) fn field(&self, column: u32) -> &[u8]
+        requires { column < length self.now }
+        ensures { result.now ≡ field_of self.now column }
+    {
+        let field = &self.fields[column as usize];
+        field.bytes.as_slice()
     }
 }

@@ -9,3 +9,5 @@ pub mod Ideal
 pub mod Fits
 pub mod Combining
 pub mod Adding
+pub mod AnyOrder
+pub mod Joining

@@ -3,7 +3,7 @@
 //! A group lies in the map with its key and its state by value, about 700 bytes. A row of a group that is there costs one
 //! path of comparisons and changes its state in place; only a new group takes memory.
 
-ghost use Rattle.std.specs.Prelude.{◌≡◌, ◌<◌, ◌≤◌, ◌+◌, ◌*◌, ◌^◌, ◌∷◌, ◌++◌, [], ℕ, List, IfOk, IfErr, IfSome, IfNone, OnOk, OnErr, Some, All, length, map as map_list, slice_get};
+ghost use Rattle.std.specs.Prelude.{◌≡◌, ◌<◌, ◌≤◌, ◌+◌, ◌*◌, ◌^◌, ◌∷◌, ◌++◌, [], ℕ, List, IfOk, IfErr, IfSome, IfNone, OnOk, OnErr, Some, All, length};
 ghost use Rattle.std.specs.FinMap as map;
 ghost use Rattle.csv_rows.specs.Records.{record_at};
 ghost use Rattle.par_model.specs.Plan.{Plan};

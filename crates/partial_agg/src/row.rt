@@ -3,17 +3,17 @@
 //! A row is read once: `RowBuffer::read` finds the refusal and the filter's verdict, encodes the key into the buffer's
 //! array and parses each integer a single time. The public calls are views of it.
 
-ghost use Rattle.std.specs.Prelude.{◌≡◌, ◌<◌, ◌≤◌, ◌+◌, ◌^◌, ◌↔◌, ◌∷◌, ◌++◌, [], List, IsErr, ℕ, Bool, true, false, All, IsTrue, IsOk, IfOk, IfErr, OnOk, OnErr, Some, None, if◌then◌else◌, length, map, take};
+ghost use Rattle.std.specs.Prelude.{◌≡◌, ◌<◌, ◌≤◌, ◌+◌, ◌^◌, ◌↔◌, ◌∷◌, ◌++◌, [], List, IsErr, ℕ, true, false, All, IsTrue, IfOk, IfErr, OnOk, Some, None, if◌then◌else◌, length, map, take};
 ghost use Rattle.std.specs.Bool.{OnTrue};
 ghost use Rattle.std.specs.Option.{ForSome};
 ghost use Rattle.std.specs.List.{position_from};
-ghost use Rattle.csv_rows.specs.Records.{field_of as field_at, record_at};
+ghost use Rattle.csv_rows.specs.Records.{record_at};
 ghost use Rattle.par_model.specs.Aggregate.{state_of_rows};
-ghost use Rattle.par_model.specs.Keep.{fails, is_kept, stands as stands_in};
-ghost use Rattle.par_model.specs.Key.{columns_of, encoded, key_of as key_of_row};
-ghost use Rattle.par_model.specs.Record.{field_of, is_null};
-ghost use Rattle.par_model.specs.Refuse.{is_no_integer, is_unreadable, reads_integers, refusal as refusal_of};
-ghost use Rattle.partial_agg.specs.Reading.{counted, passes, read, value_of, values_state, verdict};
+ghost use Rattle.par_model.specs.Keep.{is_kept, stands as stands_in};
+ghost use Rattle.par_model.specs.Key.{encoded, key_of as key_of_row};
+ghost use Rattle.par_model.specs.Record.{field_of};
+ghost use Rattle.par_model.specs.Refuse.{is_no_integer, is_unreadable, refusal as refusal_of};
+ghost use Rattle.partial_agg.specs.Reading.{counted, passes, read, value_of, verdict};
 ghost use Rattle.par_model.specs.Columns.{HasColumns, reads_column};
 ghost use Rattle.partial_agg.specs.Rows.{IsAccepted, IsCounted, header_width};
 ghost use Rattle.partial_agg.specs.State.{combined};

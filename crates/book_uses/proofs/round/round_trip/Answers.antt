@@ -1,8 +1,8 @@
 use Rattle.std.proofs.Common.{◌∙◌, sym, ap}
 use Rattle.word_map.specs.WordMap.{at as word_at}
-use Rattle.lock_book.proofs.Uses.{opens_at}
+use Rattle.lock_book.proofs.Uses.{lone_call, opens_at}
 use Rattle.book_uses.proofs.Sums.{has_some}
-use Rattle.book_uses.proofs.Drawn.{gives_out, lone_call, same_words, stores}
+use Rattle.book_uses.proofs.Drawn.{gives_out, same_words, stores}
 use Rattle.book_uses.proofs.round.round_trip.Goals as goal
 
 pub unreachable-requires : goal.unreachable-requires

@@ -10,7 +10,7 @@ use Rattle.std.specs.List.{list_all}
 use Rattle.std.specs.Prelude.{◌&&◌, if◌then◌else◌}
 use Rattle.std.specs.Str.Parse.{digits_value, starts_with_minus, without_leading_sign}
 use Rattle.par_model.specs.Integer.{fits_64_bits, is_numeral, number_of}
-use Rattle.csv_rows.specs.Magnitude.{magnitude_of, with_sign}
+use Rattle.par_model.specs.Magnitude.{magnitude_of, with_sign}
 
 none-of : (a b c : Bool) (n : ℕ) → b ≡ false → (if (a && b) && c then Some n else None) ≡ None
 none-of true b c n e = rw e refl

@@ -7,7 +7,7 @@ ghost use Rattle.std.specs.Prelude.{◌≡◌, ◌≤◌, ◌^◌, IfSome, lengt
 ghost use Rattle.std.specs.List.{prefix_len, suffix_len};
 ghost use Rattle.std.specs.Str.Parse.{starts_with_minus, without_leading_sign};
 ghost use Rattle.par_model.specs.Integer.{integer_of, is_space, number_of, without_spaces};
-ghost use Rattle.csv_rows.specs.Magnitude.{magnitude_of, with_sign};
+ghost use Rattle.par_model.specs.Magnitude.{magnitude_of, with_sign};
 
 // The size of the least number of 64 signed bits.
 const LARGEST: u64 = 0x8000_0000_0000_0000;
