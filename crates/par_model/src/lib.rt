@@ -11,6 +11,7 @@ pub mod plan;
 pub mod refusal;
 pub mod row;
 pub mod slow;
+pub mod slow_group;
 pub mod state;
 
 pub use integer::read_integer;
@@ -18,6 +19,7 @@ pub use plan::{BoundPlan, Filter, FilterOp, Item, ItemKind};
 pub use refusal::Refusal;
 pub use row::{Field, Row};
 pub use slow::slow_refusal;
+pub use slow_group::slow_state;
 pub use state::{AggState, SlotState};
 
 #[cfg(test)]

@@ -60,7 +60,7 @@ fn has_unreadable_filter(row: &Row, plan: &BoundPlan) -> bool
 }
 
 // Whether the plan keeps the row.
-fn keeps(row: &Row, plan: &BoundPlan) -> bool
+pub(crate) fn keeps(row: &Row, plan: &BoundPlan) -> bool
     requires { HasColumns plan.now (length row.now) }
     ensures { result ≡ is_kept plan.now row.now }
 {

@@ -1,10 +1,13 @@
-//! That values of each type can be made, and that a plan's unused places are as its invariant says.
+//! That values of each type can be made, and what the calls give on worked rows.
 
-ghost use Rattle.std.specs.Prelude.{◌≡◌, ◌∷◌, [], false, None};
+ghost use Rattle.std.specs.Prelude.{◌≡◌, ◌∷◌, [], false, All, IfOk, None, length};
 ghost use Rattle.par_model.specs.Columns.{HasColumns};
 ghost use Rattle.par_model.specs.declared.plan.ItemKind.TheVariants as kind;
 
-use crate::{BoundPlan, Field, Filter, FilterOp, Item, ItemKind, Refusal, Row, read_integer, slow_refusal};
+use crate::{
+    AggState, BoundPlan, Field, Filter, FilterOp, Item, ItemKind, Refusal, Row, SlotState,
+    read_integer, slow_refusal, slow_state,
+};
 use std::alloc::{AllocError, Global};
 use std::test::Fail;
 
@@ -63,9 +66,11 @@ fn integers(rt: HostRuntime) {
 }
 
 // A row of these fields.
-fn row_of(alloc: Global, texts: &[&str]) -> Result<Row, AllocError> {
+fn row_of(alloc: Global, texts: &[&str]) -> Result<Row, AllocError>
+    ensures { IfOk result (λ row. length row ≡ length texts.now) }
+{
     let mut fields = Vec::new(alloc);
-    for text in texts {
+    'texts: for text in texts {
         fields.push(Field::new(Vec::from_slice(alloc, text.as_bytes())?))?;
     }
     Ok(Row::new(fields))
@@ -115,7 +120,107 @@ fn refuses_rows(rt: HostRuntime) -> Result<(), Fail> {
     for (texts, want) in table {
         let row = row_of(rt.alloc(), texts)?;
         let got = slow_refusal(&row, 3, &plan);
-        assert_eq!(rt; got, want.map(|w| Refusal { cause: w.0, item: w.1 }));
+        assert_eq!(rt;
+            got,
+            want.map(|w| Refusal {
+                cause: w.0,
+                item: w.1
+            })
+        );
     }
+    Ok(())
+}
+
+// An aggregate of column 1.
+fn of_values(kind: ItemKind) -> Item
+    ensures { result ≡ record { kind = kind; column = 1 } }
+{
+    Item { kind, column: 1 }
+}
+
+// Each aggregate of column 1, for each group of column 0, over the rows whose column 2 is not 9.
+fn all_aggregates() -> BoundPlan
+    ensures { HasColumns result 3 }
+{
+    BoundPlan {
+        groups: [0, 0, 0, 0, 0, 0, 0, 0],
+        group_count: 1,
+        items: [
+            of_values(ItemKind::Sum),
+            of_values(ItemKind::Min),
+            UNUSED,
+            of_values(ItemKind::Max),
+            of_values(ItemKind::Avg),
+            of_values(ItemKind::Count),
+            UNUSED,
+            UNUSED,
+        ],
+        item_count: 6,
+        hash: false,
+        filter: Some(Filter {
+            column: 2,
+            op: FilterOp::NotEqual,
+            value: 9,
+        }),
+    }
+}
+
+// Rows of a key, a value and a number for the filter.
+fn table_of(alloc: Global, texts: &[[&str; 3]]) -> Result<Vec<Row>, AllocError>
+    ensures { IfOk result (λ rows. All (λ row. length row ≡ 3) rows.items) }
+{
+    let mut rows = Vec::new(alloc);
+    'texts: for row in texts {
+        rows.push(row_of(alloc, row)?)?;
+    }
+    Ok(rows)
+}
+
+#[test]
+fn aggregates_of_groups(rt: HostRuntime) -> Result<(), Fail> {
+    let texts = [
+        ["a", " 7 ", "1"],
+        ["b", "100", "1"],
+        ["a", "-3", "2"],
+        ["a", "", "3"],
+        ["ab", "50", "1"],
+        ["a", "-1000", "9"],
+        ["a", "1000", ""],
+        ["a", "+5", "-9"],
+        ["", "1", "1"],
+    ];
+    let rows = table_of(rt.alloc(), &texts)?;
+    let none = SlotState {
+        count: 0,
+        sum: 0,
+        least: 0,
+        greatest: 0,
+    };
+    let numbers = SlotState {
+        count: 3,
+        sum: 9,
+        least: -3,
+        greatest: 7,
+    };
+    let values = SlotState {
+        count: 3,
+        sum: 0,
+        least: 0,
+        greatest: 0,
+    };
+    let state = slow_state(&rows, b"\x01\x00\x00\x00a", &all_aggregates());
+    assert_eq!(rt; state.rows, 4);
+    assert_eq!(rt;
+        state.slots,
+        [numbers, numbers, none, numbers, numbers, values, none, none]
+    );
+    let absent = slow_state(&rows, b"\x01\x00\x00\x00c", &all_aggregates());
+    assert_eq!(rt;
+        absent,
+        AggState {
+            rows: 0,
+            slots: [none; 8]
+        }
+    );
     Ok(())
 }

@@ -1,4 +1,4 @@
-use Rattle.std.proofs.Common.{◌≡◌, ◌+◌, ◌≤◌, length, drop, map}
+use Rattle.std.proofs.Common.{◌≡◌, ◌+◌, length, drop, map}
 use Rattle.par_model.specs.Key.{encoded, key_of}
 use Rattle.par_model.specs.Record.{field_of}
 use Rattle.par_model.proofs.slow.has_long_key.Given as goal
