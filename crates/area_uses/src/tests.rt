@@ -1,6 +1,6 @@
 //! A walk of 2,000 requests over an area of 4,096 pages. Call i asks for `1 + (37 * i) % 20000` bytes, and the chunk of call i - 40 is
 //! given back after it. So 40 chunks are held at a time, objects of 33 of the classes and runs of three to five pages among them.
-ghost use Rattle.std.specs.Prelude.{◌≡◌, ℕ, ◌+◌, ◌*◌, ◌/◌, ◌<◌, ◌≤◌, ◌^◌, All, IfOk, Some, true};
+ghost use Rattle.std.specs.Prelude.{◌≡◌, ℕ, ◌+◌, ◌-◌, ◌/◌, ◌<◌, ◌^◌, All, IfOk, Some};
 ghost use Rattle.word_map.specs.WordMap.{at as word_at};
 ghost use Rattle.area_uses.specs.Arenas.{IsArena, IsHeld};
 
@@ -11,9 +11,11 @@ use std::collections::VecDeque;
 use std::test::Fail;
 
 /// Stores a number in the first and in the last word of a chunk.
+#[tactic(auto, using(word_map::proofs::Maps::answers, std::proofs::lemmas::Bool::Decides::nat_tests))]
 fn write_number(r: &Region, chunk: &mut Chunk, number: u64)
     requires held { IsHeld r.now chunk.old }
     ensures held { IsHeld r.now chunk.new }
+    ensures first { word_at chunk.new.part.words chunk.old.at ≡ Some number }
     ensures last { word_at chunk.new.part.words (chunk.old.at + (chunk.old.bytes / 8 - 1)) ≡ Some number }
 {
     let last = chunk.bytes / 8 - 1;
