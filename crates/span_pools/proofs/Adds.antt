@@ -189,7 +189,7 @@ add_legal l active active2 page run_at at_word marks marks2 records words contro
       (λ mq low. ap is_some (outside_new l page q (place l q j) words run words2 p.layout (apart_new l active page marks records words control p just_control d.apart q mq) just d.rest (place_covers l q j p.layout low)));
   active = ⊎_elim
       (λ (x : (active2 ≡ Some page) × ((r : ℕ) → mark_of l marks.words r ≡ true → at records.words (record_at l r) ≡ Some 0)). inl (x.0, full x.1))
-      (λ (x : (active2 ≡ active) × ((r : ℕ) × (mark_of l marks.words r ≡ true) × HasRoom l records.words r)). inr (x.0, free x.1.0 x.1.1 x.1.2))
+      (λ (x : (active2 ≡ active) × ((r : ℕ) × (mark_of l marks.words r ≡ true) × HasRoom l records.words r)). inr (x.0, (λ a. no_bool (mark_of l marks.words page) (p.active_marked page a) was_not), free x.1.0 x.1.1 x.1.2))
       now;
   settled = settled_now l active2 marks2 records2 words2 (after_add l active active2 page marks marks2 records words control run records2 words2 part p fits just_control just m d now);
 }

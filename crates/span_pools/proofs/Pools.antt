@@ -11,11 +11,11 @@ use Rattle.span_pools.specs.declared.layout.Layout.{Layout}
 use Rattle.span_pools.specs.Places.{base, place, record_at, covers, IsLayout}
 use Rattle.span_pools.specs.Shape.{IsShape, IsRecords}
 use Rattle.span_pools.specs.Legal.{PoolState, object_in, SameBut, SameBeside, AllLive, HasFree, HasLive, IsSettled, IsAlloc, IsFull}
-use Rattle.span_pools.specs.View.{mark_of, owns, first_word, state_of, IsBook, HasRoom, SameRecords, IsTakenOut, IsPool}
+use Rattle.span_pools.specs.View.{mark_of, owns, first_word, live_of, state_of, IsBook, HasRoom, SameRecords, IsTakenOut, IsPool}
 use Rattle.span_pools.proofs.Lists.{listed_same, each_live, has_free}
 use Rattle.span_pools.proofs.Covers.{place_in, place_positive, place_covers, no_common, in_object, other_object, parted, same_object}
 use Rattle.span_pools.proofs.Shapes.{shape_less, object_owned}
-use Rattle.span_pools.proofs.Views.{seen_there, seen_past, seen_none, of_seen}
+use Rattle.span_pools.proofs.Views.{seen_there, seen_past, seen_none, of_seen, spans_apart, flags_length}
 
 pub no_bool : (b : Bool) → b ≡ true → b ≡ false → ⊥
 no_bool true e f = cc
@@ -68,9 +68,7 @@ some_is o b e = ap is_some e
 -- the state of a pool is settled
 pub settled_now : (l : Layout) (active : Option ℕ) (marks records words : Owned) → IsPool l active marks records words → IsSettled l (state_of l active marks.words words.words)
 settled_now l active marks records words p = record {
-  inside = λ q i h. let s = of_seen l active marks.words words.words q i p.shape h in (p.shape.inside q s.0, s.1);
-  whole = λ q i j h low. let s = of_seen l active marks.words words.words q i p.shape h in some_is _ _ (seen_there l active marks.words words.words q j s.0 (p.shape.inside q s.0) low);
-  apart = λ q r i j h k less. let s = of_seen l active marks.words words.words q i p.shape h in let t = of_seen l active marks.words words.words r j p.shape k in p.shape.apart q r s.0 t.0 less;
+  apart = spans_apart l (mark_of l marks.words) (live_of l words.words) p.shape.inside p.shape.apart (λ q. flags_length (λ i. not (owns words.words (place l q i))) 0 l.objects) 0 l.pages 0 (λ q h m. h);
   used = λ q i h. let s = of_seen l active marks.words words.words q i p.shape h in ⊎_elim
       (λ (a : active ≡ Some q). inl a)
       (λ (a : (j : ℕ) × (j < l.objects) × (owns words.words (place l q j) ≡ false)). inr (a.0, seen_there l active marks.words words.words q a.0 s.0 (p.shape.inside q s.0) a.1 ∙ ap (λ (b : Bool). Some (not b)) a.2))

@@ -1,5 +1,5 @@
 -- What the state of a pool says of an object.
-use Rattle.std.proofs.Common.{◌≡◌, ◌≢◌, ℕ, zero, suc, ◌+◌, ◌<◌, ◌≤◌, ◌==◌, ◌⊎◌, inl, inr, ⊎_elim, Bool, true, false, not, cond, List, [], ◌∷◌, Option, Some, None, is_some, IsSome, refl, sym, ap, subst, ◌∙◌, arith, eq-eqb, ne_eqb}
+use Rattle.std.proofs.Common.{◌≡◌, ◌≢◌, ℕ, zero, suc, ◌+◌, ◌<◌, ◌≤◌, ◌==◌, ◌⊎◌, inl, inr, ⊎_elim, Bool, true, false, not, cond, List, [], ◌∷◌, length, Option, Some, None, is_some, IsSome, refl, sym, ap, subst, ◌∙◌, arith, eq-eqb, ne_eqb}
 use mathlib.Core.Logic.{dite}
 use native.Mathlib.Decide.{ℕ_discrete}
 use Rattle.std.proofs.lemmas.Bool.{cases_lt}
@@ -8,7 +8,7 @@ use Rattle.word_map.specs.WordMap.{WordMap, at}
 use Rattle.span_pools.specs.declared.layout.Layout.{Layout}
 use Rattle.span_pools.specs.Places.{place, IsLayout}
 use Rattle.span_pools.specs.Shape.{IsShape}
-use Rattle.span_pools.specs.Legal.{Span, PoolState, object_at, object_in}
+use Rattle.span_pools.specs.Legal.{Span, PoolState, object_at, object_in, AreApart}
 use Rattle.span_pools.specs.View.{mark_of, owns, flags, live_of, spans_of, state_of}
 
 flag_at : (live : ℕ → Bool) (a n i : ℕ) → i < n → slice_get (flags live a n) i ≡ Some (live (a + i))
@@ -70,3 +70,18 @@ of_seen l active marks words p i s h = go (mark_of l marks p) refl
     go : (b : Bool) → mark_of l marks p ≡ b → (mark_of l marks p ≡ true) × (i < l.objects)
     go true e = (e, ⊎_elim (λ (x : i < l.objects). x) (λ (x : l.objects ≤ i). absurd (nothing (object_in (state_of l active marks words) p i) (seen_past l active marks words p i e (s.inside p e) x) h)) (cases_lt i l.objects))
     go false e = absurd (nothing (object_in (state_of l active marks words) p i) (seen_none l active marks words p i e) h)
+
+pub flags_length : (live : ℕ → Bool) (a n : ℕ) → length (flags live a n) ≡ n
+flags_length live a zero = refl
+flags_length live a (suc n) = ap suc (flags_length live (suc a) n)
+
+-- superblocks whose pages do not overlap are listed in the order of their pages
+pub spans_apart : (l : Layout) (marked : ℕ → Bool) (live : ℕ → List Bool) → ((p : ℕ) → marked p ≡ true → p + 16 ≤ l.pages) → ((p q : ℕ) → marked p ≡ true → marked q ≡ true → p < q → p + 16 ≤ q)
+    → ((p : ℕ) → length (live p) ≡ l.objects) → (a n low : ℕ) → ((q : ℕ) → a ≤ q → marked q ≡ true → low ≤ q) → AreApart l low (spans_of marked live a n)
+spans_apart l marked live inside apart all a zero low from = tt
+spans_apart l marked live inside apart all a (suc n) low from = go (marked a) refl (λ x h. spans_apart l marked live inside apart all (suc a) n x h)
+  where
+    go : (b : Bool) → marked a ≡ b → ((x : ℕ) → ((q : ℕ) → suc a ≤ q → marked q ≡ true → x ≤ q) → AreApart l x (spans_of marked live (suc a) n))
+        → AreApart l low (cond b (record { page = a; live = live a } ∷ spans_of marked live (suc a) n) (spans_of marked live (suc a) n))
+    go true e rest = (from a (omega arith) e, inside a e, all a, rest (a + 16) (λ q h m. apart a q e m (omega arith)))
+    go false e rest = rest low (λ q h m. from q (omega arith) m)

@@ -16,6 +16,7 @@ pub record Book : Type 0 where
   pub layout : Layout
   pub state : PoolState
 
+-- the same, from its parts
 abbrev pub book : TableId → Layout → PoolState → Book
 book region layout state = record { region = region; layout = layout; state = state }
 

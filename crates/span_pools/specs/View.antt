@@ -30,15 +30,16 @@ flags live i (suc n) = live i ∷ flags live (suc i) n
 abbrev pub live_of : Layout → WordMap → ℕ → List Bool
 live_of l m p = flags (λ i. not (owns m (place l p i))) 0 l.objects
 
--- the superblocks that begin in the n pages from p
+-- the superblocks that begin in the n pages from p, with what `live` says of each page's objects
 abbrev pub spans_of : (ℕ → Bool) → (ℕ → List Bool) → ℕ → ℕ → List Span
 spans_of marked live p zero = []
 spans_of marked live p (suc n) = cond (marked p) (record { page = p; live = live p } ∷ spans_of marked live (suc p) n) (spans_of marked live (suc p) n)
 
+-- the state that bits and words show, given which superblock is active
 abbrev pub state_of : Layout → Option ℕ → WordMap → WordMap → PoolState
 state_of l active marks words = record { spans = spans_of (mark_of l marks) (live_of l words) 0 l.pages; active = active }
 
--- the record of the superblock at page p says which of its objects are free
+-- the record of the superblock at page p says which of its objects are free (dsa_area_span of dsa.c: nallocatable, firstfree, ninitialized)
 pub record IsBook (l : Layout) (records words : WordMap) (p : ℕ) : Type 0 where
   pub room : ℕ
   pub head : ℕ
