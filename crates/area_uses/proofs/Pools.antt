@@ -1,16 +1,18 @@
 -- The pools of all classes in a list: one is looked at, changed, added at the end; and what a step on one of them leaves of the arena.
-use Rattle.std.proofs.Common.{◌≡◌, ℕ, zero, suc, ◌+◌, ◌-◌, ◌<◌, ◌≤◌, Bool, cond, Option, Some, None, is_some, IsSome, IfSome, List, [], ◌∷◌, ◌++◌, length, get_or, set, length-set, sym, ap, subst, ◌∙◌, arith}
-use Rattle.std.proofs.lemmas.Bool.{false_from_ne_true}
+use Rattle.std.proofs.Common.{◌≡◌, ℕ, zero, suc, ◌+◌, ◌-◌, ◌/◌, ◌<◌, ◌≤◌, Bool, cond, Option, Some, None, is_some, IsSome, IfSome, IfNone, List, [], ◌∷◌, ◌++◌, length, get_or, set, length-set, sym, ap, subst, ◌∙◌, arith}
+use Rattle.std.proofs.lemmas.Bool.{false_from_ne_true, le-leb}
 use Rattle.atomic_table.specs.Seated.{TableId}
 use Rattle.word_map.specs.WordMap.{WordMap, at, is_within, rest_of}
 use Rattle.word_map.proofs.Maps.{at-rest_cond, within_is}
 use Rattle.region_words.specs.declared.chunk.Chunk.{Chunk}
-use Rattle.size_classes.specs.Classes.{IsClass}
+use Rattle.size_classes.specs.Classes.{IsClass, class_size}
+use Rattle.size_classes.proofs.Sizes.{class_range}
+use Rattle.free_pages.specs.Legal.{PagesState}
 use Rattle.free_pages.specs.Book as pages
 use Rattle.span_pools.specs.declared.layout.Layout.{Layout}
 use Rattle.span_pools.specs.Book.{Book, layout_of, IsOver}
 use Rattle.span_pools.proofs.Offers.{layout_over}
-use Rattle.area_uses.specs.Arenas.{IsPoolOf, ArePools, IsArena}
+use Rattle.area_uses.specs.Arenas.{IsPoolOf, ArePools, IsArena, HasNoRun, pages_for}
 
 pub pools_at : (region : TableId) (first pages class : ℕ) (bs : List Book) (i : ℕ) (d : Book) → ArePools region first pages class bs → i < length bs → IsPoolOf region first pages (class + i) (get_or bs i d)
 pools_at region first pages class [] i d h low = absurd (omega arith)
@@ -59,3 +61,10 @@ serves region None bytes x h s = s
 -- the words before those that are cut off stay
 pub cut_front : (m : WordMap) (from len k : ℕ) → k < from → IsSome (at m k) → IsSome (at (rest_of m from len) k)
 cut_front m from len k h s = ap is_some (at-rest_cond m from len k ∙ ap (λ (b : Bool). cond b None (at m k)) (false_from_ne_true (is_within from len k) (λ e. let i = within_is from len k e in omega (arith, i.0)))) ∙ s
+
+-- a request of a class takes a superblock
+pub a_superblock : (s : PagesState) (o : Option Chunk) (bytes class : ℕ) (Full : Type 0) → IsClass class → bytes ≤ class_size class → IfNone o (Full × HasNoRun s 16) → IfNone o (HasNoRun s (pages_for bytes))
+a_superblock s (Some c) bytes class Full k h n = tt
+a_superblock s None bytes class Full k h n =
+    let few : bytes ≤ 8192 = (let x = class_range class k in omega arith) in
+    subst (λ (z : ℕ). HasNoRun s z) (sym (ap (λ (b : Bool). cond {A = ℕ} b 16 ((bytes + 4095) / 4096)) (le-leb bytes 8192 few))) n.1

@@ -1,7 +1,8 @@
 -- One `Pages` and a pool for each size class, over the same pages of one region.
-use Rattle.std.specs.Prelude.{◌≡◌, ℕ, suc, ◌≤◌, List, [], ◌∷◌, length}
+use Rattle.std.specs.Prelude.{◌≡◌, ℕ, suc, ◌+◌, ◌/◌, ◌<◌, ◌≤◌, cond, leb, List, [], ◌∷◌, length}
 use Rattle.atomic_table.specs.Seated.{TableId}
 use Rattle.region_words.specs.declared.chunk.Chunk.{Chunk}
+use Rattle.free_pages.specs.Legal.{PagesState, IsLargest}
 use Rattle.free_pages.specs.Book as pages
 use Rattle.span_pools.specs.Book.{Book, layout_of}
 
@@ -27,3 +28,11 @@ pub record IsArena (region : TableId) (first count : ℕ) (p : pages.Book) (bs :
 pub record IsHeld (region : TableId) (c : Chunk) : Type 0 where
   pub here : c.part.region ≡ region
   pub some : 8 ≤ c.bytes
+
+-- no n pages in a row are free
+abbrev pub HasNoRun : PagesState → ℕ → Type 0
+HasNoRun s n = (largest : ℕ) × (largest < n) × IsLargest s.pages s.granted largest
+
+-- the pages that a request of so many bytes takes where no object serves it: those of a superblock, or whole pages above 8,192 bytes
+abbrev pub pages_for : ℕ → ℕ
+pages_for bytes = cond {A = ℕ} (leb bytes 8192) 16 ((bytes + 4095) / 4096)

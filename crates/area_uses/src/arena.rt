@@ -1,10 +1,9 @@
 //! The pages and the pools of an area of 4,096 pages at the start of a region.
 //!
 //! Which chunk is whose is not kept: the bytes of a chunk say whether it is an object, and of which class, or whole pages.
-ghost use Rattle.std.specs.Prelude.{◌≡◌, ℕ, ◌-◌, ◌*◌, ◌≤◌, ◌<◌, ◌^◌, IfOk, IfSome, IsSome, length};
+ghost use Rattle.std.specs.Prelude.{◌≡◌, ℕ, ◌-◌, ◌*◌, ◌≤◌, ◌<◌, ◌^◌, IfNone, IfOk, IfSome, IsSome, length};
 ghost use Rattle.word_map.specs.WordMap.{at as word_at};
-ghost use Rattle.size_classes.specs.Classes.{IsClass, class_size};
-ghost use Rattle.area_uses.specs.Arenas.{ArePools, IsArena};
+ghost use Rattle.area_uses.specs.Arenas.{ArePools, HasNoRun, IsArena, pages_for};
 
 use crate::blocks::{count_free, give_object, give_pages, take_object, take_pages};
 use free_pages::Pages;
@@ -59,12 +58,14 @@ impl Arena {
         Ok(Arena { pages, pools })
     }
 
-    /// An object of the least class that holds so many bytes, or whole pages where there is none.
+    /// An object of the least class that holds so many bytes, or whole pages where there is none. None only where there are no pages for
+    /// it in a row.
     pub fn alloc(&mut self, r: &Region, bytes: u32) -> Option<Chunk>
         requires arena { IsArena r.now 35136 4096 self.old.pages self.old.pools.items }
         requires some { (1 ≤ bytes) × (bytes ≤ 2 ^ 30) }
         ensures arena { IsArena r.now 35136 4096 self.new.pages self.new.pools.items }
         ensures chunk { IfSome result (λ c. (bytes ≤ c.bytes) × (c.part.region ≡ r.now)) }
+        ensures none { IfNone result (HasNoRun self.old.pages.state (pages_for bytes)) }
     {
         match class_of(bytes) {
             Some(class) => {

@@ -1,12 +1,14 @@
 //! What is granted and taken back of one pool and of whole pages, as chunks.
-ghost use Rattle.std.specs.Prelude.{◌≡◌, ◌*◌, ◌≤◌, ◌<◌, IfSome};
+ghost use Rattle.std.specs.Prelude.{◌≡◌, ◌*◌, ◌≤◌, IfNone, IfSome};
+ghost use Rattle.span_pools.specs.Legal.{AllLive};
 ghost use Rattle.span_pools.specs.Book.{IsOver};
+ghost use Rattle.area_uses.specs.Arenas.{HasNoRun};
 
 use free_pages::Pages;
 use region_words::{Chunk, Region, Run};
 use span_pools::Pool;
 
-/// An object of a pool, which gets a superblock of 16 pages where it has no free one. None where there are no 16 pages in a row.
+/// An object of a pool, which gets a superblock of 16 pages where it has no free one. None where there are no such pages either.
 pub(crate) fn take_object(r: &Region, pages: &mut Pages, pool: &mut Pool) -> Option<Chunk>
     requires here { (pages.old.region ≡ r.now) × (pool.old.region ≡ r.now) }
     requires over { IsOver pool.old.layout pages.old.first pages.old.state.pages }
@@ -14,6 +16,7 @@ pub(crate) fn take_object(r: &Region, pages: &mut Pages, pool: &mut Pool) -> Opt
     ensures as_many { pages.new.state.pages ≡ pages.old.state.pages }
     ensures pool { pool.new ≡ record pool.old { state = pool.new.state } }
     ensures chunk { IfSome result (λ c. (c.bytes ≡ 8 * pool.old.layout.size) × (c.part.region ≡ r.now)) }
+    ensures none { IfNone result (AllLive pool.old.state × HasNoRun pages.old.state 16) }
 {
     if let Some(chunk) = pool.alloc(r) {
         return Some(chunk);
@@ -39,13 +42,14 @@ pub(crate) fn give_object(r: &Region, pages: &mut Pages, pool: &mut Pool, chunk:
     }
 }
 
-/// The chunk of so many whole pages.
+/// The chunk of so many whole pages, where there are as many in a row.
 pub(crate) fn take_pages(r: &Region, pages: &mut Pages, n: u32) -> Option<Chunk>
     requires here { pages.old.region ≡ r.now }
     requires some { 1 ≤ n }
     ensures pages { pages.new ≡ record pages.old { state = pages.new.state } }
     ensures as_many { pages.new.state.pages ≡ pages.old.state.pages }
     ensures chunk { IfSome result (λ c. (c.bytes ≡ 4096 * n) × (c.part.region ≡ r.now)) }
+    ensures none { IfNone result (HasNoRun pages.old.state n) }
 {
     let Run {
         at,

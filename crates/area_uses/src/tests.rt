@@ -89,7 +89,13 @@ fn walk(
 }
 
 /// Gives the chunks of the calls from `from` to below `calls` back.
-fn give_rest(r: &Region, arena: &mut Arena, held: &mut VecDeque<Chunk>, from: u64, calls: u64) -> bool
+fn give_rest(
+    r: &Region,
+    arena: &mut Arena,
+    held: &mut VecDeque<Chunk>,
+    from: u64,
+    calls: u64,
+) -> bool
     requires arena { IsArena r.now 35136 4096 arena.old.pages arena.old.pools.items }
     requires held { All (IsHeld r.now) held.old.items }
     ensures arena { IsArena r.now 35136 4096 arena.new.pages arena.new.pools.items }

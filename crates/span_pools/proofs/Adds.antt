@@ -1,22 +1,21 @@
 -- What a pool is after a superblock came in.
-use Rattle.std.proofs.Common.{◌≡◌, ◌≢◌, ℕ, zero, suc, ◌+◌, ◌-◌, ◌*◌, ◌<◌, ◌≤◌, ◌⊎◌, inl, inr, ⊎_elim, Bool, true, false, not, ◌&&◌, ◌||◌, cond, Option, Some, None, is_some, IsSome, IfSome, IfNone, refl, sym, ap, subst, ◌∙◌, arith}
+use Rattle.std.proofs.Common.{◌≡◌, ◌≢◌, ℕ, ◌+◌, ◌-◌, ◌*◌, ◌<◌, ◌≤◌, ◌⊎◌, inl, inr, ⊎_elim, Bool, true, false, not, ◌&&◌, ◌||◌, Option, Some, None, is_some, IfSome, IfNone, refl, sym, ap, subst, ◌∙◌, arith}
 use mathlib.Core.Logic.{dite}
 use native.Mathlib.Decide.{ℕ_discrete}
 use Rattle.std.proofs.lemmas.Bool.{cases_lt, false_from_ne_true}
-use Rattle.word_map.specs.WordMap.{WordMap, at, HasJust, Disjoint, is_within, range_of, rest_of, union}
+use Rattle.word_map.specs.WordMap.{WordMap, at, HasJust, Disjoint, is_within, rest_of, union}
 use Rattle.word_map.proofs.Maps.{at-rest_out, at-rest_in, within_is, within_true}
 use Rattle.free_pages.proofs.AreaWords.{cut_just}
 use Rattle.region_words.specs.Parts.{Owned, owned}
 use Rattle.span_pools.specs.declared.layout.Layout.{Layout}
 use Rattle.span_pools.specs.Places.{base, place, record_at, covers, IsLayout}
-use Rattle.span_pools.specs.Shape.{IsShape, IsRecords}
-use Rattle.span_pools.specs.Legal.{PoolState, object_in, SameBeside, AllLive, HasFree, IsAdd}
+use Rattle.span_pools.specs.Legal.{AllLive, HasFree, IsAdd}
 use Rattle.span_pools.specs.View.{mark_of, owns, first_word, state_of, IsBook, HasRoom, IsMarked, IsAdmitted, IsPool}
 use Rattle.span_pools.proofs.Lists.{new_listed}
-use Rattle.span_pools.proofs.Covers.{place_in, place_positive, place_covers, no_common, in_object, other_object, size_small}
+use Rattle.span_pools.proofs.Covers.{place_in, place_covers, no_common, in_object, other_object, size_small}
 use Rattle.span_pools.proofs.Shapes.{shape_added, records_added}
 use Rattle.span_pools.proofs.Steps.{union_keys, union_else, union_has}
-use Rattle.span_pools.proofs.Views.{seen_there, seen_past, seen_none}
+use Rattle.span_pools.proofs.Views.{seen_there, seen_none}
 use Rattle.span_pools.proofs.Pools.{no_bool, book_same, rest_keys, no_room, seen_same, settled_now}
 
 -- no other superblock has a free object, and the new one is active; or one has, and the active one stays

@@ -1,9 +1,7 @@
 -- Which object has a word.
 use Rattle.std.proofs.Common.{◌≡◌, ◌≢◌, ℕ, ◌+◌, ◌-◌, ◌*◌, ◌/◌, ◌%◌, ◌<◌, ◌≤◌, ◌⊎◌, inl, inr, ⊎_elim, Bool, true, false, refl, sym, ap, subst, ◌∙◌, arith}
-use mathlib.Core.Logic.{dite}
-use native.Mathlib.Decide.{ℕ_discrete}
 use Rattle.std.proofs.lemmas.Bool.{cases_lt, false_from_ne_true}
-use Rattle.std.proofs.Math.Nat.{mul-mod_left, mul-add-div, div-add-mod, mul-le-mul_left, mul-div-le, lt-mul-div-succ}
+use Rattle.std.proofs.Math.Nat.{mul-mod_left, mul-le-mul_left, mul-div-le, lt-mul-div-succ}
 use Rattle.std.proofs.lemmas.Nat.{div-mul-add}
 use Rattle.word_map.specs.WordMap.{is_within}
 use Rattle.word_map.proofs.Maps.{within_is, within_true}

@@ -1,12 +1,12 @@
 -- A pool without a superblock.
-use Rattle.std.proofs.Common.{◌≡◌, ℕ, zero, suc, ◌+◌, ◌/◌, ◌<◌, ◌&&◌, not, Bool, true, false, cond, List, [], ◌∷◌, Option, Some, None, is_some, refl, sym, ap, ◌∙◌, arith}
+use Rattle.std.proofs.Common.{◌≡◌, ℕ, zero, suc, ◌+◌, ◌/◌, ◌&&◌, not, Bool, true, false, cond, List, [], ◌∷◌, None, is_some, refl, ap, ◌∙◌, arith}
 use Rattle.std.proofs.lemmas.Bool.{false_from_ne_true}
 use Rattle.word_map.specs.WordMap.{WordMap, at, HasJust, is_within, range_of, rest_of}
 use Rattle.word_map.proofs.Maps.{at-range, within_is}
 use Rattle.region_words.specs.Parts.{Owned}
 use Rattle.span_pools.specs.declared.layout.Layout.{Layout}
 use Rattle.span_pools.specs.Places.{IsLayout}
-use Rattle.span_pools.specs.Legal.{Span, PoolState}
+use Rattle.span_pools.specs.Legal.{Span}
 use Rattle.span_pools.specs.View.{mark_of, owns, live_of, spans_of, state_of, IsPool}
 use Rattle.span_pools.proofs.Pools.{rest_keys, no_bool}
 

@@ -1,9 +1,9 @@
 -- The numbers of a class fit together.
-use Rattle.std.proofs.Common.{◌≡◌, ℕ, ◌+◌, ◌-◌, ◌*◌, ◌/◌, ◌%◌, ◌<◌, ◌≤◌, refl, sym, subst, arith}
+use Rattle.std.proofs.Common.{◌≡◌, ℕ, ◌+◌, ◌-◌, ◌*◌, ◌/◌, ◌%◌, ◌<◌, ◌≤◌, refl, subst, arith}
 use Rattle.std.proofs.Math.Nat.{mul-le-mul_left, mul-div-le}
 use Rattle.size_classes.specs.Classes.{IsClass, class_size, class_objects}
 use Rattle.size_classes.proofs.Sizes.{class_words, class_range}
-use Rattle.free_pages.specs.Area.{front, records_at, marks_at}
+use Rattle.free_pages.specs.Area.{front, records_at}
 use Rattle.span_pools.specs.Places.{IsLayout}
 use Rattle.span_pools.specs.Book.{layout_of}
 

@@ -1,22 +1,22 @@
 -- What a pool is after an object came back.
-use Rattle.std.proofs.Common.{◌≡◌, ◌≢◌, ℕ, zero, suc, ◌+◌, ◌-◌, ◌*◌, ◌<◌, ◌≤◌, ◌⊎◌, inl, inr, ⊎_elim, Bool, true, false, not, ◌&&◌, ◌||◌, cond, Option, Some, None, is_some, IsSome, refl, sym, ap, subst, ◌∙◌, arith}
+use Rattle.std.proofs.Common.{◌≡◌, ◌≢◌, ℕ, ◌+◌, ◌*◌, ◌<◌, ◌≤◌, ◌⊎◌, inl, inr, ⊎_elim, Bool, true, false, not, ◌&&◌, ◌||◌, Option, Some, None, is_some, refl, sym, ap, subst, ◌∙◌, arith}
 use mathlib.Core.Logic.{dite}
 use native.Mathlib.Decide.{ℕ_discrete}
 use Rattle.std.proofs.lemmas.Bool.{cases_lt, false_from_ne_true}
-use Rattle.word_map.specs.WordMap.{WordMap, at, HasJust, Disjoint, is_within, range_of, rest_of, union}
-use Rattle.word_map.proofs.Maps.{at-rest_out, at-rest_in, within_is, within_true}
+use Rattle.word_map.specs.WordMap.{WordMap, at, HasJust, Disjoint, is_within, union}
+use Rattle.word_map.proofs.Maps.{at-rest_out, within_is, within_true}
 use Rattle.free_pages.proofs.AreaWords.{cut_just}
-use Rattle.region_words.specs.Parts.{Owned, owned}
+use Rattle.region_words.specs.Parts.{Owned}
 use Rattle.span_pools.specs.declared.layout.Layout.{Layout}
 use Rattle.span_pools.specs.Places.{base, place, record_at, covers, IsLayout}
-use Rattle.span_pools.specs.Shape.{IsShape, IsRecords}
-use Rattle.span_pools.specs.Legal.{PoolState, object_in, SameBut, SameBeside, IsFreed, IsEmptied, IsStranger}
-use Rattle.span_pools.specs.View.{mark_of, owns, first_word, state_of, IsBook, HasRoom, IsMarked, IsPutBack, IsReleased, IsPool}
+use Rattle.span_pools.specs.Shape.{IsShape}
+use Rattle.span_pools.specs.Legal.{PoolState, object_in, IsFreed, IsEmptied, IsStranger}
+use Rattle.span_pools.specs.View.{mark_of, owns, first_word, state_of, IsBook, IsMarked, IsPutBack, IsReleased, IsPool}
 use Rattle.span_pools.proofs.Lists.{has_live, room_most, rest_free}
-use Rattle.span_pools.proofs.Covers.{place_in, place_positive, place_covers, no_common, in_object, other_object, parted, same_object}
+use Rattle.span_pools.proofs.Covers.{place_in, place_covers, no_common, in_object, other_object, parted}
 use Rattle.span_pools.proofs.Shapes.{shape_more, shape_given, shape_whole, records_given}
 use Rattle.span_pools.proofs.Steps.{union_any, union_keys, union_else, apart_none}
-use Rattle.span_pools.proofs.Views.{seen_there, seen_past, seen_none, of_seen}
+use Rattle.span_pools.proofs.Views.{seen_there, seen_past, seen_none}
 use Rattle.span_pools.proofs.Pools.{no_bool, book_same, records_same, rest_keys, seen_same, settled_now, elsewhere, record_apart}
 
 some_same : (x y : ℕ) → Some x ≡ Some y → x ≡ y

@@ -1,5 +1,5 @@
 -- A run of 16 pages with its records is a superblock for a pool over these pages; one that a pool gives back may be given to the pages.
-use Rattle.std.proofs.Common.{◌≡◌, ℕ, ◌+◌, ◌*◌, ◌/◌, ◌%◌, ◌≤◌, Bool, true, false, Option, Some, None, is_some, IsSomeAnd, refl, sym, ap, subst, ◌∙◌, arith}
+use Rattle.std.proofs.Common.{◌≡◌, ℕ, ◌+◌, ◌*◌, ◌/◌, ◌%◌, ◌≤◌, true, Option, Some, None, is_some, IsSomeAnd, refl, sym, ap, subst, ◌∙◌, arith}
 use Rattle.atomic_table.specs.Seated.{TableId}
 use Rattle.word_map.specs.WordMap.{HasJust}
 use Rattle.region_words.specs.Parts.{Owned}
@@ -7,7 +7,6 @@ use Rattle.free_pages.specs.Area.{records_at, HasRecords}
 use Rattle.free_pages.specs.Book.{IsRunOf, MayGive}
 use Rattle.free_pages.specs.Book as pages
 use Rattle.span_pools.specs.declared.layout.Layout.{Layout}
-use Rattle.span_pools.specs.Places.{base, record_at}
 use Rattle.size_classes.specs.Classes.{IsClass, class_size}
 use Rattle.size_classes.proofs.Sizes.{class_words}
 use Rattle.span_pools.specs.Book.{IsSuperblock, IsOver, layout_of}

@@ -1,19 +1,19 @@
 -- What a pool is after an object went out.
-use Rattle.std.proofs.Common.{◌≡◌, ◌≢◌, ℕ, zero, suc, ◌+◌, ◌-◌, ◌*◌, ◌/◌, ◌%◌, ◌<◌, ◌≤◌, ◌⊎◌, inl, inr, ⊎_elim, Bool, true, false, not, ◌&&◌, ◌||◌, cond, Option, Some, None, is_some, IsSome, refl, sym, ap, subst, ◌∙◌, arith}
+use Rattle.std.proofs.Common.{◌≡◌, ◌≢◌, ℕ, ◌+◌, ◌*◌, ◌/◌, ◌%◌, ◌<◌, ◌≤◌, ◌⊎◌, inl, inr, ⊎_elim, Bool, true, false, not, ◌&&◌, cond, Option, Some, None, is_some, IsSome, refl, sym, ap, subst, ◌∙◌, arith}
 use mathlib.Core.Logic.{dite}
 use native.Mathlib.Decide.{ℕ_discrete}
 use Rattle.std.proofs.lemmas.Bool.{cases_lt, false_from_ne_true}
-use Rattle.word_map.specs.WordMap.{WordMap, at, HasJust, is_within, range_of, rest_of, union}
-use Rattle.word_map.proofs.Maps.{at-rest_cond, at-rest_in, at-rest_out, within_is, within_true}
+use Rattle.word_map.specs.WordMap.{WordMap, at, HasJust, is_within, rest_of}
+use Rattle.word_map.proofs.Maps.{at-rest_cond, at-rest_in, at-rest_out, within_true}
 use Rattle.free_pages.proofs.AreaWords.{cut_just}
-use Rattle.region_words.specs.Parts.{Owned, owned}
+use Rattle.region_words.specs.Parts.{Owned}
 use Rattle.span_pools.specs.declared.layout.Layout.{Layout}
-use Rattle.span_pools.specs.Places.{base, place, record_at, covers, IsLayout}
+use Rattle.span_pools.specs.Places.{place, record_at, IsLayout}
 use Rattle.span_pools.specs.Shape.{IsShape, IsRecords}
-use Rattle.span_pools.specs.Legal.{PoolState, object_in, SameBut, SameBeside, AllLive, HasFree, HasLive, IsSettled, IsAlloc, IsFull}
-use Rattle.span_pools.specs.View.{mark_of, owns, first_word, live_of, state_of, IsBook, HasRoom, SameRecords, IsTakenOut, IsPool}
+use Rattle.span_pools.specs.Legal.{object_in, AllLive, HasFree, IsSettled, IsAlloc}
+use Rattle.span_pools.specs.View.{mark_of, owns, first_word, live_of, state_of, IsBook, HasRoom, IsTakenOut, IsPool}
 use Rattle.span_pools.proofs.Lists.{listed_same, each_live, has_free}
-use Rattle.span_pools.proofs.Covers.{place_in, place_positive, place_covers, no_common, in_object, other_object, parted, same_object}
+use Rattle.span_pools.proofs.Covers.{place_in, place_positive, place_covers, no_common, in_object, other_object, parted}
 use Rattle.span_pools.proofs.Shapes.{shape_less, object_owned}
 use Rattle.span_pools.proofs.Views.{seen_there, seen_past, seen_none, of_seen, spans_apart, flags_length}
 

@@ -6,7 +6,7 @@ use Rattle.std.proofs.lemmas.Bool.{cases_lt, false_from_ne_true}
 use Rattle.word_map.specs.WordMap.{is_within}
 use Rattle.word_map.proofs.Maps.{within_is}
 use Rattle.span_pools.specs.declared.layout.Layout.{Layout}
-use Rattle.span_pools.specs.Places.{base, place, record_at, covers, object_of, IsLayout}
+use Rattle.span_pools.specs.Places.{place, record_at, covers, object_of, IsLayout}
 use Rattle.span_pools.specs.Shape.{IsShape, IsRecords}
 use Rattle.span_pools.proofs.Covers.{bool_same, in_object, of_object, place_in, place_covers, place_object, no_common, parted}
 

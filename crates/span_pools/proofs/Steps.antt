@@ -1,18 +1,17 @@
 -- What stores in a superblock's record and its objects do to it.
-use Rattle.std.proofs.Common.{◌≡◌, ◌≢◌, ℕ, ◌+◌, ◌-◌, ◌*◌, ◌<◌, ◌≤◌, ◌⊎◌, inl, inr, ⊎_elim, Bool, true, false, cond, ◌||◌, Option, Some, None, is_some, IsSome, refl, sym, ap, subst, ◌∙◌, arith}
+use Rattle.std.proofs.Common.{◌≡◌, ◌≢◌, ℕ, ◌+◌, ◌-◌, ◌<◌, ◌≤◌, ⊎_elim, Bool, true, false, cond, ◌||◌, Option, Some, None, is_some, IsSome, refl, sym, ap, subst, ◌∙◌, arith}
 use mathlib.Core.Logic.{dite}
 use native.Mathlib.Decide.{ℕ_discrete}
-use Rattle.std.proofs.lemmas.Bool.{false_from_ne_true}
 use Rattle.std.specs.FinMap as fin
 use Rattle.word_map.specs.WordMap.{WordMap, at, HasJust, Disjoint, is_within, range_of, rest_of, union}
-use Rattle.word_map.proofs.Maps.{at-insert_same, at-insert_other, insert-keys, at-rest_in, at-rest_out, at-union_cond, within_is, within_true}
+use Rattle.word_map.proofs.Maps.{at-insert_same, at-insert_other, insert-keys, at-rest_in, at-rest_out, at-union_cond, within_true}
 use Rattle.region_words.specs.Parts.{Owned, owned}
 use Rattle.span_pools.specs.declared.layout.Layout.{Layout}
 use Rattle.span_pools.specs.Places.{base, place, record_at, IsLayout}
 use Rattle.span_pools.specs.Listed.{IsListed}
-use Rattle.span_pools.specs.View.{owns, first_word, IsBook, HasRoom, IsPopped, SameRecords, IsNext, IsTakenOut, IsPutBack, IsAdmitted}
+use Rattle.span_pools.specs.View.{owns, first_word, IsBook, IsPopped, SameRecords, IsNext, IsTakenOut, IsPutBack, IsAdmitted}
 use Rattle.span_pools.proofs.Lists.{pop_listed, pop_fresh, push_listed}
-use Rattle.span_pools.proofs.Covers.{other_object, place_in, place_positive, size_small, record_in}
+use Rattle.span_pools.proofs.Covers.{other_object, place_in, place_positive, record_in}
 
 pub some_same : (x y : ℕ) → Some x ≡ Some y → x ≡ y
 some_same x y e = cc

@@ -1,14 +1,14 @@
 -- What the state of a pool says of an object.
-use Rattle.std.proofs.Common.{◌≡◌, ◌≢◌, ℕ, zero, suc, ◌+◌, ◌<◌, ◌≤◌, ◌==◌, ◌⊎◌, inl, inr, ⊎_elim, Bool, true, false, not, cond, List, [], ◌∷◌, length, Option, Some, None, is_some, IsSome, refl, sym, ap, subst, ◌∙◌, arith, eq-eqb, ne_eqb}
+use Rattle.std.proofs.Common.{◌≡◌, ◌≢◌, ℕ, zero, suc, ◌+◌, ◌<◌, ◌≤◌, ⊎_elim, Bool, true, false, not, cond, List, ◌∷◌, length, Option, Some, None, is_some, IsSome, refl, sym, ap, ◌∙◌, arith, eq-eqb, ne_eqb}
 use mathlib.Core.Logic.{dite}
 use native.Mathlib.Decide.{ℕ_discrete}
 use Rattle.std.proofs.lemmas.Bool.{cases_lt}
 use Rattle.std.specs.List.{slice_get}
-use Rattle.word_map.specs.WordMap.{WordMap, at}
+use Rattle.word_map.specs.WordMap.{WordMap}
 use Rattle.span_pools.specs.declared.layout.Layout.{Layout}
-use Rattle.span_pools.specs.Places.{place, IsLayout}
+use Rattle.span_pools.specs.Places.{place}
 use Rattle.span_pools.specs.Shape.{IsShape}
-use Rattle.span_pools.specs.Legal.{Span, PoolState, object_at, object_in, AreApart}
+use Rattle.span_pools.specs.Legal.{Span, object_at, object_in, AreApart}
 use Rattle.span_pools.specs.View.{mark_of, owns, flags, live_of, spans_of, state_of}
 
 flag_at : (live : ℕ → Bool) (a n i : ℕ) → i < n → slice_get (flags live a n) i ≡ Some (live (a + i))

@@ -1,6 +1,6 @@
 -- Where the superblocks of one class, their objects and their records stand. (A superblock of dsa.c has 16 pages, too; its records
 -- stand in objects of a class of their own, and here in the control records of its pages.)
-use Rattle.std.specs.Prelude.{◌≡◌, ℕ, ◌+◌, ◌*◌, ◌-◌, ◌/◌, ◌≤◌, ◌<◌, Bool}
+use Rattle.std.specs.Prelude.{ℕ, ◌+◌, ◌*◌, ◌-◌, ◌/◌, ◌≤◌, ◌<◌, Bool}
 use Rattle.word_map.specs.WordMap.{is_within}
 use Rattle.span_pools.specs.declared.layout.Layout.{Layout}
 

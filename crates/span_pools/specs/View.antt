@@ -1,5 +1,5 @@
 -- The superblocks of a pool as its bits, its words and its records show them, and what its parts own.
-use Rattle.std.specs.Prelude.{◌≡◌, ◌≢◌, ℕ, zero, suc, ◌+◌, ◌-◌, ◌||◌, ◌*◌, ◌/◌, ◌%◌, ◌<◌, ◌≤◌, ◌==◌, ◌⊎◌, Bool, true, false, not, cond, List, [], ◌∷◌, Option, Some, None, is_some, IsSome, unwrap_or, refl}
+use Rattle.std.specs.Prelude.{◌≡◌, ◌≢◌, ℕ, zero, suc, ◌+◌, ◌-◌, ◌||◌, ◌/◌, ◌%◌, ◌<◌, ◌≤◌, ◌==◌, ◌⊎◌, Bool, true, false, not, cond, List, [], ◌∷◌, Option, Some, None, is_some, IsSome, unwrap_or}
 use Rattle.std.specs.Int.{bit_at}
 use Rattle.word_map.specs.WordMap.{WordMap, at, HasJust, Disjoint, is_within, range_of, rest_of, union}
 use Rattle.region_words.specs.Parts.{Owned, owned}

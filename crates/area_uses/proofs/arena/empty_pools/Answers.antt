@@ -1,8 +1,7 @@
-use Rattle.std.proofs.Common.{◌≡◌, ℕ, ◌+◌, ◌-◌, ◌*◌, ◌≤◌, ◌<◌, List, [], ◌∷◌, ◌++◌, length, length-append, sym, ap, subst, ◌∙◌, arith}
+use Rattle.std.proofs.Common.{◌≡◌, ℕ, ◌+◌, ◌-◌, ◌*◌, List, [], ◌∷◌, ◌++◌, length, length-append, sym, ap, subst, ◌∙◌, arith}
 use Rattle.word_map.specs.WordMap.{HasJust}
 use Rattle.region_words.specs.Parts.{Owned}
 use Rattle.free_pages.proofs.AreaWords.{cut_just, cut_owns}
-use Rattle.span_pools.specs.declared.layout.Layout.{Layout}
 use Rattle.span_pools.specs.Book.{Book, layout_of}
 use Rattle.area_uses.specs.Arenas.{IsPoolOf, ArePools}
 use Rattle.area_uses.proofs.Pools.{pools_push}

@@ -1,5 +1,4 @@
-use Rattle.std.proofs.Common.{◌≡◌, ℕ, ◌+◌, ◌*◌, ◌<◌, is_some, IsSome, arith, refl, sym, ap, subst, ◌∙◌}
-use Rattle.region_words.specs.Parts.{Owned}
+use Rattle.std.proofs.Common.{◌+◌, ◌*◌}
 use Rattle.span_pools.proofs.Bits.{set_marked}
 use Rattle.span_pools.proofs.find.find_free.Goals as goal
 

@@ -1,4 +1,3 @@
-use Rattle.std.proofs.Common.{sym, ◌∙◌}
 use Rattle.span_pools.proofs.find.free_page.Goals as goal
 
 pub room-requires-clause-inside : goal.room-requires-clause-inside

@@ -1,7 +1,7 @@
-use Rattle.std.proofs.Common.{◌≡◌, ◌≢◌, ℕ, ◌+◌, ◌==◌, ◌/◌, ◌%◌, ◌*◌, ◌^◌, ◌<◌, true, false, bit_and, bit_or, Option, unwrap_or, arith, eq-eqb, refl, sym, ap, subst, ◌∙◌, w64}
+use Rattle.std.proofs.Common.{◌≡◌, ℕ, ◌+◌, ◌==◌, ◌/◌, ◌%◌, ◌*◌, ◌^◌, false, bit_and, Option, unwrap_or, arith, sym, ap, subst, ◌∙◌, w64}
 use Rattle.std.specs.FinMap as fin
 use Rattle.std.specs.Int.{bit_at, bit_not}
-use Rattle.std.proofs.lemmas.Nat.Bits.{bit_at_set_same, bit_at_set_other, bit_at_clear_same, bit_at_clear_other}
+use Rattle.std.proofs.lemmas.Nat.Bits.{bit_at_clear_same, bit_at_clear_other}
 use Rattle.region_words.specs.Parts.{Owned, owned}
 use Rattle.span_pools.proofs.Bits.{marked_now}
 use Rattle.span_pools.proofs.marks.clear_mark.Goals as goal

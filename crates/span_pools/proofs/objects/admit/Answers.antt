@@ -1,7 +1,5 @@
-use Rattle.std.proofs.Common.{◌≡◌, ◌+◌, ◌*◌, ◌<◌, ◌≤◌, ℕ, true, is_some, IsSome, arith, refl, sym, ap, subst, ◌∙◌}
-use Rattle.word_map.specs.WordMap.{at, is_within}
-use Rattle.word_map.proofs.Maps.{within_true, insert-keys}
-use Rattle.region_words.specs.Parts.{Owned}
+use Rattle.std.proofs.Common.{◌+◌, arith, refl}
+use Rattle.word_map.proofs.Maps.{within_true}
 use Rattle.span_pools.specs.Places.{base, record_at}
 use Rattle.span_pools.proofs.Covers.{size_small, record_in}
 use Rattle.span_pools.proofs.Steps.{union_has, keep_has, admitted}

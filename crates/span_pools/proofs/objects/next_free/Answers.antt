@@ -1,6 +1,4 @@
-use Rattle.std.proofs.Common.{◌≡◌, ◌+◌, ◌*◌, ◌<◌, ◌≤◌, arith, refl, sym, ap, subst, ◌∙◌}
-use Rattle.region_words.specs.Parts.{Owned}
-use Rattle.span_pools.specs.Places.{record_at}
+use Rattle.std.proofs.Common.{arith}
 use Rattle.span_pools.proofs.Steps.{listed_owned, next_listed, next_fresh}
 use Rattle.span_pools.proofs.objects.next_free.Goals as goal
 

@@ -1,7 +1,5 @@
-use Rattle.std.proofs.Common.{◌≡◌, ◌+◌, ◌*◌, ◌<◌, ◌≤◌, ℕ, true, is_some, IsSome, arith, refl, sym, ap, subst, ◌∙◌}
-use Rattle.word_map.specs.WordMap.{at, is_within}
-use Rattle.word_map.proofs.Maps.{within_true, insert-keys}
-use Rattle.region_words.specs.Parts.{Owned}
+use Rattle.std.proofs.Common.{◌≡◌, ◌≤◌, ℕ, is_some, arith, sym, ap, ◌∙◌}
+use Rattle.word_map.proofs.Maps.{within_true}
 use Rattle.span_pools.proofs.Lists.{room_most}
 use Rattle.span_pools.proofs.Steps.{union_has, put_back, some_same, keep_has}
 use Rattle.span_pools.proofs.Covers.{objects_small}

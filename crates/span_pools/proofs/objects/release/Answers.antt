@@ -1,4 +1,4 @@
-use Rattle.std.proofs.Common.{◌≡◌, ◌||◌, ◌+◌, ◌*◌, Bool, true, is_some, sym, ap, ◌∙◌}
+use Rattle.std.proofs.Common.{◌∙◌}
 use Rattle.word_map.proofs.Maps.{within_true}
 use Rattle.span_pools.specs.Places.{base}
 use Rattle.span_pools.proofs.Steps.{union_any}

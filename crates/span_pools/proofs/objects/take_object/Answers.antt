@@ -1,8 +1,6 @@
-use Rattle.std.proofs.Common.{◌≡◌, ◌+◌, ◌*◌, ◌<◌, ◌≤◌, ℕ, true, is_some, arith, refl, sym, ap, subst, ◌∙◌}
+use Rattle.std.proofs.Common.{◌≡◌, ℕ, true, subst}
 use Rattle.word_map.specs.WordMap.{is_within}
 use Rattle.word_map.proofs.Maps.{within_true}
-use Rattle.region_words.specs.Parts.{Owned}
-use Rattle.span_pools.specs.View.{IsNext}
 use Rattle.span_pools.proofs.Steps.{taken_out}
 use Rattle.span_pools.proofs.objects.take_object.Goals as goal
 

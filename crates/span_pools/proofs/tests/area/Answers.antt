@@ -1,9 +1,8 @@
-use Rattle.std.proofs.Common.{◌≡◌, ℕ, ◌+◌, ◌-◌, ◌*◌, ◌/◌, ◌≤◌, ◌<◌, Bool, cond, None, is_some, IsSome, arith, refl, sym, ap, subst, ◌∙◌}
+use Rattle.std.proofs.Common.{◌≡◌, ℕ, ◌+◌, ◌-◌, ◌*◌, ◌/◌, ◌≤◌, ◌<◌, Bool, cond, None, is_some, IsSome, arith, sym, ap, subst, ◌∙◌}
 use Rattle.std.proofs.lemmas.Bool.{false_from_ne_true}
 use Rattle.word_map.specs.WordMap.{WordMap, at, is_within, rest_of, HasJust}
 use Rattle.word_map.proofs.Maps.{at-rest_cond, within_is}
-use Rattle.region_words.specs.Parts.{Owned}
-use Rattle.free_pages.specs.Area.{front, mark_words, marks_at}
+use Rattle.free_pages.specs.Area.{front, mark_words}
 use Rattle.free_pages.proofs.AreaWords.{cut_just, cut_owns}
 use Rattle.span_pools.proofs.Fits.{bits_before}
 use Rattle.span_pools.proofs.tests.area.Goals as goal

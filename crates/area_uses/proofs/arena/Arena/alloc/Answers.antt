@@ -2,9 +2,10 @@ use Rattle.std.proofs.Common.{◌≡◌, ℕ, ◌*◌, ◌≤◌, sym, ap, subst
 use Rattle.size_classes.specs.Classes.{class_size}
 use Rattle.free_pages.specs.Book as pages
 use Rattle.span_pools.specs.declared.layout.Layout.{Layout}
+use Rattle.span_pools.specs.Legal.{AllLive}
 use Rattle.span_pools.specs.Book.{Book}
 use Rattle.span_pools.proofs.Offers.{object_bytes}
-use Rattle.area_uses.proofs.Pools.{pool_there, pool_over, arena_after, serves}
+use Rattle.area_uses.proofs.Pools.{pool_there, pool_over, arena_after, serves, a_superblock}
 use Rattle.area_uses.proofs.arena.Arena.alloc.Goals as goal
 
 pub take_object-requires-clause-here : goal.take_object-requires-clause-here
@@ -29,3 +30,6 @@ returns-in-Some-clause-chunk c =
     let there = pool_there c.args.r.now 35136 4096 c.args.self.now.pages c.args.self.now.pools.items c.in-Some.class c.from.result c.index_mut-pool.result.now c.requires.arena c.in-Some.ensures.least.is_class c.from.ensures c.index_mut-pool.ensures.value in
     let size : 8 * c.index_mut-pool.result.now.layout.size ≡ class_size c.in-Some.class = ap (λ (l : Layout). 8 * l.size) there.layout ∙ object_bytes c.in-Some.class 35136 4096 c.in-Some.ensures.least.is_class in
     serves c.args.r.now c.take_object.result c.args.bytes (8 * c.index_mut-pool.result.now.layout.size) (subst (λ (z : ℕ). c.args.bytes ≤ z) (sym size) c.in-Some.ensures.least.holds) c.take_object.ensures.chunk
+
+pub returns-in-Some-clause-none : goal.returns-in-Some-clause-none
+returns-in-Some-clause-none c = a_superblock c.args.self.now.pages.state c.take_object.result c.args.bytes c.in-Some.class (AllLive c.index_mut-pool.result.now.state) c.in-Some.ensures.least.is_class c.in-Some.ensures.least.holds c.take_object.ensures.none

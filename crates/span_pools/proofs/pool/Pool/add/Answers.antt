@@ -1,11 +1,11 @@
-use Rattle.std.proofs.Common.{◌≡◌, ℕ, ◌+◌, ◌-◌, ◌*◌, ◌/◌, ◌<◌, ◌≤◌, Option, Some, IsSomeAnd, true, refl, sym, ap, subst, ◌∙◌, arith}
+use Rattle.std.proofs.Common.{◌≡◌, ℕ, ◌+◌, ◌-◌, ◌*◌, ◌/◌, ◌≤◌, Option, Some, IsSomeAnd, true, sym, ap, subst, ◌∙◌, arith}
 use Rattle.atomic_table.specs.Seated.{TableId}
 use Rattle.word_map.specs.WordMap.{HasJust}
 use Rattle.region_words.specs.Parts.{Owned}
 use Rattle.span_pools.specs.Places.{base, record_at}
 use Rattle.span_pools.specs.Legal.{IsAdd}
-use Rattle.span_pools.specs.View.{state_of, IsMarked, IsAdmitted, IsPool}
-use Rattle.span_pools.specs.Book.{Book, book, IsSuperblock}
+use Rattle.span_pools.specs.View.{state_of, IsMarked, IsAdmitted}
+use Rattle.span_pools.specs.Book.{Book, IsSuperblock}
 use Rattle.span_pools.proofs.Pools.{all_live, some_free, chunk_bytes}
 use Rattle.span_pools.proofs.Adds.{NowActive, now_active, after_add, add_legal, part_just}
 use Rattle.span_pools.proofs.pool.Pool.add.Goals as goal

@@ -1,9 +1,9 @@
-use Rattle.std.proofs.Common.{◌≡◌, ◌*◌, ◌/◌, ◌<◌, ℕ, Option, Some, None, true, refl, sym, ap, subst, ◌∙◌}
+use Rattle.std.proofs.Common.{◌*◌, ◌/◌, ◌<◌, ℕ, Some, sym, ap, subst}
 use Rattle.word_map.specs.WordMap.{HasJust}
 use Rattle.region_words.specs.Parts.{Owned}
 use Rattle.span_pools.specs.Legal.{IsAlloc, IsFull}
-use Rattle.span_pools.specs.View.{mark_of, owns, state_of, IsTakenOut, IsPool, HasRoom}
-use Rattle.span_pools.specs.Book.{Book, book}
+use Rattle.span_pools.specs.View.{mark_of, owns, state_of, IsTakenOut, IsPool}
+use Rattle.span_pools.specs.Book.{Book}
 use Rattle.span_pools.proofs.Shapes.{object_owned}
 use Rattle.span_pools.proofs.Pools.{after_alloc, alloc_legal, all_live, chunk_just, chunk_bytes}
 use Rattle.span_pools.proofs.pool.Pool.alloc.Goals as goal

@@ -1,4 +1,4 @@
-use Rattle.std.proofs.Common.{◌≡◌, ◌+◌, ◌/◌, ◌∙◌, ap, sym, subst}
+use Rattle.std.proofs.Common.{◌∙◌, ap, sym}
 use Rattle.region_words.specs.Parts.{Owned}
 use Rattle.span_pools.specs.Book.{book}
 use Rattle.span_pools.proofs.Empty.{rest_none, empty_pool, empty_state}

@@ -1,14 +1,14 @@
-use Rattle.std.proofs.Common.{◌≡◌, ◌≢◌, ℕ, ◌+◌, ◌*◌, ◌/◌, ◌<◌, ◌≤◌, ◌⊎◌, inl, inr, ⊎_elim, Option, Some, false, true, refl, sym, ap, subst, ◌∙◌, arith}
+use Rattle.std.proofs.Common.{◌≡◌, ◌≢◌, ℕ, ◌+◌, ◌*◌, ◌/◌, ◌≤◌, inl, inr, Some, false, refl, sym, ap, subst, ◌∙◌, arith}
 use Rattle.region_words.specs.Parts.{Owned}
 use Rattle.span_pools.specs.Legal.{IsStranger, IsEmptied, IsFreed}
 use Rattle.span_pools.specs.View.{state_of, IsMarked, IsReleased, IsPutBack, IsPool}
-use Rattle.span_pools.specs.Book.{Book, book, IsSuperblock}
+use Rattle.span_pools.specs.Book.{Book, IsSuperblock}
 use Rattle.word_map.specs.WordMap.{HasJust}
 use Rattle.span_pools.proofs.Pools.{no_bool}
 use Rattle.span_pools.proofs.Lists.{room_most}
 use Rattle.span_pools.proofs.Covers.{objects_small}
 use Rattle.span_pools.proofs.Steps.{some_same}
-use Rattle.span_pools.proofs.Frees.{IsLast, after_free, free_legal, last_whole, last_records, after_emptied, emptied_legal, run_just, stranger_is}
+use Rattle.span_pools.proofs.Frees.{IsLast, after_free, free_legal, last_whole, after_emptied, emptied_legal, run_just, stranger_is}
 use Rattle.span_pools.proofs.pool.Pool.free.Goals as goal
 use Rattle.span_pools.proofs.pool.Pool.free.Goals.{else-free-self-via-then-free-self+else-not-is_page, else-free-self-via-else-free-self}
 
