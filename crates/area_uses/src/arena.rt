@@ -1,0 +1,101 @@
+//! The pages and the pools of an area of 4,096 pages at the start of a region.
+//!
+//! Which chunk is whose is not kept: the bytes of a chunk say whether it is an object, and of which class, or whole pages.
+ghost use Rattle.std.specs.Prelude.{◌≡◌, ℕ, ◌-◌, ◌*◌, ◌≤◌, ◌<◌, ◌^◌, IfNone, IfOk, IfSome, IsSome, length};
+ghost use Rattle.word_map.specs.WordMap.{at as word_at};
+ghost use Rattle.area_uses.specs.Arenas.{ArePools, HasNoRun, IsArena, pages_for};
+
+use crate::blocks::{count_free, give_object, give_pages, take_object, take_pages};
+use free_pages::Pages;
+use region_words::{Chunk, Part, Region};
+use rel_pointer::RelPtr;
+use size_classes::class_of;
+use span_pools::Pool;
+use std::alloc::{AllocError, Global};
+
+/// The pages of the area.
+pub const PAGES: u32 = 4096;
+
+/// The first word of page 0: behind 64 words at the head, eight words for each page, and 64 words of bits for each of the 36 classes.
+const FIRST: u64 = 35136;
+
+/// The words of the area.
+pub const WORDS: usize = 2132288;
+
+/// The pages, and the pools of the size classes from 2 to 37.
+#[derive(Drop)]
+pub struct Arena {
+    pages: Pages,
+    pools: Vec<Pool>,
+}
+
+/// A pool without a superblock for each size class. Takes the words of the classes' bits out of a part.
+fn empty_pools(alloc: Global, r: &Region, bits: &mut Part) -> Result<Vec<Pool>, AllocError>
+    requires here { bits.old.region ≡ r.now }
+    requires owns { (k : ℕ) → 32832 ≤ k → k < 35136 → IsSome (word_at bits.old.words k) }
+    ensures all { IfOk result (λ v. length v.items ≡ 36) }
+    ensures pools { IfOk result (λ v. ArePools r.now 35136 4096 2 v.items) }
+{
+    let mut pools = Vec::new(alloc);
+    for class in 2..38 {
+        let marks = bits.split(r, FIRST - 64 * (38 - u64::from(class)), 64);
+        pools.push(Pool::new(r, class, RelPtr::of(FIRST), PAGES, marks))?;
+    }
+    Ok(pools)
+}
+
+impl Arena {
+    /// The area in the first words of a region. No page is granted, and no pool has a superblock.
+    pub fn new(alloc: Global, r: &Region, mut part: Part) -> Result<Arena, AllocError>
+        requires here { part.region ≡ r.now }
+        requires owns { (k : ℕ) → k < 2132288 → IsSome (word_at part.words k) }
+        ensures { IfOk result (λ a. IsArena r.now 35136 4096 a.pages a.pools.items) }
+    {
+        let control = part.split(r, 0, 32832);
+        let words = part.split(r, FIRST, 2097152);
+        let pools = empty_pools(alloc, r, &mut part)?;
+        let pages = Pages::new(r, RelPtr::of(FIRST), PAGES, words, control);
+        Ok(Arena { pages, pools })
+    }
+
+    /// An object of the least class that holds so many bytes, or whole pages where there is none. None only where there are no pages for
+    /// it in a row.
+    pub fn alloc(&mut self, r: &Region, bytes: u32) -> Option<Chunk>
+        requires arena { IsArena r.now 35136 4096 self.old.pages self.old.pools.items }
+        requires some { (1 ≤ bytes) × (bytes ≤ 2 ^ 30) }
+        ensures arena { IsArena r.now 35136 4096 self.new.pages self.new.pools.items }
+        ensures chunk { IfSome result (λ c. (bytes ≤ c.bytes) × (c.part.region ≡ r.now)) }
+        ensures none { IfNone result (HasNoRun self.old.pages.state (pages_for bytes)) }
+    {
+        match class_of(bytes) {
+            Some(class) => {
+                let pool = &mut self.pools[usize::from(class) - 2];
+                take_object(r, &mut self.pages, pool)
+            }
+            None => take_pages(r, &mut self.pages, bytes.div_ceil(4096)),
+        }
+    }
+
+    /// Takes a chunk back that `alloc` gave. Says whether it did.
+    pub fn free(&mut self, r: &Region, chunk: Chunk) -> bool
+        requires arena { IsArena r.now 35136 4096 self.old.pages self.old.pools.items }
+        requires here { chunk.part.region ≡ r.now }
+        ensures arena { IsArena r.now 35136 4096 self.new.pages self.new.pools.items }
+    {
+        if chunk.bytes == 0 || chunk.bytes > 8192 {
+            return give_pages(r, &mut self.pages, chunk);
+        }
+        let Some(class) = class_of(chunk.bytes as u32) else {
+            return false;
+        };
+        let pool = &mut self.pools[usize::from(class) - 2];
+        give_object(r, &mut self.pages, pool, chunk)
+    }
+
+    /// How many pages are in no granted run. Ends the arena.
+    pub fn free_pages(mut self, r: &Region) -> u64
+        requires arena { IsArena r.now 35136 4096 self.pages self.pools.items }
+    {
+        count_free(r, &mut self.pages)
+    }
+}

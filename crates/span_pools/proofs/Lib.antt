@@ -1,0 +1,13 @@
+pub mod Counts
+pub mod Lists
+pub mod Covers
+pub mod Shapes
+pub mod Bits
+pub mod Views
+pub mod Fits
+pub mod Steps
+pub mod Pools
+pub mod Adds
+pub mod Empty
+pub mod Frees
+pub mod Offers

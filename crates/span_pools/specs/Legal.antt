@@ -1,0 +1,152 @@
+-- What a pool answers, as a relation of the state before, the call, the reply and the state after. Source: dsa.c (`alloc_object`,
+-- `ensure_active_superblock`, `dsa_free`), but for its fullness classes: here each superblock that has a free object serves as well as
+-- another, and only the active one comes first.
+use Rattle.std.specs.Prelude.{◌≡◌, ◌≢◌, ℕ, ◌+◌, ◌*◌, ◌<◌, ◌≤◌, ◌==◌, ◌⊎◌, Bool, true, false, cond, List, [], ◌∷◌, Option, Some, None, IsSome, length}
+use Rattle.std.specs.List.{slice_get}
+use Rattle.span_pools.specs.declared.layout.Layout.{Layout}
+use Rattle.span_pools.specs.Places.{base, place}
+
+-- a superblock: the page at which it begins, and of each of its objects whether it is live (dsa_area_span of dsa.c says it by a count
+-- and a list of the free objects)
+pub record Span : Type 0 where
+  pub page : ℕ
+  pub live : List Bool
+
+-- the state: the superblocks in the order of their pages, and the page of the active one (dsa_area_pool of dsa.c, whose active
+-- superblock is the first of fullness class 1)
+pub record PoolState : Type 0 where
+  pub spans : List Span
+  pub active : Option ℕ
+
+-- whether object i of the superblock at page p is live, where there is such an object
+abbrev pub object_at : List Span → ℕ → ℕ → Option Bool
+object_at [] p i = None
+object_at (s ∷ ss) p i = cond (s.page == p) (slice_get s.live i) (object_at ss p i)
+
+-- the same of a state
+abbrev pub object_in : PoolState → ℕ → ℕ → Option Bool
+object_in s p i = object_at s.spans p i
+
+-- every object of every superblock is live
+abbrev pub AllLive : PoolState → Type 0
+AllLive s = (p i : ℕ) → object_in s p i ≢ Some false
+
+-- some object is free
+abbrev pub HasFree : PoolState → Type 0
+HasFree s = (p i : ℕ) × (object_in s p i ≡ Some false)
+
+-- the superblock at page p has a live object
+abbrev pub HasLive : PoolState → ℕ → Type 0
+HasLive s p = (i : ℕ) × (object_in s p i ≡ Some true)
+
+-- no other object than object i of page p changes, comes or goes
+abbrev pub SameBut : PoolState → PoolState → ℕ → ℕ → Type 0
+SameBut before after p i = (q j : ℕ) → (q ≢ p) ⊎ (j ≢ i) → object_in after q j ≡ object_in before q j
+
+-- no object of another page changes, comes or goes
+abbrev pub SameBeside : PoolState → PoolState → ℕ → Type 0
+SameBeside before after p = (q j : ℕ) → q ≢ p → object_in after q j ≡ object_in before q j
+
+-- the superblocks stand in the order of their pages, from page `low` on; each has 16 of the pages and says of each of its objects whether
+-- it is live, and no two have a page in common
+abbrev pub AreApart : Layout → ℕ → List Span → Type 0
+AreApart l low [] = Unit {0}
+AreApart l low (s ∷ ss) = (low ≤ s.page) × (s.page + 16 ≤ l.pages) × (length s.live ≡ l.objects) × AreApart l (s.page + 16) ss
+
+-- What is so between two calls: the superblocks are apart, each has a live object or is the active one, and one is active exactly where
+-- there is one. (In dsa.c, too, a superblock that is wholly free goes back at once, unless it is the active one.)
+pub record IsSettled (l : Layout) (s : PoolState) : Type 0 where
+  pub apart : AreApart l 0 s.spans
+  pub used : (p i : ℕ) → IsSome (object_in s p i) → (s.active ≡ Some p) ⊎ HasLive s p
+  pub active : (p : ℕ) → s.active ≡ Some p → IsSome (object_in s p 0)
+  pub some_active : (p i : ℕ) → IsSome (object_in s p i) → IsSome s.active
+
+-- a call: an object; a superblock that is added, by its first word; an object that comes back, by its first word and its bytes
+pub data PoolCall : Type 0 where
+  Alloc : PoolCall
+  Add : ℕ → PoolCall
+  Free : ℕ → ℕ → PoolCall
+
+-- a reply: the first word of an object; no object is free; the object is free now; the superblock that went back with it, by its first
+-- word; the object is handed back
+pub data PoolReply : Type 0 where
+  Object : ℕ → PoolReply
+  Full : PoolReply
+  Kept : PoolReply
+  Whole : ℕ → PoolReply
+  Stranger : PoolReply
+
+-- a free object becomes live, of the active superblock where that has one; its superblock is the active one then (`alloc_object` and
+-- `ensure_active_superblock` of dsa.c)
+pub record IsAlloc (l : Layout) (before : PoolState) (at : ℕ) (after : PoolState) : Type 0 where
+  pub page : ℕ
+  pub index : ℕ
+  pub at_is : at ≡ place l page index
+  pub was_free : object_in before page index ≡ Some false
+  pub is_live : object_in after page index ≡ Some true
+  pub same : SameBut before after page index
+  pub active : after.active ≡ Some page
+  pub first : (p i : ℕ) → before.active ≡ Some p → object_in before p i ≡ Some false → p ≡ page
+  pub settled : IsSettled l after
+
+-- no object is free (where `ensure_active_superblock` of dsa.c would ask for a new superblock)
+pub record IsFull (before after : PoolState) : Type 0 where
+  pub all_live : AllLive before
+  pub same : after ≡ before
+
+-- A superblock comes in that was not there; one of its objects is live. It is the active one exactly where no other superblock has a
+-- free object
+pub record IsAdd (l : Layout) (before : PoolState) (run at : ℕ) (after : PoolState) : Type 0 where
+  pub page : ℕ
+  pub index : ℕ
+  pub run_is : run ≡ base l page
+  pub at_is : at ≡ place l page index
+  pub new : (i : ℕ) → object_in before page i ≡ None
+  pub is_live : object_in after page index ≡ Some true
+  pub others_free : (i : ℕ) → i < l.objects → i ≢ index → object_in after page i ≡ Some false
+  pub same : SameBeside before after page
+  pub active : ((after.active ≡ Some page) × AllLive before) ⊎ ((after.active ≡ before.active) × (before.active ≢ Some page) × HasFree before)
+  pub settled : IsSettled l after
+
+-- a live object becomes free, and its superblock stays, since it has another live object or is the active one (`dsa_free` of dsa.c)
+pub record IsFreed (l : Layout) (before : PoolState) (at bytes : ℕ) (after : PoolState) : Type 0 where
+  pub page : ℕ
+  pub index : ℕ
+  pub at_is : at ≡ place l page index
+  pub bytes_is : bytes ≡ 8 * l.size
+  pub was_live : object_in before page index ≡ Some true
+  pub is_free : object_in after page index ≡ Some false
+  pub same : SameBut before after page index
+  pub active : after.active ≡ before.active
+  pub settled : IsSettled l after
+
+-- the last live object of a superblock that is not the active one becomes free, and the superblock goes out (`dsa_free` of dsa.c, which
+-- calls `destroy_superblock` there)
+pub record IsEmptied (l : Layout) (before : PoolState) (at bytes run : ℕ) (after : PoolState) : Type 0 where
+  pub page : ℕ
+  pub index : ℕ
+  pub at_is : at ≡ place l page index
+  pub bytes_is : bytes ≡ 8 * l.size
+  pub run_is : run ≡ base l page
+  pub was_live : object_in before page index ≡ Some true
+  pub last : (i : ℕ) → i ≢ index → object_in before page i ≢ Some true
+  pub not_active : before.active ≢ Some page
+  pub gone : (i : ℕ) → object_in after page i ≡ None
+  pub same : SameBeside before after page
+  pub active : after.active ≡ before.active
+  pub settled : IsSettled l after
+
+-- no superblock has an object at this place and of this size (dsa.c trusts its callers; the answer is ours)
+pub record IsStranger (l : Layout) (before : PoolState) (at bytes : ℕ) (after : PoolState) : Type 0 where
+  pub none : (p i : ℕ) → at ≡ place l p i → bytes ≡ 8 * l.size → object_in before p i ≡ None
+  pub same : after ≡ before
+
+-- what a call may reply, and what it does to the state. A reply of another call never comes
+abbrev pub IsLegal : Layout → PoolState → PoolCall → PoolReply → PoolState → Type 0
+IsLegal l before Alloc (Object at) after = IsAlloc l before at after
+IsLegal l before Alloc Full after = IsFull before after
+IsLegal l before (Add run) (Object at) after = IsAdd l before run at after
+IsLegal l before (Free at bytes) Kept after = IsFreed l before at bytes after
+IsLegal l before (Free at bytes) (Whole run) after = IsEmptied l before at bytes run after
+IsLegal l before (Free at bytes) Stranger after = IsStranger l before at bytes after
+IsLegal l before call reply after = ⊥

@@ -1,0 +1,6 @@
+pub mod Places
+pub mod Listed
+pub mod Shape
+pub mod Legal
+pub mod View
+pub mod Book

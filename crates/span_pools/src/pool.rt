@@ -1,0 +1,207 @@
+//! A pool: the superblocks of one size class, and the objects of them that are free.
+//!
+//! The pool owns the words of its class's bits, the control records of its superblocks, and of the superblocks' words those of no live
+//! object. Nobody else changes any of them. An object that goes out takes its words with it, and they are live until they come back: so
+//! which objects are live is read off the words that the pool owns, and its record and its list only say so again. What the parts own
+//! is `IsPool` of `specs/View.antt`; what the calls answer is `IsLegal` of `specs/Legal.antt`.
+ghost use Rattle.std.specs.Prelude.{◌≡◌, ◌≢◌, ℕ, ◌+◌, ◌*◌, ◌/◌, ◌<◌, ◌≤◌, ◌^◌, [], None, Some, IfSome, IfNone, IfOk, IfErr, MatchOption, true, IsSome, is_some};
+ghost use Rattle.word_map.specs.WordMap.{HasJust};
+ghost use Rattle.size_classes.specs.Classes.{IsClass};
+ghost use Rattle.free_pages.specs.Area.{front, mark_words, marks_at};
+ghost use Rattle.span_pools.specs.Places.{IsLayout};
+ghost use Rattle.span_pools.specs.Legal.{IsLegal, Alloc, Add, Free, Object, Full, Kept, Whole, Stranger};
+ghost use Rattle.span_pools.specs.Book.{book, layout_of, IsSuperblock};
+
+use crate::find::{free_page, holder};
+use crate::layout::{Layout, layout_for};
+use crate::marks::{clear_mark, clear_marks, set_mark};
+use crate::objects::{admit, put_object, release, room, take_object};
+use region_words::{Chunk, Part, Region, Run};
+use rel_pointer::RelPtr;
+use std::marker::Model;
+
+/// The superblocks of one size class. Contracts see the region, where the superblocks stand, the superblocks with their live objects,
+/// and which of them is active.
+#[derive(Drop)]
+pub struct Pool {
+    at: Layout,
+    active: Option<u64>,
+    marks: Part,
+    records: Part,
+    words: Part,
+}
+
+impl Model for Pool {
+    ghost use Rattle.span_pools.specs.View.{state_of, IsPool};
+    ghost use Rattle.span_pools.specs.Book.{Book, book_code, book};
+
+    ghost Value = { Book };
+
+    ghost coded = { book_code };
+
+    ghost view = { λ p. book p.marks.region p.at (state_of p.at p.active p.marks.words p.words.words) };
+
+    ghost invariant = { λ p. IsPool p.at p.active p.marks p.records p.words };
+}
+
+impl Pool {
+    /// The pool of a class, without a superblock. `marks` is the words of the class's bits in an area of this many pages whose page 0
+    /// begins at `first`, whatever they hold. Writes each of them once.
+    pub fn new(r: &Region, class: u8, first: RelPtr, pages: u32, marks: Part) -> Pool
+        requires here { marks.region ≡ r.now }
+        requires class { IsClass class }
+        requires place { (64 + front pages ≤ first) × (first + 512 * pages ≤ 2 ^ 26) }
+        requires marks { HasJust marks.words (marks_at first pages class) (mark_words pages) }
+        ensures { result ≡ book r.now (layout_of class first pages) (record { spans = []; active = None }) }
+    {
+        Pool::empty(r, layout_for(class, first.word(), u64::from(pages)), marks)
+    }
+
+    fn empty(r: &Region, at: Layout, mut marks: Part) -> Pool
+        requires here { marks.region ≡ r.now }
+        requires layout { IsLayout at }
+        requires bits { HasJust marks.words at.marks ((at.pages + 63) / 64) }
+        ensures { result ≡ book r.now at (record { spans = []; active = None }) }
+    {
+        let records = marks.split(r, 0, 0);
+        let words = marks.split(r, 0, 0);
+        clear_marks(&mut marks, r, at);
+        Pool {
+            at,
+            active: None,
+            marks,
+            records,
+            words,
+        }
+    }
+
+    /// A free object, which is live then: of the active superblock, where that has one. Costs the same for every state while the active
+    /// superblock has a free object; else it goes over the class's bits, a word at a time.
+    pub fn alloc(&mut self, r: &Region) -> Option<Chunk>
+        requires here { self.old.region ≡ r.now }
+        ensures same { self.new ≡ record self.old { state = self.new.state } }
+        ensures given { IfSome result (λ chunk. IsLegal self.old.layout self.old.state Alloc (Object chunk.at) self.new.state) }
+        ensures chunk { IfSome result (λ chunk. (chunk.bytes ≡ 8 * self.old.layout.size) × (chunk.part.region ≡ self.old.region)) }
+        ensures full { IfNone result (IsLegal self.old.layout self.old.state Alloc Full self.new.state) }
+    {
+        let page = free_page(self.active, &mut self.marks, &mut self.records, r, self.at)?;
+        let (place, part) = take_object(&mut self.words, &mut self.records, r, self.at, page);
+        self.active = Some(page);
+        Some(Chunk {
+            at: RelPtr::of(place),
+            bytes: 8 * self.at.size,
+            part,
+        })
+    }
+
+    /// Takes in a superblock, which the pool owns from now on, and gives an object of it. Costs as `alloc`.
+    pub fn add(&mut self, r: &Region, run: Run) -> Chunk
+        requires here { self.old.region ≡ r.now }
+        requires run { IsSuperblock self.old.region self.old.layout run.at run.pages run.words run.control }
+        ensures same { self.new ≡ record self.old { state = self.new.state } }
+        ensures added { IsLegal self.old.layout self.old.state (Add run.at) (Object result.at) self.new.state }
+        ensures chunk { (result.bytes ≡ 8 * self.old.layout.size) × (result.part.region ≡ self.old.region) }
+    {
+        let page = (run.at.word() - self.at.first) / 512;
+        let free = free_page(self.active, &mut self.marks, &mut self.records, r, self.at);
+        let Run {
+            at,
+            pages: _,
+            words,
+            control,
+        } = run;
+        let Some(control) = control else {
+            unreachable!()
+        };
+        set_mark(&mut self.marks, r, self.at, page);
+        let part = admit(
+            &mut self.words,
+            &mut self.records,
+            r,
+            self.at,
+            page,
+            words,
+            control,
+        );
+        self.active = next_active(self.active, free, page);
+        Chunk {
+            at,
+            bytes: 8 * self.at.size,
+            part,
+        }
+    }
+
+    /// Takes an object back. Where it was the last live one of a superblock that is not the active one, gives the superblock back. Hands
+    /// the object back where no superblock has an object at this place and of this size. Looks at 16 bits.
+    pub fn free(&mut self, r: &Region, object: Chunk) -> Result<Option<Run>, Chunk>
+        requires here { (self.old.region ≡ r.now) × (object.part.region ≡ r.now) }
+        ensures same { self.new ≡ record self.old { state = self.new.state } }
+        ensures freed { IfOk result (λ out. MatchOption out (IsLegal self.old.layout self.old.state (Free object.at object.bytes) Kept self.new.state) (λ run. IsLegal self.old.layout self.old.state (Free object.at object.bytes) (Whole run.at) self.new.state)) }
+        ensures run { IfOk result (λ out. IfSome out (λ run. IsSuperblock self.old.region self.old.layout run.at run.pages run.words run.control)) }
+        ensures refused { IfErr result (λ back. IsLegal self.old.layout self.old.state (Free object.at object.bytes) Stranger self.new.state) }
+        ensures back { IfErr result (λ back. back ≡ object) }
+    {
+        if object.bytes != 8 * self.at.size {
+            return Err(object);
+        }
+        let place = object.at.word();
+        let Some(page) = holder(&mut self.marks, r, self.at, place) else {
+            return Err(object);
+        };
+        let Chunk {
+            at: _,
+            bytes: _,
+            part,
+        } = object;
+        let free = room(&mut self.records, r, self.at, page);
+        if free + 1 == self.at.objects && !is_page(self.active, page) {
+            clear_mark(&mut self.marks, r, self.at, page);
+            let (words, control) = release(
+                &mut self.words,
+                &mut self.records,
+                r,
+                self.at,
+                page,
+                part,
+            );
+            return Ok(Some(Run {
+                at: RelPtr::of(self.at.first + 512 * page),
+                pages: 16,
+                words,
+                control: Some(control),
+            }));
+        }
+        put_object(
+            &mut self.words,
+            &mut self.records,
+            r,
+            self.at,
+            page,
+            place,
+            part,
+        );
+        Ok(None)
+    }
+}
+
+/// Whether this page is the active superblock's.
+fn is_page(active: Option<u64>, page: u64) -> bool
+    ensures yes { result ≡ true → active ≡ Some page }
+    ensures no { active ≡ Some page → result ≡ true }
+{
+    match active {
+        Some(other) => other == page,
+        None => false,
+    }
+}
+
+/// The active superblock's page, when a new superblock came in at a page and another has a free object, or none.
+fn next_active(active: Option<u64>, free: Option<u64>, page: u64) -> Option<u64>
+    ensures none { free ≡ None → result ≡ Some page }
+    ensures some { (other : ℕ) → free ≡ Some other → result ≡ active }
+{
+    match free {
+        Some(_) => active,
+        None => Some(page),
+    }
+}
