@@ -1,6 +1,6 @@
 -- Groups that have a text: each has a key of its own, and counts and sums as rows give them.
-use Rattle.std.specs.Prelude.{◌≡◌, ◌≢◌, ◌≤◌, ◌*◌, ◌^◌, ℕ, List, All, length, unsigned_abs}
-use Rattle.std.specs.List.{AllPairs}
+use Rattle.std.specs.Prelude.{◌≡◌, ◌≤◌, ◌*◌, ◌^◌, ℕ, List, All, bytes_eq, length, map, unsigned_abs}
+use Rattle.std.specs.List.{IsDistinct}
 use Rattle.par_model.specs.Key.{encoded}
 use Rattle.par_model.specs.Named.{NamedPlan, bound_plan}
 use Rattle.par_model.specs.Plan.{Plan}
@@ -25,6 +25,6 @@ pub record IsSmallSlot (slot : SlotState) : Type 0 where
 
 -- no two groups have one key, each key is the encoding of as many columns as the plan groups by, and the slots are small
 pub record ArePrintable (plan : Plan) (groups : List Group) : Type 0 where
-  pub different : AllPairs (λ a b. a.key ≢ b.key) groups
+  pub different : IsDistinct bytes_eq (map (λ group. group.key) groups)
   pub keys : All (λ group. IsKeyOf (length plan.groups) group.key) groups
   pub slots : All (λ group. All IsSmallSlot group.state.slots) groups

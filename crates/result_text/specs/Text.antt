@@ -21,16 +21,16 @@ group_of_line line = record { key = encoded line.0; state = line.1 }
 abbrev pub line_record : Plan → Line → List (List ℕ)
 line_record plan line = line.0 ++ values_text plan line.1
 
--- the groups that a table shows: all of them, or the one of no rows where nothing is grouped by and there is none
-abbrev pub shown : Plan → List Group → List Group
-shown plan groups = if (length plan.groups == 0) && (length groups == 0) then record { key = []; state = empty_state } ∷ [] else groups
+-- the lines that are shown: all of them, or that of no rows where nothing is grouped by and there is no group
+abbrev pub shown : Plan → List Line → List Line
+shown plan lines = if (length plan.groups == 0) && (length lines == 0) then ([], empty_state) ∷ [] else lines
 
--- a table has the header, and a line for each group that is shown, in rising order of their columns
+-- a table has the header, and a line for each group, in rising order of the groups' columns
 pub record IsGroupsTable (names : NamedPlan) (plan : Plan) (groups : List Group) (table : List (List (List ℕ))) : Type 0 where
   pub lines : List Line
   pub rising : IsStrictlySortedBy columns_cmp (map (λ line. line.0) lines)
-  pub same : IsPermutation (shown plan groups) (map group_of_line lines)
-  pub is : table ≡ table_header names ∷ map (line_record plan) lines
+  pub same : IsPermutation groups (map group_of_line lines)
+  pub is : table ≡ table_header names ∷ map (line_record plan) (shown plan lines)
 
 -- a text is that of the table of some groups
 pub record IsTextOf (names : NamedPlan) (plan : Plan) (groups : List Group) (text : List ℕ) : Type 0 where

@@ -2,6 +2,7 @@
 //! numbers of 64 bits leave room for the four decimals and one bit more.
 
 ghost use Rattle.std.specs.Prelude.{◌≡◌, ◌<◌, ◌≤◌, ◌+◌, ◌*◌, ◌%◌, ◌^◌, ◌++◌, OnOk, unsigned_abs};
+ghost use Rattle.std.specs.Fmt.{sign_text};
 ghost use Rattle.par_model.specs.Decimal as decimal;
 
 use std::alloc::AllocError;
@@ -14,12 +15,21 @@ pub(crate) fn push_average(text: &mut Vec<u8>, sum: i128, count: u64) -> Result<
     ensures { OnOk result (text.new.items ≡ text.old.items ++ decimal.average_text sum count) }
 {
     let n = ten_thousandths(sum.unsigned_abs(), count);
-    if sum < 0 && n != 0 {
-        text.push(b'-')?;
-    }
+    push_sign(text, sum.is_negative() && n != 0)?;
     text.extend_from_slice(itoa::Buffer::new().format(n / 10_000).as_bytes())?;
     text.push(b'.')?;
-    text.extend_from_slice(&four_digits((n % 10_000) as u16))
+    text.extend_from_slice(&four_digits((n % 10_000) as u16))?;
+    Ok(())
+}
+
+// A minus, where there is one.
+fn push_sign(text: &mut Vec<u8>, minus: bool) -> Result<(), AllocError>
+    ensures { OnOk result (text.new.items ≡ text.old.items ++ sign_text minus) }
+{
+    if minus {
+        text.push(b'-')?;
+    }
+    Ok(())
 }
 
 // The quotient in ten-thousandths, rounded half up.

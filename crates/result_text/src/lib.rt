@@ -1,7 +1,7 @@
 //! The text of the table that answers a query: the header, and a line for each group.
 //!
 //! The groups come in the order of their encoded keys, in which a short column stands before a long one. The table is in
-//! the order of the columns themselves, so a list of places is sorted, column by column. Each line is put together in one
+//! the order of the columns themselves, so a list of references is sorted, column by column. Each line is put together in one
 //! record, whose memory serves for all lines, and the crate `csv` writes it and decides all quotes.
 #![tactic(auto)]
 
@@ -14,14 +14,14 @@ ghost use Rattle.result_text.specs.Printable.{ArePrintable, IsBoundFrom};
 ghost use Rattle.result_text.specs.Text.{IsTextOf};
 
 mod decimal;
-mod line;
 mod order;
+mod table;
 mod values;
 
-use crate::line::Lines;
 use crate::order::in_order;
+use crate::table::TableWriter;
 use par_model::BoundPlan;
-use partial_agg::{Groups, empty};
+use partial_agg::Groups;
 use plan_spec::Plan;
 use std::alloc::{AllocError, Global};
 
@@ -42,15 +42,11 @@ pub fn text_of(
     ensures answer { IfOk result (λ text. (header : List (List ℕ)) (rows : List (List (List ℕ))) (m : GroupsByKey)
         → bound.now ≡ bound_plan header plan.now.plan → AreGroups bound.now rows m → groups.now ≡ listed m → IsAnswer plan.now.plan (header ∷ rows) text.items) }
 {
-    let mut lines = Lines::new(alloc);
-    lines.write_header(plan, bound)?;
-    if bound.group_count == 0 && groups.len() == 0 {
-        lines.write_group(bound, &[], &empty())?;
-    }
-    for group in &in_order(alloc, groups, bound.group_count)? {
-        lines.write_group(bound, group.key, group.state)?;
-    }
-    lines.into_text()
+    let groups = in_order(alloc, groups, bound.group_count)?;
+    let mut table = TableWriter::new(alloc);
+    table.write_header(plan, bound)?;
+    table.write_groups(bound, &groups)?;
+    table.into_text()
 }
 
 #[cfg(test)]

@@ -16,7 +16,7 @@ use std::cmp::Ordering;
 
 /// A group where it lies: its encoded key and its aggregates.
 #[derive(Clone, Copy)]
-pub(crate) struct Line<'a> {
+pub(crate) struct GroupRef<'a> {
     pub(crate) key: &'a [u8],
     pub(crate) state: &'a AggState,
 }
@@ -26,29 +26,29 @@ pub(crate) fn in_order<'a>(
     alloc: Global,
     groups: &'a Groups,
     columns: u32,
-) -> Result<Vec<Line<'a>>, AllocError>
-    ensures same { IfOk result (λ lines. IsPermutation groups.now (map group_of lines.items)) }
+) -> Result<Vec<GroupRef<'a>>, AllocError>
+    ensures same { IfOk result (λ refs. IsPermutation groups.now (map group_of refs.items)) }
     ensures short { OnOk result (All (λ group. length group.key ≤ 248) groups.now) }
-    ensures sorted { IfOk result (λ lines. IsSortedBy (is_before columns) lines.items) }
+    ensures sorted { IfOk result (λ refs. IsSortedBy (is_before columns) refs.items) }
 {
-    let mut lines = as_they_are(alloc, groups)?;
-    lines.sort_unstable_by(|a, b| compare(a.key, b.key, columns));
-    Ok(lines)
+    let mut refs = as_they_are(alloc, groups)?;
+    refs.sort_unstable_by(|a, b| compare(a.key, b.key, columns));
+    Ok(refs)
 }
 
 // The groups as they are listed.
-fn as_they_are<'a>(alloc: Global, groups: &'a Groups) -> Result<Vec<Line<'a>>, AllocError>
-    ensures same { IfOk result (λ lines. map group_of lines.items ≡ groups.now) }
+fn as_they_are<'a>(alloc: Global, groups: &'a Groups) -> Result<Vec<GroupRef<'a>>, AllocError>
+    ensures same { IfOk result (λ refs. map group_of refs.items ≡ groups.now) }
     ensures short { OnOk result (All (λ group. length group.key ≤ 248) groups.now) }
 {
-    let mut lines = Vec::with_capacity(alloc, groups.len())?;
+    let mut refs = Vec::with_capacity(alloc, groups.len())?;
     for at in 0..groups.len() {
         let group = groups.get(at);
         let key = group.key.bytes();
         let state = &group.state;
-        lines.push(Line { key, state })?;
+        refs.push(GroupRef { key, state })?;
     }
-    Ok(lines)
+    Ok(refs)
 }
 
 // How two keys compare by so many columns.

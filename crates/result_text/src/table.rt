@@ -2,35 +2,39 @@
 //!
 //! Between two lines the writer has no field of a record (`IsBetween`). After an error the lines are only dropped.
 
-ghost use Rattle.std.specs.Prelude.{◌≡◌, ◌++◌, [], All, IfOk, OnOk, length};
+ghost use Rattle.std.specs.Prelude.{◌≡◌, ◌++◌, [], All, IfOk, OnOk, length, map};
 ghost use Rattle.csv.specs.Records.{fields_of};
 ghost use Rattle.csv.specs.Writing.{default_writer, row_text};
-ghost use Rattle.par_model.specs.Table.{table_header, values_text};
+ghost use Rattle.par_model.specs.Table.{table_header, table_text, values_text};
 ghost use Rattle.result_text.specs.Keys.{columns_in};
 ghost use Rattle.result_text.specs.Printable.{IsBoundFrom, IsSmallSlot};
+ghost use Rattle.result_text.specs.Order.{line_of};
+ghost use Rattle.result_text.specs.Text.{line_record, shown};
 ghost use Rattle.result_text.specs.Written.{IsBetween, written};
 
+use crate::order::GroupRef;
 use crate::values::{push_columns, push_header, push_values};
 use csv::{ByteRecord, Writer, WriterBuilder};
 use par_model::{AggState, BoundPlan};
+use partial_agg::empty;
 use plan_spec::Plan;
 use std::alloc::{AllocError, Global};
 
-/// The lines so far. The record and the text of an average are filled anew for each line, in the same memory.
+/// A table as far as it is written. The record and the text of an average are filled anew for each line, in the same memory.
 #[derive(Drop)]
-pub(crate) struct Lines {
+pub(crate) struct TableWriter {
     writer: Writer<Vec<u8>>,
     row: ByteRecord,
     average: Vec<u8>,
 }
 
-impl Lines {
-    /// No lines.
-    pub(crate) fn new(alloc: Global) -> Lines
+impl TableWriter {
+    /// No lines yet.
+    pub(crate) fn new(alloc: Global) -> TableWriter
         ensures empty { written result.writer ≡ [] }
         ensures between { IsBetween result.writer }
     {
-        Lines {
+        TableWriter {
             writer: WriterBuilder::new().from_writer(Vec::new(alloc)),
             row: ByteRecord::new(alloc),
             average: Vec::new(alloc),
@@ -45,12 +49,40 @@ impl Lines {
         ensures between { OnOk result (IsBetween self.new.writer) }
     {
         self.row.clear();
-        push_header(&mut self.row, plan, bound.group_count, bound.item_count)?;
+        push_header(&mut self.row, plan, bound)?;
         self.write_record()
     }
 
-    /// The line of a group with this key.
-    pub(crate) fn write_group(
+    /// The lines of the groups, or that of no rows where nothing is grouped by and there is no group.
+    pub(crate) fn write_groups(
+        &mut self,
+        bound: &BoundPlan,
+        groups: &[GroupRef<'_>],
+    ) -> Result<(), AllocError>
+        requires between { IsBetween self.old.writer }
+        requires small { All (λ group. All IsSmallSlot group.state.now.slots) groups.now }
+        ensures text { OnOk result (written self.new.writer ≡ written self.old.writer ++ table_text (map (line_record bound.now) (shown bound.now (map (line_of (length bound.now.groups)) groups.now)))) }
+    {
+        if bound.group_count == 0 && groups.is_empty() {
+            return self.write_group(bound, &[], &empty());
+        }
+        self.write_each(bound, groups)
+    }
+
+    // A line for each group.
+    fn write_each(&mut self, bound: &BoundPlan, groups: &[GroupRef<'_>]) -> Result<(), AllocError>
+        requires between { IsBetween self.old.writer }
+        requires small { All (λ group. All IsSmallSlot group.state.now.slots) groups.now }
+        ensures text { OnOk result (written self.new.writer ≡ written self.old.writer ++ table_text (map (line_record bound.now) (map (line_of (length bound.now.groups)) groups.now))) }
+    {
+        for group in groups {
+            self.write_group(bound, group.key, group.state)?;
+        }
+        Ok(())
+    }
+
+    // The line of a group with this key.
+    fn write_group(
         &mut self,
         bound: &BoundPlan,
         key: &[u8],
