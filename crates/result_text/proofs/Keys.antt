@@ -28,6 +28,10 @@ length-encoded_cons column columns =
     ap (length {A = ℕ}) (encoded-cons column columns) ∙ length-append (to_le_bytes w32 (length column)) (column ++ encoded columns)
     ∙ ap (λ (n : ℕ). 4 + n) (length-append column (encoded columns))
 
+length-encoded_nil : length (encoded []) ≡ 0
+unfolding encoded
+length-encoded_nil = refl
+
 -- the columns that were encoded are read
 pub columns_in-encoded : (columns : List (List ℕ)) → length (encoded columns) ≤ 248 → columns_in (length columns) (encoded columns) ≡ columns
 columns_in-encoded [] short = refl
@@ -44,3 +48,16 @@ pub encoded-columns_in : (count : ℕ) (key : List ℕ) → IsKeyOf count key �
 encoded-columns_in count key is short =
     let read = columns_in-encoded is.columns (subst (λ (k : List ℕ). length k ≤ 248) is.is short) in
     ap (λ (n : ℕ). encoded (columns_in n key)) (sym is.many) ∙ ap (λ (k : List ℕ). encoded (columns_in (length is.columns) k)) is.is ∙ ap encoded read ∙ sym is.is
+
+-- no two lists of columns have one encoding
+pub same_encoding : (xs ys : List (List ℕ)) → length (encoded xs) ≤ 248 → encoded xs ≡ encoded ys → xs ≡ ys
+same_encoding [] [] short is = refl
+same_encoding [] (y ∷ ys) short is = absurd (omega (arith, ap (length {A = ℕ}) is, length-encoded_nil, length-encoded_cons y ys))
+same_encoding (x ∷ xs) [] short is = absurd (omega (arith, ap (length {A = ℕ}) is, length-encoded_nil, length-encoded_cons x xs))
+same_encoding (x ∷ xs) (y ∷ ys) short is =
+    let long = length-encoded_cons x xs in
+    let long_y = length-encoded_cons y ys in
+    let both = ap (length {A = ℕ}) is in
+    let first = sym (ap first_column (encoded-cons x xs) ∙ first_is x (encoded xs) (omega arith)) ∙ ap first_column is ∙ ap first_column (encoded-cons y ys) ∙ first_is y (encoded ys) (omega arith) in
+    let after = sym (ap after_first_column (encoded-cons x xs) ∙ after_is x (encoded xs) (omega arith)) ∙ ap after_first_column is ∙ ap after_first_column (encoded-cons y ys) ∙ after_is y (encoded ys) (omega arith) in
+    λ i. first i ∷ same_encoding xs ys (omega arith) after i
