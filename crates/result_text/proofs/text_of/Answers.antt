@@ -1,4 +1,4 @@
-use Rattle.std.proofs.Common.{◌≡◌, ◌++◌, ap, sym, subst, arith, All, ℕ, List, length, length-take, map, take}
+use Rattle.std.proofs.Common.{◌≡◌, ◌≤◌, ◌++◌, ap, sym, subst, arith, All, ℕ, List, length, length-take, map, take}
 use Rattle.std.proofs.lemmas.Result.{IfOk-weaker}
 use Rattle.std.specs.List.Sorted.{IsSortedBy}
 use Rattle.par_model.specs.Plan.{Plan}
@@ -9,6 +9,7 @@ use Rattle.result_text.specs.Printable.{IsSmallSlot}
 use Rattle.result_text.specs.Text.{line_record, shown}
 use Rattle.result_text.specs.Written.{written}
 use Rattle.result_text.specs.declared.order.GroupRef.{GroupRef}
+use Rattle.result_text.proofs.Answering.{answers}
 use Rattle.result_text.proofs.Sorting.{all_refs}
 use Rattle.result_text.proofs.Whole.{written_text}
 use Rattle.result_text.proofs.text_of.Goals as goal
@@ -30,4 +31,8 @@ returns-clause-text c =
         c.new-table.ensures.empty c.in_ok-write_header.ensures.text wrote is) c.into_text.ensures
 
 pub returns-clause-answer : goal.returns-clause-answer
-returns-clause-answer c = ?
+returns-clause-answer c =
+    let plan = c.args.bound.now in
+    let view : length plan.items ≡ length (take c.bound.inside.item_count c.bound.inside.items) = ap (λ (p : Plan). length p.items) (sym c.bound.view_is) in
+    let few : length plan.items ≤ 8 = omega (arith, view, length-take c.bound.inside.item_count c.bound.inside.items, c.bound.invariant.items_fit) in
+    IfOk-weaker c.into_text.result _ _ (λ text is header rows m bound are listed. answers c.args.plan.now.plan plan c.args.groups.now text.items header rows m is c.in_ok-groups.ensures.short few bound are listed) (returns-clause-text c)
