@@ -1,5 +1,5 @@
 -- The text of the groups of some rows answers the plan over these rows.
-use Rattle.std.proofs.Common.{◌≡◌, ◌<◌, ◌≤◌, ◌==◌, ◌&&◌, ◌++◌, ◌∷◌, ◌∙◌, [], ap, sym, refl, subst, arith, Bool, true, false, if◌then◌else◌, ◌↔◌, ℕ, zero, suc, List, All, Contains, Option, Some, bytes_eq, filter, length, get_or, map}
+use Rattle.std.proofs.Common.{◌≡◌, ◌<◌, ◌≤◌, ◌==◌, ◌++◌, ◌∷◌, ◌∙◌, [], ap, sym, refl, subst, arith, Bool, true, false, ℕ, zero, suc, List, All, Contains, Some, bytes_eq, filter, length, get_or, map}
 use Rattle.std.proofs.Math.Dec.{eqb-suc-zero}
 use Rattle.std.proofs.lemmas.Bool.{eqb-true}
 use Rattle.std.proofs.lemmas.List.{get_or-map, length-map}
@@ -14,14 +14,13 @@ use Rattle.par_model.specs.Named.{NamedPlan, bound_plan}
 use Rattle.par_model.specs.Outcome.{IsAnswer}
 use Rattle.par_model.specs.Plan.{Plan}
 use Rattle.par_model.specs.Record.{field_of}
-use Rattle.par_model.specs.Table.{IsDistinctSorted, IsTable, columns_cmp, group_record, occurring, table_header, table_text, values_text}
-use Rattle.par_model.specs.declared.state.AggState.{AggState}
+use Rattle.par_model.specs.Table.{IsDistinctSorted, IsTable, columns_cmp, group_record, occurring, table_header, values_text}
 use Rattle.partial_agg.specs.Groups.{AreGroups, GroupsByKey, group_of}
 use Rattle.partial_agg.specs.Listed.{group, listed}
 use Rattle.partial_agg.specs.State.{empty_state}
 use Rattle.partial_agg.specs.declared.groups.Group.{Group}
 use Rattle.partial_agg.proofs.Ideal.{state_of_none}
-use Rattle.result_text.specs.Text.{IsGroupsTable, IsTextOf, Line, group_of_line, line_record, shown}
+use Rattle.result_text.specs.Text.{IsTextOf, Line, group_of_line, line_record, shown}
 use Rattle.result_text.proofs.Entries.{Contains-found, behind}
 use Rattle.result_text.proofs.Keys.{same_encoding}
 use Rattle.result_text.proofs.Occurring.{occurs, row_occurs, some_both, state_is}
@@ -98,13 +97,15 @@ grouped : (plan : Plan) (rows : Rows) (m : GroupsByKey) (lines : List Line) → 
 grouped plan rows m lines some rising are same all = rw some (record {
   each = rw some (record {
     rising = rising;
-    same = λ columns. (λ has.
-        let line = Contains-from_map (λ (line : Line). line.0) lines columns has in
-        let row = row_of_line plan rows line.0 (All-contains (IsLineOf plan rows) lines line.0 all line.1) in
-        subst (Contains (map (columns_of plan) (filter (is_kept plan) rows))) (row.2 ∙ line.2) (Contains-map (columns_of plan) (filter (is_kept plan) rows) row.0 row.1)
-      , λ has.
-        let row = Contains-from_map (columns_of plan) (filter (is_kept plan) rows) columns has in
-        subst (Contains (map (λ (line : Line). line.0) lines)) row.2 (line_of_row plan rows m lines row.0 are same all row.1));
+    same = λ columns. (
+      λ has.
+          let line = Contains-from_map (λ (line : Line). line.0) lines columns has in
+          let row = row_of_line plan rows line.0 (All-contains (IsLineOf plan rows) lines line.0 all line.1) in
+          subst (Contains (map (columns_of plan) (filter (is_kept plan) rows))) (row.2 ∙ line.2) (Contains-map (columns_of plan) (filter (is_kept plan) rows) row.0 row.1),
+      λ has.
+          let row = Contains-from_map (columns_of plan) (filter (is_kept plan) rows) columns has in
+          subst (Contains (map (λ (line : Line). line.0) lines)) row.2 (line_of_row plan rows m lines row.0 are same all row.1),
+    );
   });
   states = states_are plan rows lines all;
 })
@@ -126,9 +127,9 @@ ungrouped_none : (plan : Plan) (rows : Rows) (m : GroupsByKey) → (length plan.
 unfolding IsStrictlySortedBy
 ungrouped_none plan rows m none few are same =
     let empty : rows_of plan rows (encoded []) ≡ [] = no_elements (rows_of plan rows (encoded [])) (λ some.
-        let row = some_both (is_kept plan) (λ (row : List (List ℕ)). bytes_eq (key_of plan row) (encoded [])) rows some in
-        let has = line_of_row plan rows m [] row.0 are same (λ k d lt. absurd (omega arith)) row.1 in
-        omega (arith, has.1)) in
+    let row = some_both (is_kept plan) (λ (row : List (List ℕ)). bytes_eq (key_of plan row) (encoded [])) rows some in
+    let has = line_of_row plan rows m [] row.0 are same (λ k d lt. absurd (omega arith)) row.1 in
+    omega (arith, has.1)) in
     let state : empty_state ≡ state_of plan rows (encoded []) = sym (ap (state_of_rows plan) empty ∙ state_of_none plan few) in
     rw none (record {
       each = rw none (record { rising = (tt, tt); same = λ columns. (λ has. has, λ has. has) });
@@ -144,10 +145,12 @@ ungrouped_some plan rows line lines none rising all =
     rw (none, eqb-suc-zero (length lines)) (record {
       each = rw none (record {
         rising = rising;
-        same = λ columns. (λ has.
-            let l = Contains-from_map (λ (line : Line). line.0) (line ∷ lines) columns has in
-            (0, omega arith, sym (bare l.0 (All-contains (IsLineOf plan rows) (line ∷ lines) l.0 all l.1)) ∙ l.2)
-          , λ has. (0, omega arith, first ∙ only columns has));
+        same = λ columns. (
+          λ has.
+              let l = Contains-from_map (λ (line : Line). line.0) (line ∷ lines) columns has in
+              (0, omega arith, sym (bare l.0 (All-contains (IsLineOf plan rows) (line ∷ lines) l.0 all l.1)) ∙ l.2),
+          λ has. (0, omega arith, first ∙ only columns has),
+        );
       });
       states = states_are plan rows (line ∷ lines) all;
     })

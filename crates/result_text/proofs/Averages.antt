@@ -1,5 +1,5 @@
 -- The text of an average in the pieces that are written.
-use Rattle.std.proofs.Common.{◌≡◌, ◌*◌, ◌/◌, ◌%◌, ◌==◌, ◌&&◌, ◌++◌, ◌∷◌, [], ◌∙◌, ap, refl, sym, append_assoc, Bool, not, ℕ, ℤ, List, decimal, unsigned_abs}
+use Rattle.std.proofs.Common.{◌≡◌, ◌*◌, ◌/◌, ◌%◌, ◌==◌, ◌&&◌, ◌++◌, ◌∷◌, [], append_assoc, Bool, not, ℕ, ℤ, List, decimal, unsigned_abs}
 use Rattle.std.specs.Fmt.{sign_text}
 use Rattle.std.specs.Int.{is_negative}
 use Rattle.par_model.specs.Decimal.{average_text, four_digits, rounded}

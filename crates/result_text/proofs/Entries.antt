@@ -1,6 +1,5 @@
 -- The entries of a map and what the map has at a key.
-use Rattle.std.proofs.Common.{◌≡◌, ◌<◌, ◌+◌, ◌∷◌, ◌∙◌, [], ap, sym, refl, subst, cond, arith, Bool, true, false, ◌&&◌, T, ℕ, zero, suc, List, All, Contains, Option, Some, None, bytes_eq, length, get_or, map as map_list}
-use Rattle.std.proofs.lemmas.List.Elements.{All-from_recursion}
+use Rattle.std.proofs.Common.{◌≡◌, ◌<◌, ◌∷◌, ◌∙◌, [], ap, sym, refl, subst, cond, arith, Bool, true, false, ◌&&◌, T, ℕ, zero, suc, List, All, Contains, Some, bytes_eq, length, get_or, map as map_list}
 use Rattle.std.proofs.lemmas.Map.Text.{is_eq-slice_cmp}
 use Rattle.std.proofs.lemmas.Slice.Eq.{bytes_eq-Decides}
 use Rattle.std.specs.Cmp.Lexicographic.{nat_list_cmp_total}

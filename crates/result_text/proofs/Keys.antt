@@ -2,8 +2,8 @@
 use Rattle.std.proofs.Common.{◌≡◌, ◌<◌, ◌≤◌, ◌+◌, ◌^◌, ◌++◌, ◌∷◌, ◌∙◌, [], ap, sym, refl, subst, arith, length, ℕ, List, take, drop, append_assoc, length-append}
 use Rattle.std.proofs.Math.Seq.{drop-append_seam, take-append_seam}
 use Rattle.std.proofs.lemmas.Nat.{from_le_bytes-to_le_bytes_4}
-use Rattle.std.specs.Int.{from_le_bytes, to_le_bytes, w32}
-use Rattle.par_model.specs.Key.{encoded, encoded_field}
+use Rattle.std.specs.Int.{to_le_bytes, w32}
+use Rattle.par_model.specs.Key.{encoded}
 use Rattle.result_text.specs.Keys.{after_first_column, columns_in, first_column, first_size}
 use Rattle.result_text.specs.Printable.{IsKeyOf}
 

@@ -1,10 +1,10 @@
 -- The keys that occur in some rows.
-use Rattle.std.proofs.Common.{◌≡◌, ◌<◌, ◌≤◌, ◌==◌, ◌∷◌, ◌∙◌, [], ap, sym, refl, subst, cond, arith, Bool, true, false, ◌&&◌, if◌then◌else◌, ℕ, zero, suc, List, Contains, Option, Some, None, bytes_eq, filter, length, get_or, map}
+use Rattle.std.proofs.Common.{◌≡◌, ◌<◌, ◌==◌, ◌∷◌, ◌∙◌, [], ap, refl, cond, arith, Bool, true, false, ◌&&◌, if◌then◌else◌, ℕ, zero, suc, List, Contains, Some, None, bytes_eq, filter, length, get_or}
 use Rattle.std.proofs.Math.Dec.{eqb-suc-zero}
 use Rattle.std.proofs.lemmas.Slice.Eq.{bytes_eq-Decides}
 use Rattle.par_model.specs.Aggregate.{rows_of, state_of}
 use Rattle.par_model.specs.Keep.{is_kept}
-use Rattle.par_model.specs.Key.{columns_of, key_of}
+use Rattle.par_model.specs.Key.{key_of}
 use Rattle.par_model.specs.Plan.{Plan}
 use Rattle.par_model.specs.declared.state.AggState.{AggState}
 use Rattle.partial_agg.specs.Groups.{group_of}

@@ -1,5 +1,5 @@
 -- The slots of at most 2^32 rows are small.
-use Rattle.std.proofs.Common.{◌≡◌, ◌≤◌, ◌+◌, ◌-◌, ◌*◌, ◌^◌, ◌++◌, ◌∷◌, [], ◌≤ℤ◌, ◌+ℤ◌, neg_ℤ, ap, sym, refl, subst, arith, Bool, true, false, ◌&&◌, if◌then◌else◌, ℕ, zero, suc, ℤ, pos, negsuc, List, All, Option, Some, None, get_or, length, map, replicate, unsigned_abs}
+use Rattle.std.proofs.Common.{◌≡◌, ◌≤◌, ◌-◌, ◌*◌, ◌^◌, ◌∷◌, [], ◌≤ℤ◌, neg_ℤ, refl, subst, arith, Bool, true, false, ◌&&◌, if◌then◌else◌, ℕ, suc, ℤ, pos, negsuc, List, All, Option, Some, None, get_or, length, map, replicate, unsigned_abs}
 use Rattle.std.proofs.lemmas.Int.{ints}
 use Rattle.std.proofs.lemmas.List.Elements.{All-append, All-map, All-replicate}
 use Rattle.std.specs.List.{filter_map}
@@ -8,10 +8,8 @@ use Rattle.par_model.specs.Aggregate.{no_values, number_slot, slot_by, slot_of, 
 use Rattle.par_model.specs.Integer.{fits_64_bits, integer_of, is_numeral, number_of, without_spaces}
 use Rattle.par_model.specs.Plan.{Plan}
 use Rattle.par_model.specs.Record.{field_of, is_null}
-use Rattle.par_model.specs.declared.plan.Item.{Item}
 use Rattle.par_model.specs.declared.plan.ItemKind.{ItemKind}
 use Rattle.par_model.specs.declared.plan.ItemKind.TheVariants as kind
-use Rattle.par_model.specs.declared.state.SlotState.{SlotState}
 use Rattle.partial_agg.proofs.Ideal.{total-cons}
 use Rattle.result_text.specs.Printable.{IsSmallSlot}
 

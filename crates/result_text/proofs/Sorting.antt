@@ -1,5 +1,5 @@
 -- Groups that are sorted by their columns are the lines of a table.
-use Rattle.std.proofs.Common.{◌≡◌, ◌<◌, ◌≤◌, ◌+◌, ◌∷◌, ◌∙◌, [], ap, sym, refl, subst, arith, Bool, true, false, bytes_eq, length, ℕ, List, All, get_or, map}
+use Rattle.std.proofs.Common.{◌≡◌, ◌<◌, ◌≤◌, ◌+◌, ◌∷◌, ◌∙◌, [], ap, sym, refl, subst, arith, false, bytes_eq, length, ℕ, List, All, get_or, map}
 use Rattle.std.proofs.lemmas.List.{get_or-map, length-map}
 use Rattle.std.proofs.lemmas.List.Elements.{All-head, All-tail}
 use Rattle.std.proofs.lemmas.List.Sorted.{All-permutation, IsPermutation-map}
@@ -96,12 +96,12 @@ rising-from count groups refs d different same read sorted =
     let long : length (map (λ (l : Line). l.0) (map (line_of count) refs)) ≡ length refs = omega (arith, length-map (map (line_of count) refs) (λ (l : Line). l.0), length-map refs (line_of count)) in
     let long_keys : length (map key_of_group (map group_of refs)) ≡ length refs = omega (arith, length-map (map group_of refs) key_of_group, length-map refs group_of) in
     sorted_from_all_adjacent columns_total _ (columns_of_ref count d) (λ k lt.
-        let here : k < length refs = omega arith in
-        let next : k + 1 < length refs = omega arith in
-        let apart = apart_from_distinct bytes_eq (map key_of_group (map group_of refs)) k (k + 1) d.key.now keys (omega arith) (omega arith) in
-        let keys_apart : bytes_eq (get_or refs k d).key.now (get_or refs (k + 1) d).key.now ≡ false = rw (key_at refs k d here, key_at refs (k + 1) d next) at apart in
-        rw (columns_at count refs k d here, columns_at count refs (k + 1) d next)
-        (rises-at count (get_or refs k d) (get_or refs (k + 1) d) (read k d here) (read (k + 1) d next) keys_apart (sorted k d (omega arith) next)))
+    let here : k < length refs = omega arith in
+    let next : k + 1 < length refs = omega arith in
+    let apart = apart_from_distinct bytes_eq (map key_of_group (map group_of refs)) k (k + 1) d.key.now keys (omega arith) (omega arith) in
+    let keys_apart : bytes_eq (get_or refs k d).key.now (get_or refs (k + 1) d).key.now ≡ false = rw (key_at refs k d here, key_at refs (k + 1) d next) at apart in
+    rw (columns_at count refs k d here, columns_at count refs (k + 1) d next)
+    (rises-at count (get_or refs k d) (get_or refs (k + 1) d) (read k d here) (read (k + 1) d next) keys_apart (sorted k d (omega arith) next)))
 
 pub rising : (count : ℕ) (groups : List Group) (refs : List GroupRef) → IsDistinct bytes_eq (map key_of_group groups) → IsPermutation groups (map group_of refs)
     → All (λ (r : GroupRef). IsRead count (group_of r)) refs → IsSortedBy (is_before count) refs → IsStrictlySortedBy columns_cmp (map (λ (l : Line). l.0) (map (line_of count) refs))

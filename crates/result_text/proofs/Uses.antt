@@ -1,5 +1,5 @@
 -- What a caller of `text_of` shows: the groups of some rows have a text.
-use Rattle.std.proofs.Common.{◌≡◌, ◌≤◌, ◌^◌, ◌&&◌, ◌∙◌, ap, sym, subst, refl, arith, Bool, not, ℕ, List, All, Some, bytes_eq, filter, length, get_or, map}
+use Rattle.std.proofs.Common.{◌≡◌, ◌≤◌, ◌^◌, ◌&&◌, ◌∙◌, sym, subst, refl, arith, Bool, not, ℕ, List, All, Some, bytes_eq, length, get_or}
 use Rattle.std.proofs.lemmas.List.{length-map}
 use Rattle.std.proofs.lemmas.List.Elements.{All-map}
 use Rattle.std.proofs.lemmas.List.Filters.{length-filter_both}

@@ -62,11 +62,7 @@ fn items(bound: &BoundPlan) -> &[Item]
 }
 
 /// The so many columns of an encoded key.
-pub(crate) fn push_columns(
-    row: &mut ByteRecord,
-    key: &[u8],
-    columns: u32,
-) -> Result<(), AllocError>
+pub(crate) fn push_columns(row: &mut ByteRecord, key: &[u8], columns: u32) -> Result<(), AllocError>
     requires whole { partial_of row.old ≡ [] }
     ensures fields { OnOk result (fields_of row.new ≡ fields_of row.old ++ columns_in columns key.now) }
     ensures whole { OnOk result (partial_of row.new ≡ []) }

@@ -28,7 +28,7 @@ returns-clause-text c =
     let wrote = subst (λ (rs : List GroupRef). written c.write_groups.new.self.writer ≡ written c.write_header.new.self.writer ++ table_text (map (line_record plan) (shown plan (map (line_of (length plan.groups)) rs)))) c.deref.ensures.value c.in_ok-write_groups.ensures.text in
     let sorted = subst (λ (n : ℕ). IsSortedBy (is_before n) refs) count c.in_ok-groups.ensures.sorted in
     IfOk-weaker c.into_text.result _ _ (λ text is. written_text c.args.plan.now.plan plan c.args.groups.now refs _ _ _ text.items c.requires.printable c.in_ok-groups.ensures.short c.in_ok-groups.ensures.same sorted
-        c.new-table.ensures.empty c.in_ok-write_header.ensures.text wrote is) c.into_text.ensures
+    c.new-table.ensures.empty c.in_ok-write_header.ensures.text wrote is) c.into_text.ensures
 
 pub returns-clause-answer : goal.returns-clause-answer
 returns-clause-answer c =

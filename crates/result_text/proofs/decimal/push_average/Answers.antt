@@ -11,10 +11,10 @@ returns c =
     let n = c.ten_thousandths-n.result in
     let negative = c.is_negative.ensures ∙ ap is_negative (to_z-of_z w128 c.args.sum c.ranges.sum) in
     let minus : c.if-is_negative.push_sign ≡ (is_negative c.args.sum && not (n == 0)) =
-        elim c.if-is_negative.branch [
-          | then-is_negative w ↦ w.push_sign-is ∙ ap (λ (b : Bool). b && not (n == 0)) (sym w.if-is_negative.true ∙ negative)
-          | else-is_negative w ↦ w.push_sign-is ∙ w.if-is_negative.false ∙ ap (λ (b : Bool). b && not (n == 0)) (sym w.if-is_negative.false ∙ negative)
-        ] in
+    elim c.if-is_negative.branch [
+      | then-is_negative w ↦ w.push_sign-is ∙ ap (λ (b : Bool). b && not (n == 0)) (sym w.if-is_negative.true ∙ negative)
+      | else-is_negative w ↦ w.push_sign-is ∙ w.if-is_negative.false ∙ ap (λ (b : Bool). b && not (n == 0)) (sym w.if-is_negative.false ∙ negative)
+    ] in
     let value = c.unsigned_abs.ensures.value in
     let number = c.ten_thousandths-n.ensures ∙ ap (λ (size : ℕ). rounded (10000 * size) c.args.count) (value ∙ ap unsigned_abs (to_z-of_z w128 c.args.sum c.ranges.sum)) in
     let text = c.as_bytes.ensures.value ∙ c.format.ensures.text in

@@ -2,7 +2,6 @@ use Rattle.std.proofs.Common.{◌≡◌, ◌∙◌, ◌<◌, ◌≤◌, ◌+◌,
 use Rattle.std.proofs.lemmas.List.{map-append, take_more}
 use Rattle.std.proofs.lemmas.List.Elements.{All-more}
 use Rattle.std.proofs.lemmas.Option.{get_or_from_slice_get}
-use Rattle.par_model.specs.declared.state.AggState.{AggState}
 use Rattle.partial_agg.specs.declared.groups.Group.{Group}
 use Rattle.result_text.specs.Order.{group_of}
 use Rattle.result_text.proofs.order.as_they_are.Goals as goal

@@ -1,7 +1,6 @@
-use Rattle.std.proofs.Common.{rules, subst, sym, IsPermutation}
+use Rattle.std.proofs.Common.{rules}
 use Rattle.std.proofs.lemmas.Fn.{always_returns_same}
 use Rattle.std.proofs.lemmas.List.Sorted.{IsPermutation-map, ranks_by}
-use Rattle.par_model.specs.Table.{columns_cmp}
 use Rattle.result_text.specs.Keys.{columns_in}
 use Rattle.result_text.specs.Order.{group_of, is_before}
 use Rattle.result_text.specs.declared.order.GroupRef.{GroupRef}

@@ -1,6 +1,6 @@
 use Rattle.std.proofs.Common.{◌≡◌, ◌∙◌, ◌-◌, ◌+◌, ◌++◌, ◌∷◌, [], List, ℕ, ap, sym, append_assoc, append-nil}
-use Rattle.csv.specs.Records.{fields_of, partial_of}
-use Rattle.result_text.specs.Keys.{after_first_column, columns_in, first_column}
+use Rattle.csv.specs.Records.{fields_of}
+use Rattle.result_text.specs.Keys.{after_first_column, columns_in}
 use Rattle.result_text.proofs.Columns.{columns_in-end, columns_in-more, columns_in-start}
 use Rattle.result_text.proofs.values.push_columns.Goals as goal
 
@@ -17,9 +17,9 @@ loop-at-preserved c =
     let column = c.split_column.result.0.now in
     let more = c.split_column.result.1.now in
     let left : columns_in (c.args.columns - at) rest ≡ column ∷ columns_in (c.args.columns - (at + 1)) more =
-        columns_in-more c.args.columns at rest c.loop-at-test.true
-        ∙ ap (λ (t : List ℕ). t ∷ columns_in (c.args.columns - (at + 1)) (after_first_column rest)) (sym c.split_column.ensures.first)
-        ∙ ap (λ (t : List ℕ). column ∷ columns_in (c.args.columns - (at + 1)) t) (sym c.split_column.ensures.rest) in
+    columns_in-more c.args.columns at rest c.loop-at-test.true
+    ∙ ap (λ (t : List ℕ). t ∷ columns_in (c.args.columns - (at + 1)) (after_first_column rest)) (sym c.split_column.ensures.first)
+    ∙ ap (λ (t : List ℕ). column ∷ columns_in (c.args.columns - (at + 1)) t) (sym c.split_column.ensures.rest) in
     record {
       fields = rw (c.in_ok-push_field.ensures.fields, c.loop-at.invariant.whole) (append_assoc (fields_of c.loop-at.row) (column ∷ []) _ ∙ ap (λ (cs : List (List ℕ)). fields_of c.loop-at.row ++ cs) (sym left) ∙ c.loop-at.invariant.fields);
       whole = c.in_ok-push_field.ensures.partial;

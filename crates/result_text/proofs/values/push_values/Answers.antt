@@ -1,9 +1,5 @@
-use Rattle.std.proofs.Common.{◌≡◌, ◌∙◌, ◌++◌, ◌∷◌, [], ℕ, List, All, ap}
 use Rattle.std.proofs.lemmas.List.Elements.{All-rest}
 use Rattle.std.proofs.lemmas.Slice.Zip.{Zip-more, either_empty_from_Zip}
-use Rattle.par_model.specs.Table.{value_text}
-use Rattle.par_model.specs.declared.plan.Item.{Item}
-use Rattle.par_model.specs.declared.state.SlotState.{SlotState}
 use Rattle.result_text.specs.Printable.{IsSmallSlot}
 use Rattle.result_text.proofs.Zipped.{value-more, values-end}
 use Rattle.result_text.proofs.values.push_values.Goals as goal
