@@ -7,6 +7,7 @@ ghost use Rattle.mq_handle.specs.Waiting.{EndsSend, EndsReceive};
 use crate::answers::{ReceiveAnswer, ReceiveDone, SendAnswer, SendDone};
 use crate::receiver::Receiver;
 use crate::sender::Sender;
+use crossbeam_utils::Backoff;
 use region_words::Region;
 use std::sync::Wait;
 
@@ -20,9 +21,10 @@ impl Sender {
         ensures stays { StaysOpen self.old.end self.new.end }
         ensures answer { EndsSend self.old.end self.new.end message.now flush result }
     {
+        let backoff = Backoff::new();
         for _ in rt.forever() {
             match self.try_send(r, message, flush) {
-                SendAnswer::WouldBlock { stored: _ } => {}
+                SendAnswer::WouldBlock { stored: _ } => backoff.snooze(),
                 SendAnswer::Sent => return SendDone::Sent,
                 SendAnswer::Detached => return SendDone::Detached,
                 SendAnswer::TooLong { length } => return SendDone::TooLong { length },
@@ -42,9 +44,10 @@ impl Receiver {
         ensures stays { self.new.end.gone ≡ false }
         ensures answer { EndsReceive self.old.end self.new.end self.new.message result }
     {
+        let backoff = Backoff::new();
         for _ in rt.forever() {
             match self.try_receive(r) {
-                ReceiveAnswer::WouldBlock => {}
+                ReceiveAnswer::WouldBlock => backoff.snooze(),
                 ReceiveAnswer::Message => return ReceiveDone::Message,
                 ReceiveAnswer::Detached => return ReceiveDone::Detached,
             }
