@@ -1,5 +1,6 @@
 //! The receiving end of a queue.
-ghost use Rattle.std.specs.Prelude.{◌≡◌, ◌≤◌, false, true, [], length};
+ghost use Rattle.std.specs.Prelude.{◌≡◌, ◌+◌, ◌≤◌, false, true, [], length};
+ghost use Rattle.rel_pointer.specs.Bytes.{word_count};
 ghost use Rattle.ring_rule.specs.Ring.{Receiving};
 ghost use Rattle.ring_rule.specs.Ends.{receiver_leaves};
 ghost use Rattle.mq_handle.specs.Held.{IsUnread};
@@ -71,8 +72,9 @@ impl Receiver {
         ensures ring { self.new.end.ring ≡ self.old.end.ring }
         ensures stays { self.new.end.gone ≡ false }
         ensures later { self.old.end.turn ≤ self.new.end.turn }
+        ensures few { length self.new.end.taken ≤ length self.old.end.taken + word_count self.old.end.ring.max + 1 }
         ensures answer { Gives self.old.end self.new.end self.new.message result }
-        ensures told { ReceiveFound self.old.told self.new.end result }
+        ensures told { ReceiveFound self.old.told self.old.end self.new.end result }
     {
         let buffer = self.buffer.as_mut_slice();
         let (taken, answer) = receive_frame(&mut self.rx, r, buffer, self.taken);

@@ -64,7 +64,7 @@ impl Sender {
         ensures kept { self.new ≡ record self.old { end = self.new.end } }
         ensures stays { StaysOpen self.old.end self.new.end }
         ensures answer { Answers self.old.end self.new.end message.now flush result }
-        ensures told { SendFound self.old.told self.new.end result }
+        ensures told { SendFound self.old.told self.old.end self.new.end result }
     {
         let (counts, answer) = send_frame(&mut self.tx, r, message, self.counts, flush);
         self.counts = counts;
@@ -122,7 +122,7 @@ fn send_frame(
     ensures kept { tx.new ≡ record tx.old { end = tx.new.end } }
     ensures stays { StaysOpen tx.old.end tx.new.end }
     ensures answer { Answers tx.old.end tx.new.end message.now flush result.1 }
-    ensures told { SendFound tx.old.told tx.new.end result.1 }
+    ensures told { SendFound tx.old.told tx.old.end tx.new.end result.1 }
     ensures counted { Counted tx.new.end result.0.free result.0.unpublished }
     ensures framed { InFrames tx.new.end.ring.max tx.new.end.put result.0.stored }
 {

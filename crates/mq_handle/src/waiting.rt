@@ -1,8 +1,9 @@
 //! The calls that wait for the other end.
-ghost use Rattle.std.specs.Prelude.{◌≡◌, false};
+ghost use Rattle.std.specs.Prelude.{◌≡◌, ◌≤◌, false};
 ghost use Rattle.mq_handle.specs.Sends.{Continues, StaysOpen};
 ghost use Rattle.mq_handle.specs.Receives.{incoming};
 ghost use Rattle.mq_handle.specs.Waiting.{EndsSend, EndsReceive};
+ghost use Rattle.mq_handle.specs.Told.{SendEndFound, ReceiveEndFound};
 
 use crate::answers::{ReceiveAnswer, ReceiveDone, SendAnswer, SendDone};
 use crate::receiver::Receiver;
@@ -20,6 +21,7 @@ impl Sender {
         ensures kept { self.new ≡ record self.old { end = self.new.end } }
         ensures stays { StaysOpen self.old.end self.new.end }
         ensures answer { EndsSend self.old.end self.new.end message.now flush result }
+        ensures told { SendEndFound self.old.told self.old.end self.new.end result }
     {
         let backoff = Backoff::new();
         for _ in rt.forever() {
@@ -42,7 +44,9 @@ impl Receiver {
         ensures kept { self.new ≡ incoming self.old.region self.new.end self.old.told self.new.message }
         ensures ring { self.new.end.ring ≡ self.old.end.ring }
         ensures stays { self.new.end.gone ≡ false }
+        ensures later { self.old.end.turn ≤ self.new.end.turn }
         ensures answer { EndsReceive self.old.end self.new.end self.new.message result }
+        ensures told { ReceiveEndFound self.old.told self.old.end self.new.end result }
     {
         let backoff = Backoff::new();
         for _ in rt.forever() {
