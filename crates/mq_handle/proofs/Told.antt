@@ -1,5 +1,5 @@
 -- What a sender found in its last load stays found in the steps after it.
-use Rattle.std.proofs.Common.{◌≡◌, ℕ, ◌<◌, ◌≤◌, ⊎_elim, inl, inr, Option, Some, None, ◌∙◌, arith}
+use Rattle.std.proofs.Common.{◌≡◌, ◌<◌, ◌≤◌, ⊎_elim, inl, inr, Option, Some, None, ◌∙◌, arith}
 use Rattle.ring_rule.specs.Ring.{Sending, Receiving}
 use Rattle.mq_handle.specs.Told.{SawRoom, RoomFound}
 

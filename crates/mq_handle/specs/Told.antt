@@ -1,6 +1,6 @@
 -- What an end finds once it has met the other. Each load of the flag finds it set where the other end had set it by then, and each load of a
 -- count finds at least what the other end had published by then. A call that made several loads of a count tells of the last.
-use Rattle.std.specs.Prelude.{◌≡◌, ℕ, ◌<◌, ◌≤◌, ◌⊎◌, true, Option, Some, None, IfSome}
+use Rattle.std.specs.Prelude.{◌≡◌, ◌<◌, ◌≤◌, ◌⊎◌, true, Option, Some, None, IfSome}
 use Rattle.ring_rule.specs.Ring.{Sending, Receiving}
 use Rattle.mq_handle.specs.declared.answers.SendAnswer.{SendAnswer}
 use Rattle.mq_handle.specs.declared.answers.ReceiveAnswer.{ReceiveAnswer}
