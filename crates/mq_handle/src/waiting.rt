@@ -13,7 +13,8 @@ use region_words::Region;
 use std::sync::Wait;
 
 impl Sender {
-    /// Sends the message, and waits while the ring is full. It answers as the last try did, which did not block.
+    /// Sends the message, and waits while the ring is full: it tries again and again, and backs off in between. It answers as the last try
+    /// did, which did not block. It may wait for ever, where the receiver neither takes words nor detaches.
     pub fn send<R: Wait>(&mut self, rt: &R, r: &Region, message: &[u8], flush: bool) -> SendDone
         requires here { self.old.region ≡ r.now }
         requires stays { self.old.end.gone ≡ false }
@@ -37,7 +38,8 @@ impl Sender {
 }
 
 impl Receiver {
-    /// Receives the next message, and waits while none is there. It answers as the last try did, which did not block.
+    /// Receives the next message, and waits while none is there: it tries again and again, and backs off in between. It answers as the last
+    /// try did, which did not block. It may wait for ever, where the sender neither sends nor detaches.
     pub fn receive<R: Wait>(&mut self, rt: &R, r: &Region) -> ReceiveDone
         requires here { self.old.region ≡ r.now }
         requires stays { self.old.end.gone ≡ false }
