@@ -5,3 +5,4 @@ pub mod Sends
 pub mod Hands
 pub mod Receipts
 pub mod Uses
+pub mod Told

@@ -1,5 +1,5 @@
 -- What a try to receive leaves.
-use Rattle.std.proofs.Common.{◌≡◌, ℕ, zero, suc, ◌-◌, ◌/◌, ◌<◌, ◌≤◌, ⊎_elim, inl, inr, List, [], ◌∷◌, ◌++◌, length, take, get_or, All, Some, refl, sym, ap, subst, ◌∙◌, arith, length-append}
+use Rattle.std.proofs.Common.{◌≡◌, ℕ, zero, suc, ◌+◌, ◌-◌, ◌/◌, ◌<◌, ◌≤◌, ⊎_elim, inl, inr, List, [], ◌∷◌, ◌++◌, length, take, get_or, All, Some, refl, sym, ap, subst, ◌∙◌, arith, length-append}
 use Rattle.std.proofs.lemmas.List.{take_all}
 use Rattle.rel_pointer.specs.Bytes.{word_count, packed_words}
 use Rattle.ring_rule.specs.Frames.{frame, frames, IsMessage}
@@ -17,7 +17,7 @@ use Rattle.mq_handle.proofs.Decoding.{unpacked}
 use Rattle.mq_handle.proofs.Whole.{whole_is, left_is}
 use Rattle.mq_handle.proofs.Filling.{length-frame}
 use Rattle.mq_handle.proofs.Sends.{append_nothing, frames_more, fit_more, bytes_of_all, part_torn}
-use Rattle.mq_handle.proofs.Hands.{length-bytes}
+use Rattle.mq_handle.proofs.Hands.{length-bytes, hand_low}
 
 hand_torn : (max : ℕ) (base taken buffer : List ℕ) (words len : ℕ) (h : InHand max base taken buffer words len) → IsOpen words len → IsTorn max h.part
 hand_torn max base taken buffer words len h o = go h.part refl
@@ -164,3 +164,21 @@ no_messages max k d l = absurd (omega arith)
 pub fresh_hand : (max : ℕ) (taken buffer : List ℕ) → taken ≡ [] → InHand max (take (length taken - 0) taken) taken buffer 0 0
 fresh_hand max taken buffer e = subst (λ (t : List ℕ). InHand max (take (length t - 0) t) t buffer 0 0) (sym e)
     (record { messages = []; part = []; fit = no_messages max; base_is = refl; are = refl; begun = inl refl; counted = refl; bytes = tt })
+
+-- one call takes no more words than the greatest message has
+pub few_words : (max : ℕ) (base t u b c : List ℕ) (w x l m : ℕ) → InHand max base t b w l → InHand max base u c x m → length u ≤ length t + word_count max + 1
+few_words max base t u b c w zero l m h k =
+    let before = ap length h.are ∙ length-append base h.part in
+    let after = ap length k.are ∙ length-append base k.part in
+    omega (arith, h.counted, k.counted)
+few_words max base t u b c w (suc x) l m h k =
+    let before = ap length h.are ∙ length-append base h.part in
+    let after = ap length k.are ∙ length-append base k.part in
+    let low = hand_low max base u c (suc x) m k (omega arith) in
+    omega (arith, h.counted, k.counted, low.0, low.1)
+
+-- a look that finds no word takes none
+pub finds_same : (old new : Receiving) (ready : ℕ) (answer : ReceiveAnswer) → Finds old new ready (Some answer) → new.taken ≡ old.taken
+finds_same old new ready Message f = absurd f
+finds_same old new ready WouldBlock f = f.0.taken
+finds_same old new ready Detached f = f.0.taken

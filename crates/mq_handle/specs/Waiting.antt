@@ -17,10 +17,11 @@ pub record SendsOn (old last : Sending) : Type 0 where
   pub whole : whole_of last.put ≡ whole_of old.put
   pub turn : old.turn ≤ last.turn
 
+-- one that is too long is refused by its first try, before any step; else the last try decides
 abbrev pub EndsSend : Sending → Sending → List ℕ → Bool → SendDone → Type 0
 EndsSend old new message flush Sent = (last : Sending) × SendsOn old last × IsSent last new message flush
 EndsSend old new message flush SendDetached = (last : Sending) × SendsOn old last × (length message ≤ last.ring.max) × (new ≡ sender_sees_flag last 1)
-EndsSend old new message flush (TooLong len) = (old.ring.max < length message) × (len ≡ length message) × (whole_of new.put ≡ whole_of old.put)
+EndsSend old new message flush (TooLong len) = (old.ring.max < length message) × (len ≡ length message) × (new ≡ old)
 
 -- the end before the last try of a receive
 pub record ReceivesOn (old last : Receiving) : Type 0 where
@@ -28,6 +29,7 @@ pub record ReceivesOn (old last : Receiving) : Type 0 where
   pub whole : whole_of last.taken ≡ whole_of old.taken
   pub turn : old.turn ≤ last.turn
 
+-- what the last try of a receive decides
 abbrev pub EndsReceive : Receiving → Receiving → List ℕ → ReceiveDone → Type 0
 EndsReceive old new message Message = (last : Receiving) × ReceivesOn old last × IsReceived last new message
 EndsReceive old new message Detached = (last : Receiving) × ReceivesOn old last × (whole_of new.taken ≡ whole_of old.taken) × (message ≡ []) × IsOver last new

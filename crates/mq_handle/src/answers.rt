@@ -5,11 +5,11 @@
 pub enum SendAnswer {
     /// The message is on the ring.
     Sent,
-    /// The ring is full; that many words of the frame are on it. Call again with the same message.
+    /// The ring is full; that many words of the frame, its length word too, are on it. Call again with the same message.
     WouldBlock { stored: u64 },
-    /// The receiver has detached.
+    /// The receiver has detached. Nothing was stored.
     Detached,
-    /// The message is longer than the queue takes.
+    /// The message, of this length in bytes, is longer than the queue takes. Nothing was done.
     TooLong { length: u64 },
 }
 
@@ -18,9 +18,9 @@ pub enum SendAnswer {
 pub enum SendDone {
     /// The message is on the ring.
     Sent,
-    /// The receiver has detached.
+    /// The receiver has detached. Earlier tries of this call may have stored a part of the message.
     Detached,
-    /// The message is longer than the queue takes.
+    /// The message, of this length in bytes, is longer than the queue takes. Nothing was done.
     TooLong { length: u64 },
 }
 
@@ -29,7 +29,7 @@ pub enum SendDone {
 pub enum ReceiveAnswer {
     /// `Receiver::message` has the next message.
     Message,
-    /// No whole message is on the ring.
+    /// No whole message has come yet. A part of one may have been taken, and is kept.
     WouldBlock,
     /// The sender has detached, and there is no further whole message.
     Detached,

@@ -22,7 +22,7 @@ pub(crate) fn look_for_words(
     ensures counted { Ready rx.new.end result.0.ready result.0.unreturned }
     ensures same { (result.0.words ≡ taken.words) × (result.0.len ≡ taken.len) }
     ensures found { Finds rx.old.end rx.new.end result.0.ready result.1 }
-    ensures told { LookFound rx.old.told rx.new.end result.1 }
+    ensures told { LookFound rx.old.told rx.old.end rx.new.end result.1 }
 {
     let ready = rx.look_written(r);
     if ready > 0 {

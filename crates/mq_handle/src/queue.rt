@@ -39,7 +39,8 @@ impl Model for MqDone {
     ghost view = { λ d. d.done };
 }
 
-/// Makes a queue of the ends of a ring that was not used yet. It takes memory for one message, and is the only call that takes any.
+/// Makes a queue of the ends of a ring that was not used yet; they are its handles' from then on. It takes memory for the greatest message,
+/// fills it with zeros, and is the only call that takes any. It makes no step on the ring.
 pub fn attach(alloc: Global, tx: RingTx, rx: RingRx) -> Result<(Sender, Receiver), AttachRefused>
     requires one_ring { tx.end.ring ≡ rx.end.ring }
     requires unsent { IsUnsent tx.end }
@@ -55,7 +56,7 @@ pub fn attach(alloc: Global, tx: RingTx, rx: RingRx) -> Result<(Sender, Receiver
 }
 
 /// The two ends of a queue meet, detached or not: each is told what the other is, and what holds of both is told to the caller. Nothing
-/// that was sent, received, published or set changes.
+/// that was sent, received, published or set changes. Three loads.
 pub fn meet(s: &mut Sender, q: &mut Receiver, r: &Region)
     requires here { s.old.region ≡ r.now }
     requires q_here { q.old.region ≡ r.now }
@@ -68,7 +69,7 @@ pub fn meet(s: &mut Sender, q: &mut Receiver, r: &Region)
 }
 
 /// Ends a queue, detached ends or not. What was received is a beginning of what was sent, and all of it where the receiver was answered
-/// Detached.
+/// Detached. Two loads; the receiver's buffer is given back to its allocator.
 pub fn home(s: Sender, q: Receiver, r: &Region) -> MqDone
     requires here { s.region ≡ r.now }
     requires q_here { q.region ≡ r.now }
@@ -86,7 +87,7 @@ pub fn home(s: Sender, q: Receiver, r: &Region) -> MqDone
 }
 
 impl MqDone {
-    /// The chunk that the ring was made of, whole again.
+    /// The chunk that the ring was made of, whole again, for its next use. Three loads.
     pub fn into_chunk(self, r: &Region) -> Chunk
         requires { self.region ≡ r.now }
         ensures place { (result.at ≡ self.sender.ring.base) × (result.bytes ≡ self.bytes) }

@@ -1,5 +1,6 @@
 //! The receiving end of a queue.
-ghost use Rattle.std.specs.Prelude.{◌≡◌, ◌≤◌, false, true, [], length};
+ghost use Rattle.std.specs.Prelude.{◌≡◌, ◌+◌, ◌≤◌, false, true, [], length};
+ghost use Rattle.rel_pointer.specs.Bytes.{word_count};
 ghost use Rattle.ring_rule.specs.Ring.{Receiving};
 ghost use Rattle.ring_rule.specs.Ends.{receiver_leaves};
 ghost use Rattle.mq_handle.specs.Held.{IsUnread};
@@ -15,7 +16,7 @@ use region_words::Region;
 use std::marker::Model;
 
 /// The receiving end of a queue. Contracts see the ring's end, of whose words `whole_of` gives the messages received, and the message of
-/// the last receive call.
+/// the last receive call. It owns a buffer for the greatest message. A receiver that is dropped tells the sender nothing: `detach` first.
 #[derive(Drop)]
 pub struct Receiver {
     pub(crate) rx: RingRx,
@@ -62,8 +63,9 @@ impl Receiver {
         }
     }
 
-    /// Takes the next message off the ring, if a whole one is there. Each byte is copied once, from the ring to the receiver's buffer.
-    /// It returns after at most as many words as the greatest message has.
+    /// Takes the next message off the ring, if a whole one is there, and a part of it otherwise. Each byte is copied once, from the ring to
+    /// the receiver's buffer, where the message before is lost. It costs one load a word and at most one store of the read count; each
+    /// time that the words known are used up, it loads the written count, and where there are no more the flag. It takes no memory.
     pub fn try_receive(&mut self, r: &Region) -> ReceiveAnswer
         requires here { self.old.region ≡ r.now }
         requires stays { self.old.end.gone ≡ false }
@@ -71,8 +73,9 @@ impl Receiver {
         ensures ring { self.new.end.ring ≡ self.old.end.ring }
         ensures stays { self.new.end.gone ≡ false }
         ensures later { self.old.end.turn ≤ self.new.end.turn }
+        ensures few { length self.new.end.taken ≤ length self.old.end.taken + word_count self.old.end.ring.max + 1 }
         ensures answer { Gives self.old.end self.new.end self.new.message result }
-        ensures told { ReceiveFound self.old.told self.new.end result }
+        ensures told { ReceiveFound self.old.told self.old.end self.new.end result }
     {
         let buffer = self.buffer.as_mut_slice();
         let (taken, answer) = receive_frame(&mut self.rx, r, buffer, self.taken);
@@ -81,7 +84,8 @@ impl Receiver {
         answer
     }
 
-    /// The message of the last receive call, where it answered Message; else nothing.
+    /// The message of the last receive call, where it answered Message; else nothing. It is lent from the receiver's buffer, without a
+    /// copy, up to the next receive call.
     pub fn message(&self) -> &[u8]
         ensures { result.now ≡ self.now.message }
     {
@@ -92,7 +96,8 @@ impl Receiver {
         }
     }
 
-    /// Tells the sender that nothing more is received. On a detached end it does nothing.
+    /// Tells the sender that nothing more is received; what is on the ring stays there. One store; afterwards the end can only meet, come
+    /// home and lend its last message. On a detached end it does nothing.
     pub fn detach(&mut self, r: &Region)
         requires here { self.old.region ≡ r.now }
         ensures first { self.old.end.gone ≡ false → self.new ≡ record self.old { end = receiver_leaves self.old.end } }

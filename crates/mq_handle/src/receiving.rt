@@ -1,5 +1,6 @@
 //! One try to receive, by the ring's end.
-ghost use Rattle.std.specs.Prelude.{◌≡◌, ◌-◌, ◌<◌, ◌≤◌, false, length};
+ghost use Rattle.std.specs.Prelude.{◌≡◌, ◌+◌, ◌-◌, ◌<◌, ◌≤◌, false, length};
+ghost use Rattle.rel_pointer.specs.Bytes.{word_count};
 ghost use Rattle.mq_handle.specs.ReceiveAnswers.{Gives, message_of, HasPlace};
 ghost use Rattle.mq_handle.specs.Told.{ReceiveFound};
 ghost use Rattle.mq_handle.specs.Taking.{Ready, InHand, IsOpen, before_of};
@@ -27,11 +28,12 @@ pub(crate) fn receive_frame(
     ensures ring { rx.new.end.ring ≡ rx.old.end.ring }
     ensures stays { rx.new.end.gone ≡ false }
     ensures later { rx.old.end.turn ≤ rx.new.end.turn }
+    ensures few { length rx.new.end.taken ≤ length rx.old.end.taken + word_count rx.old.end.ring.max + 1 }
     ensures counted { Ready rx.new.end result.0.ready result.0.unreturned }
     ensures hand { InHand rx.new.end.ring.max (before_of rx.new.end result.0.words) rx.new.end.taken buffer.new result.0.words result.0.len }
     ensures unfinished { IsOpen result.0.words result.0.len }
     ensures answer { Gives rx.old.end rx.new.end (message_of result.1 buffer.new result.0.len) result.1 }
-    ensures told { ReceiveFound rx.old.told rx.new.end result.1 }
+    ensures told { ReceiveFound rx.old.told rx.old.end rx.new.end result.1 }
     ensures place { HasPlace result.1 result.0.len (length buffer.new) }
 {
     let (first, done) = take_words(rx, r, buffer, taken);

@@ -13,7 +13,8 @@ use mq_ring::RingTx;
 use region_words::Region;
 use std::marker::Model;
 
-/// The sending end of a queue. Contracts see the ring's end, of whose words `whole_of` gives the messages sent.
+/// The sending end of a queue. Contracts see the ring's end, of whose words `whole_of` gives the messages sent. A sender that is dropped
+/// tells the receiver nothing, and the ring's words are lost: `detach` first, and bring both ends `home`.
 #[derive(Drop)]
 pub struct Sender {
     pub(crate) tx: RingTx,
@@ -55,8 +56,9 @@ impl Sender {
     }
 
     /// Puts the message on the ring as far as there is room. Where a part of a frame is stored, the message has to be that frame's: repeat
-    /// the call with it. Where the message fits it costs one load, one store a word and at most one store of the count. `flush` lets the
-    /// receiver see the message at once; without it the last quarter of the ring may stay unseen until a later call.
+    /// the call with it. Where the message fits it costs one load, one store a word and at most one store of the count; each time that the
+    /// room known is used up, a store and a load of the counts come to it. It takes no memory and keeps nothing of `message`. `flush` lets
+    /// the receiver see the message at once; without it up to a quarter of the ring may stay unseen until a later call.
     pub fn try_send(&mut self, r: &Region, message: &[u8], flush: bool) -> SendAnswer
         requires here { self.old.region ≡ r.now }
         requires stays { self.old.end.gone ≡ false }
@@ -64,14 +66,14 @@ impl Sender {
         ensures kept { self.new ≡ record self.old { end = self.new.end } }
         ensures stays { StaysOpen self.old.end self.new.end }
         ensures answer { Answers self.old.end self.new.end message.now flush result }
-        ensures told { SendFound self.old.told self.new.end result }
+        ensures told { SendFound self.old.told self.old.end self.new.end result }
     {
         let (counts, answer) = send_frame(&mut self.tx, r, message, self.counts, flush);
         self.counts = counts;
         answer
     }
 
-    /// Lets the receiver see all that was put.
+    /// Lets the receiver see all that was put, a part of a message too. One store.
     pub fn flush(&mut self, r: &Region)
         requires here { self.old.region ≡ r.now }
         requires stays { self.old.end.gone ≡ false }
@@ -81,7 +83,8 @@ impl Sender {
         self.counts.unpublished = 0;
     }
 
-    /// Lets the receiver see all that was put, and tells it that no more comes. On a detached end it does nothing.
+    /// Lets the receiver see all that was put, and tells it that no more comes. Two stores; afterwards the end can only meet and come home.
+    /// On a detached end it does nothing.
     pub fn detach(&mut self, r: &Region)
         requires here { self.old.region ≡ r.now }
         ensures first { self.old.end.gone ≡ false → self.new ≡ record self.old { end = sender_leaves (publishes self.old.end) } }
@@ -122,7 +125,7 @@ fn send_frame(
     ensures kept { tx.new ≡ record tx.old { end = tx.new.end } }
     ensures stays { StaysOpen tx.old.end tx.new.end }
     ensures answer { Answers tx.old.end tx.new.end message.now flush result.1 }
-    ensures told { SendFound tx.old.told tx.new.end result.1 }
+    ensures told { SendFound tx.old.told tx.old.end tx.new.end result.1 }
     ensures counted { Counted tx.new.end result.0.free result.0.unpublished }
     ensures framed { InFrames tx.new.end.ring.max tx.new.end.put result.0.stored }
 {

@@ -5,7 +5,7 @@ ghost use Rattle.ring_rule.specs.Frames.{frame, IsFramed};
 ghost use Rattle.ring_rule.specs.Ends.{looks_read, publishes};
 ghost use Rattle.mq_handle.specs.Sends.{published_of};
 ghost use Rattle.mq_handle.specs.Held.{Counted};
-ghost use Rattle.mq_handle.specs.Told.{SawRoom};
+ghost use Rattle.mq_handle.specs.Told.{SawRoom, RoomFound};
 ghost use Rattle.mq_handle.specs.Filling.{Fills, base_of, IsFull};
 
 use mq_ring::RingTx;
@@ -42,6 +42,7 @@ fn look_for_room(tx: &mut RingTx, r: &Region, counts: Counts) -> Counts
     ensures counted { Counted tx.new.end result.free result.unpublished }
     ensures looks { ((tx.new.end ≡ tx.old.end) × (0 < result.free)) ⊎ ((counts.free ≡ 0) × (result.unpublished ≡ 0) × (tx.new.end ≡ looks_read (publishes tx.old.end) tx.new.end.room)) }
     ensures told { result.free ≡ 0 → SawRoom tx.old.told tx.new.end }
+    ensures found { RoomFound tx.old.told tx.old.end tx.new.end }
 {
     if counts.free > 0 {
         return counts;
@@ -68,6 +69,7 @@ pub(crate) fn fill(tx: &mut RingTx, r: &Region, message: &[u8], counts: Counts) 
     ensures counted { Counted tx.new.end result.0.free result.0.unpublished }
     ensures put { tx.new.end.put ≡ base_of tx.old.end counts.stored ++ take result.0.stored (frame message.now) }
     ensures told { result.1 ≡ false → SawRoom tx.old.told tx.new.end }
+    ensures found { RoomFound tx.old.told tx.old.end tx.new.end }
     ensures all { MatchBool result.1 (result.0.stored ≡ length (frame message.now)) ((result.0.stored < length (frame message.now)) × IsFull tx.old.end tx.new.end) }
 {
     let total = 1 + words_of(message.len() as u64);

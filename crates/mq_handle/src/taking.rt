@@ -44,6 +44,7 @@ fn take_word(rx: &mut RingRx, r: &Region, buffer: &mut [u8], taken: Taken) -> Ta
     requires room { length buffer.old ≡ rx.old.end.ring.max }
     ensures kept { rx.new ≡ record rx.old { end = rx.new.end } }
     ensures takes { Takes rx.old.end rx.new.end }
+    ensures looks { (rx.new.end.looked ≡ rx.old.end.looked) × (rx.new.end.avail ≡ rx.old.end.avail) }
     ensures counted { Ready rx.new.end result.ready result.unreturned }
     ensures hand { InHand rx.new.end.ring.max (before_of rx.old.end taken.words) rx.new.end.taken buffer.new result.words result.len }
     ensures one { (result.words ≡ taken.words + 1) × (result.ready + 1 ≡ taken.ready) }
@@ -73,6 +74,7 @@ pub(crate) fn take_words(
     requires room { length buffer.old ≡ rx.old.end.ring.max }
     ensures kept { rx.new ≡ record rx.old { end = rx.new.end } }
     ensures takes { Takes rx.old.end rx.new.end }
+    ensures looks { (rx.new.end.looked ≡ rx.old.end.looked) × (rx.new.end.avail ≡ rx.old.end.avail) }
     ensures counted { Ready rx.new.end result.0.ready result.0.unreturned }
     ensures hand { InHand rx.new.end.ring.max (before_of rx.old.end taken.words) rx.new.end.taken buffer.new result.0.words result.0.len }
     ensures whole { MatchBool result.1 (result.0.words ≡ suc (word_count result.0.len)) (IsOpen result.0.words result.0.len × (result.0.ready ≡ 0)) }

@@ -1,9 +1,12 @@
 //! Sends and receives in a row, and a stream between two threads.
-ghost use Rattle.std.specs.Prelude.{◌≡◌, ◌<◌, ◌≤◌, ◌*◌, ◌+◌, ◌^◌, [], false, ℕ, IsSome, IfSome};
+ghost use Rattle.std.specs.Prelude.{◌≡◌, ◌<◌, ◌≤◌, ◌*◌, ◌+◌, ◌^◌, [], false, true, ℕ, length, IsSome, IfSome, IsTrue};
 ghost use Rattle.word_map.specs.WordMap.{at as word_at};
 ghost use Rattle.mq_handle.specs.Messages.{left_of};
+ghost use Rattle.mq_handle.specs.Sends.{Continues};
 
-use crate::{ReceiveAnswer, ReceiveDone, Receiver, SendAnswer, SendDone, Sender, attach};
+use crate::{
+    ReceiveAnswer, ReceiveDone, Receiver, SendAnswer, SendDone, Sender, attach, home, meet,
+};
 use mq_ring::Ring;
 use region_words::{Chunk, Part, Region};
 use rel_pointer::RelPtr;
@@ -27,6 +30,8 @@ fn queue_of(
     ensures here { IfSome result (λ ends. (ends.0.region ≡ r.now) × (ends.1.region ≡ r.now)) }
     ensures stays { IfSome result (λ ends. (ends.0.end.gone ≡ false) × (ends.1.end.gone ≡ false)) }
     ensures fresh { IfSome result (λ ends. left_of ends.0.end.put ≡ []) }
+    ensures one_ring { IfSome result (λ ends. ends.0.end.ring ≡ ends.1.end.ring) }
+    ensures room { IfSome result (λ ends. (ends.0.bytes ≡ 8 * (words + 3)) × (ends.0.end.ring.max ≡ max)) }
 {
     let words_of_ring = part.split(r, 1, words + 3);
     let chunk = Chunk {
@@ -141,6 +146,51 @@ fn by_quarters(r: &Region, s: &mut Sender, q: &mut Receiver) -> bool
     q.try_receive(r) == ReceiveAnswer::Message && q.message() == b"ab".as_slice()
 }
 
+/// After a meeting with a receiver that is gone, a send finds it gone.
+fn finds_it_gone(r: &Region, s: &mut Sender, q: &mut Receiver, message: &[u8]) -> bool
+    requires here { (s.old.region ≡ r.now) × (q.old.region ≡ r.now) }
+    requires one_ring { s.old.end.ring ≡ q.old.end.ring }
+    requires stays { (s.old.end.gone ≡ false) × (q.old.end.gone ≡ true) }
+    requires continues { Continues s.old.end.put message.now }
+    requires short { length message.now ≤ s.old.end.ring.max }
+    ensures gone { IsTrue result }
+    ensures kept { (s.new.region ≡ s.old.region) × (s.new.bytes ≡ s.old.bytes) × (s.new.end.ring ≡ s.old.end.ring) }
+    ensures receiver { (q.new.region ≡ q.old.region) × (q.new.end ≡ q.old.end) }
+{
+    meet(s, q, r);
+    s.try_send(r, message, true) == SendAnswer::Detached
+}
+
+/// What was flushed is there after a meeting. Then both go, and a second queue is made of the same words.
+fn there_and_home(alloc: Global, r: &Region, mut s: Sender, mut q: Receiver) -> bool
+    requires here { (s.region ≡ r.now) × (q.region ≡ r.now) }
+    requires one_ring { s.end.ring ≡ q.end.ring }
+    requires stays { (s.end.gone ≡ false) × (q.end.gone ≡ false) }
+    requires fresh { left_of s.end.put ≡ [] }
+    requires room { 56 ≤ s.bytes }
+    requires small { 2 ≤ s.end.ring.max }
+{
+    let SendAnswer::Sent = s.try_send(r, b"ab", false) else {
+        return false;
+    };
+    s.flush(r);
+    meet(&mut s, &mut q, r);
+    let ReceiveAnswer::Message = q.try_receive(r) else {
+        return false;
+    };
+    if q.message() != b"ab".as_slice() {
+        return false;
+    }
+    q.detach(r);
+    if !finds_it_gone(r, &mut s, &mut q, b"c") {
+        return false;
+    }
+    s.detach(r);
+    let chunk = home(s, q, r).into_chunk(r);
+    let (tx, rx) = Ring::create(r, chunk, 4, 0, 8);
+    attach(alloc, tx, rx).is_ok()
+}
+
 /// The bytes of the message with this number, which has 0 to 600 of them.
 fn write_message(out: &mut [u8; 600], number: u64) -> usize
     requires { number ≤ 2 ^ 32 }
@@ -217,6 +267,8 @@ fn new_queue(alloc: Global, words: u64, from: u64, max: u32) -> Option<(Region, 
     ensures here { IfSome result (λ made. (made.1.region ≡ made.0) × (made.2.region ≡ made.0)) }
     ensures stays { IfSome result (λ made. (made.1.end.gone ≡ false) × (made.2.end.gone ≡ false)) }
     ensures fresh { IfSome result (λ made. left_of made.1.end.put ≡ []) }
+    ensures one_ring { IfSome result (λ made. made.1.end.ring ≡ made.2.end.ring) }
+    ensures room { IfSome result (λ made. (made.1.bytes ≡ 8 * (words + 3)) × (made.1.end.ring.max ≡ max)) }
 {
     let Ok((region, part)) = Region::new(alloc, words as usize + 4) else {
         return None;
@@ -244,6 +296,12 @@ fn a_message_is_longer_than_the_ring(rt: HostRuntime) {
 fn the_receiver_goes_first(rt: HostRuntime) {
     let (r, mut s, mut q) = new_queue(rt.alloc(), 4, 0, 64).expect(&rt, "memory");
     assert!(rt; nobody_receives(&r, &mut s, &mut q));
+}
+
+#[test]
+fn the_ends_meet_and_come_home(rt: HostRuntime) {
+    let (r, s, q) = new_queue(rt.alloc(), 4, 0, 64).expect(&rt, "memory");
+    assert!(rt; there_and_home(rt.alloc(), &r, s, q));
 }
 
 #[test]

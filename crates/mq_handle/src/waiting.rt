@@ -1,17 +1,20 @@
 //! The calls that wait for the other end.
-ghost use Rattle.std.specs.Prelude.{◌≡◌, false};
+ghost use Rattle.std.specs.Prelude.{◌≡◌, ◌≤◌, false};
 ghost use Rattle.mq_handle.specs.Sends.{Continues, StaysOpen};
 ghost use Rattle.mq_handle.specs.Receives.{incoming};
 ghost use Rattle.mq_handle.specs.Waiting.{EndsSend, EndsReceive};
+ghost use Rattle.mq_handle.specs.Told.{SendEndFound, ReceiveEndFound};
 
 use crate::answers::{ReceiveAnswer, ReceiveDone, SendAnswer, SendDone};
 use crate::receiver::Receiver;
 use crate::sender::Sender;
+use crossbeam_utils::Backoff;
 use region_words::Region;
 use std::sync::Wait;
 
 impl Sender {
-    /// Sends the message, and waits while the ring is full. It answers as the last try did, which did not block.
+    /// Sends the message, and waits while the ring is full: it tries again and again, and backs off in between. It answers as the last try
+    /// did, which did not block. It may wait for ever, where the receiver neither takes words nor detaches.
     pub fn send<R: Wait>(&mut self, rt: &R, r: &Region, message: &[u8], flush: bool) -> SendDone
         requires here { self.old.region ≡ r.now }
         requires stays { self.old.end.gone ≡ false }
@@ -19,10 +22,12 @@ impl Sender {
         ensures kept { self.new ≡ record self.old { end = self.new.end } }
         ensures stays { StaysOpen self.old.end self.new.end }
         ensures answer { EndsSend self.old.end self.new.end message.now flush result }
+        ensures told { SendEndFound self.old.told self.old.end self.new.end result }
     {
+        let backoff = Backoff::new();
         for _ in rt.forever() {
             match self.try_send(r, message, flush) {
-                SendAnswer::WouldBlock { stored: _ } => {}
+                SendAnswer::WouldBlock { stored: _ } => backoff.snooze(),
                 SendAnswer::Sent => return SendDone::Sent,
                 SendAnswer::Detached => return SendDone::Detached,
                 SendAnswer::TooLong { length } => return SendDone::TooLong { length },
@@ -33,18 +38,22 @@ impl Sender {
 }
 
 impl Receiver {
-    /// Receives the next message, and waits while none is there. It answers as the last try did, which did not block.
+    /// Receives the next message, and waits while none is there: it tries again and again, and backs off in between. It answers as the last
+    /// try did, which did not block. It may wait for ever, where the sender neither sends nor detaches.
     pub fn receive<R: Wait>(&mut self, rt: &R, r: &Region) -> ReceiveDone
         requires here { self.old.region ≡ r.now }
         requires stays { self.old.end.gone ≡ false }
         ensures kept { self.new ≡ incoming self.old.region self.new.end self.old.told self.new.message }
         ensures ring { self.new.end.ring ≡ self.old.end.ring }
         ensures stays { self.new.end.gone ≡ false }
+        ensures later { self.old.end.turn ≤ self.new.end.turn }
         ensures answer { EndsReceive self.old.end self.new.end self.new.message result }
+        ensures told { ReceiveEndFound self.old.told self.old.end self.new.end result }
     {
+        let backoff = Backoff::new();
         for _ in rt.forever() {
             match self.try_receive(r) {
-                ReceiveAnswer::WouldBlock => {}
+                ReceiveAnswer::WouldBlock => backoff.snooze(),
                 ReceiveAnswer::Message => return ReceiveDone::Message,
                 ReceiveAnswer::Detached => return ReceiveDone::Detached,
             }

@@ -1,4 +1,5 @@
 use Rattle.std.proofs.Common.{◌≡◌, ℕ, Option, take, length, Some, sym, ap, subst, arith}
+use Rattle.rel_pointer.specs.Bytes.{word_count}
 use Rattle.ring_rule.specs.Ring.{Ring, Receiving}
 use Rattle.mq_ring.specs.Ends.{ReceivingEnd}
 use Rattle.mq_handle.specs.declared.answers.ReceiveAnswer.{ReceiveAnswer}
@@ -9,7 +10,7 @@ use Rattle.mq_handle.specs.declared.answers.ReceiveAnswer.TheVariants.{Message, 
 use Rattle.mq_handle.specs.ReceiveAnswers.{HasPlace}
 use Rattle.mq_handle.proofs.Hands.{hand_low}
 use Rattle.mq_handle.proofs.Sends.{chosen_true, chosen_false}
-use Rattle.mq_handle.proofs.Receipts.{came, same_whole, gives_on, received_is}
+use Rattle.mq_handle.proofs.Receipts.{came, same_whole, gives_on, received_is, few_words, finds_same}
 use Rattle.mq_handle.proofs.receiving.receive_frame.Goals as goal
 
 pub returns-in-Some-clause-answer : goal.returns-in-Some-clause-answer
@@ -63,3 +64,19 @@ returns-in-Some-clause-place c =
     let found : Finds c.loop-whole.rx.end c.look_for_words-answer.new.rx.end c.look_for_words-answer.result.0.ready (Some c.in-Some.answer) =
     subst (λ (a : Option ReceiveAnswer). Finds c.loop-whole.rx.end c.look_for_words-answer.new.rx.end c.look_for_words-answer.result.0.ready a) c.in-Some.is c.look_for_words-answer.ensures.found in
     none_asked c.in-Some.answer c.loop-whole.rx.end c.look_for_words-answer.new.rx.end c.look_for_words-answer.result.0.ready c.look_for_words-answer.result.0.len (length c.loop-whole.buffer) found
+
+pub returns-clause-few : goal.returns-clause-few
+returns-clause-few c =
+    let before : InHand c.loop-whole.rx.end.ring.max (before_of c.args.rx.now.end c.args.taken.words) c.args.rx.now.end.taken c.args.buffer.now c.args.taken.words c.args.taken.len =
+    subst (λ (r : Ring). InHand r.max (before_of c.args.rx.now.end c.args.taken.words) c.args.rx.now.end.taken c.args.buffer.now c.args.taken.words c.args.taken.len) (sym c.loop-whole.invariant.takes.ring) c.requires.hand in
+    let few = few_words _ _ _ _ _ _ _ _ _ _ before c.loop-whole.invariant.hand in
+    omega (arith, few, ap (λ (o : ReceivingEnd). length o.end.taken) c.finish_taking.ensures.kept, ap (λ (r : Ring). word_count r.max) c.loop-whole.invariant.takes.ring)
+
+pub returns-in-Some-clause-few : goal.returns-in-Some-clause-few
+returns-in-Some-clause-few c =
+    let before : InHand c.loop-whole.rx.end.ring.max (before_of c.args.rx.now.end c.args.taken.words) c.args.rx.now.end.taken c.args.buffer.now c.args.taken.words c.args.taken.len =
+    subst (λ (r : Ring). InHand r.max (before_of c.args.rx.now.end c.args.taken.words) c.args.rx.now.end.taken c.args.buffer.now c.args.taken.words c.args.taken.len) (sym c.loop-whole.invariant.takes.ring) c.requires.hand in
+    let few = few_words _ _ _ _ _ _ _ _ _ _ before c.loop-whole.invariant.hand in
+    let found : Finds c.loop-whole.rx.end c.look_for_words-answer.new.rx.end c.look_for_words-answer.result.0.ready (Some c.in-Some.answer) =
+    subst (λ (a : Option ReceiveAnswer). Finds c.loop-whole.rx.end c.look_for_words-answer.new.rx.end c.look_for_words-answer.result.0.ready a) c.in-Some.is c.look_for_words-answer.ensures.found in
+    omega (arith, few, ap length (finds_same c.loop-whole.rx.end c.look_for_words-answer.new.rx.end c.look_for_words-answer.result.0.ready c.in-Some.answer found), ap (λ (r : Ring). word_count r.max) c.loop-whole.invariant.takes.ring)

@@ -1,11 +1,13 @@
-use Rattle.std.proofs.Common.{◌≡◌, ℕ, ◌+◌, ◌-◌, ◌<◌, List, ◌∷◌, [], ◌++◌, length, take, sym, ap, subst, ◌∙◌, arith}
+use Rattle.std.proofs.Common.{◌≡◌, ℕ, ◌+◌, ◌-◌, ◌<◌, List, ◌∷◌, [], ◌++◌, length, take, Option, sym, ap, subst, ◌∙◌, arith}
 use Rattle.ring_rule.specs.Frames.{frame, IsFramed}
-use Rattle.ring_rule.specs.Ring.{Ring, Sending}
+use Rattle.ring_rule.specs.Ring.{Ring, Sending, Receiving}
 use Rattle.ring_rule.specs.Ends.{puts}
 use Rattle.mq_ring.specs.Ends.{SendingEnd}
 use Rattle.mq_handle.specs.Held.{Counted}
 use Rattle.mq_handle.specs.Filling.{base_of, Fills}
 use Rattle.mq_handle.proofs.Filling.{length-frame, less_put, looked, looked_full, put_framed, put_more, fills_put, counted_put, only_on, only_is}
+use Rattle.mq_handle.specs.Told.{RoomFound}
+use Rattle.mq_handle.proofs.Told.{room_same, room_on}
 use Rattle.mq_handle.proofs.storing.fill.Goals as goal
 
 pub returns-then-counts-eq0-clause-fills : goal.returns-then-counts-eq0-clause-fills
@@ -58,6 +60,12 @@ loop-counts-preserved c =
       fills = subst (λ (s : Sending). Fills c.args.tx.now.end s (length (base_of c.args.tx.now.end c.args.counts.stored ++ frame c.args.message.now))) (sym end) (fills_put c.args.tx.now.end c.look_for_room-counts.new.tx.end _ c.frame_word.result l.0);
       counted = subst (λ (s : Sending). Counted s (c.look_for_room-counts.result.free - 1) (c.look_for_room-counts.result.unpublished + 1)) (sym end)
           (counted_put c.look_for_room-counts.new.tx.end _ _ c.frame_word.result c.look_for_room-counts.ensures.counted (omega (arith, c.if-counts-eq0.false)));
+      found =
+          let told : c.loop-counts.tx.told ≡ c.args.tx.now.told = ap (λ (o : SendingEnd). o.told) c.loop-counts.invariant.kept in
+          let f = room_on c.args.tx.now.told c.args.tx.now.end c.loop-counts.tx.end c.look_for_room-counts.new.tx.end c.loop-counts.invariant.fills.turn c.loop-counts.invariant.found
+          (subst (λ (t : Option Receiving). RoomFound t c.loop-counts.tx.end c.look_for_room-counts.new.tx.end) told c.look_for_room-counts.ensures.found) in
+          room_on c.args.tx.now.told c.args.tx.now.end c.look_for_room-counts.new.tx.end c.put.new.self.end l.0.turn f
+          (room_same c.args.tx.now.told c.look_for_room-counts.new.tx.end c.put.new.self.end (ap (λ (s : Sending). s.looked) end) (ap (λ (s : Sending). s.room) end));
       stored = omega (arith, low);
       put = ap (λ (s : Sending). s.put) end ∙ put_more _ _ _ c.look_for_room-counts.result.stored _ low c.frame_word.ensures here;
     }

@@ -2,6 +2,7 @@ use Rattle.std.proofs.Common.{◌≡◌, ◌++◌, ◌≤◌, ◌-◌, length, t
 use Rattle.ring_rule.specs.Frames.{frame}
 use Rattle.mq_handle.specs.Held.{Counted}
 use Rattle.mq_handle.specs.Filling.{Fills, base_of}
+use Rattle.mq_handle.specs.Told.{RoomFound}
 use Rattle.mq_handle.proofs.storing.fill.Given as goal
 
 abbrev pub invariant-loop-counts : goal.invariant-loop-counts
@@ -10,6 +11,7 @@ invariant-loop-counts l = record {
   fills : Fills l.fn.tx.end l.tx.end (length (base_of l.fn.tx.end l.fn.counts.stored ++ frame l.message));
   counted : Counted l.tx.end l.counts.free l.counts.unpublished;
   stored : l.counts.stored ≤ length (frame l.message);
+  found : RoomFound l.fn.tx.told l.fn.tx.end l.tx.end;
   put : l.tx.end.put ≡ base_of l.fn.tx.end l.fn.counts.stored ++ take l.counts.stored (frame l.message);
 }
 

@@ -1,4 +1,4 @@
-use Rattle.std.proofs.Common.{ℕ, List, subst, arith}
+use Rattle.std.proofs.Common.{ℕ, List, subst, ◌∙◌, arith}
 use Rattle.mq_handle.specs.Taking.{InHand}
 use Rattle.mq_handle.proofs.Hands.{base_same, hand_open, takes_on, only_on}
 use Rattle.mq_handle.proofs.taking.take_words.Goals as goal
@@ -12,6 +12,7 @@ loop-taken-preserved c =
     record {
       kept = only_on c.args.rx.now c.loop-taken.rx c.take_word-taken.new.rx c.loop-taken.invariant.kept c.take_word-taken.ensures.kept;
       takes = takes_on _ _ _ c.loop-taken.invariant.takes c.take_word-taken.ensures.takes;
+      looks = (c.take_word-taken.ensures.looks.0 ∙ c.loop-taken.invariant.looks.0, c.take_word-taken.ensures.looks.1 ∙ c.loop-taken.invariant.looks.1);
       counted = c.take_word-taken.ensures.counted;
       hand = subst (λ (b : List ℕ). InHand c.take_word-taken.new.rx.end.ring.max b c.take_word-taken.new.rx.end.taken c.take_word-taken.new.buffer c.take_word-taken.result.words c.take_word-taken.result.len) base c.take_word-taken.ensures.hand;
       unfinished = hand_open _ _ _ _ _ _ c.take_word-taken.ensures.hand (omega (arith, c.take_word-taken.ensures.one.0)) (λ e. c.if-taken-words_of.false (omega (arith, e, c.words_of.ensures)));

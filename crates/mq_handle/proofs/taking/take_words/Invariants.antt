@@ -6,6 +6,7 @@ abbrev pub invariant-loop-taken : goal.invariant-loop-taken
 invariant-loop-taken l = record {
   kept : l.rx ≡ record l.fn.rx { end = l.rx.end };
   takes : Takes l.fn.rx.end l.rx.end;
+  looks : (l.rx.end.looked ≡ l.fn.rx.end.looked) × (l.rx.end.avail ≡ l.fn.rx.end.avail);
   counted : Ready l.rx.end l.taken.ready l.taken.unreturned;
   hand : InHand l.rx.end.ring.max (before_of l.fn.rx.end l.fn.taken.words) l.rx.end.taken l.buffer l.taken.words l.taken.len;
   unfinished : IsOpen l.taken.words l.taken.len;

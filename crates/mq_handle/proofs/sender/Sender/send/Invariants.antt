@@ -1,6 +1,7 @@
-use Rattle.std.proofs.Common.{◌≡◌, false}
+use Rattle.std.proofs.Common.{◌≡◌, ◌≤◌, ◌⊎◌, length, false}
 use Rattle.mq_handle.specs.Sends.{Continues}
 use Rattle.mq_handle.specs.Waiting.{SendsOn}
+use Rattle.mq_handle.specs.Told.{RoomFound}
 use Rattle.mq_handle.proofs.sender.Sender.send.Given as goal
 
 abbrev pub invariant-loop : goal.invariant-loop
@@ -8,7 +9,9 @@ invariant-loop g l = record {
   can_next : (goal.iterator-loop g).can_next l.iterator';
   finite : (goal.iterator-loop g).is_finite l.iterator';
   kept : l.self ≡ record l.fn.self { end = l.self.end };
+  first : (l.self ≡ l.fn.self) ⊎ (length l.message ≤ l.fn.self.end.ring.max);
   on : SendsOn l.fn.self.end l.self.end;
+  found : RoomFound l.fn.self.told l.fn.self.end l.self.end;
   stays : l.self.end.gone ≡ false;
   continues : Continues l.self.end.put l.message;
 }
