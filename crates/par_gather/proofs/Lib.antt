@@ -1,10 +1,1 @@
-pub mod Columns
-pub mod Refusals
-pub mod Pieces
-pub mod Counts
-pub mod Texts
-pub mod CountTable
-pub mod Tables
-pub mod Outcomes
-pub mod Inputs
 pub mod Statuses

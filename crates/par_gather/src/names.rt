@@ -1,0 +1,82 @@
+//! The names of columns that the line of a refused row speaks of.
+//!
+//! A plan counts its names through the columns to group by, the aggregates that have a column, and the filter. So the
+//! name of an aggregate's column stands behind those of the groups and of the aggregates before it.
+
+ghost use Rattle.std.specs.Prelude.{◌≡◌, ◌+◌, ◌<◌, ◌≤◌, [], IfOk, filter_map, length, map, slice_index_or, take};
+ghost use Rattle.par_model.specs.Named.{names_of};
+ghost use Rattle.par_gather.specs.Grouping.{CanRefuse, IsNamed, MayAnswer, SameShape};
+ghost use Rattle.par_gather.specs.Lines.{refusal_text};
+ghost use Rattle.par_gather.specs.Stops.{Restates, cause_text};
+
+use crate::stop::{Cause, Stop};
+use par_model::{BoundPlan, ItemKind, Refusal};
+use partial_agg::BlockAnswer;
+use plan_spec::Plan;
+use std::alloc::{AllocError, Global};
+
+/// The reason that stands for an answer of a block.
+pub(crate) fn stop_of_block(
+    alloc: Global,
+    plan: &Plan,
+    bound: &BoundPlan,
+    answer: BlockAnswer,
+) -> Stop
+    requires named { IsNamed plan.now.plan }
+    requires shape { SameShape plan.now.plan bound.now }
+    requires refusal { MayAnswer plan.now.plan answer }
+    ensures { Restates plan.now.plan answer result }
+{
+    match answer {
+        BlockAnswer::Memory => Stop::Memory,
+        BlockAnswer::Row { row, cause, item } => {
+            match cause_of(alloc, plan, bound, Refusal { cause, item }) {
+                Ok(cause) => Stop::Refused(row, cause),
+                Err(AllocError) => Stop::Memory,
+            }
+        }
+    }
+}
+
+// The cause of a refusal with the name that its line speaks of, which is copied.
+fn cause_of(
+    alloc: Global,
+    plan: &Plan,
+    bound: &BoundPlan,
+    why: Refusal,
+) -> Result<Cause, AllocError>
+    requires named { IsNamed plan.now.plan }
+    requires shape { SameShape plan.now.plan bound.now }
+    requires refusal { CanRefuse plan.now.plan why }
+    ensures { IfOk result (λ cause. cause_text cause ≡ refusal_text plan.now.plan why) }
+{
+    match why.cause {
+        1 => Ok(Cause::Width),
+        2 => Ok(Cause::LongKey),
+        3 => Ok(Cause::Item(String::from_str(
+            alloc,
+            name_behind(plan, bound, why.item),
+        )?)),
+        _ => Ok(Cause::Filter(String::from_str(
+            alloc,
+            name_behind(plan, bound, bound.item_count),
+        )?)),
+    }
+}
+
+// The name behind those of the groups and of the first aggregates.
+fn name_behind<'a>(plan: &'a Plan, bound: &BoundPlan, items: u32) -> &'a str
+    requires named { IsNamed plan.now.plan }
+    requires shape { SameShape plan.now.plan bound.now }
+    requires items { items ≤ length plan.now.plan.items }
+    requires place { length plan.now.plan.groups + length (filter_map (λ item. item.column) (take items plan.now.plan.items)) < length (names_of plan.now.plan) }
+    ensures { result.now ≡ slice_index_or (names_of plan.now.plan) (length plan.now.plan.groups + length (filter_map (λ item. item.column) (take items plan.now.plan.items))) [] }
+{
+    let mut named = 0;
+    'items: for item in &bound.items[..items as usize] {
+        if item.kind != ItemKind::Rows {
+            named += 1;
+        }
+    }
+    plan.name(bound.group_count + named)
+}
