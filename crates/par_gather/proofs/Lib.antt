@@ -1,1 +1,3 @@
+pub mod Pieces
+pub mod Refusals
 pub mod Statuses

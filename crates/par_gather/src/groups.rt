@@ -26,8 +26,11 @@ pub(crate) fn groups_of(
     ensures first { IfErr result (λ answer. NamesRefused plan.now rows.now answer) }
 {
     let mut groups = GroupMap::new(alloc);
-    'blocks: for block in 0..rows.count().div_ceil(BLOCK_ROWS) {
-        groups.add_block(rows, plan, block)?;
+    for block in 0..rows.count().div_ceil(BLOCK_ROWS) {
+        match groups.add_block(rows, plan, block) {
+            Ok(()) => {}
+            Err(answer) => return Err(answer),
+        }
     }
     match groups.into_groups() {
         Ok(groups) => Ok(groups),

@@ -130,20 +130,24 @@ impl Stop {
         }
     }
 
-    // Writes the line. A failed write ends it, and changes nothing else.
-    pub(crate) fn report<E: Sink>(&self, err: &mut E)
-        ensures { IsSaid (E.taken err.old) (E.taken err.new) (E.faults err.old) (E.faults err.new) (line (stop_text self.now)) }
+    // The pieces of its line.
+    fn pieces<'a>(&'a self, digits: &'a mut itoa::Buffer) -> [&'a str; 8]
+        ensures { concat (map (λ piece. piece.now) result) ≡ line (stop_text self.now) }
     {
-        let mut digits = itoa::Buffer::new();
         let (row, number, colon) = match self {
             Stop::Refused(row, _) => ("row ", digits.format(*row), ": "),
             _ => ("", "", ""),
         };
         let (text, name, rest) = self.text();
-        let said = write_pieces(
-            err,
-            &["pargather: ", row, number, colon, text, name, rest, "\n"],
-        );
+        ["pargather: ", row, number, colon, text, name, rest, "\n"]
+    }
+
+    // Writes the line. A failed write ends it, and changes nothing else.
+    pub(crate) fn report<E: Sink>(&self, err: &mut E)
+        ensures { IsSaid (E.taken err.old) (E.taken err.new) (E.faults err.old) (E.faults err.new) (line (stop_text self.now)) }
+    {
+        let mut digits = itoa::Buffer::new();
+        let said = write_pieces(err, &self.pieces(&mut digits));
         let _ = said;
     }
 }

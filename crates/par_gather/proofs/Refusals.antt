@@ -1,0 +1,84 @@
+-- Which row of a table is the first that is refused, where the blocks before it are accepted.
+use Rattle.std.proofs.Common.{◌≡◌, ◌+◌, ◌*◌, ◌<◌, ◌≤◌, ◌++◌, ◌∙◌, ℕ, List, [], ◌∷◌, Some, length, take, drop, get_or, refl, sym, ap, arith, length-drop, take-append-drop}
+use Rattle.std.proofs.lemmas.List.{drop-drop, drop-take, drop_more, get_or-drop, length-take-le, take-take}
+use Rattle.std.proofs.lemmas.List.Elements.{All-append, All-same, recursion_from_All}
+use Rattle.std.specs.List.{All, AllByRecursion, enumerate_from, filter_map}
+use Rattle.csv_rows.specs.Records.{record_at}
+use Rattle.par_model.specs.Plan.{Plan}
+use Rattle.par_model.specs.Refuse.{numbered_refusal, refusal, refused_rows}
+use Rattle.par_model.specs.declared.refusal.Refusal.{Refusal}
+use Rattle.partial_agg.proofs.Blocks.{length-block}
+use Rattle.partial_agg.specs.Blocks.{Stopped}
+use Rattle.partial_agg.specs.Groups.{GroupsByKey}
+use Rattle.partial_agg.specs.declared.map.BlockAnswer.{BlockAnswer}
+use Rattle.partial_agg.specs.declared.map.BlockAnswer.TheVariants as answer
+use Rattle.partial_agg.specs.Rows.{IsAccepted, block_rows, header_width}
+use Rattle.par_gather.specs.Grouping.{NamesRefused, refused_in}
+
+-- rows that are accepted
+accepted-none : (plan : Plan) (width n : ℕ) (xs : List (List (List ℕ))) → AllByRecursion (IsAccepted plan width) xs → filter_map (numbered_refusal plan width) (enumerate_from n xs) ≡ []
+accepted-none plan width n [] accepted = refl
+accepted-none plan width n (x ∷ xs) accepted = rw accepted.0 (accepted-none plan width (n + 1) xs accepted.1)
+
+-- a row that is refused, behind rows that are accepted
+refused-after : (plan : Plan) (width n : ℕ) (xs ys : List (List (List ℕ))) (row : List (List ℕ)) (why : Refusal) → AllByRecursion (IsAccepted plan width) xs → refusal plan width row ≡ Some why
+    → (rest : List (ℕ × Refusal)) × (filter_map (numbered_refusal plan width) (enumerate_from n (xs ++ row ∷ ys)) ≡ (n + length xs, why) ∷ rest)
+refused-after plan width n [] ys row why accepted is =
+    let same : n + 0 ≡ n = omega arith in
+    (filter_map (numbered_refusal plan width) (enumerate_from (n + 1) ys), rw (is, same) refl)
+refused-after plan width n (x ∷ xs) ys row why accepted is =
+    let later = refused-after plan width (n + 1) xs ys row why accepted.1 is in
+    let same : n + length (x ∷ xs) ≡ n + 1 + length xs = omega arith in
+    (later.0, rw (accepted.0, same) later.1)
+
+-- a front, and what comes next
+pub take_on : {X : Type 0} (n m : ℕ) (xs : List X) → take n xs ++ take m (drop n xs) ≡ take (n + m) xs
+take_on n m xs = cc (take-take n (n + m) xs (omega arith), drop-take n m xs, take-append-drop n (take (n + m) xs))
+
+-- the rows of a block, among the rows without the header
+pub block_of : (records : List (List (List ℕ))) (block : ℕ) → block_rows records block ≡ take 256 (drop (256 * block) (drop 1 records))
+block_of records block =
+    let same : 256 * block + 1 ≡ 1 + 256 * block = omega arith in
+    cc (same, drop-drop (256 * block) 1 records)
+
+-- the rows up to a block and those of the block
+pub block_more : (records : List (List (List ℕ))) (block : ℕ) → take (256 * block) (drop 1 records) ++ block_rows records block ≡ take (256 * (block + 1)) (drop 1 records)
+block_more records block =
+    let same : 256 * block + 256 ≡ 256 * (block + 1) = omega arith in
+    cc (same, block_of records block, take_on (256 * block) 256 (drop 1 records))
+
+-- a table whose rows are all accepted
+pub refused_in-none : (plan : Plan) (records : List (List (List ℕ))) → All (IsAccepted plan (header_width records)) (drop 1 records) → refused_in plan records ≡ []
+unfolding refused_rows
+refused_in-none plan records accepted = accepted-none plan (header_width records) 1 (drop 1 records) (recursion_from_All _ _ accepted)
+
+-- a row of a block that is refused, where the rows before it are accepted
+pub refused_in-first : (plan : Plan) (records : List (List (List ℕ))) (block count : ℕ) (why : Refusal) → count < length (block_rows records block) → count < 256 → 256 * block + 1 + count < length records
+    → All (IsAccepted plan (header_width records)) (take (256 * block) (drop 1 records)) → All (IsAccepted plan (header_width records)) (take count (block_rows records block))
+    → refusal plan (header_width records) (record_at records (256 * block + 1 + count)) ≡ Some why
+    → (rest : List (ℕ × Refusal)) × (refused_in plan records ≡ (256 * block + 1 + count, why) ∷ rest)
+unfolding refused_rows
+refused_in-first plan records block count why within small below before here is =
+    let rows = drop 1 records in
+    let n = 256 * block + count in
+    let width = header_width records in
+    let short : n < length rows = omega (arith, length-drop 1 records) in
+    let front : take n rows ≡ take (256 * block) rows ++ take count (block_rows records block) =
+    cc (block_of records block, take-take count 256 (drop (256 * block) rows) (omega arith), take_on (256 * block) count rows) in
+    let accepted : All (IsAccepted plan width) (take n rows) = All-same (IsAccepted plan width) _ _ front (All-append (IsAccepted plan width) _ _ before here) in
+    let place : 256 * block + 1 + count ≡ 1 + n = omega arith in
+    let row : get_or rows n [] ≡ record_at records (256 * block + 1 + count) = rw place (get_or-drop 1 records n []) in
+    let split : take n rows ++ get_or rows n [] ∷ drop (n + 1) rows ≡ rows = cc (take-append-drop n rows, drop_more rows n [] short) in
+    let found = refused-after plan width 1 (take n rows) (drop (n + 1) rows) (get_or rows n []) why (recursion_from_All _ _ accepted) (ap (refusal plan width) row ∙ is) in
+    let at : 1 + length (take n rows) ≡ 256 * block + 1 + count = omega (arith, length-take-le n rows (omega arith)) in
+    (found.0, sym (ap (λ (l : List (List (List ℕ))). filter_map (numbered_refusal plan width) (enumerate_from 1 l)) split) ∙ found.1 ∙ ap (λ k. (k, why) ∷ found.0) at)
+
+-- a block that stopped, where the blocks before it are accepted
+pub NamesRefused-stopped : (plan : Plan) (records : List (List (List ℕ))) (block : ℕ) (old new : GroupsByKey) (why : BlockAnswer) → All (IsAccepted plan (header_width records)) (take (256 * block) (drop 1 records)) → Stopped plan records block old new why → NamesRefused plan records why
+NamesRefused-stopped plan records block old new (answer.Row row cause item) before stopped =
+    let said = stopped.explains in
+    let long = length-block records block in
+    let within = stopped.stops in
+    let found = refused_in-first plan records block stopped.count (record { cause = cause; item = item }) within (omega arith) (omega arith) before stopped.before.accepted said.1 in
+    (found.0, rw said.0 found.1)
+NamesRefused-stopped plan records block old new answer.Memory before stopped = tt
