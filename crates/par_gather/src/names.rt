@@ -4,6 +4,7 @@
 //! name of an aggregate's column stands behind those of the groups and of the aggregates before it.
 
 ghost use Rattle.std.specs.Prelude.{◌≡◌, ◌+◌, ◌<◌, ◌≤◌, [], IfOk, filter_map, length, map, slice_index_or, take};
+ghost use Rattle.par_model.specs.Columns.{reads_column};
 ghost use Rattle.par_model.specs.Named.{names_of};
 ghost use Rattle.par_gather.specs.Grouping.{CanRefuse, IsNamed, MayAnswer, SameShape};
 ghost use Rattle.par_gather.specs.Lines.{refusal_text};
@@ -74,9 +75,23 @@ fn name_behind<'a>(plan: &'a Plan, bound: &BoundPlan, items: u32) -> &'a str
 {
     let mut named = 0;
     'items: for item in &bound.items[..items as usize] {
-        if item.kind != ItemKind::Rows {
+        if reads_column(item.kind) {
             named += 1;
         }
     }
     plan.name(bound.group_count + named)
+}
+
+// Whether an aggregate reads a column.
+fn reads_column(kind: ItemKind) -> bool
+    ensures { result ≡ reads_column kind }
+{
+    match kind {
+        ItemKind::Rows => false,
+        ItemKind::Count
+        | ItemKind::Sum
+        | ItemKind::Min
+        | ItemKind::Max
+        | ItemKind::Avg => true,
+    }
 }

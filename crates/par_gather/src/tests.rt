@@ -23,6 +23,7 @@ struct Run<'a> {
 }
 
 // The status, and what the two sinks were given.
+#[derive(Drop)]
 struct Answered {
     status: u8,
     out: Vec<u8>,
@@ -133,7 +134,7 @@ fn answers_worked_rows(rt: HostRuntime) -> Result<(), Fail> {
         // A line that cannot be written changes no status.
         (
             Run {
-                failing_lines: &[4],
+                failing_lines: &[5],
                 ..Run::of("--agg count", "a,b\n1\n")
             },
             1,
