@@ -51,18 +51,18 @@ fn cause_of(
     requires refusal { CanRefuse plan.now.plan why }
     ensures { IfOk result (λ cause. cause_text cause ≡ refusal_text plan.now.plan why) }
 {
-    match why.cause {
-        1 => Ok(Cause::Width),
-        2 => Ok(Cause::LongKey),
-        3 => Ok(Cause::Item(String::from_str(
-            alloc,
-            name_behind(plan, bound, why.item),
-        )?)),
-        _ => Ok(Cause::Filter(String::from_str(
-            alloc,
-            name_behind(plan, bound, bound.item_count),
-        )?)),
+    if why.cause == 1 {
+        return Ok(Cause::Width);
     }
+    if why.cause == 2 {
+        return Ok(Cause::LongKey);
+    }
+    if why.cause == 3 {
+        let name = name_behind(plan, bound, why.item);
+        return Ok(Cause::Item(String::from_str(alloc, name)?));
+    }
+    let name = name_behind(plan, bound, item_count(bound));
+    Ok(Cause::Filter(String::from_str(alloc, name)?))
 }
 
 // The name behind those of the groups and of the first aggregates.
@@ -94,4 +94,11 @@ fn reads_column(kind: ItemKind) -> bool
         | ItemKind::Max
         | ItemKind::Avg => true,
     }
+}
+
+// How many aggregates a plan has.
+fn item_count(bound: &BoundPlan) -> u32
+    ensures { result ≡ length bound.now.items }
+{
+    bound.items[..bound.item_count as usize].len() as u32
 }
