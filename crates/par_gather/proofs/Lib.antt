@@ -1,5 +1,9 @@
+pub mod Bound
 pub mod Columns
+pub mod Inputs
 pub mod NamePlaces
+pub mod Outcomes
 pub mod Pieces
 pub mod Refusals
 pub mod Statuses
+pub mod Words
