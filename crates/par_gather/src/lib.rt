@@ -21,16 +21,15 @@ mod groups;
 mod names;
 mod status;
 mod stop;
-mod text;
 
 use csv_rows::{RowStore, read_all, rows};
 pub use gate::{Gate, OpenGate};
 use par_io::{Sink, Source, write_whole};
 use plan_spec::Plan;
 pub use status::{MISUSED, NO_MEMORY, READ_FAULT, REFUSED, TABLE, TOO_LARGE, WRITE_FAULT};
+use result_text::text_of;
 use std::alloc::Global;
 use stop::Stop;
-use text::text_of;
 
 /// Answers the query that `words` name, over the bytes of `source`: writes its table to `out`, or a line to `err` that
 /// says why there is none, and returns the exit status. `words` are those after the program's name. Time is linear in

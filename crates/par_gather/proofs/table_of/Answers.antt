@@ -1,7 +1,10 @@
-use Rattle.std.proofs.Common.{length, subst, sym}
+use Rattle.std.proofs.Common.{◌≤◌, ◌^◌, List, arith, drop, length, length-drop, subst, sym}
 use Rattle.csv_rows.specs.Records.{record_at}
 use Rattle.par_model.specs.Columns.{HasColumns}
 use Rattle.par_model.specs.Plan.{Plan}
+use Rattle.partial_agg.specs.declared.groups.Group.{Group}
+use Rattle.result_text.proofs.Uses.{printable-listed}
+use Rattle.result_text.specs.Printable.{ArePrintable}
 use Rattle.par_gather.proofs.Bound.{has-columns, may-answer, same-shape}
 use Rattle.par_gather.specs.Grouping.{NamesRefused, SameShape}
 use Rattle.par_gather.proofs.table_of.Goals as goal
@@ -20,3 +23,10 @@ pub stop_of_block-requires-clause-refusal : goal.stop_of_block-requires-clause-r
 stop_of_block-requires-clause-refusal c =
     let P : Plan → Type 0 = λ p. NamesRefused p c.args.rows.now c.in-Err-groups_of.answer in
     may-answer c.args.plan.now.plan c.args.rows.now c.in-Err-groups_of.answer c.requires.named (subst P c.in-Ok.ensures.bound c.in-Err-groups_of.ensures.first)
+
+pub text_of-requires-clause-printable : goal.text_of-requires-clause-printable
+text_of-requires-clause-printable c =
+    let groups = c.in-Ok-groups_of.ensures.groups in
+    let few : length (drop 1 c.args.rows.now) ≤ 2 ^ 32 = omega (arith, length-drop 1 c.args.rows.now, c.requires.few) in
+    let P : List Group → Type 0 = λ l. ArePrintable c.in-Ok.bound l in
+    subst P (sym groups.2) (printable-listed c.in-Ok.bound (drop 1 c.args.rows.now) groups.0 few groups.1)
