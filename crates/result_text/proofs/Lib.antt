@@ -1,0 +1,12 @@
+pub mod Answering
+pub mod Averages
+pub mod Columns
+pub mod Entries
+pub mod Keys
+pub mod Occurring
+pub mod Small
+pub mod Sorting
+pub mod Tables
+pub mod Uses
+pub mod Whole
+pub mod Zipped

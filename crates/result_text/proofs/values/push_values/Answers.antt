@@ -1,0 +1,17 @@
+use Rattle.std.proofs.lemmas.List.Elements.{All-rest}
+use Rattle.std.proofs.lemmas.Slice.Zip.{Zip-more, either_empty_from_Zip}
+use Rattle.result_text.specs.Printable.{IsSmallSlot}
+use Rattle.result_text.proofs.Zipped.{value-more, values-end}
+use Rattle.result_text.proofs.values.push_values.Goals as goal
+
+pub loop-item-preserved : goal.loop-item-preserved
+loop-item-preserved c =
+    let steps = Zip-more c.loop-item.item-iterator c.next.new.self c.next.result (c.in-Some.item, c.in-Some.slot) c.in-Some.is c.next.ensures.steps in
+    record {
+      fields = value-more _ _ _ _ _ _ _ _ _ _ steps.0 steps.1 c.in_ok-push_value.ensures.fields c.loop-item.invariant.fields;
+      whole = c.in_ok-push_value.ensures.whole;
+      small = All-rest IsSmallSlot _ _ _ steps.1 c.loop-item.invariant.small;
+    }
+
+pub returns : goal.returns
+returns c = record { fields = values-end _ _ _ _ _ (either_empty_from_Zip c.loop-item.item-iterator c.next.new.self c.next.result c.in-None.is c.next.ensures.steps) c.loop-item.invariant.fields }

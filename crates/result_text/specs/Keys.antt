@@ -1,0 +1,19 @@
+-- The columns of an encoded key, read from its front.
+use Rattle.std.specs.Prelude.{ℕ, zero, suc, List, [], ◌∷◌, drop, take}
+use Rattle.std.specs.Int.{from_le_bytes, w32}
+
+-- how long the first column is: its first four bytes say so, the lowest first
+abbrev pub first_size : List ℕ → ℕ
+first_size key = from_le_bytes w32 (take 4 key)
+
+-- the first column, and what comes after it
+abbrev pub first_column : List ℕ → List ℕ
+first_column key = take (first_size key) (drop 4 key)
+
+abbrev pub after_first_column : List ℕ → List ℕ
+after_first_column key = drop (first_size key) (drop 4 key)
+
+-- so many columns; of bytes that end too early they are empty
+abbrev pub columns_in : ℕ → List ℕ → List (List ℕ)
+columns_in zero key = []
+columns_in (suc count) key = first_column key ∷ columns_in count (after_first_column key)

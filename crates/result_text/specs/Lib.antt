@@ -1,0 +1,5 @@
+pub mod Keys
+pub mod Printable
+pub mod Text
+pub mod Order
+pub mod Written

@@ -1,0 +1,53 @@
+//! The text of the table that answers a query: the header, and a line for each group.
+//!
+//! The groups come in the order of their encoded keys, in which a short column stands before a long one. The table is in
+//! the order of the columns themselves, so a list of references is sorted, column by column. Each line is put together in one
+//! record, whose memory serves for all lines, and the crate `csv` writes it and decides all quotes.
+#![tactic(auto)]
+
+ghost use Rattle.std.specs.Prelude.{◌≡◌, ◌∷◌, ℕ, List, IfOk};
+ghost use Rattle.par_model.specs.Named.{bound_plan};
+ghost use Rattle.par_model.specs.Outcome.{IsAnswer};
+ghost use Rattle.partial_agg.specs.Groups.{AreGroups, GroupsByKey};
+ghost use Rattle.partial_agg.specs.Listed.{listed};
+ghost use Rattle.result_text.specs.Printable.{ArePrintable, IsBoundFrom};
+ghost use Rattle.result_text.specs.Text.{IsTextOf};
+
+mod decimal;
+mod order;
+mod table;
+mod values;
+
+use crate::order::in_order;
+use crate::table::TableWriter;
+use par_model::BoundPlan;
+use partial_agg::Groups;
+use plan_spec::Plan;
+use std::alloc::{AllocError, Global};
+
+/// The text of the table of some groups, under the plan that they were made by and its columns. The groups are only read.
+/// An error is want of memory. It takes memory for the text and 24 bytes a group; the time is that of the text, and of
+/// n log n comparisons of the keys of n groups.
+pub fn text_of(
+    alloc: Global,
+    plan: &Plan,
+    bound: &BoundPlan,
+    groups: &Groups,
+) -> Result<Vec<u8>, AllocError>
+    requires bound { IsBoundFrom plan.now.plan bound.now }
+    requires printable { ArePrintable bound.now groups.now }
+    ensures text { IfOk result (λ text. IsTextOf plan.now.plan bound.now groups.now text.items) }
+
+    // Where the groups are those of some rows under a header, the text answers the plan over them.
+    ensures answer { IfOk result (λ text. (header : List (List ℕ)) (rows : List (List (List ℕ))) (m : GroupsByKey)
+        → bound.now ≡ bound_plan header plan.now.plan → AreGroups bound.now rows m → groups.now ≡ listed m → IsAnswer plan.now.plan (header ∷ rows) text.items) }
+{
+    let groups = in_order(alloc, groups, bound.group_count)?;
+    let mut table = TableWriter::new(alloc);
+    table.write_header(plan, bound)?;
+    table.write_groups(bound, &groups)?;
+    table.into_text()
+}
+
+#[cfg(test)]
+mod tests;

@@ -1,0 +1,83 @@
+//! Groups in order of their columns.
+//!
+//! An encoded key has each column after its length, lowest byte first, so keys as bytes come in another order than the
+//! columns that they encode. Two keys are compared column by column, as they lie, and nothing is copied.
+
+ghost use Rattle.std.specs.Prelude.{◌≡◌, ◌≤◌, All, IfOk, OnOk, length, map};
+ghost use Rattle.std.specs.List.Sorted.{IsPermutation, IsSortedBy};
+ghost use Rattle.par_model.specs.Table.{columns_cmp};
+ghost use Rattle.result_text.specs.Keys.{after_first_column, columns_in, first_column};
+ghost use Rattle.result_text.specs.Order.{group_of, is_before};
+
+use par_model::AggState;
+use partial_agg::Groups;
+use std::alloc::{AllocError, Global};
+use std::cmp::Ordering;
+
+/// A group where it lies: its encoded key and its aggregates.
+#[derive(Clone, Copy)]
+pub(crate) struct GroupRef<'a> {
+    pub(crate) key: &'a [u8],
+    pub(crate) state: &'a AggState,
+}
+
+/// The groups in order of the so many columns of their keys. It takes 24 bytes a group.
+pub(crate) fn in_order<'a>(
+    alloc: Global,
+    groups: &'a Groups,
+    columns: u32,
+) -> Result<Vec<GroupRef<'a>>, AllocError>
+    ensures same { IfOk result (λ refs. IsPermutation groups.now (map group_of refs.items)) }
+    ensures short { OnOk result (All (λ group. length group.key ≤ 248) groups.now) }
+    ensures sorted { IfOk result (λ refs. IsSortedBy (is_before columns) refs.items) }
+{
+    let mut refs = as_they_are(alloc, groups)?;
+    refs.sort_unstable_by(|a, b| compare(a.key, b.key, columns));
+    Ok(refs)
+}
+
+// The groups as they are listed.
+fn as_they_are<'a>(alloc: Global, groups: &'a Groups) -> Result<Vec<GroupRef<'a>>, AllocError>
+    ensures same { IfOk result (λ refs. map group_of refs.items ≡ groups.now) }
+    ensures short { OnOk result (All (λ group. length group.key ≤ 248) groups.now) }
+{
+    let mut refs = Vec::with_capacity(alloc, groups.len())?;
+    for at in 0..groups.len() {
+        let group = groups.get(at);
+        let key = group.key.bytes();
+        let state = &group.state;
+        refs.push(GroupRef { key, state })?;
+    }
+    Ok(refs)
+}
+
+// How two keys compare by so many columns.
+fn compare(a: &[u8], b: &[u8], columns: u32) -> Ordering
+    ensures { result ≡ columns_cmp (columns_in columns a.now) (columns_in columns b.now) }
+{
+    let mut left = a;
+    let mut right = b;
+    for _at in 0..columns {
+        let (x, more_left) = split_column(left);
+        let (y, more_right) = split_column(right);
+        match x.cmp(y) {
+            Ordering::Equal => {}
+            unequal => return unequal,
+        }
+        left = more_left;
+        right = more_right;
+    }
+    Ordering::Equal
+}
+
+/// The first column of a key, and what comes after it.
+pub(crate) fn split_column(key: &[u8]) -> (&[u8], &[u8])
+    ensures first { result.0.now ≡ first_column key.now }
+    ensures rest { result.1.now ≡ after_first_column key.now }
+{
+    let [a, b, c, d, rest @ ..] = key else {
+        return (&[], &[]);
+    };
+    let size = u32::from_le_bytes([*a, *b, *c, *d]) as usize;
+    rest.split_at(size.min(rest.len()))
+}

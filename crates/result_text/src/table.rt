@@ -1,0 +1,119 @@
+//! The lines of a table, one after the other, as the crate `csv` writes them.
+//!
+//! Between two lines the writer has no field of a record (`IsBetween`). After an error the lines are only dropped.
+
+ghost use Rattle.std.specs.Prelude.{◌≡◌, ◌++◌, [], All, IfOk, OnOk, length, map};
+ghost use Rattle.csv.specs.Records.{fields_of};
+ghost use Rattle.csv.specs.Writing.{default_writer, row_text};
+ghost use Rattle.par_model.specs.Table.{table_header, table_text, values_text};
+ghost use Rattle.result_text.specs.Keys.{columns_in};
+ghost use Rattle.result_text.specs.Printable.{IsBoundFrom, IsSmallSlot};
+ghost use Rattle.result_text.specs.Order.{line_of};
+ghost use Rattle.result_text.specs.Text.{line_record, shown};
+ghost use Rattle.result_text.specs.Written.{IsBetween, written};
+
+use crate::order::GroupRef;
+use crate::values::{push_columns, push_header, push_values};
+use csv::{ByteRecord, Writer, WriterBuilder};
+use par_model::{AggState, BoundPlan};
+use partial_agg::empty;
+use plan_spec::Plan;
+use std::alloc::{AllocError, Global};
+
+/// A table as far as it is written. The record and the text of an average are filled anew for each line, in the same memory.
+#[derive(Drop)]
+pub(crate) struct TableWriter {
+    writer: Writer<Vec<u8>>,
+    row: ByteRecord,
+    average: Vec<u8>,
+}
+
+impl TableWriter {
+    /// No lines yet.
+    pub(crate) fn new(alloc: Global) -> TableWriter
+        ensures empty { written result.writer ≡ [] }
+        ensures between { IsBetween result.writer }
+    {
+        TableWriter {
+            writer: WriterBuilder::new().from_writer(Vec::new(alloc)),
+            row: ByteRecord::new(alloc),
+            average: Vec::new(alloc),
+        }
+    }
+
+    /// The line of the names of the output columns.
+    pub(crate) fn write_header(&mut self, plan: &Plan, bound: &BoundPlan) -> Result<(), AllocError>
+        requires between { IsBetween self.old.writer }
+        requires bound { IsBoundFrom plan.now.plan bound.now }
+        ensures text { OnOk result (written self.new.writer ≡ written self.old.writer ++ row_text default_writer (table_header plan.now.plan)) }
+        ensures between { OnOk result (IsBetween self.new.writer) }
+    {
+        self.row.clear();
+        push_header(&mut self.row, plan, bound)?;
+        self.write_record()
+    }
+
+    /// The lines of the groups, or that of no rows where nothing is grouped by and there is no group.
+    pub(crate) fn write_groups(
+        &mut self,
+        bound: &BoundPlan,
+        groups: &[GroupRef<'_>],
+    ) -> Result<(), AllocError>
+        requires between { IsBetween self.old.writer }
+        requires small { All (λ group. All IsSmallSlot group.state.now.slots) groups.now }
+        ensures text { OnOk result (written self.new.writer ≡ written self.old.writer ++ table_text (map (line_record bound.now) (shown bound.now (map (line_of (length bound.now.groups)) groups.now)))) }
+    {
+        if bound.group_count == 0 && groups.is_empty() {
+            return self.write_group(bound, &[], &empty());
+        }
+        self.write_each(bound, groups)
+    }
+
+    // A line for each group.
+    fn write_each(&mut self, bound: &BoundPlan, groups: &[GroupRef<'_>]) -> Result<(), AllocError>
+        requires between { IsBetween self.old.writer }
+        requires small { All (λ group. All IsSmallSlot group.state.now.slots) groups.now }
+        ensures text { OnOk result (written self.new.writer ≡ written self.old.writer ++ table_text (map (line_record bound.now) (map (line_of (length bound.now.groups)) groups.now))) }
+    {
+        for group in groups {
+            self.write_group(bound, group.key, group.state)?;
+        }
+        Ok(())
+    }
+
+    // The line of a group with this key.
+    fn write_group(
+        &mut self,
+        bound: &BoundPlan,
+        key: &[u8],
+        state: &AggState,
+    ) -> Result<(), AllocError>
+        requires between { IsBetween self.old.writer }
+        requires small { All IsSmallSlot state.now.slots }
+        ensures text { OnOk result (written self.new.writer ≡ written self.old.writer ++ row_text default_writer (columns_in (length bound.now.groups) key.now ++ values_text bound.now state.now)) }
+        ensures between { OnOk result (IsBetween self.new.writer) }
+    {
+        self.row.clear();
+        push_columns(&mut self.row, key, bound.group_count)?;
+        push_values(&mut self.row, &mut self.average, bound, state)?;
+        self.write_record()
+    }
+
+    // Writes the record. Over memory nothing but want of memory can fail, since all lines have as many fields.
+    fn write_record(&mut self) -> Result<(), AllocError>
+        requires { IsBetween self.old.writer }
+        ensures text { OnOk result (written self.new.writer ≡ written self.old.writer ++ row_text default_writer (fields_of self.old.row)) }
+        ensures between { OnOk result (IsBetween self.new.writer) }
+    {
+        self.writer
+            .write_byte_record(&self.row)
+            .map_err(|_| AllocError)
+    }
+
+    /// The text of the lines.
+    pub(crate) fn into_text(self) -> Result<Vec<u8>, AllocError>
+        ensures { IfOk result (λ text. text.items ≡ written self.writer) }
+    {
+        self.writer.into_inner().map_err(|_| AllocError)
+    }
+}

@@ -1,0 +1,131 @@
+//! The fields of a line, each put at the end of a record.
+
+ghost use Rattle.std.specs.Prelude.{◌≡◌, ◌≤◌, ◌++◌, ◌∷◌, [], All, OnOk, length, map};
+ghost use Rattle.csv.specs.Records.{fields_of, partial_of};
+ghost use Rattle.par_model.specs.Table.{item_text, table_header, value_text, values_text};
+ghost use Rattle.result_text.specs.Keys.{columns_in};
+ghost use Rattle.result_text.specs.Printable.{IsBoundFrom, IsSmallSlot};
+
+use crate::decimal::push_average;
+use crate::order::split_column;
+use csv::ByteRecord;
+use itoa::Integer;
+use par_model::{AggState, BoundPlan, Item, ItemKind, SlotState};
+use plan_spec::Plan;
+use std::alloc::AllocError;
+
+/// The names of the output columns: those to group by, then those of the aggregates.
+pub(crate) fn push_header(
+    row: &mut ByteRecord,
+    plan: &Plan,
+    bound: &BoundPlan,
+) -> Result<(), AllocError>
+    requires whole { partial_of row.old ≡ [] }
+    requires bound { IsBoundFrom plan.now.plan bound.now }
+    ensures fields { OnOk result (fields_of row.new ≡ fields_of row.old ++ table_header plan.now.plan) }
+{
+    push_names(row, plan, bound.group_count)?;
+    push_item_texts(row, plan, items(bound).len() as u32)
+}
+
+// The so many names that a plan groups by.
+fn push_names(row: &mut ByteRecord, plan: &Plan, columns: u32) -> Result<(), AllocError>
+    requires whole { partial_of row.old ≡ [] }
+    requires columns { columns ≡ length plan.now.plan.groups }
+    ensures fields { OnOk result (fields_of row.new ≡ fields_of row.old ++ plan.now.plan.groups) }
+    ensures whole { OnOk result (partial_of row.new ≡ []) }
+{
+    for at in 0..columns {
+        row.push_field(plan.name(at).as_bytes())?;
+    }
+    Ok(())
+}
+
+// The names of a plan's so many aggregates.
+fn push_item_texts(row: &mut ByteRecord, plan: &Plan, count: u32) -> Result<(), AllocError>
+    requires whole { partial_of row.old ≡ [] }
+    requires items { count ≡ length plan.now.plan.items }
+    ensures fields { OnOk result (fields_of row.new ≡ fields_of row.old ++ map item_text plan.now.plan.items) }
+{
+    for at in 0..count {
+        row.push_field(plan.item_text(at).as_bytes())?;
+    }
+    Ok(())
+}
+
+// A plan's aggregates, without the unused places.
+fn items(bound: &BoundPlan) -> &[Item]
+    ensures items { result.now ≡ bound.now.items }
+    ensures few { length result.now ≤ 8 }
+{
+    &bound.items[..bound.item_count as usize]
+}
+
+/// The so many columns of an encoded key.
+pub(crate) fn push_columns(row: &mut ByteRecord, key: &[u8], columns: u32) -> Result<(), AllocError>
+    requires whole { partial_of row.old ≡ [] }
+    ensures fields { OnOk result (fields_of row.new ≡ fields_of row.old ++ columns_in columns key.now) }
+    ensures whole { OnOk result (partial_of row.new ≡ []) }
+{
+    let mut rest = key;
+    for _at in 0..columns {
+        let (column, more) = split_column(rest);
+        row.push_field(column)?;
+        rest = more;
+    }
+    Ok(())
+}
+
+/// The values of a group's aggregates. The text of an average is made in `average`.
+pub(crate) fn push_values(
+    row: &mut ByteRecord,
+    average: &mut Vec<u8>,
+    bound: &BoundPlan,
+    state: &AggState,
+) -> Result<(), AllocError>
+    requires whole { partial_of row.old ≡ [] }
+    requires small { All IsSmallSlot state.now.slots }
+    ensures fields { OnOk result (fields_of row.new ≡ fields_of row.old ++ values_text bound.now state.now) }
+{
+    for (item, slot) in items(bound).iter().zip(state.slots.iter()) {
+        push_value(row, average, item.kind, state.rows, slot)?;
+    }
+    Ok(())
+}
+
+// The value of one aggregate, or an empty field where it is null.
+fn push_value(
+    row: &mut ByteRecord,
+    average: &mut Vec<u8>,
+    kind: ItemKind,
+    rows: u64,
+    slot: &SlotState,
+) -> Result<(), AllocError>
+    requires whole { partial_of row.old ≡ [] }
+    requires small { IsSmallSlot slot.now }
+    ensures fields { OnOk result (fields_of row.new ≡ fields_of row.old ++ value_text kind rows slot.now ∷ []) }
+    ensures whole { OnOk result (partial_of row.new ≡ []) }
+{
+    match kind {
+        ItemKind::Rows => push_integer(row, rows),
+        ItemKind::Count => push_integer(row, slot.count),
+        _ if slot.count == 0 => row.push_field(&[]),
+        ItemKind::Sum => push_integer(row, slot.sum),
+        ItemKind::Min => push_integer(row, slot.least),
+        ItemKind::Max => push_integer(row, slot.greatest),
+        ItemKind::Avg => {
+            average.clear();
+            push_average(average, slot.sum, slot.count)?;
+            row.push_field(average)
+        }
+    }
+}
+
+// An integer of any width.
+fn push_integer<I: Integer>(row: &mut ByteRecord, n: I) -> Result<(), AllocError>
+    requires whole { partial_of row.old ≡ [] }
+    ensures fields { OnOk result (fields_of row.new ≡ fields_of row.old ++ I.text n ∷ []) }
+    ensures whole { OnOk result (partial_of row.new ≡ []) }
+{
+    row.push_field(itoa::Buffer::new().format(n).as_bytes())
+}
