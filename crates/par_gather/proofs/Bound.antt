@@ -178,14 +178,14 @@ can-refuse header names width row why named is =
     elim (chosen (not (length row == width)) _ _ _ is) [
       | inl w ↦ plain names 1 why (omega arith) (omega arith) w.1
       | inr w ↦ elim (chosen (option_map_or (λ (filter : Filter). is_no_integer (field_of row filter.column)) (bound_plan header names).filter false) _ _ _ w.1) [
-          | inl v ↦ by-filter header row names why v.0 v.1
-          | inr v ↦ elim (chosen (not (is_kept (bound_plan header names) row)) _ _ _ v.1) [
-              | inl u ↦ cc u.1
-              | inr u ↦ elim (chosen (nat_lt longest_key (length (key_of (bound_plan header names) row))) _ _ _ u.1) [
-                  | inl t ↦ plain names 2 why (omega arith) (omega arith) t.1
-                  | inr t ↦ by-item header row names why named t.1
-              ]
+        | inl v ↦ by-filter header row names why v.0 v.1
+        | inr v ↦ elim (chosen (not (is_kept (bound_plan header names) row)) _ _ _ v.1) [
+          | inl u ↦ cc u.1
+          | inr u ↦ elim (chosen (nat_lt longest_key (length (key_of (bound_plan header names) row))) _ _ _ u.1) [
+            | inl t ↦ plain names 2 why (omega arith) (omega arith) t.1
+            | inr t ↦ by-item header row names why named t.1
           ]
+        ]
       ]
     ]
 

@@ -1,5 +1,5 @@
 -- Which row of a table is the first that is refused, where the blocks before it are accepted.
-use Rattle.std.proofs.Common.{◌≡◌, ◌+◌, ◌*◌, ◌<◌, ◌≤◌, ◌++◌, ◌∙◌, ℕ, List, [], ◌∷◌, Some, length, take, drop, get_or, refl, sym, ap, arith, length-drop, take-append-drop}
+use Rattle.std.proofs.Common.{◌≡◌, ◌+◌, ◌*◌, ◌<◌, ◌≤◌, ◌++◌, ◌∙◌, ℕ, List, [], ◌∷◌, Some, length, take, drop, get_or, refl, sym, ap, arith, length-drop, subst, take-append-drop}
 use Rattle.std.proofs.lemmas.List.{drop-drop, drop-take, drop_more, get_or-drop, length-take-le, take-take}
 use Rattle.std.proofs.lemmas.List.Elements.{All-append, All-same, recursion_from_All}
 use Rattle.std.specs.List.{All, AllByRecursion, enumerate_from, filter_map}
@@ -71,7 +71,9 @@ refused_in-first plan records block count why within small below before here is 
     let split : take n rows ++ get_or rows n [] ∷ drop (n + 1) rows ≡ rows = cc (take-append-drop n rows, drop_more rows n [] short) in
     let found = refused-after plan width 1 (take n rows) (drop (n + 1) rows) (get_or rows n []) why (recursion_from_All _ _ accepted) (ap (refusal plan width) row ∙ is) in
     let at : 1 + length (take n rows) ≡ 256 * block + 1 + count = omega (arith, length-take-le n rows (omega arith)) in
-    (found.0, sym (ap (λ (l : List (List (List ℕ))). filter_map (numbered_refusal plan width) (enumerate_from 1 l)) split) ∙ found.1 ∙ ap (λ k. (k, why) ∷ found.0) at)
+    let refused : List (List (List ℕ)) → List (ℕ × Refusal) = λ l. filter_map (numbered_refusal plan width) (enumerate_from 1 l) in
+    let whole : refused rows ≡ (1 + length (take n rows), why) ∷ found.0 = subst (λ (l : List (List (List ℕ))). refused l ≡ (1 + length (take n rows), why) ∷ found.0) split found.1 in
+    (found.0, subst (λ (k : ℕ). refused rows ≡ (k, why) ∷ found.0) at whole)
 
 -- a block that stopped, where the blocks before it are accepted
 pub NamesRefused-stopped : (plan : Plan) (records : List (List (List ℕ))) (block : ℕ) (old new : GroupsByKey) (why : BlockAnswer) → All (IsAccepted plan (header_width records)) (take (256 * block) (drop 1 records)) → Stopped plan records block old new why → NamesRefused plan records why

@@ -33,17 +33,17 @@ kind-reads text k is =
     elim (chosen (bytes_eq text (codes "count")) _ _ _ is) [
       | inl w ↦ by kind.Count refl w.1
       | inr w ↦ elim (chosen (bytes_eq text (codes "sum")) _ _ _ w.1) [
-          | inl v ↦ by kind.Sum refl v.1
-          | inr v ↦ elim (chosen (bytes_eq text (codes "min")) _ _ _ v.1) [
-              | inl u ↦ by kind.Min refl u.1
-              | inr u ↦ elim (chosen (bytes_eq text (codes "max")) _ _ _ u.1) [
-                  | inl t ↦ by kind.Max refl t.1
-                  | inr t ↦ elim (chosen (bytes_eq text (codes "avg")) _ _ _ t.1) [
-                      | inl s ↦ by kind.Avg refl s.1
-                      | inr s ↦ cc s.1
-                  ]
-              ]
+        | inl v ↦ by kind.Sum refl v.1
+        | inr v ↦ elim (chosen (bytes_eq text (codes "min")) _ _ _ v.1) [
+          | inl u ↦ by kind.Min refl u.1
+          | inr u ↦ elim (chosen (bytes_eq text (codes "max")) _ _ _ u.1) [
+            | inl t ↦ by kind.Max refl t.1
+            | inr t ↦ elim (chosen (bytes_eq text (codes "avg")) _ _ _ t.1) [
+              | inl s ↦ by kind.Avg refl s.1
+              | inr s ↦ cc s.1
+            ]
           ]
+        ]
       ]
     ]
   where
@@ -59,8 +59,8 @@ item-fits text item is =
     elim (chosen (bytes_eq text (codes "count")) _ _ _ is) [
       | inl w ↦ counts w.1
       | inr w ↦ elim (chosen (length (after_first (λ byte. byte == 58) text) == 0) _ _ _ w.1) [
-          | inl v ↦ cc v.1
-          | inr v ↦ over-reads (after_first (λ byte. byte == 58) text) (kind_in (before_first (λ byte. byte == 58) text)) (kind-reads (before_first (λ byte. byte == 58) text)) item v.1
+        | inl v ↦ cc v.1
+        | inr v ↦ over-reads (after_first (λ byte. byte == 58) text) (kind_in (before_first (λ byte. byte == 58) text)) (kind-reads (before_first (λ byte. byte == 58) text)) item v.1
       ]
     ]
   where

@@ -5,11 +5,11 @@
 //! writes the line on `err`, and what becomes of that line changes no status.
 #![tactic(auto)]
 
-ghost use Rattle.std.specs.Prelude.{◌≡◌, ◌≢◌, ◌⊎◌, ◌<◌, ◌≤◌, ℕ, List, [], Some, IfOk, IfErr, IfSome, IsNone, OnOk, Contains, length, take};
+ghost use Rattle.std.specs.Prelude.{◌≡◌, ◌≢◌, ◌⊎◌, ◌<◌, ◌≤◌, ℕ, List, Some, IfOk, IfErr, IfSome, IsNone, OnOk, Contains, length, take};
 ghost use Rattle.std.specs.Io.KnownBytes.{Appends};
 ghost use Rattle.csv_rows.specs.declared.records.TheConstants.{MOST_RECORDS};
 ghost use Rattle.par_io.specs.Faults.{Rose};
-ghost use Rattle.par_model.specs.Outcome.{IsAnswer, Outcome, Table, Usage, by_records};
+ghost use Rattle.par_model.specs.Outcome.{IsAnswer, Outcome, Table, by_records};
 ghost use Rattle.par_gather.specs.Answers.{IsOutcome, IsTableText, outcome_over, plan_of, status_of, statuses, texts, workers_of};
 ghost use Rattle.par_gather.specs.Grouping.{IsNamed};
 ghost use Rattle.par_gather.specs.Lines.{IsLine, IsSaid, NamesFirst};
@@ -26,8 +26,8 @@ use csv_rows::{RowStore, read_all, rows};
 pub use gate::{Gate, OpenGate};
 use par_io::{Sink, Source, write_whole};
 use plan_spec::Plan;
-pub use status::{MISUSED, NO_MEMORY, READ_FAULT, REFUSED, TABLE, TOO_LARGE, WRITE_FAULT};
 use result_text::text_of;
+pub use status::{MISUSED, NO_MEMORY, READ_FAULT, REFUSED, TABLE, TOO_LARGE, WRITE_FAULT};
 use std::alloc::Global;
 use stop::Stop;
 
@@ -78,13 +78,7 @@ pub fn pargather<R: Sync, S: Source, O: Sink, E: Sink, G: Gate>(
     ensures first { workers_of (texts words.now) ≡ Some 0 → result ≡ REFUSED → IfSome (S.left source.old) (λ bytes.
         (said : List ℕ) × NamesFirst (plan_of (texts words.now)) (outcome_over (plan_of (texts words.now)) bytes) said × IsSaid (E.taken err.old) (E.taken err.new) (E.faults err.old) (E.faults err.new) said) }
 {
-    match answer(alloc, words, source, out) {
-        Ok(()) => TABLE,
-        Err(stop) => {
-            stop.report(err);
-            stop.status()
-        }
-    }
+    aggregate_alone(alloc, words, source, out, err)
 }
 
 /// Answers the query as [`pargather`] does with `--workers 0`, whatever number the words give: in the caller's thread

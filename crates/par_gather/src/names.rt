@@ -88,11 +88,7 @@ fn reads_column(kind: ItemKind) -> bool
 {
     match kind {
         ItemKind::Rows => false,
-        ItemKind::Count
-        | ItemKind::Sum
-        | ItemKind::Min
-        | ItemKind::Max
-        | ItemKind::Avg => true,
+        ItemKind::Count | ItemKind::Sum | ItemKind::Min | ItemKind::Max | ItemKind::Avg => true,
     }
 }
 

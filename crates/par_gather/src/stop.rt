@@ -1,14 +1,12 @@
 //! Why a query has no table: its status and its line.
 
-ghost use Rattle.std.specs.Prelude.{◌≡◌, ◌++◌, map, decimal, codes};
+ghost use Rattle.std.specs.Prelude.{◌≡◌, ◌++◌, map};
 ghost use Rattle.std.specs.List.{concat};
 ghost use Rattle.par_gather.specs.Lines.{IsSaid, line};
 ghost use Rattle.par_gather.specs.Stops.{cause_text, stop_of_parsing, stop_of_reading, stop_of_words, stop_status, stop_text, text_of};
 ghost use Rattle.par_gather.specs.declared.stop.Stop.TheVariants as stop;
 
-use crate::status::{
-    MISUSED, NO_MEMORY, READ_FAULT, REFUSED, TOO_LARGE, WRITE_FAULT,
-};
+use crate::status::{MISUSED, NO_MEMORY, READ_FAULT, REFUSED, TOO_LARGE, WRITE_FAULT};
 use csv_rows::{ReadAnswer, RowsAnswer};
 use par_io::{Failed, Sink, write_whole};
 use plan_spec::PlanAnswer;

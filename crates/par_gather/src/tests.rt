@@ -5,7 +5,8 @@ use par_io::{MemSink, MemSource};
 use std::alloc::AllocError;
 use std::test::Fail;
 
-const USAGE: &str = "pargather: usage: pargather [--group COLUMNS] --agg ITEMS [--where FILTER] [--workers N] [--plan gather|hash] [--area-pages N]\n";
+const USAGE: &str =
+    "pargather: usage: pargather [--group COLUMNS] --agg ITEMS [--where FILTER] [--workers N] [--plan gather|hash] [--area-pages N]\n";
 
 const LETTERS: &str = "g,v\na,1\nb,2\na,3\n";
 
@@ -75,10 +76,23 @@ impl<'a> Run<'a> {
 #[test]
 fn answers_worked_rows(rt: HostRuntime) -> Result<(), Fail> {
     let runs = [
-        (Run::of("--group g --agg count", LETTERS), 0, "g,count\na,2\nb,1\n", ""),
-        (Run::of(SUMS, LETTERS), 0, "g,sum(v),avg(v)\na,4,2.0000\nb,2,2.0000\n", ""),
         (
-            Run::of("--agg count,sum:v --where v>=2 --plan hash --area-pages 0", LETTERS),
+            Run::of("--group g --agg count", LETTERS),
+            0,
+            "g,count\na,2\nb,1\n",
+            "",
+        ),
+        (
+            Run::of(SUMS, LETTERS),
+            0,
+            "g,sum(v),avg(v)\na,4,2.0000\nb,2,2.0000\n",
+            "",
+        ),
+        (
+            Run::of(
+                "--agg count,sum:v --where v>=2 --plan hash --area-pages 0",
+                LETTERS,
+            ),
             0,
             "count,sum(v)\n2,5\n",
             "",
@@ -103,7 +117,12 @@ fn answers_worked_rows(rt: HostRuntime) -> Result<(), Fail> {
             "pargather: row 1: wrong number of fields\n",
         ),
         (Run::of("--agg count", ""), 2, "", "pargather: no header\n"),
-        (Run::of("--group g --agg sum:w", LETTERS), 2, "", "pargather: no column w\n"),
+        (
+            Run::of("--group g --agg sum:w", LETTERS),
+            2,
+            "",
+            "pargather: no column w\n",
+        ),
         (
             Run {
                 failing_reads: &[1],
