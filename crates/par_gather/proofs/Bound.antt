@@ -22,26 +22,20 @@ use Rattle.par_model.specs.declared.plan.Item.{Item}
 use Rattle.par_model.specs.declared.plan.ItemKind.{ItemKind}
 use Rattle.par_model.specs.declared.plan.ItemKind.TheVariants as kind
 use Rattle.par_model.specs.declared.refusal.Refusal.{Refusal}
-use Rattle.par_gather.specs.Grouping.{CanRefuse, IsNamed, MayAnswer, NamesRefused, SameShape}
+use Rattle.plan_spec.proofs.Places.{place-finds}
+use Rattle.par_gather.proofs.Choices.{chosen}
+use Rattle.par_gather.specs.Grouping.{NamesRefused}
+use Rattle.par_gather.specs.Naming.{CanRefuse, IsNamed, MayAnswer, SameShape}
 
 -- ---- its columns are those of the header
 
--- a column that is found stands in the list
-found-below : {X : Type 0} (p : X → Bool) (n : ℕ) (xs : List X) (at : ℕ) → position_from p n xs ≡ Some at → at < n + length xs
-found-below p n [] at is = cc is
-found-below p n (x ∷ xs) at is = by_test (p x) refl (found-below p (n + 1) xs at)
-  where
-    by_test : (b : Bool) → p x ≡ b → (position_from p (n + 1) xs ≡ Some at → at < n + 1 + length xs) → at < n + length (x ∷ xs)
-    by_test true here later = let same : n ≡ at = cc (rw here at is) in omega arith
-    by_test false other later = let below = later (rw other at is) in omega arith
-
--- and so does that of a name that the header has
+-- a name's column in a header that has it
 column-below : (header : List (List ℕ)) (name : List ℕ) → is_none (column_of header name) ≡ false → bound_column header name < length header
 column-below header name has = by (column_of header name) refl has
   where
     by : (o : Option ℕ) → column_of header name ≡ o → is_none o ≡ false → bound_column header name < length header
     by None is has = cc has
-    by (Some at) is has = rw is (omega (arith, found-below (bytes_eq name) 0 header at is))
+    by (Some at) is has = rw is (omega (arith, (place-finds (bytes_eq name) 0 at header [] is).within))
 
 -- where no element passes a test
 none-passes : {X : Type 0} (p : X → Bool) (xs : List X) → find p xs ≡ None → AllByRecursion (λ x. p x ≡ false) xs
@@ -131,11 +125,6 @@ unreadable-named header row (item ∷ items) k at named found = by (is_unreadabl
     by false other later =
         let rest = later (rw other at found) in
         (suc rest.0, omega (arith, rest.1), rest.2)
-
--- which way a test went
-chosen : {A : Type 0} (b : Bool) (x y z : A) → (if b then x else y) ≡ z → ((b ≡ true) × (x ≡ z)) ⊎ ((b ≡ false) × (y ≡ z))
-chosen true x y z is = inl (refl, is)
-chosen false x y z is = inr (refl, is)
 
 -- two refusals that are one
 record IsSame (a b : Refusal) : Type 0 where

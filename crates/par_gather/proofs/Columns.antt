@@ -1,31 +1,21 @@
 -- The names of a plan's columns: which aggregates have one, and where it stands among all.
-use Rattle.std.proofs.Common.{◌≡◌, ◌+◌, ◌<◌, ◌≤◌, ◌++◌, ◌∙◌, ℕ, zero, suc, List, [], ◌∷◌, Bool, true, false, Option, Some, None, length, take, drop, get_or, map, refl, sym, ap, arith, add-one, is_some}
+use Rattle.std.proofs.Common.{◌≡◌, ◌+◌, ◌<◌, ◌≤◌, ◌++◌, ◌∙◌, ℕ, zero, suc, List, [], ◌∷◌, Bool, true, false, Option, Some, None, length, take, drop, get_or, map, refl, sym, ap, arith, is_some, length-append}
 use Rattle.std.specs.Prelude.{filter_map, option_to_list}
 use Rattle.std.specs.List.{cons_option}
-use Rattle.std.proofs.lemmas.List.{get_or-map, length-map}
+use Rattle.std.proofs.lemmas.List.{get_or-map, get_or_default, length-map}
+use Rattle.plan_spec.proofs.Lists.{filter_map-take}
 use Rattle.par_model.specs.Columns.{reads_column}
 use Rattle.par_model.specs.Named.{NamedItem, NamedPlan}
 use Rattle.par_model.specs.Plan.{Plan}
 use Rattle.par_model.specs.declared.plan.Item.{Item}
 use Rattle.par_model.specs.declared.plan.ItemKind.TheVariants as kind
-use Rattle.par_gather.specs.Grouping.{IsNamed, SameShape}
+use Rattle.par_gather.specs.Naming.{IsNamed, SameShape}
 
 -- one element more, with what it gives
-one-more : {X Y : Type 0} (f : X → Option Y) (xs : List X) (i : ℕ) (d : X) → i < length xs → length (filter_map f (take (suc i) xs)) ≡ length (filter_map f (take i xs)) + length (option_to_list (f (get_or xs i d)))
-one-more f [] i d within = absurd (omega arith)
-one-more f (x ∷ xs) zero d within = by (f x)
-  where
-    by : {Y : Type 0} (o : Option Y) → length (cons_option o []) ≡ 0 + length (option_to_list o)
-    by None = refl
-    by (Some y) = refl
-one-more f (x ∷ xs) (suc i) d within = by (length (option_to_list (f (get_or xs i d)))) (filter_map f (take (suc i) xs)) (filter_map f (take i xs)) (f x) (one-more f xs i d (omega arith))
-  where
-    by : {Y : Type 0} (more : ℕ) (ys zs : List Y) (o : Option Y) → length ys ≡ length zs + more → length (cons_option o ys) ≡ length (cons_option o zs) + more
-    by more ys zs None same = same
-    by more ys zs (Some y) same = omega (arith, same)
-
 pub filter_map-more : {X Y : Type 0} (f : X → Option Y) (xs : List X) (i : ℕ) (d : X) → i < length xs → length (filter_map f (take (i + 1) xs)) ≡ length (filter_map f (take i xs)) + length (option_to_list (f (get_or xs i d)))
-filter_map-more f xs i d within = rw (add-one i) (one-more f xs i d within)
+filter_map-more f xs i d within =
+    let x = get_or xs i d in
+    ap length (filter_map-take f xs i x within (get_or_default xs i d x within)) ∙ length-append (filter_map f (take i xs)) (option_to_list (f x))
 
 -- the aggregate at a place reads a column exactly where it has a name
 pub reads-named : (names : NamedPlan) (plan : Plan) (at : ℕ) (d : Item) (e : NamedItem) → IsNamed names → SameShape names plan → at < length names.items

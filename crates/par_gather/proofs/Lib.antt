@@ -1,4 +1,5 @@
 pub mod Bound
+pub mod Choices
 pub mod Columns
 pub mod Inputs
 pub mod NamePlaces

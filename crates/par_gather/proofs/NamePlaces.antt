@@ -6,7 +6,7 @@ use Rattle.std.proofs.lemmas.List.{get_or-append-add, length-map, take_all}
 use Rattle.std.specs.List.{cons_option}
 use Rattle.par_model.specs.Named.{NamedFilter, NamedItem, NamedPlan, names_of}
 use Rattle.par_gather.specs.Lines.{filter_name, item_name, refusal_text}
-use Rattle.par_gather.specs.Grouping.{CanRefuse, SameShape}
+use Rattle.par_gather.specs.Naming.{CanRefuse, SameShape, place_behind}
 use Rattle.par_model.specs.Plan.{Plan}
 use Rattle.par_model.specs.declared.plan.Item.{Item}
 use Rattle.par_model.specs.declared.refusal.Refusal.{Refusal}
@@ -26,11 +26,7 @@ stands-at {X = X} {Y = Y} f (x ∷ xs) (suc at) tail d y found = by (f x) refl (
     by None here later = record { within = omega (arith, later.within); below = rw here later.below; is = rw here later.is }
     by (Some z) here later = record { within = omega (arith, later.within); below = rw here (omega (arith, later.below)); is = rw here later.is }
 
--- the place of the name behind those of the groups and of the first aggregates
-abbrev pub place_behind : NamedPlan → ℕ → ℕ
-place_behind plan items = length plan.groups + length (filter_map (λ item. item.column) (take items plan.items))
-
--- that name is this one
+-- the name behind those of the groups and of the first aggregates is this one
 pub record IsBehind (plan : NamedPlan) (items : ℕ) (name : List ℕ) : Type 0 where
   pub within : items ≤ length plan.items
   pub below : place_behind plan items < length (names_of plan)

@@ -10,12 +10,8 @@ use Rattle.par_model.specs.declared.plan.ItemKind.TheVariants as kind
 use Rattle.plan_spec.specs.Grammar.{all_some, item_in, item_over, items_in, kind_in, parts_of}
 use Rattle.plan_spec.specs.Options.{is_command_line, value_of}
 use Rattle.plan_spec.specs.Query.{Query, items_given, query_by, query_of}
-use Rattle.par_gather.specs.Grouping.{IsNamed}
-
--- which way a test went
-chosen : {A : Type 0} (b : Bool) (x y z : A) → (if b then x else y) ≡ z → ((b ≡ true) × (x ≡ z)) ⊎ ((b ≡ false) × (y ≡ z))
-chosen true x y z is = inl (refl, is)
-chosen false x y z is = inr (refl, is)
+use Rattle.par_gather.proofs.Choices.{chosen}
+use Rattle.par_gather.specs.Naming.{IsNamed}
 
 -- an aggregate has a name where it reads a column, and else none
 abbrev Fits : NamedItem → Type 0

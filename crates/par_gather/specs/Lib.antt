@@ -1,4 +1,5 @@
 pub mod Answers
 pub mod Grouping
 pub mod Lines
+pub mod Naming
 pub mod Stops

@@ -11,7 +11,7 @@ ghost use Rattle.csv_rows.specs.declared.records.TheConstants.{MOST_RECORDS};
 ghost use Rattle.par_io.specs.Faults.{Rose};
 ghost use Rattle.par_model.specs.Outcome.{IsAnswer, Outcome, Table, by_records};
 ghost use Rattle.par_gather.specs.Answers.{IsOutcome, IsTableText, outcome_over, plan_of, status_of, statuses, texts, workers_of};
-ghost use Rattle.par_gather.specs.Grouping.{IsNamed};
+ghost use Rattle.par_gather.specs.Naming.{IsNamed};
 ghost use Rattle.par_gather.specs.Lines.{IsLine, IsSaid, NamesFirst};
 ghost use Rattle.par_gather.specs.Stops.{Explains, IsExplained};
 ghost use Rattle.par_gather.specs.declared.stop.Stop.TheVariants as stop;

@@ -3,10 +3,10 @@
 //! A plan counts its names through the columns to group by, the aggregates that have a column, and the filter. So the
 //! name of an aggregate's column stands behind those of the groups and of the aggregates before it.
 
-ghost use Rattle.std.specs.Prelude.{◌≡◌, ◌+◌, ◌<◌, ◌≤◌, [], IfOk, filter_map, length, map, slice_index_or, take};
+ghost use Rattle.std.specs.Prelude.{◌≡◌, ◌<◌, ◌≤◌, [], IfOk, length, slice_index_or};
 ghost use Rattle.par_model.specs.Columns.{reads_column};
 ghost use Rattle.par_model.specs.Named.{names_of};
-ghost use Rattle.par_gather.specs.Grouping.{CanRefuse, IsNamed, MayAnswer, SameShape};
+ghost use Rattle.par_gather.specs.Naming.{CanRefuse, IsNamed, MayAnswer, SameShape, place_behind};
 ghost use Rattle.par_gather.specs.Lines.{refusal_text};
 ghost use Rattle.par_gather.specs.Stops.{Restates, cause_text};
 
@@ -70,8 +70,8 @@ fn name_behind<'a>(plan: &'a Plan, bound: &BoundPlan, items: u32) -> &'a str
     requires named { IsNamed plan.now.plan }
     requires shape { SameShape plan.now.plan bound.now }
     requires items { items ≤ length plan.now.plan.items }
-    requires place { length plan.now.plan.groups + length (filter_map (λ item. item.column) (take items plan.now.plan.items)) < length (names_of plan.now.plan) }
-    ensures { result.now ≡ slice_index_or (names_of plan.now.plan) (length plan.now.plan.groups + length (filter_map (λ item. item.column) (take items plan.now.plan.items))) [] }
+    requires place { place_behind plan.now.plan items < length (names_of plan.now.plan) }
+    ensures { result.now ≡ slice_index_or (names_of plan.now.plan) (place_behind plan.now.plan items) [] }
 {
     let mut named = 0;
     'items: for item in &bound.items[..items as usize] {

@@ -6,7 +6,8 @@ use Rattle.partial_agg.specs.declared.groups.Group.{Group}
 use Rattle.result_text.proofs.Uses.{printable-listed}
 use Rattle.result_text.specs.Printable.{ArePrintable}
 use Rattle.par_gather.proofs.Bound.{has-columns, may-answer, same-shape}
-use Rattle.par_gather.specs.Grouping.{NamesRefused, SameShape}
+use Rattle.par_gather.specs.Grouping.{NamesRefused}
+use Rattle.par_gather.specs.Naming.{SameShape}
 use Rattle.par_gather.proofs.table_of.Goals as goal
 
 pub groups_of-requires-clause-columns : goal.groups_of-requires-clause-columns
