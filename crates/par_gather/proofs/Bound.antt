@@ -1,5 +1,5 @@
 -- A plan over the columns of a header that has all its names.
-use Rattle.std.proofs.Common.{◌≡◌, ◌+◌, ◌<◌, ◌≤◌, ◌++◌, ◌&&◌, ◌==◌, ◌⊎◌, ◌∙◌, if◌then◌else◌, inl, inr, drop, nat_lt, subst, ℕ, zero, suc, List, [], ◌∷◌, Bool, true, false, not, Option, Some, None, IsSome, IsTrue, is_some, is_none, length, map, refl, sym, ap, arith, bytes_eq}
+use Rattle.std.proofs.Common.{◌≡◌, ◌+◌, ◌<◌, ◌≤◌, ◌++◌, ◌&&◌, ◌==◌, ◌∙◌, inl, inr, drop, nat_lt, subst, ℕ, suc, List, [], ◌∷◌, Bool, true, false, not, Option, Some, None, IsSome, IsTrue, is_some, is_none, length, map, refl, sym, ap, arith, bytes_eq}
 use Rattle.std.specs.Prelude.{filter_map, find, option_and_then, option_map, option_to_list, slice_get}
 use Rattle.std.specs.List.{AllByRecursion, cons_option, enumerate_from, position_from}
 use Rattle.std.specs.Option.{ForSome, option_map_or}

@@ -1,7 +1,6 @@
 -- The names of a plan's columns: which aggregates have one, and where it stands among all.
-use Rattle.std.proofs.Common.{◌≡◌, ◌+◌, ◌<◌, ◌≤◌, ◌++◌, ◌∙◌, ℕ, zero, suc, List, [], ◌∷◌, Bool, true, false, Option, Some, None, length, take, drop, get_or, map, refl, sym, ap, arith, is_some, length-append}
+use Rattle.std.proofs.Common.{◌≡◌, ◌+◌, ◌<◌, ◌∙◌, ℕ, List, true, false, Option, Some, None, length, take, get_or, refl, sym, ap, arith, is_some, length-append}
 use Rattle.std.specs.Prelude.{filter_map, option_to_list}
-use Rattle.std.specs.List.{cons_option}
 use Rattle.std.proofs.lemmas.List.{get_or-map, get_or_default, length-map}
 use Rattle.plan_spec.proofs.Lists.{filter_map-take}
 use Rattle.par_model.specs.Columns.{reads_column}

@@ -3,7 +3,6 @@ use Rattle.std.proofs.Common.{◌≡◌, ◌≢◌, ◌+◌, ◌<◌, ◌≤◌,
 use Rattle.std.specs.Prelude.{filter_map, option_and_then, option_map, option_to_list, slice_get, unwrap_or}
 use Rattle.std.specs.Option.{option_map_or}
 use Rattle.std.proofs.lemmas.List.{get_or-append-add, length-map, take_all}
-use Rattle.std.specs.List.{cons_option}
 use Rattle.par_model.specs.Named.{NamedFilter, NamedItem, NamedPlan, names_of}
 use Rattle.par_gather.specs.Lines.{filter_name, item_name, refusal_text}
 use Rattle.par_gather.specs.Naming.{CanRefuse, SameShape, place_behind}

@@ -1,12 +1,9 @@
 -- The outcome of a plan over records that are not too many.
-use Rattle.std.proofs.Common.{◌≡◌, ◌≢◌, ◌+◌, ◌<◌, ◌≤◌, ◌∙◌, ℕ, List, [], ◌∷◌, false, length, refl, sym, ap, drop, arith, subst, None, Some, nat_lt, inl, inr}
-use Rattle.std.specs.Prelude.{◌⊎◌, string_bytes}
+use Rattle.std.proofs.Common.{◌≡◌, ◌≢◌, ◌+◌, ◌<◌, ◌≤◌, ℕ, List, [], ◌∷◌, false, length, refl, sym, ap, drop, arith, subst, None, Some, nat_lt, inl, inr}
 use Rattle.std.proofs.lemmas.Bool.Decides.{nat_tests}
 use Rattle.csv_rows.specs.Records.{record_at}
 use Rattle.par_model.specs.Named.{NamedPlan, bound_plan, missing_name}
-use Rattle.par_model.specs.Outcome.{IsAnswer, NoColumn, Outcome, Refused, by_records, by_refused}
-use Rattle.par_model.specs.Refuse.{refused_rows}
-use Rattle.par_model.specs.declared.refusal.Refusal.{Refusal}
+use Rattle.par_model.specs.Outcome.{IsAnswer, NoColumn, by_records, by_refused}
 use Rattle.partial_agg.specs.declared.map.BlockAnswer.{BlockAnswer}
 use Rattle.partial_agg.specs.declared.map.BlockAnswer.TheVariants as answer
 use Rattle.par_gather.specs.Grouping.{NamesRefused, refused_in}

@@ -1,5 +1,5 @@
 -- Which row of a table is the first that is refused, where the blocks before it are accepted.
-use Rattle.std.proofs.Common.{◌≡◌, ◌+◌, ◌*◌, ◌<◌, ◌≤◌, ◌++◌, ◌∙◌, ℕ, List, [], ◌∷◌, Some, length, take, drop, get_or, refl, sym, ap, arith, length-drop, subst, take-append-drop}
+use Rattle.std.proofs.Common.{◌≡◌, ◌+◌, ◌*◌, ◌<◌, ◌++◌, ◌∙◌, ℕ, List, [], ◌∷◌, Some, length, take, drop, get_or, refl, ap, arith, length-drop, subst, take-append-drop}
 use Rattle.std.proofs.lemmas.List.{drop-drop, drop-take, drop_more, get_or-drop, length-take-le, take-take}
 use Rattle.std.proofs.lemmas.List.Elements.{All-append, All-same, recursion_from_All}
 use Rattle.std.specs.List.{All, AllByRecursion, enumerate_from, filter_map}

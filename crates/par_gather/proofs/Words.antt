@@ -1,5 +1,5 @@
 -- The plan of some words: an aggregate has the name of a column exactly where it reads one.
-use Rattle.std.proofs.Common.{◌≡◌, ◌==◌, ◌∙◌, ℕ, List, [], ◌∷◌, Bool, true, false, Option, Some, None, is_some, length, map, refl, sym, ap, subst, bytes_eq, codes, inl, inr, ◌⊎◌, if◌then◌else◌, nat_le}
+use Rattle.std.proofs.Common.{◌≡◌, ◌==◌, ◌∙◌, ℕ, List, [], ◌∷◌, Bool, true, Option, Some, None, is_some, length, map, refl, sym, ap, subst, bytes_eq, codes, inl, inr, nat_le}
 use Rattle.std.specs.Prelude.{option_map}
 use Rattle.std.specs.List.{AllByRecursion, after_first, before_first}
 use Rattle.std.proofs.lemmas.List.Elements.{All-from_recursion}
@@ -7,7 +7,7 @@ use Rattle.par_model.specs.Columns.{reads_column}
 use Rattle.par_model.specs.Named.{NamedFilter, NamedItem}
 use Rattle.par_model.specs.declared.plan.ItemKind.{ItemKind}
 use Rattle.par_model.specs.declared.plan.ItemKind.TheVariants as kind
-use Rattle.plan_spec.specs.Grammar.{all_some, item_in, item_over, items_in, kind_in, parts_of}
+use Rattle.plan_spec.specs.Grammar.{all_some, item_in, item_over, kind_in, parts_of}
 use Rattle.plan_spec.specs.Options.{is_command_line, value_of}
 use Rattle.plan_spec.specs.Query.{Query, items_given, query_by, query_of}
 use Rattle.par_gather.proofs.Choices.{chosen}

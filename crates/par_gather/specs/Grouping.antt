@@ -1,7 +1,5 @@
 -- What the rows of a table come to under a plan: their groups, or the first of them that is refused.
-use Rattle.std.specs.Prelude.{◌≡◌, ◌≤◌, ◌∷◌, [], ℕ, List, All, IsSome, drop, is_some, length, map, option_and_then, slice_get, ⊤}
-use Rattle.par_model.specs.Columns.{reads_column}
-use Rattle.par_model.specs.Named.{NamedPlan}
+use Rattle.std.specs.Prelude.{◌≡◌, ◌∷◌, ℕ, List, drop, ⊤}
 use Rattle.par_model.specs.Plan.{Plan}
 use Rattle.par_model.specs.Refuse.{refused_rows}
 use Rattle.par_model.specs.declared.refusal.Refusal.{Refusal}

@@ -1,4 +1,4 @@
-use Rattle.std.proofs.Common.{ℕ, List, IfSome, subst, sym, ◌∙◌}
+use Rattle.std.proofs.Common.{ℕ, subst, sym, ◌∙◌}
 use Rattle.std.proofs.lemmas.Option.{IfSome_then}
 use Rattle.par_gather.proofs.Statuses.{line_first, line_outcome}
 use Rattle.par_gather.specs.Answers.{plan_of, texts}

@@ -2,8 +2,7 @@ use Rattle.std.proofs.Common.{◌≡◌, ◌≤◌, ◌∙◌, ℕ, List, Some, 
 use Rattle.std.proofs.lemmas.Result.{IfOk-weaker, MatchResult-weaker, err_from_is_err_and}
 use Rattle.csv_rows.specs.Records.{records_of}
 use Rattle.par_gather.proofs.Inputs.{Explains-parsing, explained, explained-reading, outcome-within, told}
-use Rattle.par_gather.specs.Answers.{IsTableText, outcome_over}
-use Rattle.par_gather.specs.Stops.{Explains, stop_of_parsing}
+use Rattle.par_gather.specs.Answers.{IsTableText}
 use Rattle.par_gather.proofs.read_table.Goals as goal
 
 pub returns-in_err-bytes-clause-why : goal.returns-in_err-bytes-clause-why

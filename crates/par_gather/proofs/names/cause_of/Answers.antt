@@ -1,4 +1,4 @@
-use Rattle.std.proofs.Common.{◌≡◌, ◌++◌, ◌∙◌, ℕ, List, ap, codes, sym}
+use Rattle.std.proofs.Common.{◌++◌, ◌∙◌, ℕ, List, ap, codes, sym}
 use Rattle.par_gather.proofs.NamePlaces.{is-filter, item-behind, text-filter, text-item}
 use Rattle.par_gather.proofs.names.cause_of.Goals as goal
 

@@ -1,5 +1,4 @@
-use Rattle.std.proofs.Common.{◌≡◌, ◌<◌, ◌+◌, ◌∙◌, ℕ, Bool, true, false, List, None, Some, arith, ap, get_or, is_some, length, length-take, sym, take}
-use Rattle.std.specs.Prelude.{filter_map, option_to_list}
+use Rattle.std.proofs.Common.{◌≡◌, ◌<◌, ◌∙◌, ℕ, List, None, arith, ap, get_or, is_some, length, length-take, sym, take}
 use Rattle.std.proofs.lemmas.List.{get_or-take}
 use Rattle.par_model.specs.Columns.{reads_column}
 use Rattle.par_model.specs.declared.plan.Item.{Item}
