@@ -1,5 +1,5 @@
 -- Which row of a table is the first that is refused, where the blocks before it are accepted.
-use Rattle.std.proofs.Common.{◌≡◌, ◌+◌, ◌*◌, ◌<◌, ◌++◌, ◌∙◌, ℕ, List, [], ◌∷◌, Some, length, take, drop, get_or, refl, ap, arith, length-drop, subst, take-append-drop}
+use Rattle.std.proofs.Common.{◌≡◌, ◌+◌, ◌*◌, ◌<◌, ◌++◌, ◌∙◌, ℕ, List, [], ◌∷◌, Some, length, take, drop, get_or, refl, ap, arith, length-drop, length-take, subst, take-append-drop}
 use Rattle.std.proofs.lemmas.List.{drop-drop, drop-take, drop_more, get_or-drop, length-take-le, take-take}
 use Rattle.std.proofs.lemmas.List.Elements.{All-append, All-same, recursion_from_All}
 use Rattle.std.specs.List.{All, AllByRecursion, enumerate_from, filter_map}
@@ -7,7 +7,6 @@ use Rattle.csv_rows.specs.Records.{record_at}
 use Rattle.par_model.specs.Plan.{Plan}
 use Rattle.par_model.specs.Refuse.{numbered_refusal, refusal, refused_rows}
 use Rattle.par_model.specs.declared.refusal.Refusal.{Refusal}
-use Rattle.partial_agg.proofs.Blocks.{length-block}
 use Rattle.partial_agg.specs.Blocks.{Stopped}
 use Rattle.partial_agg.specs.Groups.{GroupsByKey}
 use Rattle.partial_agg.specs.declared.map.BlockAnswer.{BlockAnswer}
@@ -79,8 +78,8 @@ refused_in-first plan records block count why within small below before here is 
 pub NamesRefused-stopped : (plan : Plan) (records : List (List (List ℕ))) (block : ℕ) (old new : GroupsByKey) (why : BlockAnswer) → All (IsAccepted plan (header_width records)) (take (256 * block) (drop 1 records)) → Stopped plan records block old new why → NamesRefused plan records why
 NamesRefused-stopped plan records block old new (answer.Row row cause item) before stopped =
     let said = stopped.explains in
-    let long = length-block records block in
     let within = stopped.stops in
-    let found = refused_in-first plan records block stopped.count (record { cause = cause; item = item }) within (omega arith) (omega arith) before stopped.before.accepted said.1 in
+    let long = length-take 256 (drop (256 * block + 1) records) in
+    let found = refused_in-first plan records block stopped.count (record { cause = cause; item = item }) within (omega (arith, long)) (omega (arith, long, length-drop (256 * block + 1) records)) before stopped.before.accepted said.1 in
     (found.0, rw said.0 found.1)
 NamesRefused-stopped plan records block old new answer.Memory before stopped = tt
