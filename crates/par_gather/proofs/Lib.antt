@@ -1,10 +1,10 @@
+pub mod Bound
+pub mod Choices
 pub mod Columns
-pub mod Refusals
-pub mod Pieces
-pub mod Counts
-pub mod Texts
-pub mod CountTable
-pub mod Tables
-pub mod Outcomes
 pub mod Inputs
+pub mod NamePlaces
+pub mod Outcomes
+pub mod Pieces
+pub mod Refusals
 pub mod Statuses
+pub mod Words

@@ -1,51 +1,54 @@
--- The outcome of the plan that counts a column, over records that are not too many.
-use Rattle.std.proofs.Common.{◌≡◌, ◌+◌, ◌<◌, ◌≤◌, ◌∙◌, ℕ, List, [], ◌∷◌, Bool, true, false, length, refl, sym, ap, drop, arith, subst, None, Some, nat_lt, unwrap_or, inl, inr}
+-- The outcome of a plan over records that are not too many.
+use Rattle.std.proofs.Common.{◌≡◌, ◌≢◌, ◌+◌, ◌<◌, ◌≤◌, ℕ, List, [], ◌∷◌, false, length, refl, sym, ap, drop, arith, subst, None, Some, nat_lt, inl, inr}
 use Rattle.std.proofs.lemmas.Bool.Decides.{nat_tests}
-use Rattle.std.specs.List.{position_from}
 use Rattle.csv_rows.specs.Records.{record_at}
-use Rattle.par_model.specs.Named.{bound_plan, column_of, missing_name}
-use Rattle.par_model.specs.Outcome.{NoColumn, Outcome, by_records, by_refused}
-use Rattle.par_model.specs.Refuse.{refused_rows}
-use Rattle.par_gather.specs.Counting.{count_plan}
-use Rattle.par_gather.specs.Stops.{Explains, IsStop}
-use Rattle.par_gather.specs.Words.{count_by_column}
+use Rattle.par_model.specs.Named.{NamedPlan, bound_plan, missing_name}
+use Rattle.par_model.specs.Outcome.{IsAnswer, NoColumn, by_records, by_refused}
+use Rattle.partial_agg.specs.declared.map.BlockAnswer.{BlockAnswer}
+use Rattle.partial_agg.specs.declared.map.BlockAnswer.TheVariants as answer
+use Rattle.par_gather.specs.Grouping.{NamesRefused, refused_in}
+use Rattle.par_gather.specs.Stops.{Explains, Restates}
 use Rattle.par_gather.specs.declared.stop.Stop.{Stop}
+use Rattle.par_gather.specs.declared.stop.Stop.TheVariants as stop
 
 not_too_many : (n : ℕ) → n + 1 ≤ 4194305 → nat_lt 4194304 n ≡ false
 not_too_many n few = grind (arith, nat_tests)
 
--- the header lacks the column
-pub by_records-missing : (name : List ℕ) (records : List (List (List ℕ))) → 0 < length records → length records ≤ 4194305 → column_of (record_at records 0) name ≡ None → by_records (count_by_column name) records ≡ NoColumn name
-unfolding missing_name
-by_records-missing name [] some few lacks = absurd (omega arith)
-by_records-missing name (header ∷ rows) some few lacks = rw (not_too_many (length rows) (omega (arith, few)), lacks) refl
+-- the header lacks a name
+pub by_records-missing : (plan : NamedPlan) (records : List (List (List ℕ))) (name : List ℕ) → 0 < length records → length records ≤ 4194305 → missing_name (record_at records 0) plan ≡ Some name → by_records plan records ≡ NoColumn name
+by_records-missing plan [] name some few lacks = absurd (omega arith)
+by_records-missing plan (header ∷ rows) name some few lacks = rw (not_too_many (length rows) (omega (arith, few)), lacks) refl
 
--- it has it
-none_missing : (name : List ℕ) (header : List (List ℕ)) (column : ℕ) → column_of header name ≡ Some column → missing_name header (count_by_column name) ≡ None
-unfolding missing_name
-none_missing name header column at = rw at refl
+-- it has all
+pub by_records-found : (plan : NamedPlan) (records : List (List (List ℕ))) → 0 < length records → length records ≤ 4194305 → missing_name (record_at records 0) plan ≡ None
+    → by_records plan records ≡ by_refused (refused_in (bound_plan (record_at records 0) plan) records)
+by_records-found plan [] some few has = absurd (omega arith)
+by_records-found plan (header ∷ rows) some few has = rw (not_too_many (length rows) (omega (arith, few)), has) refl
 
-pub by_records-found : (name : List ℕ) (records : List (List (List ℕ))) (column : ℕ) → 0 < length records → length records ≤ 4194305 → column_of (record_at records 0) name ≡ Some column
-    → by_records (count_by_column name) records ≡ by_refused (refused_rows (count_plan column) (length (record_at records 0)) (drop 1 records))
-by_records-found name [] column some few at = absurd (omega arith)
-by_records-found name (header ∷ rows) column some few at =
-    let bound : by_records (count_by_column name) (header ∷ rows) ≡ by_refused (refused_rows (bound_plan header (count_by_column name)) (length header) rows) =
-    rw (not_too_many (length rows) (omega (arith, few)), none_missing name header column at) refl in
-    bound ∙ ap (λ o. by_refused (refused_rows (count_plan (unwrap_or o 0)) (length header) rows)) at
+-- an answer over the rows of a table is one over its records
+pub IsAnswer-records : (plan : NamedPlan) (records : List (List (List ℕ))) (text : List ℕ) → 0 < length records → IsAnswer plan (record_at records 0 ∷ drop 1 records) text → IsAnswer plan records text
+IsAnswer-records plan [] text some is = absurd (omega arith)
+IsAnswer-records plan (header ∷ rows) text some is = is
 
--- a column that is found stands in the list
-position_from-below : {X : Type 0} (p : X → Bool) (n : ℕ) (xs : List X) (at : ℕ) → position_from p n xs ≡ Some at → at < n + length xs
-position_from-below p n [] at is = cc
-position_from-below p n (x ∷ xs) at is = by_test (p x) refl (position_from-below p (n + 1) xs at)
-  where
-    by_test : (b : Bool) → p x ≡ b → (position_from p (n + 1) xs ≡ Some at → at < n + 1 + length xs) → at < n + length (x ∷ xs)
-    by_test true here later = let same : n ≡ at = cc (rw here at is) in omega arith
-    by_test false other later = let below = later (rw other at is) in omega arith
+-- the reason that restates an answer of a block explains the outcome of the rows
+pub Explains-restated : (names : NamedPlan) (records : List (List (List ℕ))) (answer : BlockAnswer) (why : Stop) → NamesRefused (bound_plan (record_at records 0) names) records answer → Restates names answer why
+    → Explains (Some names) why (by_refused (refused_in (bound_plan (record_at records 0) names) records))
+Explains-restated names records (answer.Row row cause item) why refused (inl is) =
+    let P : Stop → Type 0 = λ w. Explains (Some names) w (by_refused (refused_in (bound_plan (record_at records 0) names) records)) in
+    subst P (sym is.1) (record { cause = cause; item = item }, refused.0, ap by_refused refused.1, is.2)
+Explains-restated names records (answer.Row row cause item) why refused (inr memory) =
+    let P : Stop → Type 0 = λ w. Explains (Some names) w (by_refused (refused_in (bound_plan (record_at records 0) names) records)) in
+    subst P (sym memory) tt
+Explains-restated names records answer.Memory why refused memory =
+    let P : Stop → Type 0 = λ w. Explains (Some names) w (by_refused (refused_in (bound_plan (record_at records 0) names) records)) in
+    subst P (sym memory) tt
 
-pub column_of-below : (header : List (List ℕ)) (name : List ℕ) (column : ℕ) → column_of header name ≡ Some column → column < length header
-column_of-below header name column at = omega (arith, position_from-below _ 0 header column at)
+-- it is no fault of a source or a sink
+pub record IsNoFault (why : Stop) : Type 0 where
+  pub read : why ≢ stop.ReadFault
+  pub write : why ≢ stop.WriteFault
 
--- a reason that the rows give explains the outcome
-pub Explains-from_stop : (why : Stop) (o : Outcome) → IsStop why o → Explains why o
-Explains-from_stop why o (inl memory) = let P : Stop → Type 0 = λ w. Explains w o in subst P (sym memory) tt
-Explains-from_stop why o (inr built) = let P : Stop → Type 0 = λ w. Explains w o in subst P (sym built.0) built.1
+pub no-fault-restated : (names : NamedPlan) (answer : BlockAnswer) (why : Stop) → Restates names answer why → IsNoFault why
+no-fault-restated names (answer.Row row cause item) why (inl is) = record { read = λ e. cc (is.1, e); write = λ e. cc (is.1, e) }
+no-fault-restated names (answer.Row row cause item) why (inr memory) = record { read = λ e. cc (memory, e); write = λ e. cc (memory, e) }
+no-fault-restated names answer.Memory why memory = record { read = λ e. cc (memory, e); write = λ e. cc (memory, e) }

@@ -1,88 +1,85 @@
--- Which rows are refused under the plan that counts a column, and what one refused row makes of the outcome.
-use Rattle.std.proofs.Common.{◌≡◌, ◌+◌, ◌<◌, ◌++◌, ℕ, zero, suc, List, [], ◌∷◌, Bool, true, false, length, get_or, take, refl, Option, Some, None, is_some, nat_lt, nat_eq, option_map, ap, sym, ◌∙◌, arith, if◌then◌else◌, length-append}
-use Rattle.std.proofs.lemmas.List.{take_more}
-use Rattle.std.proofs.lemmas.Bool.{eqb-true, true≢false}
-use Rattle.std.proofs.lemmas.Bool.Decides.{nat_tests}
-use Rattle.std.specs.List.{cons_option, enumerate_from, filter_map}
-use Rattle.par_model.specs.Keep.{is_kept}
-use Rattle.par_model.specs.Key.{encoded}
-use Rattle.par_model.specs.Outcome.{by_refused}
+-- Which row of a table is the first that is refused, where the blocks before it are accepted.
+use Rattle.std.proofs.Common.{◌≡◌, ◌+◌, ◌*◌, ◌<◌, ◌++◌, ◌∙◌, ℕ, List, [], ◌∷◌, Some, length, take, drop, get_or, refl, ap, arith, length-drop, length-take, subst, take-append-drop}
+use Rattle.std.proofs.lemmas.List.{drop-drop, drop-take, drop_more, get_or-drop, length-take-le, take-take}
+use Rattle.std.proofs.lemmas.List.Elements.{All-append, All-same, recursion_from_All}
+use Rattle.std.specs.List.{All, AllByRecursion, enumerate_from, filter_map}
+use Rattle.csv_rows.specs.Records.{record_at}
 use Rattle.par_model.specs.Plan.{Plan}
-use Rattle.par_model.specs.Record.{field_of}
 use Rattle.par_model.specs.Refuse.{numbered_refusal, refusal, refused_rows}
 use Rattle.par_model.specs.declared.refusal.Refusal.{Refusal}
-use Rattle.par_gather.specs.Answers.{status_of}
-use Rattle.par_gather.specs.Counting.{count_plan}
-use Rattle.par_gather.specs.declared.status.TheConstants.{NOT_BUILT}
+use Rattle.partial_agg.specs.Blocks.{Stopped}
+use Rattle.partial_agg.specs.Groups.{GroupsByKey}
+use Rattle.partial_agg.specs.declared.map.BlockAnswer.{BlockAnswer}
+use Rattle.partial_agg.specs.declared.map.BlockAnswer.TheVariants as answer
+use Rattle.partial_agg.specs.Rows.{IsAccepted, block_rows, header_width}
+use Rattle.par_gather.specs.Grouping.{NamesRefused, refused_in}
 
--- a row of another width is refused
-pub refusal-other_width : (plan : Plan) (width : ℕ) (row : List (List ℕ)) → nat_eq (length row) width ≡ false → is_some (refusal plan width row) ≡ true
-unfolding refusal
-refusal-other_width plan width row other = rw other refl
+-- rows that are accepted
+accepted-none : (plan : Plan) (width n : ℕ) (xs : List (List (List ℕ))) → AllByRecursion (IsAccepted plan width) xs → filter_map (numbered_refusal plan width) (enumerate_from n xs) ≡ []
+accepted-none plan width n [] accepted = refl
+accepted-none plan width n (x ∷ xs) accepted = rw accepted.0 (accepted-none plan width (n + 1) xs accepted.1)
 
--- a refusal that comes where a test holds
-is_some-if : (b : Bool) (r : Refusal) → is_some (if b then Some r else None) ≡ b
-is_some-if true r = refl
-is_some-if false r = refl
+-- a row that is refused, behind rows that are accepted
+refused-after : (plan : Plan) (width n : ℕ) (xs ys : List (List (List ℕ))) (row : List (List ℕ)) (why : Refusal) → AllByRecursion (IsAccepted plan width) xs → refusal plan width row ≡ Some why
+    → (rest : List (ℕ × Refusal)) × (filter_map (numbered_refusal plan width) (enumerate_from n (xs ++ row ∷ ys)) ≡ (n + length xs, why) ∷ rest)
+refused-after plan width n [] ys row why accepted is =
+    let same : n + 0 ≡ n = omega arith in
+    (filter_map (numbered_refusal plan width) (enumerate_from (n + 1) ys), rw (is, same) refl)
+refused-after plan width n (x ∷ xs) ys row why accepted is =
+    let later = refused-after plan width (n + 1) xs ys row why accepted.1 is in
+    let same : n + length (x ∷ xs) ≡ n + 1 + length xs = omega arith in
+    (later.0, rw (accepted.0, same) later.1)
 
--- the key of one field is four bytes longer
-length-key : (field : List ℕ) → length (encoded (field ∷ [])) ≡ length field + 4
-unfolding encoded
-length-key field = omega (arith, length-append field [])
+-- a front, and what comes next
+pub take_on : {X : Type 0} (n m : ℕ) (xs : List X) → take n xs ++ take m (drop n xs) ≡ take (n + m) xs
+take_on n m xs = cc (take-take n (n + m) xs (omega arith), drop-take n m xs, take-append-drop n (take (n + m) xs))
 
-too_long : (n : ℕ) → nat_lt 248 (n + 4) ≡ nat_lt 244 n
-too_long n = grind (arith, nat_tests)
+-- the rows of a block, among the rows without the header
+pub block_of : (records : List (List (List ℕ))) (block : ℕ) → block_rows records block ≡ take 256 (drop (256 * block) (drop 1 records))
+block_of records block =
+    let same : 256 * block + 1 ≡ 1 + 256 * block = omega arith in
+    cc (same, drop-drop (256 * block) 1 records)
 
--- a row of the header's width is refused where its field is too long for a key
-pub refusal-same_width : (column width : ℕ) (row : List (List ℕ)) → nat_eq (length row) width ≡ true → is_some (refusal (count_plan column) width row) ≡ nat_lt 244 (length (field_of row column))
-unfolding refusal is_kept
-refusal-same_width column width row same = rw (same, length-key (field_of row column), too_long (length (field_of row column))) (is_some-if (nat_lt 244 (length (field_of row column))) (record { cause = 2; item = 0 }))
+-- the rows up to a block and those of the block
+pub block_more : (records : List (List (List ℕ))) (block : ℕ) → take (256 * block) (drop 1 records) ++ block_rows records block ≡ take (256 * (block + 1)) (drop 1 records)
+block_more records block =
+    let same : 256 * block + 256 ≡ 256 * (block + 1) = omega arith in
+    cc (same, block_of records block, take_on (256 * block) 256 (drop 1 records))
 
--- a row that is not refused has the header's width
-pub width_from_plain : (plan : Plan) (width : ℕ) (row : List (List ℕ)) → is_some (refusal plan width row) ≡ false → length row ≡ width
-width_from_plain plan width row plain = by_test (nat_eq (length row) width) refl
-  where
-    by_test : (b : Bool) → nat_eq (length row) width ≡ b → length row ≡ width
-    by_test true same = eqb-true _ _ same
-    by_test false other = absurd (true≢false (sym (refusal-other_width plan width row other) ∙ plain))
-
--- one row more that is not refused
-refused-more : (plan : Plan) (width n : ℕ) (rows : List (List (List ℕ))) (row : List (List ℕ)) → is_some (refusal plan width row) ≡ false
-    → filter_map (numbered_refusal plan width) (enumerate_from n (rows ++ row ∷ [])) ≡ filter_map (numbered_refusal plan width) (enumerate_from n rows)
-refused-more plan width n [] row plain = by_refusal (refusal plan width row) refl
-  where
-    by_refusal : (o : Option Refusal) → refusal plan width row ≡ o → filter_map (numbered_refusal plan width) ((n, row) ∷ []) ≡ []
-    by_refusal None is = rw is refl
-    by_refusal (Some r) is = absurd (true≢false (sym (ap is_some is) ∙ plain))
-refused-more plan width n (x ∷ rows) row plain = ap (cons_option (numbered_refusal plan width (n, x))) (refused-more plan width (n + 1) rows row plain)
-
-pub refused_rows-more : (plan : Plan) (width : ℕ) (rows : List (List (List ℕ))) (at : ℕ) → at < length rows → is_some (refusal plan width (get_or rows at [])) ≡ false
-    → refused_rows plan width (take (at + 1) rows) ≡ refused_rows plan width (take at rows)
+-- a table whose rows are all accepted
+pub refused_in-none : (plan : Plan) (records : List (List (List ℕ))) → All (IsAccepted plan (header_width records)) (drop 1 records) → refused_in plan records ≡ []
 unfolding refused_rows
-refused_rows-more plan width rows at within plain = rw (take_more rows at [] within) (refused-more plan width 1 (take at rows) (get_or rows at []) plain)
+refused_in-none plan records accepted = accepted-none plan (header_width records) 1 (drop 1 records) (recursion_from_All _ _ accepted)
 
--- where some row is refused, the outcome is that rows are refused
-refused-some : (plan : Plan) (width n : ℕ) (rows : List (List (List ℕ))) (at : ℕ) → at < length rows → is_some (refusal plan width (get_or rows at [])) ≡ true
-    → status_of (by_refused (filter_map (numbered_refusal plan width) (enumerate_from n rows))) ≡ NOT_BUILT
-refused-some plan width n [] at within refused = absurd (omega arith)
-refused-some plan width n (x ∷ rows) zero within refused = by_refusal (refusal plan width x) refl
-  where
-    by_refusal : (o : Option Refusal) → refusal plan width x ≡ o → status_of (by_refused (cons_option (option_map (λ cause. (n, cause)) (refusal plan width x)) (filter_map (numbered_refusal plan width) (enumerate_from (n + 1) rows)))) ≡ NOT_BUILT
-    by_refusal None is = absurd (true≢false (sym refused ∙ ap is_some is))
-    by_refusal (Some r) is = rw is refl
-refused-some plan width n (x ∷ rows) (suc at) within refused = by_refusal (refusal plan width x) refl (refused-some plan width (n + 1) rows at (omega arith) refused)
-  where
-    by_refusal : (o : Option Refusal) → refusal plan width x ≡ o → status_of (by_refused (filter_map (numbered_refusal plan width) (enumerate_from (n + 1) rows))) ≡ NOT_BUILT
-        → status_of (by_refused (cons_option (option_map (λ cause. (n, cause)) (refusal plan width x)) (filter_map (numbered_refusal plan width) (enumerate_from (n + 1) rows)))) ≡ NOT_BUILT
-    by_refusal None is rest = rw is rest
-    by_refusal (Some r) is rest = rw is refl
-
-pub refused_rows-some : (plan : Plan) (width : ℕ) (rows : List (List (List ℕ))) (at : ℕ) → at < length rows → is_some (refusal plan width (get_or rows at [])) ≡ true
-    → status_of (by_refused (refused_rows plan width rows)) ≡ NOT_BUILT
+-- a row of a block that is refused, where the rows before it are accepted
+pub refused_in-first : (plan : Plan) (records : List (List (List ℕ))) (block count : ℕ) (why : Refusal) → count < length (block_rows records block) → count < 256 → 256 * block + 1 + count < length records
+    → All (IsAccepted plan (header_width records)) (take (256 * block) (drop 1 records)) → All (IsAccepted plan (header_width records)) (take count (block_rows records block))
+    → refusal plan (header_width records) (record_at records (256 * block + 1 + count)) ≡ Some why
+    → (rest : List (ℕ × Refusal)) × (refused_in plan records ≡ (256 * block + 1 + count, why) ∷ rest)
 unfolding refused_rows
-refused_rows-some plan width rows at within refused = refused-some plan width 1 rows at within refused
+refused_in-first plan records block count why within small below before here is =
+    let rows = drop 1 records in
+    let n = 256 * block + count in
+    let width = header_width records in
+    let short : n < length rows = omega (arith, length-drop 1 records) in
+    let front : take n rows ≡ take (256 * block) rows ++ take count (block_rows records block) =
+    cc (block_of records block, take-take count 256 (drop (256 * block) rows) (omega arith), take_on (256 * block) count rows) in
+    let accepted : All (IsAccepted plan width) (take n rows) = All-same (IsAccepted plan width) _ _ front (All-append (IsAccepted plan width) _ _ before here) in
+    let place : 256 * block + 1 + count ≡ 1 + n = omega arith in
+    let row : get_or rows n [] ≡ record_at records (256 * block + 1 + count) = rw place (get_or-drop 1 records n []) in
+    let split : take n rows ++ get_or rows n [] ∷ drop (n + 1) rows ≡ rows = cc (take-append-drop n rows, drop_more rows n [] short) in
+    let found = refused-after plan width 1 (take n rows) (drop (n + 1) rows) (get_or rows n []) why (recursion_from_All _ _ accepted) (ap (refusal plan width) row ∙ is) in
+    let at : 1 + length (take n rows) ≡ 256 * block + 1 + count = omega (arith, length-take-le n rows (omega arith)) in
+    let refused : List (List (List ℕ)) → List (ℕ × Refusal) = λ l. filter_map (numbered_refusal plan width) (enumerate_from 1 l) in
+    let whole : refused rows ≡ (1 + length (take n rows), why) ∷ found.0 = subst (λ (l : List (List (List ℕ))). refused l ≡ (1 + length (take n rows), why) ∷ found.0) split found.1 in
+    (found.0, subst (λ (k : ℕ). refused rows ≡ (k, why) ∷ found.0) at whole)
 
--- of no rows none is refused
-pub refused_rows-none : (plan : Plan) (width : ℕ) → refused_rows plan width [] ≡ []
-unfolding refused_rows
-refused_rows-none plan width = refl
+-- a block that stopped, where the blocks before it are accepted
+pub NamesRefused-stopped : (plan : Plan) (records : List (List (List ℕ))) (block : ℕ) (old new : GroupsByKey) (why : BlockAnswer) → All (IsAccepted plan (header_width records)) (take (256 * block) (drop 1 records)) → Stopped plan records block old new why → NamesRefused plan records why
+NamesRefused-stopped plan records block old new (answer.Row row cause item) before stopped =
+    let said = stopped.explains in
+    let within = stopped.stops in
+    let long = length-take 256 (drop (256 * block + 1) records) in
+    let found = refused_in-first plan records block stopped.count (record { cause = cause; item = item }) within (omega (arith, long)) (omega (arith, long, length-drop (256 * block + 1) records)) before stopped.before.accepted said.1 in
+    (found.0, rw said.0 found.1)
+NamesRefused-stopped plan records block old new answer.Memory before stopped = tt

@@ -1,66 +1,78 @@
 -- The status and the line of a reason to have no table.
-use Rattle.std.proofs.Common.{◌≡◌, ℕ, List, refl, None, Some, Option, Contains, IfSome, string_bytes, codes, lit<, ap, sym}
+use Rattle.std.proofs.Common.{◌≡◌, ℕ, List, refl, None, Some, Option, Contains, IfSome, ◌++◌, ◌∙◌, append_assoc, arith, decimal, codes, lit<, ap, subst, sym}
+use Rattle.std.specs.Prelude.{slice_get}
+use Rattle.par_model.specs.declared.refusal.Refusal.{Refusal}
 use Rattle.par_model.specs.Named.{NamedPlan}
-use Rattle.par_model.specs.Outcome.{NoColumn, NoHeader, Outcome, Refused, Table, TooManyBytes, TooManyRows, Usage, outcome}
+use Rattle.par_model.specs.Outcome.{Outcome}
 use Rattle.par_gather.specs.Answers.{IsOutcome, outcome_over, status_of, statuses}
-use Rattle.par_gather.specs.Lines.{IsLine, line, outcome_text}
-use Rattle.par_gather.specs.Stops.{Explains, stop_status, stop_text}
-use Rattle.par_gather.specs.declared.status.TheConstants.{NOT_BUILT}
+use Rattle.par_gather.specs.Lines.{IsLine, NamesFirst, NamesRow, line, outcome_text, refusal_text, refused_of, row_text}
+use Rattle.par_gather.specs.Stops.{Explains, IsExplained, cause_text, stop_status, stop_text}
+use Rattle.par_gather.specs.declared.status.TheConstants.{REFUSED}
+use Rattle.par_gather.specs.declared.stop.Cause.{Cause}
 use Rattle.par_gather.specs.declared.stop.Stop.{Stop}
 use Rattle.par_gather.specs.declared.stop.Stop.TheVariants as stop
 
 -- it is one of the statuses
 pub Contains-statuses : (why : Stop) → Contains statuses (stop_status why)
-Contains-statuses stop.NotBuilt = (5, lit< tt, refl)
-Contains-statuses stop.ReadFault = (2, lit< tt, refl)
-Contains-statuses stop.NoHeader = (1, lit< tt, refl)
-Contains-statuses (stop.NoColumn name) = (1, lit< tt, refl)
-Contains-statuses stop.WriteFault = (3, lit< tt, refl)
-Contains-statuses stop.Memory = (4, lit< tt, refl)
+Contains-statuses stop.Usage = (2, lit< tt, refl)
+Contains-statuses stop.ReadFault = (3, lit< tt, refl)
+Contains-statuses stop.TooManyBytes = (6, lit< tt, refl)
+Contains-statuses stop.NoHeader = (2, lit< tt, refl)
+Contains-statuses stop.TooManyRows = (6, lit< tt, refl)
+Contains-statuses (stop.NoColumn name) = (2, lit< tt, refl)
+Contains-statuses (stop.Refused row why) = (1, lit< tt, refl)
+Contains-statuses stop.WriteFault = (4, lit< tt, refl)
+Contains-statuses stop.Memory = (5, lit< tt, refl)
 
--- an outcome that it explains
-abbrev outcome_of : Stop → Outcome
-outcome_of stop.NotBuilt = Usage
-outcome_of stop.ReadFault = Usage
-outcome_of stop.NoHeader = NoHeader
-outcome_of (stop.NoColumn name) = NoColumn (string_bytes name)
-outcome_of stop.WriteFault = Table
-outcome_of stop.Memory = Usage
+-- the row's number before what is said of the row
+row-text : (row : ℕ) (text : List ℕ) → (codes "row " ++ (decimal row ++ codes ": ")) ++ text ≡ codes "row " ++ (decimal row ++ (codes ": " ++ text))
+row-text row text = append_assoc (codes "row ") (decimal row ++ codes ": ") text ∙ ap (λ l. codes "row " ++ l) (append_assoc (decimal row) (codes ": ") text)
 
--- an outcome of status NOT_BUILT has its text
-text_not_built : (o : Outcome) → status_of o ≡ NOT_BUILT → outcome_text o ≡ codes "not built yet"
-text_not_built Usage is = refl
-text_not_built TooManyBytes is = refl
-text_not_built NoHeader is = cc
-text_not_built TooManyRows is = refl
-text_not_built (NoColumn name) is = cc
-text_not_built (Refused rows) is = refl
-text_not_built Table is = cc
+-- the line of a refused row is that of the first row that the outcome refuses
+says-row : (plan : NamedPlan) (row : ℕ) (cause : Cause) (refusal : Refusal) → cause_text cause ≡ refusal_text plan refusal → line (stop_text (stop.Refused row cause)) ≡ line (row_text plan (row, refusal))
+says-row plan row cause refusal same = ap line (ap (λ l. (codes "row " ++ (decimal row ++ codes ": ")) ++ l) same ∙ row-text row (refusal_text plan refusal))
+
+NamesRow-refused : (plan : Option NamedPlan) (row : ℕ) (cause : Cause) (o : Outcome) → Explains plan (stop.Refused row cause) o → NamesRow plan o (line (stop_text (stop.Refused row cause)))
+NamesRow-refused None row cause o explains = explains
+NamesRow-refused (Some plan) row cause o explains =
+    let P : Outcome → Type 0 = λ p. Contains (refused_of p) (row, explains.0) in
+    ((row, explains.0), subst P (sym explains.2) (0, omega arith, refl), says-row plan row cause explains.0 explains.3)
+
+NamesFirst-refused : (plan : Option NamedPlan) (row : ℕ) (cause : Cause) (o : Outcome) → Explains plan (stop.Refused row cause) o → NamesFirst plan o (line (stop_text (stop.Refused row cause)))
+NamesFirst-refused None row cause o explains = explains
+NamesFirst-refused (Some plan) row cause o explains =
+    ((row, explains.0), ap (λ p. slice_get (refused_of p) 0) explains.2, says-row plan row cause explains.0 explains.3)
+
+NamesFirst-stop : (plan : Option NamedPlan) (why : Stop) (o : Outcome) → Explains plan why o → stop_status why ≡ REFUSED → NamesFirst plan o (line (stop_text why))
+NamesFirst-stop plan stop.Usage o explains is = cc is
+NamesFirst-stop plan stop.ReadFault o explains is = cc is
+NamesFirst-stop plan stop.TooManyBytes o explains is = cc is
+NamesFirst-stop plan stop.NoHeader o explains is = cc is
+NamesFirst-stop plan stop.TooManyRows o explains is = cc is
+NamesFirst-stop plan (stop.NoColumn name) o explains is = cc is
+NamesFirst-stop plan (stop.Refused row cause) o explains is = NamesFirst-refused plan row cause o explains
+NamesFirst-stop plan stop.WriteFault o explains is = cc is
+NamesFirst-stop plan stop.Memory o explains is = cc is
 
 -- its line is that of its status and of an outcome that it explains
-IsLine-stop : (why : Stop) (o : Outcome) → Explains why o → IsLine (stop_status why) o (line (stop_text why))
-IsLine-stop stop.NotBuilt o explains = record { misused = λ e. cc e; read_fault = λ e. cc e; write_fault = λ e. cc e; no_memory = λ e. cc e; not_built = λ _. (explains, ap line (sym (text_not_built o explains))) }
-IsLine-stop stop.ReadFault o explains = record { misused = λ e. cc e; read_fault = λ _. refl; write_fault = λ e. cc e; no_memory = λ e. cc e; not_built = λ e. cc e }
-IsLine-stop stop.NoHeader o explains = record { misused = λ _. (ap status_of explains, ap (λ p. line (outcome_text p)) (sym explains)); read_fault = λ e. cc e; write_fault = λ e. cc e; no_memory = λ e. cc e; not_built = λ e. cc e }
-IsLine-stop (stop.NoColumn name) o explains = record { misused = λ _. (ap status_of explains, ap (λ p. line (outcome_text p)) (sym explains)); read_fault = λ e. cc e; write_fault = λ e. cc e; no_memory = λ e. cc e; not_built = λ e. cc e }
-IsLine-stop stop.WriteFault o explains = record { misused = λ e. cc e; read_fault = λ e. cc e; write_fault = λ _. refl; no_memory = λ e. cc e; not_built = λ e. cc e }
-IsLine-stop stop.Memory o explains = record { misused = λ e. cc e; read_fault = λ e. cc e; write_fault = λ e. cc e; no_memory = λ _. refl; not_built = λ e. cc e }
-
-Explains-outcome_of : (why : Stop) → Explains why (outcome_of why)
-Explains-outcome_of stop.NotBuilt = refl
-Explains-outcome_of stop.ReadFault = tt
-Explains-outcome_of stop.NoHeader = refl
-Explains-outcome_of (stop.NoColumn name) = refl
-Explains-outcome_of stop.WriteFault = refl
-Explains-outcome_of stop.Memory = tt
+IsLine-stop : (plan : Option NamedPlan) (why : Stop) (o : Outcome) → Explains plan why o → IsLine plan (stop_status why) o (line (stop_text why))
+IsLine-stop plan stop.Usage o explains = record { refused = λ e. cc e; misused = λ _. (ap status_of explains, ap (λ p. line (outcome_text p)) (sym explains)); read_fault = λ e. cc e; write_fault = λ e. cc e; no_memory = λ e. cc e; too_much = λ e. cc e }
+IsLine-stop plan stop.ReadFault o explains = record { refused = λ e. cc e; misused = λ e. cc e; read_fault = λ _. refl; write_fault = λ e. cc e; no_memory = λ e. cc e; too_much = λ e. cc e }
+IsLine-stop plan stop.TooManyBytes o explains = record { refused = λ e. cc e; misused = λ e. cc e; read_fault = λ e. cc e; write_fault = λ e. cc e; no_memory = λ e. cc e; too_much = λ _. (ap status_of explains, ap (λ p. line (outcome_text p)) (sym explains)) }
+IsLine-stop plan stop.NoHeader o explains = record { refused = λ e. cc e; misused = λ _. (ap status_of explains, ap (λ p. line (outcome_text p)) (sym explains)); read_fault = λ e. cc e; write_fault = λ e. cc e; no_memory = λ e. cc e; too_much = λ e. cc e }
+IsLine-stop plan stop.TooManyRows o explains = record { refused = λ e. cc e; misused = λ e. cc e; read_fault = λ e. cc e; write_fault = λ e. cc e; no_memory = λ e. cc e; too_much = λ _. (ap status_of explains, ap (λ p. line (outcome_text p)) (sym explains)) }
+IsLine-stop plan (stop.NoColumn name) o explains = record { refused = λ e. cc e; misused = λ _. (ap status_of explains, ap (λ p. line (outcome_text p)) (sym explains)); read_fault = λ e. cc e; write_fault = λ e. cc e; no_memory = λ e. cc e; too_much = λ e. cc e }
+IsLine-stop plan (stop.Refused row cause) o explains = record { refused = λ _. NamesRow-refused plan row cause o explains; misused = λ e. cc e; read_fault = λ e. cc e; write_fault = λ e. cc e; no_memory = λ e. cc e; too_much = λ e. cc e }
+IsLine-stop plan stop.WriteFault o explains = record { refused = λ e. cc e; misused = λ e. cc e; read_fault = λ e. cc e; write_fault = λ _. refl; no_memory = λ e. cc e; too_much = λ e. cc e }
+IsLine-stop plan stop.Memory o explains = record { refused = λ e. cc e; misused = λ e. cc e; read_fault = λ e. cc e; write_fault = λ e. cc e; no_memory = λ _. refl; too_much = λ e. cc e }
 
 -- the outcome that its line is of, which is the outcome where the source tells
-pub line_outcome : (plan : Option NamedPlan) (left : Option (List ℕ)) (why : Stop) → IfSome left (λ bytes. Explains why (outcome_over plan bytes)) → (o : Outcome) × IsOutcome plan left o × IsLine (stop_status why) o (line (stop_text why))
-line_outcome plan None why explains = (outcome_of why, tt, IsLine-stop why (outcome_of why) (Explains-outcome_of why))
-line_outcome plan (Some bytes) why explains = (outcome_over plan bytes, refl, IsLine-stop why (outcome_over plan bytes) explains)
+pub line_outcome : (plan : Option NamedPlan) (left : Option (List ℕ)) (why : Stop) → IsExplained plan left why → (o : Outcome) × IsOutcome plan left o × IsLine plan (stop_status why) o (line (stop_text why))
+line_outcome plan left why explained = (explained.0, explained.1, IsLine-stop plan why explained.0 explained.2)
 
--- words that are no plan
-pub Explains-no_plan : (plan : Option NamedPlan) (left : Option (List ℕ)) → plan ≡ None → IfSome left (λ bytes. Explains stop.NotBuilt (outcome_over plan bytes))
-unfolding outcome
-Explains-no_plan plan None none = tt
-Explains-no_plan plan (Some bytes) none = rw none refl
+-- the first of the rows that the outcome refuses, where the source tells
+pub line_first : (plan : Option NamedPlan) (left : Option (List ℕ)) (why : Stop) → IsExplained plan left why → stop_status why ≡ REFUSED → IfSome left (λ bytes. NamesFirst plan (outcome_over plan bytes) (line (stop_text why)))
+line_first plan None why explained is = tt
+line_first plan (Some bytes) why explained is =
+    let P : Outcome → Type 0 = λ o. NamesFirst plan o (line (stop_text why)) in
+    subst P explained.1 (NamesFirst-stop plan why explained.0 explained.2 is)

@@ -1,27 +1,36 @@
 -- What a query answers: its status, and what its table is.
-use Rattle.std.specs.Prelude.{◌≡◌, ℕ, List, [], ◌∷◌, Option, None, Some, IfSome, String, length, map, string_bytes}
+use Rattle.std.specs.Prelude.{◌≡◌, ℕ, List, [], ◌∷◌, Option, None, Some, IfSome, String, length, map, option_map, string_bytes}
 use Rattle.csv_rows.specs.Records.{records_of}
 use Rattle.par_model.specs.Named.{NamedPlan}
 use Rattle.par_model.specs.Outcome.{Outcome, IsAnswer, outcome, Usage, TooManyBytes, NoHeader, TooManyRows, NoColumn, Refused, Table}
-use Rattle.par_gather.specs.declared.status.TheConstants.{MISUSED, NOT_BUILT, NO_MEMORY, READ_FAULT, TABLE, WRITE_FAULT}
+use Rattle.plan_spec.specs.Query.{query_of}
+use Rattle.par_gather.specs.declared.status.TheConstants.{MISUSED, NO_MEMORY, READ_FAULT, REFUSED, TABLE, TOO_LARGE, WRITE_FAULT}
 
 -- every status there is
 abbrev pub statuses : List ℕ
-statuses = TABLE ∷ MISUSED ∷ READ_FAULT ∷ WRITE_FAULT ∷ NO_MEMORY ∷ NOT_BUILT ∷ []
+statuses = TABLE ∷ REFUSED ∷ MISUSED ∷ READ_FAULT ∷ WRITE_FAULT ∷ NO_MEMORY ∷ TOO_LARGE ∷ []
 
 -- the status of an outcome
 abbrev pub status_of : Outcome → ℕ
-status_of Usage = NOT_BUILT
-status_of TooManyBytes = NOT_BUILT
+status_of Usage = MISUSED
+status_of TooManyBytes = TOO_LARGE
 status_of NoHeader = MISUSED
-status_of TooManyRows = NOT_BUILT
+status_of TooManyRows = TOO_LARGE
 status_of (NoColumn name) = MISUSED
-status_of (Refused rows) = NOT_BUILT
+status_of (Refused rows) = REFUSED
 status_of Table = TABLE
 
 -- the bytes of each word
 abbrev pub texts : {A : Type 0} → List (String A) → List (List ℕ)
 texts words = map string_bytes words
+
+-- the plan of the words, if they are one
+abbrev pub plan_of : List (List ℕ) → Option NamedPlan
+plan_of words = option_map (λ query. query.plan) (query_of words)
+
+-- how many workers the words ask for, if they are a plan
+abbrev pub workers_of : List (List ℕ) → Option ℕ
+workers_of words = option_map (λ query. query.workers) (query_of words)
 
 -- the outcome of a plan, or of words that are none, over bytes
 abbrev pub outcome_over : Option NamedPlan → List ℕ → Outcome

@@ -1,6 +1,5 @@
 pub mod Answers
-pub mod Counting
+pub mod Grouping
 pub mod Lines
+pub mod Naming
 pub mod Stops
-pub mod Words
-pub mod Written

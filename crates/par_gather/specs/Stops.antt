@@ -1,53 +1,111 @@
 -- What a reason to have no table says of the outcome.
-use Rattle.std.specs.Prelude.{◌≡◌, ◌⊎◌, ⊤, ℕ, List, codes, ◌++◌, string_bytes}
+use Rattle.std.specs.Prelude.{◌≡◌, ◌⊎◌, ⊤, ℕ, List, Option, codes, decimal, ◌++◌, ◌∷◌, [], IsSomeAnd, string_bytes}
 use Rattle.csv_rows.specs.declared.input.ReadAnswer.{ReadAnswer}
 use Rattle.csv_rows.specs.declared.input.ReadAnswer.TheVariants as reading
 use Rattle.csv_rows.specs.declared.records.RowsAnswer.{RowsAnswer}
 use Rattle.csv_rows.specs.declared.records.RowsAnswer.TheVariants as parsing
-use Rattle.par_model.specs.Outcome.{Outcome, NoColumn, NoHeader, Table}
-use Rattle.par_gather.specs.Answers.{status_of}
-use Rattle.par_gather.specs.declared.status.TheConstants.{MISUSED, NOT_BUILT, NO_MEMORY, READ_FAULT, WRITE_FAULT}
+use Rattle.par_model.specs.Named.{NamedPlan}
+use Rattle.par_model.specs.Outcome.{Outcome, NoColumn, NoHeader, Refused, Table, TooManyBytes, TooManyRows, Usage}
+use Rattle.par_model.specs.declared.refusal.Refusal.{Refusal}
+use Rattle.partial_agg.specs.declared.map.BlockAnswer.{BlockAnswer}
+use Rattle.partial_agg.specs.declared.map.BlockAnswer.TheVariants as answer
+use Rattle.plan_spec.specs.declared.plan.PlanAnswer.{PlanAnswer}
+use Rattle.plan_spec.specs.declared.plan.PlanAnswer.TheVariants as words
+use Rattle.par_gather.specs.Answers.{IsOutcome}
+use Rattle.par_gather.specs.Lines.{refusal_text, usage_text}
+use Rattle.par_gather.specs.declared.status.TheConstants.{MISUSED, NO_MEMORY, READ_FAULT, REFUSED, TOO_LARGE, WRITE_FAULT}
+use Rattle.par_gather.specs.declared.stop.Cause.{Cause}
+use Rattle.par_gather.specs.declared.stop.Cause.TheVariants as cause
 use Rattle.par_gather.specs.declared.stop.Stop.{Stop}
 use Rattle.par_gather.specs.declared.stop.Stop.TheVariants as stop
 
 -- the status of a reason
 abbrev pub stop_status : Stop → ℕ
-stop_status stop.NotBuilt = NOT_BUILT
+stop_status stop.Usage = MISUSED
 stop_status stop.ReadFault = READ_FAULT
+stop_status stop.TooManyBytes = TOO_LARGE
 stop_status stop.NoHeader = MISUSED
+stop_status stop.TooManyRows = TOO_LARGE
 stop_status (stop.NoColumn name) = MISUSED
+stop_status (stop.Refused row why) = REFUSED
 stop_status stop.WriteFault = WRITE_FAULT
 stop_status stop.Memory = NO_MEMORY
 
+-- what the line says of the cause of a refusal
+abbrev pub cause_text : Cause → List ℕ
+cause_text cause.Width = codes "wrong number of fields"
+cause_text cause.LongKey = codes "group key is longer than 248 bytes"
+cause_text (cause.Item name) = codes "column " ++ (string_bytes name ++ codes " is not an integer")
+cause_text (cause.Filter name) = codes "filter column " ++ (string_bytes name ++ codes " is not an integer")
+
+-- what its line says, where it names a row what comes after the row's number
+abbrev pub text_of : Stop → List ℕ
+text_of stop.Usage = usage_text
+text_of stop.ReadFault = codes "read fault"
+text_of stop.TooManyBytes = codes "more than 67108864 bytes"
+text_of stop.NoHeader = codes "no header"
+text_of stop.TooManyRows = codes "more than 4194304 rows"
+text_of (stop.NoColumn name) = codes "no column " ++ string_bytes name
+text_of (stop.Refused row why) = cause_text why
+text_of stop.WriteFault = codes "write fault"
+text_of stop.Memory = codes "out of memory"
+
+-- what comes before that: the row that it names
+abbrev pub front_of : Stop → List ℕ
+front_of stop.Usage = []
+front_of stop.ReadFault = []
+front_of stop.TooManyBytes = []
+front_of stop.NoHeader = []
+front_of stop.TooManyRows = []
+front_of (stop.NoColumn name) = []
+front_of (stop.Refused row why) = codes "row " ++ (decimal row ++ codes ": ")
+front_of stop.WriteFault = []
+front_of stop.Memory = []
+
 -- what its line says
 abbrev pub stop_text : Stop → List ℕ
-stop_text stop.NotBuilt = codes "not built yet"
-stop_text stop.ReadFault = codes "read fault"
-stop_text stop.NoHeader = codes "no header"
-stop_text (stop.NoColumn name) = codes "no column " ++ string_bytes name
-stop_text stop.WriteFault = codes "write fault"
-stop_text stop.Memory = codes "out of memory"
+stop_text why = front_of why ++ text_of why
 
--- what it says of the outcome
-abbrev pub Explains : Stop → Outcome → Type 0
-Explains stop.NotBuilt o = status_of o ≡ NOT_BUILT
-Explains stop.ReadFault o = ⊤
-Explains stop.NoHeader o = o ≡ NoHeader
-Explains (stop.NoColumn name) o = o ≡ NoColumn (string_bytes name)
-Explains stop.WriteFault o = o ≡ Table
-Explains stop.Memory o = ⊤
+-- the outcome refuses this row first, and for this cause
+abbrev pub RefusesFirst : NamedPlan → ℕ → Cause → Outcome → Type 0
+RefusesFirst plan row why o = (refusal : Refusal) × (rest : List (ℕ × Refusal)) × (o ≡ Refused ((row, refusal) ∷ rest)) × (cause_text why ≡ refusal_text plan refusal)
 
--- a reason that the rows give: want of memory, or what it says of the outcome
-abbrev pub IsStop : Stop → Outcome → Type 0
-IsStop why o = (why ≡ stop.Memory) ⊎ ((why ≡ stop.NotBuilt) × (status_of o ≡ NOT_BUILT))
+-- what a reason says of the outcome
+abbrev pub Explains : Option NamedPlan → Stop → Outcome → Type 0
+Explains plan stop.Usage o = o ≡ Usage
+Explains plan stop.ReadFault o = ⊤
+Explains plan stop.TooManyBytes o = o ≡ TooManyBytes
+Explains plan stop.NoHeader o = o ≡ NoHeader
+Explains plan stop.TooManyRows o = o ≡ TooManyRows
+Explains plan (stop.NoColumn name) o = o ≡ NoColumn (string_bytes name)
+Explains plan (stop.Refused row why) o = IsSomeAnd plan (λ plan. RefusesFirst plan row why o)
+Explains plan stop.WriteFault o = o ≡ Table
+Explains plan stop.Memory o = ⊤
 
--- the reason that stands for an answer of `read_all` and of `rows`
+-- it explains an outcome, which is that of the plan over what the source had left, where that is told
+abbrev pub IsExplained : Option NamedPlan → Option (List ℕ) → Stop → Type 0
+IsExplained plan left why = (o : Outcome) × IsOutcome plan left o × Explains plan why o
+
+-- the reason that stands for an answer of `of_words`, of `read_all` and of `rows`
+abbrev pub stop_of_words : PlanAnswer → Stop
+stop_of_words words.Usage = stop.Usage
+stop_of_words words.Memory = stop.Memory
+
 abbrev pub stop_of_reading : ReadAnswer → Stop
 stop_of_reading reading.ReadFault = stop.ReadFault
-stop_of_reading reading.TooManyBytes = stop.NotBuilt
+stop_of_reading reading.TooManyBytes = stop.TooManyBytes
 stop_of_reading reading.Memory = stop.Memory
 
 abbrev pub stop_of_parsing : RowsAnswer → Stop
 stop_of_parsing parsing.NoHeader = stop.NoHeader
-stop_of_parsing parsing.TooManyRows = stop.NotBuilt
+stop_of_parsing parsing.TooManyRows = stop.TooManyRows
 stop_of_parsing parsing.Memory = stop.Memory
+
+-- the reason is that this row is refused, and has the text of the refusal
+abbrev pub IsRow : NamedPlan → ℕ → Refusal → Stop → Type 0
+IsRow plan row refusal why = (cause : Cause) × (why ≡ stop.Refused row cause) × (cause_text cause ≡ refusal_text plan refusal)
+
+-- the reason says of an answer of a block what the answer says, or is want of memory
+abbrev pub Restates : NamedPlan → BlockAnswer → Stop → Type 0
+Restates plan (answer.Row row cause item) why = IsRow plan row (record { cause = cause; item = item }) why ⊎ (why ≡ stop.Memory)
+Restates plan answer.Memory why = why ≡ stop.Memory

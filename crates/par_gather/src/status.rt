@@ -3,7 +3,10 @@
 /// The table was written.
 pub const TABLE: u8 = 0;
 
-/// There is no header, or no column of a name.
+/// A row is refused.
+pub const REFUSED: u8 = 1;
+
+/// The words are no plan, there is no header, or no column of a name.
 pub const MISUSED: u8 = 2;
 
 /// A read of the source failed.
@@ -15,5 +18,5 @@ pub const WRITE_FAULT: u8 = 4;
 /// Memory ran out.
 pub const NO_MEMORY: u8 = 5;
 
-/// The answer is not built yet.
-pub const NOT_BUILT: u8 = 7;
+/// The input has too many bytes or too many rows.
+pub const TOO_LARGE: u8 = 6;

@@ -3,21 +3,34 @@
 ghost use Rattle.std.specs.Prelude.{◌≡◌, ◌++◌, map};
 ghost use Rattle.std.specs.List.{concat};
 ghost use Rattle.par_gather.specs.Lines.{IsSaid, line};
-ghost use Rattle.par_gather.specs.Stops.{stop_of_parsing, stop_of_reading, stop_status, stop_text};
+ghost use Rattle.par_gather.specs.Stops.{cause_text, stop_of_parsing, stop_of_reading, stop_of_words, stop_status, stop_text, text_of};
 ghost use Rattle.par_gather.specs.declared.stop.Stop.TheVariants as stop;
 
-use crate::status::{MISUSED, NO_MEMORY, NOT_BUILT, READ_FAULT, WRITE_FAULT};
+use crate::status::{MISUSED, NO_MEMORY, READ_FAULT, REFUSED, TOO_LARGE, WRITE_FAULT};
 use csv_rows::{ReadAnswer, RowsAnswer};
 use par_io::{Failed, Sink, write_whole};
+use plan_spec::PlanAnswer;
 use std::alloc::AllocError;
+
+/// Why a row is refused, with the name of the column of which its line speaks.
+#[derive(Debug, Drop)]
+pub(crate) enum Cause {
+    Width,
+    LongKey,
+    Item(String),
+    Filter(String),
+}
 
 /// Why there is no table.
 #[derive(Debug, Drop)]
 pub(crate) enum Stop {
-    NotBuilt,
+    Usage,
     ReadFault,
+    TooManyBytes,
     NoHeader,
+    TooManyRows,
     NoColumn(String),
+    Refused(u64, Cause),
     WriteFault,
     Memory,
 }
@@ -30,13 +43,24 @@ impl From<AllocError> for Stop {
     }
 }
 
+impl From<PlanAnswer> for Stop {
+    ghost from_gives = { λ answer why. why ≡ stop_of_words answer };
+
+    fn from(answer: PlanAnswer) -> Stop {
+        match answer {
+            PlanAnswer::Usage => Stop::Usage,
+            PlanAnswer::Memory => Stop::Memory,
+        }
+    }
+}
+
 impl From<ReadAnswer> for Stop {
     ghost from_gives = { λ answer why. why ≡ stop_of_reading answer };
 
     fn from(answer: ReadAnswer) -> Stop {
         match answer {
             ReadAnswer::ReadFault => Stop::ReadFault,
-            ReadAnswer::TooManyBytes => Stop::NotBuilt,
+            ReadAnswer::TooManyBytes => Stop::TooManyBytes,
             ReadAnswer::Memory => Stop::Memory,
         }
     }
@@ -48,8 +72,22 @@ impl From<RowsAnswer> for Stop {
     fn from(answer: RowsAnswer) -> Stop {
         match answer {
             RowsAnswer::NoHeader => Stop::NoHeader,
-            RowsAnswer::TooManyRows => Stop::NotBuilt,
+            RowsAnswer::TooManyRows => Stop::TooManyRows,
             RowsAnswer::Memory => Stop::Memory,
+        }
+    }
+}
+
+impl Cause {
+    // What the line says of it: a text, a name, and the text behind that.
+    fn text(&self) -> (&str, &str, &str)
+        ensures { result.0.now ++ (result.1.now ++ result.2.now) ≡ cause_text self.now }
+    {
+        match self {
+            Cause::Width => ("wrong number of fields", "", ""),
+            Cause::LongKey => ("group key is longer than 248 bytes", "", ""),
+            Cause::Item(name) => ("column ", name.as_str(), " is not an integer"),
+            Cause::Filter(name) => ("filter column ", name.as_str(), " is not an integer"),
         }
     }
 }
@@ -60,48 +98,64 @@ impl Stop {
         ensures { result ≡ stop_status self.now }
     {
         match self {
-            Stop::NotBuilt => NOT_BUILT,
+            Stop::Usage | Stop::NoHeader | Stop::NoColumn(_) => MISUSED,
+            Stop::Refused(_, _) => REFUSED,
             Stop::ReadFault => READ_FAULT,
-            Stop::NoHeader => MISUSED,
-            Stop::NoColumn(_) => MISUSED,
             Stop::WriteFault => WRITE_FAULT,
             Stop::Memory => NO_MEMORY,
+            Stop::TooManyBytes | Stop::TooManyRows => TOO_LARGE,
         }
     }
 
-    // What its line says, and a name that it says it of.
-    fn text(&self) -> (&str, &str)
-        ensures { result.0.now ++ result.1.now ≡ stop_text self.now }
+    // What its line says, in pieces: of a refused row it is what comes after the row's number.
+    fn text(&self) -> (&str, &str, &str)
+        ensures { result.0.now ++ (result.1.now ++ result.2.now) ≡ text_of self.now }
     {
         match self {
-            Stop::NotBuilt => ("not built yet", ""),
-            Stop::ReadFault => ("read fault", ""),
-            Stop::NoHeader => ("no header", ""),
-            Stop::NoColumn(name) => ("no column ", name.as_str()),
-            Stop::WriteFault => ("write fault", ""),
-            Stop::Memory => ("out of memory", ""),
+            Stop::Usage => (
+                "usage: pargather [--group COLUMNS] --agg ITEMS [--where FILTER] [--workers N] [--plan gather|hash] [--area-pages N]",
+                "",
+                "",
+            ),
+            Stop::ReadFault => ("read fault", "", ""),
+            Stop::TooManyBytes => ("more than 67108864 bytes", "", ""),
+            Stop::NoHeader => ("no header", "", ""),
+            Stop::TooManyRows => ("more than 4194304 rows", "", ""),
+            Stop::NoColumn(name) => ("no column ", name.as_str(), ""),
+            Stop::Refused(_, cause) => cause.text(),
+            Stop::WriteFault => ("write fault", "", ""),
+            Stop::Memory => ("out of memory", "", ""),
         }
+    }
+
+    // The pieces of its line.
+    fn pieces<'a>(&'a self, digits: &'a mut itoa::Buffer) -> [&'a str; 8]
+        ensures { concat (map (λ piece. piece.now) result) ≡ line (stop_text self.now) }
+    {
+        let (row, number, colon) = match self {
+            Stop::Refused(row, _) => ("row ", digits.format(*row), ": "),
+            _ => ("", "", ""),
+        };
+        let (text, name, rest) = self.text();
+        ["pargather: ", row, number, colon, text, name, rest, "\n"]
     }
 
     // Writes the line. A failed write ends it, and changes nothing else.
     pub(crate) fn report<E: Sink>(&self, err: &mut E)
         ensures { IsSaid (E.taken err.old) (E.taken err.new) (E.faults err.old) (E.faults err.new) (line (stop_text self.now)) }
     {
-        let (text, name) = self.text();
-        let said = write_pieces(
-            err,
-            &[b"pargather: ", text.as_bytes(), name.as_bytes(), b"\n"],
-        );
+        let mut digits = itoa::Buffer::new();
+        let said = write_pieces(err, &self.pieces(&mut digits));
         let _ = said;
     }
 }
 
 // Writes the pieces one after the other, up to a write that fails.
-fn write_pieces<E: Sink>(err: &mut E, pieces: &[&[u8]]) -> Result<(), Failed>
+fn write_pieces<E: Sink>(err: &mut E, pieces: &[&str]) -> Result<(), Failed>
     ensures { IsSaid (E.taken err.old) (E.taken err.new) (E.faults err.old) (E.faults err.new) (concat (map (λ piece. piece.now) pieces.now)) }
 {
     for piece in pieces {
-        write_whole(err, piece)?;
+        write_whole(err, piece.as_bytes())?;
     }
     Ok(())
 }

@@ -1,26 +1,40 @@
-//! Worked rows: words, bytes and failing calls, and what the call answers.
+//! Worked rows: words, bytes and failing calls, and what both calls answer.
 
 use super::*;
 use par_io::{MemSink, MemSource};
 use std::alloc::AllocError;
 use std::test::Fail;
 
-const QUERY: [&str; 4] = ["--group", "g", "--agg", "count"];
+const USAGE: &str =
+    "pargather: usage: pargather [--group COLUMNS] --agg ITEMS [--where FILTER] [--workers N] [--plan gather|hash] [--area-pages N]\n";
 
-// A run over a source that gives 3 bytes a call and sinks that take 5, with the numbers of the calls that fail.
+const LETTERS: &str = "g,v\na,1\nb,2\na,3\n";
+
+const SUMS: &str = "--group g --agg sum:v,avg:v --workers 4";
+
+// A run over a source that gives 3 bytes a call and sinks that take 5, with the numbers of the calls that fail. The
+// words stand between spaces.
 #[derive(Clone, Copy)]
 struct Run<'a> {
-    words: &'a [&'a str],
+    words: &'a str,
     input: &'a str,
     failing_reads: &'a [u64],
     failing_writes: &'a [u64],
     failing_lines: &'a [u64],
 }
 
+// The status, and what the two sinks were given.
+#[derive(Drop)]
+struct Answered {
+    status: u8,
+    out: Vec<u8>,
+    err: Vec<u8>,
+}
+
 impl<'a> Run<'a> {
-    fn query(input: &'a str) -> Run<'a> {
+    fn of(words: &'a str, input: &'a str) -> Run<'a> {
         Run {
-            words: &QUERY,
+            words,
             input,
             failing_reads: &[],
             failing_writes: &[],
@@ -28,92 +42,132 @@ impl<'a> Run<'a> {
         }
     }
 
-    // The status, and what the two sinks were given.
-    fn answer(&self, alloc: Global) -> Result<(u8, Vec<u8>, Vec<u8>), AllocError> {
+    // What a call answers: `aggregate_alone`, or `pargather`.
+    fn answer(&self, alloc: Global, is_alone: bool) -> Result<Answered, AllocError> {
         let mut words = Vec::new(alloc);
-        for word in self.words {
+        for word in self.words.split(' ') {
             words.push(String::from_str(alloc, word)?)?;
         }
         let input = Vec::from_slice(alloc, self.input.as_bytes())?;
         let mut source = MemSource::new(input, 3, Vec::from_slice(alloc, self.failing_reads)?);
-        let mut out = MemSink::new(alloc, 5, 100, Vec::from_slice(alloc, self.failing_writes)?)?;
-        let mut err = MemSink::new(alloc, 5, 100, Vec::from_slice(alloc, self.failing_lines)?)?;
-        let status = pargather(
-            &(),
-            alloc,
-            words.as_slice(),
-            &mut source,
-            &mut out,
-            &mut err,
-            &OpenGate,
-        );
-        Ok((
+        let mut out = MemSink::new(alloc, 5, 200, Vec::from_slice(alloc, self.failing_writes)?)?;
+        let mut err = MemSink::new(alloc, 5, 200, Vec::from_slice(alloc, self.failing_lines)?)?;
+        let status = if is_alone {
+            aggregate_alone(alloc, words.as_slice(), &mut source, &mut out, &mut err)
+        } else {
+            pargather(
+                &(),
+                alloc,
+                words.as_slice(),
+                &mut source,
+                &mut out,
+                &mut err,
+                &OpenGate,
+            )
+        };
+        Ok(Answered {
             status,
-            Vec::from_slice(alloc, out.written())?,
-            Vec::from_slice(alloc, err.written())?,
-        ))
+            out: Vec::from_slice(alloc, out.written())?,
+            err: Vec::from_slice(alloc, err.written())?,
+        })
     }
 }
 
 #[test]
 fn answers_worked_rows(rt: HostRuntime) -> Result<(), Fail> {
-    let letters = "g,v\na,1\nb,2\na,3\n";
     let runs = [
-        (Run::query(letters), 0, "g,count\na,2\nb,1\n", ""),
-        (Run::query("g,v\n"), 0, "g,count\n", ""),
         (
-            Run::query("v,g\n1,\"b,\"\"c\"\n2,\n3,a\n4,B\n"),
+            Run::of("--group g --agg count", LETTERS),
             0,
-            "g,count\n,1\nB,1\na,1\n\"b,\"\"c\",1\n",
+            "g,count\na,2\nb,1\n",
             "",
         ),
-        (Run::query(""), 2, "", "pargather: no header\n"),
-        (Run::query("x\n1\n"), 2, "", "pargather: no column g\n"),
-        (Run::query("g,v\na\n"), 7, "", "pargather: not built yet\n"),
+        (
+            Run::of(SUMS, LETTERS),
+            0,
+            "g,sum(v),avg(v)\na,4,2.0000\nb,2,2.0000\n",
+            "",
+        ),
+        (
+            Run::of(
+                "--agg count,sum:v --where v>=2 --plan hash --area-pages 0",
+                LETTERS,
+            ),
+            0,
+            "count,sum(v)\n2,5\n",
+            "",
+        ),
+        (Run::of("--agg sum:v", "g,v\n"), 0, "sum(v)\n\"\"\n", ""),
+        (
+            Run::of("--agg count:g,sum:v", "g,v\na,1\nb,x\nc,y\n"),
+            1,
+            "",
+            "pargather: row 2: column v is not an integer\n",
+        ),
+        (
+            Run::of("--agg count,sum:v --where g=1", "g,v\n1,1\nb,x\n"),
+            1,
+            "",
+            "pargather: row 2: filter column g is not an integer\n",
+        ),
+        (
+            Run::of("--agg count", "a,b\n1\n"),
+            1,
+            "",
+            "pargather: row 1: wrong number of fields\n",
+        ),
+        (Run::of("--agg count", ""), 2, "", "pargather: no header\n"),
+        (
+            Run::of("--group g --agg sum:w", LETTERS),
+            2,
+            "",
+            "pargather: no column w\n",
+        ),
         (
             Run {
-                words: &["--agg", "count"],
                 failing_reads: &[1],
-                ..Run::query(letters)
+                ..Run::of("--agg count --workers 65", LETTERS)
             },
-            7,
+            2,
             "",
-            "pargather: not built yet\n",
-        ),
-        (
-            Run {
-                failing_writes: &[2],
-                ..Run::query(letters)
-            },
-            4,
-            "g,cou",
-            "pargather: write fault\n",
+            USAGE,
         ),
         (
             Run {
                 failing_reads: &[2],
-                ..Run::query(letters)
+                ..Run::of("--group g --agg count", LETTERS)
             },
             3,
             "",
             "pargather: read fault\n",
         ),
+        (
+            Run {
+                failing_writes: &[2],
+                ..Run::of("--group g --agg count", LETTERS)
+            },
+            4,
+            "g,cou",
+            "pargather: write fault\n",
+        ),
         // A line that cannot be written changes no status.
         (
             Run {
-                failing_lines: &[2],
-                ..Run::query("")
+                failing_lines: &[5],
+                ..Run::of("--agg count", "a,b\n1\n")
             },
-            2,
+            1,
             "",
-            "parga",
+            "pargather: row ",
         ),
     ];
     for (at, (run, status, out, err)) in runs.iter().enumerate() {
-        let answer = run.answer(rt.alloc())?;
-        assert_eq!(rt; answer.0, *status, "status of run {at}");
-        assert_eq!(rt; answer.1.as_slice(), out.as_bytes(), "table of run {at}");
-        assert_eq!(rt; answer.2.as_slice(), err.as_bytes(), "line of run {at}");
+        for is_alone in [false, true] {
+            let answer = run.answer(rt.alloc(), is_alone)?;
+            assert_eq!(rt; answer.status, *status, "status of run {at}");
+            assert_eq!(rt; answer.out.as_slice(), out.as_bytes(), "table of run {at}");
+            assert_eq!(rt; answer.err.as_slice(), err.as_bytes(), "line of run {at}");
+        }
     }
     Ok(())
 }

@@ -1,4 +1,4 @@
-//! `pargather --group COLUMN --agg count` answers a query over the comma-separated bytes of the standard input.
+//! `pargather [--group COLUMNS] --agg ITEMS ..` answers a query over the comma-separated bytes of the standard input.
 //!
 //! This file is the edge to the system alone: it hands the words, the standard streams and an open gate to the library
 //! `par_gather`, whose contract says what the answer is, and ends with the status that it gets.
@@ -10,7 +10,7 @@ use std::io::ErrorKind;
 use std::process::ExitCode;
 use std::{env, io};
 
-// The words after the program's name. Words that are no UTF-8 are no words of a query.
+// The words after the program's name. Where one is no UTF-8 there are none, which is no plan.
 fn words(rt: &HostRuntime) -> io::Result<Vec<String>> {
     let mut words = Vec::new(rt.alloc());
     match env::args(rt) {

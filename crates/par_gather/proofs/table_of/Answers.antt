@@ -1,27 +1,33 @@
-use Rattle.std.proofs.Common.{◌∙◌, sym, ap}
-use Rattle.std.proofs.lemmas.Result.{err_from_is_err_and}
+use Rattle.std.proofs.Common.{◌≤◌, ◌^◌, List, arith, drop, length, length-drop, subst, sym}
 use Rattle.csv_rows.specs.Records.{record_at}
-use Rattle.par_model.specs.Outcome.{NoColumn, by_refused}
-use Rattle.par_gather.proofs.CountTable.{records-answer}
-use Rattle.par_gather.proofs.Outcomes.{Explains-from_stop, by_records-found, by_records-missing, column_of-below}
+use Rattle.par_model.specs.Columns.{HasColumns}
+use Rattle.par_model.specs.Plan.{Plan}
+use Rattle.partial_agg.specs.declared.groups.Group.{Group}
+use Rattle.result_text.proofs.Uses.{printable-listed}
+use Rattle.result_text.specs.Printable.{ArePrintable}
+use Rattle.par_gather.proofs.Bound.{has-columns, may-answer, same-shape}
+use Rattle.par_gather.specs.Grouping.{NamesRefused}
+use Rattle.par_gather.specs.Naming.{SameShape}
 use Rattle.par_gather.proofs.table_of.Goals as goal
 
-pub returns-in_default-clause-why : goal.returns-in_default-clause-why
-returns-in_default-clause-why c =
-    by_records-missing c.args.name.now c.args.rows.now c.requires.some c.requires.few (sym c.in_default.ensures) ∙ ap NoColumn (sym c.in_ok-from_str.ensures.ok)
+pub groups_of-requires-clause-columns : goal.groups_of-requires-clause-columns
+groups_of-requires-clause-columns c =
+    let P : Plan → Type 0 = λ p. HasColumns p (length (record_at c.args.rows.now 0)) in
+    subst P (sym c.in-Ok.ensures.bound) (has-columns (record_at c.args.rows.now 0) c.args.plan.now.plan c.requires.named c.in-Ok.ensures.whole)
 
-pub count_groups-requires-clause-column : goal.count_groups-requires-clause-column
-count_groups-requires-clause-column c = column_of-below (record_at c.args.rows.now 0) c.args.name.now c.in-Some.column (sym c.in-Some.ensures)
+pub stop_of_block-requires-clause-shape : goal.stop_of_block-requires-clause-shape
+stop_of_block-requires-clause-shape c =
+    let P : Plan → Type 0 = λ p. SameShape c.args.plan.now.plan p in
+    subst P (sym c.in-Ok.ensures.bound) (same-shape (record_at c.args.rows.now 0) c.args.plan.now.plan)
 
-pub returns-in_err-counts-clause-why : goal.returns-in_err-counts-clause-why
-returns-in_err-counts-clause-why c =
-    let p = err_from_is_err_and c.from_residual-in_err-counts.result c.from_residual-in_err-counts.ensures.1 in
-    let found = by_records-found c.args.name.now c.args.rows.now c.in-Some.column c.requires.some c.requires.few (sym c.in-Some.ensures) in
-    rw (p.1, p.2, found) (Explains-from_stop _ _ c.in_err-counts.ensures.why)
+pub stop_of_block-requires-clause-refusal : goal.stop_of_block-requires-clause-refusal
+stop_of_block-requires-clause-refusal c =
+    let P : Plan → Type 0 = λ p. NamesRefused p c.args.rows.now c.in-Err-groups_of.answer in
+    may-answer c.args.plan.now.plan c.args.rows.now c.in-Err-groups_of.answer c.requires.named (subst P c.in-Ok.ensures.bound c.in-Err-groups_of.ensures.first)
 
-pub returns-clause-table : goal.returns-clause-table
-returns-clause-table c =
-    let found = by_records-found c.args.name.now c.args.rows.now c.in-Some.column c.requires.some c.requires.few (sym c.in-Some.ensures) in (
-      found ∙ ap by_refused c.in_ok-counts.ensures.none_refused,
-      rw c.in_ok-table_text.ensures.text (records-answer c.args.name.now c.args.rows.now c.in-Some.column c.in_ok-counts.counts c.requires.some (sym c.in-Some.ensures) c.in_ok-table_text.ensures.ordered c.in_ok-counts.ensures.counts),
-    )
+pub text_of-requires-clause-printable : goal.text_of-requires-clause-printable
+text_of-requires-clause-printable c =
+    let groups = c.in-Ok-groups_of.ensures.groups in
+    let few : length (drop 1 c.args.rows.now) ≤ 2 ^ 32 = omega (arith, length-drop 1 c.args.rows.now, c.requires.few) in
+    let P : List Group → Type 0 = λ l. ArePrintable c.in-Ok.bound l in
+    subst P (sym groups.2) (printable-listed c.in-Ok.bound (drop 1 c.args.rows.now) groups.0 few groups.1)

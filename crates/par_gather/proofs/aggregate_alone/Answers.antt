@@ -1,0 +1,19 @@
+use Rattle.std.proofs.Common.{ℕ, subst, sym, ◌∙◌}
+use Rattle.std.proofs.lemmas.Option.{IfSome_then}
+use Rattle.par_gather.proofs.Statuses.{line_first, line_outcome}
+use Rattle.par_gather.specs.Answers.{plan_of, texts}
+use Rattle.par_gather.specs.Lines.{IsLine, line}
+use Rattle.par_gather.specs.Stops.{stop_text}
+use Rattle.par_gather.proofs.aggregate_alone.Goals as goal
+
+pub returns-in-Err-clause-line : goal.returns-in-Err-clause-line
+returns-in-Err-clause-line g c = λ _.
+    let plan = plan_of (texts c.args.words.now) in
+    let said = line_outcome plan (g.S.Source.left c.args.source.now) c.in-Err.stop c.in-Err.ensures.why in
+    let P : ℕ → Type 0 = λ n. IsLine plan n said.0 (line (stop_text c.in-Err.stop)) in
+    (said.0, said.1, line (stop_text c.in-Err.stop), subst P (sym c.status.ensures) said.2, c.report.ensures)
+
+pub returns-in-Err-clause-first : goal.returns-in-Err-clause-first
+returns-in-Err-clause-first g c = λ is.
+    let first = line_first (plan_of (texts c.args.words.now)) (g.S.Source.left c.args.source.now) c.in-Err.stop c.in-Err.ensures.why (sym c.status.ensures ∙ is) in
+    IfSome_then (g.S.Source.left c.args.source.now) first (λ bytes names. (line (stop_text c.in-Err.stop), names, c.report.ensures))
