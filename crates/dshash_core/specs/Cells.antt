@@ -23,25 +23,28 @@ pub record PartitionView (S : Type 0) : Type 0 where
   pub size : ℕ
   pub cells : KeyMap S
 
+-- the code by which proofs tell such values apart
 abbrev pub partition_code : {S : Type 0} → Coded S → Coded (PartitionView S)
 partition_code {S} s =
     code_by (TableId × (ℕ × (ℕ × (ℕ × (ℕ × (ℕ × KeyMap S)))))) (coded× table_id_coded (coded× coded_ℕ (coded× coded_ℕ (coded× coded_ℕ (coded× coded_ℕ (coded× coded_ℕ (fin.code (coded_list coded_ℕ) s)))))))
     (λ p. (p.region, (p.slice, (p.words, (p.key_words, (p.item_bytes, (p.size, p.cells)))))))
     (λ q. record { region = q.0; slice = q.1.0; words = q.1.1.0; key_words = q.1.1.1.0; item_bytes = q.1.1.1.1.0; size = q.1.1.1.1.1.0; cells = q.1.1.1.1.1.1 }) (λ _. refl)
 
--- the number of the partition to which a hash belongs: its top 7 bits
+-- the number of the partition to which a hash belongs: its top 7 bits (dshash.c, PARTITION_FOR_HASH)
 abbrev pub partition_of : ℕ → ℕ
 partition_of hash = hash / 2 ^ 25
 
--- the bucket of a hash in a partition of a size: the hash's top bits, as many as the size, without the 7 of the partition
+-- the bucket of a hash in a partition of a size: the hash's top bits, as many as the size, without the 7 of the partition (dshash.c,
+-- BUCKET_INDEX_FOR_HASH_AND_SIZE)
 abbrev pub bucket_of : ℕ → ℕ → ℕ
 bucket_of size hash = hash / 2 ^ (32 - size) % 2 ^ (size - 7)
 
--- the buckets of a partition of a size
+-- the buckets of a partition of a size (dshash.c, BUCKETS_PER_PARTITION)
 abbrev pub buckets_of : ℕ → ℕ
 buckets_of size = 2 ^ (size - 7)
 
--- with more keys than this a partition grows before it inserts (dshash.c: three quarters of its buckets)
+-- with more keys than this a partition grows before it inserts: three quarters of its buckets, each part rounded down (dshash.c,
+-- MAX_COUNT_PER_PARTITION)
 abbrev pub full_above : ℕ → ℕ
 full_above size = buckets_of size / 2 + buckets_of size / 4
 

@@ -1,4 +1,5 @@
--- Chains of items in words, and the items that they stand for. An item is its link, its hash, its key's words and its value's words.
+-- Chains of items in words, and the items that they stand for. An item is its link, its hash, its key's words and its value's words
+-- (dshash.c, struct dshash_table_item: next, hash, entry).
 use Rattle.std.specs.Prelude.{◌≡◌, ◌≢◌, ℕ, zero, suc, ◌+◌, ◌*◌, ◌^◌, ◌<◌, ◌≤◌, ◌⊎◌, Bool, ◌==◌, cond, List, [], ◌∷◌, ◌++◌, map, unwrap_or}
 use Rattle.word_map.specs.WordMap.{WordMap, at}
 
@@ -11,7 +12,7 @@ abbrev pub words_at : (ℕ → ℕ) → ℕ → ℕ → List ℕ
 words_at w k zero = []
 words_at w k (suc n) = w k ∷ words_at w (suc k) n
 
--- no region has more words
+-- no region has more words (the 2^26 that `Region::new` allows)
 unfoldable pub most_words : ℕ
 most_words = 2 ^ 26
 
@@ -55,5 +56,6 @@ abbrev pub link_behind : ℕ → List ℕ → ℕ
 link_behind link [] = link
 link_behind link (a ∷ rest) = link_behind a rest
 
+-- the places of items
 abbrev pub ats : List Item → List ℕ
 ats items = map (λ it. it.at) items

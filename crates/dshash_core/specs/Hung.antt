@@ -1,4 +1,5 @@
--- The buckets of a slice, as contracts see them, and how the words stand for them.
+-- The buckets of a slice, as contracts see them, and how the words stand for them (dshash.c: an array of pointers to items, and the items'
+-- links).
 use Rattle.std.specs.Prelude.{◌≡◌, ◌≢◌, ℕ, ◌+◌, ◌*◌, ◌/◌, ◌%◌, ◌<◌, ◌≤◌, List, [], ◌∷◌, ◌++◌, map, length, refl, IsSome, slice_set, slice_index_or}
 use Rattle.std.specs.Coded.{Coded, code_by, coded×, coded_ℕ, coded_list}
 use Rattle.atomic_table.specs.Seated.{TableId, table_id_coded}
@@ -21,6 +22,7 @@ pub record Hung : Type 0 where
   pub layout : Layout
   pub chains : List (List Item)
 
+-- the codes by which proofs tell such values apart
 abbrev pub layout_code : Coded Layout
 layout_code = code_by (ℕ × (ℕ × ℕ)) (coded× coded_ℕ (coded× coded_ℕ coded_ℕ)) (λ l. (l.key_words, (l.value_words, l.item_bytes))) (λ p. record { key_words = p.0; value_words = p.1.0; item_bytes = p.1.1 }) (λ _. refl)
 

@@ -8,7 +8,7 @@ use Rattle.dshash_core.specs.Cells.{KeyMap, PartitionView, full_above}
 use Rattle.dshash_core.specs.declared.outcome.CoreOut.{CoreOut}
 use Rattle.dshash_core.specs.declared.outcome.CoreOut.TheVariants.{Done, NeedItem, TooFull}
 
--- the map with this state under the key, or none
+-- the map with this state under the key, or without the key, and as before at all others
 abbrev pub changed : {S : Type 0} → KeyMap S → List ℕ → Option S → KeyMap S
 changed m key (Some state) = fin.insert m key state
 changed m key None = fin.remove m key
@@ -21,7 +21,7 @@ would_insert m key next = not (fin.contains_key m key) && is_some next
 abbrev pub removes : {S : Type 0} → KeyMap S → List ℕ → Option S → Bool
 removes m key next = fin.contains_key m key && is_none next
 
--- the partition has to grow before it inserts
+-- the partition has to grow before it inserts (dshash.c, dshash_find_or_insert: its count exceeds MAX_COUNT_PER_PARTITION); at size 20 it grows no more
 abbrev pub is_full : {S : Type 0} → KeyMap S → ℕ → Bool
 is_full m size = nat_lt (full_above size) (fin.len m) && nat_lt size 20
 
@@ -30,7 +30,8 @@ abbrev pub next_of : {S C R : Type 0} → (Option S → C → Option S × R) →
 next_of step before key call = (step (fin.get before key) call).0
 
 module _ {S C R : Type 0} (step : Option S → C → Option S × R) (size : ℕ) (before : KeyMap S) (key : List ℕ) (call : C) (spare : Bool) where
-  -- the call was made: the key has the state of its step and no other key changes
+  -- the call was made: the key has the state of its step and no other key changes. An item that came and was not taken is handed back, and
+  -- that of a key that went is handed out
   pub record IsDone (reply : R) (unused freed : Bool) (after : KeyMap S) : Type 0 where
     pub replied : reply ≡ (step (fin.get before key) call).1
     pub steps : after ≡ changed before key (next_of step before key call)
@@ -70,7 +71,9 @@ pub record ListsAll {S : Type 0} (m : KeyMap S) (entries : List (List ℕ × S))
   pub all : fin.from_entries entries ≡ m
   pub once : length entries ≡ fin.len m
 
--- a move takes place to a size above the partition's, up to 20, and keeps the map; another one changes nothing
+-- a move to a size above the partition's, up to 20, sets that size and keeps the map; any other move changes nothing (dshash.c, resize:
+-- where another process has done it already there is nothing to do)
 pub record IsMoved {S : Type 0} (size : ℕ) (before : KeyMap S) (to after_size : ℕ) (after : KeyMap S) : Type 0 where
   pub same : after ≡ before
   pub size_is : size < to → to ≤ 20 → after_size ≡ to
+  pub otherwise : (size < to → to ≤ 20 → ⊥) → after_size ≡ size

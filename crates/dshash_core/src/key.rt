@@ -54,7 +54,8 @@ pub fn pack_key(bytes: &[u8]) -> Option<[u64; 32]>
 /// Writes the byte string of a packed key to the front of `out`, and gives its length.
 pub fn unpack_key(key: &[u64], out: &mut [u8; 248]) -> usize
     requires { IsPackedKey key.now }
-    ensures { (bytes : List ℕ) → AllBytes bytes → length bytes ≤ 248 → key.now ≡ packed_key bytes → (result ≡ length bytes) × (take result out.new ≡ bytes) }
+    ensures reads { (bytes : List ℕ) → AllBytes bytes → length bytes ≤ 248 → key.now ≡ packed_key bytes → (result ≡ length bytes) × (take result out.new ≡ bytes) }
+    ensures encodes { key.now ≡ packed_key (take result out.new) }
 {
     for i in 0..31 {
         unpack(key[1 + i], out, i as u64);

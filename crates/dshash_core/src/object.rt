@@ -2,8 +2,9 @@
 ghost use Rattle.std.specs.Prelude.{◌≡◌, ℕ, List, Option, length};
 ghost use Rattle.std.specs.Option.{option_copied};
 
-/// The object of which a table has one under each key. A call may make it, change it or remove it.
-pub trait CellObject {
+/// The object of which a table has one under each key. A call may make it, change it or remove it. A partition of it may stand behind a lock,
+/// so it crosses threads.
+pub trait CellObject: Send {
     /// The words that a state takes.
     const VALUE_WORDS: usize;
 

@@ -5,6 +5,7 @@ ghost use Rattle.std.specs.Prelude.{◌≡◌, ℕ, ◌*◌, ◌/◌, ◌<◌, �
 ghost use Rattle.std.specs.FinMap as fin;
 ghost use Rattle.dshash_core.specs.Cells.{KeyMap, buckets_of};
 ghost use Rattle.dshash_core.specs.Hung.{chain_of};
+ghost use Rattle.dshash_core.specs.Outcome.{IsMoved};
 ghost use Rattle.dshash_resize.specs.Moving.{IsMoving, IsMovedOn};
 
 use dshash_core::{Buckets, CellObject, Partition};
@@ -34,7 +35,8 @@ pub fn move_partition<O: CellObject>(
     requires here { (p.old.region ≡ r.now) × (slice.part.region ≡ r.now) }
     requires size { (p.old.size < size) × (size ≤ 20) }
     requires room { buckets_of size ≤ slice.bytes / 8 }
-    ensures moved { p.new ≡ record p.old { slice = slice.at; words = slice.bytes / 8; size = size } }
+    ensures moved { IsMoved p.old.size p.old.cells size p.new.size p.new.cells }
+    ensures same { p.new ≡ record p.old { slice = slice.at; words = slice.bytes / 8; size = size } }
     ensures slice { (result.part.region ≡ p.old.region) × (result.at ≡ p.old.slice) × (result.bytes ≡ 8 * p.old.words) }
 {
     let _ = p.count();

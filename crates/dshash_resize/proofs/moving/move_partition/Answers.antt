@@ -24,8 +24,8 @@ move_chain-requires-clause-moving g c κs within =
           (start.layout.2 ∙ sym (ap (λ (w : PartitionView S). w.item_bytes) start.fresh))),
     )
 
-pub returns-clause-moved : goal.returns-clause-moved
-returns-clause-moved g c =
+pub returns-clause-same : goal.returns-clause-same
+returns-clause-same g c =
     let S : Type 0 = g.row.O-State.Denot in
     let all = c.args.p.now.cells in
     let start = c.start_over-from.ensures in
@@ -47,3 +47,14 @@ returns-clause-moved g c =
     let item_bytes = ap (λ (w : PartitionView S). w.item_bytes) same ∙ ap (λ (w : PartitionView S). w.item_bytes) start.fresh in
     let size = ap (λ (w : PartitionView S). w.size) same ∙ ap (λ (w : PartitionView S). w.size) start.fresh in
     λ t. record { region = region t; slice = slice t; words = words t; key_words = key_words t; item_bytes = item_bytes t; size = size t; cells = cells t }
+
+pub returns-clause-moved : goal.returns-clause-moved
+returns-clause-moved g c =
+    let S : Type 0 = g.row.O-State.Denot in
+    let same = returns-clause-same g c in
+    let size = ap (λ (w : PartitionView S). w.size) same in
+    record {
+      same = ap (λ (w : PartitionView S). w.cells) same;
+      size_is = λ larger within. size;
+      otherwise = λ no. absurd (no c.requires.size.0 c.requires.size.1);
+    }
