@@ -2,5 +2,7 @@
 #![tactic(auto)]
 
 mod moving;
+#[cfg(test)]
+mod tests;
 
 pub use moving::move_partition;
