@@ -1,14 +1,13 @@
 -- Words in a row, and chains.
-use Rattle.std.proofs.Common.{◌≡◌, ◌≢◌, ℕ, zero, suc, ◌+◌, ◌<◌, ◌≤◌, ◌⊎◌, inl, inr, Bool, true, false, ◌==◌, cond, List, [], ◌∷◌, ◌++◌, map, length, get_or, set, Option, Some, None, unwrap_or, is_some, IsSome, refl, sym, ap, subst, ◌∙◌, arith, ⊎_elim, eq-eqb, ne_eqb}
+use Rattle.std.proofs.Common.{◌≡◌, ◌≢◌, ℕ, zero, suc, ◌+◌, ◌<◌, ◌≤◌, ◌⊎◌, inl, inr, Bool, true, false, ◌==◌, cond, List, [], ◌∷◌, length, get_or, Option, Some, unwrap_or, is_some, IsSome, refl, sym, ap, subst, ◌∙◌, arith, ⊎_elim, eq-eqb, ne_eqb}
 use Rattle.std.proofs.lemmas.Grind.{same_number_lists}
-use Rattle.std.proofs.lemmas.Bool.Decides.{nat_tests}
 use Rattle.std.specs.FinMap as fin
 use mathlib.Core.Logic.{dite}
 use native.Mathlib.Decide.{ℕ_discrete}
 use Rattle.word_map.specs.WordMap.{WordMap, at}
 use Rattle.word_map.proofs.Maps.{at-insert_same, at-insert_other, same_answers, insert-keys}
 use Rattle.region_words.specs.Parts.{Owned, owned}
-use Rattle.dshash_core.specs.Chains.{word, words_at, places, IsChain, Among, AreDistinct, Item, item_at, each_below, link_behind, ats}
+use Rattle.dshash_core.specs.Chains.{word, words_at, places, IsChain, Among, item_at}
 
 -- numbers are equal or not
 pub same_or_not : (a b : ℕ) → (a ≡ b) ⊎ (a ≢ b)

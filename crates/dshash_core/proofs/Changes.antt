@@ -1,17 +1,17 @@
 -- What contracts see of a slice after its words changed.
-use Rattle.std.proofs.Common.{◌≡◌, ◌≢◌, ℕ, zero, suc, ◌+◌, ◌*◌, ◌/◌, ◌%◌, ◌<◌, ◌≤◌, ◌⊎◌, inl, inr, List, [], ◌∷◌, ◌++◌, map, length, get_or, set, replicate, is_some, IsSome, refl, sym, ap, subst, ◌∙◌, arith, ⊎_elim}
-use Rattle.word_map.specs.WordMap.{WordMap, at, HasJust, is_within}
-use Rattle.word_map.proofs.Maps.{within_true, just_has}
+use Rattle.std.proofs.Common.{◌≡◌, ◌≢◌, ℕ, zero, suc, ◌+◌, ◌/◌, ◌%◌, ◌<◌, ◌≤◌, inl, inr, List, [], ◌∷◌, ◌++◌, map, length, set, replicate, is_some, IsSome, refl, sym, ap, subst, ◌∙◌, arith, ⊎_elim}
+use Rattle.word_map.specs.WordMap.{WordMap, at, HasJust}
+use Rattle.word_map.proofs.Maps.{just_has}
 use Rattle.region_words.specs.Parts.{Owned}
 use Rattle.dshash_core.specs.Key.{hash_of}
-use Rattle.dshash_core.specs.Chains.{word, words_at, most_words, places, IsChain, Among, AreDistinct, Item, item_at, each_below, link_behind, ats}
-use Rattle.dshash_core.specs.Hung.{Hung, hung, IsApart, IsItem, AreHung, chain_places, chain_items, chain_of, with_chain, IsSpot, Holds, IsItemChunk}
+use Rattle.dshash_core.specs.Chains.{word, words_at, most_words, IsChain, Among, AreDistinct, Item, item_at, each_below, ats}
+use Rattle.dshash_core.specs.Hung.{Hung, hung, AreHung, chain_places, chain_items, chain_of, with_chain, IsSpot, IsItemChunk}
 use Rattle.dshash_core.specs.Walk.{IsHungIn, IsTakenOut}
 use Rattle.dshash_core.specs.declared.buckets.Buckets.TheInside.{Inside}
 use Rattle.dshash_core.proofs.Chains.{same_or_not, words_at-same}
-use Rattle.dshash_core.proofs.Rows.{each_below-set, each_below-same, ats-map, ats-append, AreRead, read_all, at_among, item_at-same}
+use Rattle.dshash_core.proofs.Rows.{each_below-set, each_below-same, ats-append, AreRead, read_all, at_among, item_at-same}
 use Rattle.dshash_core.proofs.Hangs.{apart_cases, without_other, among_left, put, put_same, put_other, hung_kept, hung_pushed, hung_unlinked, hung_places, rehang, IsPushed, IsUnlinked}
-use Rattle.dshash_core.proofs.Views.{Stands, seen, len_is, chain_is, places_are, reads, place_of, spot_in, spot_splits, spot_link, bucket_in, map_same, among_split, among_more, among_here}
+use Rattle.dshash_core.proofs.Views.{Stands, seen, places_are, reads, place_of, spot_in, spot_splits, spot_link, bucket_in, map_same, among_split, among_more}
 
 chain_positive : (w : ℕ → ℕ) (link a : ℕ) (xs : List ℕ) → IsChain w link xs → Among a xs → 0 < a
 chain_positive w link a [] c m = absurd m

@@ -1,12 +1,12 @@
 -- Chains of items that stand for a map, when one chain changes.
-use Rattle.std.proofs.Common.{◌≡◌, ◌≢◌, ℕ, zero, suc, ◌+◌, ◌<◌, ◌≤◌, ◌⊎◌, inl, inr, List, [], ◌∷◌, ◌++◌, map, length, get_or, set, Option, Some, None, refl, sym, ap, subst, ◌∙◌, arith, ⊎_elim, append_assoc, length-append}
+use Rattle.std.proofs.Common.{◌≡◌, ◌≢◌, ℕ, zero, suc, ◌+◌, ◌<◌, ◌≤◌, ◌⊎◌, inl, inr, List, [], ◌∷◌, ◌++◌, map, length, get_or, set, Some, None, refl, sym, ap, subst, ◌∙◌, arith, ⊎_elim, append_assoc, length-append}
 use Rattle.std.proofs.lemmas.List.{get_or-set_same, get_or-set_other}
 use Rattle.std.proofs.Math.ListN.{length-set}
 use Rattle.std.specs.FinMap as fin
 use Rattle.dshash_core.specs.Key.{hash_of}
 use Rattle.dshash_core.specs.Chains.{Among, Item}
 use Rattle.dshash_core.specs.Hung.{Hung, chain_of, with_chain, IsSpot, HasNoItem}
-use Rattle.dshash_core.specs.Cells.{KeyMap, bucket_of, buckets_of, full_above, IsRoomy, all_items, entry_of, cells_of, AreKeyed, AreCells}
+use Rattle.dshash_core.specs.Cells.{KeyMap, bucket_of, full_above, IsRoomy, all_items, entry_of, cells_of, AreKeyed, AreCells}
 use Rattle.dshash_core.proofs.Chains.{same_or_not}
 use Rattle.dshash_core.proofs.Views.{among_split, among_more, among_here}
 use Rattle.dshash_core.proofs.Maps.{get_found, get_missing, table_len, table_pushed, table_taken, table_written, keyed_pushed, keyed_taken, keyed_written}

@@ -1,11 +1,11 @@
 -- The chains of a slice: what stays when words change, when an item is hung in and when one is taken out.
-use Rattle.std.proofs.Common.{◌≡◌, ◌≢◌, ℕ, zero, suc, ◌+◌, ◌-◌, ◌*◌, ◌/◌, ◌%◌, ◌<◌, ◌≤◌, ◌⊎◌, inl, inr, Bool, true, false, ◌==◌, ◌||◌, eqb, cond, List, [], ◌∷◌, ◌++◌, map, length, Option, Some, None, is_some, IsSome, refl, sym, ap, subst, ◌∙◌, arith, ⊎_elim, eq-eqb, ne_eqb}
+use Rattle.std.proofs.Common.{◌≡◌, ◌≢◌, ℕ, ◌+◌, ◌/◌, ◌%◌, ◌<◌, ◌≤◌, ◌⊎◌, inl, inr, Bool, true, false, ◌==◌, ◌||◌, eqb, cond, List, [], ◌∷◌, ◌++◌, length, is_some, IsSome, refl, sym, ap, subst, ◌∙◌, arith, ⊎_elim, eq-eqb, ne_eqb}
 use Rattle.std.proofs.lemmas.Bool.{cases_lt}
 use Rattle.std.specs.List.{IsDistinct, AllByRecursion, list_any}
 use Rattle.std.proofs.lemmas.Map.Steps.{length-le_from_distinct_below}
 use Rattle.word_map.specs.WordMap.{WordMap, at}
 use Rattle.dshash_core.specs.Key.{hash_of}
-use Rattle.dshash_core.specs.Chains.{word, words_at, most_words, places, IsChain, Among, AreDistinct, Item, item_at, each_below, link_behind, ats}
+use Rattle.dshash_core.specs.Chains.{word, words_at, most_words, IsChain, Among, AreDistinct, link_behind}
 use Rattle.dshash_core.specs.Hung.{IsApart, IsItem, AreHung, chain_places}
 use Rattle.dshash_core.proofs.Chains.{same_or_not, words_at-same, places_is, chain_same}
 

@@ -1,11 +1,11 @@
 -- The maps of words when an item's words come in and go out.
-use Rattle.std.proofs.Common.{◌≡◌, ◌≢◌, ℕ, ◌+◌, ◌<◌, ◌≤◌, ◌⊎◌, Bool, true, false, cond, Option, Some, None, unwrap_or, is_some, IsSome, refl, sym, ap, subst, ◌∙◌, arith, ⊎_elim, ◌==◌}
+use Rattle.std.proofs.Common.{◌≡◌, ◌≢◌, ℕ, ◌+◌, ◌<◌, ◌≤◌, Bool, true, false, cond, Option, Some, None, unwrap_or, is_some, IsSome, refl, sym, ap, subst, ◌∙◌, arith}
 use Rattle.std.specs.FinMap as fin
 use Rattle.word_map.specs.WordMap.{WordMap, at, is_within, range_of, rest_of, union, Disjoint, HasJust}
-use Rattle.word_map.proofs.Maps.{at-union_cond, at-range_in, at-range_out, at-rest_out, within_true, within_is, insert-keys, at-insert_other}
+use Rattle.word_map.proofs.Maps.{at-union_cond, at-range_in, at-range_out, at-rest_out, within_true, within_is, insert-keys}
 use Rattle.dshash_core.specs.Chains.{word, most_words}
 use Rattle.dshash_core.specs.Walk.{IsHungIn, IsTakenOut}
-use Rattle.dshash_core.proofs.Chains.{word_same, word_other, same_or_not}
+use Rattle.dshash_core.proofs.Chains.{word_same, word_other}
 
 pub most_is : most_words ≡ 67108864
 unfolding most_words

@@ -1,8 +1,8 @@
 -- Packed keys, word by word and byte by byte.
-use Rattle.std.proofs.Common.{◌≡◌, ℕ, zero, suc, ◌+◌, ◌*◌, ◌/◌, ◌<◌, ◌≤◌, List, ◌∷◌, length, get_or, take, refl, sym, ap, ◌∙◌, arith, length-take, subst, min, w8, Fits, true, []}
+use Rattle.std.proofs.Common.{◌≡◌, ℕ, zero, suc, ◌+◌, ◌/◌, ◌<◌, ◌≤◌, List, ◌∷◌, length, get_or, take, sym, ap, ◌∙◌, arith, length-take, subst, min, w8, Fits, true, []}
 use Rattle.std.proofs.lemmas.Grind.{same_number_lists}
 use Rattle.std.proofs.lemmas.Bool.Decides.{nat_tests}
-use Rattle.std.proofs.lemmas.List.{get_or-take, get_or_default, get_or_past}
+use Rattle.std.proofs.lemmas.List.{get_or-take, get_or_default}
 use Rattle.rel_pointer.specs.Bytes.{AllBytes, packed, packed_words, byte_of, is_of_word}
 use Rattle.rel_pointer.proofs.Words.{packed_words-at, length-packed_words, packed_byte}
 use Rattle.dshash_core.specs.Key.{packed_key, IsPackedKey}

@@ -1,5 +1,5 @@
 -- Listing, beginning a move, and taking an item in.
-use Rattle.std.proofs.Common.{◌≡◌, ◌≢◌, ℕ, zero, suc, ◌+◌, ◌<◌, ◌≤◌, ◌⊎◌, inl, inr, Bool, true, false, List, [], ◌∷◌, ◌++◌, map, length, take, get_or, replicate, Option, Some, is_some, Result, Ok, Err, IfOk, refl, sym, ap, subst, ◌∙◌, arith, ⊎_elim, append_assoc, add-one}
+use Rattle.std.proofs.Common.{◌≡◌, ◌≢◌, ℕ, zero, suc, ◌+◌, ◌<◌, ◌≤◌, inl, inr, true, false, List, [], ◌∷◌, ◌++◌, map, length, take, get_or, replicate, Option, Some, is_some, Result, Ok, Err, IfOk, refl, sym, ap, subst, ◌∙◌, arith, append_assoc}
 use Rattle.std.proofs.lemmas.List.{map-append, append-nil, length-map}
 use Rattle.std.proofs.Math.Seq.{take-suc, take-length}
 use Rattle.std.specs.FinMap as fin
@@ -7,10 +7,10 @@ use Rattle.dshash_core.specs.Key.{hash_of}
 use Rattle.dshash_core.specs.Chains.{Among, Item}
 use Rattle.dshash_core.specs.Hung.{Hung, Layout, IsItemChunk, chain_of, with_chain}
 use Rattle.region_words.specs.Parts.{Owned}
-use Rattle.dshash_core.specs.Cells.{KeyMap, bucket_of, buckets_of, full_above, IsRoomy, all_items, entry_of, cells_of, AreKeyed, AreCells}
+use Rattle.dshash_core.specs.Cells.{KeyMap, bucket_of, buckets_of, IsRoomy, all_items, entry_of, cells_of, AreKeyed, AreCells}
 use Rattle.dshash_core.specs.Outcome.{ListsAll}
 use Rattle.dshash_core.proofs.Maps.{get_found, table_len}
-use Rattle.dshash_core.proofs.Flats.{pushed_cells, pushed_map, cells_len}
+use Rattle.dshash_core.proofs.Flats.{pushed_cells, pushed_map}
 use Rattle.dshash_core.proofs.Steps.{bucket_in}
 
 all_append : (xs ys : List (List Item)) → all_items (xs ++ ys) ≡ all_items xs ++ all_items ys

@@ -1,18 +1,18 @@
 -- The calls of a partition, on its chains: what was done and what was refused.
-use Rattle.std.proofs.Common.{◌≡◌, ◌≢◌, ℕ, zero, suc, ◌+◌, ◌-◌, ◌/◌, ◌^◌, ◌<◌, ◌≤◌, ◌⊎◌, Bool, true, false, not, ◌&&◌, List, [], ◌∷◌, ◌++◌, length, Option, Some, None, is_some, is_none, nat_lt, refl, sym, ap, subst, ◌∙◌, arith}
+use Rattle.std.proofs.Common.{◌≡◌, ◌≢◌, ℕ, ◌+◌, ◌-◌, ◌/◌, ◌^◌, ◌<◌, ◌≤◌, Bool, true, false, not, ◌&&◌, List, ◌∷◌, ◌++◌, length, Option, Some, None, is_some, is_none, nat_lt, refl, sym, ap, subst, ◌∙◌, arith}
 use Rattle.std.specs.FinMap as fin
 use Rattle.std.proofs.lemmas.Nat.{mod_below, pow_pos}
 use Rattle.std.proofs.lemmas.Bool.Decides.{nat_tests}
 use Rattle.dshash_core.proofs.Maps.{remove_missing}
 use Rattle.dshash_core.specs.Key.{hash_of}
 use Rattle.dshash_core.specs.Chains.{Among, Item}
-use Rattle.dshash_core.specs.Hung.{Hung, chain_of, with_chain, IsSpot, HasNoItem, HasItem}
+use Rattle.dshash_core.specs.Hung.{Hung, chain_of, with_chain, HasNoItem, HasItem}
 use Rattle.dshash_core.specs.Cells.{KeyMap, bucket_of, buckets_of, full_above, IsRoomy, all_items, cells_of, AreCells}
 use Rattle.dshash_core.specs.Outcome.{changed, would_insert, removes, is_full, next_of, IsDone, IsNeedItem, IsTooFull}
 use Rattle.dshash_core.specs.Calls.{IsCalled, IsAnswered}
 use Rattle.dshash_core.specs.declared.outcome.CoreOut.{CoreOut}
 use Rattle.dshash_core.specs.declared.outcome.CoreOut.TheVariants.{Done, NeedItem, TooFull}
-use Rattle.dshash_core.proofs.Flats.{nowhere, pushed_cells, pushed_map, spot_get, spot_counted, taken_cells, taken_map, written_cells, written_map, cells_len, cells_missing}
+use Rattle.dshash_core.proofs.Flats.{nowhere, pushed_cells, pushed_map, spot_get, taken_cells, taken_map, written_cells, written_map, cells_len, cells_missing}
 
 -- a hash's bucket is one of the partition's
 pub bucket_in : (size count value_words : ℕ) (h : Hung) → AreCells size count value_words h → (hash : ℕ) → bucket_of size hash < length h.chains

@@ -1,16 +1,14 @@
 -- What the words of a slice tell of the chains that contracts see.
-use Rattle.std.proofs.Common.{◌≡◌, ◌≢◌, ℕ, ◌+◌, ◌*◌, ◌/◌, ◌<◌, ◌≤◌, ◌⊎◌, inl, inr, List, [], ◌∷◌, ◌++◌, zero, suc, map, length, get_or, set, Option, Some, None, MatchOption, IsSome, refl, sym, ap, subst, ◌∙◌, arith, ⊎_elim, Fits, w64}
+use Rattle.std.proofs.Common.{◌≡◌, ◌≢◌, ℕ, ◌+◌, ◌/◌, ◌<◌, ◌≤◌, ◌⊎◌, inl, inr, List, [], ◌∷◌, ◌++◌, suc, map, length, get_or, Option, Some, None, MatchOption, IsSome, refl, sym, ap, subst, ◌∙◌, arith, ⊎_elim, Fits, w64}
 use Rattle.std.proofs.lemmas.List.{map-append, length-map}
-use Rattle.word_map.specs.WordMap.{WordMap, at}
-use Rattle.region_words.specs.Parts.{Owned}
-use Rattle.dshash_core.specs.Key.{hash_of}
-use Rattle.dshash_core.specs.Chains.{word, words_at, most_words, places, IsChain, Among, AreDistinct, Item, item_at, each_below, link_behind, ats}
-use Rattle.dshash_core.specs.Hung.{Hung, hung, IsApart, IsItem, AreHung, chain_places, chain_items, chain_of, with_chain, IsSpot, Holds, HasItem, HasNoItem, IsItemChunk, first_place}
+use Rattle.word_map.specs.WordMap.{at}
+use Rattle.dshash_core.specs.Chains.{word, most_words, IsChain, Among, AreDistinct, Item, item_at, link_behind, ats}
+use Rattle.dshash_core.specs.Hung.{Hung, hung, IsItem, AreHung, chain_places, chain_items, chain_of, IsSpot, Holds, HasItem, HasNoItem, first_place}
 use Rattle.dshash_core.specs.declared.buckets.Buckets.TheInside.{Inside}
 use Rattle.dshash_core.specs.declared.words.Spot.{Spot}
-use Rattle.dshash_core.specs.Walk.{IsReadable, IsPlaced, IsNowhere, IsHungIn, IsTakenOut}
-use Rattle.dshash_core.proofs.Rows.{each_below-get, length-each_below, each_below-set, ats-map, ats-append, AreRead, read_all, are_read, at_among, item_at-same}
-use Rattle.dshash_core.proofs.Hangs.{apart_cases, without_other, among_middle, behind_among, among_left, put, put_same, put_other, hung_kept, hung_pushed, hung_unlinked, hung_places, rehang, IsPushed, IsUnlinked}
+use Rattle.dshash_core.specs.Walk.{IsReadable, IsPlaced, IsNowhere}
+use Rattle.dshash_core.proofs.Rows.{each_below-get, length-each_below, ats-map, ats-append, AreRead, are_read, at_among}
+use Rattle.dshash_core.proofs.Hangs.{apart_cases, without_other, behind_among, among_left}
 use Rattle.std.proofs.lemmas.Map.Steps.{length-le_from_distinct_below}
 use Rattle.dshash_core.specs.Cells.{all_items}
 use Rattle.dshash_core.proofs.Hangs.{any_among, are_distinct}

@@ -1,10 +1,9 @@
 -- A walk along a chain: the items passed have other keys, and the others are still ahead.
-use Rattle.std.proofs.Common.{◌≡◌, ◌≢◌, ℕ, zero, suc, ◌+◌, ◌<◌, ◌≤◌, ◌⊎◌, inl, inr, List, [], ◌∷◌, ◌++◌, length, IsSome, refl, sym, ap, subst, ◌∙◌, arith, ⊎_elim, length-append, append_assoc, append-nil}
-use Rattle.word_map.specs.WordMap.{WordMap, at}
-use Rattle.dshash_core.specs.Key.{hash_of}
+use Rattle.std.proofs.Common.{◌≡◌, ◌≢◌, ℕ, suc, ◌+◌, ◌<◌, ◌≤◌, ◌⊎◌, inl, inr, List, [], ◌∷◌, ◌++◌, length, refl, sym, ap, subst, ◌∙◌, arith, ⊎_elim, length-append, append_assoc, append-nil}
+use Rattle.word_map.specs.WordMap.{WordMap}
 use Rattle.dshash_core.specs.Chains.{word, words_at, places, IsChain, Among, link_behind}
-use Rattle.dshash_core.specs.Walk.{IsReadable, IsPlaced, IsNowhere}
-use Rattle.dshash_core.proofs.Chains.{places_is, length-places}
+use Rattle.dshash_core.specs.Walk.{IsPlaced, IsNowhere}
+use Rattle.dshash_core.proofs.Chains.{places_is}
 
 pub record Walked (m : WordMap) (chain : List ℕ) (link behind item key_words : ℕ) (key : List ℕ) : Type 0 where
   pub before : List ℕ

@@ -1,6 +1,6 @@
 -- Chains of items in words, and the items that they stand for. An item is its link, its hash, its key's words and its value's words
 -- (dshash.c, struct dshash_table_item: next, hash, entry).
-use Rattle.std.specs.Prelude.{◌≡◌, ◌≢◌, ℕ, zero, suc, ◌+◌, ◌*◌, ◌^◌, ◌<◌, ◌≤◌, ◌⊎◌, Bool, ◌==◌, cond, List, [], ◌∷◌, ◌++◌, map, unwrap_or}
+use Rattle.std.specs.Prelude.{◌≡◌, ◌≢◌, ℕ, zero, suc, ◌+◌, ◌^◌, ◌<◌, ◌⊎◌, ◌==◌, cond, List, [], ◌∷◌, map, unwrap_or}
 use Rattle.word_map.specs.WordMap.{WordMap, at}
 
 -- the value of a word of the map, and 0 where the map has none

@@ -1,5 +1,5 @@
 -- Keys of the hash table: lists of words, and byte strings packed into 32 words.
-use Rattle.std.specs.Prelude.{◌≡◌, ℕ, ◌+◌, ◌*◌, ◌/◌, ◌%◌, ◌^◌, ◌≤◌, List, [], ◌∷◌, fold, length, bit_xor}
+use Rattle.std.specs.Prelude.{◌≡◌, ℕ, ◌+◌, ◌*◌, ◌/◌, ◌%◌, ◌^◌, ◌≤◌, List, ◌∷◌, fold, length, bit_xor}
 use Rattle.std.specs.Int.{w64, to_le_bytes}
 use Rattle.rel_pointer.specs.Bytes.{AllBytes, packed_words}
 

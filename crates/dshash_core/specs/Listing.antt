@@ -1,5 +1,5 @@
 -- The entries that a listing gives.
-use Rattle.std.specs.Prelude.{ℕ, List, [], ◌∷◌, map}
+use Rattle.std.specs.Prelude.{ℕ, List, map}
 use Rattle.dshash_core.specs.declared.entries.Entry.{Entry}
 
 -- the pairs of keys and states of entries

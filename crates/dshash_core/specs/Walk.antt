@@ -2,7 +2,7 @@
 use Rattle.std.specs.Prelude.{◌≡◌, ◌≢◌, ℕ, ◌+◌, ◌<◌, ◌≤◌, List, ◌∷◌, ◌++◌, IsSome}
 use Rattle.word_map.specs.WordMap.{WordMap, at}
 use Rattle.dshash_core.specs.Key.{hash_of}
-use Rattle.dshash_core.specs.Chains.{word, words_at, most_words, IsChain, Among, link_behind}
+use Rattle.dshash_core.specs.Chains.{word, words_at, most_words, Among, link_behind}
 
 -- a walk can compare the item at a with keys of that many words: the map has its words, and its hash is that of its key
 pub record IsReadable (m : WordMap) (key_words a : ℕ) : Type 0 where

@@ -8,10 +8,13 @@ pub trait CellObject: Send {
     /// The words that a state takes.
     const VALUE_WORDS: usize;
 
+    /// What stands under a key.
     type State: Copy + Send;
 
+    /// What a caller asks of a key.
     type Call: Copy + Send;
 
+    /// What it is answered.
     type Reply: Send + Drop;
 
     ghost VALUE_WORDS: { ℕ };

@@ -13,7 +13,7 @@ pub enum CoreOut<O: CellObject> {
     },
     /// The call would insert and brought no spare item: nothing has changed.
     NeedItem,
-    /// The call would insert and the partition has to grow first: nothing has changed.
+    /// The call would insert and the partition, of this size, has to grow first: nothing has changed, and the spare item is handed back.
     TooFull {
         size: u32,
         spare: Option<Chunk>,

@@ -123,7 +123,7 @@ impl<O: CellObject> Partition<O> {
         )
     }
 
-    /// Each key with its state, in no stated order.
+    /// Each key with its state, in no stated order. It takes memory for the entries and for each key.
     pub fn list(&mut self, alloc: Global, r: &Region) -> Result<Vec<Entry<O>>, AllocError>
         requires here { self.old.region ≡ r.now }
         ensures same { self.new ≡ self.old }
@@ -133,7 +133,7 @@ impl<O: CellObject> Partition<O> {
     }
 
     /// Begins a move: the partition is empty, on a new slice and with the size that it is to have. Its chains of before are handed out; whoever
-    /// moves gives their items back by `take_in`.
+    /// moves gives their items back by `take_in`. One store for each new bucket.
     pub fn start_over(&mut self, r: &Region, size: u32, slice: Chunk) -> Buckets
         requires here { (self.old.region ≡ r.now) × (slice.part.region ≡ r.now) }
         requires size { (7 ≤ size) × (size ≤ 20) }
@@ -157,7 +157,7 @@ impl<O: CellObject> Partition<O> {
         mem::replace(&mut self.buckets, buckets)
     }
 
-    /// Takes in an item that another chain held, whole.
+    /// Takes in an item that another chain held, whole: a few loads and stores.
     pub fn take_in(&mut self, r: &Region, item: Chunk)
         requires here { (self.old.region ≡ r.now) × (item.part.region ≡ r.now) }
         requires size { item.bytes ≡ self.old.item_bytes }

@@ -8,7 +8,7 @@ pub(crate) const LEAST_SIZE: u32 = 7;
 /// A partition of this size grows no more.
 pub(crate) const MOST_SIZE: u32 = 20;
 
-/// The buckets of a partition of a size.
+/// The buckets of a partition of a size: so many words its slice has at least.
 pub fn bucket_count(size: u32) -> u64
     requires { (7 ≤ size) × (size ≤ 20) }
     ensures { result ≡ buckets_of size }

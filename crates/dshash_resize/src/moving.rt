@@ -3,7 +3,7 @@
 //! Meanwhile each key is in just one of the two, with its state: `IsMoving` says so. The items' words stay where they are.
 ghost use Rattle.std.specs.Prelude.{◌≡◌, ℕ, ◌*◌, ◌/◌, ◌<◌, ◌≤◌, [], length};
 ghost use Rattle.std.specs.FinMap as fin;
-ghost use Rattle.dshash_core.specs.Cells.{KeyMap, buckets_of};
+ghost use Rattle.dshash_core.specs.Cells.{KeyMap, IsRoomy, buckets_of};
 ghost use Rattle.dshash_core.specs.Hung.{chain_of};
 ghost use Rattle.dshash_core.specs.Outcome.{IsMoved};
 ghost use Rattle.dshash_resize.specs.Moving.{IsMoving, IsMovedOn};
@@ -25,7 +25,8 @@ fn move_chain<O: CellObject>(p: &mut Partition<O>, r: &Region, from: &mut Bucket
     }
 }
 
-/// Moves a partition to a larger slice, of 2^(size - 7) words or more. Its map and its count stay, and its former slice is handed out.
+/// Moves a partition to a larger slice, of 2^(size - 7) words or more. Its map and its count stay, and its former slice is handed out. It takes
+/// no memory, and some steps for each item, each former bucket and each new one.
 pub fn move_partition<O: CellObject>(
     p: &mut Partition<O>,
     r: &Region,
@@ -37,6 +38,7 @@ pub fn move_partition<O: CellObject>(
     requires room { buckets_of size ≤ slice.bytes / 8 }
     ensures moved { IsMoved p.old.size p.old.cells size p.new.size p.new.cells }
     ensures same { p.new ≡ record p.old { slice = slice.at; words = slice.bytes / 8; size = size } }
+    ensures roomy { IsRoomy p.new.size (fin.len p.new.cells) }
     ensures slice { (result.part.region ≡ p.old.region) × (result.at ≡ p.old.slice) × (result.bytes ≡ 8 * p.old.words) }
 {
     let _ = p.count();

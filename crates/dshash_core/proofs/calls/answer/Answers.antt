@@ -1,8 +1,7 @@
-use Rattle.std.proofs.Common.{◌≡◌, ℕ, ap, sym, subst, ◌∙◌, List, is_some, IfSome}
-use Rattle.region_words.specs.declared.chunk.Chunk.{Chunk}
+use Rattle.std.proofs.Common.{ℕ, sym, subst, List, is_some}
 use Rattle.dshash_core.specs.Hung.{Hung, HasItem, HasNoItem}
 use Rattle.dshash_core.specs.Cells.{AreCells, bucket_of}
-use Rattle.dshash_core.specs.Calls.{IsCalled, IsAnswered}
+use Rattle.dshash_core.specs.Calls.{IsCalled}
 use Rattle.dshash_core.proofs.calls.answer.Goals as goal
 
 pub change-reply-requires-clause-spot : goal.change-reply-requires-clause-spot

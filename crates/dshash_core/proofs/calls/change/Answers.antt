@@ -1,4 +1,4 @@
-use Rattle.std.proofs.Common.{◌≡◌, ℕ, ◌+◌, ◌-◌, ◌<◌, ◌≤◌, ◌++◌, ◌∷◌, List, Option, Some, length, arith, ap, sym, subst, ◌∙◌}
+use Rattle.std.proofs.Common.{◌≡◌, ◌-◌, ◌<◌, ◌++◌, ◌∷◌, List, Some, arith, ap, sym, subst, ◌∙◌}
 use Rattle.dshash_core.specs.Chains.{Item, Among}
 use Rattle.dshash_core.specs.Hung.{Hung, IsSpot, with_chain, chain_of}
 use Rattle.dshash_core.proofs.Views.{among_here}

@@ -1,4 +1,4 @@
-use Rattle.std.proofs.Common.{◌≡◌, ℕ, List, length, ap, sym, subst, ◌∙◌, refl}
+use Rattle.std.proofs.Common.{◌≡◌, length, ap, sym, ◌∙◌, refl}
 use Rattle.dshash_core.specs.Chains.{word, Item, item_at}
 use Rattle.dshash_core.specs.Hung.{IsItemChunk}
 use Rattle.dshash_core.proofs.calls.insert.Goals as goal

@@ -1,9 +1,7 @@
-use Rattle.std.proofs.Common.{◌≡◌, ℕ, ◌+◌, ◌/◌, ◌<◌, ◌≤◌, Bool, true, false, List, ◌∷◌, Option, Some, None, IfSome, is_some, length, arith, ap, sym, subst, ◌∙◌, refl, nat_lt, ◌&&◌}
+use Rattle.std.proofs.Common.{◌≡◌, ℕ, ◌+◌, ◌/◌, ◌≤◌, ◌∷◌, Option, IfSome, is_some, length, ap, sym, subst, ◌∙◌, refl}
 use Rattle.region_words.specs.declared.chunk.Chunk.{Chunk}
-use Rattle.dshash_core.specs.Key.{hash_of}
 use Rattle.dshash_core.specs.Hung.{with_chain, chain_of}
-use Rattle.dshash_core.specs.Cells.{bucket_of, full_above}
-use Rattle.dshash_core.specs.Calls.{IsCalled}
+use Rattle.dshash_core.specs.Cells.{bucket_of}
 use Rattle.dshash_core.proofs.Steps.{bucket_in, passed, inserted, needs_item, too_full}
 use Rattle.dshash_core.proofs.calls.put_in.Goals as goal
 

@@ -1,5 +1,5 @@
-use Rattle.std.proofs.Common.{◌≡◌, ℕ, ◌<◌, List, ◌++◌, map, length, ap, sym, ◌∙◌, arith}
-use Rattle.dshash_core.specs.Hung.{Hung, chain_of}
+use Rattle.std.proofs.Common.{◌<◌, ◌++◌, map, length, sym, ◌∙◌, arith}
+use Rattle.dshash_core.specs.Hung.{chain_of}
 use Rattle.dshash_core.specs.Cells.{entry_of}
 use Rattle.dshash_core.proofs.Moves.{listed_more, listed_all}
 use Rattle.dshash_core.proofs.entries.list_all.Goals as goal

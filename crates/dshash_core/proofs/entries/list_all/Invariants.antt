@@ -1,4 +1,4 @@
-use Rattle.std.proofs.Common.{◌≡◌, ℕ, map, take, length}
+use Rattle.std.proofs.Common.{◌≡◌, map, take, length}
 use Rattle.dshash_core.specs.Cells.{entry_of, all_items}
 use Rattle.dshash_core.specs.Listing.{pairs_of}
 use Rattle.dshash_core.proofs.entries.list_all.Given as goal

@@ -1,4 +1,4 @@
-use Rattle.std.proofs.Common.{arith, length, get_or}
+use Rattle.std.proofs.Common.{arith}
 use Rattle.dshash_core.proofs.Keys.{packs, is_packed, all_bytes}
 use Rattle.dshash_core.proofs.key.pack_key.Goals as goal
 

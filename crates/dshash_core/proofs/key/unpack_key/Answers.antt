@@ -1,4 +1,4 @@
-use Rattle.std.proofs.Common.{◌≡◌, ℕ, List, length, get_or, take, ap, sym, subst, ◌∙◌, arith}
+use Rattle.std.proofs.Common.{◌≡◌, ℕ, take, ap, sym, subst, ◌∙◌, arith}
 use Rattle.dshash_core.specs.Key.{packed_key}
 use Rattle.dshash_core.proofs.Keys.{packed_long, packed_head, reads_bytes}
 use Rattle.dshash_core.proofs.key.unpack_key.Goals as goal

@@ -1,4 +1,4 @@
-use Rattle.std.proofs.Common.{◌+◌, ◌<◌, ℕ, arith, ap, sym, ◌∙◌, length, refl}
+use Rattle.std.proofs.Common.{◌+◌, arith, ap, sym, ◌∙◌, refl}
 use Rattle.region_words.specs.Parts.{Owned}
 use Rattle.dshash_core.specs.Chains.{word}
 use Rattle.dshash_core.proofs.Chains.{words_are, words_differ, word_is}

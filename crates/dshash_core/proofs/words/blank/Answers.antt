@@ -1,4 +1,4 @@
-use Rattle.std.proofs.Common.{◌≡◌, ◌≢◌, ◌+◌, ◌<◌, ◌≤◌, ℕ, IsSome, is_some, ap, sym, ◌∙◌, arith, ⊎_elim, refl}
+use Rattle.std.proofs.Common.{◌≡◌, ◌≢◌, ◌+◌, IsSome, is_some, ap, ◌∙◌, arith, ⊎_elim}
 use Rattle.std.specs.FinMap as fin
 use Rattle.word_map.specs.WordMap.{WordMap, at}
 use Rattle.word_map.proofs.Maps.{insert-keys}

@@ -1,9 +1,8 @@
-use Rattle.std.proofs.Common.{◌≡◌, ◌+◌, ◌<◌, ◌≤◌, ◌/◌, ℕ, List, arith, ap, sym, subst, ◌∙◌, length, IsSome, is_some, refl}
-use Rattle.std.specs.FinMap as fin
-use Rattle.word_map.specs.WordMap.{at, HasJust}
+use Rattle.std.proofs.Common.{◌≡◌, ◌+◌, ℕ, arith, ap, sym, subst, ◌∙◌, length, IsSome, is_some, refl}
+use Rattle.word_map.specs.WordMap.{at}
 use Rattle.word_map.proofs.Maps.{just_has, insert-keys}
 use Rattle.region_words.specs.Parts.{Owned}
-use Rattle.dshash_core.specs.Chains.{word, Item, item_at}
+use Rattle.dshash_core.specs.Chains.{word, item_at}
 use Rattle.dshash_core.proofs.Chains.{filled}
 use Rattle.dshash_core.proofs.words.fill.Goals as goal
 

@@ -1,6 +1,6 @@
-use Rattle.std.proofs.Common.{◌≡◌, ℕ, IsSome, is_some, ap, sym, subst, ◌∙◌, Some}
+use Rattle.std.proofs.Common.{◌≡◌, IsSome, is_some, ap, sym, subst, ◌∙◌}
 use Rattle.std.specs.FinMap as fin
-use Rattle.word_map.specs.WordMap.{WordMap, at, union}
+use Rattle.word_map.specs.WordMap.{at, union}
 use Rattle.word_map.proofs.Maps.{insert-keys}
 use Rattle.region_words.specs.Parts.{Owned}
 use Rattle.dshash_core.specs.Chains.{word}

@@ -1,4 +1,4 @@
-use Rattle.std.proofs.Common.{◌+◌, ◌<◌, ℕ, arith, ap, sym, ◌∙◌, length}
+use Rattle.std.proofs.Common.{ℕ, arith, ap, sym, ◌∙◌}
 use Rattle.dshash_core.specs.Chains.{word, words_at}
 use Rattle.dshash_core.proofs.Chains.{words_are}
 use Rattle.dshash_core.proofs.words.load_words.Goals as goal

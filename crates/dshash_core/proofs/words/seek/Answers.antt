@@ -1,4 +1,4 @@
-use Rattle.std.proofs.Common.{◌≡◌, ◌≢◌, ◌<◌, ◌+◌, ℕ, arith, ap, subst, sym, ◌∙◌, length, Some, IsSome, refl, true, false}
+use Rattle.std.proofs.Common.{◌≡◌, ◌≢◌, ◌<◌, ◌+◌, ℕ, arith, ap, subst, sym, ◌∙◌, length, IsSome, true, false}
 use Rattle.word_map.specs.WordMap.{at}
 use Rattle.region_words.specs.Parts.{Owned}
 use Rattle.dshash_core.specs.Chains.{word, most_words, words_at, places}

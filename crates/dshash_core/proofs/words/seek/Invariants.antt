@@ -1,4 +1,4 @@
-use Rattle.std.proofs.Common.{◌≡◌, ℕ, length}
+use Rattle.std.proofs.Common.{◌≡◌, length}
 use Rattle.dshash_core.specs.Chains.{word, most_words, places}
 use Rattle.dshash_core.proofs.Walks.{Walked}
 use Rattle.dshash_core.proofs.words.seek.Given as goal

@@ -1,4 +1,4 @@
-use Rattle.std.proofs.Common.{◌+◌, ◌<◌, ℕ, arith, subst, sym, ◌∙◌, length, IsSome}
+use Rattle.std.proofs.Common.{◌+◌, arith, subst, sym, ◌∙◌, IsSome}
 use Rattle.word_map.specs.WordMap.{at}
 use Rattle.region_words.specs.Parts.{Owned}
 use Rattle.dshash_core.proofs.Chains.{Stored, stored_next, words_are}

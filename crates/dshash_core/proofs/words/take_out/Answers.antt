@@ -1,9 +1,8 @@
-use Rattle.std.proofs.Common.{◌≡◌, ◌+◌, ◌<◌, ◌≤◌, ℕ, IsSome, is_some, ap, sym, subst, ◌∙◌, arith}
+use Rattle.std.proofs.Common.{IsSome, ap, sym, subst, ◌∙◌}
 use Rattle.std.specs.FinMap as fin
-use Rattle.word_map.specs.WordMap.{WordMap, at}
+use Rattle.word_map.specs.WordMap.{at}
 use Rattle.word_map.proofs.Maps.{insert-keys}
 use Rattle.region_words.specs.Parts.{Owned}
-use Rattle.dshash_core.specs.Chains.{word}
 use Rattle.dshash_core.proofs.Chains.{word_is}
 use Rattle.dshash_core.proofs.Hooks.{taken_out, taken_just}
 use Rattle.dshash_core.proofs.words.take_out.Goals as goal

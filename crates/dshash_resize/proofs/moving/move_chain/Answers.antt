@@ -1,7 +1,5 @@
-use Rattle.std.proofs.Common.{◌≡◌, ◌<◌, ℕ, length, sym, subst}
-use Rattle.dshash_core.specs.Chains.{Item}
+use Rattle.std.proofs.Common.{◌<◌, ℕ, length, sym, subst}
 use Rattle.dshash_core.specs.Hung.{Layout, IsItemChunk}
-use Rattle.dshash_resize.specs.Moving.{IsMoving, IsMovedOn}
 use Rattle.dshash_resize.proofs.Steps.{new_here, has_room, moved_on, still_empty, layout_is}
 use Rattle.dshash_resize.proofs.moving.move_chain.Goals as goal
 

@@ -1,8 +1,6 @@
-use Rattle.std.proofs.Common.{◌≡◌, ◌<◌, ◌≤◌, ℕ, [], length, arith, ap, sym, subst, ◌∙◌}
+use Rattle.std.proofs.Common.{ℕ, arith, ap, sym, subst, ◌∙◌}
 use Rattle.std.specs.FinMap as fin
-use Rattle.dshash_core.specs.Hung.{Hung, chain_of}
 use Rattle.dshash_core.specs.Cells.{PartitionView, IsRoomy}
-use Rattle.dshash_resize.specs.Moving.{IsMoving, IsMovedOn}
 use Rattle.dshash_resize.proofs.Steps.{begins, ends, grows}
 use Rattle.dshash_resize.proofs.moving.move_partition.Goals as goal
 
@@ -58,3 +56,10 @@ returns-clause-moved g c =
       size_is = λ larger within. size;
       otherwise = λ no. absurd (no c.requires.size.0 c.requires.size.1);
     }
+
+pub returns-clause-roomy : goal.returns-clause-roomy
+returns-clause-roomy g c =
+    let S : Type 0 = g.row.O-State.Denot in
+    let all = c.args.p.now.cells in
+    let roomy : IsRoomy c.args.p.now.size (fin.len all) = subst (λ (n : ℕ). IsRoomy c.args.p.now.size n) c.count.ensures.is c.count.ensures.roomy in
+    subst (λ (w : PartitionView S). IsRoomy w.size (fin.len w.cells)) (sym (returns-clause-same g c)) (grows c.args.p.now.size c.args.size (fin.len all) roomy c.requires.size.0 c.requires.size.1)

@@ -1,7 +1,6 @@
-use Rattle.std.proofs.Common.{◌≡◌, ◌<◌, ℕ, [], length}
-use Rattle.std.specs.FinMap as fin
+use Rattle.std.proofs.Common.{◌≡◌, ◌<◌, ℕ, []}
 use Rattle.dshash_core.specs.Hung.{chain_of}
-use Rattle.dshash_resize.specs.Moving.{IsMoving, IsMovedOn}
+use Rattle.dshash_resize.specs.Moving.{IsMovedOn}
 use Rattle.dshash_resize.proofs.moving.move_partition.Given as goal
 
 abbrev pub invariant-loop-bucket : goal.invariant-loop-bucket

@@ -1,4 +1,4 @@
-use Rattle.std.proofs.Common.{◌≡◌, ℕ, ap, sym, subst, ◌∙◌, length}
+use Rattle.std.proofs.Common.{ℕ, ap, sym, subst, ◌∙◌}
 use Rattle.dshash_core.specs.Hung.{Hung}
 use Rattle.dshash_core.specs.Walk.{IsReadable}
 use Rattle.dshash_core.proofs.Views.{bucket_in, link_fits, owned_link, readable, finds}

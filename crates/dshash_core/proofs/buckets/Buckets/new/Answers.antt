@@ -1,8 +1,7 @@
-use Rattle.std.proofs.Common.{◌≡◌, ℕ, ◌+◌, ◌/◌, ◌≤◌, ◌<◌, List, [], arith, ap, sym, subst, ◌∙◌, IsSome, replicate}
-use Rattle.word_map.specs.WordMap.{at}
+use Rattle.std.proofs.Common.{◌≡◌, ℕ, ◌/◌, ◌≤◌, ◌<◌, [], arith, sym, subst, ◌∙◌, replicate}
 use Rattle.word_map.proofs.Maps.{just_has}
-use Rattle.dshash_core.specs.Chains.{word, Item, each_below, most_words}
-use Rattle.dshash_core.specs.Hung.{Hung, AreHung, chain_places, chain_items}
+use Rattle.dshash_core.specs.Chains.{each_below}
+use Rattle.dshash_core.specs.Hung.{AreHung, chain_places, chain_items}
 use Rattle.dshash_core.proofs.Hooks.{most_is}
 use Rattle.dshash_core.proofs.Changes.{empty_stands, empty_chains}
 use Rattle.dshash_core.proofs.buckets.Buckets.new.Goals as goal

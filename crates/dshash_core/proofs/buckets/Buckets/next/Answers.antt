@@ -1,4 +1,4 @@
-use Rattle.std.proofs.Common.{◌≡◌, ◌+◌, ◌/◌, ◌≤◌, ◌++◌, ◌∷◌, List, arith, ap, sym, subst, ◌∙◌}
+use Rattle.std.proofs.Common.{◌+◌, ◌/◌, ◌≤◌, List, arith, sym, subst}
 use Rattle.dshash_core.specs.Chains.{Item, Among}
 use Rattle.dshash_core.proofs.Views.{held_at, next_is, next_ends, among_here}
 use Rattle.dshash_core.proofs.buckets.Buckets.next.Goals as goal

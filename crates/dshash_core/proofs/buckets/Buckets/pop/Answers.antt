@@ -1,6 +1,5 @@
-use Rattle.std.proofs.Common.{◌≡◌, ◌<◌, ◌+◌, ℕ, [], length, ap, sym, subst, ◌∙◌, refl}
-use Rattle.dshash_core.specs.Chains.{Item}
-use Rattle.dshash_core.specs.Hung.{Hung, IsSpot, with_chain, chain_of, first_place, IsItemChunk}
+use Rattle.std.proofs.Common.{◌≡◌, ◌<◌, ◌+◌, [], length, ap, sym, subst, ◌∙◌}
+use Rattle.dshash_core.specs.Hung.{Hung, IsSpot, with_chain, chain_of, IsItemChunk}
 use Rattle.dshash_core.proofs.Views.{bucket_in, link_fits, first_item}
 use Rattle.dshash_core.proofs.buckets.Buckets.pop.Goals as goal
 

@@ -1,7 +1,5 @@
 use Rattle.std.proofs.Common.{◌≡◌, ◌+◌, ◌%◌, ◌/◌, ◌∷◌, ℕ, ap, sym, subst, ◌∙◌}
 use Rattle.word_map.specs.WordMap.{HasJust}
-use Rattle.dshash_core.specs.Key.{hash_of}
-use Rattle.dshash_core.specs.Chains.{word, Item, item_at}
 use Rattle.dshash_core.specs.Hung.{Hung, with_chain, chain_of, IsItemChunk}
 use Rattle.dshash_core.specs.Walk.{IsHungIn}
 use Rattle.dshash_core.proofs.Views.{bucket_in, link_fits, owned_link, seen}

@@ -1,7 +1,5 @@
-use Rattle.std.proofs.Common.{◌≡◌, ℕ, ◌+◌, ◌/◌, ◌≤◌, ◌<◌, ◌++◌, arith, ap, sym, subst, ◌∙◌, length}
+use Rattle.std.proofs.Common.{◌≡◌, ℕ, ◌+◌, ◌/◌, ◌≤◌, ◌<◌, ◌++◌, arith, sym, subst, ◌∙◌}
 use Rattle.word_map.specs.WordMap.{HasJust}
-use Rattle.region_words.specs.Parts.{Owned}
-use Rattle.dshash_core.specs.Chains.{Item}
 use Rattle.dshash_core.specs.Hung.{Hung, with_chain, IsSpot, IsItemChunk}
 use Rattle.dshash_core.specs.Walk.{IsTakenOut}
 use Rattle.dshash_core.proofs.Views.{bucket_in, seen, spot_owned, spot_apart}

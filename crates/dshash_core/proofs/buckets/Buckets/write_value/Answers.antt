@@ -1,8 +1,8 @@
-use Rattle.std.proofs.Common.{◌≡◌, ℕ, ◌+◌, ◌/◌, ◌≤◌, ◌++◌, ◌∷◌, List, arith, ap, sym, subst, ◌∙◌, length}
-use Rattle.dshash_core.specs.Chains.{word, words_at, Item}
+use Rattle.std.proofs.Common.{◌≡◌, ℕ, ◌+◌, ◌/◌, ◌≤◌, ◌++◌, ◌∷◌, arith, ap, sym, subst, ◌∙◌, length}
+use Rattle.dshash_core.specs.Chains.{word, words_at}
 use Rattle.dshash_core.specs.Hung.{Hung, with_chain, IsSpot}
 use Rattle.dshash_core.proofs.Views.{bucket_in, item_small, seen}
-use Rattle.dshash_core.proofs.Changes.{spot_place, spot_of, IsWritten, written_stands, written_seen}
+use Rattle.dshash_core.proofs.Changes.{spot_place, written_stands, written_seen}
 use Rattle.dshash_core.proofs.buckets.Buckets.write_value.Goals as goal
 
 pub overflow_add-spot : goal.overflow_add-spot

@@ -1,5 +1,5 @@
-use Rattle.std.proofs.Common.{◌≡◌, List, map, IfOk, sym, subst, Vec}
-use Rattle.dshash_core.specs.Cells.{PartitionView, entry_of, all_items, partition_seen}
+use Rattle.std.proofs.Common.{IfOk, subst}
+use Rattle.dshash_core.specs.Cells.{PartitionView}
 use Rattle.dshash_core.specs.Outcome.{ListsAll}
 use Rattle.dshash_core.specs.Listing.{pairs_of}
 use Rattle.dshash_core.proofs.Moves.{either_result, lists_all}

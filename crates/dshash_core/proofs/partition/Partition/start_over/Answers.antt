@@ -1,6 +1,5 @@
-use Rattle.std.proofs.Common.{◌≡◌, ℕ, List, [], replicate, arith, ap, sym, subst, ◌∙◌, refl}
+use Rattle.std.proofs.Common.{◌≡◌, ℕ, arith, ap, sym, subst, ◌∙◌}
 use Rattle.std.specs.FinMap as fin
-use Rattle.dshash_core.specs.Chains.{Item}
 use Rattle.dshash_core.specs.Hung.{Hung}
 use Rattle.dshash_core.specs.Cells.{PartitionView, AreCells, cells_of}
 use Rattle.dshash_core.proofs.Flats.{cells_len}

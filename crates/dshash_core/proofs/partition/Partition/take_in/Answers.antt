@@ -1,10 +1,9 @@
-use Rattle.std.proofs.Common.{◌≡◌, ℕ, ◌+◌, ◌∷◌, List, Bool, false, ap, sym, subst, ◌∙◌}
+use Rattle.std.proofs.Common.{◌≡◌, ℕ, ◌+◌, ◌∷◌, false, ap, sym, subst, ◌∙◌}
 use Rattle.std.specs.FinMap as fin
-use Rattle.region_words.specs.Parts.{Owned}
 use Rattle.dshash_core.specs.Key.{hash_of}
-use Rattle.dshash_core.specs.Chains.{word, Item}
-use Rattle.dshash_core.specs.Hung.{Hung, Layout, IsItemChunk, with_chain, chain_of}
-use Rattle.dshash_core.specs.Cells.{PartitionView, IsRoomy, AreCells, cells_of}
+use Rattle.dshash_core.specs.Chains.{Item}
+use Rattle.dshash_core.specs.Hung.{Hung, Layout, with_chain, chain_of}
+use Rattle.dshash_core.specs.Cells.{PartitionView, IsRoomy, cells_of}
 use Rattle.dshash_core.proofs.Chains.{word_is}
 use Rattle.dshash_core.proofs.Flats.{cells_len}
 use Rattle.dshash_core.proofs.Moves.{taken_in, chunk_of}

@@ -1,4 +1,4 @@
-use Rattle.std.proofs.Common.{◌≡◌, ℕ, is_some, sym, subst}
+use Rattle.std.proofs.Common.{ℕ, is_some, sym, subst}
 use Rattle.dshash_core.specs.Cells.{IsRoomy, AreCells}
 use Rattle.dshash_core.proofs.Flats.{cells_len}
 use Rattle.dshash_core.proofs.Steps.{answered_cells}

@@ -1,5 +1,5 @@
-use Rattle.std.proofs.Common.{◌≡◌, ℕ, ◌+◌, ◌-◌, ◌^◌, ◌<◌, ◌≤◌, Bool, true, false, cond, Option, Some, None, is_some, refl, sym, ap, subst, ◌∙◌, arith}
-use Rattle.word_map.specs.WordMap.{WordMap, at, is_within, range_of, HasJust}
+use Rattle.std.proofs.Common.{◌≡◌, ℕ, ◌+◌, ◌-◌, ◌≤◌, Bool, true, false, cond, Option, Some, None, is_some, refl, sym, ap, subst, ◌∙◌, arith}
+use Rattle.word_map.specs.WordMap.{WordMap, at, is_within, HasJust}
 use Rattle.word_map.proofs.Maps.{range-just}
 use Rattle.region_words.specs.Parts.{Owned}
 use Rattle.dshash_resize.proofs.tests.store.Store.of_region.Goals as goal

@@ -1,4 +1,4 @@
-use Rattle.std.proofs.Common.{◌≡◌, ℕ, ◌+◌, ◌-◌, ◌*◌, ◌/◌, ◌%◌, ◌^◌, ◌<◌, ◌≤◌, refl, sym, ap, subst, ◌∙◌, arith}
+use Rattle.std.proofs.Common.{◌≡◌, ℕ, ◌+◌, ◌-◌, ◌*◌, ◌/◌, ◌≤◌, sym, subst, arith}
 use Rattle.word_map.specs.WordMap.{HasJust}
 use Rattle.word_map.proofs.Maps.{range-just, rest-just}
 use Rattle.region_words.specs.Parts.{Owned}
