@@ -29,12 +29,12 @@ fn call_with<O: CellObject>(
     }
 }
 
-/// A partition crosses threads, so a lock may keep it.
-fn send<O: CellObject>(p: Partition<O>) -> Partition<O> {
-    sent(p)
+/// A partition crosses threads and can be dropped, so a lock may keep it.
+fn keep<O: CellObject>(p: Partition<O>) -> Partition<O> {
+    kept(p)
 }
 
-fn sent<T: Send>(value: T) -> T {
+fn kept<T: Send + Drop>(value: T) -> T {
     value
 }
 
