@@ -1,0 +1,12 @@
+pub mod Keys
+pub mod Chains
+pub mod Walks
+pub mod Hangs
+pub mod Rows
+pub mod Hooks
+pub mod Views
+pub mod Changes
+pub mod Maps
+pub mod Flats
+pub mod Steps
+pub mod Moves

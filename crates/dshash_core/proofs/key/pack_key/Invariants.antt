@@ -1,0 +1,11 @@
+use Rattle.std.proofs.Common.{◌≡◌, ◌+◌, ◌<◌, ℕ, length, get_or}
+use Rattle.rel_pointer.specs.Bytes.{packed}
+use Rattle.dshash_core.proofs.key.pack_key.Given as goal
+
+-- the length and the words so far stand in the key
+abbrev pub invariant-loop-i : goal.invariant-loop-i
+invariant-loop-i l = record {
+  long : length l.key ≡ 32;
+  head : get_or l.key 0 0 ≡ length l.bytes;
+  words : (k : ℕ) → k < l.i → get_or l.key (1 + k) 0 ≡ packed l.bytes k;
+}

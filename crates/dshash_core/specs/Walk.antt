@@ -1,0 +1,41 @@
+-- What a walk along a chain finds.
+use Rattle.std.specs.Prelude.{◌≡◌, ◌≢◌, ℕ, ◌+◌, ◌<◌, ◌≤◌, List, ◌∷◌, ◌++◌, IsSome}
+use Rattle.word_map.specs.WordMap.{WordMap, at}
+use Rattle.dshash_core.specs.Key.{hash_of}
+use Rattle.dshash_core.specs.Chains.{word, words_at, most_words, Among, link_behind}
+
+-- a walk can compare the item at a with keys of that many words: the map has its words, and its hash is that of its key
+pub record IsReadable (m : WordMap) (key_words a : ℕ) : Type 0 where
+  pub owned : (k : ℕ) → a ≤ k → k < a + (2 + key_words) → IsSome (at m k)
+  pub hashed : word m (a + 1) ≡ hash_of (words_at (word m) (a + 2) key_words)
+
+-- the key stands at item, the first on the chain from `link` that has it, behind the link at word `behind`
+pub record IsPlaced (w : ℕ → ℕ) (chain : List ℕ) (link behind item key_words : ℕ) (key : List ℕ) : Type 0 where
+  pub before : List ℕ
+  pub after : List ℕ
+  pub splits : chain ≡ before ++ item ∷ after
+  pub linked : link_behind link before ≡ behind
+  pub here : words_at w (item + 2) key_words ≡ key
+
+-- no item on the chain has the key
+abbrev pub IsNowhere : (ℕ → ℕ) → List ℕ → ℕ → List ℕ → Type 0
+IsNowhere w chain key_words key = (a : ℕ) → Among a chain → words_at w (a + 2) key_words ≢ key
+
+-- old and the words of an item at a, which is hung in behind the word `link`
+pub record IsHungIn (old item new : WordMap) (link a : ℕ) : Type 0 where
+  pub keeps : (k : ℕ) → IsSome (at old k) → IsSome (at new k)
+  pub gains : (k : ℕ) → IsSome (at item k) → IsSome (at new k)
+  pub below : (k : ℕ) → IsSome (at new k) → k < most_words
+  pub apart : (k : ℕ) → IsSome (at old k) → IsSome (at item k) → ⊥
+  pub linked : word new link ≡ a
+  pub next : word new a ≡ word old link
+  pub others : (k : ℕ) → IsSome (at old k) → k ≢ link → word new k ≡ word old k
+  pub body : (k : ℕ) → IsSome (at item k) → k ≢ a → word new k ≡ word item k
+
+-- old without the n words of the item at a, which stood behind the word `link`
+pub record IsTakenOut (old new item : WordMap) (link a n : ℕ) : Type 0 where
+  pub keeps : (k : ℕ) → IsSome (at old k) → (a ≤ k → k < a + n → ⊥) → IsSome (at new k)
+  pub below : (k : ℕ) → IsSome (at new k) → k < most_words
+  pub linked : word new link ≡ word old a
+  pub others : (k : ℕ) → (a ≤ k → k < a + n → ⊥) → k ≢ link → word new k ≡ word old k
+  pub taken : (k : ℕ) → a ≤ k → k < a + n → word item k ≡ word old k

@@ -1,0 +1,171 @@
+//! The calls of a partition, on its buckets: of a key that is there, and of one that is not.
+ghost use Rattle.std.specs.Prelude.{◌≡◌, ℕ, ◌+◌, ◌/◌, ◌<◌, ◌≤◌, Bool, List, ◌∷◌, length, Option, Some, None, is_some, IfSome};
+ghost use Rattle.dshash_core.specs.Key.{hash_of};
+ghost use Rattle.dshash_core.specs.Chains.{Item};
+ghost use Rattle.dshash_core.specs.Hung.{HasItem, HasNoItem, with_chain, chain_of};
+ghost use Rattle.dshash_core.specs.Cells.{AreCells, all_items, bucket_of, cells_of};
+ghost use Rattle.dshash_core.specs.Outcome.{HandsOut};
+ghost use Rattle.dshash_core.specs.Calls.{IsCalled, IsAnswered};
+
+use crate::buckets::Buckets;
+use crate::key::hash_key;
+use crate::object::CellObject;
+use crate::outcome::CoreOut;
+use crate::sizes::{bucket_of_hash, is_full_at};
+use crate::words::{Spot, fill};
+use region_words::{Chunk, Region};
+
+/// Makes the call of the item at a spot: its state is changed, or the item is taken out.
+pub(crate) fn change<O: CellObject>(
+    buckets: &mut Buckets,
+    r: &Region,
+    count: &mut u64,
+    buffer: &mut [u64],
+    bucket: u64,
+    spot: Spot,
+    call: &O::Call,
+) -> (O::Reply, Option<Chunk>)
+    requires here { buckets.old.region ≡ r.now }
+    requires bucket { bucket < length buckets.old.chains }
+    requires spot { (key : List ℕ) × HasItem buckets.old bucket spot.link spot.item key }
+    requires buffer { length buffer.old ≡ O.VALUE_WORDS }
+    requires cells { (size : ℕ) × AreCells size count.old O.VALUE_WORDS buckets.old }
+    ensures buffer { length buffer.new ≡ length buffer.old }
+    ensures called { (size : ℕ) (key : List ℕ) (spare : Bool) → AreCells size count.old O.VALUE_WORDS buckets.old → HasItem buckets.old bucket spot.link spot.item key → IsCalled O.stepped O.decoded size count.new O.VALUE_WORDS buckets.old buckets.new key call.now spare result.0 spare (is_some result.1) }
+    ensures freed { IfSome result.1 (λ c. (c.part.region ≡ buckets.old.region) × (c.bytes ≡ buckets.old.layout.item_bytes)) }
+{
+    buckets.read_value(r, spot.item, buffer);
+    let state = O::decode(buffer);
+    let (next, reply) = O::step(Some(&state), call);
+    match next {
+        Some(next) => {
+            O::encode(&next, buffer);
+            buckets.write_value(r, bucket, spot, buffer);
+            (reply, None)
+        }
+        None => {
+            *count -= 1;
+            (reply, Some(buckets.unlink(r, bucket, spot)))
+        }
+    }
+}
+
+/// Hangs a new item in for the key, with this state.
+fn insert<O: CellObject>(
+    buckets: &mut Buckets,
+    r: &Region,
+    buffer: &mut [u64],
+    bucket: u64,
+    hash: u64,
+    key: &[u64],
+    state: &O::State,
+    item: Chunk,
+)
+    requires here { (buckets.old.region ≡ r.now) × (item.part.region ≡ r.now) }
+    requires bucket { bucket < length buckets.old.chains }
+    requires hash { hash ≡ hash_of key.now }
+    requires key { length key.now ≡ buckets.old.layout.key_words }
+    requires buffer { length buffer.old ≡ O.VALUE_WORDS }
+    requires values { buckets.old.layout.value_words ≡ O.VALUE_WORDS }
+    requires size { item.bytes ≡ buckets.old.layout.item_bytes }
+    requires room { 2 + length key.now + O.VALUE_WORDS ≤ item.bytes / 8 }
+    ensures { (it : Item) × (it.key ≡ key.now) × (O.decoded it.value ≡ state.now) × (buckets.new ≡ with_chain buckets.old bucket (it ∷ chain_of buckets.old bucket)) }
+{
+    O::encode(state, buffer);
+    let item = fill(item, r, hash, key, buffer);
+    buckets.push(r, bucket, item);
+}
+
+/// What the call makes where there is no state yet.
+fn first_step<O: CellObject>(call: &O::Call) -> (Option<O::State>, O::Reply)
+    ensures { result ≡ O.stepped None call.now }
+{
+    let nothing: Option<O::State> = None;
+    O::step(nothing.as_ref(), call)
+}
+
+/// Makes the call of a key that is not there: where it makes a state, and the partition is not full, the spare item takes it in.
+fn put_in<O: CellObject>(
+    buckets: &mut Buckets,
+    r: &Region,
+    count: &mut u64,
+    buffer: &mut [u64],
+    size: u32,
+    hash: u64,
+    key: &[u64],
+    call: &O::Call,
+    spare: Option<Chunk>,
+) -> CoreOut<O>
+    requires here { buckets.old.region ≡ r.now }
+    requires hash { hash ≡ hash_of key.now }
+    requires key { length key.now ≡ buckets.old.layout.key_words }
+    requires buffer { length buffer.old ≡ O.VALUE_WORDS }
+    requires cells { AreCells size count.old O.VALUE_WORDS buckets.old }
+    requires absent { HasNoItem buckets.old (bucket_of size hash) key.now }
+    requires spare { IfSome spare (λ c. (c.part.region ≡ r.now) × (c.bytes ≡ buckets.old.layout.item_bytes)) }
+    ensures answered { IsAnswered O.stepped O.decoded size count.old count.new O.VALUE_WORDS buckets.old buckets.new key.now call.now (is_some spare) result }
+    ensures handed { HandsOut buckets.old.region buckets.old.layout.item_bytes spare result }
+{
+    let (next, reply) = first_step::<O>(call);
+    let state = match next {
+        Some(state) => state,
+        None => {
+            return CoreOut::Done {
+                reply,
+                unused: spare,
+                freed: None,
+            };
+        }
+    };
+    if is_full_at(size, *count) {
+        return CoreOut::TooFull { size, spare };
+    }
+    match spare {
+        Some(item) => {
+            buckets.is_sound();
+            *count += 1;
+            let bucket = bucket_of_hash(size, hash);
+            insert::<O>(buckets, r, buffer, bucket, hash, key, &state, item);
+            CoreOut::Done {
+                reply,
+                unused: None,
+                freed: None,
+            }
+        }
+        None => CoreOut::NeedItem,
+    }
+}
+
+/// Makes a call of a partition of a size.
+pub(crate) fn answer<O: CellObject>(
+    buckets: &mut Buckets,
+    r: &Region,
+    count: &mut u64,
+    buffer: &mut [u64],
+    size: u32,
+    key: &[u64],
+    call: &O::Call,
+    spare: Option<Chunk>,
+) -> CoreOut<O>
+    requires here { buckets.old.region ≡ r.now }
+    requires key { length key.now ≡ buckets.old.layout.key_words }
+    requires buffer { length buffer.old ≡ O.VALUE_WORDS }
+    requires cells { AreCells size count.old O.VALUE_WORDS buckets.old }
+    requires spare { IfSome spare (λ c. (c.part.region ≡ r.now) × (c.bytes ≡ buckets.old.layout.item_bytes)) }
+    ensures answered { IsAnswered O.stepped O.decoded size count.old count.new O.VALUE_WORDS buckets.old buckets.new key.now call.now (is_some spare) result }
+    ensures handed { HandsOut buckets.old.region buckets.old.layout.item_bytes spare result }
+{
+    let hash = u64::from(hash_key(key));
+    let bucket = bucket_of_hash(size, hash);
+    match buckets.find(r, bucket, hash, key) {
+        Some(spot) => {
+            let (reply, freed) = change::<O>(buckets, r, count, buffer, bucket, spot, call);
+            CoreOut::Done {
+                reply,
+                unused: spare,
+                freed,
+            }
+        }
+        None => put_in::<O>(buckets, r, count, buffer, size, hash, key, call, spare),
+    }
+}

@@ -1,0 +1,71 @@
+//! Keys: their hash, and byte strings as keys.
+ghost use Rattle.std.specs.Prelude.{◌≡◌, ◌+◌, ◌*◌, ◌<◌, ◌≤◌, ◌^◌, ◌↔◌, List, ℕ, length, take, IfSome, IsNone};
+ghost use Rattle.rel_pointer.specs.Bytes.{AllBytes};
+ghost use Rattle.dshash_core.specs.Key.{fnv_word, finalized, hash_of, packed_key, IsPackedKey, item_size};
+
+use rel_pointer::{pack, unpack};
+
+/// The hash goes on over a word's eight bytes.
+fn hash_word(hash: u32, word: u64) -> u32
+    ensures { result ≡ fnv_word hash word }
+{
+    let bytes = word.to_le_bytes();
+    bytes.iter().fold(
+        hash,
+        |h, byte| (h ^ u32::from(*byte)).wrapping_mul(0x0100_0193),
+    )
+}
+
+/// Spreads the hash's last bytes over all of its bits.
+fn finalize(hash: u32) -> u32
+    ensures { result ≡ finalized hash }
+{
+    let high = hash ^ (hash >> 16);
+    let product = high.wrapping_mul(0x85eb_ca6b);
+    product ^ (product >> 13)
+}
+
+/// The hash of a key's words. Its top 7 bits are the number of the key's partition, and the next ones its bucket there.
+#[tactic(auto, unfolding(crate::specs::Key::hash_of))]
+pub fn hash_key(key: &[u64]) -> u32
+    ensures { result ≡ hash_of key.now }
+{
+    let hash = key.iter().fold(0x811c_9dc5, |h, word| hash_word(h, *word));
+    finalize(hash)
+}
+
+/// A byte string as a key of 32 words, where it has at most 248 bytes.
+pub fn pack_key(bytes: &[u8]) -> Option<[u64; 32]>
+    ensures long { IsNone result ↔ (248 < length bytes.now) }
+    ensures key { IfSome result (λ key. key ≡ packed_key bytes.now) }
+    ensures packed { IfSome result IsPackedKey }
+{
+    if bytes.len() > 248 {
+        return None;
+    }
+    let mut key = [0; 32];
+    key[0] = bytes.len() as u64;
+    for i in 0..31 {
+        key[1 + i] = pack(bytes, i as u64);
+    }
+    Some(key)
+}
+
+/// Writes the byte string of a packed key to the front of `out`, and gives its length.
+pub fn unpack_key(key: &[u64], out: &mut [u8; 248]) -> usize
+    requires { IsPackedKey key.now }
+    ensures reads { (bytes : List ℕ) → AllBytes bytes → length bytes ≤ 248 → key.now ≡ packed_key bytes → (result ≡ length bytes) × (take result out.new ≡ bytes) }
+    ensures encodes { key.now ≡ packed_key (take result out.new) }
+{
+    for i in 0..31 {
+        unpack(key[1 + i], out, i as u64);
+    }
+    key[0] as usize
+}
+
+/// The bytes of an item of the table: the link, the hash, the key's words and the value's words.
+pub fn item_bytes(key_words: u32, value_words: u32) -> u64
+    ensures { result ≡ item_size key_words value_words }
+{
+    8 * (2 + u64::from(key_words) + u64::from(value_words))
+}

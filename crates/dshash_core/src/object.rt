@@ -1,0 +1,49 @@
+//! What the cells of a table hold: states that calls change, and how a state stands in words.
+ghost use Rattle.std.specs.Prelude.{◌≡◌, ℕ, List, Option, length};
+ghost use Rattle.std.specs.Option.{option_copied};
+
+/// The object of which a table has one under each key. A call may make it, change it or remove it. A partition of it may stand behind a lock,
+/// so it crosses threads.
+pub trait CellObject: Send {
+    /// The words that a state takes.
+    const VALUE_WORDS: usize;
+
+    /// What stands under a key.
+    type State: Copy + Send;
+
+    /// What a caller asks of a key.
+    type Call: Copy + Send;
+
+    /// What it is answered.
+    type Reply: Send + Drop;
+
+    ghost VALUE_WORDS: { ℕ };
+
+    // the state that a call leaves, if any, and its reply
+    ghost stepped: { Option Self.State → Self.Call → Option Self.State × Self.Reply };
+
+    // the states that the program's values are: their numbers are in range
+    ghost is_value: { Self.State → Type 0 };
+
+    ghost encoded: { Self.State → List ℕ };
+
+    ghost decoded: { List ℕ → Self.State };
+
+    /// What the call makes of the state, where there is one, and its reply.
+    fn step(state: Option<&Self::State>, call: &Self::Call) -> (Option<Self::State>, Self::Reply)
+        ensures { result ≡ stepped (option_copied state.entry) call.now };
+
+    /// Writes the state into `VALUE_WORDS` words.
+    fn encode(state: &Self::State, out: &mut [u64])
+        requires { length out.old ≡ VALUE_WORDS }
+        ensures words { out.new ≡ encoded state.now }
+        ensures value { is_value state.now };
+
+    /// Reads the state from `VALUE_WORDS` words.
+    fn decode(words: &[u64]) -> Self::State
+        requires { length words.now ≡ VALUE_WORDS }
+        ensures { result ≡ decoded words.now };
+
+    // a state that is a value reads back as it was written
+    ghost reads_back: { (s : Self.State) → is_value s → decoded (encoded s) ≡ s };
+}

@@ -1,0 +1,175 @@
+//! A partition: what stands behind one lock of the shared hash table. It is a finite map from keys to states, kept in chains of items in
+//! the region, one chain a bucket, and it has a size of its own, from 7 to 20, which says how many buckets it has.
+//!
+//! Who holds the partition owns the words of its bucket slice and of its items, so a call is one step of one thread: behind a lock it is one
+//! event of the table. `IsPartition` says what is always so: each item hangs in the bucket of its key's hash, each key once, the count is the
+//! number of keys, and there are at most three quarters as many keys as buckets and one more, or the size is 20.
+ghost use Rattle.std.specs.Prelude.{◌≡◌, false, ◌+◌, ◌*◌, ◌/◌, ◌<◌, ◌≤◌, length, is_some, IfOk, IfSome, MatchOption};
+ghost use Rattle.std.specs.FinMap as fin;
+ghost use Rattle.dshash_core.specs.Key.{item_size};
+ghost use Rattle.dshash_core.specs.Cells.{IsRoomy, AreCells, buckets_of, cells_of};
+ghost use Rattle.dshash_core.specs.Outcome.{IsOutcome, HandsOut, ListsAll};
+ghost use Rattle.dshash_core.specs.Listing.{pairs_of};
+ghost use Rattle.dshash_core.specs.Chains.{Item};
+ghost use Rattle.dshash_core.specs.Hung.{IsItemChunk};
+
+use crate::buckets::Buckets;
+use crate::calls::answer;
+use crate::entries::{Entry, list_all};
+use crate::object::CellObject;
+use crate::outcome::CoreOut;
+use crate::sizes::{LEAST_SIZE, bucket_count, bucket_of_hash};
+use region_words::{Chunk, Region};
+use std::alloc::{AllocError, Global};
+use std::marker::{Model, PhantomData};
+use std::mem;
+
+/// One partition. Contracts see its region, its slice, its size and the map of states under their keys.
+#[derive(Drop)]
+pub struct Partition<O: CellObject> {
+    buckets: Buckets,
+    size: u32,
+    count: u64,
+    buffer: Vec<u64>,
+    object: PhantomData<O>,
+}
+
+impl<O: CellObject> Model for Partition<O> {
+    ghost use Rattle.dshash_core.specs.Cells.{PartitionView, partition_code, partition_seen, IsPartition};
+
+    ghost Value = { PartitionView O.State };
+
+    ghost coded = { partition_code O.State.code };
+
+    ghost view = { λ p. partition_seen O.decoded p.buckets p.size };
+
+    ghost invariant = { λ p. IsPartition O.VALUE_WORDS p.size p.count p.buckets p.buffer.items };
+}
+
+impl<O: CellObject> Partition<O> {
+    /// The empty partition of size 7, on a slice of a word or more. It takes memory for one buffer of a value's words; where that fails,
+    /// the slice is dropped. Its items are to be chunks of `item_chunk` bytes.
+    pub fn new(
+        alloc: Global,
+        r: &Region,
+        slice: Chunk,
+        key_words: u32,
+        item_chunk: u64,
+    ) -> Result<Partition<O>, AllocError>
+        requires here { slice.part.region ≡ r.now }
+        requires room { 8 ≤ slice.bytes }
+        requires fits { item_size key_words O.VALUE_WORDS ≤ item_chunk }
+        ensures { IfOk result (λ p. p ≡ record { region = r.now; slice = slice.at; words = slice.bytes / 8; key_words = key_words; item_bytes = item_chunk; size = 7; cells = fin.empty }) }
+    {
+        let buffer = vec![in alloc; 0u64; O::VALUE_WORDS]?;
+        let buckets = Buckets::new(
+            r,
+            slice,
+            1,
+            u64::from(key_words),
+            O::VALUE_WORDS as u64,
+            item_chunk,
+        );
+        Ok(Partition {
+            buckets,
+            size: LEAST_SIZE,
+            count: 0,
+            buffer,
+            object: PhantomData,
+        })
+    }
+
+    /// Its size, from 7 to 20: it has 2^(size - 7) buckets.
+    pub fn size(&self) -> u32
+        ensures is { result ≡ self.now.size }
+        ensures range { (7 ≤ result) × (result ≤ 20) }
+    {
+        self.size
+    }
+
+    /// The number of its keys.
+    pub fn count(&self) -> u64
+        ensures is { result ≡ fin.len self.now.cells }
+        ensures roomy { IsRoomy self.now.size result }
+    {
+        self.count
+    }
+
+    /// Makes a call of a key, or says what it lacks: an item, or more buckets. It walks one chain and takes no memory.
+    pub fn try_call(
+        &mut self,
+        r: &Region,
+        key: &[u64],
+        call: &O::Call,
+        spare: Option<Chunk>,
+    ) -> CoreOut<O>
+        requires here { self.old.region ≡ r.now }
+        requires key { length key.now ≡ self.old.key_words }
+        requires spare { IfSome spare (λ c. (c.part.region ≡ r.now) × (c.bytes ≡ self.old.item_bytes)) }
+        ensures outcome { IsOutcome O.stepped self.old.size self.old.cells key.now call.now (is_some spare) result self.new.cells }
+        ensures same { self.new ≡ record self.old { cells = self.new.cells } }
+        ensures handed { HandsOut self.old.region self.old.item_bytes spare result }
+        ensures roomy { IsRoomy self.new.size (fin.len self.new.cells) }
+    {
+        answer::<O>(
+            &mut self.buckets,
+            r,
+            &mut self.count,
+            self.buffer.as_mut_slice(),
+            self.size,
+            key,
+            call,
+            spare,
+        )
+    }
+
+    /// Each key with its state, in no stated order. It takes memory for the entries and for each key.
+    pub fn list(&mut self, alloc: Global, r: &Region) -> Result<Vec<Entry<O>>, AllocError>
+        requires here { self.old.region ≡ r.now }
+        ensures same { self.new ≡ self.old }
+        ensures all { IfOk result (λ v. ListsAll self.old.cells (pairs_of v.items)) }
+    {
+        list_all::<O>(&mut self.buckets, alloc, r, self.buffer.as_mut_slice())
+    }
+
+    /// Begins a move: the partition is empty, on a new slice and with the size that it is to have. Its chains of before are handed out; whoever
+    /// moves gives their items back by `take_in`. One store for each new bucket.
+    pub fn start_over(&mut self, r: &Region, size: u32, slice: Chunk) -> Buckets
+        requires here { (self.old.region ≡ r.now) × (slice.part.region ≡ r.now) }
+        requires size { (7 ≤ size) × (size ≤ 20) }
+        requires room { buckets_of size ≤ slice.bytes / 8 }
+        ensures fresh { self.new ≡ record self.old { slice = slice.at; words = slice.bytes / 8; size = size; cells = fin.empty } }
+        ensures place { (result.region ≡ self.old.region) × (result.slice ≡ self.old.slice) × (result.words ≡ self.old.words) }
+        ensures layout { (result.layout.key_words ≡ self.old.key_words) × (result.layout.value_words ≡ O.VALUE_WORDS) × (result.layout.item_bytes ≡ self.old.item_bytes) }
+        ensures cells { AreCells self.old.size (fin.len self.old.cells) O.VALUE_WORDS result × (cells_of O.decoded result.chains ≡ self.old.cells) }
+    {
+        self.buckets.is_sound();
+        let buckets = Buckets::new(
+            r,
+            slice,
+            bucket_count(size),
+            self.buckets.key_words(),
+            O::VALUE_WORDS as u64,
+            self.buckets.item_bytes(),
+        );
+        self.size = size;
+        self.count = 0;
+        mem::replace(&mut self.buckets, buckets)
+    }
+
+    /// Takes in an item that another chain held, whole: a few loads and stores.
+    pub fn take_in(&mut self, r: &Region, item: Chunk)
+        requires here { (self.old.region ≡ r.now) × (item.part.region ≡ r.now) }
+        requires size { item.bytes ≡ self.old.item_bytes }
+        requires item { (it : Item) × IsItemChunk item.at item.part.words (record { key_words = self.old.key_words; value_words = O.VALUE_WORDS; item_bytes = self.old.item_bytes }) it × (fin.contains_key self.old.cells it.key ≡ false) }
+        requires room { IsRoomy self.old.size (fin.len self.old.cells + 1) }
+        ensures { (it : Item) → IsItemChunk item.at item.part.words (record { key_words = self.old.key_words; value_words = O.VALUE_WORDS; item_bytes = self.old.item_bytes }) it → self.new ≡ record self.old { cells = fin.insert self.old.cells it.key (O.decoded it.value) } }
+    {
+        let mut item = item;
+        self.buckets.is_sound();
+        let hash = item.load(r, 1);
+        let bucket = bucket_of_hash(self.size, hash);
+        self.count += 1;
+        self.buckets.push(r, bucket, item);
+    }
+}

@@ -1,0 +1,34 @@
+//! Sizes: how many buckets a partition has, which of them a hash belongs to, and when an insert has to wait for more.
+ghost use Rattle.std.specs.Prelude.{◌≡◌, ◌≤◌, ◌&&◌, nat_lt};
+ghost use Rattle.dshash_core.specs.Cells.{bucket_of, buckets_of, full_above};
+
+/// The size of a new partition, which has one bucket.
+pub(crate) const LEAST_SIZE: u32 = 7;
+
+/// A partition of this size grows no more.
+pub(crate) const MOST_SIZE: u32 = 20;
+
+/// The buckets of a partition of a size: so many words its slice has at least.
+pub fn bucket_count(size: u32) -> u64
+    requires { (7 ≤ size) × (size ≤ 20) }
+    ensures { result ≡ buckets_of size }
+{
+    1 << (size - LEAST_SIZE)
+}
+
+/// The bucket of a hash.
+pub(crate) fn bucket_of_hash(size: u32, hash: u64) -> u64
+    requires { (7 ≤ size) × (size ≤ 20) }
+    ensures { result ≡ bucket_of size hash }
+{
+    (hash >> (32 - size)) % bucket_count(size)
+}
+
+/// Whether a partition of so many keys has to grow before it inserts.
+pub(crate) fn is_full_at(size: u32, count: u64) -> bool
+    requires { (7 ≤ size) × (size ≤ 20) }
+    ensures { result ≡ (nat_lt (full_above size) count && nat_lt size 20) }
+{
+    let buckets = bucket_count(size);
+    count > buckets / 2 + buckets / 4 && size < MOST_SIZE
+}
