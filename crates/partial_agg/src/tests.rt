@@ -1,13 +1,35 @@
 //! What no clause says: that the calls succeed, on rows and keys that are written out by hand.
 
-ghost use Rattle.std.specs.Prelude.{IfOk};
+ghost use Rattle.std.specs.Prelude.{◌<◌, ◌≤◌, ◌+◌, ℕ, All, IfOk, IfErr, OnOk, length, take, drop};
+ghost use Rattle.csv_rows.specs.declared.records.TheConstants.{MOST_RECORDS};
 ghost use Rattle.par_model.specs.Columns.{HasColumns};
-ghost use Rattle.partial_agg.specs.Rows.{header_width};
+ghost use Rattle.partial_agg.specs.Blocks.{Explains};
+ghost use Rattle.partial_agg.specs.Groups.{AreGroups};
+ghost use Rattle.partial_agg.specs.Rows.{IsAccepted, header_width};
 
-use crate::{GroupKey, GroupMap, combine, empty, refusal};
+use crate::{BLOCK_ROWS, BlockAnswer, GroupKey, GroupMap, combine, empty, refusal};
 use csv_rows::{RowStore, rows};
 use par_model::{AggState, BoundPlan, Filter, FilterOp, Item, ItemKind, Refusal};
+use std::alloc::Global;
 use std::test::Fail;
+
+// The map of all rows, unless one is refused: the caller of CALLING.md. An answer that names a row names the first.
+fn all_groups(alloc: Global, rows: &RowStore, plan: &BoundPlan) -> Result<GroupMap, BlockAnswer>
+    requires few { length rows.now ≤ MOST_RECORDS }
+    requires columns { HasColumns plan.now (header_width rows.now) }
+    ensures groups { IfOk result (λ groups. AreGroups plan.now (drop 1 rows.now) groups) }
+    ensures accepted { OnOk result (All (IsAccepted plan.now (header_width rows.now)) (drop 1 rows.now)) }
+    ensures first { IfErr result (λ why. (before : ℕ) × All (IsAccepted plan.now (header_width rows.now)) (take before (drop 1 rows.now)) × Explains plan.now rows.now (before + 1) why) }
+{
+    let mut groups = GroupMap::new(alloc);
+    for block in 0..rows.count().div_ceil(BLOCK_ROWS) {
+        match groups.add_block(rows, plan, block) {
+            Ok(()) => {}
+            Err(why) => return Err(why),
+        }
+    }
+    Ok(groups)
+}
 
 // By the first two columns: the count and the sum of the third, of the rows in which it is not 9.
 fn query(rt: &HostRuntime, text: &[u8]) -> Result<(RowStore, BoundPlan), Fail>
