@@ -1,5 +1,5 @@
 -- What is read of a row under a plan.
-use Rattle.std.specs.Prelude.{◌-◌, ◌++◌, ℕ, ℤ, pos, List, Option, Some, None, Bool, false, not, ◌||◌, if◌then◌else◌, length, map, replicate}
+use Rattle.std.specs.Prelude.{◌≡◌, ◌-◌, ◌++◌, ℕ, ℤ, pos, List, Option, Some, None, Bool, IsTrue, false, not, ◌||◌, if◌then◌else◌, length, map, replicate}
 use Rattle.std.specs.Option.{option_map_or}
 use Rattle.par_model.specs.Aggregate.{no_values}
 use Rattle.par_model.specs.Integer.{integer_of}
@@ -7,7 +7,7 @@ use Rattle.par_model.specs.Keep.{fails, is_kept}
 use Rattle.par_model.specs.declared.plan.Filter.{Filter}
 use Rattle.par_model.specs.Plan.{Plan}
 use Rattle.par_model.specs.Record.{field_of, is_null}
-use Rattle.par_model.specs.Refuse.{is_no_integer}
+use Rattle.par_model.specs.Refuse.{is_no_integer, is_unreadable, reads_integers}
 use Rattle.par_model.specs.declared.plan.Item.{Item}
 use Rattle.par_model.specs.declared.plan.ItemKind.{ItemKind}
 use Rattle.par_model.specs.declared.plan.ItemKind.TheVariants as kind
@@ -42,6 +42,14 @@ value_by kind.Avg field = read field
 -- and of a row
 abbrev pub value_of : List (List ℕ) → Item → Option ℤ
 value_of row item = value_by item.kind (field_of row item.column)
+
+-- an aggregate that can read its field of a row, with the value that it takes
+abbrev pub IsReadOf : List (List ℕ) → Item → Option ℤ → Type 0
+IsReadOf row item value = (value ≡ value_of row item) × (is_unreadable row item ≡ false)
+
+-- two aggregates that read the integers of one column
+abbrev pub SameIntegers : Item → Item → Type 0
+SameIntegers a b = (a.column ≡ b.column) × IsTrue (reads_integers a.kind) × IsTrue (reads_integers b.kind)
 
 -- the slot of a value, or of none
 abbrev pub slot_of_value : Option ℤ → SlotState

@@ -182,6 +182,7 @@ impl GroupMap {
             add_values(state, values);
             return Ok(());
         }
-        self.add(key.copied(), &one_row(values))
+        self.by_key.insert(key.copied(), one_row(values))?;
+        Ok(())
     }
 }

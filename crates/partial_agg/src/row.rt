@@ -3,7 +3,7 @@
 //! A row is read once: `RowBuffer::read` finds the refusal and the filter's verdict, encodes the key into the buffer's
 //! array and parses each integer a single time. The public calls are views of it.
 
-ghost use Rattle.std.specs.Prelude.{◌≡◌, ◌<◌, ◌≤◌, ◌+◌, ◌^◌, ◌↔◌, ◌∷◌, ◌++◌, [], List, IsErr, ℕ, true, false, All, IsTrue, IfOk, IfErr, OnOk, Some, None, if◌then◌else◌, length, map, take};
+ghost use Rattle.std.specs.Prelude.{◌≡◌, ◌<◌, ◌≤◌, ◌+◌, ◌^◌, ◌↔◌, ◌∷◌, ◌++◌, [], List, IsErr, ℕ, true, false, All, IsTrue, IfOk, IfErr, IfSome, OnOk, Some, None, if◌then◌else◌, length, map, take};
 ghost use Rattle.std.specs.Bool.{OnTrue};
 ghost use Rattle.std.specs.Option.{ForSome};
 ghost use Rattle.std.specs.List.{position_from};
@@ -12,8 +12,8 @@ ghost use Rattle.par_model.specs.Aggregate.{state_of_rows};
 ghost use Rattle.par_model.specs.Keep.{is_kept, stands as stands_in};
 ghost use Rattle.par_model.specs.Key.{encoded, key_of as key_of_row};
 ghost use Rattle.par_model.specs.Record.{field_of};
-ghost use Rattle.par_model.specs.Refuse.{is_no_integer, is_unreadable, refusal as refusal_of};
-ghost use Rattle.partial_agg.specs.Reading.{counted, passes, read, value_of, verdict};
+ghost use Rattle.par_model.specs.Refuse.{is_no_integer, is_unreadable, reads_integers, refusal as refusal_of};
+ghost use Rattle.partial_agg.specs.Reading.{IsReadOf, SameIntegers, counted, passes, read, value_of, verdict};
 ghost use Rattle.par_model.specs.Columns.{HasColumns, reads_column};
 ghost use Rattle.partial_agg.specs.Rows.{IsAccepted, IsCounted, header_width};
 ghost use Rattle.partial_agg.specs.State.{combined};
@@ -134,9 +134,13 @@ fn read_values(
     ensures readable { OnOk result (position_from (is_unreadable (record_at rows.now row)) 0 items.now ≡ None) }
     ensures unreadable { IfErr result (λ place. position_from (is_unreadable (record_at rows.now row)) 0 items.now ≡ Some place) }
 {
+    let mut last = None;
     for (i, item) in items.iter().enumerate() {
-        match read_value(rows, row, item) {
-            Ok(value) => values[i] = value,
+        match read_after(&last, rows, row, item) {
+            Ok(value) => {
+                values[i] = value;
+                last = Some((*item, value));
+            }
             Err(NoInteger) => return Err(i as u32),
         }
     }
@@ -146,6 +150,44 @@ fn read_values(
 // A field that an aggregate of integers can't read.
 #[derive(Drop)]
 struct NoInteger;
+
+// The value that an aggregate takes of a row, after the aggregate before it and its value: where both read integers of one
+// column, its field is parsed once.
+fn read_after(
+    last: &Option<(Item, Option<i64>)>,
+    rows: &RowStore,
+    row: u64,
+    item: &Item,
+) -> Result<Option<i64>, NoInteger>
+    requires row { row < length rows.now }
+    requires column { IsTrue (reads_column item.now.kind) → item.now.column < length (record_at rows.now row) }
+    requires last { IfSome last.now (λ last. IsReadOf (record_at rows.now row) last.0 last.1) }
+    ensures value { IfOk result (λ value. value ≡ value_of (record_at rows.now row) item.now) }
+    ensures readable { IsTrue (is_unreadable (record_at rows.now row) item.now) ↔ IsErr result }
+{
+    if let Some((before, value)) = last {
+        if reads_same(before, item) {
+            return Ok(*value);
+        }
+    }
+    read_value(rows, row, item)
+}
+
+// Whether two aggregates read the integers of one column.
+fn reads_same(a: &Item, b: &Item) -> bool
+    ensures { IsTrue result ↔ SameIntegers a.now b.now }
+{
+    a.column == b.column && takes_integers(a.kind) && takes_integers(b.kind)
+}
+
+fn takes_integers(kind: ItemKind) -> bool
+    ensures { result ≡ reads_integers kind }
+{
+    match kind {
+        ItemKind::Rows | ItemKind::Count => false,
+        ItemKind::Sum | ItemKind::Min | ItemKind::Max | ItemKind::Avg => true,
+    }
+}
 
 // The value that an aggregate takes of a row.
 fn read_value(rows: &RowStore, row: u64, item: &Item) -> Result<Option<i64>, NoInteger>

@@ -23,5 +23,6 @@ loop-i-preserved c =
           ∙ ap (λ (vs : List (Option ℤ)). vs ++ c.in-Ok.value ∷ []) c.loop-i.invariant.values
           ∙ ap (λ v. map (value_of row) (take c.loop-i.i c.args.items.now) ++ v ∷ []) c.in-Ok.ensures.value
           ∙ sym (ap (map (value_of row)) (take_more c.args.items.now c.loop-i.i _ c.loop-i-test.true) ∙ map-append (value_of row) (take c.loop-i.i c.args.items.now) _);
+      last = (c.in-Ok.ensures.value, unread (is_unreadable row (get_or c.args.items.now c.loop-i.i _)) c.in-Ok.ensures.readable.0);
       readable = position_more (is_unreadable row) c.args.items.now 0 c.loop-i.i _ c.loop-i.invariant.readable c.loop-i-test.true (unread (is_unreadable row (get_or c.args.items.now c.loop-i.i _)) c.in-Ok.ensures.readable.0);
     }
