@@ -1,5 +1,5 @@
 -- Where the fronts of two keys differ, they say which key is less.
-use Rattle.std.proofs.Common.{◌≡◌, ◌<◌, ◌≤◌, ◌+◌, ◌*◌, ◌^◌, ◌⊎◌, inl, inr, ℕ, zero, suc, List, [], ◌∷◌, length, take, drop, get_or, add-one, arith, refl, ap, sym, ◌∙◌}
+use Rattle.std.proofs.Common.{◌≡◌, ◌<◌, ◌≤◌, ◌+◌, ◌*◌, ◌^◌, ◌⊎◌, inl, inr, ℕ, zero, suc, List, [], ◌∷◌, take, drop, get_or, add-one, arith, refl, ap, sym, ◌∙◌}
 use Rattle.std.proofs.Math.Nat.{mul-le-mul_right}
 use Rattle.std.proofs.lemmas.Bool.{cases_order}
 use Rattle.std.proofs.lemmas.Cmp.{nat_list_cmp_total}
@@ -9,7 +9,7 @@ use Rattle.std.specs.Cmp.Lexicographic.{slice_cmp}
 use Rattle.std.specs.Ordering.{nat_cmp, ordering_reverse, ordering_then}
 use Rattle.std.specs.declared.cmp.Ordering.{Ordering}
 use Rattle.std.specs.declared.cmp.Ordering.TheVariants.{Less, Equal, Greater}
-use Rattle.partial_agg.specs.Front.{IsZeroFrom, front}
+use Rattle.partial_agg.specs.Front.{front}
 
 -- numbers of a list that are bytes
 abbrev pub AreBytes : List ℕ → Type 0
@@ -58,16 +58,16 @@ pub front-greater : (n : ℕ) (xs ys : List ℕ) → AreBytes xs → AreBytes ys
 front-greater n xs ys h k lt = nat_list_cmp_total.antisymm xs ys ∙ ap ordering_reverse (front-less n ys xs k h lt)
 
 -- a front of sixteen bytes is that of the first eight, and then that of the next
-pub front-sixteen : (bs : List ℕ) → 16 ≤ length bs → front 16 bs ≡ front 8 bs * 2 ^ 64 + front 8 (drop 8 bs)
-front-sixteen [] h = absurd (omega arith)
-front-sixteen (b0 ∷ []) h = absurd (omega arith)
-front-sixteen (b0 ∷ (b1 ∷ [])) h = absurd (omega arith)
-front-sixteen (b0 ∷ (b1 ∷ (b2 ∷ []))) h = absurd (omega arith)
-front-sixteen (b0 ∷ (b1 ∷ (b2 ∷ (b3 ∷ [])))) h = absurd (omega arith)
-front-sixteen (b0 ∷ (b1 ∷ (b2 ∷ (b3 ∷ (b4 ∷ []))))) h = absurd (omega arith)
-front-sixteen (b0 ∷ (b1 ∷ (b2 ∷ (b3 ∷ (b4 ∷ (b5 ∷ [])))))) h = absurd (omega arith)
-front-sixteen (b0 ∷ (b1 ∷ (b2 ∷ (b3 ∷ (b4 ∷ (b5 ∷ (b6 ∷ []))))))) h = absurd (omega arith)
-front-sixteen (b0 ∷ (b1 ∷ (b2 ∷ (b3 ∷ (b4 ∷ (b5 ∷ (b6 ∷ (b7 ∷ bs)))))))) h = omega arith
+pub front-sixteen : (bs : List ℕ) → front 16 bs ≡ front 8 bs * 2 ^ 64 + front 8 (drop 8 bs)
+front-sixteen [] = omega arith
+front-sixteen (b0 ∷ []) = omega arith
+front-sixteen (b0 ∷ (b1 ∷ [])) = omega arith
+front-sixteen (b0 ∷ (b1 ∷ (b2 ∷ []))) = omega arith
+front-sixteen (b0 ∷ (b1 ∷ (b2 ∷ (b3 ∷ [])))) = omega arith
+front-sixteen (b0 ∷ (b1 ∷ (b2 ∷ (b3 ∷ (b4 ∷ []))))) = omega arith
+front-sixteen (b0 ∷ (b1 ∷ (b2 ∷ (b3 ∷ (b4 ∷ (b5 ∷ [])))))) = omega arith
+front-sixteen (b0 ∷ (b1 ∷ (b2 ∷ (b3 ∷ (b4 ∷ (b5 ∷ (b6 ∷ []))))))) = omega arith
+front-sixteen (b0 ∷ (b1 ∷ (b2 ∷ (b3 ∷ (b4 ∷ (b5 ∷ (b6 ∷ (b7 ∷ bs)))))))) = omega arith
 
 -- zeros past the end make no difference
 front-zeros : (n : ℕ) (bs : List ℕ) → ((i : ℕ) → i < n → get_or bs i 0 ≡ 0) → front n bs ≡ 0

@@ -1,10 +1,11 @@
 //! A group's key: its encoded columns, at most 248 bytes, in an array, so that a key takes no allocation.
 //!
-//! Two keys are compared by their first 16 bytes as one number, highest byte first, and byte by byte only where these are
-//! the same, as PostgreSQL's sort compares abbreviated keys. So the first 16 places past a key's end are zeros; the places
-//! past those have bytes of keys that stood there before, and no call reads them.
+//! Two keys are compared by their first eight bytes as a number, highest byte first, then by the next eight, and byte by byte
+//! only where these are the same too, as PostgreSQL's sort compares abbreviated keys. So where a key ends before its
+//! sixteenth byte, zeros stand up to there; the places past that have bytes of keys that stood there before, and no call
+//! reads them.
 
-ghost use Rattle.std.specs.Prelude.{◌≡◌, ◌<◌, ◌≤◌, ◌+◌, ◌^◌, ◌++◌, ◌↔◌, [], ℕ, IsSome, IfSome, IsTrue, drop, length, slice_index};
+ghost use Rattle.std.specs.Prelude.{◌≡◌, ◌<◌, ◌≤◌, ◌+◌, ◌*◌, ◌^◌, ◌++◌, ◌↔◌, [], ℕ, IsSome, IfSome, IsTrue, drop, length, slice_index};
 ghost use Rattle.std.specs.Bool.{OnTrue};
 ghost use Rattle.std.specs.Cmp.Lexicographic.{slice_cmp, pointwise};
 ghost use Rattle.std.specs.Ordering.{nat_cmp};
@@ -17,7 +18,7 @@ use std::marker::Model;
 /// The most bytes that a key has.
 pub const LONGEST_KEY: usize = 248;
 
-// The bytes that are compared as one number.
+// The bytes that are compared as numbers.
 const FRONT: usize = 16;
 
 /// An encoded key. Keys compare byte by byte.
@@ -111,12 +112,35 @@ impl GroupKey {
         self.push(&(field.len() as u32).to_le_bytes()) && self.push(field)
     }
 
-    // The first 16 bytes as a number, highest first, with zeros for those past the key's end.
-    fn front(&self) -> u128
-        ensures number { result ≡ front 16 self.now }
+    // The first eight bytes as a number, highest first, with zeros for those past the key's end.
+    fn first_word(&self) -> u64
+        ensures number { result ≡ front 8 self.now }
         ensures bytes { (i : ℕ) → slice_index self.now i < 2 ^ 8 }
     {
-        u128::from(word_at(&self.bytes, 0)) * (1 << 64) + u128::from(word_at(&self.bytes, 8))
+        word_at(&self.bytes, 0)
+    }
+
+    // Compares two keys whose first words are the same.
+    fn cmp_rest(&self, other: &GroupKey) -> Ordering
+        requires { front 8 self.now ≡ front 8 other.now }
+        ensures { result ≡ slice_cmp nat_cmp self.now other.now }
+    {
+        let (a, b) = (self.second_word(), other.second_word());
+        if a < b {
+            Ordering::Less
+        } else if b < a {
+            Ordering::Greater
+        } else {
+            self.bytes().cmp(other.bytes())
+        }
+    }
+
+    // And the next eight.
+    fn second_word(&self) -> u64
+        ensures number { front 16 self.now ≡ front 8 self.now * 2 ^ 64 + result }
+        ensures bytes { (i : ℕ) → slice_index self.now i < 2 ^ 8 }
+    {
+        word_at(&self.bytes, 8)
     }
 }
 
@@ -185,13 +209,13 @@ impl Ord for GroupKey {
     ghost matches_eq = { texts_ties };
 
     fn cmp(&self, other: &GroupKey) -> Ordering {
-        let (a, b) = (self.front(), other.front());
+        let (a, b) = (self.first_word(), other.first_word());
         if a < b {
             Ordering::Less
         } else if b < a {
             Ordering::Greater
         } else {
-            self.bytes().cmp(other.bytes())
+            self.cmp_rest(other)
         }
     }
 }

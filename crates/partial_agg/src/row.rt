@@ -12,8 +12,8 @@ ghost use Rattle.par_model.specs.Aggregate.{state_of_rows};
 ghost use Rattle.par_model.specs.Keep.{is_kept, stands as stands_in};
 ghost use Rattle.par_model.specs.Key.{encoded, key_of as key_of_row};
 ghost use Rattle.par_model.specs.Record.{field_of};
-ghost use Rattle.par_model.specs.Refuse.{is_no_integer, is_unreadable, reads_integers, refusal as refusal_of};
-ghost use Rattle.partial_agg.specs.Reading.{IsReadOf, SameIntegers, counted, passes, read, value_of, verdict};
+ghost use Rattle.par_model.specs.Refuse.{is_no_integer, is_unreadable, refusal as refusal_of};
+ghost use Rattle.partial_agg.specs.Reading.{IsReadOf, counted, passes, read, value_of, verdict};
 ghost use Rattle.par_model.specs.Columns.{HasColumns, reads_column};
 ghost use Rattle.partial_agg.specs.Rows.{IsAccepted, IsCounted, header_width};
 ghost use Rattle.partial_agg.specs.State.{combined};
@@ -136,11 +136,8 @@ fn read_values(
 {
     let mut last = None;
     for (i, item) in items.iter().enumerate() {
-        match read_after(&last, rows, row, item) {
-            Ok(value) => {
-                values[i] = value;
-                last = Some((*item, value));
-            }
+        match read_value(&mut last, rows, row, item) {
+            Ok(value) => values[i] = value,
             Err(NoInteger) => return Err(i as u32),
         }
     }
@@ -151,48 +148,17 @@ fn read_values(
 #[derive(Drop)]
 struct NoInteger;
 
-// The value that an aggregate takes of a row, after the aggregate before it and its value: where both read integers of one
-// column, its field is parsed once.
-fn read_after(
-    last: &Option<(Item, Option<i64>)>,
+// The value that an aggregate takes of a row.
+fn read_value(
+    last: &mut Option<(u32, Option<i64>)>,
     rows: &RowStore,
     row: u64,
     item: &Item,
 ) -> Result<Option<i64>, NoInteger>
     requires row { row < length rows.now }
     requires column { IsTrue (reads_column item.now.kind) → item.now.column < length (record_at rows.now row) }
-    requires last { IfSome last.now (λ last. IsReadOf (record_at rows.now row) last.0 last.1) }
-    ensures value { IfOk result (λ value. value ≡ value_of (record_at rows.now row) item.now) }
-    ensures readable { IsTrue (is_unreadable (record_at rows.now row) item.now) ↔ IsErr result }
-{
-    if let Some((before, value)) = last {
-        if reads_same(before, item) {
-            return Ok(*value);
-        }
-    }
-    read_value(rows, row, item)
-}
-
-// Whether two aggregates read the integers of one column.
-fn reads_same(a: &Item, b: &Item) -> bool
-    ensures { IsTrue result ↔ SameIntegers a.now b.now }
-{
-    a.column == b.column && takes_integers(a.kind) && takes_integers(b.kind)
-}
-
-fn takes_integers(kind: ItemKind) -> bool
-    ensures { result ≡ reads_integers kind }
-{
-    match kind {
-        ItemKind::Rows | ItemKind::Count => false,
-        ItemKind::Sum | ItemKind::Min | ItemKind::Max | ItemKind::Avg => true,
-    }
-}
-
-// The value that an aggregate takes of a row.
-fn read_value(rows: &RowStore, row: u64, item: &Item) -> Result<Option<i64>, NoInteger>
-    requires row { row < length rows.now }
-    requires column { IsTrue (reads_column item.now.kind) → item.now.column < length (record_at rows.now row) }
+    requires last { IfSome last.old (λ last. IsReadOf (record_at rows.now row) last.0 last.1) }
+    ensures last { IfSome last.new (λ last. IsReadOf (record_at rows.now row) last.0 last.1) }
     ensures value { IfOk result (λ value. value ≡ value_of (record_at rows.now row) item.now) }
     ensures readable { IsTrue (is_unreadable (record_at rows.now row) item.now) ↔ IsErr result }
 {
@@ -200,8 +166,37 @@ fn read_value(rows: &RowStore, row: u64, item: &Item) -> Result<Option<i64>, NoI
         ItemKind::Rows => Ok(None),
         ItemKind::Count => Ok(count_field(rows.field(row, item.column))),
         ItemKind::Sum | ItemKind::Min | ItemKind::Max | ItemKind::Avg => {
-            read_field(rows.field(row, item.column))
+            read_column(last, rows, row, item.column)
         }
+    }
+}
+
+// The integer of a row in a column, or nothing where it is null. The column that was read last of the row, with its value,
+// is not parsed again.
+fn read_column(
+    last: &mut Option<(u32, Option<i64>)>,
+    rows: &RowStore,
+    row: u64,
+    column: u32,
+) -> Result<Option<i64>, NoInteger>
+    requires row { row < length rows.now }
+    requires column { column < length (record_at rows.now row) }
+    requires last { IfSome last.old (λ last. IsReadOf (record_at rows.now row) last.0 last.1) }
+    ensures last { IfSome last.new (λ last. IsReadOf (record_at rows.now row) last.0 last.1) }
+    ensures value { IfOk result (λ value. value ≡ read (field_of (record_at rows.now row) column)) }
+    ensures readable { IsTrue (is_no_integer (field_of (record_at rows.now row) column)) ↔ IsErr result }
+{
+    if let Some((before, value)) = last {
+        if *before == column {
+            return Ok(*value);
+        }
+    }
+    match read_field(rows.field(row, column)) {
+        Ok(value) => {
+            *last = Some((column, value));
+            Ok(value)
+        }
+        Err(NoInteger) => Err(NoInteger),
     }
 }
 
