@@ -13,6 +13,6 @@ mod store;
 mod tests;
 
 pub use input::{MOST_BYTES, ReadAnswer, read_all};
-pub use records::{MOST_RECORDS, RowsAnswer, rows};
 pub use par_model::read_integer;
+pub use records::{MOST_RECORDS, RowsAnswer, rows};
 pub use store::RowStore;

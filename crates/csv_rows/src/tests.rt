@@ -3,7 +3,7 @@
 ghost use Rattle.std.specs.Prelude.{◌≡◌, IfSome};
 ghost use Rattle.csv_rows.specs.Records.{records_of};
 
-use crate::{RowStore, read_all, rows};
+use crate::{RowStore, read_all, read_integer, rows};
 use par_io::{MemSource, Source};
 use std::alloc::{AllocError, Global};
 use std::test::Fail;
@@ -29,26 +29,84 @@ fn shown(alloc: Global, store: &RowStore) -> Result<Vec<u8>, AllocError> {
     Ok(text)
 }
 
-// Ragged rows, quotes, line ends, a byte order mark, fields that are empty, and a quote left open.
+// Ragged rows, quotes in odd places and quotes left open, bytes that are no text, line ends, byte order marks, and lines
+// and fields that are empty.
 #[test]
 fn odd_text(rt: HostRuntime) -> Result<(), Fail> {
-    let table: [(&[u8], &str); 7] = [
-        (b"a,b\n1\n1,2,3", "a|b|/1|/1|2|3|/"),
-        (b"\"x,\"\"y\"\"\",z\r\n\r\n1,2\r\n", "x,\"y\"|z|/1|2|/"),
-        (b"\xEF\xBB\xBFg\n5\n", "g|/5|/"),
-        (b"v\n\"\"\n", "v|/|/"),
-        (b",\n", "||/"),
-        (b"a\"b\n\"c\"d\n", "a\"b|/cd|/"),
-        (b"v\n\"x\ny,z", "v|/x\ny,z|/"),
+    let table: [(&[u8], &[u8]); 24] = [
+        (b"a,b\n1\n1,2,3", b"a|b|/1|/1|2|3|/"),
+        (b"a,b\n1,2,\n,", b"a|b|/1|2||/||/"),
+        (b"\"x,\"\"y\"\"\",z\r\n\r\n1,2\r\n", b"x,\"y\"|z|/1|2|/"),
+        (b"a\"b\n\"c\"d\n", b"a\"b|/cd|/"),
+        (b"\"c\"x\"y\",d\n", b"cx\"y\"|d|/"),
+        (b" \"a\",\"\"\"\"\n", b" \"a\"|\"|/"),
+        (b"\"a\" ,b\n", b"a |b|/"),
+        (b"v\n\"x\ny,z", b"v|/x\ny,z|/"),
+        (b"v\n\"", b"v|/|/"),
+        (b"v\n\"a\"\"", b"v|/a\"|/"),
+        (b"v\n\"x\r\ny\",\"\r\"\n", b"v|/x\r\ny|\r|/"),
+        (b"\xFF\xFE,\xC3\n\0\n", b"\xFF\xFE|\xC3|/\0|/"),
+        (b"v\r\n1\r\n", b"v|/1|/"),
+        (b"v\r1\r2", b"v|/1|/2|/"),
+        (b"v\n\n\n1\r\n\r\n", b"v|/1|/"),
+        (b"v\n \n\t\n", b"v|/ |/\t|/"),
+        (b"v\n\"\"\n", b"v|/|/"),
+        (b",\n", b"||/"),
+        (b"\xEF\xBB\xBFg\n5\n", b"g|/5|/"),
+        (b"\xEF\xBB\xBF\"g,h\"\n5\n", b"g,h|/5|/"),
+        (b"\xEF\xBB\xBF\xEF\xBB\xBFg\n", b"\xEF\xBB\xBFg|/"),
+        (b"g\n\xEF\xBB\xBF5\n", b"g|/\xEF\xBB\xBF5|/"),
+        (b"\xEF\xBBg\n", b"\xEF\xBBg|/"),
+        (b"\xEF\xBB\xBF\n\ng\n", b"g|/"),
     ];
     for (text, want) in table {
         match rows(rt.alloc(), text) {
-            Ok(store) => assert_eq!(rt; shown(rt.alloc(), &store)?.as_slice(), want.as_bytes()),
-            Err(why) => assert!(rt; false, "{want}: {why:?}"),
+            Ok(store) => {
+                let found = shown(rt.alloc(), &store)?;
+                assert!(rt;
+                    found.as_slice() == want,
+                    "{:?} of {:?}",
+                    found.as_slice(),
+                    text
+                );
+            }
+            Err(why) => assert!(rt; false, "{why:?} of {text:?}"),
         }
     }
-    assert!(rt; rows(rt.alloc(), b"\n\r\n").is_err());
+    for text in [b"".as_slice(), b"\n\r\n", b"\xEF\xBB\xBF", b"\r\r"] {
+        assert!(rt; rows(rt.alloc(), text).is_err(), "{text:?}");
+    }
     Ok(())
+}
+
+// Fields at the limits of 64 bits and past them, with spaces and signs, and with what is neither.
+#[test]
+fn integers_of_fields(rt: HostRuntime) {
+    let table: [(&[u8], Option<i64>); 20] = [
+        (b" +9223372036854775807 ", Some(i64::MAX)),
+        (b"+9223372036854775808", None),
+        (b"18446744073709551616", None),
+        (b"  -9223372036854775808", Some(i64::MIN)),
+        (b"-9223372036854775809", None),
+        (b"-00000000000000000000000000000000009", Some(-9)),
+        (b"-0", Some(0)),
+        (b"+0 ", Some(0)),
+        (b"   ", None),
+        (b"+", None),
+        (b"-", None),
+        (b"--1", None),
+        (b"+-1", None),
+        (b"- 1", None),
+        (b"1-", None),
+        (b"1\r", None),
+        (b"1\0", None),
+        (b"0x1", None),
+        (b"1,000", None),
+        (b"\xEF\xBC\x91", None),
+    ];
+    for (field, want) in table {
+        assert_eq!(rt; read_integer(field), want, "{field:?}");
+    }
 }
 
 // A source that gives small pieces, and one that fails.

@@ -1,5 +1,6 @@
 pub mod Slots
 pub mod Keys
+pub mod Front
 pub mod Refusals
 pub mod Places
 pub mod Maps

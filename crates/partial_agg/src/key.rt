@@ -1,18 +1,25 @@
 //! A group's key: its encoded columns, at most 248 bytes, in an array, so that a key takes no allocation.
 //!
-//! The bytes past the length are those of keys that stood there before, and no call reads them.
+//! Two keys are compared by their first eight bytes as a number, highest byte first, then by the next eight, and byte by byte
+//! only where these are the same too, as PostgreSQL's sort compares abbreviated keys. So where a key ends before its
+//! sixteenth byte, zeros stand up to there; the places past that have bytes of keys that stood there before, and no call
+//! reads them.
 
-ghost use Rattle.std.specs.Prelude.{◌≡◌, ◌≤◌, ◌+◌, ◌++◌, ◌↔◌, [], IsSome, IfSome, IsTrue, length};
+ghost use Rattle.std.specs.Prelude.{◌≡◌, ◌<◌, ◌≤◌, ◌+◌, ◌*◌, ◌^◌, ◌++◌, ◌↔◌, [], ℕ, IsSome, IfSome, IsTrue, drop, length, slice_index};
 ghost use Rattle.std.specs.Bool.{OnTrue};
 ghost use Rattle.std.specs.Cmp.Lexicographic.{slice_cmp, pointwise};
 ghost use Rattle.std.specs.Ordering.{nat_cmp};
 ghost use Rattle.par_model.specs.Key.{encoded_field};
+ghost use Rattle.partial_agg.specs.Front.{front};
 
 use std::cmp::Ordering;
 use std::marker::Model;
 
 /// The most bytes that a key has.
 pub const LONGEST_KEY: usize = 248;
+
+// The bytes that are compared as numbers.
+const FRONT: usize = 16;
 
 /// An encoded key. Keys compare byte by byte.
 #[derive(Debug, Drop)]
@@ -28,7 +35,9 @@ impl Model for GroupKey {
 
     ghost view = { λ k. take k.len k.bytes };
 
-    ghost invariant = { λ k. k.len ≤ 248 };
+    ghost use Rattle.partial_agg.specs.Front.{IsZeroFrom};
+
+    ghost invariant = { λ k. record { fits : k.len ≤ 248; zeros : IsZeroFrom k.len k.bytes } };
 }
 
 impl GroupKey {
@@ -73,6 +82,7 @@ impl GroupKey {
     pub(crate) fn clear(&mut self)
         ensures { self.new ≡ [] }
     {
+        self.bytes[..FRONT].copy_from_slice(&[0; FRONT]);
         self.len = 0;
     }
 
@@ -101,6 +111,55 @@ impl GroupKey {
         }
         self.push(&(field.len() as u32).to_le_bytes()) && self.push(field)
     }
+
+    // The first eight bytes as a number, highest first, with zeros for those past the key's end.
+    fn first_word(&self) -> u64
+        ensures number { result ≡ front 8 self.now }
+        ensures bytes { (i : ℕ) → slice_index self.now i < 2 ^ 8 }
+    {
+        word_at(&self.bytes, 0)
+    }
+
+    // Compares two keys whose first words are the same.
+    fn cmp_rest(&self, other: &GroupKey) -> Ordering
+        requires { front 8 self.now ≡ front 8 other.now }
+        ensures { result ≡ slice_cmp nat_cmp self.now other.now }
+    {
+        let (a, b) = (self.second_word(), other.second_word());
+        if a < b {
+            Ordering::Less
+        } else if b < a {
+            Ordering::Greater
+        } else {
+            self.bytes().cmp(other.bytes())
+        }
+    }
+
+    // And the next eight.
+    fn second_word(&self) -> u64
+        ensures number { front 16 self.now ≡ front 8 self.now * 2 ^ 64 + result }
+        ensures bytes { (i : ℕ) → slice_index self.now i < 2 ^ 8 }
+    {
+        word_at(&self.bytes, 8)
+    }
+}
+
+// The eight bytes from a place on as a number, highest first.
+fn word_at(bytes: &[u8; 248], at: usize) -> u64
+    requires { at + 8 ≤ length bytes.now }
+    ensures number { result ≡ front 8 (drop at bytes.now) }
+    ensures bytes { (i : ℕ) → slice_index bytes.now i < 2 ^ 8 }
+{
+    u64::from_be_bytes([
+        bytes[at],
+        bytes[at + 1],
+        bytes[at + 2],
+        bytes[at + 3],
+        bytes[at + 4],
+        bytes[at + 5],
+        bytes[at + 6],
+        bytes[at + 7],
+    ])
 }
 
 impl PartialEq for GroupKey {
@@ -150,6 +209,13 @@ impl Ord for GroupKey {
     ghost matches_eq = { texts_ties };
 
     fn cmp(&self, other: &GroupKey) -> Ordering {
-        self.bytes().cmp(other.bytes())
+        let (a, b) = (self.first_word(), other.first_word());
+        if a < b {
+            Ordering::Less
+        } else if b < a {
+            Ordering::Greater
+        } else {
+            self.cmp_rest(other)
+        }
     }
 }

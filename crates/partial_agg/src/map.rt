@@ -182,6 +182,17 @@ impl GroupMap {
             add_values(state, values);
             return Ok(());
         }
-        self.add(key.copied(), &one_row(values))
+        self.add_first(key, values)
+    }
+
+    // Puts the first row of a key into the map. It is kept apart, since room for a state on the stack costs time at each row.
+    #[inline(never)]
+    fn add_first(&mut self, key: &GroupKey, values: &[Option<i64>]) -> Result<(), AllocError>
+        requires { length values.now ≤ 8 }
+        ensures ok { OnOk result (self.new ≡ map.insert self.old key.now (values_state values.now)) }
+        ensures err { OnErr result (self.new ≡ self.old) }
+    {
+        self.by_key.insert(key.copied(), one_row(values))?;
+        Ok(())
     }
 }

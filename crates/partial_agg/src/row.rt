@@ -3,7 +3,7 @@
 //! A row is read once: `RowBuffer::read` finds the refusal and the filter's verdict, encodes the key into the buffer's
 //! array and parses each integer a single time. The public calls are views of it.
 
-ghost use Rattle.std.specs.Prelude.{◌≡◌, ◌<◌, ◌≤◌, ◌+◌, ◌^◌, ◌↔◌, ◌∷◌, ◌++◌, [], List, IsErr, ℕ, true, false, All, IsTrue, IfOk, IfErr, OnOk, Some, None, if◌then◌else◌, length, map, take};
+ghost use Rattle.std.specs.Prelude.{◌≡◌, ◌<◌, ◌≤◌, ◌+◌, ◌^◌, ◌↔◌, ◌∷◌, ◌++◌, [], List, IsErr, ℕ, true, false, All, IsTrue, IfOk, IfErr, IfSome, OnOk, Some, None, if◌then◌else◌, length, map, take};
 ghost use Rattle.std.specs.Bool.{OnTrue};
 ghost use Rattle.std.specs.Option.{ForSome};
 ghost use Rattle.std.specs.List.{position_from};
@@ -13,7 +13,7 @@ ghost use Rattle.par_model.specs.Keep.{is_kept, stands as stands_in};
 ghost use Rattle.par_model.specs.Key.{encoded, key_of as key_of_row};
 ghost use Rattle.par_model.specs.Record.{field_of};
 ghost use Rattle.par_model.specs.Refuse.{is_no_integer, is_unreadable, refusal as refusal_of};
-ghost use Rattle.partial_agg.specs.Reading.{counted, passes, read, value_of, verdict};
+ghost use Rattle.partial_agg.specs.Reading.{IsReadOf, counted, passes, read, value_of, verdict};
 ghost use Rattle.par_model.specs.Columns.{HasColumns, reads_column};
 ghost use Rattle.partial_agg.specs.Rows.{IsAccepted, IsCounted, header_width};
 ghost use Rattle.partial_agg.specs.State.{combined};
@@ -134,8 +134,9 @@ fn read_values(
     ensures readable { OnOk result (position_from (is_unreadable (record_at rows.now row)) 0 items.now ≡ None) }
     ensures unreadable { IfErr result (λ place. position_from (is_unreadable (record_at rows.now row)) 0 items.now ≡ Some place) }
 {
+    let mut last = None;
     for (i, item) in items.iter().enumerate() {
-        match read_value(rows, row, item) {
+        match read_value(&mut last, rows, row, item) {
             Ok(value) => values[i] = value,
             Err(NoInteger) => return Err(i as u32),
         }
@@ -148,9 +149,16 @@ fn read_values(
 struct NoInteger;
 
 // The value that an aggregate takes of a row.
-fn read_value(rows: &RowStore, row: u64, item: &Item) -> Result<Option<i64>, NoInteger>
+fn read_value(
+    last: &mut Option<(u32, Option<i64>)>,
+    rows: &RowStore,
+    row: u64,
+    item: &Item,
+) -> Result<Option<i64>, NoInteger>
     requires row { row < length rows.now }
     requires column { IsTrue (reads_column item.now.kind) → item.now.column < length (record_at rows.now row) }
+    requires last { IfSome last.old (λ last. IsReadOf (record_at rows.now row) last.0 last.1) }
+    ensures last { IfSome last.new (λ last. IsReadOf (record_at rows.now row) last.0 last.1) }
     ensures value { IfOk result (λ value. value ≡ value_of (record_at rows.now row) item.now) }
     ensures readable { IsTrue (is_unreadable (record_at rows.now row) item.now) ↔ IsErr result }
 {
@@ -158,8 +166,37 @@ fn read_value(rows: &RowStore, row: u64, item: &Item) -> Result<Option<i64>, NoI
         ItemKind::Rows => Ok(None),
         ItemKind::Count => Ok(count_field(rows.field(row, item.column))),
         ItemKind::Sum | ItemKind::Min | ItemKind::Max | ItemKind::Avg => {
-            read_field(rows.field(row, item.column))
+            read_column(last, rows, row, item.column)
         }
+    }
+}
+
+// The integer of a row in a column, or nothing where it is null. The column that was read last of the row, with its value,
+// is not parsed again.
+fn read_column(
+    last: &mut Option<(u32, Option<i64>)>,
+    rows: &RowStore,
+    row: u64,
+    column: u32,
+) -> Result<Option<i64>, NoInteger>
+    requires row { row < length rows.now }
+    requires column { column < length (record_at rows.now row) }
+    requires last { IfSome last.old (λ last. IsReadOf (record_at rows.now row) last.0 last.1) }
+    ensures last { IfSome last.new (λ last. IsReadOf (record_at rows.now row) last.0 last.1) }
+    ensures value { IfOk result (λ value. value ≡ read (field_of (record_at rows.now row) column)) }
+    ensures readable { IsTrue (is_no_integer (field_of (record_at rows.now row) column)) ↔ IsErr result }
+{
+    if let Some((before, value)) = last {
+        if *before == column {
+            return Ok(*value);
+        }
+    }
+    match read_field(rows.field(row, column)) {
+        Ok(value) => {
+            *last = Some((column, value));
+            Ok(value)
+        }
+        Err(NoInteger) => Err(NoInteger),
     }
 }
 

@@ -1,24 +1,49 @@
 //! What no clause says: that the calls succeed, on rows and keys that are written out by hand.
 
-ghost use Rattle.std.specs.Prelude.{IfOk};
+ghost use Rattle.std.specs.Prelude.{◌<◌, ◌≤◌, ◌+◌, ℕ, All, IfOk, IfErr, OnOk, length, take, drop};
+ghost use Rattle.csv_rows.specs.declared.records.TheConstants.{MOST_RECORDS};
 ghost use Rattle.par_model.specs.Columns.{HasColumns};
-ghost use Rattle.partial_agg.specs.Rows.{header_width};
+ghost use Rattle.partial_agg.specs.Blocks.{Explains};
+ghost use Rattle.partial_agg.specs.Groups.{AreGroups};
+ghost use Rattle.partial_agg.specs.Rows.{IsAccepted, header_width};
 
-use crate::{GroupKey, GroupMap, combine, empty, refusal};
+use crate::{
+    BLOCK_ROWS, BlockAnswer, GroupKey, GroupMap, add_row, combine, empty, kept, key_of, refusal,
+};
 use csv_rows::{RowStore, rows};
-use par_model::{AggState, BoundPlan, Filter, FilterOp, Item, ItemKind, Refusal};
+use par_model::{AggState, BoundPlan, Filter, FilterOp, Item, ItemKind, Refusal, SlotState};
+use std::alloc::{AllocError, Global};
 use std::test::Fail;
 
-// By the first two columns: the count and the sum of the third, of the rows in which it is not 9.
+// The map of all rows, unless one is refused: the caller of CALLING.md. An answer that names a row names the first.
+fn all_groups(alloc: Global, rows: &RowStore, plan: &BoundPlan) -> Result<GroupMap, BlockAnswer>
+    requires few { length rows.now ≤ MOST_RECORDS }
+    requires columns { HasColumns plan.now (header_width rows.now) }
+    ensures groups { IfOk result (λ groups. AreGroups plan.now (drop 1 rows.now) groups) }
+    ensures accepted { OnOk result (All (IsAccepted plan.now (header_width rows.now)) (drop 1 rows.now)) }
+    ensures first { IfErr result (λ why. (before : ℕ) × All (IsAccepted plan.now (header_width rows.now)) (take before (drop 1 rows.now)) × Explains plan.now rows.now (before + 1) why) }
+{
+    let mut groups = GroupMap::new(alloc);
+    for block in 0..rows.count().div_ceil(BLOCK_ROWS) {
+        match groups.add_block(rows, plan, block) {
+            Ok(()) => {}
+            Err(why) => return Err(why),
+        }
+    }
+    Ok(groups)
+}
+
+// By the first two columns: the count and the sum of the third, of the rows in which the fourth is not 9.
 fn query(rt: &HostRuntime, text: &[u8]) -> Result<(RowStore, BoundPlan), Fail>
-    ensures { IfOk result (λ query. HasColumns query.1 (header_width query.0)) }
+    ensures few { IfOk result (λ query. length query.0 ≤ MOST_RECORDS) }
+    ensures columns { IfOk result (λ query. HasColumns query.1 (header_width query.0)) }
 {
     let store = match rows(rt.alloc(), text) {
         Ok(store) => store,
         Err(_) => return Err(Fail::new("no rows")),
     };
-    if store.width(0) != 3 {
-        return Err(Fail::new("not three columns"));
+    if store.width(0) != 4 {
+        return Err(Fail::new("not four columns"));
     }
     let count = Item {
         kind: ItemKind::Count,
@@ -39,7 +64,7 @@ fn query(rt: &HostRuntime, text: &[u8]) -> Result<(RowStore, BoundPlan), Fail>
         item_count: 2,
         hash: false,
         filter: Some(Filter {
-            column: 2,
+            column: 3,
             op: FilterOp::NotEqual,
             value: 9,
         }),
@@ -47,13 +72,46 @@ fn query(rt: &HostRuntime, text: &[u8]) -> Result<(RowStore, BoundPlan), Fail>
     Ok((store, plan))
 }
 
-// Two keys whose columns are the same bytes one after the other; a null and a 9, which are left out.
+// A table of one row, which begins with so many letters.
+fn long_text(alloc: Global, letters: usize, rest: &[u8]) -> Result<Vec<u8>, AllocError> {
+    let mut text = Vec::from_slice(alloc, b"a,b,v,w\n")?;
+    for _ in 0..letters {
+        text.push(b'k')?;
+    }
+    text.extend_from_slice(rest)?;
+    Ok(text)
+}
+
+// Adds a row by the calls for one row.
+fn add_by_hand(
+    groups: &mut GroupMap,
+    rows: &RowStore,
+    row: u64,
+    plan: &BoundPlan,
+) -> Result<(), AllocError>
+    requires row { row < length rows.now }
+    requires columns { HasColumns plan.now (header_width rows.now) }
+{
+    if refusal(rows, row, plan).is_none() {
+        if kept(rows, row, plan) {
+            let mut state = empty();
+            add_row(&mut state, rows, row, plan);
+            groups.add(key_of(rows, row, plan), &state)?;
+        }
+    }
+    Ok(())
+}
+
+// Two keys whose columns are the same bytes one after the other; a value that is null; rows that are left out, for a 9 and
+// for a null, one of them with fields that would be refused.
+const ROWS: &[u8] = b"a,b,v,w\nxy,z,2,0\nx,yz,1,1\nx,yz,one,9\nxy,z,,2\nxy,z,-5,3\nxy,z,7,\n";
+
 #[test]
 fn groups_of_a_block(rt: HostRuntime) -> Result<(), Fail> {
-    let (store, plan) = query(&rt, b"a,b,v\nxy,z,2\nx,yz,1\nx,yz,9\nxy,z,\nxy,z,-5\n")?;
-    assert_eq!(rt; store.count(), 5);
-    let mut groups = GroupMap::new(rt.alloc());
-    assert!(rt; groups.add_block(&store, &plan, 0).is_ok());
+    let (store, plan) = query(&rt, ROWS)?;
+    let Ok(groups) = all_groups(rt.alloc(), &store, &plan) else {
+        return Err(Fail::new("a row is refused"));
+    };
     assert_eq!(rt; groups.len(), 2);
     let list = groups.into_groups()?;
     assert_eq!(rt; list.len(), 2);
@@ -62,7 +120,7 @@ fn groups_of_a_block(rt: HostRuntime) -> Result<(), Fail> {
     assert_eq!(rt; first.state.rows, 1);
     let second = list.get(1);
     assert!(rt; second.key.bytes() == b"\x02\0\0\0xy\x01\0\0\0z".as_slice());
-    assert_eq!(rt; second.state.rows, 2);
+    assert_eq!(rt; second.state.rows, 3);
     assert_eq!(rt; second.state.slots[0].count, 2);
     assert_eq!(rt; second.state.slots[1].sum, -3);
     assert_eq!(rt; second.state.slots[1].least, -5);
@@ -70,48 +128,151 @@ fn groups_of_a_block(rt: HostRuntime) -> Result<(), Fail> {
     Ok(())
 }
 
-// The row after a header, and why it is refused.
+// The calls for one row come to the groups of the calls for a block.
+#[test]
+fn rows_by_hand(rt: HostRuntime) -> Result<(), Fail> {
+    let (store, plan) = query(&rt, ROWS)?;
+    let mut by_hand = GroupMap::new(rt.alloc());
+    for row in 1..=store.count() {
+        add_by_hand(&mut by_hand, &store, row, &plan)?;
+    }
+    let Ok(mut by_block) = all_groups(rt.alloc(), &store, &plan) else {
+        return Err(Fail::new("a row is refused"));
+    };
+    assert_eq!(rt; by_hand.len(), 2);
+    for _ in 0..2 {
+        let (key, state) = by_hand.take_first().ok_or("no group by hand")?;
+        let (same_key, same_state) = by_block.take_first().ok_or("no group of the block")?;
+        assert!(rt; key == same_key);
+        assert!(rt; state == same_state);
+    }
+    assert!(rt; by_block.take_first().is_none());
+    Ok(())
+}
+
+// The row after a header, and why it is refused: the first cause that holds, and none where the filter leaves it out.
 #[test]
 fn refusals(rt: HostRuntime) -> Result<(), Fail> {
-    let table: [(&[u8], Option<(u8, u32)>); 6] = [
-        (b"a,b,v\nx,y,9223372036854775807\n", None),
-        (b"a,b,v\nx,y,9223372036854775808\n", Some((4, 0))),
-        (b"a,b,v\nx,y,-9223372036854775808\n", None),
-        (b"a,b,v\nx,y, +1 \n", None),
-        (b"a,b,v\nx,y\n", Some((1, 0))),
-        (b"a,b,v\nx,y,one\n", Some((4, 0))),
+    let table: [(usize, &[u8], Option<(u8, u32)>); 19] = [
+        (1, b",y,9223372036854775807,0\n", None),
+        (1, b",y,-9223372036854775808,+0\n", None),
+        (1, b",y, +1 ,-1\n", None),
+        (1, b",y,1\n", Some((1, 0))),
+        (1, b",y,one,0,5\n", Some((1, 0))),
+        (240, b",y,one,none,5\n", Some((1, 0))),
+        (1, b",y,1,9223372036854775808\n", Some((4, 0))),
+        (240, b",y,one,none\n", Some((4, 0))),
+        (238, b",y,1,0\n", None),
+        (239, b",y,1,0\n", None),
+        (240, b",y,1,0\n", Some((2, 0))),
+        (240, b",y,one,0\n", Some((2, 0))),
+        (300, b",,1,0\n", Some((2, 0))),
+        (300, b",y,one,9\n", None),
+        (300, b",y,one,\n", None),
+        (1, b",y,9223372036854775808,0\n", Some((3, 1))),
+        (1, b",y,1\xFF,0\n", Some((3, 1))),
+        (1, b",y,,0\n", None),
+        (0, b",,,\n", None),
     ];
-    for (text, want) in table {
-        let (store, plan) = query(&rt, text)?;
+    for (letters, rest, want) in table {
+        let text = long_text(rt.alloc(), letters, rest)?;
+        let (store, plan) = query(&rt, text.as_slice())?;
         assert_eq!(rt; store.count(), 1);
         let found = refusal(&store, 1, &plan);
         let want = want.map(|(cause, item)| Refusal { cause, item });
-        assert!(rt; found == want, "{:?}", found);
+        assert!(rt; found == want, "{:?} of {letters} and {:?}", found, rest);
     }
     Ok(())
 }
 
-// A map that is filled by hand and emptied from its least key on.
+// Two blocks and a bit, and then a refused row behind them.
+#[test]
+fn blocks_of_rows(rt: HostRuntime) -> Result<(), Fail> {
+    let mut text = long_text(rt.alloc(), 0, b"")?;
+    for _ in 0..600 {
+        text.extend_from_slice(b"x,y,3,0\n")?;
+    }
+    let (store, plan) = query(&rt, text.as_slice())?;
+    let Ok(mut groups) = all_groups(rt.alloc(), &store, &plan) else {
+        return Err(Fail::new("a row is refused"));
+    };
+    let (_, state) = groups.take_first().ok_or("no group")?;
+    assert_eq!(rt; state.rows, 600);
+    assert_eq!(rt; state.slots[1].sum, 1800);
+    text.extend_from_slice(b"x,y,three,0\nx,y,3\n")?;
+    let (store, plan) = query(&rt, text.as_slice())?;
+    match all_groups(rt.alloc(), &store, &plan) {
+        Err(BlockAnswer::Row { row, cause, item }) => {
+            assert_eq!(rt; (row, cause, item), (601, 3, 1));
+        }
+        Err(BlockAnswer::Memory) | Ok(_) => return Err(Fail::new("no row is refused")),
+    }
+    Ok(())
+}
+
+// A state of one row, whose second aggregate has this value.
+fn one_value(n: i64) -> AggState {
+    let mut state = empty();
+    state.rows = 1;
+    state.slots[1] = SlotState {
+        count: 1,
+        sum: i128::from(n),
+        least: n,
+        greatest: n,
+    };
+    state
+}
+
+// A map that is filled by hand and emptied from its least key on: keys that differ only past their sixteenth byte, or by
+// zeros at their end.
 #[test]
 fn least_key_first(rt: HostRuntime) -> Result<(), Fail> {
+    let table: [(&[u8], u64, i128); 5] = [
+        (b"", 1, 5),
+        (b"a", 1, 4),
+        (b"a\0\0", 1, 3),
+        (b"sixteen letters.A", 2, 7),
+        (b"sixteen letters.B", 1, 1),
+    ];
+    let added: [(&[u8], i64); 6] = [
+        (b"sixteen letters.B", 1),
+        (b"sixteen letters.A", -2),
+        (b"a\0\0", 3),
+        (b"a", 4),
+        (b"", 5),
+        (b"sixteen letters.A", 9),
+    ];
     let mut groups = GroupMap::new(rt.alloc());
-    for bytes in [b"b".as_slice(), b"a", b"b"] {
+    for (bytes, n) in added {
         let key = GroupKey::of(bytes).ok_or("a short key")?;
-        let mut state = empty();
-        let row = AggState {
-            rows: 1,
-            slots: state.slots,
-        };
-        combine(&mut state, &row);
-        groups.add(key, &state)?;
+        groups.add(key, &one_value(n))?;
     }
-    let (first, _) = groups.take_first().ok_or("no first")?;
-    assert!(rt; first.bytes() == b"a".as_slice());
-    let (second, state) = groups.take_first().ok_or("no second")?;
-    assert!(rt; second.bytes() == b"b".as_slice());
-    assert_eq!(rt; state.rows, 2);
+    for (bytes, rows, sum) in table {
+        let (key, state) = groups.take_first().ok_or("no group")?;
+        assert!(rt; key.bytes() == bytes);
+        assert_eq!(rt; state.rows, rows);
+        assert_eq!(rt; state.slots[1].sum, sum);
+    }
     assert!(rt; groups.take_first().is_none());
+    Ok(())
+}
+
+#[test]
+fn states_combine(rt: HostRuntime) {
+    let mut state = one_value(-2);
+    combine(&mut state, &empty());
+    combine(&mut state, &one_value(9));
+    assert_eq!(rt; state.rows, 2);
+    assert_eq!(rt; state.slots[0].count, 0);
+    assert_eq!(rt; state.slots[1].count, 2);
+    assert_eq!(rt; state.slots[1].sum, 7);
+    assert_eq!(rt; state.slots[1].least, -2);
+    assert_eq!(rt; state.slots[1].greatest, 9);
+}
+
+#[test]
+fn longest_keys(rt: HostRuntime) {
+    assert!(rt; GroupKey::of(&[b'k'; 247]).is_some());
     assert!(rt; GroupKey::of(&[b'k'; 248]).is_some());
     assert!(rt; GroupKey::of(&[b'k'; 249]).is_none());
-    Ok(())
 }
