@@ -1,5 +1,7 @@
 //! Worked rows: words, bytes and failing calls, and what both calls answer.
 
+mod worked;
+
 use super::*;
 use par_io::{MemSink, MemSource};
 use std::alloc::AllocError;
