@@ -1,12 +1,12 @@
-pub mod Answering
-pub mod Averages
-pub mod Columns
-pub mod Entries
-pub mod Keys
-pub mod Occurring
-pub mod Small
-pub mod Sorting
-pub mod Tables
+mod Answering
+mod Averages
+mod Columns
+mod Entries
+mod Keys
+mod Occurring
+mod Small
+mod Sorting
+mod Tables
 pub mod Uses
-pub mod Whole
-pub mod Zipped
+mod Whole
+mod Zipped

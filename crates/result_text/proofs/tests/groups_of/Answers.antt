@@ -1,4 +1,4 @@
-use Rattle.std.proofs.Common.{◌≡◌, ◌≤◌, arith, subst, length, length-drop, drop, List, ℕ, []}
+use Rattle.std.proofs.Common.{◌≤◌, arith, subst, length, length-drop, drop, List, ℕ, []}
 use Rattle.std.proofs.lemmas.List.{take_all}
 use Rattle.partial_agg.specs.Groups.{AreGroups}
 use Rattle.result_text.proofs.tests.groups_of.Goals as goal
