@@ -1,5 +1,5 @@
 use Rattle.std.proofs.Common.{◌∙◌, sym}
-use Rattle.csv_rows.proofs.Magnitudes.{one-more}
+use Rattle.par_model.proofs.Magnitudes.{one-more}
 use Rattle.plan_spec.proofs.Numbers.{none-at-more, none-at-other}
 use Rattle.plan_spec.proofs.grammar.number.Goals.{then-not-is_ascii_digit-via-then-not-is_ascii_digit, then-not-is_ascii_digit-via-else-not-is_ascii_digit+then-value-gt6553}
 use Rattle.plan_spec.proofs.grammar.number.Goals as goal
