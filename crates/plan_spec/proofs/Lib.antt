@@ -1,5 +1,13 @@
+pub mod Allowed
 pub mod Columns
 pub mod Fills
+pub mod Filters
 pub mod Lists
 pub mod Numbers
+pub mod Padded
 pub mod Places
+pub mod ReadBack
+pub mod ReadPlans
+pub mod Sections
+pub mod Values
+pub mod Writable

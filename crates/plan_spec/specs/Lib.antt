@@ -1,4 +1,5 @@
 pub mod Binding
+pub mod Descriptor
 pub mod Grammar
 pub mod Options
 pub mod Parts

@@ -1,12 +1,13 @@
-//! A plan, as the words of a command line name it, and its columns in a header.
+//! A plan, as the words of a command line name it, its columns in a header, and its words in shared memory.
 //!
 //! [`Plan::of_words`] reads the words as a command line of six options, each of which has a grammar
 //! of its own; [`Plan::bind`] looks its names up in the first record of a store. A plan keeps its
 //! names in the order in which they are counted: those to group by, those of the aggregates, that of
-//! the filter.
+//! the filter. [`write_plan`] and [`read_plan`] put the bound plan where all who compute it find it.
 #![tactic(auto)]
 
 mod bind;
+mod descriptor;
 mod grammar;
 mod options;
 mod plan;
@@ -15,4 +16,5 @@ mod read;
 mod tests;
 
 pub use bind::NoColumn;
+pub use descriptor::{BadDescriptor, read_plan, write_plan};
 pub use plan::{Plan, PlanAnswer};
