@@ -1,9 +1,8 @@
 //! A group's key: its encoded columns, at most 248 bytes, in an array, so that a key takes no allocation.
 //!
-//! Two keys are compared by their first eight bytes as a number, highest byte first, then by the next eight, and byte by byte
-//! only where these are the same too, as PostgreSQL's sort compares abbreviated keys. So where a key ends before its
-//! sixteenth byte, zeros stand up to there; the places past that have bytes of keys that stood there before, and no call
-//! reads them.
+//! Where a key ends before its sixteenth byte, zeros stand up to there, so that its first sixteen bytes are read as two
+//! numbers without a look at its length (`abbreviated`). The places past that have bytes of keys that stood there before, and
+//! no call reads them.
 
 ghost use Rattle.std.specs.Prelude.{◌≡◌, ◌<◌, ◌≤◌, ◌+◌, ◌*◌, ◌^◌, ◌++◌, ◌↔◌, [], ℕ, IsSome, IfSome, IsTrue, drop, length, slice_index};
 ghost use Rattle.std.specs.Bool.{OnTrue};
@@ -113,30 +112,15 @@ impl GroupKey {
     }
 
     // The first eight bytes as a number, highest first, with zeros for those past the key's end.
-    fn first_word(&self) -> u64
+    pub(crate) fn first_word(&self) -> u64
         ensures number { result ≡ front 8 self.now }
         ensures bytes { (i : ℕ) → slice_index self.now i < 2 ^ 8 }
     {
         word_at(&self.bytes, 0)
     }
 
-    // Compares two keys whose first words are the same.
-    fn cmp_rest(&self, other: &GroupKey) -> Ordering
-        requires { front 8 self.now ≡ front 8 other.now }
-        ensures { result ≡ slice_cmp nat_cmp self.now other.now }
-    {
-        let (a, b) = (self.second_word(), other.second_word());
-        if a < b {
-            Ordering::Less
-        } else if b < a {
-            Ordering::Greater
-        } else {
-            self.bytes().cmp(other.bytes())
-        }
-    }
-
     // And the next eight.
-    fn second_word(&self) -> u64
+    pub(crate) fn second_word(&self) -> u64
         ensures number { front 16 self.now ≡ front 8 self.now * 2 ^ 64 + result }
         ensures bytes { (i : ℕ) → slice_index self.now i < 2 ^ 8 }
     {
@@ -209,13 +193,6 @@ impl Ord for GroupKey {
     ghost matches_eq = { texts_ties };
 
     fn cmp(&self, other: &GroupKey) -> Ordering {
-        let (a, b) = (self.first_word(), other.first_word());
-        if a < b {
-            Ordering::Less
-        } else if b < a {
-            Ordering::Greater
-        } else {
-            self.cmp_rest(other)
-        }
+        self.bytes().cmp(other.bytes())
     }
 }

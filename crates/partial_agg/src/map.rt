@@ -1,7 +1,8 @@
 //! The map from the keys of groups to their aggregates, over std's ordered map, and the list that it ends as.
 //!
-//! A group lies in the map with its key and its state by value, about 700 bytes. A row of a group that is there costs one
-//! path of comparisons and changes its state in place; only a new group takes memory.
+//! A group lies in the map with its state by value and its key behind a pointer, about 700 bytes in all. A row of a group
+//! that is there costs one path of comparisons, most of them of numbers that stand in the nodes, and changes its state in
+//! place; only a new group takes memory, and each block that of one key.
 
 ghost use Rattle.std.specs.Prelude.{◌≡◌, ◌<◌, ◌≤◌, ◌+◌, ◌*◌, ◌^◌, ◌∷◌, ◌++◌, [], ℕ, List, IfOk, IfErr, IfSome, IfNone, OnOk, OnErr, Some, All, length};
 ghost use Rattle.std.specs.FinMap as map;
@@ -14,6 +15,7 @@ ghost use Rattle.partial_agg.specs.Listed.{listed};
 ghost use Rattle.partial_agg.specs.Reading.{values_state};
 ghost use Rattle.partial_agg.specs.Rows.{IsAccepted, block_rows, header_width};
 
+use crate::abbreviated::AbbreviatedKey;
 use crate::groups::{Group, Groups};
 use crate::key::GroupKey;
 use crate::row::{Reading, RowBuffer, items};
@@ -30,7 +32,7 @@ pub const BLOCK_ROWS: u64 = 256;
 /// A map from keys to states, in the order of the keys' bytes.
 #[derive(Drop)]
 pub struct GroupMap {
-    by_key: BTreeMap<GroupKey, AggState>,
+    by_key: BTreeMap<AbbreviatedKey, AggState>,
     alloc: Global,
 }
 
@@ -71,11 +73,13 @@ impl GroupMap {
         self.by_key.len()
     }
 
-    /// Adds a state under a key: to the state that the key has, if it has one. The time is that of a look-up.
+    /// Adds a state under a key: to the state that the key has, if it has one. The time is that of a look-up. Takes the
+    /// memory of a key, and gives it back where the key was there.
     pub fn add(&mut self, key: GroupKey, state: &AggState) -> Result<(), AllocError>
         ensures ok { OnOk result (self.new ≡ added self.old key state.now) }
         ensures err { OnErr result (self.new ≡ self.old) }
     {
+        let key = AbbreviatedKey::of(self.alloc, key)?;
         if let Some(before) = self.by_key.get_mut(&key) {
             combine(before, state);
             return Ok(());
@@ -90,7 +94,7 @@ impl GroupMap {
         ensures none { IfNone result (self.old ≡ map.empty) }
         ensures unchanged { IfNone result (self.new ≡ self.old) }
     {
-        self.by_key.pop_first()
+        whole_entry(self.by_key.pop_first())
     }
 
     /// The groups as a list in the order of their keys. The map is used up, also where memory is wanting.
@@ -100,6 +104,7 @@ impl GroupMap {
         let GroupMap { by_key, alloc } = self;
         let mut list = Vec::with_capacity(alloc, by_key.len())?;
         for (key, state) in by_key {
+            let key = key.into_key();
             if list.push(Group { key, state }).is_err() {
                 return Err(AllocError);
             }
@@ -130,7 +135,9 @@ impl GroupMap {
         let last = rows.count();
         let first = BLOCK_ROWS * block + 1;
         let count = (last - first + 1).min(BLOCK_ROWS);
-        let mut buffer = RowBuffer::new();
+        let Ok(mut buffer) = RowBuffer::new(self.alloc) else {
+            return Err(BlockAnswer::Memory);
+        };
         for at in 0..count {
             match self.add_read(&mut buffer, rows, first + at, plan) {
                 Ok(()) => {}
@@ -173,7 +180,7 @@ impl GroupMap {
     }
 
     // Adds a row of this key that has these values.
-    fn add_values(&mut self, key: &GroupKey, values: &[Option<i64>]) -> Result<(), AllocError>
+    fn add_values(&mut self, key: &AbbreviatedKey, values: &[Option<i64>]) -> Result<(), AllocError>
         requires { length values.now ≤ 8 }
         ensures ok { OnOk result (self.new ≡ added self.old key.now (values_state values.now)) }
         ensures err { OnErr result (self.new ≡ self.old) }
@@ -187,12 +194,23 @@ impl GroupMap {
 
     // Puts the first row of a key into the map. It is kept apart, since room for a state on the stack costs time at each row.
     #[inline(never)]
-    fn add_first(&mut self, key: &GroupKey, values: &[Option<i64>]) -> Result<(), AllocError>
+    fn add_first(&mut self, key: &AbbreviatedKey, values: &[Option<i64>]) -> Result<(), AllocError>
         requires { length values.now ≤ 8 }
         ensures ok { OnOk result (self.new ≡ map.insert self.old key.now (values_state values.now)) }
         ensures err { OnErr result (self.new ≡ self.old) }
     {
-        self.by_key.insert(key.copied(), one_row(values))?;
+        let key = key.copied(self.alloc)?;
+        self.by_key.insert(key, one_row(values))?;
         Ok(())
+    }
+}
+
+// An entry of the ordered map with its whole key.
+fn whole_entry(entry: Option<(AbbreviatedKey, AggState)>) -> Option<(GroupKey, AggState)>
+    ensures { result ≡ entry }
+{
+    match entry {
+        Some((key, state)) => Some((key.into_key(), state)),
+        None => None,
     }
 }

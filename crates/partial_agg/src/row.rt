@@ -1,7 +1,7 @@
 //! One row of a store under a plan: whether it is refused, left out or kept, its key, and the values of its aggregates.
 //!
-//! A row is read once: `RowBuffer::read` finds the refusal and the filter's verdict, encodes the key into the buffer's
-//! array and parses each integer a single time. The public calls are views of it.
+//! A row is read once: `read_row` finds the refusal and the filter's verdict, encodes the key into an array
+//! and parses each integer a single time. The public calls are views of it.
 
 ghost use Rattle.std.specs.Prelude.{◌≡◌, ◌<◌, ◌≤◌, ◌+◌, ◌^◌, ◌↔◌, ◌∷◌, ◌++◌, [], List, IsErr, ℕ, true, false, All, IsTrue, IfOk, IfErr, IfSome, OnOk, Some, None, if◌then◌else◌, length, map, take};
 ghost use Rattle.std.specs.Bool.{OnTrue};
@@ -15,13 +15,16 @@ ghost use Rattle.par_model.specs.Record.{field_of};
 ghost use Rattle.par_model.specs.Refuse.{is_no_integer, is_unreadable, refusal as refusal_of};
 ghost use Rattle.partial_agg.specs.Reading.{IsReadOf, counted, passes, read, value_of, verdict};
 ghost use Rattle.par_model.specs.Columns.{HasColumns, reads_column};
+ghost use Rattle.partial_agg.specs.Reads.{Reads};
 ghost use Rattle.partial_agg.specs.Rows.{IsAccepted, IsCounted, header_width};
 ghost use Rattle.partial_agg.specs.State.{combined};
 
+use crate::abbreviated::AbbreviatedKey;
 use crate::key::GroupKey;
 use crate::state::add_values;
 use csv_rows::{RowStore, read_integer};
 use par_model::{AggState, BoundPlan, Filter, FilterOp, Item, ItemKind, Refusal};
+use std::alloc::{AllocError, Global};
 
 /// Why the row is refused, if it is: the first cause that holds. Takes no memory.
 pub fn refusal(rows: &RowStore, row: u64, plan: &BoundPlan) -> Option<Refusal>
@@ -29,7 +32,7 @@ pub fn refusal(rows: &RowStore, row: u64, plan: &BoundPlan) -> Option<Refusal>
     requires columns { HasColumns plan.now (header_width rows.now) }
     ensures { result ≡ refusal_of plan.now (header_width rows.now) (record_at rows.now row) }
 {
-    match RowBuffer::new().read(rows, row, plan) {
+    match read_row(&mut GroupKey::none(), &mut [None; 8], rows, row, plan) {
         Reading::Refused(refusal) => Some(refusal),
         Reading::LeftOut | Reading::Kept => None,
     }
@@ -85,7 +88,7 @@ pub(crate) enum Reading {
 // that was read as kept.
 #[derive(Drop)]
 pub(crate) struct RowBuffer {
-    pub(crate) key: GroupKey,
+    pub(crate) key: AbbreviatedKey,
     pub(crate) values: [Option<i64>; 8],
 }
 
@@ -261,13 +264,13 @@ fn stands(op: FilterOp, a: i64, b: i64) -> bool
 }
 
 impl RowBuffer {
-    ghost use Rattle.partial_agg.specs.Reads.{Reads};
-
-    pub(crate) fn new() -> RowBuffer {
-        RowBuffer {
-            key: GroupKey::none(),
+    // Takes the memory of a key, which then serves each row.
+    pub(crate) fn new(alloc: Global) -> Result<RowBuffer, AllocError> {
+        let key = AbbreviatedKey::of(alloc, GroupKey::none())?;
+        Ok(RowBuffer {
+            key,
             values: [None; 8],
-        }
+        })
     }
 
     // Reads a row; where it is kept, the buffer then has its key and its values.
@@ -276,21 +279,36 @@ impl RowBuffer {
         requires columns { HasColumns plan.now (header_width rows.now) }
         ensures { Reads plan.now (header_width rows.now) (record_at rows.now row) result self.new.key self.new.values }
     {
-        if rows.width(row) != rows.width(0) {
-            return refused(1, 0);
-        }
-        match judge(rows, row, plan) {
-            None => return refused(4, 0),
-            Some(false) => return Reading::LeftOut,
-            Some(true) => {}
-        }
-        if !read_key(&mut self.key, rows, row, group_columns(plan)) {
-            return refused(2, 0);
-        }
-        match read_values(&mut self.values, rows, row, items(plan)) {
-            Ok(()) => Reading::Kept,
-            Err(item) => refused(3, item),
-        }
+        self.key.read(&mut self.values, rows, row, plan)
+    }
+}
+
+// Reads a row; where it is kept, these are then its key and its values.
+pub(crate) fn read_row(
+    key: &mut GroupKey,
+    values: &mut [Option<i64>; 8],
+    rows: &RowStore,
+    row: u64,
+    plan: &BoundPlan,
+) -> Reading
+    requires row { row < length rows.now }
+    requires columns { HasColumns plan.now (header_width rows.now) }
+    ensures { Reads plan.now (header_width rows.now) (record_at rows.now row) result key.new values.new }
+{
+    if rows.width(row) != rows.width(0) {
+        return refused(1, 0);
+    }
+    match judge(rows, row, plan) {
+        None => return refused(4, 0),
+        Some(false) => return Reading::LeftOut,
+        Some(true) => {}
+    }
+    if !read_key(key, rows, row, group_columns(plan)) {
+        return refused(2, 0);
+    }
+    match read_values(values, rows, row, items(plan)) {
+        Ok(()) => Reading::Kept,
+        Err(item) => refused(3, item),
     }
 }
 

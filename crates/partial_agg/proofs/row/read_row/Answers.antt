@@ -9,7 +9,7 @@ use Rattle.par_model.specs.declared.plan.Item.{Item}
 use Rattle.partial_agg.specs.Reading.{value_of}
 use Rattle.partial_agg.specs.Rows.{header_width}
 use Rattle.partial_agg.proofs.Refusals.{kept_by_verdict, left_out, refused_filter, refused_item, refused_key, refused_width}
-use Rattle.partial_agg.proofs.row.RowBuffer.read.Goals as goal
+use Rattle.partial_agg.proofs.row.read_row.Goals as goal
 
 pub returns-then-width : goal.returns-then-width
 returns-then-width c =
