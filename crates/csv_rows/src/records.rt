@@ -1,6 +1,6 @@
 //! The records of bytes, as the crate `csv` reads them, put into a store.
 
-ghost use Rattle.std.specs.Prelude.{◌≡◌, ◌<◌, ◌≤◌, [], IfOk, OnOk, length};
+ghost use Rattle.std.specs.Prelude.{◌≡◌, ◌<◌, ◌≤◌, [], IfOk, IfErr, OnOk, length};
 ghost use Rattle.csv_rows.specs.Records.{records_of};
 ghost use Rattle.csv_rows.specs.declared.records.RowsAnswer.TheVariants as answer;
 
@@ -20,8 +20,8 @@ pub enum RowsAnswer {
     Memory,
 }
 
-/// The records of bytes. The time is linear in the bytes. The memory is the bytes of the fields,
-/// four bytes for each field and four for each record, each at most twice over.
+/// The records of bytes. The time is linear in the bytes. The memory is as many bytes as there are,
+/// and four for each field and four for each record, these at most twice over.
 pub fn rows(alloc: Global, bytes: &[u8]) -> Result<RowStore, RowsAnswer>
     ensures records { IfOk result (λ store. store ≡ records_of bytes.now) }
 
@@ -36,7 +36,7 @@ pub fn rows(alloc: Global, bytes: &[u8]) -> Result<RowStore, RowsAnswer>
         .flexible(true)
         .from_reader(alloc, bytes);
     let mut row = ByteRecord::new(alloc);
-    let mut text = Vec::new(alloc);
+    let mut text = room_for(alloc, bytes)?;
     let mut ends = Vec::new(alloc);
     let mut row_ends = Vec::new(alloc);
     'records: for _n in 0..=MOST_RECORDS {
@@ -52,4 +52,12 @@ pub fn rows(alloc: Global, bytes: &[u8]) -> Result<RowStore, RowsAnswer>
         }
     }
     Err(RowsAnswer::TooManyRows)
+}
+
+// An empty list with room for the bytes of every field: no fields have more than there are.
+fn room_for(alloc: Global, bytes: &[u8]) -> Result<Vec<u8>, RowsAnswer>
+    ensures empty { IfOk result (λ text. text.items ≡ []) }
+    ensures why { IfErr result (λ e. e ≡ answer.Memory) }
+{
+    Vec::with_capacity(alloc, bytes.len()).map_err(|_| RowsAnswer::Memory)
 }

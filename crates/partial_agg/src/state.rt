@@ -2,7 +2,7 @@
 
 ghost use Rattle.std.specs.Prelude.{◌≡◌, ◌≤◌, ◌+ℤ◌, [], length};
 ghost use Rattle.std.specs.Int.{int_max, int_min, int_wrap, w128};
-ghost use Rattle.par_model.specs.Aggregate.{state_of_rows};
+ghost use Rattle.par_model.specs.Aggregate.{no_values, state_of_rows};
 ghost use Rattle.par_model.specs.Plan.{Plan};
 ghost use Rattle.partial_agg.specs.Reading.{slot_of_value, values_state};
 ghost use Rattle.partial_agg.specs.State.{among, combined, combined_slot, combined_slots, empty_state, value_slot};
@@ -101,7 +101,37 @@ fn slots_together(a: &SlotState, b: &SlotState) -> SlotState
 fn slot_with(slot: &SlotState, value: Option<i64>) -> SlotState
     ensures { result ≡ combined_slot slot.now (slot_of_value value) }
 {
-    slots_together(slot, &slot_of(value))
+    match value {
+        None => slot_alone(slot),
+        Some(n) => slots_together(slot, &one_value(n)),
+    }
+}
+
+// A slot and no value: it stays, but that one without values has neither a least nor a greatest.
+fn slot_alone(slot: &SlotState) -> SlotState
+    ensures { result ≡ combined_slot slot.now no_values }
+{
+    let SlotState {
+        count,
+        sum,
+        least,
+        greatest,
+    } = *slot;
+    if count == 0 {
+        SlotState {
+            count,
+            sum,
+            least: 0,
+            greatest: 0,
+        }
+    } else {
+        SlotState {
+            count,
+            sum,
+            least,
+            greatest,
+        }
+    }
 }
 
 // The slot of one value.

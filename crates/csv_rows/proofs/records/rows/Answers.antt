@@ -16,7 +16,7 @@ records-init c =
     let made = c.from_reader-rdr.ensures in
     let plain = c.has_headers.ensures in
     let flexible = c.flexible.ensures in
-    rw (c.new-text.ensures.items, c.new-ends.ensures.items, c.new-row_ends.ensures.items) (record {
+    rw (c.in_ok-text.ensures.empty, c.new-ends.ensures.items, c.new-row_ends.ensures.items) (record {
       trim = rw (flexible, plain) at made.trim ∙ c.new.ensures.trim;
       ready = inr (inr (rw (flexible, plain) at made.has_headers, made.headers));
       config = rw (flexible, plain) at made.config ∙ c.new.ensures.config;
