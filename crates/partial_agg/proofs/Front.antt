@@ -1,5 +1,5 @@
 -- Where the fronts of two keys differ, they say which key is less.
-use Rattle.std.proofs.Common.{◌≡◌, ◌<◌, ◌≤◌, ◌+◌, ◌*◌, ◌^◌, ◌⊎◌, inl, inr, ℕ, zero, suc, List, [], ◌∷◌, take, drop, get_or, add-one, arith, refl, ap, sym, ◌∙◌}
+use Rattle.std.proofs.Common.{◌≡◌, ◌<◌, ◌≤◌, ◌+◌, ◌*◌, ◌^◌, ◌⊎◌, inl, inr, ℕ, zero, suc, List, [], ◌∷◌, length, take, drop, get_or, add-one, arith, refl, ap, sym, ◌∙◌}
 use Rattle.std.proofs.Math.Nat.{mul-le-mul_right}
 use Rattle.std.proofs.lemmas.Bool.{cases_order}
 use Rattle.std.proofs.lemmas.Cmp.{nat_list_cmp_total}
@@ -89,3 +89,32 @@ bytes-take zero bs h i = omega arith
 bytes-take (suc len) [] h i = omega arith
 bytes-take (suc len) (b ∷ bs) h zero = h 0
 bytes-take (suc len) (b ∷ bs) h (suc i) = bytes-take len bs (rest_are b bs h) i
+
+-- where the fronts hold all of two keys and are the same, the shorter key is less
+nat_cmp-suc : (a b : ℕ) → (a ≡ b) ⊎ ((a < b) ⊎ (b < a)) → nat_cmp a b ≡ nat_cmp (suc a) (suc b)
+nat_cmp-suc a b (inl is) = sym (nat_cmp_is a b Equal is) ∙ nat_cmp_is (suc a) (suc b) Equal (ap suc is)
+nat_cmp-suc a b (inr (inl less)) = sym (nat_cmp_is a b Less less) ∙ nat_cmp_is (suc a) (suc b) Less (omega arith)
+nat_cmp-suc a b (inr (inr more)) = sym (nat_cmp_is a b Greater more) ∙ nat_cmp_is (suc a) (suc b) Greater (omega arith)
+
+first-same : (n x y f g : ℕ) → f < 256 ^ n → g < 256 ^ n → x * 256 ^ n + f ≡ y * 256 ^ n + g → (x ≡ y) ⊎ ((x < y) ⊎ (y < x)) → x ≡ y
+first-same n x y f g low low' same (inl is) = is
+first-same n x y f g low low' same (inr (inl less)) =
+    let next : x + 1 ≤ y = omega arith in
+    absurd (omega (arith, same, low, mul-le-mul_right (256 ^ n) next))
+first-same n x y f g low low' same (inr (inr more)) =
+    let next : y + 1 ≤ x = omega arith in
+    absurd (omega (arith, same, low', mul-le-mul_right (256 ^ n) next))
+
+pub front-same : (n : ℕ) (xs ys : List ℕ) → AreBytes xs → AreBytes ys → length xs ≤ n → length ys ≤ n → front n xs ≡ front n ys → slice_cmp nat_cmp xs ys ≡ nat_cmp (length xs) (length ys)
+front-same n [] [] h k short short' same = nat_cmp_is 0 0 Equal refl
+front-same n [] (y ∷ ys) h k short short' same = nat_cmp_is 0 (suc (length ys)) Less (omega arith)
+front-same n (x ∷ xs) [] h k short short' same = nat_cmp_is (suc (length xs)) 0 Greater (omega arith)
+front-same zero (x ∷ xs) (y ∷ ys) h k short short' same = absurd (omega arith)
+front-same (suc n) (x ∷ xs) (y ∷ ys) h k short short' same =
+    let low = front-bound n xs (rest_are x xs h) in
+    let low' = front-bound n ys (rest_are y ys k) in
+    let is = first-same n x y (front n xs) (front n ys) low low' same (cases_order x y) in
+    let rest : front n xs ≡ front n ys = omega (arith, same, ap (λ (b : ℕ). b * 256 ^ n) is) in
+    ap (λ (o : Ordering). ordering_then o (slice_cmp nat_cmp xs ys)) (sym (nat_cmp_is x y Equal is))
+    ∙ front-same n xs ys (rest_are x xs h) (rest_are y ys k) (omega arith) (omega arith) rest
+    ∙ nat_cmp-suc (length xs) (length ys) (cases_order (length xs) (length ys))

@@ -1,8 +1,8 @@
 //! A group's key as the map has it: its first sixteen bytes as two numbers, and the whole key behind a pointer.
 //!
-//! Two keys are compared by the numbers, which stand side by side with those of their neighbours in a node of the map. Only
-//! where both are the same are the keys themselves read, as PostgreSQL's sort compares abbreviated keys. The numbers follow
-//! the key whenever it changes.
+//! Two keys are compared by the numbers, which stand side by side with those of their neighbours in a node of the map, as
+//! PostgreSQL's sort compares abbreviated keys. Where both numbers are the same, the lengths tell keys of up to sixteen bytes
+//! apart; only longer ones are read themselves. Numbers and length follow the key whenever it changes.
 
 ghost use Rattle.std.specs.Prelude.{◌≡◌, ◌<◌, IfOk, length};
 ghost use Rattle.std.specs.Cmp.Lexicographic.{slice_cmp, pointwise};
@@ -21,11 +21,15 @@ use std::alloc::{AllocError, Global};
 use std::cmp::Ordering;
 use std::marker::Model;
 
+// The most bytes that the two numbers have all of.
+const FRONT: u32 = 16;
+
 // A key. Keys compare byte by byte.
 #[derive(Drop)]
 pub(crate) struct AbbreviatedKey {
     first: u64,
     second: u64,
+    len: u32,
     whole: Box<GroupKey>,
 }
 
@@ -37,7 +41,7 @@ impl Model for AbbreviatedKey {
 
     ghost view = { λ k. k.whole.value };
 
-    ghost invariant = { λ k. IsAbbreviated k.first k.second k.whole.value };
+    ghost invariant = { λ k. IsAbbreviated k.first k.second k.len k.whole.value };
 }
 
 impl AbbreviatedKey {
@@ -45,11 +49,12 @@ impl AbbreviatedKey {
     pub(crate) fn of(alloc: Global, key: GroupKey) -> Result<AbbreviatedKey, AllocError>
         ensures { IfOk result (λ abbreviated. abbreviated ≡ key) }
     {
-        let (first, second) = (key.first_word(), key.second_word());
+        let (first, second, len) = (key.first_word(), key.second_word(), key.len());
         match Box::new(alloc, key) {
             Ok(whole) => Ok(AbbreviatedKey {
                 first,
                 second,
+                len,
                 whole,
             }),
             Err(_) => Err(AllocError),
@@ -63,6 +68,7 @@ impl AbbreviatedKey {
         let AbbreviatedKey {
             first: _,
             second: _,
+            len: _,
             whole,
         } = self;
         Box::into_inner(whole)
@@ -90,6 +96,7 @@ impl AbbreviatedKey {
         let reading = read_row(&mut self.whole, values, rows, row, plan);
         self.first = self.whole.first_word();
         self.second = self.whole.second_word();
+        self.len = self.whole.len();
         reading
     }
 
@@ -103,6 +110,8 @@ impl AbbreviatedKey {
             Ordering::Less
         } else if b < a {
             Ordering::Greater
+        } else if self.len <= FRONT && other.len <= FRONT {
+            self.len.cmp(&other.len)
         } else {
             self.whole.bytes().cmp(other.whole.bytes())
         }

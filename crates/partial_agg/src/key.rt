@@ -57,6 +57,13 @@ impl GroupKey {
         &self.bytes[..self.len as usize]
     }
 
+    // How many bytes it has.
+    pub(crate) fn len(&self) -> u32
+        ensures { result ≡ length self.now }
+    {
+        self.len
+    }
+
     // The key of no columns.
     pub(crate) fn none() -> GroupKey
         ensures { result ≡ [] }

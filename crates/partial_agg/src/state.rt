@@ -59,7 +59,7 @@ fn add_to_slots(slots: &mut [SlotState; 8], values: &[Option<i64>])
 {
     for i in 0..8 {
         let value = if i < values.len() { values[i] } else { None };
-        slots[i] = slot_with(&slots[i], value);
+        add_to_slot(&mut slots[i], value);
     }
 }
 
@@ -97,40 +97,28 @@ fn slots_together(a: &SlotState, b: &SlotState) -> SlotState
     }
 }
 
-// A slot and one value more, where there is one.
-fn slot_with(slot: &SlotState, value: Option<i64>) -> SlotState
-    ensures { result ≡ combined_slot slot.now (slot_of_value value) }
+// Adds a value to a slot, where there is one.
+fn add_to_slot(slot: &mut SlotState, value: Option<i64>)
+    ensures { slot.new ≡ combined_slot slot.old (slot_of_value value) }
 {
     match value {
-        None => slot_alone(slot),
-        Some(n) => slots_together(slot, &one_value(n)),
+        None => add_nothing(slot),
+        Some(n) => *slot = slots_together(slot, &one_value(n)),
     }
 }
 
-// A slot and no value: it stays, but that one without values has neither a least nor a greatest.
-fn slot_alone(slot: &SlotState) -> SlotState
-    ensures { result ≡ combined_slot slot.now no_values }
+// The slot stays, but that one without values has neither a least nor a greatest.
+fn add_nothing(slot: &mut SlotState)
+    ensures { slot.new ≡ combined_slot slot.old no_values }
 {
-    let SlotState {
-        count,
-        sum,
-        least,
-        greatest,
-    } = *slot;
+    let SlotState { count, sum, .. } = *slot;
     if count == 0 {
-        SlotState {
+        *slot = SlotState {
             count,
             sum,
             least: 0,
             greatest: 0,
-        }
-    } else {
-        SlotState {
-            count,
-            sum,
-            least,
-            greatest,
-        }
+        };
     }
 }
 
