@@ -4,5 +4,6 @@ pub mod Keys
 pub mod Magnitudes
 pub mod Places
 pub mod Refused
+pub mod ShortIntegers
 pub mod Slots
 pub mod Worked

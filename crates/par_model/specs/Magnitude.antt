@@ -17,3 +17,11 @@ abbrev pub with_sign : Bool → Option ℕ → Option ℤ
 with_sign minus None = None
 with_sign true (Some size) = Some (neg_ℤ (pos size))
 with_sign false (Some size) = if nat_lt size (2 ^ 63) then Some (pos size) else None
+
+-- one to eighteen ASCII digits and nothing else
+abbrev pub is_short_magnitude : List ℕ → Bool
+is_short_magnitude digits = (nat_lt 0 (length digits) && nat_le (length digits) 18) && list_all is_ascii_digit digits
+
+-- the number that one to eighteen digits write
+abbrev pub short_magnitude_of : List ℕ → Option ℕ
+short_magnitude_of digits = if is_short_magnitude digits then Some (digits_value 10 digits) else None

@@ -2,22 +2,65 @@
 //!
 //! A field is read as it stands, with no copy and no test of its text: a byte that is no digit, as
 //! each byte of a character beyond ASCII, makes it no integer.
+//!
+//! Nearly every integer has at most eighteen digits and no space round it. Eighteen digits write a
+//! number below 10^18, which fits with either sign, so for these there is a short way: one loop that
+//! looks for no space and tests no step against overflow. Where it finds anything else, the general
+//! way decides.
 
-ghost use Rattle.std.specs.Prelude.{◌≡◌, ◌≤◌, ◌^◌, IfSome, length};
+ghost use Rattle.std.specs.Prelude.{◌≡◌, ◌<◌, ◌≤◌, ◌^◌, IfSome, Some, length};
 ghost use Rattle.std.specs.List.{prefix_len, suffix_len};
 ghost use Rattle.std.specs.Str.Parse.{starts_with_minus, without_leading_sign};
 ghost use Rattle.par_model.specs.Integer.{integer_of, is_space, number_of, without_spaces};
-ghost use Rattle.par_model.specs.Magnitude.{magnitude_of, with_sign};
+ghost use Rattle.par_model.specs.Magnitude.{magnitude_of, short_magnitude_of, with_sign};
 
 // The size of the least number of 64 signed bits.
 const LARGEST: u64 = 0x8000_0000_0000_0000;
 
+// How many digits the short way reads at most.
+const SHORT: usize = 18;
+
 /// The integer of a field, if it is one: any number of spaces, an optional `+` or `-`, one or more
-/// ASCII digits, any number of spaces, with a value of 64 signed bits. It reads each byte once.
+/// ASCII digits, any number of spaces, with a value of 64 signed bits. Its time is linear in the
+/// bytes, and shortest where one to eighteen digits stand alone or after a sign.
 pub fn read_integer(field: &[u8]) -> Option<i64>
     ensures { result ≡ integer_of field.now }
 {
-    number(trimmed(field))
+    let (is_minus, digits) = split_sign(field);
+    match short_magnitude(digits) {
+        Some(size) => Some(signed_size(is_minus, size)),
+        None => number(trimmed(field)),
+    }
+}
+
+// The number that one to eighteen digits write, if there is nothing else.
+fn short_magnitude(digits: &[u8]) -> Option<u64>
+    ensures value { result ≡ short_magnitude_of digits.now }
+    ensures within { IfSome result (λ size. size < 10 ^ 18) }
+{
+    if digits.is_empty() || digits.len() > SHORT {
+        return None;
+    }
+    let mut value: u64 = 0;
+    'digits: for digit in digits {
+        if !digit.is_ascii_digit() {
+            return None;
+        }
+        value = value * 10 + u64::from(*digit - b'0');
+    }
+    Some(value)
+}
+
+// A size after a minus, or after none.
+fn signed_size(is_minus: bool, size: u64) -> i64
+    requires { size < 2 ^ 63 }
+    ensures { Some result ≡ with_sign is_minus (Some size) }
+{
+    if is_minus {
+        -(size as i64)
+    } else {
+        size as i64
+    }
 }
 
 // The bytes between the spaces at either end.

@@ -1,0 +1,95 @@
+-- What at most eighteen digits write, and that a field of them after at most one sign has no space at its ends.
+use Rattle.std.proofs.Common.{rules, ◌≡◌, ◌∙◌, ◌<◌, ◌≤◌, ◌+◌, ◌-◌, ◌^◌, ℕ, true, false, List, Some, length, take, drop, get_or, refl, sym, ap, arith, inl, inr}
+use Rattle.std.proofs.lemmas.Bool.{cases_Bool}
+use Rattle.std.proofs.lemmas.Bool.Decides.{nat_tests}
+use Rattle.std.proofs.lemmas.List.{get_or-drop, length-drop, length-take, take_all}
+use Rattle.std.proofs.lemmas.List.Folds.{list_all_at}
+use Rattle.std.proofs.lemmas.List.Sums.{prefix_len-drop_no, suffix_len_is}
+use Rattle.std.proofs.lemmas.Str.Parse.{IsNumeralModel, digits_value_short, numerals_by_value}
+use Rattle.std.specs.Char.{is_ascii_digit}
+use Rattle.std.specs.List.{list_all, prefix_len, suffix_len}
+use Rattle.std.specs.Str.Parse.{digits_value, starts_with_minus, without_leading_sign}
+use Rattle.std.specs.Prelude.{◌==◌, slice_index}
+use Rattle.par_model.specs.Integer.{integer_of, is_space, without_spaces}
+use Rattle.par_model.specs.Magnitude.{is_magnitude, is_short_magnitude, magnitude_of, short_magnitude_of, with_sign}
+use Rattle.par_model.proofs.Magnitudes.{number-signed}
+
+digits : IsNumeralModel (λ ds. list_all is_ascii_digit ds ≡ true) (digits_value 10)
+digits = numerals_by_value _ (search rules)
+
+-- the front of at most eighteen digits writes a number below 10 ^ 18
+pub front-lt : (ds : List ℕ) (i : ℕ) → list_all is_ascii_digit (take i ds) ≡ true → length ds ≤ 18 → digits_value 10 (take i ds) < 10 ^ 18
+front-lt ds i all short = digits_value_short digits (take i ds) 18 all (omega (arith, length-take i ds))
+
+digit-no-space : (c : ℕ) → is_ascii_digit c ≡ true → is_space c ≡ false
+digit-no-space c e = grind (arith, nat_tests, e)
+
+digit-at : (ds : List ℕ) (i : ℕ) → list_all is_ascii_digit ds ≡ true → i < length ds → is_ascii_digit (get_or ds i 0) ≡ true
+digit-at ds i all lt = elim (cases_Bool (is_ascii_digit (get_or ds i 0))) [ inl e ↦ e | inr e ↦ cc (all, list_all_at is_ascii_digit ds i 0 lt e) ]
+
+-- a field whose first and last byte are no spaces
+no-spaces : (field : List ℕ) → 0 < length field → is_space (get_or field 0 0) ≡ false → is_space (get_or field (length field - 1) 0) ≡ false
+    → without_spaces field ≡ field
+no-spaces field some first last =
+    let front : prefix_len is_space field ≡ 0 = prefix_len-drop_no is_space field 0 0 some first in
+    let past : (k : ℕ) → length field ≤ k → k < length field → is_space (get_or field k 0) ≡ true = λ k le lt. absurd (omega arith) in
+    let back : suffix_len is_space field ≡ 0 = omega (arith, suffix_len_is is_space field (length field) 0 (omega arith) past (λ lt. last)) in
+    rw (front, back) (take_all (length field - 0 - 0) field (omega arith))
+
+-- digits after at most one byte that is no space
+digits-no-spaces : (field : List ℕ) (k : ℕ) → k ≤ 1 → 0 < length (drop k field) → list_all is_ascii_digit (drop k field) ≡ true
+    → is_space (get_or field 0 0) ≡ false → without_spaces field ≡ field
+digits-no-spaces field k le some all first =
+    let sizes = length-drop k field in
+    let within : length field - 1 - k < length (drop k field) = omega (arith, sizes, some) in
+    let last : is_space (get_or (drop k field) (length field - 1 - k) 0) ≡ false = digit-no-space _ (digit-at (drop k field) (length field - 1 - k) all within) in
+    let place : k + (length field - 1 - k) ≡ length field - 1 = omega (arith, sizes, some) in
+    let at : get_or (drop k field) (length field - 1 - k) 0 ≡ get_or field (length field - 1) 0 =
+    get_or-drop k field (length field - 1 - k) 0 ∙ ap (λ i. get_or field i 0) place in
+    no-spaces field (omega (arith, sizes, some)) first (rw at at last)
+
+-- what is known where digits are a short magnitude
+record IsShort (ds : List ℕ) (size : ℕ) : Type 0 where
+  some : 0 < length ds
+  short : length ds ≤ 18
+  all : list_all is_ascii_digit ds ≡ true
+  value : digits_value 10 ds ≡ size
+
+short-parts : (ds : List ℕ) (size : ℕ) → short_magnitude_of ds ≡ Some size → IsShort ds size
+short-parts ds size e = elim (cases_Bool (is_short_magnitude ds)) [
+  | inl is ↦ record { some = grind (arith, nat_tests, is); short = grind (arith, nat_tests, is); all = grind (arith, nat_tests, is); value = grind (arith, is, e) }
+  | inr other ↦ grind (arith, other, e)
+]
+
+-- at most eighteen digits are a magnitude
+short-magnitude : (ds : List ℕ) (size : ℕ) → IsShort ds size → magnitude_of ds ≡ Some size
+short-magnitude ds size p =
+    let below = digits_value_short digits ds 18 p.all p.short in
+    let is : is_magnitude ds ≡ true = grind (arith, nat_tests, below, p.some, p.all) in
+    rw (is, p.value) refl
+
+-- a field of digits after at most one sign has no spaces at its ends
+signed-no-spaces : (field : List ℕ) → 0 < length (without_leading_sign field) → list_all is_ascii_digit (without_leading_sign field) ≡ true
+    → without_spaces field ≡ field
+signed-no-spaces field some all = elim (cases_Bool (starts_with_minus field)) [
+  | inl minus ↦
+      let bare : without_leading_sign field ≡ drop 1 field = rw minus refl in
+      digits-no-spaces field 1 (omega arith) (rw bare at some) (rw bare at all) (grind (arith, nat_tests, minus))
+  | inr other ↦ elim (cases_Bool (slice_index field 0 == 43)) [
+    | inl plus ↦
+        let bare : without_leading_sign field ≡ drop 1 field = rw (other, plus) refl in
+        digits-no-spaces field 1 (omega arith) (rw bare at some) (rw bare at all) (grind (arith, nat_tests, plus))
+    | inr none ↦
+        let bare : without_leading_sign field ≡ field = rw (other, none) refl in
+        let all' : list_all is_ascii_digit field ≡ true = rw bare at all in
+        let some' : 0 < length field = rw bare at some in
+        digits-no-spaces field 0 (omega arith) some' all' (digit-no-space _ (digit-at field 0 all' some'))
+  ]
+]
+
+pub short-integer : (field : List ℕ) (size : ℕ) → short_magnitude_of (without_leading_sign field) ≡ Some size
+    → with_sign (starts_with_minus field) (Some size) ≡ integer_of field
+short-integer field size e =
+    let p = short-parts (without_leading_sign field) size e in
+    let bare = signed-no-spaces field p.some p.all in
+    rw (bare, sym (short-magnitude _ size p)) (number-signed field)
