@@ -1,5 +1,5 @@
 -- What at most eighteen digits write, and that a field of them after at most one sign has no space at its ends.
-use Rattle.std.proofs.Common.{rules, ◌≡◌, ◌∙◌, ◌<◌, ◌≤◌, ◌+◌, ◌-◌, ◌^◌, ℕ, true, false, List, Some, length, take, drop, get_or, refl, sym, ap, arith, inl, inr}
+use Rattle.std.proofs.Common.{rules, ◌≡◌, ◌∙◌, ◌<◌, ◌≤◌, ◌+◌, ◌-◌, ◌%◌, ◌^◌, ℕ, true, false, List, Some, length, take, drop, get_or, refl, sym, ap, arith, inl, inr}
 use Rattle.std.proofs.lemmas.Bool.{cases_Bool}
 use Rattle.std.proofs.lemmas.Bool.Decides.{nat_tests}
 use Rattle.std.proofs.lemmas.List.{get_or-drop, length-drop, length-take, take_all}
@@ -93,3 +93,11 @@ short-integer field size e =
     let p = short-parts (without_leading_sign field) size e in
     let bare = signed-no-spaces field p.some p.all in
     rw (bare, sym (short-magnitude _ size p)) (number-signed field)
+
+-- a byte that is at most 9 above `0`, counted round the 64 bits, is a digit
+pub digit-unit : (d byte start unit : ℕ) → byte ≡ d → start ≡ 48 → d < 256 → unit ≡ (byte + (18446744073709551616 - start)) % 18446744073709551616 → unit ≤ 9
+    → (is_ascii_digit d ≡ true) × (unit ≡ d - 48)
+digit-unit d byte start unit same at fits is le =
+    let value : unit ≡ d - 48 = omega arith in
+    let from : 48 ≤ d = omega arith in
+    (grind (arith, nat_tests, value, from, le), value)

@@ -43,10 +43,12 @@ fn short_magnitude(digits: &[u8]) -> Option<u64>
     }
     let mut value: u64 = 0;
     'digits: for digit in digits {
-        if !digit.is_ascii_digit() {
+        // A byte below `0` wraps round, so one test tells the digits.
+        let unit = u64::from(*digit).wrapping_sub(u64::from(b'0'));
+        if unit > 9 {
             return None;
         }
-        value = value * 10 + u64::from(*digit - b'0');
+        value = value * 10 + unit;
     }
     Some(value)
 }
