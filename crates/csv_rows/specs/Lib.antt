@@ -1,3 +1,4 @@
 pub mod Records
+pub mod RowEnds
 pub mod Store
 pub mod Turns

@@ -4,6 +4,7 @@ ghost use Rattle.std.specs.Prelude.{◌≡◌, ◌<◌, ◌≤◌, [], IfOk, OnO
 ghost use Rattle.csv_rows.specs.Records.{records_of};
 ghost use Rattle.csv_rows.specs.declared.records.RowsAnswer.TheVariants as answer;
 
+use crate::row_ends::RowEnds;
 use crate::store::{RowStore, push_record};
 use csv::{ByteRecord, ReaderBuilder};
 use std::alloc::Global;
@@ -21,7 +22,8 @@ pub enum RowsAnswer {
 }
 
 /// The records of bytes. The time is linear in the bytes. The memory is the bytes of the fields,
-/// four bytes for each field and four for each record, each at most twice over.
+/// four bytes for each field, and four for each record from the first one on whose width is not
+/// the header's, each at most twice over.
 pub fn rows(alloc: Global, bytes: &[u8]) -> Result<RowStore, RowsAnswer>
     ensures records { IfOk result (λ store. store ≡ records_of bytes.now) }
 
@@ -38,7 +40,7 @@ pub fn rows(alloc: Global, bytes: &[u8]) -> Result<RowStore, RowsAnswer>
     let mut row = ByteRecord::new(alloc);
     let mut text = Vec::new(alloc);
     let mut ends = Vec::new(alloc);
-    let mut row_ends = Vec::new(alloc);
+    let mut row_ends = RowEnds::new(alloc);
     'records: for _n in 0..=MOST_RECORDS {
         match rdr.read_byte_record(&mut row) {
             Ok(true) => {

@@ -29,13 +29,23 @@ fn shown(alloc: Global, store: &RowStore) -> Result<Vec<u8>, AllocError> {
     Ok(text)
 }
 
-// Ragged rows, quotes in odd places and quotes left open, bytes that are no text, line ends, byte order marks, and lines
-// and fields that are empty.
+// Ragged rows, the first of them early, late and in the middle; quotes in odd places and quotes left open; bytes that are
+// no text; line ends, byte order marks, and lines and fields that are empty.
 #[test]
 fn odd_text(rt: HostRuntime) -> Result<(), Fail> {
-    let table: [(&[u8], &[u8]); 24] = [
+    let table: [(&[u8], &[u8]); 31] = [
         (b"a,b\n1\n1,2,3", b"a|b|/1|/1|2|3|/"),
         (b"a,b\n1,2,\n,", b"a|b|/1|2||/||/"),
+        (b"a,b\n1,2\n3,4\n5", b"a|b|/1|2|/3|4|/5|/"),
+        (
+            b"a,b\n1,2\n3\n4,5\n6,7,8\n9,0",
+            b"a|b|/1|2|/3|/4|5|/6|7|8|/9|0|/",
+        ),
+        (b"a\n1,2\n3\n4", b"a|/1|2|/3|/4|/"),
+        (b"a,b,c", b"a|b|c|/"),
+        (b"a,b,c\n,,\n1,,3\n,2,", b"a|b|c|/|||/1||3|/|2||/"),
+        (b"a,b,c\n\n,,3\n,\n1,2,", b"a|b|c|/||3|/||/1|2||/"),
+        (b"a,,c,,\n1,22,,,333\n", b"a||c|||/1|22|||333|/"),
         (b"\"x,\"\"y\"\"\",z\r\n\r\n1,2\r\n", b"x,\"y\"|z|/1|2|/"),
         (b"a\"b\n\"c\"d\n", b"a\"b|/cd|/"),
         (b"\"c\"x\"y\",d\n", b"cx\"y\"|d|/"),
@@ -75,6 +85,29 @@ fn odd_text(rt: HostRuntime) -> Result<(), Fail> {
     }
     for text in [b"".as_slice(), b"\n\r\n", b"\xEF\xBB\xBF", b"\r\r"] {
         assert!(rt; rows(rt.alloc(), text).is_err(), "{text:?}");
+    }
+    Ok(())
+}
+
+// A longer table of one width, and then one row of another.
+#[test]
+fn even_table(rt: HostRuntime) -> Result<(), Fail> {
+    let mut text = Vec::new(rt.alloc());
+    let mut want = Vec::new(rt.alloc());
+    for _row in 0..300 {
+        text.extend_from_slice(b"12,3\n")?;
+        want.extend_from_slice(b"12|3|/")?;
+    }
+    for (line, record) in [(b"".as_slice(), b"".as_slice()), (b"4\n", b"4|/")] {
+        text.extend_from_slice(line)?;
+        want.extend_from_slice(record)?;
+        match rows(rt.alloc(), text.as_slice()) {
+            Ok(store) => {
+                let found = shown(rt.alloc(), &store)?;
+                assert!(rt; found.as_slice() == want.as_slice());
+            }
+            Err(why) => assert!(rt; false, "{why:?}"),
+        }
     }
     Ok(())
 }

@@ -16,7 +16,7 @@ records-init c =
     let made = c.from_reader-rdr.ensures in
     let plain = c.has_headers.ensures in
     let flexible = c.flexible.ensures in
-    rw (c.new-text.ensures.items, c.new-ends.ensures.items, c.new-row_ends.ensures.items) (record {
+    rw (c.new-text.ensures.items, c.new-ends.ensures.items, c.new-row_ends.ensures) (record {
       trim = rw (flexible, plain) at made.trim ∙ c.new.ensures.trim;
       ready = inr (inr (rw (flexible, plain) at made.has_headers, made.headers));
       config = rw (flexible, plain) at made.config ∙ c.new.ensures.config;
@@ -35,7 +35,7 @@ records-preserved c =
     let ready = c.in-Ok-true.ensures.ready inv.trim in
     let good : is_err c.push_record.result ≡ false = search rules in
     let count = on-ok _ good c.push_record.ensures.count in
-    let more = rows-more (λ (s : Bor (List ℕ)). Some s.now) c.records.rdr c.read_byte_record.new.self (fields_of c.read_byte_record.new.row) default_config st.StartRecord (strip_bom c.args.bytes.now) inv.left (stored c.records.text.items c.records.ends.items c.records.row_ends.items) inv.config inv.known inv.reached read in
+    let more = rows-more (λ (s : Bor (List ℕ)). Some s.now) c.records.rdr c.read_byte_record.new.self (fields_of c.read_byte_record.new.row) default_config st.StartRecord (strip_bom c.args.bytes.now) inv.left (stored c.records.text.items c.records.ends.items c.records.row_ends) inv.config inv.known inv.reached read in
     record {
       trim = read.3 ∙ inv.trim;
       ready = inl ready;
@@ -51,17 +51,17 @@ records-preserved c =
 pub returns-in-Ok-false-clause-no_header : goal.returns-in-Ok-false-clause-no_header
 returns-in-Ok-false-clause-no_header c =
     let inv = c.records.invariant in
-    let rows = stored c.records.text.items c.records.ends.items c.records.row_ends.items in
-    let none : length c.records.row_ends.items ≡ 0 = search rules in
+    let rows = stored c.records.text.items c.records.ends.items c.records.row_ends in
+    let none : length c.records.row_ends ≡ 0 = search rules in
     let read = rw c.in-Ok-false.field-0-test at (c.in-Ok-false.ensures.reads inv.trim inv.ready) in
     let end = rows-end (λ (s : Bor (List ℕ)). Some s.now) c.records.rdr c.read_byte_record.new.self (fields_of c.read_byte_record.new.row) default_config inv.left inv.config inv.known read in
     let all = read-all default_config c.records.rdr.state (strip_bom c.args.bytes.now) inv.left rows inv.reached end in
-    λ h. all ∙ group-none 0 c.records.row_ends.items (cut_from 0 c.records.ends.items c.records.text.items) none
+    λ h. all ∙ group-none 0 c.records.row_ends (cut_from 0 c.records.ends.items c.records.text.items) none
 
 pub returns-in-Ok-false-2-clause-records : goal.returns-in-Ok-false-2-clause-records
 returns-in-Ok-false-2-clause-records c =
     let inv = c.records.invariant in
-    let rows = stored c.records.text.items c.records.ends.items c.records.row_ends.items in
+    let rows = stored c.records.text.items c.records.ends.items c.records.row_ends in
     let read = rw c.in-Ok-false.field-0-test at (c.in-Ok-false.ensures.reads inv.trim inv.ready) in
     let end = rows-end (λ (s : Bor (List ℕ)). Some s.now) c.records.rdr c.read_byte_record.new.self (fields_of c.read_byte_record.new.row) default_config inv.left inv.config inv.known read in
     let all = read-all default_config c.records.rdr.state (strip_bom c.args.bytes.now) inv.left rows inv.reached end in
@@ -70,21 +70,21 @@ returns-in-Ok-false-2-clause-records c =
 pub returns-in-Ok-false-2-clause-some : goal.returns-in-Ok-false-2-clause-some
 returns-in-Ok-false-2-clause-some c =
     let all = returns-in-Ok-false-2-clause-records c in
-    let size = stored-length c.records.text.items c.records.ends.items c.records.row_ends.items in
-    let some : 0 < length c.records.row_ends.items = grind (arith, common_steps, c.if-is_empty.false) in
+    let size = stored-length c.records.text.items c.records.ends.items c.records.row_ends in
+    let some : 0 < length c.records.row_ends = grind (arith, common_steps, c.if-is_empty.false) in
     rw (← all, c.of_lists.ensures, size) some
 
 pub returns-in-Ok-false-2-clause-few : goal.returns-in-Ok-false-2-clause-few
 returns-in-Ok-false-2-clause-few c =
     let all = returns-in-Ok-false-2-clause-records c in
-    let size = stored-length c.records.text.items c.records.ends.items c.records.row_ends.items in
-    let few : length c.records.row_ends.items ≤ 4194305 = omega (arith, c.records.invariant.count, c.records-test.true) in
+    let size = stored-length c.records.text.items c.records.ends.items c.records.row_ends in
+    let few : length c.records.row_ends ≤ 4194305 = omega (arith, c.records.invariant.count, c.records-test.true) in
     rw (← all, c.of_lists.ensures, size) few
 
 pub returns-clause-too_many : goal.returns-clause-too_many
 returns-clause-too_many c =
     let inv = c.records.invariant in
-    let rows = stored c.records.text.items c.records.ends.items c.records.row_ends.items in
-    let size = stored-length c.records.text.items c.records.ends.items c.records.row_ends.items in
+    let rows = stored c.records.text.items c.records.ends.items c.records.row_ends in
+    let size = stored-length c.records.text.items c.records.ends.items c.records.row_ends in
     let some = read-some default_config c.records.rdr.state (strip_bom c.args.bytes.now) inv.left rows inv.reached in
     λ h. omega (arith, inv.count, c.records-test.false, size, some)

@@ -11,9 +11,9 @@ invariant-records l = record {
   ready : Ready l.rdr;
   config : l.rdr.config ≡ default_config;
   fields : Covers l.ends.items (length l.text.items);
-  rows : Covers l.row_ends.items (length l.ends.items);
-  count : length l.row_ends.items ≡ l._n;
+  rows : Covers l.row_ends (length l.ends.items);
+  count : length l.row_ends ≡ l._n;
   left : List ℕ;
   known : source_of (λ s. Some s.now) l.rdr ≡ Some left;
-  reached : Reached default_config st.StartRecord (strip_bom l.fn.bytes) (stored l.text.items l.ends.items l.row_ends.items) l.rdr.state left;
+  reached : Reached default_config st.StartRecord (strip_bom l.fn.bytes) (stored l.text.items l.ends.items l.row_ends) l.rdr.state left;
 }
