@@ -1,10 +1,5 @@
-pub mod Bound
-pub mod Choices
-pub mod Columns
 pub mod Inputs
-pub mod NamePlaces
 pub mod Outcomes
 pub mod Pieces
 pub mod Refusals
 pub mod Statuses
-pub mod Words

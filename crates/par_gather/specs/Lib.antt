@@ -1,5 +1,4 @@
 pub mod Answers
 pub mod Grouping
 pub mod Lines
-pub mod Naming
 pub mod Stops

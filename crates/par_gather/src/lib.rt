@@ -11,7 +11,6 @@ ghost use Rattle.csv_rows.specs.declared.records.TheConstants.{MOST_RECORDS};
 ghost use Rattle.par_io.specs.Faults.{Rose};
 ghost use Rattle.par_model.specs.Outcome.{IsAnswer, Outcome, Table, by_records};
 ghost use Rattle.par_gather.specs.Answers.{IsOutcome, IsTableText, outcome_over, plan_of, status_of, statuses, texts, workers_of};
-ghost use Rattle.par_gather.specs.Naming.{IsNamed};
 ghost use Rattle.par_gather.specs.Lines.{IsLine, IsSaid, NamesFirst};
 ghost use Rattle.par_gather.specs.Stops.{Explains, IsExplained};
 ghost use Rattle.par_gather.specs.declared.stop.Stop.TheVariants as stop;
@@ -158,7 +157,6 @@ fn answer<S: Source, O: Sink>(
 
 // Reads the source and makes the text of the table.
 fn read_table<S: Source>(alloc: Global, plan: &Plan, source: &mut S) -> Result<Vec<u8>, Stop>
-    requires { IsNamed plan.now.plan }
     ensures table { IfOk result (λ text. IfSome (S.left source.old) (λ bytes. IsTableText (Some plan.now.plan) bytes text.items)) }
     ensures why { IfErr result (λ why. IsExplained (Some plan.now.plan) (S.left source.old) why) }
     ensures read_fault { IfErr result (λ why. why ≡ stop.ReadFault → Rose (S.faults source.old) (S.faults source.new)) }
@@ -171,7 +169,6 @@ fn read_table<S: Source>(alloc: Global, plan: &Plan, source: &mut S) -> Result<V
 
 // The text of the table over these records.
 fn table_of(alloc: Global, plan: &Plan, rows: &RowStore) -> Result<Vec<u8>, Stop>
-    requires named { IsNamed plan.now.plan }
     requires some { 0 < length rows.now }
     requires few { length rows.now ≤ MOST_RECORDS }
     ensures table { IfOk result (λ text. (by_records plan.now.plan rows.now ≡ Table) × IsAnswer plan.now.plan rows.now text.items) }
@@ -187,7 +184,7 @@ fn table_of(alloc: Global, plan: &Plan, rows: &RowStore) -> Result<Vec<u8>, Stop
     };
     match groups::groups_of(alloc, rows, &bound) {
         Ok(groups) => Ok(text_of(alloc, plan, &bound, &groups)?),
-        Err(answer) => Err(names::stop_of_block(alloc, plan, &bound, answer)),
+        Err(answer) => Err(names::stop_of_block(alloc, plan, answer)),
     }
 }
 

@@ -1,7 +1,8 @@
 //! The grammars of the options' values: lists between commas, aggregates, a filter, numbers.
 
-ghost use Rattle.std.specs.Prelude.{◌≡◌, ◌==◌, ◌≤◌, None, Some, IfOk, IfSome, length, map, option_map, string_bytes, vec_len};
+ghost use Rattle.std.specs.Prelude.{◌≡◌, ◌==◌, ◌≤◌, None, Some, IfOk, IfSome, IsTrue, length, map, option_map, string_bytes, vec_len};
 ghost use Rattle.std.specs.List.{list_any, position_or_len};
+ghost use Rattle.par_model.specs.Columns.{reads_column};
 ghost use Rattle.par_model.specs.Table.{kind_text};
 ghost use Rattle.plan_spec.specs.Grammar.{comparison_in, filter_in, hash_in, is_relation_byte, item_in, item_over, items_in, kind_in, names_in, number_in, parts_of, relation_in};
 ghost use Rattle.plan_spec.specs.declared.plan.PlanAnswer.TheVariants as answer;
@@ -120,7 +121,7 @@ fn row_count(alloc: Global) -> Result<PlanItem, AllocError>
 
 // An aggregate of a column.
 fn column_item(alloc: Global, kind: ItemKind, name: &str) -> Result<PlanItem, AllocError>
-    requires { kind ≡ ItemKind.Rows → ⊥ }
+    requires { IsTrue (reads_column kind) }
     ensures { IfOk result (λ i. i ≡ item_over name.now kind) }
 {
     let mut text = String::from_str(alloc, kind_word(kind))?;
@@ -150,7 +151,7 @@ fn kind_word(kind: ItemKind) -> &'static str
 // The kind of aggregate of a column that a word names.
 fn kind(word: &str) -> Option<ItemKind>
     ensures kind { result ≡ kind_in word.now }
-    ensures reads { IfSome result (λ kind. kind ≡ ItemKind.Rows → ⊥) }
+    ensures reads { IfSome result (λ kind. IsTrue (reads_column kind)) }
 {
     if word == "count" {
         Some(ItemKind::Count)

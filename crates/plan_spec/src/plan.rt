@@ -1,6 +1,7 @@
 //! A plan by the names of its columns, with the number of workers and the pages of the shared area.
 
-ghost use Rattle.std.specs.Prelude.{◌≡◌, ◌<◌, ◌≤◌, ◌++◌, [], filter_map, length, map, option_map, option_to_list, slice_index_or};
+ghost use Rattle.std.specs.Prelude.{◌≡◌, ◌<◌, ◌≤◌, ◌++◌, [], IfSome, filter_map, is_some, length, map, option_and_then, option_map, option_to_list, slice_get, slice_index_or};
+ghost use Rattle.par_model.specs.Columns.{reads_column};
 ghost use Rattle.par_model.specs.Named.{names_of};
 ghost use Rattle.par_model.specs.Table.{item_text};
 
@@ -111,6 +112,28 @@ impl Plan {
     {
         let item = &self.items[at as usize];
         item.text.as_str()
+    }
+
+    /// The name of the column that an aggregate reads, if it reads one. There is none past the last aggregate.
+    pub fn item_name(&self, at: u32) -> Option<&str>
+        ensures name { option_map (λ s. s.now) result ≡ option_and_then (λ item. item.column) (slice_get self.now.plan.items at) }
+        ensures reads { IfSome (slice_get self.now.plan.items at) (λ item. is_some result ≡ reads_column item.kind) }
+    {
+        let item = self.items.get(at as usize)?;
+        match &item.column {
+            Some(name) => Some(name.as_str()),
+            None => None,
+        }
+    }
+
+    /// The name of the filter's column, if there is a filter.
+    pub fn filter_name(&self) -> Option<&str>
+        ensures { option_map (λ s. s.now) result ≡ option_map (λ filter. filter.column) self.now.plan.filter }
+    {
+        match &self.filter {
+            Some(filter) => Some(filter.column.as_str()),
+            None => None,
+        }
     }
 }
 

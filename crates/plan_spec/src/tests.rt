@@ -1,7 +1,8 @@
 //! What no clause says: that words are read, and what `clap` makes of them.
 
-ghost use Rattle.std.specs.Prelude.{◌≡◌, IfSome, map, string_bytes};
+ghost use Rattle.std.specs.Prelude.{◌≡◌, IfSome, length, map, string_bytes};
 ghost use Rattle.csv_rows.specs.Records.{record_at};
+ghost use Rattle.par_model.specs.Columns.{HasColumns};
 ghost use Rattle.par_model.specs.Named.{bound_plan};
 ghost use Rattle.plan_spec.specs.Query.{query_of};
 
@@ -25,7 +26,8 @@ fn owned(alloc: Global, words: &str) -> Result<Vec<String>, AllocError> {
 // The plan of the words over the columns of the store's header, if there is one: the caller of
 // CALLING.md.
 fn bound_words(alloc: Global, words: &[String], store: &RowStore) -> Option<BoundPlan>
-    ensures { IfSome result (λ bound. IfSome (query_of (map string_bytes words.now)) (λ query. bound ≡ bound_plan (record_at store.now 0) query.plan)) }
+    ensures plan { IfSome result (λ bound. IfSome (query_of (map string_bytes words.now)) (λ query. bound ≡ bound_plan (record_at store.now 0) query.plan)) }
+    ensures columns { IfSome result (λ bound. HasColumns bound (length (record_at store.now 0))) }
 {
     let plan = Plan::of_words(alloc, words).ok()?;
     plan.bind(store).ok()
@@ -84,6 +86,10 @@ fn binds(rt: HostRuntime) -> Result<(), Fail> {
     if let Ok(plan) = Plan::of_words(rt.alloc(), list.as_slice()) {
         assert_eq!(rt; plan.workers(), 7);
         assert_eq!(rt; plan.area_pages(), 2048);
+        assert_eq!(rt; plan.item_name(0), None);
+        assert_eq!(rt; plan.item_name(1), Some("v"));
+        assert_eq!(rt; plan.item_name(2), None);
+        assert_eq!(rt; plan.filter_name(), Some("v"));
     }
     match bound_words(rt.alloc(), list.as_slice(), &store) {
         Some(bound) => {

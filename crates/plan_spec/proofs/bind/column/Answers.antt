@@ -5,8 +5,8 @@ use Rattle.csv_rows.specs.Records.{field_of, record_at}
 use Rattle.plan_spec.proofs.Places.{place-here, place-more}
 use Rattle.plan_spec.proofs.bind.column.Goals as goal
 
-pub returns-then-eq : goal.returns-then-eq
-returns-then-eq c =
+pub returns-then-eq-clause-first : goal.returns-then-eq-clause-first
+returns-then-eq-clause-first c =
     let header = record_at c.args.rows.now 0 in
     let lt : c.fields.at < length header = omega (arith, c.fields-test.true, c.width-at-end.ensures) in
     let equal : bytes_eq c.args.name.now (field_of c.args.rows.now 0 c.fields.at) ≡ true = rw (c.as_bytes.ensures.value, c.field.ensures) at (sym c.eq.ensures ∙ c.if-eq.true) in
