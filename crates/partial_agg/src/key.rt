@@ -120,6 +120,14 @@ impl GroupKey {
         word_at(&self.bytes, 0)
     }
 
+    // And the next eight.
+    fn second_word(&self) -> u64
+        ensures number { front 16 self.now ≡ front 8 self.now * 2 ^ 64 + result }
+        ensures bytes { (i : ℕ) → slice_index self.now i < 2 ^ 8 }
+    {
+        word_at(&self.bytes, 8)
+    }
+
     // Compares two keys whose first words are the same.
     fn cmp_rest(&self, other: &GroupKey) -> Ordering
         requires { front 8 self.now ≡ front 8 other.now }
@@ -133,14 +141,6 @@ impl GroupKey {
         } else {
             self.bytes().cmp(other.bytes())
         }
-    }
-
-    // And the next eight.
-    fn second_word(&self) -> u64
-        ensures number { front 16 self.now ≡ front 8 self.now * 2 ^ 64 + result }
-        ensures bytes { (i : ℕ) → slice_index self.now i < 2 ^ 8 }
-    {
-        word_at(&self.bytes, 8)
     }
 }
 
