@@ -4,6 +4,7 @@ pub mod Front
 pub mod Refusals
 pub mod Places
 pub mod Maps
+pub mod Placed
 pub mod OneRow
 pub mod Blocks
 pub mod Ideal

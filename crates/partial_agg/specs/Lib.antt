@@ -5,5 +5,7 @@ pub mod Groups
 pub mod Reading
 pub mod Reads
 pub mod Listed
+pub mod Knows
+pub mod Placed
 pub mod Blocks
 pub mod Laws

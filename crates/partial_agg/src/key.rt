@@ -78,6 +78,33 @@ impl GroupKey {
         }
     }
 
+    // Whether another key has the same bytes.
+    pub(crate) fn is(&self, other: &GroupKey) -> bool
+        ensures { IsTrue result ↔ (self.now ≡ other.now) }
+    {
+        if self.len as usize <= FRONT {
+            self.len == other.len
+                && self.first_word() == other.first_word()
+                && self.second_word() == other.second_word()
+        } else {
+            self.bytes() == other.bytes()
+        }
+    }
+
+    // A number that keys of other bytes seldom have.
+    pub(crate) fn hash(&self) -> u64 {
+        let mut hash = mixed(self.len.into(), self.first_word());
+        hash = mixed(hash, self.second_word());
+        let len = self.len as usize;
+        if len > FRONT {
+            for at in (FRONT..len - 7).step_by(8) {
+                hash = mixed(hash, word_at(&self.bytes, at));
+            }
+            hash = mixed(hash, word_at(&self.bytes, len - 8));
+        }
+        hash
+    }
+
     // Takes the bytes away.
     pub(crate) fn clear(&mut self)
         ensures { self.new ≡ [] }
@@ -120,6 +147,14 @@ impl GroupKey {
         word_at(&self.bytes, 0)
     }
 
+    // And the next eight.
+    fn second_word(&self) -> u64
+        ensures number { front 16 self.now ≡ front 8 self.now * 2 ^ 64 + result }
+        ensures bytes { (i : ℕ) → slice_index self.now i < 2 ^ 8 }
+    {
+        word_at(&self.bytes, 8)
+    }
+
     // Compares two keys whose first words are the same.
     fn cmp_rest(&self, other: &GroupKey) -> Ordering
         requires { front 8 self.now ≡ front 8 other.now }
@@ -134,14 +169,11 @@ impl GroupKey {
             self.bytes().cmp(other.bytes())
         }
     }
+}
 
-    // And the next eight.
-    fn second_word(&self) -> u64
-        ensures number { front 16 self.now ≡ front 8 self.now * 2 ^ 64 + result }
-        ensures bytes { (i : ℕ) → slice_index self.now i < 2 ^ 8 }
-    {
-        word_at(&self.bytes, 8)
-    }
+// A hash after one more word.
+fn mixed(hash: u64, word: u64) -> u64 {
+    (hash.rotate_left(5) ^ word).wrapping_mul(0x517C_C1B7_2722_0A95)
 }
 
 // The eight bytes from a place on as a number, highest first.

@@ -1,9 +1,17 @@
-//! The map from the keys of groups to their aggregates, over std's ordered map, and the list that it ends as.
+//! The map from the keys of groups to their aggregates, and the list that it ends as.
 //!
-//! A group lies in the map with its key and its state by value, about 700 bytes. A row of a group that is there costs one
-//! path of comparisons and changes its state in place; only a new group takes memory.
+//! It has three parts. `states` has the state of each group, one after the other in the order in which the groups came;
+//! `places` is std's ordered map from each key to the place of its state, and gives the order in the end; `recent` knows the
+//! places of keys that rows had lately, and is asked first. So a row of a group that was met lately costs one comparison of
+//! keys and changes its state in place; another costs a path of comparisons; only a new group takes memory, about 260 bytes
+//! for its key and 400 for its state. PostgreSQL's hash aggregation keeps states apart from what finds them, too.
+//!
+//! A new group is put at the end of `states`, then into `places`. `take_first` takes a key out of `places`, and leaves its state
+//! where it is, to be used no more, until no key is left. Each place is below the number of states and is that of one key, so
+//! that a state that changes is that of one key alone; and what `recent` knows of a key is the place that `places` has, so that
+//! it matters nowhere what it knows.
 
-ghost use Rattle.std.specs.Prelude.{◌≡◌, ◌<◌, ◌≤◌, ◌+◌, ◌*◌, ◌^◌, ◌∷◌, ◌++◌, [], ℕ, List, IfOk, IfErr, IfSome, IfNone, OnOk, OnErr, Some, All, length};
+ghost use Rattle.std.specs.Prelude.{◌≡◌, ◌<◌, ◌≤◌, ◌+◌, ◌*◌, ◌^◌, ◌∷◌, ◌++◌, [], ℕ, List, IfOk, IfErr, IfSome, IfNone, OnOk, OnErr, None, Some, All, length};
 ghost use Rattle.std.specs.FinMap as map;
 ghost use Rattle.csv_rows.specs.Records.{record_at};
 ghost use Rattle.par_model.specs.Plan.{Plan};
@@ -16,6 +24,7 @@ ghost use Rattle.partial_agg.specs.Rows.{IsAccepted, block_rows, header_width};
 
 use crate::groups::{Group, Groups};
 use crate::key::GroupKey;
+use crate::recent::Recent;
 use crate::row::{Reading, RowBuffer, items};
 use crate::state::{add_values, combine, one_row};
 use csv_rows::RowStore;
@@ -30,19 +39,25 @@ pub const BLOCK_ROWS: u64 = 256;
 /// A map from keys to states, in the order of the keys' bytes.
 #[derive(Drop)]
 pub struct GroupMap {
-    by_key: BTreeMap<GroupKey, AggState>,
+    places: BTreeMap<GroupKey, usize>,
+    states: Vec<AggState>,
+    recent: Recent,
     alloc: Global,
 }
 
 impl Model for GroupMap {
+    ghost use Rattle.std.specs.Prelude.{length};
     ghost use Rattle.partial_agg.specs.Groups.{GroupsByKey, groups_code};
-    ghost use Rattle.std.specs.FinMap as map;
 
     ghost Value = { GroupsByKey };
 
     ghost coded = { groups_code };
 
-    ghost view = { λ m. map.from_entries m.by_key.entries };
+    ghost use Rattle.partial_agg.specs.Placed.{ArePlaces, groups_at};
+
+    ghost view = { λ m. groups_at m.places.entries m.states.items };
+
+    ghost invariant = { λ m. ArePlaces m.places.entries (length m.states.items) m.recent };
 }
 
 /// Why a block was not added whole: its first refused row, or want of memory.
@@ -59,7 +74,9 @@ impl GroupMap {
         ensures groups { (plan : Plan) → AreGroups plan [] result }
     {
         GroupMap {
-            by_key: BTreeMap::new(alloc),
+            places: BTreeMap::new(alloc),
+            states: Vec::new(alloc),
+            recent: Recent::new(alloc),
             alloc,
         }
     }
@@ -68,7 +85,7 @@ impl GroupMap {
     pub fn len(&self) -> usize
         ensures { result ≡ map.len self.now }
     {
-        self.by_key.len()
+        self.places.len()
     }
 
     /// Adds a state under a key: to the state that the key has, if it has one. The time is that of a look-up.
@@ -76,12 +93,12 @@ impl GroupMap {
         ensures ok { OnOk result (self.new ≡ added self.old key state.now) }
         ensures err { OnErr result (self.new ≡ self.old) }
     {
-        if let Some(before) = self.by_key.get_mut(&key) {
-            combine(before, state);
+        if let Some(place) = self.places.get(&key) {
+            let place = *place;
+            combine(&mut self.states[place], state);
             return Ok(());
         }
-        self.by_key.insert(key, *state)?;
-        Ok(())
+        self.add_new(key, state)
     }
 
     /// Takes the group with the least key out of the map.
@@ -90,16 +107,31 @@ impl GroupMap {
         ensures none { IfNone result (self.old ≡ map.empty) }
         ensures unchanged { IfNone result (self.new ≡ self.old) }
     {
-        self.by_key.pop_first()
+        let Some((key, place)) = self.places.pop_first() else {
+            return None;
+        };
+        self.recent.forget();
+        let state = self.states[place];
+        if self.places.is_empty() {
+            self.states.clear();
+            self.recent = Recent::new(self.alloc);
+        }
+        Some((key, state))
     }
 
     /// The groups as a list in the order of their keys. The map is used up, also where memory is wanting.
     pub fn into_groups(self) -> Result<Groups, AllocError>
         ensures { IfOk result (λ groups. groups ≡ listed self) }
     {
-        let GroupMap { by_key, alloc } = self;
-        let mut list = Vec::with_capacity(alloc, by_key.len())?;
-        for (key, state) in by_key {
+        let GroupMap {
+            places,
+            states,
+            recent: _,
+            alloc,
+        } = self;
+        let mut list = Vec::with_capacity(alloc, places.len())?;
+        for (key, place) in places {
+            let state = states[place];
             if list.push(Group { key, state }).is_err() {
                 return Err(AllocError);
             }
@@ -178,21 +210,47 @@ impl GroupMap {
         ensures ok { OnOk result (self.new ≡ added self.old key.now (values_state values.now)) }
         ensures err { OnErr result (self.new ≡ self.old) }
     {
-        if let Some(state) = self.by_key.get_mut(key) {
-            add_values(state, values);
+        if let Some(place) = self.recent.find(key) {
+            add_values(&mut self.states[place], values);
             return Ok(());
         }
-        self.add_first(key, values)
+        self.add_looked_up(key, values)
     }
 
-    // Puts the first row of a key into the map. It is kept apart, since room for a state on the stack costs time at each row.
+    // The same where the key is none of those that were met lately.
     #[inline(never)]
-    fn add_first(&mut self, key: &GroupKey, values: &[Option<i64>]) -> Result<(), AllocError>
+    fn add_looked_up(&mut self, key: &GroupKey, values: &[Option<i64>]) -> Result<(), AllocError>
         requires { length values.now ≤ 8 }
-        ensures ok { OnOk result (self.new ≡ map.insert self.old key.now (values_state values.now)) }
+        ensures ok { OnOk result (self.new ≡ added self.old key.now (values_state values.now)) }
         ensures err { OnErr result (self.new ≡ self.old) }
     {
-        self.by_key.insert(key.copied(), one_row(values))?;
-        Ok(())
+        if let Some(place) = self.places.get(key) {
+            let place = *place;
+            self.recent.note(key, place);
+            add_values(&mut self.states[place], values);
+            return Ok(());
+        }
+        self.add_new(key.copied(), &one_row(values))
+    }
+
+    // Puts a group that is not there into the map.
+    #[inline(never)]
+    fn add_new(&mut self, key: GroupKey, state: &AggState) -> Result<(), AllocError>
+        requires { map.get self.old key ≡ None }
+        ensures ok { OnOk result (self.new ≡ added self.old key state.now) }
+        ensures err { OnErr result (self.new ≡ self.old) }
+    {
+        let place = self.states.len();
+        self.states.push(*state)?;
+        match self.places.insert(key, place) {
+            Ok(_) => {
+                self.recent.fit(self.alloc, self.places.len());
+                Ok(())
+            }
+            Err(_) => {
+                let _ = self.states.pop();
+                Err(AllocError)
+            }
+        }
     }
 }

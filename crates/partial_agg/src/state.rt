@@ -2,7 +2,7 @@
 
 ghost use Rattle.std.specs.Prelude.{◌≡◌, ◌≤◌, ◌+ℤ◌, [], length};
 ghost use Rattle.std.specs.Int.{int_max, int_min, int_wrap, w128};
-ghost use Rattle.par_model.specs.Aggregate.{state_of_rows};
+ghost use Rattle.par_model.specs.Aggregate.{no_values, state_of_rows};
 ghost use Rattle.par_model.specs.Plan.{Plan};
 ghost use Rattle.partial_agg.specs.Reading.{slot_of_value, values_state};
 ghost use Rattle.partial_agg.specs.State.{among, combined, combined_slot, combined_slots, empty_state, value_slot};
@@ -59,7 +59,7 @@ fn add_to_slots(slots: &mut [SlotState; 8], values: &[Option<i64>])
 {
     for i in 0..8 {
         let value = if i < values.len() { values[i] } else { None };
-        slots[i] = slot_with(&slots[i], value);
+        add_to_slot(&mut slots[i], value);
     }
 }
 
@@ -97,11 +97,29 @@ fn slots_together(a: &SlotState, b: &SlotState) -> SlotState
     }
 }
 
-// A slot and one value more, where there is one.
-fn slot_with(slot: &SlotState, value: Option<i64>) -> SlotState
-    ensures { result ≡ combined_slot slot.now (slot_of_value value) }
+// Adds a value to a slot, where there is one.
+fn add_to_slot(slot: &mut SlotState, value: Option<i64>)
+    ensures { slot.new ≡ combined_slot slot.old (slot_of_value value) }
 {
-    slots_together(slot, &slot_of(value))
+    match value {
+        None => add_nothing(slot),
+        Some(n) => *slot = slots_together(slot, &one_value(n)),
+    }
+}
+
+// The slot stays, but that one without values has neither a least nor a greatest.
+fn add_nothing(slot: &mut SlotState)
+    ensures { slot.new ≡ combined_slot slot.old no_values }
+{
+    let SlotState { count, sum, .. } = *slot;
+    if count == 0 {
+        *slot = SlotState {
+            count,
+            sum,
+            least: 0,
+            greatest: 0,
+        };
+    }
 }
 
 // The slot of one value.

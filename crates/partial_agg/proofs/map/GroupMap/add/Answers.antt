@@ -1,16 +1,11 @@
-use Rattle.std.proofs.Common.{◌∙◌, ap, sym, is_some}
-use Rattle.std.specs.BTreeMap.{is_at}
-use Rattle.std.specs.Map.{lookup}
-use Rattle.partial_agg.specs.Groups.{key_cmp}
-use Rattle.partial_agg.proofs.Maps.{added_new, added_there, view}
+use Rattle.std.proofs.Common.{sym}
+use Rattle.partial_agg.proofs.Placed.{absent, state_changed}
 use Rattle.partial_agg.proofs.map.GroupMap.add.Goals as goal
 
 pub returns-in-Some-clause-ok : goal.returns-in-Some-clause-ok
 returns-in-Some-clause-ok c =
-    added_there c.args.self.now c.self.inside.by_key.entries (c.get_mut.follows.lender c.combine.new.state).entries c.args.key c.in-Some.before.now c.combine.new.state c.args.state.now
-    c.self.view_is (sym c.in-Some.ensures.value) c.combine.ensures ((c.get_mut.follows.holds c.combine.new.state).3 (sym (ap is_some c.in-Some.ensures.value))).0
+    state_changed c.args.self.now c.self.inside.places.entries c.self.inside.states.items c.self.inside.recent c.args.key c.in-Some.place.now c.index_mut.result.now c.combine.new.state c.args.state.now
+    c.self.view_is c.self.invariant (sym c.in-Some.ensures.value) c.index_mut.ensures.value c.combine.ensures
 
-pub returns-clause-ok : goal.returns-clause-ok
-returns-clause-ok c =
-    added_new c.args.self.now c.get_mut.follows.lender-at-none.entries c.insert.new.self.entries c.args.key c.args.state.now
-    (ap (λ m. view m.entries) c.get_mut.follows.holds-at-none ∙ c.self.view_is) (ap (λ m. lookup (is_at (key_cmp c.args.key)) m.entries) c.get_mut.follows.holds-at-none ∙ sym c.in_default.ensures.value) (c.in_ok-insert.ensures.updates.0)
+pub add_new-requires : goal.add_new-requires
+add_new-requires c = absent c.args.self.now c.self.inside.places.entries c.self.inside.states.items c.args.key c.self.view_is (sym c.in_default.ensures.value)

@@ -1,9 +1,6 @@
-use Rattle.std.proofs.Common.{◌∙◌, ap, sym, length}
-use Rattle.std.specs.FinMap as map
-use Rattle.partial_agg.proofs.Maps.{entries-view, sorted-from_ordered, view}
+use Rattle.std.proofs.Common.{◌∙◌, sym}
+use Rattle.partial_agg.proofs.Placed.{length-groups_at}
 use Rattle.partial_agg.proofs.map.GroupMap.len.Goals as goal
 
 pub returns : goal.returns
-returns c =
-    c.len.ensures.len
-    ∙ sym (ap map.len (sym c.self.view_is) ∙ map.len-entries (view c.self.inside.by_key.entries) ∙ ap length (entries-view c.self.inside.by_key.entries (sorted-from_ordered c.self.inside.by_key.entries c.len.ensures.ordered)))
+returns c = c.len.ensures.len ∙ sym (length-groups_at c.args.self.now c.self.inside.places.entries c.self.inside.states.items c.self.view_is c.len.ensures.ordered)
