@@ -3,8 +3,9 @@
 //! It has three parts. `states` has the state of each group, one after the other in the order in which the groups came;
 //! `places` is std's ordered map from each key to the place of its state, and gives the order in the end; `recent` knows the
 //! places of keys that rows had lately, and is asked first. So a row of a group that was met lately costs one comparison of
-//! keys and changes its state in place; another costs a path of comparisons; only a new group takes memory, about 260 bytes
-//! for its key and 400 for its state. PostgreSQL's hash aggregation keeps states apart from what finds them, too.
+//! keys and changes its state in place; another costs a path of comparisons. A new group takes about 260 bytes for its key
+//! and 400 for its state, and its next row as much again for the key if `recent` has room. PostgreSQL's hash aggregation
+//! keeps states apart from what finds them, too.
 //!
 //! A new group is put at the end of `states`, then into `places`. `take_first` takes a key out of `places`, and leaves its state
 //! where it is, to be used no more, until no key is left. Each place is below the number of states and is that of one key, so
@@ -20,12 +21,13 @@ ghost use Rattle.partial_agg.specs.Blocks.{Explains, Stopped};
 ghost use Rattle.partial_agg.specs.Groups.{AreGroups, added, with_rows};
 ghost use Rattle.partial_agg.specs.Listed.{listed};
 ghost use Rattle.partial_agg.specs.Reading.{values_state};
+ghost use Rattle.partial_agg.specs.Reads.{IsKeptBy};
 ghost use Rattle.partial_agg.specs.Rows.{IsAccepted, block_rows, header_width};
 
 use crate::groups::{Group, Groups};
 use crate::key::GroupKey;
 use crate::recent::Recent;
-use crate::row::{Reading, RowBuffer, items};
+use crate::row::{Reading, RowBuffer, items, read_values};
 use crate::state::{add_values, combine, one_row};
 use csv_rows::RowStore;
 use par_model::{AggState, BoundPlan};
@@ -187,37 +189,56 @@ impl GroupMap {
         ensures stopped { IfErr result (Explains plan.now rows.now row) }
         ensures err { OnErr result (self.new ≡ self.old) }
     {
-        match buffer.read(rows, row, plan) {
+        match buffer.read_key(rows, row, plan) {
             Reading::Refused(refusal) => Err(BlockAnswer::Row {
                 row,
                 cause: refusal.cause,
                 item: refusal.item,
             }),
             Reading::LeftOut => Ok(()),
-            Reading::Kept => {
-                let count = items(plan).len();
-                match self.add_values(&buffer.key, &buffer.values[..count]) {
-                    Ok(()) => Ok(()),
-                    Err(AllocError) => Err(BlockAnswer::Memory),
-                }
-            }
+            Reading::Kept => self.add_kept(buffer, rows, row, plan),
         }
     }
 
-    // Adds a row of this key that has these values.
-    fn add_values(&mut self, key: &GroupKey, values: &[Option<i64>]) -> Result<(), AllocError>
-        requires { length values.now ≤ 8 }
-        ensures ok { OnOk result (self.new ≡ added self.old key.now (values_state values.now)) }
+    // Reads the values of a row whose key is read, and adds it. The key is looked for first, so that what this waits for comes
+    // while the values are parsed.
+    fn add_kept(
+        &mut self,
+        buffer: &mut RowBuffer,
+        rows: &RowStore,
+        row: u64,
+        plan: &BoundPlan,
+    ) -> Result<(), BlockAnswer>
+        requires row { row < length rows.now }
+        requires columns { HasColumns plan.now (header_width rows.now) }
+        requires kept { IsKeptBy plan.now (header_width rows.now) (record_at rows.now row) buffer.old.key }
+        ensures added { OnOk result (self.new ≡ with_rows plan.now self.old (record_at rows.now row ∷ [])) }
+        ensures accepted { OnOk result (IsAccepted plan.now (header_width rows.now) (record_at rows.now row)) }
+        ensures stopped { IfErr result (Explains plan.now rows.now row) }
         ensures err { OnErr result (self.new ≡ self.old) }
     {
-        if let Some(place) = self.recent.find(key) {
+        let known = self.recent.find(&buffer.key);
+        let items = items(plan);
+        match read_values(&mut buffer.values, rows, row, items) {
+            Ok(()) => {}
+            Err(item) => return Err(BlockAnswer::Row {
+                row,
+                cause: 3,
+                item,
+            }),
+        }
+        let values = &buffer.values[..items.len()];
+        if let Some(place) = known {
             add_values(&mut self.states[place], values);
             return Ok(());
         }
-        self.add_looked_up(key, values)
+        match self.add_looked_up(&buffer.key, values) {
+            Ok(()) => Ok(()),
+            Err(AllocError) => Err(BlockAnswer::Memory),
+        }
     }
 
-    // The same where the key is none of those that were met lately.
+    // Adds a row of this key that has these values, where the key is none of those that were met lately.
     #[inline(never)]
     fn add_looked_up(&mut self, key: &GroupKey, values: &[Option<i64>]) -> Result<(), AllocError>
         requires { length values.now ≤ 8 }

@@ -1,6 +1,6 @@
 //! The aggregates of a group as far as rows were added, and how two of them combine.
 
-ghost use Rattle.std.specs.Prelude.{◌≡◌, ◌≤◌, ◌+ℤ◌, [], length};
+ghost use Rattle.std.specs.Prelude.{◌≡◌, ◌<◌, ◌≤◌, ◌+ℤ◌, [], length};
 ghost use Rattle.std.specs.Int.{int_max, int_min, int_wrap, w128};
 ghost use Rattle.par_model.specs.Aggregate.{no_values, state_of_rows};
 ghost use Rattle.par_model.specs.Plan.{Plan};
@@ -103,7 +103,44 @@ fn add_to_slot(slot: &mut SlotState, value: Option<i64>)
 {
     match value {
         None => add_nothing(slot),
-        Some(n) => *slot = slots_together(slot, &one_value(n)),
+        Some(n) => add_number(slot, n),
+    }
+}
+
+// Adds a number to a slot in place. The least and the greatest seldom change, so they are written only where they do.
+fn add_number(slot: &mut SlotState, n: i64)
+    ensures { slot.new ≡ combined_slot slot.old (value_slot n) }
+{
+    if slot.count == 0 {
+        *slot = slots_together(slot, &one_value(n));
+    } else {
+        add_among(slot, n);
+    }
+}
+
+fn add_among(slot: &mut SlotState, n: i64)
+    requires { 0 < slot.old.count }
+    ensures { slot.new ≡ combined_slot slot.old (value_slot n) }
+{
+    slot.count = slot.count.wrapping_add(1);
+    slot.sum = sum_together(slot.sum, i128::from(n));
+    lower(&mut slot.least, n);
+    raise(&mut slot.greatest, n);
+}
+
+fn lower(least: &mut i64, n: i64)
+    ensures { least.new ≡ int_min least.old n }
+{
+    if n < *least {
+        *least = n;
+    }
+}
+
+fn raise(greatest: &mut i64, n: i64)
+    ensures { greatest.new ≡ int_max greatest.old n }
+{
+    if *greatest < n {
+        *greatest = n;
     }
 }
 
