@@ -4,6 +4,7 @@ pub mod Keys
 pub mod Magnitudes
 pub mod Places
 pub mod Refused
+pub mod Chunks
 pub mod ShortIntegers
 pub mod Slots
 pub mod Worked

@@ -14,7 +14,7 @@ use Rattle.par_model.specs.Integer.{integer_of, is_space, without_spaces}
 use Rattle.par_model.specs.Magnitude.{is_magnitude, is_short_magnitude, magnitude_of, short_magnitude_of, with_sign}
 use Rattle.par_model.proofs.Magnitudes.{number-signed}
 
-digits : IsNumeralModel (λ ds. list_all is_ascii_digit ds ≡ true) (digits_value 10)
+pub digits : IsNumeralModel (λ ds. list_all is_ascii_digit ds ≡ true) (digits_value 10)
 digits = numerals_by_value _ (search rules)
 
 -- the front of at most eighteen digits writes a number below 10 ^ 18
@@ -49,13 +49,13 @@ digits-no-spaces field k le some all first =
     no-spaces field (omega (arith, sizes, some)) first (rw at at last)
 
 -- what is known where digits are a short magnitude
-record IsShort (ds : List ℕ) (size : ℕ) : Type 0 where
-  some : 0 < length ds
-  short : length ds ≤ 18
-  all : list_all is_ascii_digit ds ≡ true
-  value : digits_value 10 ds ≡ size
+pub record IsShort (ds : List ℕ) (size : ℕ) : Type 0 where
+  pub some : 0 < length ds
+  pub short : length ds ≤ 18
+  pub all : list_all is_ascii_digit ds ≡ true
+  pub value : digits_value 10 ds ≡ size
 
-short-parts : (ds : List ℕ) (size : ℕ) → short_magnitude_of ds ≡ Some size → IsShort ds size
+pub short-parts : (ds : List ℕ) (size : ℕ) → short_magnitude_of ds ≡ Some size → IsShort ds size
 short-parts ds size e = elim (cases_Bool (is_short_magnitude ds)) [
   | inl is ↦ record { some = grind (arith, nat_tests, is); short = grind (arith, nat_tests, is); all = grind (arith, nat_tests, is); value = grind (arith, is, e) }
   | inr other ↦ grind (arith, other, e)

@@ -8,9 +8,10 @@
 //! looks for no space and tests no step against overflow. Where it finds anything else, the general
 //! way decides.
 
-ghost use Rattle.std.specs.Prelude.{◌≡◌, ◌<◌, ◌≤◌, ◌^◌, IfSome, Some, length};
-ghost use Rattle.std.specs.List.{prefix_len, suffix_len};
-ghost use Rattle.std.specs.Str.Parse.{starts_with_minus, without_leading_sign};
+ghost use Rattle.std.specs.Prelude.{◌≡◌, ◌<◌, ◌≤◌, ◌^◌, IfSome, Some, length, true};
+ghost use Rattle.std.specs.List.{list_all, prefix_len, suffix_len};
+ghost use Rattle.std.specs.Char.{digit_value, is_ascii_digit};
+ghost use Rattle.std.specs.Str.Parse.{digits_value, starts_with_minus, without_leading_sign};
 ghost use Rattle.par_model.specs.Integer.{integer_of, is_space, number_of, without_spaces};
 ghost use Rattle.par_model.specs.Magnitude.{magnitude_of, short_magnitude_of, with_sign};
 
@@ -19,6 +20,9 @@ const LARGEST: u64 = 0x8000_0000_0000_0000;
 
 // How many digits the short way reads at most.
 const SHORT: usize = 18;
+
+// How many digits are read at once.
+const CHUNK: usize = 8;
 
 /// The integer of a field, if it is one: any number of spaces, an optional `+` or `-`, one or more
 /// ASCII digits, any number of spaces, with a value of 64 signed bits. Its time is linear in the
@@ -35,6 +39,82 @@ pub fn read_integer(field: &[u8]) -> Option<i64>
 
 // The number that one to eighteen digits write, if there is nothing else.
 fn short_magnitude(digits: &[u8]) -> Option<u64>
+    ensures value { result ≡ short_magnitude_of digits.now }
+    ensures within { IfSome result (λ size. size < 10 ^ 18) }
+{
+    if digits.len() > 2 * CHUNK {
+        return digit_by_digit(digits);
+    }
+    let Some(first) = digits.first_chunk::<CHUNK>() else {
+        return digit_by_digit(digits);
+    };
+    let Some(last) = digits.last_chunk::<CHUNK>() else {
+        return digit_by_digit(digits);
+    };
+    let front = eight_digits(first)?;
+    let back = eight_digits(last)?;
+    // What stands before the last eight digits is at the head of the first eight.
+    let before = front / power_of_ten(2 * CHUNK - digits.len());
+    Some(u64::from(before) * 100_000_000 + u64::from(back))
+}
+
+// The number that eight digits write, if they are digits.
+fn eight_digits(digits: &[u8; 8]) -> Option<u32>
+    ensures { result ≡ short_magnitude_of digits.now }
+{
+    if are_digits(digits) {
+        Some(value_of_digits(digits))
+    } else {
+        None
+    }
+}
+
+fn are_digits(bytes: &[u8; 8]) -> bool
+    ensures { result ≡ list_all is_ascii_digit bytes.now }
+{
+    let [a, b, c, d, e, f, g, h] = *bytes;
+    let front = a.is_ascii_digit() & b.is_ascii_digit() & c.is_ascii_digit() & d.is_ascii_digit();
+    front & e.is_ascii_digit() & f.is_ascii_digit() & g.is_ascii_digit() & h.is_ascii_digit()
+}
+
+// The number that eight bytes write if they are digits, and some number if they are not.
+fn value_of_digits(bytes: &[u8; 8]) -> u32
+    ensures { list_all is_ascii_digit bytes.now ≡ true → result ≡ digits_value 10 bytes.now }
+{
+    let [a, b, c, d, e, f, g, h] = *bytes;
+    let front = (unit(a) * 10 + unit(b)) * 100 + (unit(c) * 10 + unit(d));
+    let back = (unit(e) * 10 + unit(f)) * 100 + (unit(g) * 10 + unit(h));
+    front * 10_000 + back
+}
+
+// The value of a digit, and some byte's value of another byte.
+fn unit(byte: u8) -> u32
+    ensures within { result < 256 }
+    ensures digit { is_ascii_digit byte ≡ true → result ≡ digit_value byte }
+{
+    u32::from(byte.wrapping_sub(b'0'))
+}
+
+fn power_of_ten(count: usize) -> u32
+    requires { count ≤ 8 }
+    ensures value { result ≡ 10 ^ count }
+    ensures positive { 0 < result }
+{
+    match count {
+        0 => 1,
+        1 => 10,
+        2 => 100,
+        3 => 1_000,
+        4 => 10_000,
+        5 => 100_000,
+        6 => 1_000_000,
+        7 => 10_000_000,
+        _ => 100_000_000,
+    }
+}
+
+// The same, one digit at a time.
+fn digit_by_digit(digits: &[u8]) -> Option<u64>
     ensures value { result ≡ short_magnitude_of digits.now }
     ensures within { IfSome result (λ size. size < 10 ^ 18) }
 {

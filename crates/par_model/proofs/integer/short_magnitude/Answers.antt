@@ -1,30 +1,25 @@
-use Rattle.std.proofs.Common.{arith, get_or, refl}
-use Rattle.par_model.proofs.Magnitudes.{one-more}
-use Rattle.par_model.proofs.ShortIntegers.{digit-unit, front-lt}
+use Rattle.std.proofs.Common.{arith, ◌≡◌, ◌∙◌, ◌-◌, Some, None, length, take, drop, sym}
+use Rattle.par_model.specs.Magnitude.{short_magnitude_of}
+use Rattle.par_model.proofs.Chunks.{none-at-back, none-at-front, overlap}
 use Rattle.par_model.proofs.integer.short_magnitude.Goals as goal
 
-pub overflow_mul-value : goal.overflow_mul-value
-overflow_mul-value c =
-    let inv = c.digits.invariant in
-    let short = front-lt c.args.digits.now c.digits.digit-index inv.digits c.if-digits-gt-SHORT.false in
-    omega (arith, inv.value, short)
+pub returns-in_err-front-clause-value : goal.returns-in_err-front-clause-value
+returns-in_err-front-clause-value c =
+    let chunk = c.in-Some.ensures.cases in
+    let none : short_magnitude_of (take 8 c.args.digits.now) ≡ None = rw chunk.same at (sym c.in_err-front.ensures) in
+    c.from_residual.ensures ∙ sym (none-at-front c.args.digits.now chunk.enough none)
 
-pub overflow_add-value : goal.overflow_add-value
-overflow_add-value c =
-    let inv = c.digits.invariant in
-    let short = front-lt c.args.digits.now c.digits.digit-index inv.digits c.if-digits-gt-SHORT.false in
-    omega (arith, inv.value, short, c.if-unit-gt9.false)
+pub returns-in_err-back-clause-value : goal.returns-in_err-back-clause-value
+returns-in_err-back-clause-value c =
+    let chunk = c.in-Some-last_chunk.ensures.cases in
+    let none : short_magnitude_of (drop (length c.args.digits.now - 8) c.args.digits.now) ≡ None = rw chunk.1.same at (sym c.in_err-back.ensures) in
+    c.from_residual-in_err-back.ensures ∙ sym (none-at-back c.args.digits.now chunk.0 none)
 
-pub digits-preserved : goal.digits-preserved
-digits-preserved c =
-    let inv = c.digits.invariant in
-    let digit = get_or c.args.digits.now c.digits.digit-index 0 in
-    let unit = digit-unit digit c.from.result c.from-in-digits.result _ c.from.ensures c.from-in-digits.ensures (omega (arith, c.type_inv.digits c.digits.digit-index)) refl c.if-unit-gt9.false in
-    let more = one-more c.args.digits.now c.digits.digit-index c.digits.value _ c.digits-test.true unit.0 unit.1 inv.digits inv.value in
-    record { digits = more.0; value = more.1 }
-
-pub returns-clause-within : goal.returns-clause-within
-returns-clause-within c =
-    let inv = c.digits.invariant in
-    let short = front-lt c.args.digits.now c.digits.digit-index inv.digits c.if-digits-gt-SHORT.false in
-    omega (arith, inv.value, short)
+pub returns-clause-value : goal.returns-clause-value
+returns-clause-value c =
+    let front = c.in-Some.ensures.cases in
+    let back = c.in-Some-last_chunk.ensures.cases in
+    let first : short_magnitude_of (take 8 c.args.digits.now) ≡ Some c.in_ok-front.front = rw front.same at (sym c.in_ok-front.ensures) in
+    let last : short_magnitude_of (drop (length c.args.digits.now - 8) c.args.digits.now) ≡ Some c.in_ok-back.back = rw back.1.same at (sym c.in_ok-back.ensures) in
+    let whole = overlap c.args.digits.now c.in_ok-front.front c.in_ok-back.back c.power_of_ten.result c.from.result front.enough (omega (arith, c.if-digits.false)) first last c.power_of_ten.ensures.value c.from.ensures in
+    rw c.from-2.ensures (sym whole)
