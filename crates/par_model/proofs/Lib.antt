@@ -7,4 +7,5 @@ pub mod Refused
 pub mod Chunks
 pub mod ShortIntegers
 pub mod Slots
+pub mod Words
 pub mod Worked

@@ -24,7 +24,7 @@ front-lt ds i all short = digits_value_short digits (take i ds) 18 all (omega (a
 digit-no-space : (c : ℕ) → is_ascii_digit c ≡ true → is_space c ≡ false
 digit-no-space c e = grind (arith, nat_tests, e)
 
-digit-at : (ds : List ℕ) (i : ℕ) → list_all is_ascii_digit ds ≡ true → i < length ds → is_ascii_digit (get_or ds i 0) ≡ true
+pub digit-at : (ds : List ℕ) (i : ℕ) → list_all is_ascii_digit ds ≡ true → i < length ds → is_ascii_digit (get_or ds i 0) ≡ true
 digit-at ds i all lt = elim (cases_Bool (is_ascii_digit (get_or ds i 0))) [ inl e ↦ e | inr e ↦ cc (all, list_all_at is_ascii_digit ds i 0 lt e) ]
 
 -- a field whose first and last byte are no spaces

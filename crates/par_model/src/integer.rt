@@ -10,7 +10,7 @@
 
 ghost use Rattle.std.specs.Prelude.{◌≡◌, ◌<◌, ◌≤◌, ◌^◌, IfSome, Some, length, true};
 ghost use Rattle.std.specs.List.{list_all, prefix_len, suffix_len};
-ghost use Rattle.std.specs.Char.{digit_value, is_ascii_digit};
+ghost use Rattle.std.specs.Char.{is_ascii_digit};
 ghost use Rattle.std.specs.Str.Parse.{digits_value, starts_with_minus, without_leading_sign};
 ghost use Rattle.par_model.specs.Integer.{integer_of, is_space, number_of, without_spaces};
 ghost use Rattle.par_model.specs.Magnitude.{magnitude_of, short_magnitude_of, with_sign};
@@ -23,6 +23,12 @@ const SHORT: usize = 18;
 
 // How many digits are read at once.
 const CHUNK: usize = 8;
+
+// The high half of each of eight bytes.
+const HIGH_HALVES: u64 = 0xF0F0_F0F0_F0F0_F0F0;
+
+// Eight bytes whose high half is 3, and whose low half is 0.
+const ALL_THREE: u64 = 0x3030_3030_3030_3030;
 
 /// The integer of a field, if it is one: any number of spaces, an optional `+` or `-`, one or more
 /// ASCII digits, any number of spaces, with a value of 64 signed bits. Its time is linear in the
@@ -69,30 +75,26 @@ fn eight_digits(digits: &[u8; 8]) -> Option<u32>
     }
 }
 
+// Whether eight bytes are digits: those are the bytes whose high half is 3, and is still 3 when 6 is added.
 fn are_digits(bytes: &[u8; 8]) -> bool
     ensures { result ≡ list_all is_ascii_digit bytes.now }
 {
-    let [a, b, c, d, e, f, g, h] = *bytes;
-    let front = a.is_ascii_digit() & b.is_ascii_digit() & c.is_ascii_digit() & d.is_ascii_digit();
-    front & e.is_ascii_digit() & f.is_ascii_digit() & g.is_ascii_digit() & h.is_ascii_digit()
+    let word = u64::from_le_bytes(*bytes);
+    if word & HIGH_HALVES != ALL_THREE {
+        return false;
+    }
+    (word + 0x0606_0606_0606_0606) & HIGH_HALVES == ALL_THREE
 }
 
-// The number that eight bytes write if they are digits, and some number if they are not.
-fn value_of_digits(bytes: &[u8; 8]) -> u32
-    ensures { list_all is_ascii_digit bytes.now ≡ true → result ≡ digits_value 10 bytes.now }
+// The number that eight digits write: the digits of each two places are joined in all bytes at once, then of each four, then of all eight.
+fn value_of_digits(digits: &[u8; 8]) -> u32
+    requires { list_all is_ascii_digit digits.now ≡ true }
+    ensures { result ≡ digits_value 10 digits.now }
 {
-    let [a, b, c, d, e, f, g, h] = *bytes;
-    let front = (unit(a) * 10 + unit(b)) * 100 + (unit(c) * 10 + unit(d));
-    let back = (unit(e) * 10 + unit(f)) * 100 + (unit(g) * 10 + unit(h));
-    front * 10_000 + back
-}
-
-// The value of a digit, and some byte's value of another byte.
-fn unit(byte: u8) -> u32
-    ensures within { result < 256 }
-    ensures digit { is_ascii_digit byte ≡ true → result ≡ digit_value byte }
-{
-    u32::from(byte.wrapping_sub(b'0'))
+    let units = u64::from_le_bytes(*digits) - ALL_THREE;
+    let pairs = (units * 10 + units / 0x100) & 0x00FF_00FF_00FF_00FF;
+    let fours = (pairs * 100 + pairs / 0x1_0000) & 0x0000_FFFF_0000_FFFF;
+    (fours % 0x1_0000_0000 * 10_000 + fours / 0x1_0000_0000) as u32
 }
 
 fn power_of_ten(count: usize) -> u32
