@@ -4,9 +4,13 @@
 //! each byte of a character beyond ASCII, makes it no integer.
 //!
 //! Nearly every integer has at most eighteen digits and no space round it. Eighteen digits write a
-//! number below 10^18, which fits with either sign, so for these there is a short way: one loop that
-//! looks for no space and tests no step against overflow. Where it finds anything else, the general
-//! way decides.
+//! number below 10^18, which fits with either sign, so for these there is a short way, which looks
+//! for no space and tests no step against overflow. Where it finds anything else, the general way
+//! decides.
+//!
+//! Eight to sixteen digits are read with no loop at all, since the end of a loop over digits is hard
+//! to foresee where values have nine digits or ten: the first eight and the last eight are read, each
+//! as one word of eight bytes, and what both have is taken once.
 
 ghost use Rattle.std.specs.Prelude.{◌≡◌, ◌<◌, ◌≤◌, ◌^◌, IfSome, Some, length, true};
 ghost use Rattle.std.specs.List.{list_all, prefix_len, suffix_len};
@@ -21,7 +25,7 @@ const LARGEST: u64 = 0x8000_0000_0000_0000;
 // How many digits the short way reads at most.
 const SHORT: usize = 18;
 
-// How many digits are read at once.
+// How many digits are read as one word.
 const CHUNK: usize = 8;
 
 // The high half of each of eight bytes.
@@ -64,57 +68,6 @@ fn short_magnitude(digits: &[u8]) -> Option<u64>
     Some(u64::from(before) * 100_000_000 + u64::from(back))
 }
 
-// The number that eight digits write, if they are digits.
-fn eight_digits(digits: &[u8; 8]) -> Option<u32>
-    ensures { result ≡ short_magnitude_of digits.now }
-{
-    if are_digits(digits) {
-        Some(value_of_digits(digits))
-    } else {
-        None
-    }
-}
-
-// Whether eight bytes are digits: those are the bytes whose high half is 3, and is still 3 when 6 is added.
-fn are_digits(bytes: &[u8; 8]) -> bool
-    ensures { result ≡ list_all is_ascii_digit bytes.now }
-{
-    let word = u64::from_le_bytes(*bytes);
-    if word & HIGH_HALVES != ALL_THREE {
-        return false;
-    }
-    (word + 0x0606_0606_0606_0606) & HIGH_HALVES == ALL_THREE
-}
-
-// The number that eight digits write: the digits of each two places are joined in all bytes at once, then of each four, then of all eight.
-fn value_of_digits(digits: &[u8; 8]) -> u32
-    requires { list_all is_ascii_digit digits.now ≡ true }
-    ensures { result ≡ digits_value 10 digits.now }
-{
-    let units = u64::from_le_bytes(*digits) - ALL_THREE;
-    let pairs = (units * 10 + units / 0x100) & 0x00FF_00FF_00FF_00FF;
-    let fours = (pairs * 100 + pairs / 0x1_0000) & 0x0000_FFFF_0000_FFFF;
-    (fours % 0x1_0000_0000 * 10_000 + fours / 0x1_0000_0000) as u32
-}
-
-fn power_of_ten(count: usize) -> u32
-    requires { count ≤ 8 }
-    ensures value { result ≡ 10 ^ count }
-    ensures positive { 0 < result }
-{
-    match count {
-        0 => 1,
-        1 => 10,
-        2 => 100,
-        3 => 1_000,
-        4 => 10_000,
-        5 => 100_000,
-        6 => 1_000_000,
-        7 => 10_000_000,
-        _ => 100_000_000,
-    }
-}
-
 // The same, one digit at a time.
 fn digit_by_digit(digits: &[u8]) -> Option<u64>
     ensures value { result ≡ short_magnitude_of digits.now }
@@ -133,6 +86,60 @@ fn digit_by_digit(digits: &[u8]) -> Option<u64>
         value = value * 10 + unit;
     }
     Some(value)
+}
+
+// The number that eight bytes write, if they are digits.
+fn eight_digits(digits: &[u8; 8]) -> Option<u32>
+    ensures { result ≡ short_magnitude_of digits.now }
+{
+    if are_digits(digits) {
+        Some(value_of_digits(digits))
+    } else {
+        None
+    }
+}
+
+// Whether eight bytes are digits: the bytes whose high half is 3, and is still 3 with 6 added. The
+// first test leaves no byte from which a sum could run over into the next.
+fn are_digits(bytes: &[u8; 8]) -> bool
+    ensures { result ≡ list_all is_ascii_digit bytes.now }
+{
+    let word = u64::from_le_bytes(*bytes);
+    if word & HIGH_HALVES != ALL_THREE {
+        return false;
+    }
+    (word + 0x0606_0606_0606_0606) & HIGH_HALVES == ALL_THREE
+}
+
+// The number that eight digits write. The first of them is the lowest byte of the word: two digits
+// are joined in every second byte at once, then two pairs in every fourth, then the two halves.
+fn value_of_digits(digits: &[u8; 8]) -> u32
+    requires { list_all is_ascii_digit digits.now ≡ true }
+    ensures { result ≡ digits_value 10 digits.now }
+{
+    let units = u64::from_le_bytes(*digits) - ALL_THREE;
+    let pairs = (units * 10 + units / 0x100) & 0x00FF_00FF_00FF_00FF;
+    let fours = (pairs * 100 + pairs / 0x1_0000) & 0x0000_FFFF_0000_FFFF;
+    (fours % 0x1_0000_0000 * 10_000 + fours / 0x1_0000_0000) as u32
+}
+
+// A table, since a power by multiplication would be a loop.
+fn power_of_ten(count: usize) -> u32
+    requires { count ≤ 8 }
+    ensures value { result ≡ 10 ^ count }
+    ensures positive { 0 < result }
+{
+    match count {
+        0 => 1,
+        1 => 10,
+        2 => 100,
+        3 => 1_000,
+        4 => 10_000,
+        5 => 100_000,
+        6 => 1_000_000,
+        7 => 10_000_000,
+        _ => 100_000_000,
+    }
 }
 
 // A size after a minus, or after none.

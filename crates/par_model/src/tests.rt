@@ -44,7 +44,7 @@ fn makes_plans_and_rows(rt: HostRuntime) -> Result<(), Fail> {
 
 #[test]
 fn integers(rt: HostRuntime) {
-    let table: [(&str, Option<i64>); 36] = [
+    let table: [(&str, Option<i64>); 42] = [
         ("0", Some(0)),
         (" 7 ", Some(7)),
         ("-3", Some(-3)),
@@ -81,6 +81,12 @@ fn integers(rt: HostRuntime) {
         ("12:", None),
         ("/12", None),
         (":12", None),
+        ("12345678", Some(12345678)),
+        ("1594867473", Some(1594867473)),
+        ("-9876543210123456", Some(-9876543210123456)),
+        ("1234567:", None),
+        ("/123456789", None),
+        ("12345678 ", Some(12345678)),
     ];
     for (text, want) in table {
         assert_eq!(rt; read_integer(text.as_bytes()), want, "{text}");
