@@ -1,4 +1,5 @@
 pub mod Slots
+pub mod Used
 pub mod Keys
 pub mod Front
 pub mod Refusals

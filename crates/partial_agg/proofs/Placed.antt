@@ -50,16 +50,17 @@ agree f g None h = refl
 agree f g (Some place) h = ap Some (h place refl)
 
 -- the state of a key that is there changes
-pub state_changed : (m : GroupsByKey) (places : Places) (states : List AggState) (recent : Recent) (k : List ℕ) (p : ℕ) (before w state : AggState)
-    → groups_at places states ≡ m → ArePlaces places (length states) recent → place_of places k ≡ Some p → before ≡ get_or states p before → w ≡ combined before state
-    → groups_at places (set states p w) ≡ added m k state
-state_changed m places states recent k p before w state view are found stood is =
-    same_groups _ _ (λ q. at q (is_at (key_cmp q) k) refl) ∙ ap (λ (m : GroupsByKey). added m k state) view
+pub state_changed : (m : GroupsByKey) (places : Places) (states now : List AggState) (recent : Recent) (k : List ℕ) (p : ℕ) (state : AggState)
+    → groups_at places states ≡ m → ArePlaces places (length states) recent → place_of places k ≡ Some p → now ≡ set states p (combined (get_or states p empty_state) state)
+    → groups_at places now ≡ added m k state
+state_changed m places states now recent k p state view are found is =
+    ap (groups_at places) is ∙ same_groups _ _ (λ q. at q (is_at (key_cmp q) k) refl) ∙ ap (λ (m : GroupsByKey). added m k state) view
   where
+    w : AggState
+    w = combined (get_or states p empty_state) state
+
     was : joined (map.get (groups_at places states) k) state ≡ w
-    was =
-        ap (λ o. joined o state) (get-groups_at places states k ∙ ap (option_map (state_in states)) found)
-        ∙ ap (λ s. combined s state) (get_or_default states p empty_state before (are.within k p found) ∙ sym stood) ∙ sym is
+    was = ap (λ o. joined o state) (get-groups_at places states k ∙ ap (option_map (state_in states)) found)
 
     other : (q : List ℕ) → is_at (key_cmp q) k ≡ false → (p' : ℕ) → place_of places q ≡ Some p' → p' ≡ p → ⊥
     other q e p' found' same = absurd_of (sym (is_itself k) ∙ ap (λ (q : List ℕ). is_at (key_cmp q) k) (are.apart k q p found (found' ∙ ap Some same)) ∙ e)
@@ -200,13 +201,13 @@ keys-placed (e ∷ places) states = ap (λ (ks : List (List ℕ)). e.0 ∷ ks) (
 
 -- the first entry of a map
 pub first_taken : (m : GroupsByKey) (old new : Places) (states : List AggState) (recent : Recent) (k : List ℕ) (p : ℕ) (state : AggState) → groups_at old states ≡ m → ArePlaces old (length states) recent
-    → old ≡ (k, p) ∷ new → place_of old k ≡ Some p → state ≡ get_or states p state → All (IsLtBy key_cmp k) (map_list (λ e. e.0) new) → IsStrictlySortedBy key_cmp (map_list (λ e. e.0) new)
+    → old ≡ (k, p) ∷ new → place_of old k ≡ Some p → state ≡ get_or states p empty_state → All (IsLtBy key_cmp k) (map_list (λ e. e.0) new) → IsStrictlySortedBy key_cmp (map_list (λ e. e.0) new)
     → map.entries m ≡ (k, state) ∷ map.entries (groups_at new states)
 first_taken m old new states recent k p state view are removal found stood above ordered =
     first_of (Some (k, state_in states p)) (placed old states) (placed new states) m view (ap (λ (es : Places). placed es states) removal)
     (subst (λ (ks : List (List ℕ)). All (IsLtBy key_cmp k) ks) (sym (keys-placed new states)) above)
     (subst (λ (ks : List (List ℕ)). IsStrictlySortedBy key_cmp ks) (sym (keys-placed new states)) ordered)
-    ∙ ap (λ (s : AggState). (k, s) ∷ map.entries (groups_at new states)) (get_or_default states p empty_state state (are.within k p found) ∙ sym stood)
+    ∙ ap (λ (s : AggState). (k, s) ∷ map.entries (groups_at new states)) (sym stood)
 
 -- each entry's place is below the number of states
 pub all_within : (places : Places) (n : ℕ) (recent : Recent) → ArePlaces places n recent → IsStrictlySortedBy key_cmp (map_list (λ e. e.0) places) → All (λ e. e.1 < n) places
@@ -236,10 +237,10 @@ absent_place m places states k view none = by (place_of places k) (sym (get-grou
 
 -- one more entry as a group
 pub one_listed : (done : List Group) (places rest : Places) (states : List AggState) (whole : List Group) (key : List ℕ) (place : ℕ) (state : AggState)
-    → done ++ map_list group (placed places states) ≡ whole → places ≡ (key, place) ∷ rest → place < length states → state ≡ get_or states place state
+    → done ++ map_list group (placed places states) ≡ whole → places ≡ (key, place) ∷ rest → place < length states → state ≡ get_or states place empty_state
     → (done ++ record { key = key; state = state } ∷ []) ++ map_list group (placed rest states) ≡ whole
 one_listed done places rest states whole key place state is next within stood =
     append_assoc done (record { key = key; state = state } ∷ []) (map_list group (placed rest states))
-    ∙ ap (λ (s : AggState). done ++ record { key = key; state = s } ∷ map_list group (placed rest states)) (stood ∙ get_or_default states place state empty_state within)
+    ∙ ap (λ (s : AggState). done ++ record { key = key; state = s } ∷ map_list group (placed rest states)) stood
     ∙ ap (λ (places : Places). done ++ map_list group (placed places states)) (sym next)
     ∙ is

@@ -1,4 +1,5 @@
 pub mod State
+pub mod Used
 pub mod Front
 pub mod Rows
 pub mod Groups

@@ -28,7 +28,8 @@ use crate::groups::{Group, Groups};
 use crate::key::GroupKey;
 use crate::recent::Recent;
 use crate::row::{Reading, RowBuffer, items, read_values};
-use crate::state::{add_values, combine, one_row};
+use crate::state::one_row;
+use crate::states::States;
 use csv_rows::RowStore;
 use par_model::{AggState, BoundPlan};
 use std::alloc::{AllocError, Global};
@@ -42,7 +43,7 @@ pub const BLOCK_ROWS: u64 = 256;
 #[derive(Drop)]
 pub struct GroupMap {
     places: BTreeMap<GroupKey, usize>,
-    states: Vec<AggState>,
+    states: States,
     recent: Recent,
     alloc: Global,
 }
@@ -57,9 +58,9 @@ impl Model for GroupMap {
 
     ghost use Rattle.partial_agg.specs.Placed.{ArePlaces, groups_at};
 
-    ghost view = { λ m. groups_at m.places.entries m.states.items };
+    ghost view = { λ m. groups_at m.places.entries m.states };
 
-    ghost invariant = { λ m. ArePlaces m.places.entries (length m.states.items) m.recent };
+    ghost invariant = { λ m. ArePlaces m.places.entries (length m.states) m.recent };
 }
 
 /// Why a block was not added whole: its first refused row, or want of memory.
@@ -77,7 +78,7 @@ impl GroupMap {
     {
         GroupMap {
             places: BTreeMap::new(alloc),
-            states: Vec::new(alloc),
+            states: States::new(alloc),
             recent: Recent::new(alloc),
             alloc,
         }
@@ -97,7 +98,7 @@ impl GroupMap {
     {
         if let Some(place) = self.places.get(&key) {
             let place = *place;
-            combine(&mut self.states[place], state);
+            self.states.combine_at(place, state);
             return Ok(());
         }
         self.add_new(key, state)
@@ -113,7 +114,7 @@ impl GroupMap {
             return None;
         };
         self.recent.forget();
-        let state = self.states[place];
+        let state = *self.states.get(place);
         if self.places.is_empty() {
             self.states.clear();
             self.recent = Recent::new(self.alloc);
@@ -133,7 +134,7 @@ impl GroupMap {
         } = self;
         let mut list = Vec::with_capacity(alloc, places.len())?;
         for (key, place) in places {
-            let state = states[place];
+            let state = *states.get(place);
             if list.push(Group { key, state }).is_err() {
                 return Err(AllocError);
             }
@@ -229,7 +230,7 @@ impl GroupMap {
         }
         let values = &buffer.values[..items.len()];
         if let Some(place) = known {
-            add_values(&mut self.states[place], values);
+            self.states.add_values_at(place, values);
             return Ok(());
         }
         match self.add_looked_up(&buffer.key, values) {
@@ -248,7 +249,7 @@ impl GroupMap {
         if let Some(place) = self.places.get(key) {
             let place = *place;
             self.recent.note(key, place);
-            add_values(&mut self.states[place], values);
+            self.states.add_values_at(place, values);
             return Ok(());
         }
         self.add_new(key.copied(), &one_row(values))
@@ -262,14 +263,14 @@ impl GroupMap {
         ensures err { OnErr result (self.new ≡ self.old) }
     {
         let place = self.states.len();
-        self.states.push(*state)?;
+        self.states.push(state)?;
         match self.places.insert(key, place) {
             Ok(_) => {
                 self.recent.fit(self.alloc, self.places.len());
                 Ok(())
             }
             Err(_) => {
-                let _ = self.states.pop();
+                self.states.drop_last();
                 Err(AllocError)
             }
         }

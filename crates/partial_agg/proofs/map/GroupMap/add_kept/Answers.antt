@@ -14,8 +14,8 @@ use Rattle.partial_agg.proofs.OneRow.{state_of_one}
 use Rattle.partial_agg.proofs.Placed.{state_changed}
 use Rattle.partial_agg.proofs.map.GroupMap.add_kept.Goals as goal
 
-pub index_mut-requires : goal.index_mut-requires
-index_mut-requires c = omega (arith, c.self.invariant.within c.args.buffer.now.key c.in-Some.place (c.self.invariant.known c.args.buffer.now.key c.in-Some.place c.in-Some.ensures))
+pub add_values_at-requires-clause-place : goal.add_values_at-requires-clause-place
+add_values_at-requires-clause-place c = omega (arith, c.self.invariant.within c.args.buffer.now.key c.in-Some.place (c.self.invariant.known c.args.buffer.now.key c.in-Some.place c.in-Some.ensures))
 
 -- to add the values that were read under the key that was read is to add the row
 row_added : (plan : Plan) (width : ℕ) (row : List (List ℕ)) (key : List ℕ) (items : List Item) (values : List (Option ℤ)) (groups : GroupsByKey) → IsKeptBy plan width row key → items ≡ plan.items
@@ -28,9 +28,9 @@ row_added plan width row key items values groups kept same read readable =
 
 pub returns-in-Some-clause-added : goal.returns-in-Some-clause-added
 returns-in-Some-clause-added c =
-    state_changed c.args.self.now c.self.inside.places.entries c.self.inside.states.items c.self.inside.recent c.args.buffer.now.key c.in-Some.place c.index_mut.result.now c.add_values.new.state
+    state_changed c.args.self.now c.self.inside.places.entries c.self.inside.states c.add_values_at.new.self c.self.inside.recent c.args.buffer.now.key c.in-Some.place
     (values_state (take (length c.items-items.result.now) c.read_values.new.values))
-    c.self.view_is c.self.invariant (c.self.invariant.known c.args.buffer.now.key c.in-Some.place c.in-Some.ensures) c.index_mut.ensures.value c.add_values.ensures
+    c.self.view_is c.self.invariant (c.self.invariant.known c.args.buffer.now.key c.in-Some.place c.in-Some.ensures) c.add_values_at.ensures
     ∙ row_added c.args.plan.now (header_width c.args.rows.now) (record_at c.args.rows.now c.args.row) c.args.buffer.now.key c.items-items.result.now c.read_values.new.values c.args.self.now
     c.requires.kept c.items-items.ensures.items c.in-Ok.ensures.values c.in-Ok.ensures.readable
 

@@ -5,6 +5,6 @@ use Rattle.partial_agg.proofs.map.GroupMap.into_groups.Given as goal
 
 abbrev pub invariant-loop-key : goal.invariant-loop-key
 invariant-loop-key l = record {
-  done : l.list.items ++ map group (placed l.key-iterator l.states.items) ≡ listed l.fn.self;
-  within : All (λ entry. entry.1 < length l.states.items) l.key-iterator;
+  done : l.list.items ++ map group (placed l.key-iterator l.self-inside.states) ≡ listed l.fn.self;
+  within : All (λ entry. entry.1 < length l.self-inside.states) l.key-iterator;
 }

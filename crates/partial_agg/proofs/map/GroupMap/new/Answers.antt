@@ -9,4 +9,4 @@ pub invariant_of-result : goal.invariant_of-result
 invariant_of-result c = no_places c.new.result.entries _ c.new-3.result c.new.ensures.empty c.new-3.ensures
 
 pub returns-clause-groups : goal.returns-clause-groups
-returns-clause-groups c = λ plan. record { each = λ q. ap (λ (places : Places). map.get (groups_at places c.new-2.result.items) q) c.new.ensures.empty ∙ (no_groups plan).each q }
+returns-clause-groups c = λ plan. record { each = λ q. ap (λ (places : Places). map.get (groups_at places c.new-2.result) q) c.new.ensures.empty ∙ (no_groups plan).each q }

@@ -24,10 +24,10 @@ same_states places states states' none =
 
 pub returns-clause-first : goal.returns-clause-first
 returns-clause-first c =
-    let left : groups_at c.pop_first.new.self.entries c.self.inside.states.items ≡ c.if-is_empty.self = elim c.if-is_empty.branch [
-      | then-is_empty w ↦ same_states c.pop_first.new.self.entries c.self.inside.states.items w.clear.new.self.items (none_left c.pop_first.new.self.entries (c.is_empty.ensures.0 w.if-is_empty.true)) ∙ sym w.self-is
+    let left : groups_at c.pop_first.new.self.entries c.self.inside.states ≡ c.if-is_empty.self = elim c.if-is_empty.branch [
+      | then-is_empty w ↦ same_states c.pop_first.new.self.entries c.self.inside.states w.clear.new.self (none_left c.pop_first.new.self.entries (c.is_empty.ensures.0 w.if-is_empty.true)) ∙ sym w.self-is
       | else-is_empty w ↦ sym w.self-is
     ] in
-    first_taken c.args.self.now c.self.inside.places.entries c.pop_first.new.self.entries c.self.inside.states.items c.self.inside.recent c.in-Some.key c.in-Some.place c.index-state.result.now
-    c.self.view_is c.self.invariant c.in-Some.ensures.removal c.in-Some.ensures.value c.index-state.ensures c.in-Some.ensures.all_above c.in-Some.ensures.ordered
-    ∙ ap (λ (m : GroupsByKey). (c.in-Some.key, c.index-state.result.now) ∷ map.entries m) left
+    first_taken c.args.self.now c.self.inside.places.entries c.pop_first.new.self.entries c.self.inside.states c.self.inside.recent c.in-Some.key c.in-Some.place c.get-state.result.now
+    c.self.view_is c.self.invariant c.in-Some.ensures.removal c.in-Some.ensures.value c.get-state.ensures c.in-Some.ensures.all_above c.in-Some.ensures.ordered
+    ∙ ap (λ (m : GroupsByKey). (c.in-Some.key, c.get-state.result.now) ∷ map.entries m) left
