@@ -1,5 +1,5 @@
 -- Slots of no values at the end of a state stay so, and are as combined with those of a row.
-use Rattle.std.proofs.Common.{◌≡◌, ◌<◌, ◌≤◌, ◌+◌, ◌-◌, ◌++◌, ◌==◌, ◌∙◌, Bool, true, false, ℕ, ℤ, pos, zero, suc, List, [], ◌∷◌, Option, None, All, length, get_or, set, map, replicate, refl, ap, subst, sym, arith}
+use Rattle.std.proofs.Common.{◌≡◌, ◌<◌, ◌≤◌, ◌+◌, ◌-◌, ◌==◌, ◌∙◌, Bool, true, false, ℕ, ℤ, pos, zero, suc, List, [], ◌∷◌, Option, None, All, length, get_or, set, refl, ap, subst, sym, arith}
 use Rattle.std.specs.Int.{w128}
 use Rattle.std.proofs.Math.Dec.{ltb}
 use Rattle.std.proofs.Math.ListN.{get_or-eq_default}

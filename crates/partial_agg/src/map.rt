@@ -1,11 +1,11 @@
 //! The map from the keys of groups to their aggregates, and the list that it ends as.
 //!
-//! It has three parts. `states` has the state of each group, one after the other in the order in which the groups came;
-//! `places` is std's ordered map from each key to the place of its state, and gives the order in the end; `recent` knows the
-//! places of keys that rows had lately, and is asked first. So a row of a group that was met lately costs one comparison of
-//! keys and changes its state in place; another costs a path of comparisons. A new group takes about 260 bytes for its key
-//! and 400 for its state, and its next row as much again for the key if `recent` has room. PostgreSQL's hash aggregation
-//! keeps states apart from what finds them, too.
+//! It has three parts. `states` has the state of each group, one after the other in the order in which the groups came, and
+//! goes through the slots that are in use alone; `places` is std's ordered map from each key to the place of its state, and
+//! gives the order in the end; `recent` knows the places of keys that rows had lately, and is asked first. So a row of a group
+//! that was met lately costs one comparison of keys and changes its state in place; another costs a path of comparisons. A
+//! new group takes about 260 bytes for its key and 400 for its state, and its next row as much again for the key if `recent`
+//! has room. PostgreSQL's hash aggregation keeps states apart from what finds them, too.
 //!
 //! A new group is put at the end of `states`, then into `places`. `take_first` takes a key out of `places`, and leaves its state
 //! where it is, to be used no more, until no key is left. Each place is below the number of states and is that of one key, so

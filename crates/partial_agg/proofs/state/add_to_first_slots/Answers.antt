@@ -1,7 +1,7 @@
-use Rattle.std.proofs.Common.{◌≡◌, ◌≤◌, ◌-◌, ◌∙◌, arith, ap, length, get_or, List, Option, ℕ, ℤ, None, sym}
+use Rattle.std.proofs.Common.{◌≡◌, ◌≤◌, ◌-◌, ◌∙◌, arith, ap, length, get_or, List, Option, ℕ, ℤ, sym}
 use Rattle.par_model.specs.Aggregate.{no_values}
 use Rattle.par_model.specs.declared.state.SlotState.{SlotState}
-use Rattle.partial_agg.specs.Reading.{slot_of_value, values_state}
+use Rattle.partial_agg.specs.Reading.{values_state}
 use Rattle.partial_agg.specs.State.{combined_slot, combined_slots}
 use Rattle.partial_agg.specs.Used.{IsClearFrom}
 use Rattle.partial_agg.proofs.Slots.{begun, begun_next, get_or-slots, length-slots}

@@ -1,4 +1,4 @@
-use Rattle.std.proofs.Common.{◌≤◌, ◌+◌, arith, subst, sym, ℕ}
+use Rattle.std.proofs.Common.{◌+◌, arith, subst, sym, ℕ}
 use Rattle.partial_agg.proofs.Used.{IsClearBetween, clear_next, clear_to_end}
 use Rattle.partial_agg.proofs.states.used_slots.Goals as goal
 use Rattle.partial_agg.proofs.states.used_slots.Goals.{then-not-is_clear, else-not-is_clear}
