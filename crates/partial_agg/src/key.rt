@@ -24,8 +24,8 @@ const FRONT: usize = 16;
 /// An encoded key. Keys compare byte by byte.
 #[derive(Debug, Drop)]
 pub struct GroupKey {
-    bytes: [u8; 248],
     len: u32,
+    bytes: [u8; 248],
 }
 
 impl Model for GroupKey {
@@ -63,8 +63,8 @@ impl GroupKey {
         ensures { result ≡ [] }
     {
         GroupKey {
-            bytes: [0; LONGEST_KEY],
             len: 0,
+            bytes: [0; LONGEST_KEY],
         }
     }
 
@@ -73,8 +73,8 @@ impl GroupKey {
         ensures { result ≡ self.now }
     {
         GroupKey {
-            bytes: self.bytes,
             len: self.len,
+            bytes: self.bytes,
         }
     }
 

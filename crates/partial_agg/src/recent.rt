@@ -10,11 +10,11 @@ ghost use Rattle.partial_agg.specs.Knows.{Knows};
 use crate::key::GroupKey;
 use std::alloc::Global;
 
-// A key, and the place of its state.
+// A key, and the place of its state. What a look reads of it stands together: the place, and the key's length and first bytes.
 #[derive(Drop)]
 pub(crate) struct Known {
-    key: GroupKey,
     place: usize,
+    key: GroupKey,
 }
 
 // The known keys, and for each slot which of them to look at. With no slots none is found. What the index says is bound by
@@ -73,8 +73,8 @@ impl Recent {
         }
         let at = self.index[slot] as usize;
         let known = Known {
-            key: key.copied(),
             place,
+            key: key.copied(),
         };
         if at < self.known.len() {
             self.known[at] = known;
