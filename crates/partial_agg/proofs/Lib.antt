@@ -3,6 +3,7 @@ pub mod Keys
 pub mod Front
 pub mod Refusals
 pub mod Places
+pub mod Values
 pub mod Maps
 pub mod Placed
 pub mod OneRow

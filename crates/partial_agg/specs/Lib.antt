@@ -4,6 +4,7 @@ pub mod Rows
 pub mod Groups
 pub mod Reading
 pub mod Reads
+pub mod Repeats
 pub mod Listed
 pub mod Knows
 pub mod Placed

@@ -20,11 +20,13 @@ ghost use Rattle.partial_agg.specs.Blocks.{Explains, Stopped};
 ghost use Rattle.partial_agg.specs.Groups.{AreGroups, added, with_rows};
 ghost use Rattle.partial_agg.specs.Listed.{listed};
 ghost use Rattle.partial_agg.specs.Reading.{values_state};
+ghost use Rattle.partial_agg.specs.Repeats.{AreRepeats};
 ghost use Rattle.partial_agg.specs.Rows.{IsAccepted, block_rows, header_width};
 
 use crate::groups::{Group, Groups};
 use crate::key::GroupKey;
 use crate::recent::Recent;
+use crate::repeats::repeats;
 use crate::row::{Reading, RowBuffer, items};
 use crate::state::{add_values, combine, one_row};
 use csv_rows::RowStore;
@@ -163,8 +165,9 @@ impl GroupMap {
         let first = BLOCK_ROWS * block + 1;
         let count = (last - first + 1).min(BLOCK_ROWS);
         let mut buffer = RowBuffer::new();
+        let repeats = repeats(items(plan));
         for at in 0..count {
-            match self.add_read(&mut buffer, rows, first + at, plan) {
+            match self.add_read(&mut buffer, rows, first + at, plan, repeats) {
                 Ok(()) => {}
                 Err(answer) => return Err(answer),
             }
@@ -179,15 +182,17 @@ impl GroupMap {
         rows: &RowStore,
         row: u64,
         plan: &BoundPlan,
+        repeats: u8,
     ) -> Result<(), BlockAnswer>
         requires row { row < length rows.now }
         requires columns { HasColumns plan.now (header_width rows.now) }
+        requires repeats { AreRepeats plan.now.items repeats }
         ensures added { OnOk result (self.new ≡ with_rows plan.now self.old (record_at rows.now row ∷ [])) }
         ensures accepted { OnOk result (IsAccepted plan.now (header_width rows.now) (record_at rows.now row)) }
         ensures stopped { IfErr result (Explains plan.now rows.now row) }
         ensures err { OnErr result (self.new ≡ self.old) }
     {
-        match buffer.read(rows, row, plan) {
+        match buffer.read(rows, row, plan, repeats) {
             Reading::Refused(refusal) => Err(BlockAnswer::Row {
                 row,
                 cause: refusal.cause,

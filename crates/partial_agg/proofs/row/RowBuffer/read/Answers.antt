@@ -1,4 +1,4 @@
-use Rattle.std.proofs.Common.{◌≡◌, ◌∙◌, ◌≤◌, ap, sym, refl, true, false, Some, List, ℕ, map, length, take, arith}
+use Rattle.std.proofs.Common.{◌≡◌, ◌∙◌, ◌≤◌, ap, sym, subst, refl, true, false, Some, List, ℕ, map, length, take, arith}
 use Rattle.std.specs.List.{position_from}
 use Rattle.std.specs.Option.{option_map}
 use Rattle.csv_rows.specs.Records.{record_at}
@@ -7,6 +7,7 @@ use Rattle.par_model.specs.Record.{field_of}
 use Rattle.par_model.specs.Refuse.{is_unreadable, refused_at}
 use Rattle.par_model.specs.declared.plan.Item.{Item}
 use Rattle.partial_agg.specs.Reading.{value_of}
+use Rattle.partial_agg.specs.Repeats.{AreRepeats}
 use Rattle.partial_agg.specs.Rows.{header_width}
 use Rattle.partial_agg.proofs.Refusals.{kept_by_verdict, left_out, refused_filter, refused_item, refused_key, refused_width}
 use Rattle.partial_agg.proofs.row.RowBuffer.read.Goals as goal
@@ -39,6 +40,9 @@ returns-then-not-read_key c =
     let keys = ap (λ (columns : List ℕ). encoded (map (field_of row) columns)) c.group_columns.ensures in
     rw c.refused-then-not-read_key.ensures
     (refused_key c.args.plan.now (header_width c.args.rows.now) row wide judged (λ fits. false≢true (c.if-not-read_key.ensures.fits.1 (rw keys fits))))
+
+pub read_values-requires-clause-repeats : goal.read_values-requires-clause-repeats
+read_values-requires-clause-repeats c = subst (λ (items : List Item). AreRepeats items c.args.repeats) (sym c.items.ensures.items) c.requires.repeats
 
 pub returns-in-Ok : goal.returns-in-Ok
 returns-in-Ok c =
