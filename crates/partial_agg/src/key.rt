@@ -91,20 +91,6 @@ impl GroupKey {
         }
     }
 
-    // A number that keys of other bytes seldom have.
-    pub(crate) fn hash(&self) -> u64 {
-        let mut hash = mixed(self.len.into(), self.first_word());
-        hash = mixed(hash, self.second_word());
-        let len = self.len as usize;
-        if len > FRONT {
-            for at in (FRONT..len - 7).step_by(8) {
-                hash = mixed(hash, word_at(&self.bytes, at));
-            }
-            hash = mixed(hash, word_at(&self.bytes, len - 8));
-        }
-        hash
-    }
-
     // Takes the bytes away.
     pub(crate) fn clear(&mut self)
         ensures { self.new ≡ [] }
@@ -169,11 +155,6 @@ impl GroupKey {
             self.bytes().cmp(other.bytes())
         }
     }
-}
-
-// A hash after one more word.
-fn mixed(hash: u64, word: u64) -> u64 {
-    (hash.rotate_left(5) ^ word).wrapping_mul(0x517C_C1B7_2722_0A95)
 }
 
 // The eight bytes from a place on as a number, highest first.

@@ -217,7 +217,7 @@ impl GroupMap {
         ensures stopped { IfErr result (Explains plan.now rows.now row) }
         ensures err { OnErr result (self.new ≡ self.old) }
     {
-        let known = self.recent.find(&buffer.key);
+        let known = self.recent.find(&buffer.key, buffer.hash);
         let items = items(plan);
         match read_values(&mut buffer.values, rows, row, items) {
             Ok(()) => {}
@@ -232,7 +232,7 @@ impl GroupMap {
             add_values(&mut self.states[place], values);
             return Ok(());
         }
-        match self.add_looked_up(&buffer.key, values) {
+        match self.add_looked_up(&buffer.key, buffer.hash, values) {
             Ok(()) => Ok(()),
             Err(AllocError) => Err(BlockAnswer::Memory),
         }
@@ -240,14 +240,14 @@ impl GroupMap {
 
     // Adds a row of this key that has these values, where the key is none of those that were met lately.
     #[inline(never)]
-    fn add_looked_up(&mut self, key: &GroupKey, values: &[Option<i64>]) -> Result<(), AllocError>
+    fn add_looked_up(&mut self, key: &GroupKey, hash: u64, values: &[Option<i64>]) -> Result<(), AllocError>
         requires { length values.now ≤ 8 }
         ensures ok { OnOk result (self.new ≡ added self.old key.now (values_state values.now)) }
         ensures err { OnErr result (self.new ≡ self.old) }
     {
         if let Some(place) = self.places.get(key) {
             let place = *place;
-            self.recent.note(key, place);
+            self.recent.note(key, hash, place);
             add_values(&mut self.states[place], values);
             return Ok(());
         }

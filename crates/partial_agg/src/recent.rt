@@ -50,10 +50,10 @@ impl Recent {
     }
 
     // The place of a key, if it is known.
-    pub(crate) fn find(&self, key: &GroupKey) -> Option<usize>
+    pub(crate) fn find(&self, key: &GroupKey, hash: u64) -> Option<usize>
         ensures { IfSome result (λ place. Knows self.now key.now place) }
     {
-        let slot = slot_of(key, self.index.len());
+        let slot = slot_of(hash, self.index.len());
         let Some(at) = self.index.get(slot) else {
             return None;
         };
@@ -64,10 +64,10 @@ impl Recent {
     }
 
     // From now on the key is known, if there is memory for it and there are slots. Another may be known no more.
-    pub(crate) fn note(&mut self, key: &GroupKey, place: usize)
+    pub(crate) fn note(&mut self, key: &GroupKey, hash: u64, place: usize)
         ensures { (other : List ℕ) (at : ℕ) → Knows self.new other at → ((other ≡ key.now) × (at ≡ place)) ⊎ Knows self.old other at }
     {
-        let slot = slot_of(key, self.index.len());
+        let slot = slot_of(hash, self.index.len());
         if slot >= self.index.len() {
             return;
         }
@@ -125,6 +125,6 @@ fn slots_for(groups: usize, slots: usize) -> usize {
 }
 
 // The slot of a key among so many, a power of two. It is none of them only if there are none.
-fn slot_of(key: &GroupKey, slots: usize) -> usize {
-    (key.hash() >> 32) as usize & slots.wrapping_sub(1)
+fn slot_of(hash: u64, slots: usize) -> usize {
+    (hash >> 32) as usize & slots.wrapping_sub(1)
 }
