@@ -27,7 +27,7 @@ room blocks callers s r id v at gap =
     let ends = r.ends in let seats = r.seats in omega arith
 
 draws_one : (blocks callers slots id : ℕ) (me : Sat) (l : List ℕ) → me.0.lists ≡ l ∷ [] → late me.0.blocks l ≡ 0
-    → Allows (Counts blocks callers) slots id me 0 (λ n. (n + 1) % 18446744073709551616) (λ n m. (m.1 ≡ me.1) × (m.0 ≡ with_lists me.0 ((l ++ n ∷ []) ∷ [])) × (me.0.callers ≡ 1 → l ≡ below n))
+    → Allows (Counts blocks callers) slots id me 0 (λ n. (n + 1) % 18446744073709551616) (λ n m. (m.1 ≡ me.1) × (m.0 ≡ with_lists me.0 ((l ++ n ∷ []) ∷ [])) × (length (flat me.0.lists) + 1 ≤ me.0.blocks + me.0.callers) × (me.0.callers ≡ 1 → l ≡ below n))
 draws_one blocks callers slots id me l is early s r _ at _ =
     let v : Draws = me.0 in
     let n : ℕ = at_word s in
@@ -41,6 +41,7 @@ draws_one blocks callers slots id me l is early s r _ at _ =
     let more = room blocks callers s r id v at (omega arith) in
     let small = r.small in
     let next : n + 1 ≡ (n + 1) % 18446744073709551616 = omega arith in
+    let few_here : length (flat v.lists) + 1 ≤ v.blocks + v.callers = (let t = total_at (λ u. length (all_of u)) s.views id v at in let e = r.made in omega (arith, k.0, k.1)) in
     let wide = r.wide in
     let found : get_or (set s.words 0 (n + 1)) 0 0 ≡ n + 1 = get_or-set_same s.words 0 (n + 1) 0 (omega arith) in
     let kept : Counts blocks callers (stepped s 0 (n + 1) id me.1 w keeps) = record {
@@ -89,7 +90,7 @@ draws_one blocks callers slots id me l is early s r _ at _ =
       keeps,
       tt,
       subst (λ (m : ℕ). Counts blocks callers (stepped s 0 m id me.1 w keeps)) next kept,
-      (refl, refl, λ alone. subst (InOrder n) is (k.3 (sym k.1 ∙ alone))),
+      (refl, refl, few_here, λ alone. subst (InOrder n) is (k.3 (sym k.1 ∙ alone))),
     )
 
 pub one_list : (ls : List (List ℕ)) → length ls ≡ 1 → ls ≡ flat ls ∷ []
@@ -101,7 +102,7 @@ pub draws : (blocks callers slots id : ℕ) (me : Sat) → length me.0.lists ≡
     → Allows (Counts blocks callers) slots id me 0 (λ n. (n + 1) % 18446744073709551616) (drew (step slots 0 1 0 none) me)
 draws blocks callers slots id me one early s r len at small =
     let d = draws_one blocks callers slots id me (flat me.0.lists) (one_list me.0.lists one) early s r len at small in
-    (d.0, d.1, d.2, d.3, (d.4.0, record { more = d.4.1; order = d.4.2 }))
+    (d.0, d.1, d.2, d.3, (d.4.0, record { more = d.4.1; few = d.4.2; order = d.4.3 }))
 
 none_left : (ls : List (List ℕ)) → length ls ≡ 0 → flat ls ≡ []
 none_left [] e = refl

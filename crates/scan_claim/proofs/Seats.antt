@@ -1,5 +1,5 @@
 -- A seat after a draw.
-use Rattle.std.proofs.Common.{◌≡◌, ℕ, zero, suc, ◌<◌, ◌≤◌, List, [], ◌∷◌, ◌++◌, true, false, length, sym, refl, ap, ◌∙◌, subst, arith, length-append, append-nil}
+use Rattle.std.proofs.Common.{◌≡◌, ℕ, zero, suc, ◌+◌, ◌<◌, ◌≤◌, List, [], ◌∷◌, ◌++◌, true, false, length, sym, refl, ap, ◌∙◌, subst, arith, length-append, append-nil}
 use Rattle.std.proofs.lemmas.Bool.Decides.{nat_tests}
 use Rattle.scan_claim.specs.declared.view.Draws.{Draws}
 use Rattle.scan_claim.specs.Drawing.{late, flat, below, all_of, seats_of, Drew, is_spent}
@@ -39,6 +39,9 @@ module _ {v w : Draws} {r : ℕ} (d : Drew v r w) where
 
   pub order_after : w.callers ≡ 1 → flat w.lists ≡ below (length (flat w.lists))
   order_after alone = subst (λ (m : List ℕ). m ≡ below (length m)) (sym flat_after) (next_order (flat v.lists) r (d.order (sym same_callers ∙ alone)))
+
+  pub few_after : length (flat w.lists) ≤ w.blocks + w.callers
+  few_after = let f = d.few in omega (arith, ap length flat_after, length-append (flat v.lists) (r ∷ []), same_blocks, same_callers)
 
   pub spent_after : (b : ℕ) → v.blocks ≡ b → false ≡ is_spent v.blocks (flat v.lists) → b ≤ r → true ≡ is_spent b (flat w.lists)
   spent_after b e n h = next_spent b r (flat v.lists) (not_spent b (flat v.lists) (n ∙ ap (λ (c : ℕ). is_spent c (flat v.lists)) e)) h ∙ ap (is_spent b) (sym flat_after)

@@ -86,6 +86,7 @@ one_more v r = with_lists v ((flat v.lists ++ r ∷ []) ∷ [])
 -- a seat of one caller drew the number r that it found. With one caller in all it had the numbers below
 pub record Drew (v : Draws) (r : ℕ) (w : Draws) : Type 0 where
   pub more : w ≡ one_more v r
+  pub few : length (flat v.lists) + 1 ≤ v.blocks + v.callers
   pub order : v.callers ≡ 1 → flat v.lists ≡ below r
 
 -- what a draw tells

@@ -69,6 +69,7 @@ pub struct ClaimSeat {
     ghost one: { length seat.me.0.lists ≡ 1 },
     ghost in_order: { seat.me.0.callers ≡ 1 → flat seat.me.0.lists ≡ below (length (flat seat.me.0.lists)) },
     ghost ended: { done ≡ is_spent seat.me.0.blocks (flat seat.me.0.lists) },
+    ghost few: { length (flat seat.me.0.lists) ≤ seat.me.0.blocks + seat.me.0.callers },
 }
 
 /// All seats, joined: it shows the draws of each by its number.
@@ -114,6 +115,7 @@ impl ClaimSeat {
         ensures none { IsNone result ↔ IsTrue (is_spent (blocks_of claims.now) (draws_of self.new)) }
         ensures too_many { IfNone result ((draws_of self.new ≡ draws_of self.old) ⊎ ((n : ℕ) × (blocks_of claims.now ≤ n) × (draws_of self.new ≡ draws_of self.old ++ n ∷ []))) }
         ensures over { IsTrue (is_spent (blocks_of claims.now) (draws_of self.old)) → draws_of self.new ≡ draws_of self.old }
+        ensures few { length (draws_of self.new) ≤ blocks_of claims.now + callers_of claims.now }
         ensures in_order { callers_of claims.now ≡ 1 → draws_of self.new ≡ below (length (draws_of self.new)) }
     {
         if self.done {

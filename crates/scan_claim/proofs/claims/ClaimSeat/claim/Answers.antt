@@ -1,6 +1,6 @@
 use Rattle.std.proofs.Common.{rules, ◌∙◌, sym, arith, inr, refl}
 use Rattle.scan_claim.specs.Drawing.{flat}
-use Rattle.scan_claim.proofs.Seats.{not_spent, flat_after, one_after, order_after, spent_after, early_after, same_blocks, same_callers, same_from}
+use Rattle.scan_claim.proofs.Seats.{not_spent, flat_after, one_after, order_after, few_after, spent_after, early_after, same_blocks, same_callers, same_from}
 use Rattle.scan_claim.proofs.claims.ClaimSeat.claim.Goals as goal
 
 pub draw_one-number-requires : goal.draw_one-number-requires
@@ -15,6 +15,7 @@ invariant_of-self c =
       free = c.draw_one-number.ensures.slots ∙ c.args.self.now.free;
       one = one_after d;
       in_order = order_after d;
+      few = few_after d;
       ended = c.if-self.false ∙ early_after d _ (sym (same_blocks d)) (sym c.if-self.false ∙ c.args.self.now.ended) (omega (arith, c.requires.1, same_blocks d, c.if-number-claims.true));
     }
 
@@ -24,6 +25,7 @@ invariant_of-self-else-number-claims c =
       free = c.draw_one-number.ensures.slots ∙ c.args.self.now.free;
       one = one_after d;
       in_order = order_after d;
+      few = few_after d;
       ended = spent_after d _ (sym (same_blocks d)) (sym c.if-self.false ∙ c.args.self.now.ended) (omega (arith, c.requires.1, same_blocks d, c.if-number-claims.false));
     }
 
@@ -56,3 +58,9 @@ returns-else-number-claims-clause-none c =
 
 pub returns-else-number-claims-clause-in_order : goal.returns-else-number-claims-clause-in_order
 returns-else-number-claims-clause-in_order c = λ alone. let d = c.draw_one-number.ensures.view in order_after d (same_callers d ∙ (c.requires.2 ∙ alone))
+
+pub returns-then-number-claims-clause-few : goal.returns-then-number-claims-clause-few
+returns-then-number-claims-clause-few c = let d = c.draw_one-number.ensures.view in omega (arith, few_after d, same_blocks d ∙ c.requires.1, same_callers d ∙ c.requires.2)
+
+pub returns-else-number-claims-clause-few : goal.returns-else-number-claims-clause-few
+returns-else-number-claims-clause-few c = let d = c.draw_one-number.ensures.view in omega (arith, few_after d, same_blocks d ∙ c.requires.1, same_callers d ∙ c.requires.2)
