@@ -2,20 +2,22 @@
 ghost use Rattle.std.specs.Prelude.{◌≡◌, ℕ, List, Option, length};
 ghost use Rattle.std.specs.Option.{option_copied};
 
-/// The object of which a table has one under each key. A call may make it, change it or remove it. A partition of it may stand behind a lock,
-/// so it crosses threads.
-pub trait CellObject: Send {
+/// The object of which a table has one under each key. A call may make it, change it or remove it.
+///
+/// A partition crosses threads, and may stand behind a lock, where `O: CellObject + Send`, `O::State: Send`, `O::Call: Send`
+/// and `O::Reply: Send`: who keeps it there asks for these four.
+pub trait CellObject {
     /// The words that a state takes.
     const VALUE_WORDS: usize;
 
     /// What stands under a key.
-    type State: Copy + Send;
+    type State: Copy;
 
     /// What a caller asks of a key.
-    type Call: Copy + Send;
+    type Call: Copy;
 
     /// What it is answered.
-    type Reply: Send + Drop;
+    type Reply: Drop;
 
     ghost VALUE_WORDS: { ℕ };
 

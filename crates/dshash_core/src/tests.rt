@@ -30,7 +30,12 @@ fn call_with<O: CellObject>(
 }
 
 /// A partition crosses threads and can be dropped, so a lock may keep it.
-fn keep<O: CellObject>(p: Partition<O>) -> Partition<O> {
+fn keep<O: CellObject + Send>(p: Partition<O>) -> Partition<O>
+where
+    O::State: Send,
+    O::Call: Send,
+    O::Reply: Send,
+{
     kept(p)
 }
 

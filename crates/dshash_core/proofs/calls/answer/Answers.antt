@@ -5,10 +5,10 @@ use Rattle.dshash_core.specs.Calls.{IsCalled}
 use Rattle.dshash_core.proofs.calls.answer.Goals as goal
 
 pub change-reply-requires-clause-spot : goal.change-reply-requires-clause-spot
-change-reply-requires-clause-spot g c κs lives = subst (λ (u : Hung). (key : List ℕ) × HasItem u c.bucket_of_hash-bucket.result c.in-Some.spot.link c.in-Some.spot.item key) (sym c.find.ensures.same) (c.args.key.now, c.in-Some.ensures.found)
+change-reply-requires-clause-spot g c = subst (λ (u : Hung). (key : List ℕ) × HasItem u c.bucket_of_hash-bucket.result c.in-Some.spot.link c.in-Some.spot.item key) (sym c.find.ensures.same) (c.args.key.now, c.in-Some.ensures.found)
 
 pub put_in-requires-clause-absent : goal.put_in-requires-clause-absent
-put_in-requires-clause-absent g c κs lives =
+put_in-requires-clause-absent g c =
     subst (λ (u : Hung). HasNoItem u (bucket_of c.args.size c.from-hash.result) c.args.key.now) (sym c.find.ensures.same)
     (subst (λ (i : ℕ). HasNoItem c.args.buckets.now i c.args.key.now) c.bucket_of_hash-bucket.ensures c.in-None.ensures.found)
 

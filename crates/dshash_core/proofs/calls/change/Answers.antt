@@ -28,7 +28,7 @@ returns-in-Some-clause-called g c = λ size key spare k item.
     c.args.spot.link c.args.spot.item item c.step-next.result.0 c.step-next.result.1
     (c.step-next.ensures ∙ (λ i. g.O.CellObject.stepped (Some (state i)) c.args.call.now))
     c.write_value.new.self c.in-Some.next c.encode.new.out c.in-Some.is
-    (ap g.O.CellObject.decoded c.encode.ensures.words ∙ (g.met.O.CellObject g.world.𝓛 g.world.𝓜 g.world.𝓡 ((λ s x. x), (λ x. x), (λ x. x), λ x. x)).reads_back c.in-Some.next c.encode.ensures.value)
+    (ap g.O.CellObject.decoded c.encode.ensures.words ∙ g.met.O.CellObject.reads_back c.in-Some.next c.encode.ensures.value)
     (subst P c.read_value.ensures.same (c.write_value.ensures item.0) item.1 item.2)
 
 pub returns-in-None-clause-called : goal.returns-in-None-clause-called

@@ -12,4 +12,4 @@ returns g c =
       reads = (λ i. item_at (word words) (sym c.requires.key i) (sym long i) c.fill-item.result.at) ∙ c.fill-item.ensures.item;
       hashed = c.fill-item.ensures.hashed;
     } in
-    (it, refl, ap g.O.CellObject.decoded c.encode.ensures.words ∙ (g.met.O.CellObject g.world.𝓛 g.world.𝓜 g.world.𝓡 ((λ s x. x), (λ x. x), (λ x. x), λ x. x)).reads_back c.args.state.now c.encode.ensures.value, c.push.ensures it is_item)
+    (it, refl, ap g.O.CellObject.decoded c.encode.ensures.words ∙ g.met.O.CellObject.reads_back c.args.state.now c.encode.ensures.value, c.push.ensures it is_item)

@@ -22,7 +22,7 @@ returns-then-is_full_at-clause-answered g c = (
 )
 
 pub insert-requires-clause-room : goal.insert-requires-clause-room
-insert-requires-clause-room g c κs lives =
+insert-requires-clause-room g c =
     let spare = subst (λ (o : Option Chunk). IfSome o (λ k. (k.part.region ≡ c.args.r.now) × (k.bytes ≡ c.args.buckets.now.layout.item_bytes))) c.in-Some-spare.is c.requires.spare in
     let bytes : c.in-Some-spare.item.bytes ≡ c.args.buckets.now.layout.item_bytes = spare.1 in
     subst (λ (n : ℕ). 2 + length c.args.key.now + g.O.CellObject.VALUE_WORDS ≤ n / 8) (sym bytes)

@@ -11,7 +11,7 @@ pub loop-item-init : goal.loop-item-init
 loop-item-init g c = ([], chain_of c.args.buckets.now c.args.bucket, c.first-item.ensures.same, refl, c.first-item.ensures.first, c.first-item.ensures.ends, sym (append-nil (pairs_of c.args.entries.now.items)), refl)
 
 pub read_entry-requires-clause-item : goal.read_entry-requires-clause-item
-read_entry-requires-clause-item g c κs within =
+read_entry-requires-clause-item g c =
     let i = c.loop-item.invariant in
     let f = first_item i.1 c.loop-item.item i.4 c.loop-item-test.true in
     let held : Among f.0 (chain_of c.args.buckets.now c.args.bucket) = subst (λ (l : List Item). Among f.0 l) (sym (i.3 ∙ ap (λ (l : List Item). i.0 ++ l) f.2)) (among_here f.0 i.0 f.1) in

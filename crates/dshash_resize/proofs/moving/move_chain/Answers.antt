@@ -4,7 +4,7 @@ use Rattle.dshash_resize.proofs.Steps.{new_here, has_room, moved_on, still_empty
 use Rattle.dshash_resize.proofs.moving.move_chain.Goals as goal
 
 pub take_in-requires-clause-item : goal.take_in-requires-clause-item
-take_in-requires-clause-item g c κs within =
+take_in-requires-clause-item g c =
     let f = c.in-Some.ensures.some in
     let r = c.requires.moving in
     let m = c.loop-item.invariant.moved.moving r.0 r.1 r.2 r.3 in
@@ -15,7 +15,7 @@ take_in-requires-clause-item g c κs within =
     )
 
 pub take_in-requires-clause-room : goal.take_in-requires-clause-room
-take_in-requires-clause-room g c κs within =
+take_in-requires-clause-room g c =
     let f = c.in-Some.ensures.some in
     let r = c.requires.moving in
     let m = c.loop-item.invariant.moved.moving r.0 r.1 r.2 r.3 in

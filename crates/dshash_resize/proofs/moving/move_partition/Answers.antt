@@ -5,7 +5,7 @@ use Rattle.dshash_resize.proofs.Steps.{begins, ends, grows}
 use Rattle.dshash_resize.proofs.moving.move_partition.Goals as goal
 
 pub move_chain-requires-clause-moving : goal.move_chain-requires-clause-moving
-move_chain-requires-clause-moving g c κs within =
+move_chain-requires-clause-moving g c =
     let S : Type 0 = g.row.O-State.Denot in
     let all = c.args.p.now.cells in
     let start = c.start_over-from.ensures in
