@@ -1,7 +1,8 @@
 -- The table of sizes, read once by computing, and what holds at each class.
-use Rattle.std.proofs.Common.{◌≡◌, ◌⊎◌, ℕ, zero, suc, ◌-◌, ◌%◌, ◌<◌, ◌≤◌, Bool, true, false, ◌&&◌, ◌==◌, leb, ltb, List, [], ◌∷◌, length, get_or, refl, arith, ⊎_elim}
+use Rattle.std.proofs.Common.{◌≡◌, ◌≢◌, ◌⊎◌, ℕ, zero, suc, ◌+◌, ◌-◌, ◌%◌, ◌<◌, ◌≤◌, Bool, true, false, ◌&&◌, ◌==◌, leb, ltb, List, [], ◌∷◌, length, get_or, refl, sym, ap, subst, ◌∙◌, arith, ⊎_elim, cond}
+use Rattle.std.proofs.lemmas.Bool.{cases_lt, le-leb, lt-leb}
 use Rattle.std.proofs.lemmas.Bool.Decides.{nat_tests}
-use Rattle.size_classes.specs.Classes.{sizes, IsClass, class_size}
+use Rattle.size_classes.specs.Classes.{sizes, IsClass, IsLeast, class_size, first_size, largest_size}
 
 pub both : (a b : Bool) → (a && b) ≡ true → (a ≡ true) × (b ≡ true)
 both true b e = (refl, e)
@@ -71,3 +72,47 @@ class_range class c =
   where
     least : (y x : ℕ) → y < x → x % 8 ≡ 0 → 8 ≤ x
     least y x h e = omega arith
+
+-- a later class has larger objects
+pub size_grows : (class other : ℕ) → IsClass class → IsClass other → class ≤ other → class_size class ≤ class_size other
+size_grows class other k m h = ⊎_elim
+    (λ (l : class < other). let g = grows (other - 2) (class - 2) (omega (arith, k.low)) (omega (arith, m.high)) in let s = (size_at (other - 2) (omega (arith, m.high, m.low))).above in omega arith)
+    (λ (l : other ≤ class). let e : class ≡ other = omega arith in subst (λ (z : ℕ). class_size class ≤ class_size z) e (omega arith))
+    (cases_lt class other)
+
+-- where the least class has more bytes, no class has just these
+pub no_class : (bytes class : ℕ) → IsLeast bytes class → class_size class ≢ bytes → (other : ℕ) → IsClass other → class_size other ≢ bytes
+no_class bytes class k ne other is e =
+    let l = k.least other is (subst (λ (z : ℕ). bytes ≤ z) (sym e) (omega arith)) in
+    let g = size_grows class other k.is_class is l in
+    let h = k.holds in
+    ne (omega (arith, e))
+
+-- no class's object has no bytes, or more than the largest
+pub no_such_size : (bytes : ℕ) → (bytes ≡ 0) ⊎ (largest_size < bytes) → (class : ℕ) → IsClass class → class_size class ≢ bytes
+no_such_size bytes out class is e = let r = class_range class is in let a = r.0 in let b = r.1 in ⊎_elim (λ (z : bytes ≡ 0). omega (arith, e)) (λ (z : largest_size < bytes). omega (arith, e)) out
+
+-- the first size that holds the bytes
+first_at : (ss : List ℕ) (other bytes i : ℕ) → i < length ss → bytes ≤ get_or ss i 0 → ((j : ℕ) → j < i → get_or ss j 0 < bytes) → first_size ss other bytes ≡ get_or ss i 0
+unfolding first_size
+first_at [] other bytes i low h before = absurd (omega arith)
+first_at (s ∷ ss) other bytes zero low h before = ap (λ (b : Bool). cond b s (first_size ss other bytes)) (le-leb bytes s h)
+first_at (s ∷ ss) other bytes (suc i) low h before = ap (λ (b : Bool). cond b s (first_size ss other bytes)) (lt-leb bytes s (before 0 (omega arith))) ∙ first_at ss other bytes i (omega arith) h (λ j l. before (suc j) (omega arith))
+
+-- where no size does, it is the other one
+first_none : (ss : List ℕ) (other bytes : ℕ) → ((j : ℕ) → j < length ss → get_or ss j 0 < bytes) → first_size ss other bytes ≡ other
+unfolding first_size
+first_none [] other bytes before = refl
+first_none (s ∷ ss) other bytes before = ap (λ (b : Bool). cond b s (first_size ss other bytes)) (lt-leb bytes s (before 0 (omega arith))) ∙ first_none ss other bytes (λ j l. before (suc j) (omega arith))
+
+-- the first size that holds a request is that of its least class
+pub size_least : (bytes class other : ℕ) → IsLeast bytes class → first_size sizes other bytes ≡ class_size class
+size_least bytes class other k = first_at sizes other bytes (class - 2) (omega (arith, k.is_class.high, k.is_class.low)) k.holds
+    (λ j l. ⊎_elim
+    (λ (x : get_or sizes j 0 < bytes). x)
+    (λ (x : bytes ≤ get_or sizes j 0). absurd (let m = k.least (j + 2) (record { low = omega arith; high = omega (arith, k.is_class.high) }) (subst (λ (z : ℕ). bytes ≤ get_or sizes z 0) (let e : j ≡ j + 2 - 2 = omega arith in e) x) in omega arith))
+    (cases_lt (get_or sizes j 0) bytes))
+
+-- and above the largest size no class holds it
+pub size_above : (bytes other : ℕ) → largest_size < bytes → first_size sizes other bytes ≡ other
+size_above bytes other h = first_none sizes other bytes (λ j l. let m = (size_at j l).most in omega arith)

@@ -6,13 +6,22 @@
 //! what the look-up gives. No call takes memory, and each costs the same for every argument.
 #![tactic(auto)]
 
-ghost use Rattle.std.specs.Prelude.{◌≡◌, ◌%◌, ◌<◌, ◌≤◌, IfSome, IfNone};
-ghost use Rattle.size_classes.specs.Classes.{IsClass, IsLeast, class_size, class_objects};
+ghost use Rattle.std.specs.Prelude.{◌≡◌, ◌≢◌, ℕ, ◌%◌, ◌<◌, ◌≤◌, IfSome, IfNone};
+ghost use Rattle.size_classes.specs.Classes.{IsClass, IsLeast, class_size, class_objects, largest_size};
 
 #[cfg(test)]
 mod tests;
 
-/// The bytes of an object of each class, from class 2 on.
+/// The bytes of the largest objects.
+const LARGEST_SIZE: u32 = 8192;
+
+/// The bytes of a superblock.
+const SUPERBLOCK_BYTES: u32 = 65536;
+
+/// The first class.
+const FIRST_CLASS: usize = 2;
+
+/// The bytes of an object of each class, from the first class on.
 const SIZES: [u32; 36] = [
     8, 16, 24, 32, 40, 48, 56, 64, 80, 96, 112, 128, 160, 192, 224, 256, 320, 384, 448, 512, 640,
     768, 896, 1024, 1280, 1560, 1816, 2048, 2616, 3120, 3640, 4096, 5456, 6552, 7280, 8192,
@@ -69,9 +78,9 @@ const CLASSES: [u8; 1024] = [
 pub fn class_of(bytes: u32) -> Option<u8>
     requires some { 1 ≤ bytes }
     ensures least { IfSome result (λ c. IsLeast bytes c) }
-    ensures none { IfNone result (8192 < bytes) }
+    ensures none { IfNone result (largest_size < bytes) }
 {
-    if bytes > 8192 {
+    if bytes > LARGEST_SIZE {
         return None;
     }
     Some(CLASSES[(bytes as usize - 1) / 8])
@@ -82,9 +91,25 @@ pub fn class_bytes(class: u8) -> u32
     requires class { IsClass class }
     ensures size { result ≡ class_size class }
     ensures words { result % 8 ≡ 0 }
-    ensures range { (8 ≤ result) × (result ≤ 8192) }
+    ensures range { (8 ≤ result) × (result ≤ largest_size) }
 {
-    SIZES[class as usize - 2]
+    SIZES[class as usize - FIRST_CLASS]
+}
+
+/// The class whose objects have just so many bytes, or None where no class's have. No two classes have the same size.
+pub fn class_with(bytes: u64) -> Option<u8>
+    ensures some { IfSome result (λ class. IsClass class × (class_size class ≡ bytes)) }
+    ensures none { IfNone result ((class : ℕ) → IsClass class → class_size class ≢ bytes) }
+{
+    if bytes == 0 || bytes > u64::from(LARGEST_SIZE) {
+        return None;
+    }
+    let class = class_of(bytes as u32)?;
+    if u64::from(class_bytes(class)) == bytes {
+        Some(class)
+    } else {
+        None
+    }
 }
 
 /// How many objects of a class a superblock of 65,536 bytes holds.
@@ -93,5 +118,5 @@ pub fn objects_of(class: u8) -> u32
     ensures objects { result ≡ class_objects class }
     ensures range { (8 ≤ result) × (result ≤ 8192) }
 {
-    65536 / class_bytes(class)
+    SUPERBLOCK_BYTES / class_bytes(class)
 }
