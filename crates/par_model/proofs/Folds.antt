@@ -1,10 +1,10 @@
 -- The sum, the least and the greatest of some numbers, one number at a time.
-use Rattle.std.proofs.Common.{◌≡◌, ◌<◌, ◌+◌, ◌*◌, ◌^◌, ◌∙◌, ◌&&◌, ◌++◌, ◌∷◌, [], ◌+ℤ◌, ◌<ℤ◌, ◌≤ℤ◌, ℕ, ℤ, pos, negsuc, neg_ℤ, Bool, true, false, if◌then◌else◌, List, Option, Some, None, FitsSigned, of_z, to_z, w64, fold, refl, ap, sym, subst, unwrap_or, arith}
+use Rattle.std.proofs.Common.{◌≡◌, ◌<◌, ◌+◌, ◌*◌, ◌^◌, ◌∙◌, ◌&&◌, ◌++◌, ◌∷◌, [], ◌+ℤ◌, ◌<ℤ◌, ◌≤ℤ◌, ℕ, ℤ, pos, negsuc, neg_ℤ, Bool, true, false, if◌then◌else◌, List, Option, Some, None, FitsSigned, of_z, to_z, w64, fold, refl, ap, sym, subst, arith}
 use Rattle.std.proofs.lemmas.Int.{ints, to_z-of_z}
 use Rattle.std.specs.Int.{int_max, int_min, w128}
 use Rattle.std.specs.Option.{option_map_or}
 use Rattle.std.specs.Str.Parse.{signed_digits_value}
-use Rattle.par_model.specs.Aggregate.{greatest, least, total}
+use Rattle.par_model.specs.Aggregate.{total}
 use Rattle.par_model.specs.Integer.{fits_64_bits, integer_of, is_numeral, number_of, without_spaces}
 
 -- the extreme of some numbers, if there are any
@@ -17,14 +17,6 @@ least_so_far = extreme int_min
 
 abbrev pub greatest_so_far : List ℤ → Option ℤ
 greatest_so_far = extreme int_max
-
-pub least-extreme : (numbers : List ℤ) → unwrap_or (least_so_far numbers) (pos 0) ≡ least numbers
-least-extreme [] = refl
-least-extreme (n ∷ numbers) = refl
-
-pub greatest-extreme : (numbers : List ℤ) → unwrap_or (greatest_so_far numbers) (pos 0) ≡ greatest numbers
-greatest-extreme [] = refl
-greatest-extreme (n ∷ numbers) = refl
 
 fold_push : (f : ℤ → ℤ → ℤ) (a : ℤ) (numbers : List ℤ) (n : ℤ) → fold f a (numbers ++ n ∷ []) ≡ f (fold f a numbers) n
 fold_push f a [] n = refl

@@ -16,6 +16,22 @@ use Rattle.par_model.specs.declared.refusal.Refusal.{Refusal}
 abbrev pub longest_key : ℕ
 longest_key = 248
 
+-- the cause of a row that has another number of fields than the header
+abbrev pub width_cause : ℕ
+width_cause = 1
+
+-- of one whose encoded key is too long
+abbrev pub key_cause : ℕ
+key_cause = 2
+
+-- of one in which an aggregate cannot read its field
+abbrev pub item_cause : ℕ
+item_cause = 3
+
+-- of one whose field of the filter's column is neither null nor an integer
+abbrev pub filter_cause : ℕ
+filter_cause = 4
+
 -- whether an aggregate reads integers
 abbrev pub reads_integers : ItemKind → Bool
 reads_integers kind.Rows = false
@@ -33,21 +49,22 @@ is_no_integer field = not (is_null field) && is_none (integer_of field)
 abbrev pub is_unreadable : List (List ℕ) → Item → Bool
 is_unreadable row item = reads_integers item.kind && is_no_integer (field_of row item.column)
 
--- a refusal for a cause that names no item, and the one for the item at a place
+-- a refusal for a cause that names no item
 abbrev pub refused_for : ℕ → Option Refusal
 refused_for cause = Some (record { cause = cause; item = 0 })
 
+-- a refusal for the item at a place
 abbrev pub refused_at : ℕ → Refusal
-refused_at place = record { cause = 3; item = place }
+refused_at place = record { cause = item_cause; item = place }
 
 -- why a row is refused, the first that holds: its number of fields, the filter's field, and for a row that is kept its
 -- key's length and then the first item, from the left, that cannot read its field
 unfoldable pub refusal : Plan → ℕ → List (List ℕ) → Option Refusal
 refusal plan width row =
-    if not (length row == width) then refused_for 1
-    else (if option_map_or (λ filter. is_no_integer (field_of row filter.column)) plan.filter false then refused_for 4
+    if not (length row == width) then refused_for width_cause
+    else (if option_map_or (λ filter. is_no_integer (field_of row filter.column)) plan.filter false then refused_for filter_cause
     else (if not (is_kept plan row) then None
-    else (if nat_lt longest_key (length (key_of plan row)) then refused_for 2
+    else (if nat_lt longest_key (length (key_of plan row)) then refused_for key_cause
     else option_map refused_at (position_from (is_unreadable row) 0 plan.items))))
 
 -- the number of a row with the cause for which it is refused, if it is

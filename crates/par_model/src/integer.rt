@@ -14,10 +14,10 @@ ghost use Rattle.std.specs.Str.Parse.{starts_with_minus, without_leading_sign};
 ghost use Rattle.par_model.specs.Integer.{integer_of, is_space, number_of, without_spaces};
 ghost use Rattle.par_model.specs.Magnitude.{magnitude_of, short_magnitude_of, with_sign};
 
-// The size of the least number of 64 signed bits.
+/// The size of the least number of 64 signed bits.
 const LARGEST: u64 = 0x8000_0000_0000_0000;
 
-// How many digits the short way reads at most.
+/// How many digits the short way reads at most.
 const SHORT: usize = 18;
 
 /// The integer of a field, if it is one: any number of spaces, an optional `+` or `-`, one or more
@@ -33,7 +33,7 @@ pub fn read_integer(field: &[u8]) -> Option<i64>
     }
 }
 
-// The number that one to eighteen digits write, if there is nothing else.
+/// The number that one to eighteen digits write, if there is nothing else.
 fn short_magnitude(digits: &[u8]) -> Option<u64>
     ensures value { result ≡ short_magnitude_of digits.now }
     ensures within { IfSome result (λ size. size < 10 ^ 18) }
@@ -53,7 +53,7 @@ fn short_magnitude(digits: &[u8]) -> Option<u64>
     Some(value)
 }
 
-// A size after a minus, or after none.
+/// A size after a minus, or after none.
 fn signed_size(is_minus: bool, size: u64) -> i64
     requires { size < 2 ^ 63 }
     ensures { Some result ≡ with_sign is_minus (Some size) }
@@ -65,7 +65,7 @@ fn signed_size(is_minus: bool, size: u64) -> i64
     }
 }
 
-// The bytes between the spaces at either end.
+/// The bytes between the spaces at either end.
 fn trimmed(field: &[u8]) -> &[u8]
     ensures { result.now ≡ without_spaces field.now }
 {
@@ -90,7 +90,7 @@ fn spaces_after(field: &[u8]) -> usize
     field.iter().rev().take_while(|byte| **byte == b' ').count()
 }
 
-// The number that a sign and digits write.
+/// The number that a sign and digits write.
 fn number(text: &[u8]) -> Option<i64>
     ensures { result ≡ number_of text.now }
 {
@@ -98,7 +98,7 @@ fn number(text: &[u8]) -> Option<i64>
     signed(is_minus, digits)
 }
 
-// Whether a text begins with a minus, and what comes after its sign.
+/// Whether a text begins with a minus, and what comes after its sign.
 fn split_sign(text: &[u8]) -> (bool, &[u8])
     ensures is_minus { result.0 ≡ starts_with_minus text.now }
     ensures digits { result.1.now ≡ without_leading_sign text.now }
@@ -110,7 +110,7 @@ fn split_sign(text: &[u8]) -> (bool, &[u8])
     }
 }
 
-// The number of 64 signed bits that digits write after a sign.
+/// The number of 64 signed bits that digits write after a sign.
 fn signed(is_minus: bool, digits: &[u8]) -> Option<i64>
     ensures { result ≡ with_sign is_minus (magnitude_of digits.now) }
 {
@@ -124,7 +124,7 @@ fn signed(is_minus: bool, digits: &[u8]) -> Option<i64>
     Some(-(size as i64))
 }
 
-// The number that digits write, if there are digits and nothing else, and it is at most 2^63.
+/// The number that digits write, if there are digits and nothing else, and it is at most 2^63.
 fn magnitude(digits: &[u8]) -> Option<u64>
     ensures value { result ≡ magnitude_of digits.now }
     ensures within { IfSome result (λ size. size ≤ 2 ^ 63) }

@@ -3,6 +3,9 @@
 //! A plan lies in arrays of a fixed size, so that it can be copied into shared memory word by word. The places past a
 //! count hold column 0 and kind `Rows`, which `BoundPlan` keeps as its invariant; a contract sees the lists alone.
 
+ghost use Rattle.std.specs.Prelude.{◌≡◌, ◌≤◌, length};
+ghost use Rattle.par_model.specs.Keep.{stands};
+
 use std::marker::Model;
 
 /// What an aggregate computes: the number of rows, the number of fields that are not empty, or the sum, the least, the
@@ -35,6 +38,22 @@ pub enum FilterOp {
     GreaterEqual,
 }
 
+impl FilterOp {
+    /// Whether the first number stands in the relation to the second.
+    pub fn stands(self, a: i64, b: i64) -> bool
+        ensures { result ≡ stands self a b }
+    {
+        match self {
+            FilterOp::Equal => a == b,
+            FilterOp::NotEqual => a != b,
+            FilterOp::Less => a < b,
+            FilterOp::LessEqual => a <= b,
+            FilterOp::Greater => a > b,
+            FilterOp::GreaterEqual => a >= b,
+        }
+    }
+}
+
 /// Which rows are kept: those whose integer in a column stands in the relation to the value.
 #[derive(Clone, Copy, Debug, PartialEq, Eq)]
 pub struct Filter {
@@ -64,4 +83,22 @@ impl Model for BoundPlan {
     ghost view = { plan_of };
 
     ghost invariant = { IsPadded };
+}
+
+impl BoundPlan {
+    /// The columns to group by, without the unused places.
+    pub fn group_columns(&self) -> &[u32]
+        ensures columns { result.now ≡ self.now.groups }
+        ensures few { length result.now ≤ 8 }
+    {
+        &self.groups[..self.group_count as usize]
+    }
+
+    /// The aggregates, without the unused places.
+    pub fn items(&self) -> &[Item]
+        ensures items { result.now ≡ self.now.items }
+        ensures few { length result.now ≤ 8 }
+    {
+        &self.items[..self.item_count as usize]
+    }
 }

@@ -1,8 +1,22 @@
-//! Why a row is refused.
+//! Why a row is refused: the four causes by their numbers, as messages between processes carry them.
 
-/// Why a row is refused: `cause` 1, it has another number of fields than the header; 2, its encoded group key is longer
-/// than 248 bytes; 3, a field of the `sum`, `min`, `max` or `avg` at place `item` of the aggregates is no integer; 4, its
-/// field of the filter's column is none. `item` counts from 0, and is 0 for every cause but 3.
+/// The most bytes that the encoded key of a group has.
+pub const LONGEST_KEY: usize = 248;
+
+/// The cause of a row that has another number of fields than the header.
+pub const WIDTH_CAUSE: u8 = 1;
+
+/// The cause of a row whose encoded group key is longer than [`LONGEST_KEY`] bytes.
+pub const KEY_CAUSE: u8 = 2;
+
+/// The cause of a row in which a field of a `sum`, `min`, `max` or `avg` is no integer.
+pub const ITEM_CAUSE: u8 = 3;
+
+/// The cause of a row whose field of the filter's column is no integer.
+pub const FILTER_CAUSE: u8 = 4;
+
+/// Why a row is refused: `cause` is one of [`WIDTH_CAUSE`], [`KEY_CAUSE`], [`ITEM_CAUSE`] and [`FILTER_CAUSE`]. `item`
+/// is the place, counted from 0, of the aggregate that cannot read its field, and 0 for every cause but [`ITEM_CAUSE`].
 #[derive(Clone, Copy, Debug, PartialEq, Eq)]
 pub struct Refusal {
     pub cause: u8,

@@ -7,18 +7,15 @@ ghost use Rattle.std.specs.Prelude.{◌≡◌, ◌≤◌, ◌<◌, true, false, 
 ghost use Rattle.std.specs.List.{position_from};
 ghost use Rattle.std.specs.Option.{option_map_or};
 ghost use Rattle.par_model.specs.Columns.{HasColumns};
-ghost use Rattle.par_model.specs.Keep.{is_kept, leaves_out, stands};
+ghost use Rattle.par_model.specs.Keep.{is_kept, leaves_out};
 ghost use Rattle.par_model.specs.Key.{key_of};
 ghost use Rattle.par_model.specs.Record.{field_of};
 ghost use Rattle.par_model.specs.Refuse.{is_no_integer, is_unreadable, longest_key, reads_integers, refusal};
 
 use crate::integer::read_integer;
-use crate::plan::{BoundPlan, Filter, FilterOp, Item, ItemKind};
-use crate::refusal::Refusal;
+use crate::plan::{BoundPlan, Filter, Item, ItemKind};
+use crate::refusal::{FILTER_CAUSE, ITEM_CAUSE, KEY_CAUSE, LONGEST_KEY, Refusal, WIDTH_CAUSE};
 use crate::row::Row;
-
-// The longest encoded key.
-const LONGEST_KEY: usize = 248;
 
 /// Why the plan refuses the row under a header of this width, if it does.
 pub fn slow_refusal(row: &Row, width: u32, plan: &BoundPlan) -> Option<Refusal>
@@ -26,29 +23,41 @@ pub fn slow_refusal(row: &Row, width: u32, plan: &BoundPlan) -> Option<Refusal>
     ensures { result ≡ refusal plan.now width row.now }
 {
     if row.width() != width as usize {
-        return Some(Refusal { cause: 1, item: 0 });
+        return Some(Refusal {
+            cause: WIDTH_CAUSE,
+            item: 0,
+        });
     }
     if has_unreadable_filter(row, plan) {
-        return Some(Refusal { cause: 4, item: 0 });
+        return Some(Refusal {
+            cause: FILTER_CAUSE,
+            item: 0,
+        });
     }
     if !keeps(row, plan) {
         return None;
     }
     if has_long_key(row, plan) {
-        return Some(Refusal { cause: 2, item: 0 });
+        return Some(Refusal {
+            cause: KEY_CAUSE,
+            item: 0,
+        });
     }
     let item = first_unreadable(row, plan)?;
-    Some(Refusal { cause: 3, item })
+    Some(Refusal {
+        cause: ITEM_CAUSE,
+        item,
+    })
 }
 
-// Whether a field is neither null nor an integer.
+/// Whether a field is neither null nor an integer.
 fn is_no_integer(field: &[u8]) -> bool
     ensures { result ≡ is_no_integer field.now }
 {
     !field.is_empty() && read_integer(field).is_none()
 }
 
-// Whether the filter cannot read its field.
+/// Whether the filter cannot read its field.
 fn has_unreadable_filter(row: &Row, plan: &BoundPlan) -> bool
     requires { HasColumns plan.now (length row.now) }
     ensures { result ≡ option_map_or (λ filter. is_no_integer (field_of row.now filter.column)) plan.now.filter false }
@@ -59,7 +68,7 @@ fn has_unreadable_filter(row: &Row, plan: &BoundPlan) -> bool
     }
 }
 
-// Whether the plan keeps the row.
+/// Whether the plan keeps the row.
 pub(crate) fn keeps(row: &Row, plan: &BoundPlan) -> bool
     requires { HasColumns plan.now (length row.now) }
     ensures { result ≡ is_kept plan.now row.now }
@@ -70,7 +79,7 @@ pub(crate) fn keeps(row: &Row, plan: &BoundPlan) -> bool
     }
 }
 
-// Whether a filter leaves the row out.
+/// Whether a filter leaves the row out.
 fn leaves_out(filter: &Filter, row: &Row) -> bool
     requires { filter.now.column < length row.now }
     ensures { result ≡ leaves_out filter.now row.now }
@@ -81,25 +90,11 @@ fn leaves_out(filter: &Filter, row: &Row) -> bool
     }
     match read_integer(field) {
         None => false,
-        Some(number) => !stands(filter.op, number, filter.value),
+        Some(number) => !filter.op.stands(number, filter.value),
     }
 }
 
-// Whether the first number stands in the relation to the second.
-fn stands(op: FilterOp, a: i64, b: i64) -> bool
-    ensures { result ≡ stands op a b }
-{
-    match op {
-        FilterOp::Equal => a == b,
-        FilterOp::NotEqual => a != b,
-        FilterOp::Less => a < b,
-        FilterOp::LessEqual => a <= b,
-        FilterOp::Greater => a > b,
-        FilterOp::GreaterEqual => a >= b,
-    }
-}
-
-// Whether the row's encoded key is too long: each field takes four bytes more than it has.
+/// Whether the row's encoded key is too long: each field takes four bytes more than it has.
 fn has_long_key(row: &Row, plan: &BoundPlan) -> bool
     requires { HasColumns plan.now (length row.now) }
     ensures { result ≡ nat_lt longest_key (length (key_of plan.now row.now)) }
@@ -115,7 +110,7 @@ fn has_long_key(row: &Row, plan: &BoundPlan) -> bool
     false
 }
 
-// The place of the first item that cannot read its field.
+/// The place of the first item that cannot read its field.
 fn first_unreadable(row: &Row, plan: &BoundPlan) -> Option<u32>
     requires { HasColumns plan.now (length row.now) }
     ensures { result ≡ position_from (is_unreadable row.now) 0 plan.now.items }
@@ -129,7 +124,7 @@ fn first_unreadable(row: &Row, plan: &BoundPlan) -> Option<u32>
     None
 }
 
-// Whether an item cannot read its field.
+/// Whether an item cannot read its field.
 fn is_unreadable(row: &Row, item: Item) -> bool
     requires { reads_integers item.kind ≡ true → item.column < length row.now }
     ensures { result ≡ is_unreadable row.now item }

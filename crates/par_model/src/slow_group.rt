@@ -18,15 +18,7 @@ use crate::integer::read_integer;
 use crate::plan::{BoundPlan, Item, ItemKind};
 use crate::row::Row;
 use crate::slow::keeps;
-use crate::state::{AggState, SlotState};
-
-// The slot of an aggregate that has no values.
-const NO_VALUES: SlotState = SlotState {
-    count: 0,
-    sum: 0,
-    least: 0,
-    greatest: 0,
-};
+use crate::state::{AggState, NO_VALUES, SlotState};
 
 /// The aggregates of the group with this encoded key, over the rows that the plan keeps. A group of no rows has zeros.
 /// It reads all the rows up to 33 times: once to count them, and four times for each aggregate.
@@ -43,7 +35,7 @@ pub fn slow_state(rows: &[Row], key: &[u8], plan: &BoundPlan) -> AggState
     AggState { rows, slots }
 }
 
-// The slot of an aggregate.
+/// The slot of an aggregate.
 fn slot(rows: &[Row], key: &[u8], plan: &BoundPlan, item: Item) -> SlotState
     requires plan { All (λ row. HasColumns plan.now (length row)) rows.now }
     requires item { IsTrue (reads_column item.kind) → All (λ row. item.column < length row) rows.now }
@@ -66,7 +58,7 @@ fn slot(rows: &[Row], key: &[u8], plan: &BoundPlan, item: Item) -> SlotState
     }
 }
 
-// How many rows the group has.
+/// How many rows the group has.
 fn count_rows(rows: &[Row], key: &[u8], plan: &BoundPlan) -> u64
     requires { All (λ row. HasColumns plan.now (length row)) rows.now }
     ensures { result ≡ length (rows_of plan.now rows.now key.now) }
@@ -80,7 +72,7 @@ fn count_rows(rows: &[Row], key: &[u8], plan: &BoundPlan) -> u64
     count
 }
 
-// How many fields of a column are not null, in the group's rows.
+/// How many fields of a column are not null, in the group's rows.
 fn count_values(rows: &[Row], key: &[u8], plan: &BoundPlan, column: u32) -> u64
     requires plan { All (λ row. HasColumns plan.now (length row)) rows.now }
     requires column { All (λ row. column < length row) rows.now }
@@ -95,7 +87,7 @@ fn count_values(rows: &[Row], key: &[u8], plan: &BoundPlan, column: u32) -> u64
     count
 }
 
-// The sum of a column's integers in the group's rows.
+/// The sum of a column's integers in the group's rows.
 fn sum(rows: &[Row], key: &[u8], plan: &BoundPlan, column: u32) -> i128
     requires plan { All (λ row. HasColumns plan.now (length row)) rows.now }
     requires column { All (λ row. column < length row) rows.now }
@@ -110,7 +102,7 @@ fn sum(rows: &[Row], key: &[u8], plan: &BoundPlan, column: u32) -> i128
     sum
 }
 
-// The least of a column's integers in the group's rows, and 0 if there is none.
+/// The least of a column's integers in the group's rows, and 0 if there is none.
 fn least(rows: &[Row], key: &[u8], plan: &BoundPlan, column: u32) -> i64
     requires plan { All (λ row. HasColumns plan.now (length row)) rows.now }
     requires column { All (λ row. column < length row) rows.now }
@@ -125,7 +117,7 @@ fn least(rows: &[Row], key: &[u8], plan: &BoundPlan, column: u32) -> i64
     least.unwrap_or(0)
 }
 
-// The greatest of a column's integers in the group's rows, and 0 if there is none.
+/// The greatest of a column's integers in the group's rows, and 0 if there is none.
 fn greatest(rows: &[Row], key: &[u8], plan: &BoundPlan, column: u32) -> i64
     requires plan { All (λ row. HasColumns plan.now (length row)) rows.now }
     requires column { All (λ row. column < length row) rows.now }
@@ -140,7 +132,7 @@ fn greatest(rows: &[Row], key: &[u8], plan: &BoundPlan, column: u32) -> i64
     greatest.unwrap_or(0)
 }
 
-// The lesser of a number and the least one so far, if there is one.
+/// The lesser of a number and the least one so far, if there is one.
 fn lesser(so_far: Option<i64>, number: i64) -> i64
     ensures { result ≡ option_map_or (λ least. int_min least number) so_far number }
 {
@@ -150,7 +142,7 @@ fn lesser(so_far: Option<i64>, number: i64) -> i64
     }
 }
 
-// The greater of a number and the greatest one so far, if there is one.
+/// The greater of a number and the greatest one so far, if there is one.
 fn greater(so_far: Option<i64>, number: i64) -> i64
     ensures { result ≡ option_map_or (λ greatest. int_max greatest number) so_far number }
 {
@@ -160,7 +152,7 @@ fn greater(so_far: Option<i64>, number: i64) -> i64
     }
 }
 
-// The integer of a column in a row of the group, if the row is one and the field is one.
+/// The integer of a column in a row of the group, if the row is one and the field is one.
 fn number_in(row: &Row, key: &[u8], plan: &BoundPlan, column: u32) -> Option<i64>
     requires plan { HasColumns plan.now (length row.now) }
     requires column { column < length row.now }
@@ -172,7 +164,7 @@ fn number_in(row: &Row, key: &[u8], plan: &BoundPlan, column: u32) -> Option<i64
     read_integer(row.field(column))
 }
 
-// Whether a row is one of the group: the plan keeps it, and it has the key.
+/// Whether a row is one of the group: the plan keeps it, and it has the key.
 fn is_in_group(row: &Row, key: &[u8], plan: &BoundPlan) -> bool
     requires { HasColumns plan.now (length row.now) }
     ensures { result ≡ (is_kept plan.now row.now && bytes_eq (key_of plan.now row.now) key.now) }
@@ -180,7 +172,7 @@ fn is_in_group(row: &Row, key: &[u8], plan: &BoundPlan) -> bool
     keeps(row, plan) && has_key(row, key, plan)
 }
 
-// Whether a row's encoded key is this one: the row's fields are taken off the key's front, one by one.
+/// Whether a row's encoded key is this one: the row's fields are taken off the key's front, one by one.
 fn has_key(row: &Row, key: &[u8], plan: &BoundPlan) -> bool
     requires { HasColumns plan.now (length row.now) }
     ensures { result ≡ bytes_eq (key_of plan.now row.now) key.now }
@@ -195,7 +187,7 @@ fn has_key(row: &Row, key: &[u8], plan: &BoundPlan) -> bool
     rest.is_empty()
 }
 
-// What comes after the encoding of a field, of a text that begins with it.
+/// What comes after the encoding of a field, of a text that begins with it.
 fn after_field<'a>(text: &'a [u8], field: &[u8]) -> Option<&'a [u8]>
     ensures { MatchOption result ((rest : List ℕ) → text.now ≢ encoded_field field.now ++ rest) (λ rest. text.now ≡ encoded_field field.now ++ rest.now) }
 {

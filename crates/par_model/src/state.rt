@@ -10,8 +10,16 @@ pub struct SlotState {
     pub greatest: i64,
 }
 
-/// The aggregates of one group: how many rows it has, and a slot for each item of the plan. A slot of an item that reads
-/// no column, and each slot past the items, is all zeros.
+/// The slot of an aggregate that has no values.
+pub const NO_VALUES: SlotState = SlotState {
+    count: 0,
+    sum: 0,
+    least: 0,
+    greatest: 0,
+};
+
+/// The aggregates of one group: how many rows it has, and a slot for each item of the plan. A slot of an item that
+/// reads no column, and each slot past the items, is all zeros.
 #[derive(Clone, Copy, Debug, PartialEq, Eq)]
 pub struct AggState {
     pub rows: u64,

@@ -11,13 +11,13 @@ use crate::{
 use std::alloc::{AllocError, Global};
 use std::test::Fail;
 
-// An item that is not used.
+/// An item that is not used.
 const UNUSED: Item = Item {
     kind: ItemKind::Rows,
     column: 0,
 };
 
-// Counts the rows of each group of a column: the caller of CALLING.md.
+/// Counts the rows of each group of a column: the caller of CALLING.md.
 fn count_by(column: u32) -> BoundPlan
     ensures { result ≡ record { groups = column ∷ []; items = record { kind = kind.Rows; column = 0 } ∷ []; hash = false; filter = None } }
 {
@@ -33,7 +33,10 @@ fn count_by(column: u32) -> BoundPlan
 
 #[test]
 fn makes_plans_and_rows(rt: HostRuntime) -> Result<(), Fail> {
-    assert_eq!(rt; count_by(3).groups[0], 3);
+    let plan = count_by(3);
+    assert_eq!(rt; plan.group_columns(), [3].as_slice());
+    assert_eq!(rt; plan.items(), [UNUSED].as_slice());
+    assert!(rt; FilterOp::LessEqual.stands(-1, 3));
     let mut fields = Vec::new(rt.alloc());
     fields.push(Field::new(Vec::from_slice(rt.alloc(), b"a")?))?;
     let row = Row::new(fields);
@@ -87,7 +90,7 @@ fn integers(rt: HostRuntime) {
     }
 }
 
-// A row of these fields.
+/// A row of these fields.
 fn row_of(alloc: Global, texts: &[&str]) -> Result<Row, AllocError>
     ensures { IfOk result (λ row. length row ≡ length texts.now) }
 {
@@ -98,7 +101,7 @@ fn row_of(alloc: Global, texts: &[&str]) -> Result<Row, AllocError>
     Ok(Row::new(fields))
 }
 
-// Sums column 2 of the rows whose column 1 is below 5, for each group of column 0.
+/// Sums column 2 of the rows whose column 1 is below 5, for each group of column 0.
 fn sum_below_five() -> BoundPlan
     ensures { HasColumns result 3 }
 {
@@ -153,14 +156,14 @@ fn refuses_rows(rt: HostRuntime) -> Result<(), Fail> {
     Ok(())
 }
 
-// An aggregate of column 1.
+/// An aggregate of column 1.
 fn of_values(kind: ItemKind) -> Item
     ensures { result ≡ record { kind = kind; column = 1 } }
 {
     Item { kind, column: 1 }
 }
 
-// Each aggregate of column 1, for each group of column 0, over the rows whose column 2 is not 9.
+/// Each aggregate of column 1, for each group of column 0, over the rows whose column 2 is not 9.
 fn all_aggregates() -> BoundPlan
     ensures { HasColumns result 3 }
 {
@@ -187,7 +190,7 @@ fn all_aggregates() -> BoundPlan
     }
 }
 
-// Rows of a key, a value and a number for the filter.
+/// Rows of a key, a value and a number for the filter.
 fn table_of(alloc: Global, texts: &[[&str; 3]]) -> Result<Vec<Row>, AllocError>
     ensures { IfOk result (λ rows. All (λ row. length row ≡ 3) rows.items) }
 {
