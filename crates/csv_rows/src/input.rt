@@ -15,7 +15,7 @@ use std::alloc::{AllocError, Global};
 /// The most bytes that an input has: 64 MiB.
 pub const MOST_BYTES: usize = 67_108_864;
 
-// How much room is made for a read.
+/// How much room is made for a read.
 const PIECE: usize = 131_072;
 
 /// Why a source gave no input: a read failed, there were more bytes than [`MOST_BYTES`], or memory
@@ -39,25 +39,24 @@ pub fn read_all<S: Source>(alloc: Global, source: &mut S) -> Result<Vec<u8>, Rea
     ensures read_fault { result ≡ Err answer.ReadFault → Rose (S.faults source.old) (S.faults source.new) }
     ensures too_many { result ≡ Err answer.TooManyBytes → ReadsCount (S.left source.old) (S.left source.new) (MOST_BYTES + 1) }
     ensures part { OnErr result ((count : ℕ) × ReadsCount (S.left source.old) (S.left source.new) count × (count ≤ MOST_BYTES + 1)) }
+    ensures fault_within { result ≡ Err answer.ReadFault → (count : ℕ) × ReadsCount (S.left source.old) (S.left source.new) count × (count ≤ MOST_BYTES) }
     ensures faults { S.faults source.old ≤ S.faults source.new }
 {
     let mut bytes = Vec::new(alloc);
     let mut filled = 0;
     'reads: while filled <= MOST_BYTES {
-        match read_more(source, &mut bytes, filled) {
-            Ok(0) => {
-                bytes.truncate(filled);
-                return Ok(bytes);
-            }
-            Ok(count) => filled += count,
-            Err(answer) => return Err(answer),
+        let count = read_more(source, &mut bytes, filled)?;
+        if count == 0 {
+            bytes.truncate(filled);
+            return Ok(bytes);
         }
+        filled += count;
     }
     Err(ReadAnswer::TooManyBytes)
 }
 
-// One read into the room behind the bytes that are filled, and how many it gave. The room is made
-// first, so that want of memory loses no byte.
+/// One read into the room behind the bytes that are filled, and how many it gave. The room is made
+/// first, so that want of memory loses no byte.
 fn read_more<S: Source>(
     source: &mut S,
     bytes: &mut Vec<u8>,
@@ -82,7 +81,7 @@ fn read_more<S: Source>(
     read_at(source, bytes.as_mut_slice(), filled)
 }
 
-// Makes the buffer longer than the bytes that are filled, by zeros.
+/// Makes the buffer longer than the bytes that are filled, by zeros.
 fn make_room(bytes: &mut Vec<u8>, filled: usize) -> Result<(), AllocError>
     requires filled { filled ≤ vec_len bytes.old }
     requires most { vec_len bytes.old ≤ MOST_BYTES + 1 }
@@ -98,7 +97,7 @@ fn make_room(bytes: &mut Vec<u8>, filled: usize) -> Result<(), AllocError>
     bytes.resize((filled + PIECE).min(MOST_BYTES + 1), 0)
 }
 
-// One read into a buffer from this place on.
+/// One read into a buffer from this place on.
 fn read_at<S: Source>(source: &mut S, buf: &mut [u8], at: usize) -> Result<usize, ReadAnswer>
     requires { at < length buf.old }
     ensures front { take at buf.new ≡ take at buf.old }

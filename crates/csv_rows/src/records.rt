@@ -6,7 +6,7 @@ ghost use Rattle.csv_rows.specs.declared.records.RowsAnswer.TheVariants as answe
 
 use crate::row_ends::RowEnds;
 use crate::store::{RowStore, push_record};
-use csv::{ByteRecord, ReaderBuilder};
+use csv::{ByteRecord, ErrorKind, ReaderBuilder};
 use std::alloc::Global;
 
 /// The most records that a store has: the header and 4,194,304 rows.
@@ -50,7 +50,11 @@ pub fn rows(alloc: Global, bytes: &[u8]) -> Result<RowStore, RowsAnswer>
             }
             Ok(false) if row_ends.is_empty() => return Err(RowsAnswer::NoHeader),
             Ok(false) => return Ok(RowStore::of_lists(text, ends, row_ends)),
-            Err(_) => return Err(RowsAnswer::Memory),
+            Err(error) => match error.kind() {
+                // A flexible reader takes records of any length.
+                ErrorKind::UnequalLengths { .. } => unreachable!(),
+                _ => return Err(RowsAnswer::Memory),
+            },
         }
     }
     Err(RowsAnswer::TooManyRows)

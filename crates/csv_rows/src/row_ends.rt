@@ -2,9 +2,9 @@
 //!
 //! Nearly every table has as many fields in each record as in its header. The ends of such records are the multiples of
 //! that width, so a number for the width and one for how many records have it stand for them all. The ends from the
-//! first record of another width on stand in a list. So an even table pays no memory for its ends, a ragged one pays from
-//! where it is ragged, and no record makes the ones before it be written down again. The first record always counts as
-//! one of the width: without any of these there is no record.
+//! first record of another width on stand in a list. So an even table pays no memory for its ends, a ragged one pays
+//! from where it is ragged, and no record makes the ones before it be written down again. The first record always
+//! counts as one of the width: without any of these there is no record.
 
 ghost use Rattle.std.specs.Prelude.{◌≡◌, ◌==◌, ◌<◌, ◌≤◌, ◌-◌, ◌∷◌, ◌++◌, [], IfOk, OnOk, get_or, length};
 ghost use Rattle.csv.specs.Records.{prev};
@@ -12,7 +12,7 @@ ghost use Rattle.csv.specs.Records.{prev};
 use std::alloc::{AllocError, Global};
 use std::marker::Model;
 
-// The places in turn.
+/// The places in turn.
 #[derive(Drop)]
 pub(crate) struct RowEnds {
     width: u32,
@@ -32,7 +32,7 @@ impl Model for RowEnds {
 }
 
 impl RowEnds {
-    // No places; takes no memory.
+    /// No places; takes no memory.
     pub(crate) fn new(alloc: Global) -> RowEnds
         ensures { result ≡ [] }
     {
@@ -43,21 +43,21 @@ impl RowEnds {
         }
     }
 
-    // How many records there are.
+    /// How many records there are.
     pub(crate) fn len(&self) -> usize
         ensures { result ≡ length self.now }
     {
         self.even as usize + self.later.len()
     }
 
-    // Whether there is no record.
+    /// Whether there is no record.
     pub(crate) fn is_empty(&self) -> bool
         ensures { result ≡ (length self.now == 0) }
     {
         self.even == 0
     }
 
-    // Where a record starts among the fields.
+    /// Where a record starts among the fields.
     pub(crate) fn start(&self, row: usize) -> usize
         requires { row < length self.now }
         ensures { result ≡ prev 0 self.now row }
@@ -69,7 +69,7 @@ impl RowEnds {
         self.later[row - even - 1] as usize
     }
 
-    // How many fields a record has.
+    /// How many fields a record has.
     pub(crate) fn width(&self, row: usize) -> u32
         requires row { row < length self.now }
         requires up { prev 0 self.now row ≤ get_or self.now row 0 }
@@ -82,7 +82,7 @@ impl RowEnds {
         self.later[row - even] - self.start(row) as u32
     }
 
-    // Adds the end of one more record. Takes no memory while all records have the width of the first.
+    /// Adds the end of one more record. Takes no memory while all records have the width of the first.
     pub(crate) fn push(&mut self, end: usize) -> Result<(), AllocError>
         ensures { OnOk result (self.new ≡ self.old ++ end ∷ []) }
     {
@@ -94,7 +94,7 @@ impl RowEnds {
         self.push_uneven(end)
     }
 
-    // Adds the end of the first record, or of one that is none of the width.
+    /// Adds the end of the first record, or of one that is none of the width.
     #[cold]
     fn push_uneven(&mut self, end: usize) -> Result<(), AllocError>
         ensures { OnOk result (self.new ≡ self.old ++ end ∷ []) }
@@ -112,7 +112,7 @@ impl RowEnds {
     }
 }
 
-// A length as a place of the store: one that does not fit is want of memory.
+/// A length as a place of the store: one that does not fit is want of memory.
 pub(crate) fn place(n: usize) -> Result<u32, AllocError>
     ensures { IfOk result (λ k. k ≡ n) }
 {

@@ -9,12 +9,14 @@ ghost use Rattle.csv.specs.Records.{cut_from, fields_of, prev, text_of};
 ghost use Rattle.csv_rows.specs.Records.{field_of, record_at};
 ghost use Rattle.csv_rows.specs.Store.{Covers, stored};
 
+use crate::records::MOST_RECORDS;
 use crate::row_ends::RowEnds;
 use csv::ByteRecord;
 use std::alloc::AllocError;
 use std::marker::Model;
 
-/// A list of records, each a list of fields; there is at least one record.
+/// A list of records, each a list of fields. Record 0 is the header of the table and is always there; the rows of the
+/// table are the records from 1 on, of which there are at most 4,194,304. So a record's number is its row's.
 #[derive(Drop)]
 pub struct RowStore {
     bytes: Vec<u8>,
@@ -34,11 +36,12 @@ impl Model for RowStore {
 }
 
 impl RowStore {
-    // The store of these lists.
+    /// The store of these lists.
     pub(crate) fn of_lists(bytes: Vec<u8>, ends: Vec<u32>, row_ends: RowEnds) -> RowStore
         requires fields { Covers ends.items (length bytes.items) }
         requires rows { Covers row_ends (length ends.items) }
         requires some { 0 < length row_ends }
+        requires few { length row_ends ≤ MOST_RECORDS }
         ensures { result ≡ stored bytes.items ends.items row_ends }
     {
         RowStore {
@@ -48,14 +51,15 @@ impl RowStore {
         }
     }
 
-    /// The number of the last record, where the first, the header, is 0: how many rows there are.
+    /// How many rows there are beside the header, which is also the number of the last record.
     pub fn count(&self) -> u64
-        ensures { result + 1 ≡ length self.now }
+        ensures rows { result + 1 ≡ length self.now }
+        ensures few { result < MOST_RECORDS }
     {
         self.row_ends.len() as u64 - 1
     }
 
-    /// How many fields a record has.
+    /// How many fields a record has, the header being record 0. In constant time.
     pub fn width(&self, row: u64) -> u32
         requires { row < length self.now }
         ensures { result ≡ length (record_at self.now row) }
@@ -63,7 +67,7 @@ impl RowStore {
         self.row_ends.width(row as usize)
     }
 
-    /// A field of a record.
+    /// A field of a record, the header being record 0. In constant time.
     pub fn field(&self, row: u64, at: u32) -> &[u8]
         requires row { row < length self.now }
         requires place { at < length (record_at self.now row) }
@@ -75,7 +79,7 @@ impl RowStore {
     }
 }
 
-// Where the field at this place starts and ends.
+/// Where the field at this place starts and ends.
 fn span(ends: &Vec<u32>, i: usize) -> (u32, u32)
     requires { i < length ends.now.items }
     ensures start { result.0 ≡ prev 0 ends.now.items i }
@@ -85,7 +89,7 @@ fn span(ends: &Vec<u32>, i: usize) -> (u32, u32)
     (start, ends[i])
 }
 
-// Adds a record to the lists of a store. After a refusal they are only dropped.
+/// Adds a record to the lists of a store. After a refusal they are only dropped.
 pub(crate) fn push_record(
     bytes: &mut Vec<u8>,
     ends: &mut Vec<u32>,
@@ -103,9 +107,9 @@ pub(crate) fn push_record(
     row_ends.push(ends.len())
 }
 
-// Adds the fields of a record: the bytes of all of them in one copy, and then their ends. The contracts of csv tie a field to
-// a place of the record's text only while no field behind the first is empty. So from the first such field on each is
-// copied by itself.
+/// Adds the fields of a record: the bytes of all of them in one copy, and then their ends. The contracts of csv tie a
+/// field to a place of the record's text only while no field behind the first is empty. So from the first such field on
+/// each is copied by itself.
 fn push_fields(bytes: &mut Vec<u8>, ends: &mut Vec<u32>, row: &ByteRecord) -> Result<(), AllocError>
     requires covers { Covers ends.old.items (length bytes.old.items) }
     ensures covers { OnOk result (Covers ends.new.items (length bytes.new.items)) }
@@ -123,8 +127,8 @@ fn push_fields(bytes: &mut Vec<u8>, ends: &mut Vec<u32>, row: &ByteRecord) -> Re
     Ok(())
 }
 
-// Adds the ends of the first fields of a record, whose text stands from this place on: those in front of an empty field
-// that is not the first of all. Says how many they are, and where the last of them ends.
+/// Adds the ends of the first fields of a record, whose text stands from this place on: those in front of an empty
+/// field that is not the first of all. Says how many they are, and where the last of them ends.
 fn push_ends(
     ends: &mut Vec<u32>,
     bytes: &[u8],
@@ -151,7 +155,7 @@ fn push_ends(
     Ok((row.len(), end))
 }
 
-// Adds one field.
+/// Adds one field.
 fn push_field(bytes: &mut Vec<u8>, ends: &mut Vec<u32>, field: &[u8]) -> Result<(), AllocError>
     requires covers { Covers ends.old.items (length bytes.old.items) }
     ensures covers { OnOk result (Covers ends.new.items (length bytes.new.items)) }
@@ -161,7 +165,7 @@ fn push_field(bytes: &mut Vec<u8>, ends: &mut Vec<u32>, field: &[u8]) -> Result<
     push_end(ends, bytes.len())
 }
 
-// Adds the end of one field.
+/// Adds the end of one field.
 fn push_end(ends: &mut Vec<u32>, end: usize) -> Result<(), AllocError>
     ensures { OnOk result (ends.new.items ≡ ends.old.items ++ end ∷ []) }
 {

@@ -8,7 +8,7 @@ use par_io::{MemSource, Source};
 use std::alloc::{AllocError, Global};
 use std::test::Fail;
 
-// The records of what a source has left, if it can be read: the caller of CALLING.md.
+/// The records of what a source has left, if it can be read: the caller of CALLING.md.
 fn stored_records<S: Source>(alloc: Global, source: &mut S) -> Option<RowStore>
     ensures { IfSome result (λ store. IfSome (S.left source.old) (λ bytes. store ≡ records_of bytes)) }
 {
@@ -16,7 +16,7 @@ fn stored_records<S: Source>(alloc: Global, source: &mut S) -> Option<RowStore>
     rows(alloc, bytes.as_slice()).ok()
 }
 
-// Each field with a bar after it, and each record with a slash.
+/// Each field with a bar after it, and each record with a slash.
 fn shown(alloc: Global, store: &RowStore) -> Result<Vec<u8>, AllocError> {
     let mut text = Vec::new(alloc);
     for row in 0..=store.count() {
@@ -29,8 +29,8 @@ fn shown(alloc: Global, store: &RowStore) -> Result<Vec<u8>, AllocError> {
     Ok(text)
 }
 
-// Ragged rows, the first of them early, late and in the middle; quotes in odd places and quotes left open; bytes that are
-// no text; line ends, byte order marks, and lines and fields that are empty.
+/// Ragged rows, the first of them early, late and in the middle; quotes in odd places and quotes left open; bytes that
+/// are no text; line ends, byte order marks, and lines and fields that are empty.
 #[test]
 fn odd_text(rt: HostRuntime) -> Result<(), Fail> {
     let table: [(&[u8], &[u8]); 31] = [
@@ -89,7 +89,7 @@ fn odd_text(rt: HostRuntime) -> Result<(), Fail> {
     Ok(())
 }
 
-// A longer table of one width, and then one row of another.
+/// A longer table of one width, and then one row of another.
 #[test]
 fn even_table(rt: HostRuntime) -> Result<(), Fail> {
     let mut text = Vec::new(rt.alloc());
@@ -112,7 +112,7 @@ fn even_table(rt: HostRuntime) -> Result<(), Fail> {
     Ok(())
 }
 
-// Fields at the limits of 64 bits and past them, with spaces and signs, and with what is neither.
+/// Fields at the limits of 64 bits and past them, with spaces and signs, and with what is neither.
 #[test]
 fn integers_of_fields(rt: HostRuntime) {
     let table: [(&[u8], Option<i64>); 20] = [
@@ -142,7 +142,7 @@ fn integers_of_fields(rt: HostRuntime) {
     }
 }
 
-// A source that gives small pieces, and one that fails.
+/// A source that gives small pieces, and one that fails.
 #[test]
 fn sources(rt: HostRuntime) -> Result<(), Fail> {
     for (fail, is_read) in [(0, true), (2, false)] {

@@ -19,6 +19,7 @@ records-init c =
     rw (c.new-text.ensures.items, c.new-ends.ensures.items, c.new-row_ends.ensures) (record {
       trim = rw (flexible, plain) at made.trim ∙ c.new.ensures.trim;
       ready = inr (inr (rw (flexible, plain) at made.has_headers, made.headers));
+      flexible = rw flexible at made.flexible;
       config = rw (flexible, plain) at made.config ∙ c.new.ensures.config;
       fields = covers-none;
       rows = covers-none;
@@ -39,6 +40,7 @@ records-preserved c =
     record {
       trim = read.3 ∙ inv.trim;
       ready = inl ready;
+      flexible = c.in-Ok-true.ensures.flexible ∙ inv.flexible;
       config = read.2 ∙ inv.config;
       fields = on-ok _ good c.push_record.ensures.fields;
       rows = on-ok _ good c.push_record.ensures.rows;
@@ -88,3 +90,9 @@ returns-clause-too_many c =
     let size = stored-length c.records.text.items c.records.ends.items c.records.row_ends in
     let some = read-some default_config c.records.rdr.state (strip_bom c.args.bytes.now) inv.left rows inv.reached in
     λ h. omega (arith, inv.count, c.records-test.false, size, some)
+
+pub unreachable-requires : goal.unreachable-requires
+unreachable-requires c =
+    let inv = c.records.invariant in
+    let why = rw (← c.kind.ensures, c.in-UnequalLengths.is) at (c.in-Err.ensures.why inv.ready) in
+    cc (inv.flexible, why.0)

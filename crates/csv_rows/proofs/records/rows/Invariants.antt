@@ -1,4 +1,4 @@
-use Rattle.std.proofs.Common.{◌≡◌, ℕ, List, Some, length}
+use Rattle.std.proofs.Common.{◌≡◌, ℕ, List, Some, length, true}
 use Rattle.csv.specs.Reading.{Reached, Ready, default_config, source_of, strip_bom}
 use Rattle.csv.specs.declared.parser.State.TheVariants as st
 use Rattle.csv.specs.declared.reader.Trim.TheVariants as trim
@@ -9,6 +9,7 @@ abbrev pub invariant-records : goal.invariant-records
 invariant-records l = record {
   trim : l.rdr.trim ≡ trim.None;
   ready : Ready l.rdr;
+  flexible : l.rdr.flexible ≡ true;
   config : l.rdr.config ≡ default_config;
   fields : Covers l.ends.items (length l.text.items);
   rows : Covers l.row_ends (length l.ends.items);
