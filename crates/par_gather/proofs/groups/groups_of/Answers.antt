@@ -31,7 +31,7 @@ loop-block-preserved c =
 abbrev all : (c : goal.In-Ok-into_groups) → take (256 * c.loop-block.block) (drop 1 c.args.rows.now) ≡ drop 1 c.args.rows.now
 all c =
     let ends = div_ceil_times c.count.result 256 (omega arith) in
-    take_all _ _ (omega (arith, ends.0, c.count.ensures, c.div_ceil-block-end.ensures, c.loop-block-test.false, length-drop 1 c.args.rows.now))
+    take_all _ _ (omega (arith, ends.0, c.count.ensures.rows, c.div_ceil-block-end.ensures, c.loop-block-test.false, length-drop 1 c.args.rows.now))
 
 pub returns-in-Ok-into_groups-clause-groups : goal.returns-in-Ok-into_groups-clause-groups
 returns-in-Ok-into_groups-clause-groups c =
