@@ -1,4 +1,5 @@
 //! Cutting and joining undo each other.
+
 ghost use Rattle.std.specs.Prelude.{◌≡◌, ℕ, ◌+◌, ◌<◌, ◌≤◌};
 ghost use Rattle.word_map.specs.WordMap.{WordMap, range_of, rest_of, union, Disjoint, HasJust};
 
@@ -8,8 +9,8 @@ pub fn cut_and_joined()
     ensures apart { (m : WordMap) (from len : ℕ) → Disjoint (rest_of m from len) (range_of m from len) }
 {}
 
-/// Words in a row that are joined to words apart from them are cut off again as they were. So who joins two owners learns that they
-/// have no word in common, and parts them again by one cut.
+/// Words in a row that are joined to words apart from them are cut off again as they were. So who joins two owners
+/// learns that they have no word in common, and parts them again by one cut.
 pub fn joined_and_cut()
     ensures row { (m n : WordMap) (from len : ℕ) → HasJust n from len → range_of (union m n) from len ≡ n }
     ensures others { (m n : WordMap) (from len : ℕ) → Disjoint m n → HasJust n from len → rest_of (union m n) from len ≡ m }

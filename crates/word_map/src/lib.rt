@@ -1,7 +1,9 @@
 //! Finite maps from word numbers to values, as which contracts see the words of a token.
 //!
-//! There is nothing to run here. `specs/WordMap.antt` has the maps and how they are cut and put together, and `proofs/Maps.antt` what
-//! they answer: the ruleset `answers` closes most goals about words, as `grind (arith, nat_tests, answers)`.
+//! There is nothing to run here. `specs/WordMap.antt` has the maps and how they are cut and put together, and
+//! `proofs/Maps.antt` what they answer: the ruleset `answers` closes most goals about words, as `grind (arith,
+//! nat_tests, answers)`.
+
 #![tactic(auto)]
 
 mod laws;
