@@ -3,12 +3,13 @@ use Rattle.std.proofs.Common.{◌≡◌, ℕ, ◌<◌, None, IsSome, sym, ap, su
 use Rattle.atomic_table.specs.Table.{Allows, Splits, Joins}
 use Rattle.atomic_table.specs.Seated.{TableId}
 use Rattle.word_map.specs.WordMap.{WordMap, at}
+use Rattle.word_map.proofs.Uses.{has_some}
 use Rattle.region_rule.specs.View.{Frozen, Spent}
 use Rattle.region_rule.specs.Steps.{Ruled}
 use Rattle.region_rule.specs.Tells.{TellsFreeze, TellsFrozen}
 use Rattle.region_rule.proofs.OwnerSteps.{freeze_allowed, load_frozen_allowed, share_allowed, end_share_allowed}
 use Rattle.region_words.specs.Parts.{Owned, owned, own_map, frozen_map, IsPart, IsFrozen}
-use Rattle.region_words.proofs.Parts.{Mine, has_some, same_table}
+use Rattle.region_words.proofs.Parts.{Mine, same_table}
 
 pub freeze_asks : (t y : TableId) (id : ℕ) (me : Mine) (o : Owned) → IsPart t me → owned t (own_map me.0) ≡ o → o.region ≡ y
     → (0 < y.words) × Allows (Ruled y.words) y.slots id me 0 (λ n. n) (λ n after. TellsFreeze me.0 after.0 × (after.1 ≡ me.1))

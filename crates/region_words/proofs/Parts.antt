@@ -1,5 +1,5 @@
 -- What a part's calls ask and leave, over plain values.
-use Rattle.std.proofs.Common.{◌≡◌, ◌≢◌, ℕ, zero, suc, ◌-◌, ◌<◌, ◌≤◌, List, [], ◌∷◌, Option, Some, None, IsSome, IfSome, length, replicate, refl, sym, ap, subst, ◌∙◌, ⊎_elim, arith}
+use Rattle.std.proofs.Common.{◌≡◌, ◌≢◌, ℕ, zero, suc, ◌-◌, ◌<◌, ◌≤◌, List, [], ◌∷◌, Some, None, IsSome, IfSome, length, replicate, refl, sym, ap, subst, ◌∙◌, ⊎_elim, arith}
 use mathlib.Core.Option.{some}
 use lib.ListN.{get_elem?}
 use Rattle.std.specs.FinMap as fin
@@ -10,18 +10,12 @@ use Rattle.region_rule.specs.View.{View, Own, Spent}
 use Rattle.region_rule.specs.Steps.{Ruled}
 use Rattle.region_rule.specs.Tells.{TellsLoad, TellsStore, rest_view, range_view, both_view}
 use Rattle.word_map.proofs.Maps.{at-insert, range_inside, rest_inside, union_from, numbered_from}
+use Rattle.word_map.proofs.Uses.{has_some}
 use Rattle.region_rule.proofs.OwnerSteps.{load_allowed, store_allowed, split_allowed, join_allowed}
 use Rattle.region_words.specs.Parts.{Owned, owned, own_map, IsBelow, IsPart, IsSized}
 
 abbrev pub Mine : Type 0
 Mine = Me (Unit {0}) View
-
-pub has_some : (m : WordMap) (k : ℕ) → IsSome (at m k) → Has m k
-has_some m k h = go (at m k) refl h
-  where
-    go : (o : Option ℕ) → at m k ≡ o → IsSome o → Has m k
-    go (Some x) e s = (x, e)
-    go None e s = cc
 
 pair_is : {A B : Type 0} (p : A × B) (a : A) (b : B) → p.0 ≡ a → p.1 ≡ b → p ≡ (a, b)
 pair_is p a b e f = λ i. (e i, f i)
@@ -68,9 +62,6 @@ join_asks t u count id other me you p r =
     subst (λ (a : Mine). Joins (Ruled count) id a.0 other you.0 (both_view a.0 you.0) Spent) (sym p.owns)
     (subst (λ (b : Mine). Joins (Ruled count) id (Own (own_map me.0) None) other b.0 (both_view (Own (own_map me.0) None) b.0) Spent) (sym r.owns)
     (join_allowed count id other (own_map me.0) (own_map you.0) None None))
-
-pub nothing_taken : (t : TableId) (me : Mine) → IsPart t me → me.1 ≡ []
-nothing_taken t me p = ap (λ (x : Mine). x.1) p.owns
 
 -- what is left after a load
 pub loaded : (t t' : TableId) (k n : ℕ) (me after : Mine) → IsPart t me → t' ≡ t → TellsLoad me.0 k n after.0 × (after.1 ≡ me.1)
@@ -165,6 +156,3 @@ length-zeros (suc n) = ap suc (length-zeros n)
 pub begun : (t : TableId) (count : ℕ) (me : Mine) → me ≡ (Own (numbered 0 (replicate count 0)) None, []) → t.words ≡ count → 0 < count → count ≤ 67108864 → IsPart t me
 begun t count me e n more few = owner t me (numbered 0 (replicate count 0)) (ap (λ (u : Mine). u.0) e) (ap (λ (u : Mine). u.1) e)
     (λ k x f. let p = numbered_from (replicate count 0) 0 k x f in let l = has_length (replicate count 0) (k - 0) x p.1 in let z = length-zeros count in omega (arith, l, n, z)) (omega arith, omega arith)
-
-pub all_small : (t : TableId) (me : Mine) (o : Owned) → IsPart t me → owned t (own_map me.0) ≡ o → (k : ℕ) → IsSome (at o.words k) → k < 67108864
-all_small t me o p v k has = let h = has_some (own_map me.0) k (has_here t (own_map me.0) o k v has) in let b = p.below k h.0 h.1 in let s = p.sized.1 in omega arith

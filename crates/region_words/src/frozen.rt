@@ -1,4 +1,5 @@
 //! Frozen words: nobody changes them any more, so any number of tokens may share them.
+
 ghost use Rattle.std.specs.Prelude.{◌≡◌, ℕ, ◌<◌, ◌^◌, Some, IsSome};
 ghost use Rattle.word_map.specs.WordMap.{at as word_at};
 
@@ -7,7 +8,8 @@ use atomic_table::Seat;
 use region_rule::{Known, LoadsFrozen, Shares};
 use std::marker::Model;
 
-/// A token for words that no longer change. Contracts see its region and the map from its words' numbers to their values. It has no bytes.
+/// A token for words that no longer change. Contracts see its region and the map from its words' numbers to their
+/// values. It has no bytes.
 #[derive(Drop)]
 pub struct Frozen {
     pub(crate) seat: Seat<(), Known>,

@@ -1,18 +1,20 @@
 //! A part: words that one holder owns. Only a `&mut Part` reads or changes them, so what it reads is what it stored.
-ghost use Rattle.std.specs.Prelude.{[], None, ◌≡◌, ℕ, ◌+◌, ◌<◌, ◌≤◌, ◌^◌, Some, IsSome};
+
+ghost use Rattle.std.specs.Prelude.{[], None, ◌≡◌, ℕ, ◌+◌, ◌*◌, ◌<◌, ◌≤◌, ◌^◌, Some, IsSome};
 ghost use Rattle.std.specs.FinMap as fin;
 ghost use Rattle.word_map.specs.WordMap.{at as word_at, range_of, rest_of, union, Disjoint};
 ghost use Rattle.region_rule.specs.View.{Own};
 ghost use Rattle.region_words.specs.Parts.{owned, own_map, IsBelow, IsSized};
 
+use crate::chunk::Chunk;
 use crate::frozen::Frozen;
 use crate::region::Region;
 use atomic_table::Seat;
 use region_rule::{Cuts, Freezes, Glues, Known, Loads, Range, Stores};
 use std::marker::{Brand, Model};
 
-/// A token that owns some words of a region. Contracts see its region and the map from its words' numbers to their values. It has no bytes;
-/// where it is dropped nobody can reach its words any more.
+/// A token that owns some words of a region. Contracts see its region and the map from its words' numbers to their
+/// values. It has no bytes; where it is dropped nobody can reach its words any more.
 #[derive(Drop)]
 pub struct Part {
     pub(crate) seat: Seat<(), Known>,
@@ -62,7 +64,7 @@ impl Part {
         self.cut::<Brand>(r, from, len)
     }
 
-    // The same for the range that `J` names, since a cut can't take it as an argument.
+    /// The same for the range that `J` names, since a cut can't take it as an argument.
     fn cut<J: Range>(&mut self, r: &Region, from: u64, len: u64) -> Part
         requires here { self.old.region ≡ r.now }
         requires range { (J.from ≡ from) × (J.len ≡ len) }
@@ -73,6 +75,19 @@ impl Part {
         Part {
             seat: r.split_as::<Cuts<J>>(&mut self.seat),
         }
+    }
+
+    /// The chunk of the `len` words from the valid place `from`; this part keeps the others. It costs what a split
+    /// does.
+    pub fn split_chunk(&mut self, r: &Region, from: u64, len: u64) -> Chunk
+        requires here { self.old.region ≡ r.now }
+        requires valid { 0 < from }
+        requires owns { (k : ℕ) → from ≤ k → k < from + len → IsSome (word_at self.old.words k) }
+        ensures rest { self.new ≡ owned self.old.region (rest_of self.old.words from len) }
+        ensures place { (result.at ≡ from) × (result.bytes ≡ 8 * len) }
+        ensures words { result.part ≡ owned self.old.region (range_of self.old.words from len) }
+    {
+        Chunk::of(self.split(r, from, len), from, len)
     }
 
     /// This part has the words of both, which had none in common.

@@ -1,4 +1,6 @@
-//! The region: the table that holds the words, and the only way to its steps. Its words and tokens are always those of a run of the rule.
+//! The region: the table that holds the words, and the only way to its steps. Its words and tokens are always those of
+//! a run of the rule.
+
 ghost use Rattle.std.specs.Prelude.{[], ◌≡◌, ℕ, ◌<◌, ◌≤◌, ◌^◌, cond, Option, Some, None, IfOk};
 ghost use mathlib.Core.Option.{none};
 ghost use Rattle.atomic_table.specs.Table.{step, Allows, Splits, Joins};
@@ -44,7 +46,8 @@ impl Region {
         Ok((Region { table }, Part { seat }))
     }
 
-    /// A load by a token of any kind, for the crates that have kinds of their own, as the ends of a ring. The rule has to allow the step.
+    /// A load by a token of any kind, for the crates that have kinds of their own, as the ends of a ring. The rule has
+    /// to allow the step.
     #[inline]
     pub fn load_as<M: Play<(), Known>>(&self, seat: &mut Seat<(), Known>, at: u64) -> u64
         requires here { seat.old.table_id ≡ self.now }
