@@ -1,8 +1,8 @@
 //! A group as bytes on a worker's tuple queue: its key and its partial state.
 //!
 //! A tuple is the key after its length, the number of rows, the number of slots and the slots, each number lowest byte
-//! first. `tuple_bytes` of `specs/Tuple.antt` is the format, and `refusal` says why bytes are none; `encode` and `decode`
-//! are the two directions, and neither takes memory.
+//! first. `tuple_bytes` of `specs/Tuple.antt` is the format, and `refusal` says why bytes are none; `encode` and
+//! `decode` are the two directions, and neither takes memory.
 #![tactic(auto)]
 
 mod read;

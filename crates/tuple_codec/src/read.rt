@@ -10,8 +10,8 @@ ghost use Rattle.tuple_codec.specs.Tuple.{IsSlot, IsTuple, refusal, slot_bytes, 
 use par_model::{AggState, SlotState};
 use partial_agg::{GroupKey, LONGEST_KEY, empty};
 
-/// Why bytes are no tuple: a part is cut off, which begins at this place; this many bytes are left; or the number at this
-/// place is too great.
+/// Why bytes are no tuple: a part is cut off, which begins at this place; this many bytes are left; or the number at
+/// this place is too great.
 #[derive(Debug, Clone, Copy, PartialEq, Eq)]
 pub enum TupleRead {
     Short { at: u64 },
@@ -19,7 +19,7 @@ pub enum TupleRead {
     Range { at: u64 },
 }
 
-// Where the parts of a tuple lie: the length of its key, and how many slots it has.
+/// Where the parts of a tuple lie: the length of its key, and how many slots it has.
 #[derive(Clone, Copy)]
 struct Shape {
     key: usize,
@@ -47,7 +47,7 @@ pub fn decode(bytes: &[u8]) -> Result<(GroupKey, AggState), TupleRead>
     Ok((key, state))
 }
 
-// The shape of the tuple that these bytes are.
+/// The shape of the tuple that these bytes are.
 fn shape_of(bytes: &[u8]) -> Result<Shape, TupleRead>
     ensures shape { IfOk result (HasShape bytes.now) }
     ensures accepted { IfOk result (λ shape. refusal bytes.now ≡ None) }
@@ -82,7 +82,7 @@ fn shape_of(bytes: &[u8]) -> Result<Shape, TupleRead>
     }
 }
 
-// Why so many bytes from a place on are not this many slots.
+/// Why so many bytes from a place on are not this many slots.
 fn refuse_slots(at: usize, left: usize, slots: usize) -> Option<TupleRead>
     requires fits { at + left < 2 ^ 64 }
     requires few { slots ≤ 8 }
@@ -105,7 +105,7 @@ fn short_at(at: usize) -> TupleRead
     TupleRead::Short { at: at as u64 }
 }
 
-// The word at a place.
+/// The word at a place.
 #[tactic(auto, unfolding(crate::specs::Tuple::word))]
 fn word_at(bytes: &[u8], at: usize) -> u64
     requires { at + 8 ≤ length bytes.now }
@@ -123,7 +123,7 @@ fn word_at(bytes: &[u8], at: usize) -> u64
     ])
 }
 
-// Reads slots into the front of the array, whose slots are all zeros.
+/// Reads slots into the front of the array, whose slots are all zeros.
 fn read_slots(slots: &mut [SlotState; 8], bytes: &[u8], count: usize)
     requires few { count ≤ 8 }
     requires size { length bytes.now ≡ 40 * count }
@@ -138,7 +138,7 @@ fn read_slots(slots: &mut [SlotState; 8], bytes: &[u8], count: usize)
     }
 }
 
-// The slot at a place.
+/// The slot at a place.
 fn slot_at(bytes: &[u8], at: usize) -> SlotState
     requires { at + 40 ≤ length bytes.now }
     ensures bytes { slot_bytes result ≡ take 40 (drop at bytes.now) }
@@ -152,7 +152,7 @@ fn slot_at(bytes: &[u8], at: usize) -> SlotState
     }
 }
 
-// The sum at a place.
+/// The sum at a place.
 fn sum_at(bytes: &[u8], at: usize) -> i128
     requires { at + 16 ≤ length bytes.now }
     ensures { sum_bytes result ≡ take 16 (drop at bytes.now) }

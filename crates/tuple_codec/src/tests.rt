@@ -5,7 +5,7 @@ use par_model::{AggState, SlotState};
 use partial_agg::{GroupKey, empty};
 use std::test::Fail;
 
-// The group of the empty key, with no rows and no slots.
+/// The group of the empty key, with no rows and no slots.
 const NOTHING: [u8; 13] = [0; 13];
 
 fn why(bytes: &[u8]) -> Option<TupleRead> {
@@ -50,7 +50,7 @@ fn the_empty_group(rt: HostRuntime) -> Result<(), Fail> {
     Ok(())
 }
 
-// A slot at the limits of its numbers, and the bytes of a small one.
+/// A slot at the limits of its numbers, and the bytes of a small one.
 #[test]
 fn there_and_back(rt: HostRuntime) -> Result<(), Fail> {
     let least = SlotState {

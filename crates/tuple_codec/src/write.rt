@@ -1,16 +1,16 @@
 //! From a group to bytes.
 
-ghost use Rattle.std.specs.Prelude.{◌≡◌, ◌≤◌, ◌+◌, ◌-◌, ◌*◌, ◌++◌, drop, length, map, replicate, take};
+ghost use Rattle.std.specs.Prelude.{◌≡◌, ◌<◌, ◌≤◌, ◌+◌, ◌-◌, ◌*◌, ◌^◌, ◌++◌, ℕ, All, drop, length, map, replicate, slice_index, take};
 ghost use Rattle.std.specs.List.{concat};
 ghost use Rattle.par_model.specs.Aggregate.{no_values};
-ghost use Rattle.tuple_codec.specs.Tuple.{slot_bytes, tuple_bytes, word};
+ghost use Rattle.tuple_codec.specs.Tuple.{IsSlot, IsTuple, slot_bytes, tuple_bytes, word};
 
 use par_model::{AggState, SlotState};
 use partial_agg::GroupKey;
 
 const LONGEST: usize = 581;
 
-/// The first `len` bytes are a tuple; the others are zeros.
+/// A tuple: the first `len` bytes. Those behind them tell nothing.
 #[derive(Debug, Drop)]
 pub struct Tuple {
     pub bytes: [u8; 581],
@@ -23,6 +23,7 @@ pub fn encode(key: &GroupKey, state: &AggState, slots: u32) -> Tuple
     requires zeros { drop slots state.now.slots ≡ replicate (8 - slots) no_values }
     ensures bytes { take result.len result.bytes ≡ tuple_bytes key.now state.now slots }
     ensures length { result.len ≡ length (tuple_bytes key.now state.now slots) }
+    ensures tuple { IsTuple key.now state.now slots }
 {
     let mut tuple = Tuple {
         bytes: [0; LONGEST],
@@ -36,11 +37,12 @@ pub fn encode(key: &GroupKey, state: &AggState, slots: u32) -> Tuple
     tuple
 }
 
-// Adds bytes behind those that are there.
+/// Adds bytes behind those that are there.
 fn push(tuple: &mut Tuple, part: &[u8])
     requires { tuple.old.len + length part.now ≤ LONGEST }
     ensures bytes { take tuple.new.len tuple.new.bytes ≡ take tuple.old.len tuple.old.bytes ++ part.now }
     ensures len { tuple.new.len ≡ tuple.old.len + length part.now }
+    ensures fit { (i : ℕ) → slice_index part.now i < 2 ^ 8 }
 {
     let start = tuple.len as usize;
     let end = start + part.len();
@@ -48,13 +50,14 @@ fn push(tuple: &mut Tuple, part: &[u8])
     tuple.len = end as u32;
 }
 
-// Adds slots.
+/// Adds slots.
 fn push_slots(tuple: &mut Tuple, slots: &[SlotState; 8], count: usize)
     requires few { count ≤ 8 }
     requires room { tuple.old.len + 40 * count ≤ LONGEST }
     ensures bytes { take tuple.new.len tuple.new.bytes ≡ take tuple.old.len tuple.old.bytes ++ concat (map slot_bytes (take count slots.now)) }
     ensures len { tuple.new.len ≡ tuple.old.len + 40 * count }
     ensures long { length slots.now ≡ 8 }
+    ensures numbers { All IsSlot (take count slots.now) }
 {
     for slot in &slots[..count] {
         push_slot(tuple, slot);
@@ -65,6 +68,7 @@ fn push_slot(tuple: &mut Tuple, slot: &SlotState)
     requires { tuple.old.len + 40 ≤ LONGEST }
     ensures bytes { take tuple.new.len tuple.new.bytes ≡ take tuple.old.len tuple.old.bytes ++ slot_bytes slot.now }
     ensures len { tuple.new.len ≡ tuple.old.len + 40 }
+    ensures numbers { IsSlot slot.now }
 {
     let sum = slot.sum.cast_unsigned();
     push_word(tuple, slot.count);
@@ -79,6 +83,7 @@ fn push_word(tuple: &mut Tuple, n: u64)
     requires { tuple.old.len + 8 ≤ LONGEST }
     ensures bytes { take tuple.new.len tuple.new.bytes ≡ take tuple.old.len tuple.old.bytes ++ word n }
     ensures len { tuple.new.len ≡ tuple.old.len + 8 }
+    ensures fits { n < 2 ^ 64 }
 {
     push(tuple, &n.to_le_bytes());
 }

@@ -1,7 +1,10 @@
-use Rattle.std.proofs.Common.{◌≡◌, ◌++◌, ◌∙◌, [], ◌∷◌, ℕ, List, length, take, map, ap, sym, arith, append_assoc}
+use Rattle.std.proofs.Common.{◌≡◌, ◌++◌, ◌∙◌, [], ◌∷◌, ℕ, List, length, take, map, ap, sym, arith, append_assoc, rules, ◌-◌, ◌<◌, ◌^◌, subst, get_or, All, drop, replicate}
 use Rattle.std.specs.Int.{to_le_bytes, w32}
 use Rattle.std.specs.List.{concat}
-use Rattle.tuple_codec.specs.Tuple.{slot_bytes, word}
+use Rattle.std.proofs.lemmas.List.{take-append-drop}
+use Rattle.std.proofs.lemmas.List.Elements.{All-append, All-from_get_or, All-replicate, All-same, recursion_from_All}
+use Rattle.par_model.specs.Aggregate.{no_values}
+use Rattle.tuple_codec.specs.Tuple.{IsSlot, slot_bytes, word}
 use Rattle.tuple_codec.proofs.Unique.{length-tuple, tuple_bytes-is}
 use Rattle.tuple_codec.proofs.write.encode.Goals as goal
 
@@ -35,3 +38,23 @@ returns-clause-length c =
       ap (length {A = ℕ}) c.to_le_bytes.ensures,
       length-tuple c.args.key.now c.args.state.now c.args.slots (omega (arith, c.push_slots.ensures.long)),
     )
+
+none_numbers : (n : ℕ) → All IsSlot (replicate n no_values)
+none_numbers n = All-replicate IsSlot n no_values (grind arith)
+
+pub returns-clause-tuple : goal.returns-clause-tuple
+returns-clause-tuple c =
+    let key = c.args.key.now in
+    let state = c.args.state.now in
+    let front = take c.args.slots state.slots in
+    let rest = drop c.args.slots state.slots in
+    let numbers : All IsSlot (front ++ rest) = All-append IsSlot front rest c.push_slots.ensures.numbers (All-same IsSlot rest (replicate (8 - c.args.slots) no_values) c.requires.zeros (none_numbers (8 - c.args.slots))) in
+    record {
+      key_fits = search (rules, c.bytes.ensures.fits);
+      key_bytes = recursion_from_All (λ (byte : ℕ). byte < 2 ^ 8) key (All-from_get_or (λ (byte : ℕ). byte < 2 ^ 8) key 0 (λ i l. subst (λ (bs : List ℕ). get_or bs i 0 < 2 ^ 8) c.bytes-2.ensures.bytes (c.push-2.ensures.fit i)));
+      rows = c.push_word.ensures.fits;
+      few = c.requires.few;
+      long = c.push_slots.ensures.long;
+      numbers = recursion_from_All IsSlot state.slots (All-same IsSlot state.slots (front ++ rest) (sym (take-append-drop c.args.slots state.slots)) numbers);
+      zeros = c.requires.zeros;
+    }
