@@ -119,7 +119,7 @@ impl<W: Write> Sink for StdSink<W> {
     }
 }
 
-// How many bytes one write took and a flush passed on, or none where either failed.
+/// How many bytes one write took and a flush passed on, or none where either failed.
 fn written_through<W: Write>(writer: &mut W, piece: &[u8]) -> Option<usize>
     ensures some { IfSome result (λ n. 0 < n) }
     ensures bound { IfSome result (λ n. n ≤ length piece.now) }

@@ -9,7 +9,7 @@ use std::io;
 use std::io::{ErrorKind, Read, Write};
 use std::test::Fail;
 
-// Passes one piece of a source on to a sink, and answers how many bytes: the caller of CALLING.md.
+/// Passes one piece of a source on to a sink, and answers how many bytes: the caller of CALLING.md.
 fn pass_on<S: Source, O: Sink>(
     source: &mut S,
     sink: &mut O,
@@ -25,7 +25,7 @@ fn pass_on<S: Source, O: Sink>(
     Ok(count)
 }
 
-// A sink takes small pieces up to its room, and its listed call fails.
+/// A sink takes small pieces up to its room, and its listed call fails.
 #[test]
 fn memory_sinks(rt: HostRuntime) -> Result<(), Fail> {
     let table: [(usize, usize, u64, bool, &str); 5] = [
@@ -49,7 +49,7 @@ fn memory_sinks(rt: HostRuntime) -> Result<(), Fail> {
     Ok(())
 }
 
-// A source gives small pieces, its listed call fails and takes nothing, and then it goes on.
+/// A source gives small pieces, its listed call fails and takes nothing, and then it goes on.
 #[test]
 fn memory_sources(rt: HostRuntime) -> Result<(), Fail> {
     let bytes = Vec::from_slice(rt.alloc(), b"abcdefg")?;
@@ -73,7 +73,7 @@ impl Read for Broken {
     }
 }
 
-// A writer that takes all and cannot pass it on.
+/// A writer that takes all and cannot pass it on.
 impl Write for Broken {
     fn write(&mut self, buf: &[u8]) -> io::Result<usize> {
         Ok(buf.len())
@@ -82,6 +82,37 @@ impl Write for Broken {
     fn flush(&mut self) -> io::Result<()> {
         Err(ErrorKind::BrokenPipe.into())
     }
+}
+
+/// A reader whose first call is interrupted, and whose later calls read on.
+#[derive(Drop)]
+struct Interrupted<'a> {
+    has_failed: bool,
+    rest: &'a [u8],
+}
+
+impl<'a> Read for Interrupted<'a> {
+    fn read(&mut self, buf: &mut [u8]) -> io::Result<usize> {
+        if !self.has_failed {
+            self.has_failed = true;
+            return Err(ErrorKind::Interrupted.into());
+        }
+        self.rest.read(buf)
+    }
+}
+
+/// Each error of a reader is a fault, and takes no byte: none is passed over by another try.
+#[test]
+fn a_reader_that_fails_once(rt: HostRuntime) {
+    let mut source = StdSource::new(Interrupted {
+        has_failed: false,
+        rest: b"ab",
+    });
+    let mut buf = [0u8; 3];
+    assert!(rt; source.read(&mut buf).is_err());
+    assert_eq!(rt; source.read(&mut buf).ok(), Some(2));
+    assert_eq!(rt; buf, *b"ab\0");
+    assert_eq!(rt; source.read(&mut buf).ok(), Some(0));
 }
 
 #[test]
