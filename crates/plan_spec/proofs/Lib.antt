@@ -6,6 +6,7 @@ pub mod Lists
 pub mod Numbers
 pub mod Padded
 pub mod Places
+pub mod Planned
 pub mod ReadBack
 pub mod ReadPlans
 pub mod Sections

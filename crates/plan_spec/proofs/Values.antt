@@ -40,7 +40,7 @@ values_from-same m m' k (suc n) same =
     ap (λ x. x ∷ values_from m (suc k) n) head
     ∙ ap (λ l. word_of m' k ∷ l) (values_from-same m m' (suc k) n (λ i h. let next : k + suc i ≡ suc k + i = omega arith in rw next at (same (suc i) (omega arith))))
 
-size_few : (version : ℕ) → size_of version ≤ 32
+pub size_few : (version : ℕ) → size_of version ≤ 32
 size_few version = grind (arith, nat_tests)
 
 -- a chunk of 32 words that is joined to others

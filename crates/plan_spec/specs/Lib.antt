@@ -3,4 +3,5 @@ pub mod Descriptor
 pub mod Grammar
 pub mod Options
 pub mod Parts
+pub mod Planned
 pub mod Query

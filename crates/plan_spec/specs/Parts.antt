@@ -10,7 +10,7 @@ pub record IsItem (kind : ItemKind) (column : Option (List ℕ)) (text : List �
   pub named : is_some column ≡ reads_column kind
 
 -- at most eight columns to group by, one to eight aggregates, at most 64 workers and 65,536 pages
-pub record IsSmall (groups items workers pages : ℕ) : Type 0 where
+pub record FitsLimits (groups items workers pages : ℕ) : Type 0 where
   pub groups_fit : groups ≤ 8
   pub some_item : 1 ≤ items
   pub items_fit : items ≤ 8

@@ -63,7 +63,7 @@ impl Plan {
     }
 }
 
-// The columns to group by, or the place of the first name that is no field.
+/// The columns to group by, or the place of the first name that is no field.
 fn bind_groups(names: &[String], rows: &RowStore) -> Result<[u32; 8], u32>
     requires { length names.now ≤ 8 }
     ensures columns { IfOk result (λ xs. take (length names.now) xs ≡ map (bound_column (record_at rows.now 0)) (map string_bytes names.now)) }
@@ -83,8 +83,8 @@ fn bind_groups(names: &[String], rows: &RowStore) -> Result<[u32; 8], u32>
     Ok(columns)
 }
 
-// The aggregates over their columns, with how many have one, or the place of the first name that is
-// no field.
+/// The aggregates over their columns, with how many have one, or the place of the first name that is
+/// no field.
 fn bind_items(items: &[PlanItem], rows: &RowStore) -> Result<([Item; 8], u32), u32>
     requires { length items.now ≤ 8 }
     ensures items { IfOk result (λ r. take (length items.now) r.0 ≡ map (bound_item (record_at rows.now 0)) items.now) }
@@ -116,7 +116,7 @@ fn bind_items(items: &[PlanItem], rows: &RowStore) -> Result<([Item; 8], u32), u
     Ok((bound, named))
 }
 
-// An aggregate over its column, with how many columns it has, or none where its name is no field.
+/// An aggregate over its column, with how many columns it has, or none where its name is no field.
 fn bind_item(item: &PlanItem, rows: &RowStore) -> Option<(Item, u32)>
     ensures item { IfSome result (λ r. r.0 ≡ bound_item (record_at rows.now 0) item.now) }
     ensures no_column { IfSome result (λ r. r.0.kind ≡ ItemKind.Rows → r.0.column ≡ 0) }
@@ -137,7 +137,7 @@ fn bind_item(item: &PlanItem, rows: &RowStore) -> Option<(Item, u32)>
     }
 }
 
-// The filter over its column, or none where its name is no field.
+/// The filter over its column, or none where its name is no field.
 fn bind_filter(filter: &Option<PlanFilter>, rows: &RowStore) -> Option<Option<Filter>>
     ensures filter { IfSome result (λ f. f ≡ option_map (bound_filter (record_at rows.now 0)) filter.now) }
     ensures below { IfSome result (λ f. ForSome f (λ filter. filter.column < length (record_at rows.now 0))) }
@@ -156,12 +156,13 @@ fn bind_filter(filter: &Option<PlanFilter>, rows: &RowStore) -> Option<Option<Fi
     }))
 }
 
-// The column of a name: the first field of the header with its bytes.
+/// The column of a name: the first field of the header with its bytes.
 fn column(rows: &RowStore, name: &str) -> Option<u32>
     ensures first { result ≡ column_of (record_at rows.now 0) name.now }
     ensures below { IfSome result (λ at. at < length (record_at rows.now 0)) }
     ensures narrow { IfSome result (λ at. at < 2 ^ 32) }
 {
+    // Tells that there is a header. It does nothing.
     let _rows = rows.count();
     'fields: for at in 0..rows.width(0) {
         if name.as_bytes() == rows.field(0, at) {

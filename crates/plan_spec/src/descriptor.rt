@@ -1,14 +1,15 @@
 //! The plan descriptor: a plan as words of a segment, so that each who computes a query finds it there.
 //!
-//! It is written once, by the holder of a chunk, before the segment is frozen; from then on nobody changes its words, and
-//! everybody reads the same plan. What each word means is said in `specs/Descriptor`. Version 2 is written, and version 1,
-//! which has no filter, is still read.
+//! It is written once, by the holder of a chunk, before the segment is frozen; from then on nobody changes its words,
+//! and everybody reads the same plan. What each word means is said in `specs/Descriptor`. Version 2 is written, and
+//! version 1, which has no filter, is still read.
 
 ghost use Rattle.std.specs.Prelude.{◌≡◌, ◌+◌, ◌<◌, ◌≤◌, ℕ, IfErr, IfOk, IsSome, None, OnOk, Some, take};
 ghost use Rattle.par_model.specs.Plan.{Plan};
 ghost use Rattle.plan_spec.specs.Descriptor.{IsDescriptor, IsWritable, bad_word, descriptor_in, plan_words, size_of};
+ghost use Rattle.plan_spec.specs.Planned.{HasPlan};
 ghost use Rattle.shm_toc.specs.Table.{word_of};
-ghost use Rattle.word_map.specs.WordMap.{at as word_at, values_from};
+ghost use Rattle.word_map.specs.WordMap.{WordMap, at as word_at, values_from};
 
 mod reading;
 #[cfg(test)]
@@ -21,6 +22,9 @@ use region_words::{Chunk, Frozen, Region};
 use rel_pointer::RelPtr;
 use shm_toc::FrozenToc;
 use words::{has_room, plan_word};
+
+/// The key under which a table of contents has the place of the plan's descriptor.
+pub const PLAN_KEY: u64 = 1;
 
 /// A descriptor's word that is not allowed: its number, counted from the descriptor's first word.
 #[derive(Clone, Copy, Debug, PartialEq, Eq)]
@@ -44,7 +48,8 @@ pub fn write_plan(plan: &BoundPlan, r: &Region, chunk: &mut Chunk)
     }
 }
 
-/// The plan whose descriptor stands from this place on. It needs 28 frozen words there, and 32 where the first of them is
+/// The plan whose descriptor stands from this place on. It needs 28 frozen words there, and 32 where the first of them
+/// is
 /// 2. `BadDescriptor` names the least word that is not allowed. It takes no memory; it loads each word once, and the
 /// first one twice.
 pub fn read_plan(toc: &mut FrozenToc, r: &Region, at: RelPtr) -> Result<BoundPlan, BadDescriptor>
@@ -67,7 +72,30 @@ pub fn read_plan(toc: &mut FrozenToc, r: &Region, at: RelPtr) -> Result<BoundPla
     decode(&words[..size])
 }
 
-// The words from a place on, and zeros past them.
+/// The plan that stands in the table of contents, under [`PLAN_KEY`]. It is the one that was written there, and so the
+/// same for all who read it. It takes no memory; it walks the table's entries up to that key and loads each word of the
+/// descriptor.
+pub fn plan_in(toc: &mut FrozenToc, r: &Region) -> BoundPlan
+    requires here { toc.old.region ≡ r.now }
+    requires plan { (plan : Plan) × HasPlan toc.old.words plan }
+    ensures plan { (plan : Plan) → HasPlan toc.old.words plan → result ≡ plan }
+    ensures same { toc.new ≡ toc.old }
+{
+    let Some(at) = toc.lookup(r, PLAN_KEY) else {
+        unreachable!()
+    };
+    let Ok(plan) = read_plan(toc, r, at) else {
+        unreachable!()
+    };
+    plan
+}
+
+/// A table of contents has at most one plan.
+pub fn has_one_plan()
+    ensures { (words : WordMap) (p q : Plan) → HasPlan words p → HasPlan words q → p ≡ q }
+{}
+
+/// The words from a place on, and zeros past them.
 fn copied(frozen: &mut Frozen, r: &Region, at: u64, size: usize) -> [u64; 32]
     requires here { frozen.old.region ≡ r.now }
     requires has { (k : ℕ) → k < size → IsSome (word_at frozen.old.words (at + k)) }

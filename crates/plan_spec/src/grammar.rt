@@ -13,7 +13,7 @@ use csv_rows::read_integer;
 use par_model::{FilterOp, ItemKind};
 use std::alloc::{AllocError, Global};
 
-// One to eight names between commas.
+/// One to eight names between commas.
 pub(crate) fn names(alloc: Global, text: &str) -> Result<Vec<String>, PlanAnswer>
     ensures names { IfOk result (λ v. names_in text.now ≡ Some (map string_bytes v.items)) }
     ensures within { IfOk result (λ v. vec_len v ≤ 8) }
@@ -34,7 +34,7 @@ pub(crate) fn names(alloc: Global, text: &str) -> Result<Vec<String>, PlanAnswer
     }
 }
 
-// One to eight aggregates between commas.
+/// One to eight aggregates between commas.
 pub(crate) fn items(alloc: Global, text: &str) -> Result<Vec<PlanItem>, PlanAnswer>
     ensures items { IfOk result (λ v. items_in text.now ≡ Some v.items) }
     ensures some { IfOk result (λ v. 1 ≤ vec_len v) }
@@ -61,7 +61,7 @@ pub(crate) fn items(alloc: Global, text: &str) -> Result<Vec<PlanItem>, PlanAnsw
     Ok(items)
 }
 
-// The parts of a text between commas.
+/// The parts of a text between commas.
 fn parts<'a>(alloc: Global, text: &'a str) -> Result<Vec<&'a str>, AllocError>
     ensures { IfOk result (λ v. map (λ s. s.now) v.items ≡ parts_of text.entry.now) }
 {
@@ -74,7 +74,7 @@ fn has_empty(parts: &[&str]) -> bool
     parts.iter().any(|part| part.is_empty())
 }
 
-// Texts of their own.
+/// Texts of their own.
 fn owned(alloc: Global, parts: &[&str]) -> Result<Vec<String>, AllocError>
     ensures { IfOk result (λ v. map string_bytes v.items ≡ map (λ s. s.now) parts.entry.now) }
 {
@@ -88,7 +88,7 @@ fn owned(alloc: Global, parts: &[&str]) -> Result<Vec<String>, AllocError>
     Ok(texts)
 }
 
-// An aggregate.
+/// An aggregate.
 fn item(alloc: Global, text: &str) -> Result<PlanItem, PlanAnswer>
     ensures item { IfOk result (λ i. item_in text.now ≡ Some i) }
     ensures none { result ≡ Err answer.Usage → item_in text.now ≡ None }
@@ -108,7 +108,7 @@ fn item(alloc: Global, text: &str) -> Result<PlanItem, PlanAnswer>
     column_item(alloc, kind, name).map_err(|_| PlanAnswer::Memory)
 }
 
-// The number of rows.
+/// The number of rows.
 fn row_count(alloc: Global) -> Result<PlanItem, AllocError>
     ensures { IfOk result (λ i. i ≡ record { kind = ItemKind.Rows; column = None }) }
 {
@@ -119,7 +119,7 @@ fn row_count(alloc: Global) -> Result<PlanItem, AllocError>
     })
 }
 
-// An aggregate of a column.
+/// An aggregate of a column.
 fn column_item(alloc: Global, kind: ItemKind, name: &str) -> Result<PlanItem, AllocError>
     requires { IsTrue (reads_column kind) }
     ensures { IfOk result (λ i. i ≡ item_over name.now kind) }
@@ -135,7 +135,7 @@ fn column_item(alloc: Global, kind: ItemKind, name: &str) -> Result<PlanItem, Al
     })
 }
 
-// How a kind of aggregate is written.
+/// How a kind of aggregate is written.
 fn kind_word(kind: ItemKind) -> &'static str
     ensures { result.now ≡ kind_text kind }
 {
@@ -148,7 +148,7 @@ fn kind_word(kind: ItemKind) -> &'static str
     }
 }
 
-// The kind of aggregate of a column that a word names.
+/// The kind of aggregate of a column that a word names.
 fn kind(word: &str) -> Option<ItemKind>
     ensures kind { result ≡ kind_in word.now }
     ensures reads { IfSome result (λ kind. IsTrue (reads_column kind)) }
@@ -168,7 +168,7 @@ fn kind(word: &str) -> Option<ItemKind>
     }
 }
 
-// A filter.
+/// A filter.
 pub(crate) fn filter(alloc: Global, text: &str) -> Result<PlanFilter, PlanAnswer>
     ensures filter { IfOk result (λ f. filter_in text.now ≡ Some f) }
     ensures none { result ≡ Err answer.Usage → filter_in text.now ≡ None }
@@ -187,7 +187,7 @@ pub(crate) fn filter(alloc: Global, text: &str) -> Result<PlanFilter, PlanAnswer
     }
 }
 
-// Where the first relation stands, or the end.
+/// Where the first relation stands, or the end.
 fn relation_place(bytes: &[u8]) -> usize
     ensures place { result ≡ position_or_len is_relation_byte bytes.now }
     ensures within { result ≤ length bytes.now }
@@ -201,7 +201,7 @@ fn is_relation(byte: u8) -> bool
     byte == b'<' || byte == b'=' || byte == b'>' || byte == b'!'
 }
 
-// A relation, and the integer after it.
+/// A relation, and the integer after it.
 fn comparison(bytes: &[u8]) -> Option<(FilterOp, i64)>
     ensures { result ≡ comparison_in bytes.now }
 {
@@ -213,7 +213,7 @@ fn comparison(bytes: &[u8]) -> Option<(FilterOp, i64)>
     Some((op, value))
 }
 
-// A relation, and what comes after it.
+/// A relation, and what comes after it.
 fn relation(bytes: &[u8]) -> Option<(FilterOp, &[u8])>
     ensures { option_map (λ found. (found.0, found.1.now)) result ≡ relation_in bytes.now }
 {
@@ -228,7 +228,7 @@ fn relation(bytes: &[u8]) -> Option<(FilterOp, &[u8])>
     }
 }
 
-// One to five digits, with a value up to `most`.
+/// One to five digits, with a value up to `most`.
 pub(crate) fn number(text: &str, most: u32) -> Option<u32>
     requires { most ≤ 65536 }
     ensures { result ≡ number_in most text.now }
@@ -247,7 +247,7 @@ pub(crate) fn number(text: &str, most: u32) -> Option<u32>
     (value <= most).then_some(value)
 }
 
-// Whether a plan is the one over the shared hash table.
+/// Whether a plan is the one over the shared hash table.
 pub(crate) fn hash(text: &str) -> Option<bool>
     ensures { result ≡ hash_in text.now }
 {

@@ -1,9 +1,9 @@
 //! A plan, as the words of a command line name it, its columns in a header, and its words in shared memory.
 //!
-//! [`Plan::of_words`] reads the words as a command line of six options, each of which has a grammar
-//! of its own; [`Plan::bind`] looks its names up in the first record of a store. A plan keeps its
-//! names in the order in which they are counted: those to group by, those of the aggregates, that of
-//! the filter. [`write_plan`] and [`read_plan`] put the bound plan where all who compute it find it.
+//! [`Plan::of_words`] reads the words as a command line of six options, each of which has a grammar of its own;
+//! [`Plan::bind`] looks its names up in the first record of a store. A plan keeps its names in the order in which they
+//! are counted: those to group by, those of the aggregates, that of the filter. [`write_plan`] puts the bound plan into
+//! shared memory, and [`plan_in`] finds it there for all who compute it.
 #![tactic(auto)]
 
 mod bind;
@@ -16,5 +16,5 @@ mod read;
 mod tests;
 
 pub use bind::NoColumn;
-pub use descriptor::{BadDescriptor, read_plan, write_plan};
+pub use descriptor::{BadDescriptor, PLAN_KEY, has_one_plan, plan_in, read_plan, write_plan};
 pub use plan::{Plan, PlanAnswer};

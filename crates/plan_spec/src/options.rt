@@ -13,7 +13,7 @@ use clap::error::ErrorKind;
 use clap::{Arg, ArgMatches, Command};
 use std::alloc::{AllocError, Global};
 
-// The values of the six options, each as it was given.
+/// The values of the six options, each as it was given.
 #[derive(Drop)]
 pub(crate) struct OptionValues<'a> {
     pub(crate) group: Option<&'a str>,
@@ -24,7 +24,7 @@ pub(crate) struct OptionValues<'a> {
     pub(crate) area_pages: Option<&'a str>,
 }
 
-// What the words give for each option.
+/// What the words give for each option.
 pub(crate) fn option_values<'a>(
     alloc: Global,
     words: &'a [String],
@@ -49,7 +49,7 @@ pub(crate) fn option_values<'a>(
     })
 }
 
-// The parse of the words.
+/// The parse of the words.
 fn matches_in<'a>(alloc: Global, words: &'a [String]) -> Result<ArgMatches<'a>, PlanAnswer>
     ensures takes { OnOk result (is_command_line (map string_bytes words.entry.now) ≡ true) }
     ensures rows { IfOk result (λ m. rows_of (found_of m) ≡ matches_of pargather_command (map string_bytes words.entry.now)) }
@@ -65,7 +65,7 @@ fn matches_in<'a>(alloc: Global, words: &'a [String]) -> Result<ArgMatches<'a>, 
     }
 }
 
-// The command with its six options, for words with no program name before them.
+/// The command with its six options, for words with no program name before them.
 fn command<'a>(alloc: Global) -> Result<Command<'a>, AllocError>
     ensures { IfOk result (λ c. app_of c ≡ pargather_command) }
 {
@@ -78,7 +78,7 @@ fn command<'a>(alloc: Global) -> Result<Command<'a>, AllocError>
     with_option(alloc, planned, "area-pages", false)
 }
 
-// A command with one more option, which takes one value.
+/// A command with one more option, which takes one value.
 fn with_option<'a>(
     alloc: Global,
     command: Command<'a>,

@@ -15,7 +15,7 @@ pub enum PlanAnswer {
     Memory,
 }
 
-// An aggregate with the name of its column, if it reads one, and the name of its output column.
+/// An aggregate with the name of its column, if it reads one, and the name of its output column.
 #[derive(Drop)]
 pub(crate) struct PlanItem {
     pub(crate) kind: ItemKind,
@@ -35,7 +35,7 @@ impl Model for PlanItem {
     ghost invariant = { λ i. IsItem i.kind (option_map string_bytes i.column) (string_bytes i.text) };
 }
 
-// A filter by the name of its column.
+/// A filter by the name of its column.
 #[derive(Drop)]
 pub(crate) struct PlanFilter {
     pub(crate) column: String,
@@ -66,13 +66,13 @@ pub struct Plan {
 impl Model for Plan {
     ghost use Rattle.std.specs.Prelude.{◌≤◌, ◌<◌, length, map, string_bytes};
     ghost use Rattle.plan_spec.specs.Query.{Query};
-    ghost use Rattle.plan_spec.specs.Parts.{IsSmall};
+    ghost use Rattle.plan_spec.specs.Parts.{FitsLimits};
 
     ghost Value = { Query };
 
     ghost view = { λ p. record { plan = record { groups = map string_bytes p.groups.items; items = p.items.items; hash = p.hash; filter = p.filter }; workers = p.workers; area_pages = p.area_pages } };
 
-    ghost invariant = { λ p. IsSmall (length p.groups.items) (length p.items.items) p.workers p.area_pages };
+    ghost invariant = { λ p. FitsLimits (length p.groups.items) (length p.items.items) p.workers p.area_pages };
 }
 
 impl Plan {
@@ -137,7 +137,7 @@ impl Plan {
     }
 }
 
-// A name among those of the aggregates and the filter.
+/// A name among those of the aggregates and the filter.
 fn column_name<'a>(items: &'a [PlanItem], filter: &'a Option<PlanFilter>, place: usize) -> &'a str
     requires { place < length (filter_map (λ i. i.column) items.now ++ option_to_list (option_map (λ f. f.column) filter.now)) }
     ensures { result.now ≡ slice_index_or (filter_map (λ i. i.column) items.entry.now ++ option_to_list (option_map (λ f. f.column) filter.entry.now)) place [] }

@@ -24,7 +24,7 @@ impl Plan {
     }
 }
 
-// The plan of the options' values.
+/// The plan of the options' values.
 fn read_values(alloc: Global, given: &OptionValues<'_>) -> Result<Plan, PlanAnswer>
     ensures plan { IfOk result (λ plan. query_by (groups_given (text_of given.now.group)) (items_given (text_of given.now.agg)) (filter_given (text_of given.now.filter))
         (hash_given (text_of given.now.plan)) (number_given 64 2 (text_of given.now.workers)) (number_given 65536 2048 (text_of given.now.area_pages)) ≡ Some plan) }
@@ -75,10 +75,7 @@ fn filter_read(alloc: Global, given: Option<&str>) -> Result<Option<PlanFilter>,
     ensures none { result ≡ Err answer.Usage → filter_given (text_of given.entry) ≡ None }
 {
     match given {
-        Some(text) => match filter(alloc, text) {
-            Ok(filter) => Ok(Some(filter)),
-            Err(answer) => Err(answer),
-        },
+        Some(text) => Ok(Some(filter(alloc, text)?)),
         None => Ok(None),
     }
 }

@@ -23,8 +23,8 @@ fn owned(alloc: Global, words: &str) -> Result<Vec<String>, AllocError> {
     Ok(list)
 }
 
-// The plan of the words over the columns of the store's header, if there is one: the caller of
-// CALLING.md.
+/// The plan of the words over the columns of the store's header, if there is one: the caller of
+/// CALLING.md.
 fn bound_words(alloc: Global, words: &[String], store: &RowStore) -> Option<BoundPlan>
     ensures plan { IfSome result (λ bound. IfSome (query_of (map string_bytes words.now)) (λ query. bound ≡ bound_plan (record_at store.now 0) query.plan)) }
     ensures columns { IfSome result (λ bound. HasColumns bound (length (record_at store.now 0))) }
@@ -33,7 +33,7 @@ fn bound_words(alloc: Global, words: &[String], store: &RowStore) -> Option<Boun
     plan.bind(store).ok()
 }
 
-// Words that are a plan, and words that are none.
+/// Words that are a plan, and words that are none.
 #[test]
 fn plans(rt: HostRuntime) -> Result<(), Fail> {
     let table: [(&str, bool); 22] = [
@@ -74,7 +74,7 @@ fn plans(rt: HostRuntime) -> Result<(), Fail> {
     Ok(())
 }
 
-// A plan bound to a header, and one with a name that the header lacks.
+/// A plan bound to a header, and one with a name that the header lacks.
 #[test]
 fn binds(rt: HostRuntime) -> Result<(), Fail> {
     let Ok(store) = rows(rt.alloc(), b"g,v,g\n") else {

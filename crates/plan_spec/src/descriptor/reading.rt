@@ -10,7 +10,7 @@ ghost use Rattle.plan_spec.specs.Descriptor.{IsDescriptor, IsWritable, bad_word,
 use super::BadDescriptor;
 use par_model::{BoundPlan, Filter, FilterOp, Item, ItemKind};
 
-// The plan of the words of a descriptor, or the least word that is not allowed.
+/// The plan of the words of a descriptor, or the least word that is not allowed.
 pub(super) fn decode(words: &[u64]) -> Result<BoundPlan, BadDescriptor>
     requires { length words.now ≡ size_of (slice_index words.now 0) }
     ensures descriptor { IfOk result (λ plan. IsDescriptor words.now plan) }
@@ -24,7 +24,7 @@ pub(super) fn decode(words: &[u64]) -> Result<BoundPlan, BadDescriptor>
     }
 }
 
-// The least word that is not allowed.
+/// The least word that is not allowed.
 fn first_bad(words: &[u64]) -> Option<u64>
     requires { length words.now ≡ size_of (slice_index words.now 0) }
     ensures { result ≡ bad_word words.now }
@@ -37,7 +37,7 @@ fn first_bad(words: &[u64]) -> Option<u64>
     None
 }
 
-// Whether the word at a place is allowed there, beside the words before it.
+/// Whether the word at a place is allowed there, beside the words before it.
 fn is_allowed(words: &[u64], place: usize) -> bool
     requires size { 28 ≤ length words.now }
     requires inside { place < length words.now }
@@ -67,14 +67,14 @@ fn is_head(place: usize, word: u64) -> bool
     }
 }
 
-// A column where one stands, and else zero.
+/// A column where one stands, and else zero.
 fn is_column(stands: bool, word: u64) -> bool
     ensures { result ≡ is_column stands word }
 {
     if stands { word < 1 << 32 } else { word == 0 }
 }
 
-// The two words of an aggregate.
+/// The two words of an aggregate.
 fn is_item(words: &[u64], at: usize, place: usize, word: u64) -> bool
     requires size { 28 ≤ length words.now }
     requires inside { at < 8 }
@@ -87,7 +87,7 @@ fn is_item(words: &[u64], at: usize, place: usize, word: u64) -> bool
     is_column(stands && words[12 + 2 * at] != 0, word)
 }
 
-// The words of the filter.
+/// The words of the filter.
 fn is_filter(words: &[u64], place: usize, word: u64) -> bool
     requires { 29 ≤ length words.now }
     ensures { result ≡ is_filter words.now place word }
@@ -101,7 +101,7 @@ fn is_filter(words: &[u64], place: usize, word: u64) -> bool
     }
 }
 
-// The plan of words that are allowed.
+/// The plan of words that are allowed.
 fn allowed_plan(words: &[u64]) -> BoundPlan
     requires size { length words.now ≡ size_of (slice_index words.now 0) }
     requires allowed { bad_word words.now ≡ None }
@@ -118,7 +118,7 @@ fn allowed_plan(words: &[u64]) -> BoundPlan
     }
 }
 
-// The columns to group by, each at its place.
+/// The columns to group by, each at its place.
 fn groups(words: &[u64]) -> [u32; 8]
     requires size { 28 ≤ length words.now }
     requires columns { (k : ℕ) → k < 8 → slice_index words.now (4 + k) < 2 ^ 32 }
@@ -132,7 +132,7 @@ fn groups(words: &[u64]) -> [u32; 8]
     groups
 }
 
-// The aggregates, each at its place.
+/// The aggregates, each at its place.
 fn items(words: &[u64]) -> [Item; 8]
     requires size { 28 ≤ length words.now }
     requires kinds { (k : ℕ) → k < 8 → slice_index words.now (12 + 2 * k) ≤ 5 }
@@ -167,7 +167,7 @@ fn kind_of(word: u64) -> ItemKind
     }
 }
 
-// The filter, if there is one.
+/// The filter, if there is one.
 fn filter(words: &[u64]) -> Option<Filter>
     requires size { length words.now ≡ size_of (slice_index words.now 0) }
     requires allowed { bad_word words.now ≡ None }
@@ -186,7 +186,7 @@ fn filter(words: &[u64]) -> Option<Filter>
     })
 }
 
-// The relation of a word, or none for 0.
+/// The relation of a word, or none for 0.
 fn relation_of(word: u64) -> Option<FilterOp>
     requires { word ≤ 6 }
     ensures { option_map_or relation_word result 0 ≡ word }

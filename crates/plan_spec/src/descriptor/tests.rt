@@ -3,20 +3,20 @@
 ghost use Rattle.std.specs.Prelude.{◌≡◌, ◌<◌, ℕ, IsSome, Some};
 ghost use Rattle.word_map.specs.WordMap.{at as word_at, HasJust};
 
-use crate::{BadDescriptor, read_plan, write_plan};
+use crate::{BadDescriptor, PLAN_KEY, plan_in, read_plan, write_plan};
 use par_model::{BoundPlan, Filter, FilterOp, Item, ItemKind};
 use region_words::{Chunk, Part, Region};
 use shm_toc::Toc;
 use std::test::Fail;
 
-// An item that is not used.
+/// An item that is not used.
 const UNUSED: Item = Item {
     kind: ItemKind::Rows,
     column: 0,
 };
 
-// Writes a plan behind a table of contents, freezes it, and reads the plan that stands beside the key: the caller of
-// CALLING.md.
+/// Writes a plan behind a table of contents, freezes it, and reads the plan that stands beside the key: the caller of
+/// CALLING.md.
 fn through_a_table(r: &Region, part: Part, plan: &BoundPlan) -> Option<BoundPlan>
     requires here { part.region ≡ r.now }
     requires owns { HasJust part.words 0 48 }
@@ -28,16 +28,15 @@ fn through_a_table(r: &Region, part: Part, plan: &BoundPlan) -> Option<BoundPlan
     };
     write_plan(plan, r, &mut chunk);
     let at = chunk.at;
-    let Ok(()) = toc.insert(r, 1, at) else {
+    let Ok(()) = toc.insert(r, PLAN_KEY, at) else {
         return None;
     };
     toc.keep(r, chunk);
     let mut toc = toc.freeze(r);
-    let at = toc.lookup(r, 1)?;
-    read_plan(&mut toc, r, at).ok()
+    Some(plan_in(&mut toc, r))
 }
 
-// The part of the first 48 words of a new region.
+/// The part of the first 48 words of a new region.
 fn first_words(r: &Region, part: &mut Part) -> Part
     requires here { part.old.region ≡ r.now }
     requires owns { (k : ℕ) → k < 48 → IsSome (word_at part.old.words k) }
@@ -47,7 +46,7 @@ fn first_words(r: &Region, part: &mut Part) -> Part
     part.split(r, 0, 48)
 }
 
-// The plan of these words, which are stored in a chunk one by one.
+/// The plan of these words, which are stored in a chunk one by one.
 fn plan_of_words(
     r: &Region,
     part: Part,
@@ -78,7 +77,7 @@ fn store_words(r: &Region, chunk: &mut Chunk, words: &[u64; 32])
     }
 }
 
-// Two groups, three aggregates, and a filter with this relation.
+/// Two groups, three aggregates, and a filter with this relation.
 fn plan_with(op: FilterOp, value: i64) -> BoundPlan {
     let item = |kind, column| Item { kind, column };
     BoundPlan {
@@ -104,7 +103,7 @@ fn plan_with(op: FilterOp, value: i64) -> BoundPlan {
     }
 }
 
-// The words of `plan_with(LessEqual, -2)` in version 2.
+/// The words of `plan_with(LessEqual, -2)` in version 2.
 const WORDS: [u64; 32] = [
     2,
     2,

@@ -7,7 +7,7 @@ ghost use Rattle.plan_spec.specs.Descriptor.{HasRoom, filter_word, head_word, it
 
 use par_model::{BoundPlan, Filter, FilterOp, Item, ItemKind};
 
-// The word at a place of a plan's descriptor of version 2.
+/// The word at a place of a plan's descriptor of version 2.
 pub(super) fn plan_word(plan: &BoundPlan, place: u64) -> u64
     requires { place < 32 }
     ensures word { result ≡ plan_word 2 plan.now place }
@@ -27,7 +27,7 @@ pub(super) fn plan_word(plan: &BoundPlan, place: u64) -> u64
     filter_word(plan.filter, place - 28)
 }
 
-// Tells how long a plan's lists are. It does nothing.
+/// Tells how long a plan's lists are. It does nothing.
 pub(super) fn has_room(plan: &BoundPlan)
     ensures { HasRoom plan.now }
 {
