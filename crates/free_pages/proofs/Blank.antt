@@ -26,12 +26,6 @@ pub blank_list : (n p : ℕ) (v : ℕ → ℕ) → ((k : ℕ) → p ≤ k → k 
 blank_list zero p v h = refl
 blank_list (suc n) p v h = emit_none p (v p) (granted_of v (suc p) n) (h p (omega arith) (omega arith)) ∙ blank_list n (suc p) v (λ k a b. h k (omega arith) (omega arith))
 
-pub blank_none : (m : WordMap) (heads pages : ℕ) → pages ≡ 0 → IsRuns m heads pages × (granted_in m heads pages ≡ [])
-blank_none m heads pages e = (
-  record { owns = λ p h. absurd (omega arith); laid = record { begins = λ h. absurd (omega arith); heads = λ p h _. absurd (omega arith) } },
-  ap (granted_in m heads) e,
-)
-
 pub zeros_on : (m : WordMap) (heads p : ℕ) → ((k : ℕ) → k < p → run_word m heads k ≡ 0) → (k : ℕ) → k < p + 1 → run_word (fin.insert m (heads + p) 0) heads k ≡ 0
 zeros_on m heads p h k b = dite (ℕ_discrete k p)
     (λ (e : k ≡ p). word_here m heads p 0 k e)

@@ -7,9 +7,9 @@ use Rattle.free_pages.specs.Legal.{Granted, is_taken, is_recorded, IsFree, Adds,
 use Rattle.free_pages.specs.Runs.{IsRuns, granted_in, run_word}
 use Rattle.free_pages.proofs.Best.{free_run}
 use Rattle.free_pages.specs.Area.{HasRecords, records_at}
-use Rattle.free_pages.specs.Book.{IsPages, IsRunOf, HasKept, SplitsOff, MaySplit, book}
+use Rattle.free_pages.specs.PagesView.{IsPages, IsRunOf, HasKept, SplitsOff, MaySplit}
 use Rattle.free_pages.proofs.Apart.{granted_apart}
-use Rattle.free_pages.proofs.Keys.{page_words, record_words, linear_512, linear_7, kept_less, kept_same, just_run, has_run, taken_more, recorded_more, recorded_free}
+use Rattle.free_pages.proofs.Keys.{word_of_page, word_of_record, linear_page, linear_record, kept_less, kept_same, just_run, has_run, taken_more, recorded_more, recorded_free}
 
 pub free_shorter : (pages q n len : ℕ) (gs : List Granted) → n ≤ len → IsFree pages gs q len → IsFree pages gs q n
 free_shorter pages q n len gs h f = record { inside = omega (arith, f.inside); free = λ k a b. f.free k a (omega arith) }
@@ -17,19 +17,19 @@ free_shorter pages q n len gs h f = record { inside = omega (arith, f.inside); f
 pub may_split : (first pages heads q n : ℕ) (runs words records : Owned) (control : Bool) → IsPages first pages heads runs words records
     → IsFree pages (granted_in runs.words heads pages) q n → MaySplit control records (heads + pages + 7 * q) (7 * n)
 may_split first pages heads q n runs words records true p f =
-    has_run records.words (heads + pages) 7 pages q n (is_recorded (granted_in runs.words heads pages)) record_words linear_7 f.inside p.keeps_records (λ k a b. recorded_free _ k (f.free k a b))
+    has_run records.words (heads + pages) 7 pages q n (is_recorded (granted_in runs.words heads pages)) word_of_record linear_record f.inside p.keeps_records (λ k a b. recorded_free _ k (f.free k a b))
 may_split first pages heads q n runs words records false p f = tt
 
 pub may_split_words : (first pages heads q n : ℕ) (runs words records : Owned) → IsPages first pages heads runs words records
     → IsFree pages (granted_in runs.words heads pages) q n → (k : ℕ) → first + 512 * q ≤ k → k < first + 512 * q + 512 * n → is_some (at words.words k) ≡ true
 may_split_words first pages heads q n runs words records p f =
-    has_run words.words first 512 pages q n (is_taken (granted_in runs.words heads pages)) page_words linear_512 f.inside p.keeps f.free
+    has_run words.words first 512 pages q n (is_taken (granted_in runs.words heads pages)) word_of_page linear_page f.inside p.keeps f.free
 
 records_after : (pages base q n : ℕ) (records records2 : Owned) (out : Option Owned) (before after : List Granted) (control : Bool) → HasKept records.words base 7 pages (is_recorded before)
     → Adds before after (record { from = q; len = n; control = control }) → SplitsOff control records records2 out (base + 7 * q) (7 * n) → HasKept records2.words base 7 pages (is_recorded after)
 records_after pages base q n records records2 out before after true keeps a s =
     subst (λ (o : Owned). HasKept o.words base 7 pages (is_recorded after)) (sym s.0)
-    (kept_less records.words base 7 pages q n (is_recorded before) (is_recorded after) record_words keeps (recorded_more before after (record { from = q; len = n; control = true }) a))
+    (kept_less records.words base 7 pages q n (is_recorded before) (is_recorded after) word_of_record keeps (recorded_more before after (record { from = q; len = n; control = true }) a))
 records_after pages base q n records records2 out before after false keeps a s =
     subst (λ (o : Owned). HasKept o.words base 7 pages (is_recorded after)) (sym s.0)
     (kept_same records.words base 7 pages (is_recorded before) (is_recorded after) keeps (recorded_more before after (record { from = q; len = n; control = false }) a))
@@ -52,7 +52,7 @@ after_grant first pages heads q n runs runs2 words words2 records records2 out c
   low = p.low;
   runs_are = laid;
   keeps = subst (λ (o : Owned). HasKept o.words first 512 pages (is_taken (granted_in runs2.words heads pages))) (sym w)
-      (kept_less words.words first 512 pages q n (is_taken (granted_in runs.words heads pages)) (is_taken (granted_in runs2.words heads pages)) page_words p.keeps (taken_more _ _ (record { from = q; len = n; control = control }) a));
+      (kept_less words.words first 512 pages q n (is_taken (granted_in runs.words heads pages)) (is_taken (granted_in runs2.words heads pages)) word_of_page p.keeps (taken_more _ _ (record { from = q; len = n; control = control }) a));
   keeps_records = records_after pages (heads + pages) q n records records2 out _ _ control p.keeps_records a s;
 }
 
@@ -64,7 +64,7 @@ run_records first pages heads q n runs words records records2 out true p f s =
     subst (λ (o : Option Owned). HasRecords runs.region first pages q n true o) (sym s.1) (
       p.records_here,
       subst (λ (z : ℕ). HasJust (range_of records.words (heads + pages + 7 * q) (7 * n)) (z + 7 * q) (7 * n)) base
-          (just_run records.words (heads + pages) 7 pages q n (is_recorded (granted_in runs.words heads pages)) record_words linear_7 f.inside p.keeps_records (λ k a b. recorded_free _ k (f.free k a b))),
+          (just_run records.words (heads + pages) 7 pages q n (is_recorded (granted_in runs.words heads pages)) word_of_record linear_record f.inside p.keeps_records (λ k a b. recorded_free _ k (f.free k a b))),
     )
 run_records first pages heads q n runs words records records2 out false p f s =
     subst (λ (o : Option Owned). HasRecords runs.region first pages q n false o) (sym s.1) tt
@@ -72,7 +72,7 @@ run_records first pages heads q n runs words records records2 out false p f s =
 pub run_words : (first pages heads q n : ℕ) (runs words records : Owned) → IsPages first pages heads runs words records
     → IsFree pages (granted_in runs.words heads pages) q n → HasJust (range_of words.words (first + 512 * q) (512 * n)) (first + 512 * q) (512 * n)
 run_words first pages heads q n runs words records p f =
-    just_run words.words first 512 pages q n (is_taken (granted_in runs.words heads pages)) page_words linear_512 f.inside p.keeps f.free
+    just_run words.words first 512 pages q n (is_taken (granted_in runs.words heads pages)) word_of_page linear_page f.inside p.keeps f.free
 
 -- the pages that a walk found are free
 pub found_free : (pages heads q n len : ℕ) (runs runs2 : Owned) → IsRuns runs2.words heads pages → granted_in runs2.words heads pages ≡ granted_in runs.words heads pages
@@ -95,7 +95,7 @@ take_is first pages heads q n place runs runs2 control laid f a e = record {
 pub run_is : (first pages heads q n place : ℕ) (runs words out_words records records2 : Owned) (out : Option Owned) (control : Bool) → IsPages first pages heads runs words records
     → IsFree pages (granted_in runs.words heads pages) q n → SplitsOff control records records2 out (heads + pages + 7 * q) (7 * n)
     → out_words ≡ owned words.region (range_of words.words (first + 512 * q) (512 * n)) → place ≡ first + 512 * q
-    → IsRunOf (book runs.region first pages (granted_in runs.words heads pages)) n control place n out_words out
+    → IsRunOf runs.region first pages n control place n out_words out
 run_is first pages heads q n place runs words out_words records records2 out control p f s w e = record {
   from = q;
   place_is = e;

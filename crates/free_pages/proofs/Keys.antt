@@ -5,7 +5,7 @@ use Rattle.word_map.specs.WordMap.{WordMap, at, is_within, range_of, rest_of, un
 use Rattle.word_map.proofs.Maps.{at-range, at-rest_cond, at-union_cond, within_is, within_true}
 use Rattle.word_map.specs.WordMap.{HasJust}
 use Rattle.free_pages.specs.Legal.{Granted, is_taken, is_recorded, Adds}
-use Rattle.free_pages.specs.Book.{HasKept}
+use Rattle.free_pages.specs.PagesView.{HasKept}
 use Rattle.free_pages.proofs.Lists.{taken_adds, recorded_adds}
 
 bool_same : (a b : Bool) → (a ≡ true → b ≡ true) → (b ≡ true → a ≡ true) → a ≡ b
@@ -18,13 +18,13 @@ bool_same false true f g = g refl
 abbrev pub IsUnit : ℕ → Type 0
 IsUnit unit = (from q n k : ℕ) → from ≤ k → is_within q n ((k - from) / unit) ≡ is_within (from + unit * q) (unit * n) k
 
-pub page_words : IsUnit 512
-page_words from q n k h = bool_same (is_within q n ((k - from) / 512)) (is_within (from + 512 * q) (512 * n) k)
+pub word_of_page : IsUnit 512
+word_of_page from q n k h = bool_same (is_within q n ((k - from) / 512)) (is_within (from + 512 * q) (512 * n) k)
     (λ e. let i = within_is q n ((k - from) / 512) e in within_true (from + 512 * q) (512 * n) k (omega (arith, i.0, i.1)) (omega (arith, i.0, i.1)))
     (λ e. let i = within_is (from + 512 * q) (512 * n) k e in within_true q n ((k - from) / 512) (omega (arith, i.0, i.1)) (omega (arith, i.0, i.1)))
 
-pub record_words : IsUnit 7
-record_words from q n k h = bool_same (is_within q n ((k - from) / 7)) (is_within (from + 7 * q) (7 * n) k)
+pub word_of_record : IsUnit 7
+word_of_record from q n k h = bool_same (is_within q n ((k - from) / 7)) (is_within (from + 7 * q) (7 * n) k)
     (λ e. let i = within_is q n ((k - from) / 7) e in within_true (from + 7 * q) (7 * n) k (omega (arith, i.0, i.1)) (omega (arith, i.0, i.1)))
     (λ e. let i = within_is (from + 7 * q) (7 * n) k e in within_true q n ((k - from) / 7) (omega (arith, i.0, i.1)) (omega (arith, i.0, i.1)))
 
@@ -63,11 +63,11 @@ inside_all from unit pages q n k w low more e h =
 abbrev pub IsLinear : ℕ → Type 0
 IsLinear unit = (q n pages : ℕ) → q + n ≤ pages → (unit * (q + n) ≤ unit * pages) × (unit * q + unit * n ≡ unit * (q + n))
 
-pub linear_512 : IsLinear 512
-linear_512 q n pages h = (omega arith, omega arith)
+pub linear_page : IsLinear 512
+linear_page q n pages h = (omega arith, omega arith)
 
-pub linear_7 : IsLinear 7
-linear_7 q n pages h = (omega arith, omega arith)
+pub linear_record : IsLinear 7
+linear_record q n pages h = (omega arith, omega arith)
 
 -- what is left when a run's words are split off
 pub kept_less : (m : WordMap) (from unit pages q n : ℕ) (before after : ℕ → Bool) → IsUnit unit → HasKept m from unit pages before

@@ -8,7 +8,7 @@ use Rattle.word_map.specs.WordMap.{HasJust}
 use Rattle.free_pages.specs.Legal.{Granted, is_taken, is_recorded}
 use Rattle.free_pages.specs.Runs.{IsRuns, granted_in}
 use Rattle.free_pages.specs.Area.{front}
-use Rattle.free_pages.specs.Book.{IsPages, HasKept}
+use Rattle.free_pages.specs.PagesView.{IsPages, HasKept}
 use Rattle.free_pages.proofs.Keys.{some_rest, some_range}
 
 new_has : (m : WordMap) (first pages heads j : ℕ) → HasJust m (first - front pages - 64) (64 + 8 * pages) → 64 + front pages ≤ first → heads ≡ first - front pages → heads - 64 ≤ j → j < heads + pages

@@ -1,6 +1,7 @@
 -- What the pages answer, as a relation of the state before, the call, the reply and the state after.
 use Rattle.std.specs.Prelude.{◌≡◌, ℕ, ◌+◌, ◌*◌, ◌<◌, ◌≤◌, Bool, false, ◌&&◌, ◌||◌, List, [], ◌∷◌, ◌++◌}
 use Rattle.word_map.specs.WordMap.{is_within}
+use Rattle.free_pages.specs.Area.{page_words}
 
 -- a granted run: its first page, its number of pages, and whether its control records went with it
 pub record Granted : Type 0 where
@@ -58,7 +59,7 @@ pub data PagesReply : Type 0 where
 -- n pages in a row that were free are granted. Page 0 begins at word `first`
 pub record IsTake (first : ℕ) (before : PagesState) (n : ℕ) (control : Bool) (place : ℕ) (after : PagesState) : Type 0 where
   pub from : ℕ
-  pub place_is : place ≡ first + 512 * from
+  pub place_is : place ≡ first + page_words * from
   pub free : IsFree before.pages before.granted from n
   pub adds : Adds before.granted after.granted (record { from = from; len = n; control = control })
   pub apart : AreApart after.pages 0 after.granted
@@ -74,14 +75,14 @@ pub record IsNoRun (before : PagesState) (n wanted largest : ℕ) (after : Pages
 -- a granted run is no longer granted
 pub record IsGive (first : ℕ) (before : PagesState) (place n : ℕ) (control : Bool) (after : PagesState) : Type 0 where
   pub from : ℕ
-  pub place_is : place ≡ first + 512 * from
+  pub place_is : place ≡ first + page_words * from
   pub removes : Adds after.granted before.granted (record { from = from; len = n; control = control })
   pub apart : AreApart after.pages 0 after.granted
   pub pages : after.pages ≡ before.pages
 
 -- no granted run has this first page, this length and its records or lack of them
 pub record IsHandedBack (first : ℕ) (before : PagesState) (place n : ℕ) (control : Bool) (after : PagesState) : Type 0 where
-  pub none : (from : ℕ) (rest : List Granted) → place ≡ first + 512 * from → Adds rest before.granted (record { from = from; len = n; control = control }) → ⊥
+  pub none : (from : ℕ) (rest : List Granted) → place ≡ first + page_words * from → Adds rest before.granted (record { from = from; len = n; control = control }) → ⊥
   pub same : after ≡ before
 
 -- what a call may reply, and what it does to the state. A reply of the other call never comes

@@ -1,4 +1,4 @@
 pub mod Area
 pub mod Runs
 pub mod Legal
-pub mod Book
+pub mod PagesView

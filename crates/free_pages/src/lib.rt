@@ -5,9 +5,16 @@
 //! one store. The state, the calls and their replies are `specs/Legal.antt`, which the layers above cite.
 #![tactic(auto)]
 
+mod histories;
+mod layout;
 mod pages;
 #[cfg(test)]
 mod tests;
 mod walk;
 
+pub use histories::{PagesCalls, PagesReplies, PagesStates};
+pub use layout::{
+    CLASS_COUNT, CLASS_END, HEAD_WORDS, PAGE_WORDS, RECORD_WORDS, SUPERBLOCK_PAGES, area_words,
+    control_words, front, mark_words,
+};
 pub use pages::{NoRun, Pages};

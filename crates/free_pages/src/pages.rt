@@ -2,15 +2,16 @@
 //!
 //! `Pages` owns the 64 words at the head of the area and the run words for good, and the words and the control records of each page
 //! that is not granted. Nobody else changes a run word. A granted run takes the words of its pages with it, and its control records
-//! where they are asked for; `give` takes the same tokens back. What the parts own is `IsPages` of `specs/Book.antt`: one equation for
+//! where they are asked for; `give` takes the same tokens back. What the parts own is `IsPages` of `specs/PagesView.antt`: one equation for
 //! each word, whether it is kept. What the calls answer is `IsLegal` of `specs/Legal.antt`.
 ghost use Rattle.std.specs.Prelude.{◌≡◌, ℕ, ◌+◌, ◌*◌, ◌-◌, ◌/◌, ◌<◌, ◌≤◌, ◌^◌, [], ◌≢◌, MatchResult, IfOk, IfErr, Some, IfSome, IsSome, is_some};
 ghost use Rattle.word_map.specs.WordMap.{at as word_at, HasJust};
-ghost use Rattle.free_pages.specs.Area.{front};
+ghost use Rattle.free_pages.specs.Area.{front, control_words, head_words, page_words};
 ghost use Rattle.free_pages.specs.Legal.{IsLargest, IsLegal, Take, Give, Gets, Lacks, Accepts, HandsBack};
 ghost use Rattle.free_pages.specs.Runs.{IsRuns, granted_in};
-ghost use Rattle.free_pages.specs.Book.{book, IsRunOf, MayGive, SplitsOff, JoinsBack, MaySplit};
+ghost use Rattle.free_pages.specs.PagesView.{pages_view, IsRunOf, MayGive, SplitsOff, JoinsBack, MaySplit};
 
+use crate::layout::{HEAD_WORDS, PAGE_WORDS, RECORD_WORDS, front};
 use crate::walk::{grant, release, seek};
 use region_words::{Part, Region, Run};
 use rel_pointer::RelPtr;
@@ -19,58 +20,66 @@ use std::marker::Model;
 /// There are not as many pages in a row that are not granted: the pages that were wanted, and those of the longest run that is free.
 #[derive(Drop)]
 pub struct NoRun {
+    /// The pages that were wanted.
     pub wanted: u32,
+    /// The pages of the longest run that is free.
     pub largest: u32,
 }
 
 /// The pages of an area. Contracts see the region, the first word of page 0, how many pages there are, and the granted runs.
 #[derive(Drop)]
 pub struct Pages {
+    /// The first word of page 0.
     first: u64,
+    /// How many pages there are.
     pages: u64,
+    /// The first run word.
     heads: u64,
+    /// The words at the head and the run words.
     runs: Part,
+    /// The words of the pages that are not granted.
     words: Part,
+    /// The control records that are not out with a run.
     records: Part,
 }
 
 impl Model for Pages {
     ghost use Rattle.free_pages.specs.Runs.{granted_in};
-    ghost use Rattle.free_pages.specs.Book.{Book, book_code, book, IsPages};
+    ghost use Rattle.free_pages.specs.PagesView.{PagesView, pages_view_code, pages_view, IsPages};
 
-    ghost Value = { Book };
+    ghost Value = { PagesView };
 
-    ghost coded = { book_code };
+    ghost coded = { pages_view_code };
 
-    ghost view = { λ p. book p.runs.region p.first p.pages (granted_in p.runs.words p.heads p.pages) };
+    ghost view = { λ p. pages_view p.runs.region p.first p.pages (granted_in p.runs.words p.heads p.pages) };
 
     ghost invariant = { λ p. IsPages p.first p.pages p.heads p.runs p.words p.records };
 }
 
 impl Pages {
     /// The pages of an area whose page 0 begins at `first`, all free. `words` is the pages' words; `control` is the first
-    /// `64 + 8 * pages` words of the area, whatever they hold. Writes each run word once.
+    /// `HEAD_WORDS + control_words(pages)` words of the area, whatever they hold. Writes each run word once.
     pub fn new(r: &Region, first: RelPtr, pages: u32, words: Part, control: Part) -> Pages
         requires here { (words.region ≡ r.now) × (control.region ≡ r.now) }
-        requires place { (64 + front pages ≤ first) × (first + 512 * pages ≤ 2 ^ 26) }
-        requires words { HasJust words.words first (512 * pages) }
-        requires control { HasJust control.words (first - front pages - 64) (64 + 8 * pages) }
-        ensures { result ≡ book r.now first pages [] }
+        requires place { (head_words + front pages ≤ first) × (first + page_words * pages ≤ 2 ^ 26) }
+        requires words { HasJust words.words first (page_words * pages) }
+        requires control { HasJust control.words (first - front pages - head_words) (head_words + control_words pages) }
+        ensures { result ≡ pages_view r.now first pages [] }
     {
         Pages::laid_out(r, first.word(), u64::from(pages), words, control)
     }
 
     fn laid_out(r: &Region, first: u64, pages: u64, words: Part, control: Part) -> Pages
         requires here { (words.region ≡ r.now) × (control.region ≡ r.now) }
-        requires place { (64 + front pages ≤ first) × (first + 512 * pages ≤ 2 ^ 26) }
-        requires words { HasJust words.words first (512 * pages) }
-        requires control { HasJust control.words (first - front pages - 64) (64 + 8 * pages) }
-        ensures { result ≡ book r.now first pages [] }
+        requires place { (head_words + front pages ≤ first) × (first + page_words * pages ≤ 2 ^ 26) }
+        requires words { HasJust words.words first (page_words * pages) }
+        requires control { HasJust control.words (first - front pages - head_words) (head_words + control_words pages) }
+        ensures { result ≡ pages_view r.now first pages [] }
     {
-        let heads = first - (8 * pages + 36 * ((pages + 63) / 64));
+        let heads = first - front(pages);
         let mut runs = control;
-        let records = runs.split(r, heads + pages, 7 * pages);
-        runs.store(r, heads - 64, pages);
+        let records = runs.split(r, heads + pages, RECORD_WORDS * pages);
+        runs.store(r, heads - HEAD_WORDS, pages);
         blank(&mut runs, r, heads, pages);
         Pages {
             first,
@@ -89,7 +98,7 @@ impl Pages {
         requires some { 1 ≤ n }
         ensures same { self.new ≡ record self.old { state = self.new.state } }
         ensures taken { IfOk result (λ run. IsLegal self.old.first self.old.state (Take n control) (Gets run.at) self.new.state) }
-        ensures run { IfOk result (λ run. IsRunOf self.old n control run.at run.pages run.words run.control) }
+        ensures run { IfOk result (λ run. IsRunOf self.old.region self.old.first self.old.state.pages n control run.at run.pages run.words run.control) }
         ensures refused { IfErr result (λ no. IsLegal self.old.first self.old.state (Take n control) (Lacks no.wanted no.largest) self.new.state) }
     {
         let count = u64::from(n);
@@ -110,10 +119,10 @@ impl Pages {
             len,
             control,
         );
-        let place = self.first + 512 * at;
-        let words = self.words.split(r, place, 512 * count);
-        let from = self.heads + self.pages + 7 * at;
-        let control = split_off(&mut self.records, r, from, 7 * count, control);
+        let place = self.first + PAGE_WORDS * at;
+        let words = self.words.split(r, place, PAGE_WORDS * count);
+        let from = self.heads + self.pages + RECORD_WORDS * at;
+        let control = split_off(&mut self.records, r, from, RECORD_WORDS * count, control);
         Ok(Run {
             at: RelPtr::of(place),
             pages: n,
@@ -126,7 +135,7 @@ impl Pages {
     /// Looks at one run word.
     pub fn give(&mut self, r: &Region, run: Run) -> Result<(), Run>
         requires here { self.old.region ≡ r.now }
-        requires run { MayGive self.old run.at run.pages run.words run.control }
+        requires run { MayGive self.old.region self.old.first self.old.state.pages run.at run.pages run.words run.control }
         ensures same { self.new ≡ record self.old { state = self.new.state } }
         ensures given { IfOk result (λ _. IsLegal self.old.first self.old.state (Give run.at run.pages (is_some run.control)) Accepts self.new.state) }
         ensures refused { IfErr result (λ back. IsLegal self.old.first self.old.state (Give run.at run.pages (is_some run.control)) HandsBack self.new.state) }
@@ -213,15 +222,15 @@ fn join_back(records: &mut Part, r: &Region, control: Option<Part>)
 
 /// The page that begins at a place, or `pages`.
 fn page_of(first: u64, pages: u64, place: u64) -> u64
-    requires { first + 512 * pages < 2 ^ 64 }
-    ensures found { result < pages → place ≡ first + 512 * result }
-    ensures none { pages ≤ result → (from : ℕ) → from < pages → place ≢ first + 512 * from }
+    requires { first + page_words * pages < 2 ^ 64 }
+    ensures found { result < pages → place ≡ first + page_words * result }
+    ensures none { pages ≤ result → (from : ℕ) → from < pages → place ≢ first + page_words * from }
 {
     if place < first {
         return pages;
     }
-    let at = (place - first) / 512;
-    if at >= pages || place != first + 512 * at {
+    let at = (place - first) / PAGE_WORDS;
+    if at >= pages || place != first + PAGE_WORDS * at {
         return pages;
     }
     at

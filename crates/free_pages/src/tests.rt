@@ -1,10 +1,10 @@
 //! Pages that are granted and given back, and callers that prove what they need of the contracts.
 ghost use Rattle.std.specs.Prelude.{◌≡◌, ℕ, ◌+◌, ◌*◌, ◌<◌, ◌≤◌, ◌^◌, [], true, IfOk, IsSome};
 ghost use Rattle.word_map.specs.WordMap.{at as word_at};
-ghost use Rattle.free_pages.specs.Area.{front};
-ghost use Rattle.free_pages.specs.Book.{book};
+ghost use Rattle.free_pages.specs.Area.{area_size, front, head_words, page_words};
+ghost use Rattle.free_pages.specs.PagesView.{pages_view};
 
-use crate::{NoRun, Pages};
+use crate::{HEAD_WORDS, NoRun, PAGE_WORDS, Pages, control_words, front};
 use region_words::{Part, Region};
 use rel_pointer::RelPtr;
 use std::alloc::{AllocError, Global};
@@ -13,16 +13,16 @@ use std::test::Fail;
 /// The pages of an area that begins at word `base`, whose words the part has.
 fn area_at(r: &Region, part: &mut Part, base: u64, pages: u32) -> Pages
     requires here { part.old.region ≡ r.now }
-    requires small { base + 64 + front pages + 512 * pages ≤ 2 ^ 26 }
-    requires owns { (k : ℕ) → base ≤ k → k < base + 64 + front pages + 512 * pages → IsSome (word_at part.old.words k) }
-    ensures pages { result ≡ book r.now (base + 64 + front pages) pages [] }
+    requires small { base + area_size pages ≤ 2 ^ 26 }
+    requires owns { (k : ℕ) → base ≤ k → k < base + area_size pages → IsSome (word_at part.old.words k) }
+    ensures pages { result ≡ pages_view r.now (base + head_words + front pages) pages [] }
     ensures region { part.new.region ≡ part.old.region }
-    ensures rest { (k : ℕ) → base + 64 + front pages + 512 * pages ≤ k → word_at part.new.words k ≡ word_at part.old.words k }
+    ensures rest { (k : ℕ) → base + area_size pages ≤ k → word_at part.new.words k ≡ word_at part.old.words k }
 {
     let count = u64::from(pages);
-    let first = base + 64 + (8 * count + 36 * ((count + 63) / 64));
-    let control = part.split(r, base, 64 + 8 * count);
-    let words = part.split(r, first, 512 * count);
+    let first = base + HEAD_WORDS + front(count);
+    let control = part.split(r, base, HEAD_WORDS + control_words(count));
+    let words = part.split(r, first, PAGE_WORDS * count);
     Pages::new(r, RelPtr::of(first), pages, words, control)
 }
 
@@ -51,7 +51,7 @@ fn no_run_of_others(
     control: bool,
 ) -> bool
     requires here { (pages.old.region ≡ r.now) × (others.old.region ≡ r.now) }
-    requires behind { pages.old.first + 512 * pages.old.state.pages ≤ others.old.first }
+    requires behind { pages.old.first + page_words * pages.old.state.pages ≤ others.old.first }
     requires some { 1 ≤ n }
     ensures refused { result ≡ true }
     ensures same { others.new ≡ others.old }
@@ -98,10 +98,17 @@ fn words_of(alloc: Global, words: usize) -> Result<(Region, Part), AllocError>
     Region::new(alloc, words)
 }
 
+/// Pages may go to another thread, as they do behind a lock.
+fn sent<T: Send>(value: T) -> T
+    ensures { result ≡ value }
+{
+    value
+}
+
 #[test]
 fn all_pages_are_granted_at_once(rt: HostRuntime) -> Result<(), Fail> {
     let (region, mut part) = words_of(rt.alloc(), 17000)?;
-    let mut pages = area_at(&region, &mut part, 1, 16);
+    let mut pages = sent(area_at(&region, &mut part, 1, 16));
     let mut others = area_at(&region, &mut part, 8500, 16);
     assert_eq!(rt; pages.largest(&region), 16);
     assert!(rt; out_and_back(&region, &mut pages, 16, false));

@@ -2,7 +2,7 @@ use Rattle.std.proofs.Common.{◌*◌, arith, List, ℕ, subst, ◌∙◌}
 use Rattle.word_map.specs.WordMap.{HasJust}
 use Rattle.free_pages.specs.Legal.{Granted, Adds, IsTake}
 use Rattle.free_pages.specs.Runs.{granted_in}
-use Rattle.free_pages.specs.Book.{Book, book, IsRunOf}
+use Rattle.free_pages.specs.PagesView.{PagesView, pages_view, IsRunOf}
 use Rattle.free_pages.proofs.Grants.{found_free, may_split, may_split_words, after_grant, take_is, run_is, run_just}
 use Rattle.free_pages.proofs.pages.Pages.take.Goals as goal
 
@@ -34,13 +34,13 @@ invariant_of-result c =
 pub returns-clause-taken : goal.returns-clause-taken
 returns-clause-taken c =
     let found = c.seek-at.ensures.found c.if-at-self.false in
-    subst (λ (b : Book). IsTake b.first b.state c.args.n c.args.control c.of.result (book c.self.inside.runs.region c.self.inside.first c.self.inside.pages (granted_in c.grant.new.runs.words c.self.inside.heads c.self.inside.pages)).state) c.self.view_is
-    (subst (λ (z : ℕ). IsTake c.self.inside.first (book c.self.inside.runs.region c.self.inside.first c.self.inside.pages (granted_in c.self.inside.runs.words c.self.inside.heads c.self.inside.pages)).state z c.args.control c.of.result (book c.self.inside.runs.region c.self.inside.first c.self.inside.pages (granted_in c.grant.new.runs.words c.self.inside.heads c.self.inside.pages)).state) c.from-count.ensures
+    subst (λ (b : PagesView). IsTake b.first b.state c.args.n c.args.control c.of.result (pages_view c.self.inside.runs.region c.self.inside.first c.self.inside.pages (granted_in c.grant.new.runs.words c.self.inside.heads c.self.inside.pages)).state) c.self.view_is
+    (subst (λ (z : ℕ). IsTake c.self.inside.first (pages_view c.self.inside.runs.region c.self.inside.first c.self.inside.pages (granted_in c.self.inside.runs.words c.self.inside.heads c.self.inside.pages)).state z c.args.control c.of.result (pages_view c.self.inside.runs.region c.self.inside.first c.self.inside.pages (granted_in c.grant.new.runs.words c.self.inside.heads c.self.inside.pages)).state) c.from-count.ensures
     (take_is c.self.inside.first c.self.inside.pages c.self.inside.heads c.seek-at.result.0 c.from-count.result c.of.result c.self.inside.runs c.grant.new.runs c.args.control c.grant.ensures.runs (found_free c.self.inside.pages c.self.inside.heads c.seek-at.result.0 c.from-count.result c.seek-at.result.1 c.self.inside.runs c.seek-at.new.runs c.seek-at.ensures.runs c.seek-at.ensures.granted c.if-at-self.false (omega (arith, c.from-count.ensures, c.requires.some)) found.0 found.1) (subst (λ (gs : List Granted). Adds gs (granted_in c.grant.new.runs.words c.self.inside.heads c.self.inside.pages) (record { from = c.seek-at.result.0; len = c.from-count.result; control = c.args.control })) c.seek-at.ensures.granted c.grant.ensures.granted) c.of.ensures))
 
 pub returns-clause-run : goal.returns-clause-run
 returns-clause-run c =
     let found = c.seek-at.ensures.found c.if-at-self.false in
-    subst (λ (b : Book). IsRunOf b c.args.n c.args.control c.of.result c.args.n c.split-words.result c.split_off-control.result) c.self.view_is
-    (subst (λ (z : ℕ). IsRunOf (book c.self.inside.runs.region c.self.inside.first c.self.inside.pages (granted_in c.self.inside.runs.words c.self.inside.heads c.self.inside.pages)) z c.args.control c.of.result z c.split-words.result c.split_off-control.result) c.from-count.ensures
+    subst (λ (b : PagesView). IsRunOf b.region b.first b.state.pages c.args.n c.args.control c.of.result c.args.n c.split-words.result c.split_off-control.result) c.self.view_is
+    (subst (λ (z : ℕ). IsRunOf c.self.inside.runs.region c.self.inside.first c.self.inside.pages z c.args.control c.of.result z c.split-words.result c.split_off-control.result) c.from-count.ensures
     (run_is c.self.inside.first c.self.inside.pages c.self.inside.heads c.seek-at.result.0 c.from-count.result c.of.result c.self.inside.runs c.self.inside.words c.split-words.result c.self.inside.records c.split_off-control.new.records c.split_off-control.result c.args.control c.self.invariant (found_free c.self.inside.pages c.self.inside.heads c.seek-at.result.0 c.from-count.result c.seek-at.result.1 c.self.inside.runs c.seek-at.new.runs c.seek-at.ensures.runs c.seek-at.ensures.granted c.if-at-self.false (omega (arith, c.from-count.ensures, c.requires.some)) found.0 found.1) c.split_off-control.ensures c.split-words.ensures.range c.of.ensures))
