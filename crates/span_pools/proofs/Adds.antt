@@ -10,7 +10,7 @@ use Rattle.region_words.specs.Parts.{Owned, owned}
 use Rattle.span_pools.specs.declared.layout.Layout.{Layout}
 use Rattle.span_pools.specs.Places.{base, place, record_at, covers, IsLayout}
 use Rattle.span_pools.specs.Legal.{AllLive, HasFree, IsAdd}
-use Rattle.span_pools.specs.View.{mark_of, owns, first_word, state_of, IsBook, HasRoom, IsMarked, IsAdmitted, IsPool}
+use Rattle.span_pools.specs.View.{mark_of, owns, first_word, state_of, IsRecordOf, HasRoom, IsMarked, IsAdmitted, IsPool}
 use Rattle.span_pools.proofs.Lists.{new_listed}
 use Rattle.span_pools.proofs.Covers.{place_in, place_covers, no_common, in_object, other_object, size_small}
 use Rattle.span_pools.proofs.Shapes.{shape_added, records_added}
@@ -122,8 +122,8 @@ after_add l active active2 page marks marks2 records words control run records2 
   bits = m.bits;
   shape = shape_added l (mark_of l marks.words) (mark_of l marks2.words) (owns words.words) (owns words2.words) page p.layout p.shape fits apart m.here m.others (keys_new l active page marks records words run words2 p apart just d.rest);
   records_are = records_added l (mark_of l marks.words) (mark_of l marks2.words) (owns records.words) (owns records2.words) page p.records_are m.here m.others (λ q mq. unlike_new q page (apart q mq)) d.keys;
-  books = λ q mq. dite (ℕ_discrete q page)
-      (λ (e : q ≡ page). subst (λ (z : ℕ). IsBook l records2.words words2.words z) (sym e) (record {
+  records_say = λ q mq. dite (ℕ_discrete q page)
+      (λ (e : q ≡ page). subst (λ (z : ℕ). IsRecordOf l records2.words words2.words z) (sym e) (record {
         room = l.objects - 1;
         head = 0;
         used = 1;
@@ -133,7 +133,7 @@ after_add l active active2 page marks marks2 records words control run records2 
         lists = new_listed l.objects (place l page) (first_word l words2.words page) (let z = p.layout.some in omega arith) (first_out l page words run words2 p.layout d.rest) (λ i pos low. others_in l page i words run words2 p.layout just d.rest pos low);
       }))
       (λ (n : q ≢ page). let old = sym (m.others q n) ∙ mq in
-      book_same l q records.words words.words records2.words words2.words (λ k x y. d.others k (record_out q k (apart q old) x y)) (λ i low. outside_new l page q (place l q i) words run words2 p.layout (apart q old) just d.rest (place_covers l q i p.layout low)) (p.books q old));
+      book_same l q records.words words.words records2.words words2.words (λ k x y. d.others k (record_out q k (apart q old) x y)) (λ i low. outside_new l page q (place l q i) words run words2 p.layout (apart q old) just d.rest (place_covers l q i p.layout low)) (p.records_say q old));
   active_marked = λ q e. ⊎_elim
       (λ (x : (active2 ≡ Some page) × ((r : ℕ) → mark_of l marks.words r ≡ true → at records.words (record_at l r) ≡ Some 0)). subst (λ (z : ℕ). mark_of l marks2.words z ≡ true) (some_same page q (sym x.0 ∙ e)) m.here)
       (λ (x : (active2 ≡ active) × ((r : ℕ) × (mark_of l marks.words r ≡ true) × HasRoom l records.words r)). let old = p.active_marked q (sym x.0 ∙ e) in m.others q (unlike_new q page (apart q old)) ∙ old)
@@ -148,7 +148,7 @@ after_add l active active2 page marks marks2 records words control run records2 
       (λ (a : active ≡ Some q). ⊎_elim
       (λ (x : (active2 ≡ Some page) × ((r : ℕ) → mark_of l marks.words r ≡ true → at records.words (record_at l r) ≡ Some 0)).
       let few : 0 < l.objects = (let z = p.layout.some in omega arith) in
-      inr (0, few, same_own q 0 old few ∙ no_room l q 0 records.words words.words (p.books q old) (λ h. full_room h.0 (some_same h.0 0 (sym h.1 ∙ x.1 q old)) h.2) few))
+      inr (0, few, same_own q 0 old few ∙ no_room l q 0 records.words words.words (p.records_say q old) (λ h. full_room h.0 (some_same h.0 0 (sym h.1 ∙ x.1 q old)) h.2) few))
       (λ (x : (active2 ≡ active) × ((r : ℕ) × (mark_of l marks.words r ≡ true) × HasRoom l records.words r)). inl (x.0 ∙ a))
       now)
       (λ (a : (j : ℕ) × (j < l.objects) × (owns words.words (place l q j) ≡ false)). inr (a.0, a.1, same_own q a.0 old a.1 ∙ a.2))

@@ -42,7 +42,7 @@ empty_pool l marks records words here here2 a bits none m n e f = record {
     within = λ k h. absurd (no_bool (owns records.words k) h (nothing records.words m k e));
     all = λ p k h w. absurd (no_bool (mark_of l marks.words p) h (none p));
   };
-  books = λ p h. absurd (no_bool (mark_of l marks.words p) h (none p));
+  records_say = λ p h. absurd (no_bool (mark_of l marks.words p) h (none p));
   active_marked = λ p h. absurd (let z : ⊥ = cc in z);
   some_active = λ p h. absurd (no_bool (mark_of l marks.words p) h (none p));
   settled = λ p h. absurd (no_bool (mark_of l marks.words p) h (none p));

@@ -5,7 +5,7 @@ use Rattle.size_classes.specs.Classes.{IsClass, class_size, class_objects}
 use Rattle.size_classes.proofs.Sizes.{class_words, class_range}
 use Rattle.free_pages.specs.Area.{front, records_at}
 use Rattle.span_pools.specs.Places.{IsLayout}
-use Rattle.span_pools.specs.Book.{layout_of}
+use Rattle.span_pools.specs.PoolView.{layout_of}
 
 objects_fit : (s q : ℕ) → s % 8 ≡ 0 → s * q ≤ 65536 → (s / 8) * q ≤ 8192
 objects_fit s q e h =

@@ -11,7 +11,7 @@ use Rattle.span_pools.specs.declared.layout.Layout.{Layout}
 use Rattle.span_pools.specs.Places.{base, place, record_at, covers, IsLayout}
 use Rattle.span_pools.specs.Shape.{IsShape}
 use Rattle.span_pools.specs.Legal.{PoolState, object_in, IsFreed, IsEmptied, IsStranger}
-use Rattle.span_pools.specs.View.{mark_of, owns, first_word, state_of, IsBook, IsMarked, IsPutBack, IsReleased, IsPool}
+use Rattle.span_pools.specs.View.{mark_of, owns, first_word, state_of, IsRecordOf, IsMarked, IsPutBack, IsReleased, IsPool}
 use Rattle.span_pools.proofs.Lists.{has_live, room_most, rest_free}
 use Rattle.span_pools.proofs.Covers.{place_in, place_covers, no_common, in_object, other_object, parted}
 use Rattle.span_pools.proofs.Shapes.{shape_more, shape_given, shape_whole, records_given}
@@ -48,10 +48,10 @@ after_free l active page at_word marks records words records2 words2 p m t stays
   bits = p.bits;
   shape = shape_more l (mark_of l marks.words) (owns words.words) (owns words2.words) page t.index p.layout p.shape m t.low keys;
   records_are = records_same l (mark_of l marks.words) (owns records.words) (owns records2.words) t.same.keys p.records_are;
-  books = λ q mq. dite (ℕ_discrete q page)
-      (λ (e : q ≡ page). subst (λ (z : ℕ). IsBook l records2.words words2.words z) (sym e) t.book)
+  records_say = λ q mq. dite (ℕ_discrete q page)
+      (λ (e : q ≡ page). subst (λ (z : ℕ). IsRecordOf l records2.words words2.words z) (sym e) t.says)
       (λ (n : q ≢ page). book_same l q records.words words.words records2.words words2.words (λ k x y. t.same.others k (record_apart l page q k n x y))
-      (λ j low. t.others (place l q j) (out q j mq n low)) (p.books q mq));
+      (λ j low. t.others (place l q j) (out q j mq n low)) (p.records_say q mq));
   active_marked = p.active_marked;
   some_active = p.some_active;
   settled = λ q mq. dite (ℕ_discrete q page)
@@ -70,8 +70,8 @@ after_free l active page at_word marks records words records2 words2 p m t stays
 
     live : ((x : ℕ) → at records.words (record_at l page) ≡ Some x → x + 1 ≢ l.objects) → (i : ℕ) × (i < l.objects) × (owns words2.words (place l page i) ≡ false)
     live h =
-        let b = t.book in
-        let old = p.books page m in
+        let b = t.says in
+        let old = p.records_say page m in
         let more : b.room ≡ old.room + 1 = some_same b.room (old.room + 1) (sym b.room_is ∙ t.more old.room old.room_is) in
         let most = room_most l.objects (place l page) (first_word l words2.words page) b.room b.head b.used b.lists in
         let n = h old.room old.room_is in
@@ -117,7 +117,7 @@ last_out l page index at_word records words part a t = subst (λ (z : ℕ). owns
 
 others_in : (l : Layout) (active : Option ℕ) (page index at_word i : ℕ) (marks records words part : Owned) → IsPool l active marks records words → mark_of l marks.words page ≡ true → IsLast l page index at_word records words part → i < l.objects → i ≢ index → owns words.words (place l page i) ≡ true
 others_in l active page index at_word i marks records words part p m t low n =
-    let b = p.books page m in rest_free l.objects (place l page) (first_word l words.words page) b.room b.head b.used index i b.lists (t.full b.room b.room_is) t.low (last_out l page index at_word records words part p.layout t) low n
+    let b = p.records_say page m in rest_free l.objects (place l page) (first_word l words.words page) b.room b.head b.used index i b.lists (t.full b.room b.room_is) t.low (last_out l page index at_word records words part p.layout t) low n
 
 -- all words of the superblock are there then
 pub last_whole : (l : Layout) (active : Option ℕ) (page index at_word k : ℕ) (marks records words part : Owned) → IsPool l active marks records words → mark_of l marks.words page ≡ true → IsLast l page index at_word records words part
@@ -165,10 +165,10 @@ after_emptied l active page index at_word marks marks2 records words part record
   shape = shape_given l (mark_of l marks.words) (mark_of l marks2.words) (owns words.words) (owns words2.words) page p.layout p.shape m g.here g.others (λ k. keys_out l page index at_word k records words part records2 words2 run control p.layout t d);
   records_are = records_given l (mark_of l marks.words) (mark_of l marks2.words) (owns records.words) (owns records2.words) page p.records_are g.here g.others (λ q mq n. apart q mq n)
       (λ k. ap (λ (o : Owned). owns o.words k) d.rest_records ∙ rest_keys records.words (record_at l page) 112 k);
-  books = λ q mq. let n = unlike q mq in let old = before q mq in
+  records_say = λ q mq. let n = unlike q mq in let old = before q mq in
       book_same l q records.words words.words records2.words words2.words
       (λ k x y. ap (λ (o : Owned). at o.words k) d.rest_records ∙ at-rest_out records.words (record_at l page) 112 k (record_out q k (apart q old n) x y))
-      (λ i low. outside_out l page q index at_word (place l q i) records words part records2 words2 run control p.layout t d (apart q old n) (place_covers l q i p.layout low)) (p.books q old);
+      (λ i low. outside_out l page q index at_word (place l q i) records words part records2 words2 run control p.layout t d (apart q old n) (place_covers l q i p.layout low)) (p.records_say q old);
   active_marked = λ q e. let old = p.active_marked q e in g.others q (λ s. idle (e ∙ ap Some s)) ∙ old;
   some_active = λ q mq. p.some_active q (before q mq);
   settled = λ q mq. let n = unlike q mq in let old = before q mq in ⊎_elim

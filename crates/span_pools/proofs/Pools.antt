@@ -11,7 +11,7 @@ use Rattle.span_pools.specs.declared.layout.Layout.{Layout}
 use Rattle.span_pools.specs.Places.{place, record_at, IsLayout}
 use Rattle.span_pools.specs.Shape.{IsShape, IsRecords}
 use Rattle.span_pools.specs.Legal.{object_in, AllLive, HasFree, IsSettled, IsAlloc}
-use Rattle.span_pools.specs.View.{mark_of, owns, first_word, live_of, state_of, IsBook, HasRoom, IsTakenOut, IsPool}
+use Rattle.span_pools.specs.View.{mark_of, owns, first_word, live_of, state_of, IsRecordOf, HasRoom, IsTakenOut, IsPool}
 use Rattle.span_pools.proofs.Lists.{listed_same, each_live, has_free}
 use Rattle.span_pools.proofs.Covers.{place_in, place_positive, place_covers, no_common, in_object, other_object, parted}
 use Rattle.span_pools.proofs.Shapes.{shape_less, object_owned}
@@ -21,9 +21,9 @@ pub no_bool : (b : Bool) → b ≡ true → b ≡ false → ⊥
 no_bool true e f = cc
 no_bool false e f = cc
 
--- a book of which no word changed
+-- a record of which no word changed
 pub book_same : (l : Layout) (p : ℕ) (records words records2 words2 : WordMap) → ((k : ℕ) → record_at l p ≤ k → k < record_at l p + 3 → at records2 k ≡ at records k)
-    → ((i : ℕ) → i < l.objects → at words2 (place l p i) ≡ at words (place l p i)) → IsBook l records words p → IsBook l records2 words2 p
+    → ((i : ℕ) → i < l.objects → at words2 (place l p i) ≡ at words (place l p i)) → IsRecordOf l records words p → IsRecordOf l records2 words2 p
 book_same l p records words records2 words2 same_records same b = record {
   room = b.room;
   head = b.head;
@@ -41,13 +41,13 @@ records_same l marked own after same r = record {
 }
 
 -- a free object means room, and no room means that each object is live
-pub free_room : (l : Layout) (p i : ℕ) (records words : WordMap) → IsBook l records words p → i < l.objects → owns words (place l p i) ≡ true → HasRoom l records p
+pub free_room : (l : Layout) (p i : ℕ) (records words : WordMap) → IsRecordOf l records words p → i < l.objects → owns words (place l p i) ≡ true → HasRoom l records p
 free_room l p i records words b low free = ⊎_elim
     (λ (h : 0 < b.room). (b.room, b.room_is, h))
     (λ (h : b.room ≤ 0). absurd (no_bool (owns words (place l p i)) free (each_live l.objects (place l p) (first_word l words p) b.room b.head b.used i b.lists (omega arith) low)))
     (cases_lt 0 b.room)
 
-pub no_room : (l : Layout) (p i : ℕ) (records words : WordMap) → IsBook l records words p → (HasRoom l records p → ⊥) → i < l.objects → owns words (place l p i) ≡ false
+pub no_room : (l : Layout) (p i : ℕ) (records words : WordMap) → IsRecordOf l records words p → (HasRoom l records p → ⊥) → i < l.objects → owns words (place l p i) ≡ false
 no_room l p i records words b none low = false_from_ne_true (owns words (place l p i)) (λ h. none (free_room l p i records words b low h))
 
 -- what is said of an object stays where its superblock's bit stays, and whether its words are there
@@ -108,18 +108,18 @@ after_alloc l active page at_word marks records words records2 words2 part p m f
   bits = p.bits;
   shape = shape_less l (mark_of l marks.words) (owns words.words) (owns words2.words) page t.index p.layout p.shape m t.low keys;
   records_are = records_same l (mark_of l marks.words) (owns records.words) (owns records2.words) t.same.keys p.records_are;
-  books = λ q mq. dite (ℕ_discrete q page)
-      (λ (e : q ≡ page). subst (λ (z : ℕ). IsBook l records2.words words2.words z) (sym e) t.book)
+  records_say = λ q mq. dite (ℕ_discrete q page)
+      (λ (e : q ≡ page). subst (λ (z : ℕ). IsRecordOf l records2.words words2.words z) (sym e) t.says)
       (λ (n : q ≢ page). book_same l q records.words words.words records2.words words2.words (λ k x y. t.same.others k (record_apart l page q k n x y))
       (λ j low. ap (λ (o : Owned). at o.words (place l q j)) t.rest ∙ at-rest_out words.words at_word l.size (place l q j)
       (subst (λ (z : ℕ). is_within z l.size (place l q j) ≡ false) (sym t.at_is) (elsewhere l (mark_of l marks.words) (owns words.words) page t.index q j p.layout p.shape m mq (λ e. n (sym e)) t.low low)))
-      (p.books q mq));
+      (p.records_say q mq));
   active_marked = λ q e. let same : page ≡ q = cc in ap (mark_of l marks.words) (sym same) ∙ m;
   some_active = λ q mq. refl;
   settled = λ q mq. dite (ℕ_discrete q page)
       (λ (e : q ≡ page). inl (ap Some (sym e)))
       (λ (n : q ≢ page). inr (⊎_elim
-      (λ (a : active ≡ Some q). (0, (let z = p.layout.some in omega arith), less q 0 (no_room l q 0 records.words words.words (p.books q mq) (λ h. n (first q a h)) (let z = p.layout.some in omega arith))))
+      (λ (a : active ≡ Some q). (0, (let z = p.layout.some in omega arith), less q 0 (no_room l q 0 records.words words.words (p.records_say q mq) (λ h. n (first q a h)) (let z = p.layout.some in omega arith))))
       (λ (a : (j : ℕ) × (j < l.objects) × (owns words.words (place l q j) ≡ false)). (a.0, a.1, less q a.0 a.2))
       (p.settled q mq)));
 }
@@ -147,7 +147,7 @@ alloc_legal l active page at_word marks records words records2 words2 part p m f
   active = refl;
   first = λ q i a free.
       let s = of_seen l active marks.words words.words q i p.shape (some_is _ _ free) in
-      first q a (free_room l q i records.words words.words (p.books q s.0) s.1 (is_true (owns words.words (place l q i)) (sym (seen_there l active marks.words words.words q i s.0 (p.shape.inside q s.0) s.1) ∙ free)));
+      first q a (free_room l q i records.words words.words (p.records_say q s.0) s.1 (is_true (owns words.words (place l q i)) (sym (seen_there l active marks.words words.words q i s.0 (p.shape.inside q s.0) s.1) ∙ free)));
   settled = settled_now l (Some page) marks records2 words2 (after_alloc l active page at_word marks records words records2 words2 part p m first t);
 }
   where
@@ -179,7 +179,7 @@ pub all_live : (l : Layout) (active : Option ℕ) (marks records words : Owned) 
     → AllLive (state_of l active marks.words words.words)
 all_live l active marks records words p none q i free =
     let s = of_seen l active marks.words words.words q i p.shape (some_is _ _ free) in
-    let live = no_room l q i records.words words.words (p.books q s.0) (λ r. zero_room r.0 (some_zero r.0 (sym r.1 ∙ none q s.0)) r.2) s.1 in
+    let live = no_room l q i records.words words.words (p.records_say q s.0) (λ r. zero_room r.0 (some_zero r.0 (sym r.1 ∙ none q s.0)) r.2) s.1 in
     conflict (owns words.words (place l q i)) live (sym (seen_there l active marks.words words.words q i s.0 (p.shape.inside q s.0) s.1) ∙ free)
   where
     some_zero : (x : ℕ) → Some x ≡ Some 0 → x ≡ 0
@@ -195,7 +195,7 @@ all_live l active marks records words p none q i free =
 -- some object is free
 pub some_free : (l : Layout) (active : Option ℕ) (page : ℕ) (marks records words : Owned) → IsPool l active marks records words → mark_of l marks.words page ≡ true → HasRoom l records.words page → HasFree (state_of l active marks.words words.words)
 some_free l active page marks records words p m r =
-    let b = p.books page m in
+    let b = p.records_say page m in
     let f = has_free l.objects (place l page) (first_word l words.words page) b.room b.head b.used b.lists (more b.room r.0 (some_same b.room r.0 (sym b.room_is ∙ r.1)) r.2) in
     (page, f.0, seen_there l active marks.words words.words page f.0 m (p.shape.inside page m) f.1 ∙ ap (λ (b : Bool). Some (not b)) f.2)
   where

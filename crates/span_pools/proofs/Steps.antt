@@ -9,7 +9,7 @@ use Rattle.region_words.specs.Parts.{Owned, owned}
 use Rattle.span_pools.specs.declared.layout.Layout.{Layout}
 use Rattle.span_pools.specs.Places.{base, place, record_at, IsLayout}
 use Rattle.span_pools.specs.Listed.{IsListed}
-use Rattle.span_pools.specs.View.{owns, first_word, IsBook, IsPopped, SameRecords, IsNext, IsTakenOut, IsPutBack, IsAdmitted}
+use Rattle.span_pools.specs.View.{owns, first_word, IsRecordOf, IsPopped, SameRecords, IsNext, IsTakenOut, IsPutBack, IsAdmitted}
 use Rattle.span_pools.proofs.Lists.{pop_listed, pop_fresh, push_listed}
 use Rattle.span_pools.proofs.Covers.{other_object, place_in, place_positive, record_in}
 
@@ -42,14 +42,14 @@ lists_as l p words room head room2 head2 used e f b =
     subst (λ (z : ℕ). IsListed l.objects (place l p) (first_word l words p) z head2 used) e (subst (λ (z : ℕ). IsListed l.objects (place l p) (first_word l words p) room z used) f b)
 
 -- the record's words are there
-pub listed_owned : (l : Layout) (p head : ℕ) (records words : WordMap) → IsBook l records words p → at records (record_at l p + 1) ≡ Some head → 0 < head → IsSome (at words head)
+pub listed_owned : (l : Layout) (p head : ℕ) (records words : WordMap) → IsRecordOf l records words p → at records (record_at l p + 1) ≡ Some head → 0 < head → IsSome (at words head)
 listed_owned l p head records words b e some =
     let same : b.head ≡ head = some_same b.head head (sym b.head_is ∙ e) in
     let q = pop_listed l.objects (place l p) (first_word l words p) b.room head b.used (lists_as l p words b.room b.head b.room head b.used refl same b.lists) some in
     ap (λ (z : ℕ). is_some (at words z)) q.2 ∙ ap is_some q.3.1
 
 -- the first object of the list goes next
-pub next_listed : (l : Layout) (p room head x : ℕ) (records words after : Owned) → IsBook l records.words words.words p → at records.words (record_at l p) ≡ Some room → at records.words (record_at l p + 1) ≡ Some head → 0 < head
+pub next_listed : (l : Layout) (p room head x : ℕ) (records words after : Owned) → IsRecordOf l records.words words.words p → at records.words (record_at l p) ≡ Some room → at records.words (record_at l p + 1) ≡ Some head → 0 < head
     → at words.words head ≡ Some x → after ≡ owned records.region (fin.insert records.words (record_at l p + 1) x) → IsNext l p records words after room head
 next_listed l p room head x records words after b room_is head_is some x_is e =
     let same : b.head ≡ head = some_same b.head head (sym b.head_is ∙ head_is) in
@@ -71,7 +71,7 @@ next_listed l p room head x records words after b room_is head_is some x_is e =
     }
 
 -- an object that was never used goes next
-pub next_fresh : (l : Layout) (p room head used : ℕ) (records words after : Owned) → IsLayout l → IsBook l records.words words.words p → at records.words (record_at l p) ≡ Some room → at records.words (record_at l p + 1) ≡ Some head → head ≡ 0
+pub next_fresh : (l : Layout) (p room head used : ℕ) (records words after : Owned) → IsLayout l → IsRecordOf l records.words words.words p → at records.words (record_at l p) ≡ Some room → at records.words (record_at l p + 1) ≡ Some head → head ≡ 0
     → at records.words (record_at l p + 2) ≡ Some used → 0 < room → after ≡ owned records.region (fin.insert records.words (record_at l p + 2) (used + 1)) → IsNext l p records words after room (place l p used)
 next_fresh l p room head used records words after a b room_is head_is none used_is some e =
     let same_head : b.head ≡ head = some_same b.head head (sym b.head_is ∙ head_is) in
@@ -109,7 +109,7 @@ taken_out l p room at_word records words mid records2 words2 part a room_is n e 
       rest = f;
       range = g;
       same = records_twice l p records mid records2 n.same (record_stored l p 0 (room - 1) mid records2 (omega arith) has store);
-      book = record {
+      says = record {
         room = room - 1;
         head = n.head;
         used = n.used;
@@ -160,7 +160,7 @@ keep_has before after k x j e h = dite (ℕ_discrete j k)
     (λ (n : j ≢ k). ap is_some (stored_else before after k x j n e) ∙ h)
 
 -- an object is back
-pub put_back : (l : Layout) (p room head at_word : ℕ) (records words part records1 records2 words2 : Owned) → IsLayout l → IsBook l records.words words.words p → ((i : ℕ) × (i < l.objects) × (at_word ≡ place l p i))
+pub put_back : (l : Layout) (p room head at_word : ℕ) (records words part records1 records2 words2 : Owned) → IsLayout l → IsRecordOf l records.words words.words p → ((i : ℕ) × (i < l.objects) × (at_word ≡ place l p i))
     → HasJust part.words at_word l.size → Disjoint words.words part.words → at records.words (record_at l p) ≡ Some room → at records.words (record_at l p + 1) ≡ Some head
     → words2 ≡ owned words.region (fin.insert (union words.words part.words) at_word head)
     → records1 ≡ owned records.region (fin.insert records.words (record_at l p + 1) at_word)
@@ -188,7 +188,7 @@ put_back l p room head at_word records words part records1 records2 words2 a b o
       others = others;
       same = records_twice l p records records1 records2 first second;
       more = λ x e. stored_here records1 records2 (record_at l p) (room + 1) f ∙ ap (λ (z : ℕ). Some (z + 1)) (some_same room x (sym room_is ∙ e));
-      book = record {
+      says = record {
         room = room + 1;
         head = at_word;
         used = b.used;

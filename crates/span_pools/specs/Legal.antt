@@ -3,6 +3,7 @@
 -- another, and only the active one comes first.
 use Rattle.std.specs.Prelude.{◌≡◌, ◌≢◌, ℕ, ◌+◌, ◌*◌, ◌<◌, ◌≤◌, ◌==◌, ◌⊎◌, Bool, true, false, cond, List, [], ◌∷◌, Option, Some, None, IsSome, length}
 use Rattle.std.specs.List.{slice_get}
+use Rattle.free_pages.specs.Area.{superblock_pages}
 use Rattle.span_pools.specs.declared.layout.Layout.{Layout}
 use Rattle.span_pools.specs.Places.{base, place}
 
@@ -51,7 +52,7 @@ SameBeside before after p = (q j : ℕ) → q ≢ p → object_in after q j ≡ 
 -- it is live, and no two have a page in common
 abbrev pub AreApart : Layout → ℕ → List Span → Type 0
 AreApart l low [] = Unit {0}
-AreApart l low (s ∷ ss) = (low ≤ s.page) × (s.page + 16 ≤ l.pages) × (length s.live ≡ l.objects) × AreApart l (s.page + 16) ss
+AreApart l low (s ∷ ss) = (low ≤ s.page) × (s.page + superblock_pages ≤ l.pages) × (length s.live ≡ l.objects) × AreApart l (s.page + superblock_pages) ss
 
 -- What is so between two calls: the superblocks are apart, each has a live object or is the active one, and one is active exactly where
 -- there is one. (In dsa.c, too, a superblock that is wholly free goes back at once, unless it is the active one.)

@@ -3,4 +3,4 @@ pub mod Listed
 pub mod Shape
 pub mod Legal
 pub mod View
-pub mod Book
+pub mod PoolView

@@ -3,8 +3,9 @@ use Rattle.std.specs.Prelude.{◌≡◌, ◌≢◌, ℕ, zero, suc, ◌+◌, ◌
 use Rattle.std.specs.Int.{bit_at}
 use Rattle.word_map.specs.WordMap.{WordMap, at, HasJust, Disjoint, is_within, range_of, rest_of, union}
 use Rattle.region_words.specs.Parts.{Owned, owned}
+use Rattle.free_pages.specs.Area.{mark_words, record_words}
 use Rattle.span_pools.specs.declared.layout.Layout.{Layout}
-use Rattle.span_pools.specs.Places.{base, place, record_at, IsLayout}
+use Rattle.span_pools.specs.Places.{base, place, record_at, superblock_words, superblock_records, IsLayout}
 use Rattle.span_pools.specs.Listed.{IsListed}
 use Rattle.span_pools.specs.Shape.{IsShape, IsRecords}
 use Rattle.span_pools.specs.Legal.{Span, PoolState}
@@ -40,7 +41,7 @@ abbrev pub state_of : Layout → Option ℕ → WordMap → WordMap → PoolStat
 state_of l active marks words = record { spans = spans_of (mark_of l marks) (live_of l words) 0 l.pages; active = active }
 
 -- the record of the superblock at page p says which of its objects are free (dsa_area_span of dsa.c: nallocatable, firstfree, ninitialized)
-pub record IsBook (l : Layout) (records words : WordMap) (p : ℕ) : Type 0 where
+pub record IsRecordOf (l : Layout) (records words : WordMap) (p : ℕ) : Type 0 where
   pub room : ℕ
   pub head : ℕ
   pub used : ℕ
@@ -61,7 +62,7 @@ IsPopped objects place word i room head used = (after : ℕ → Option ℕ) → 
 pub record SameRecords (l : Layout) (p : ℕ) (before after : Owned) : Type 0 where
   pub region : after.region ≡ before.region
   pub keys : (k : ℕ) → owns after.words k ≡ owns before.words k
-  pub others : (k : ℕ) → (k < record_at l p) ⊎ (record_at l p + 7 ≤ k) → at after.words k ≡ at before.words k
+  pub others : (k : ℕ) → (k < record_at l p) ⊎ (record_at l p + record_words ≤ k) → at after.words k ≡ at before.words k
 
 -- object `index` of page p goes next, and the list and the count of used objects are already those after it
 pub record IsNext (l : Layout) (p : ℕ) (records words after : Owned) (room at_word : ℕ) : Type 0 where
@@ -86,7 +87,7 @@ pub record IsTakenOut (l : Layout) (p : ℕ) (records words records2 words2 part
   pub rest : words2 ≡ owned words.region (rest_of words.words at_word l.size)
   pub range : part ≡ owned words.region (range_of words.words at_word l.size)
   pub same : SameRecords l p records records2
-  pub book : IsBook l records2.words words2.words p
+  pub says : IsRecordOf l records2.words words2.words p
 
 -- object `index` of page p is back, with its words
 pub record IsPutBack (l : Layout) (p : ℕ) (records words records2 words2 : Owned) (at_word : ℕ) : Type 0 where
@@ -99,12 +100,12 @@ pub record IsPutBack (l : Layout) (p : ℕ) (records words records2 words2 : Own
   pub others : (k : ℕ) → is_within at_word l.size k ≡ false → at words2.words k ≡ at words.words k
   pub same : SameRecords l p records records2
   pub more : (room : ℕ) → at records.words (record_at l p) ≡ Some room → at records2.words (record_at l p) ≡ Some (room + 1)
-  pub book : IsBook l records2.words words2.words p
+  pub says : IsRecordOf l records2.words words2.words p
 
 -- page p's bit has this value now, and no other bit changed
 pub record IsMarked (l : Layout) (p : ℕ) (value : Bool) (before after : Owned) : Type 0 where
   pub region : after.region ≡ before.region
-  pub bits : HasJust after.words l.marks ((l.pages + 63) / 64)
+  pub bits : HasJust after.words l.marks (mark_words l.pages)
   pub here : mark_of l after.words p ≡ value
   pub others : (q : ℕ) → q ≢ p → mark_of l after.words q ≡ mark_of l before.words q
 
@@ -112,8 +113,8 @@ pub record IsMarked (l : Layout) (p : ℕ) (value : Bool) (before after : Owned)
 pub record IsAdmitted (l : Layout) (p : ℕ) (records words control run records2 words2 part : Owned) : Type 0 where
   pub apart : Disjoint records.words control.words
   pub region : records2.region ≡ records.region
-  pub keys : (k : ℕ) → owns records2.words k ≡ (owns records.words k || is_within (record_at l p) 112 k)
-  pub others : (k : ℕ) → is_within (record_at l p) 112 k ≡ false → at records2.words k ≡ at records.words k
+  pub keys : (k : ℕ) → owns records2.words k ≡ (owns records.words k || is_within (record_at l p) superblock_records k)
+  pub others : (k : ℕ) → is_within (record_at l p) superblock_records k ≡ false → at records2.words k ≡ at records.words k
   pub room_is : at records2.words (record_at l p) ≡ Some (l.objects - 1)
   pub head_is : at records2.words (record_at l p + 1) ≡ Some 0
   pub used_is : at records2.words (record_at l p + 2) ≡ Some 1
@@ -123,10 +124,10 @@ pub record IsAdmitted (l : Layout) (p : ℕ) (records words control run records2
 -- all words of a superblock and its control records are out
 pub record IsReleased (l : Layout) (p : ℕ) (records words part records2 words2 run control : Owned) : Type 0 where
   pub apart : Disjoint words.words part.words
-  pub rest : words2 ≡ owned words.region (rest_of (union words.words part.words) (base l p) 8192)
-  pub run_is : run ≡ owned words.region (range_of (union words.words part.words) (base l p) 8192)
-  pub rest_records : records2 ≡ owned records.region (rest_of records.words (record_at l p) 112)
-  pub control_is : control ≡ owned records.region (range_of records.words (record_at l p) 112)
+  pub rest : words2 ≡ owned words.region (rest_of (union words.words part.words) (base l p) superblock_words)
+  pub run_is : run ≡ owned words.region (range_of (union words.words part.words) (base l p) superblock_words)
+  pub rest_records : records2 ≡ owned records.region (rest_of records.words (record_at l p) superblock_records)
+  pub control_is : control ≡ owned records.region (range_of records.words (record_at l p) superblock_records)
 
 -- The parts of a pool: `marks` has the words of its class's bits, `records` the control records of its superblocks, `words` the words of
 -- their free objects and the words behind their last objects
@@ -134,10 +135,10 @@ pub record IsPool (l : Layout) (active : Option ℕ) (marks records words : Owne
   pub records_here : records.region ≡ marks.region
   pub words_here : words.region ≡ marks.region
   pub layout : IsLayout l
-  pub bits : HasJust marks.words l.marks ((l.pages + 63) / 64)
+  pub bits : HasJust marks.words l.marks (mark_words l.pages)
   pub shape : IsShape l (mark_of l marks.words) (owns words.words)
   pub records_are : IsRecords l (mark_of l marks.words) (owns records.words)
-  pub books : (p : ℕ) → mark_of l marks.words p ≡ true → IsBook l records.words words.words p
+  pub records_say : (p : ℕ) → mark_of l marks.words p ≡ true → IsRecordOf l records.words words.words p
   pub active_marked : (p : ℕ) → active ≡ Some p → mark_of l marks.words p ≡ true
   pub some_active : (p : ℕ) → mark_of l marks.words p ≡ true → IsSome active
   pub settled : (p : ℕ) → mark_of l marks.words p ≡ true → (active ≡ Some p) ⊎ ((i : ℕ) × (i < l.objects) × (owns words.words (place l p i) ≡ false))

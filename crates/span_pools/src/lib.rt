@@ -6,6 +6,7 @@
 #![tactic(auto)]
 
 mod find;
+mod histories;
 mod layout;
 mod marks;
 mod objects;
@@ -13,4 +14,6 @@ mod pool;
 #[cfg(test)]
 mod tests;
 
+pub use histories::{PoolCalls, PoolName, PoolReplies, PoolStates};
+pub use layout::Layout;
 pub use pool::Pool;

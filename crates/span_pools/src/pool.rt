@@ -7,15 +7,16 @@
 ghost use Rattle.std.specs.Prelude.{◌≡◌, ◌≢◌, ℕ, ◌+◌, ◌*◌, ◌/◌, ◌<◌, ◌≤◌, ◌^◌, [], None, Some, IfSome, IfNone, IfOk, IfErr, MatchOption, true, IsSome, is_some};
 ghost use Rattle.word_map.specs.WordMap.{HasJust};
 ghost use Rattle.size_classes.specs.Classes.{IsClass};
-ghost use Rattle.free_pages.specs.Area.{front, mark_words, marks_at};
+ghost use Rattle.free_pages.specs.Area.{front, head_words, mark_words, marks_at, page_words};
 ghost use Rattle.span_pools.specs.Places.{IsLayout};
 ghost use Rattle.span_pools.specs.Legal.{IsLegal, Alloc, Add, Free, Object, Full, Kept, Whole, Stranger};
-ghost use Rattle.span_pools.specs.Book.{book, layout_of, IsSuperblock};
+ghost use Rattle.span_pools.specs.PoolView.{pool_view, layout_of, IsSuperblock};
 
 use crate::find::{free_page, holder};
 use crate::layout::{Layout, layout_for};
 use crate::marks::{clear_mark, clear_marks, set_mark};
 use crate::objects::{admit, put_object, release, room, take_object};
+use free_pages::{PAGE_WORDS, SUPERBLOCK_PAGES};
 use region_words::{Chunk, Part, Region, Run};
 use rel_pointer::RelPtr;
 use std::marker::Model;
@@ -24,24 +25,29 @@ use std::marker::Model;
 /// and which of them is active.
 #[derive(Drop)]
 pub struct Pool {
-    at: Layout,
+    /// Where the words stand.
+    layout: Layout,
+    /// The page of the active superblock.
     active: Option<u64>,
+    /// The words of the class's bits.
     marks: Part,
+    /// The control records of the superblocks.
     records: Part,
+    /// The words of the superblocks that no live object has.
     words: Part,
 }
 
 impl Model for Pool {
     ghost use Rattle.span_pools.specs.View.{state_of, IsPool};
-    ghost use Rattle.span_pools.specs.Book.{Book, book_code, book};
+    ghost use Rattle.span_pools.specs.PoolView.{PoolView, pool_view_code, pool_view};
 
-    ghost Value = { Book };
+    ghost Value = { PoolView };
 
-    ghost coded = { book_code };
+    ghost coded = { pool_view_code };
 
-    ghost view = { λ p. book p.marks.region p.at (state_of p.at p.active p.marks.words p.words.words) };
+    ghost view = { λ p. pool_view p.marks.region p.layout (state_of p.layout p.active p.marks.words p.words.words) };
 
-    ghost invariant = { λ p. IsPool p.at p.active p.marks p.records p.words };
+    ghost invariant = { λ p. IsPool p.layout p.active p.marks p.records p.words };
 }
 
 impl Pool {
@@ -50,24 +56,24 @@ impl Pool {
     pub fn new(r: &Region, class: u8, first: RelPtr, pages: u32, marks: Part) -> Pool
         requires here { marks.region ≡ r.now }
         requires class { IsClass class }
-        requires place { (64 + front pages ≤ first) × (first + 512 * pages ≤ 2 ^ 26) }
+        requires place { (head_words + front pages ≤ first) × (first + page_words * pages ≤ 2 ^ 26) }
         requires marks { HasJust marks.words (marks_at first pages class) (mark_words pages) }
-        ensures { result ≡ book r.now (layout_of class first pages) (record { spans = []; active = None }) }
+        ensures { result ≡ pool_view r.now (layout_of class first pages) (record { spans = []; active = None }) }
     {
         Pool::empty(r, layout_for(class, first.word(), u64::from(pages)), marks)
     }
 
-    fn empty(r: &Region, at: Layout, mut marks: Part) -> Pool
+    fn empty(r: &Region, layout: Layout, mut marks: Part) -> Pool
         requires here { marks.region ≡ r.now }
-        requires layout { IsLayout at }
-        requires bits { HasJust marks.words at.marks ((at.pages + 63) / 64) }
-        ensures { result ≡ book r.now at (record { spans = []; active = None }) }
+        requires layout { IsLayout layout }
+        requires bits { HasJust marks.words layout.marks (mark_words layout.pages) }
+        ensures { result ≡ pool_view r.now layout (record { spans = []; active = None }) }
     {
         let records = marks.split(r, 0, 0);
         let words = marks.split(r, 0, 0);
-        clear_marks(&mut marks, r, at);
+        clear_marks(&mut marks, r, layout);
         Pool {
-            at,
+            layout,
             active: None,
             marks,
             records,
@@ -84,12 +90,18 @@ impl Pool {
         ensures chunk { IfSome result (λ chunk. (chunk.bytes ≡ 8 * self.old.layout.size) × (chunk.part.region ≡ self.old.region)) }
         ensures full { IfNone result (IsLegal self.old.layout self.old.state Alloc Full self.new.state) }
     {
-        let page = free_page(self.active, &mut self.marks, &mut self.records, r, self.at)?;
-        let (place, part) = take_object(&mut self.words, &mut self.records, r, self.at, page);
+        let page = free_page(
+            self.active,
+            &mut self.marks,
+            &mut self.records,
+            r,
+            self.layout,
+        )?;
+        let (place, part) = take_object(&mut self.words, &mut self.records, r, self.layout, page);
         self.active = Some(page);
         Some(Chunk {
             at: RelPtr::of(place),
-            bytes: 8 * self.at.size,
+            bytes: 8 * self.layout.size,
             part,
         })
     }
@@ -102,8 +114,14 @@ impl Pool {
         ensures added { IsLegal self.old.layout self.old.state (Add run.at) (Object result.at) self.new.state }
         ensures chunk { (result.bytes ≡ 8 * self.old.layout.size) × (result.part.region ≡ self.old.region) }
     {
-        let page = (run.at.word() - self.at.first) / 512;
-        let free = free_page(self.active, &mut self.marks, &mut self.records, r, self.at);
+        let page = (run.at.word() - self.layout.first) / PAGE_WORDS;
+        let free = free_page(
+            self.active,
+            &mut self.marks,
+            &mut self.records,
+            r,
+            self.layout,
+        );
         let Run {
             at,
             pages: _,
@@ -113,12 +131,12 @@ impl Pool {
         let Some(control) = control else {
             unreachable!()
         };
-        set_mark(&mut self.marks, r, self.at, page);
+        set_mark(&mut self.marks, r, self.layout, page);
         let part = admit(
             &mut self.words,
             &mut self.records,
             r,
-            self.at,
+            self.layout,
             page,
             words,
             control,
@@ -126,7 +144,7 @@ impl Pool {
         self.active = next_active(self.active, free, page);
         Chunk {
             at,
-            bytes: 8 * self.at.size,
+            bytes: 8 * self.layout.size,
             part,
         }
     }
@@ -141,11 +159,11 @@ impl Pool {
         ensures refused { IfErr result (λ back. IsLegal self.old.layout self.old.state (Free object.at object.bytes) Stranger self.new.state) }
         ensures back { IfErr result (λ back. back ≡ object) }
     {
-        if object.bytes != 8 * self.at.size {
+        if object.bytes != 8 * self.layout.size {
             return Err(object);
         }
         let place = object.at.word();
-        let Some(page) = holder(&mut self.marks, r, self.at, place) else {
+        let Some(page) = holder(&mut self.marks, r, self.layout, place) else {
             return Err(object);
         };
         let Chunk {
@@ -153,20 +171,20 @@ impl Pool {
             bytes: _,
             part,
         } = object;
-        let free = room(&mut self.records, r, self.at, page);
-        if free + 1 == self.at.objects && !is_page(self.active, page) {
-            clear_mark(&mut self.marks, r, self.at, page);
+        let free = room(&mut self.records, r, self.layout, page);
+        if free + 1 == self.layout.objects && !is_page(self.active, page) {
+            clear_mark(&mut self.marks, r, self.layout, page);
             let (words, control) = release(
                 &mut self.words,
                 &mut self.records,
                 r,
-                self.at,
+                self.layout,
                 page,
                 part,
             );
             return Ok(Some(Run {
-                at: RelPtr::of(self.at.first + 512 * page),
-                pages: 16,
+                at: RelPtr::of(self.layout.first + PAGE_WORDS * page),
+                pages: SUPERBLOCK_PAGES,
                 words,
                 control: Some(control),
             }));
@@ -175,7 +193,7 @@ impl Pool {
             &mut self.words,
             &mut self.records,
             r,
-            self.at,
+            self.layout,
             page,
             place,
             part,

@@ -2,12 +2,14 @@
 ghost use Rattle.std.specs.Prelude.{◌≡◌, ℕ, ◌+◌, ◌-◌, ◌*◌, ◌/◌, ◌<◌, ◌≤◌, ◌^◌, [], None, IfOk, IfSome, IsSome};
 ghost use Rattle.word_map.specs.WordMap.{at as word_at};
 ghost use Rattle.size_classes.specs.Classes.{IsClass};
-ghost use Rattle.free_pages.specs.Area.{front};
-ghost use Rattle.free_pages.specs.Book.{book as pages_book};
-ghost use Rattle.span_pools.specs.Book.{book, layout_of, IsOver};
+ghost use Rattle.free_pages.specs.Area.{area_size, front, head_words};
+ghost use Rattle.free_pages.specs.PagesView.{pages_view};
+ghost use Rattle.span_pools.specs.PoolView.{pool_view, layout_of, IsOver};
 
 use crate::Pool;
-use free_pages::Pages;
+use free_pages::{
+    CLASS_END, HEAD_WORDS, PAGE_WORDS, Pages, SUPERBLOCK_PAGES, control_words, front, mark_words,
+};
 use region_words::{Chunk, Part, Region};
 use rel_pointer::RelPtr;
 use std::alloc::{AllocError, Global};
@@ -26,17 +28,17 @@ fn words_of(alloc: Global, words: usize) -> Result<(Region, Part), AllocError>
 fn area(r: &Region, mut part: Part, pages: u32, class: u8) -> (Pages, Pool)
     requires here { part.region ≡ r.now }
     requires class { IsClass class }
-    requires small { 64 + front pages + 512 * pages ≤ 2 ^ 26 }
-    requires owns { (k : ℕ) → k < 64 + front pages + 512 * pages → IsSome (word_at part.words k) }
-    ensures pages { result.0 ≡ pages_book r.now (64 + front pages) pages [] }
-    ensures pool { result.1 ≡ book r.now (layout_of class (64 + front pages) pages) (record { spans = []; active = None }) }
+    requires small { area_size pages ≤ 2 ^ 26 }
+    requires owns { (k : ℕ) → k < area_size pages → IsSome (word_at part.words k) }
+    ensures pages { result.0 ≡ pages_view r.now (head_words + front pages) pages [] }
+    ensures pool { result.1 ≡ pool_view r.now (layout_of class (head_words + front pages) pages) (record { spans = []; active = None }) }
 {
     let count = u64::from(pages);
-    let first = 64 + (8 * count + 36 * ((count + 63) / 64));
-    let control = part.split(r, 0, 64 + 8 * count);
-    let words = part.split(r, first, 512 * count);
-    let from = first - (38 - u64::from(class)) * ((count + 63) / 64);
-    let marks = part.split(r, from, (count + 63) / 64);
+    let first = HEAD_WORDS + front(count);
+    let control = part.split(r, 0, HEAD_WORDS + control_words(count));
+    let words = part.split(r, first, PAGE_WORDS * count);
+    let size = mark_words(count);
+    let marks = part.split(r, first - (CLASS_END - u64::from(class)) * size, size);
     (
         Pages::new(r, RelPtr::of(first), pages, words, control),
         Pool::new(r, class, RelPtr::of(first), pages, marks),
@@ -52,7 +54,7 @@ fn grow(r: &Region, pages: &mut Pages, pool: &mut Pool) -> Option<Chunk>
     ensures pool { pool.new ≡ record pool.old { state = pool.new.state } }
     ensures here { IfSome result (λ c. c.part.region ≡ r.now) }
 {
-    match pages.take(r, 16, true) {
+    match pages.take(r, SUPERBLOCK_PAGES, true) {
         Ok(run) => Some(pool.add(r, run)),
         Err(_) => None,
     }
@@ -97,10 +99,18 @@ fn give_last(r: &Region, pages: &mut Pages, pool: &mut Pool, last: Chunk) -> boo
     }
 }
 
+/// A pool may go to another thread, as it does behind a lock.
+fn sent<T: Send>(value: T) -> T
+    ensures { result ≡ value }
+{
+    value
+}
+
 #[test]
 fn a_pool_of_two_superblocks(rt: HostRuntime) -> Result<(), Fail> {
     let (region, part) = words_of(rt.alloc(), 16740)?;
-    let (mut pages, mut pool) = area(&region, part, 32, 37);
+    let (mut pages, pool) = area(&region, part, 32, 37);
+    let mut pool = sent(pool);
     let Some(first) = grow(&region, &mut pages, &mut pool) else {
         assert!(rt; false);
         return Ok(());

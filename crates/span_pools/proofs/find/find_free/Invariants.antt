@@ -8,5 +8,5 @@ abbrev pub invariant-loop-n : goal.invariant-loop-n
 invariant-loop-n l = record {
   marks : l.marks ≡ l.fn.marks;
   records : l.records ≡ l.fn.records;
-  none : (p : ℕ) → p < 64 * l.n → mark_of l.at l.fn.marks.words p ≡ true → at l.fn.records.words (record_at l.at p) ≡ Some 0;
+  none : (p : ℕ) → p < 64 * l.n → mark_of l.layout l.fn.marks.words p ≡ true → at l.fn.records.words (record_at l.layout p) ≡ Some 0;
 }

@@ -7,5 +7,5 @@ use Rattle.span_pools.proofs.find.find_in_word.Given as goal
 abbrev pub invariant-loop-bit : goal.invariant-loop-bit
 invariant-loop-bit l = record {
   same : l.records ≡ l.fn.records;
-  none : (b : ℕ) → b < l.bit → bit_at l.word b ≡ 1 → at l.fn.records.words (record_at l.at (l.from + b)) ≡ Some 0;
+  none : (b : ℕ) → b < l.bit → bit_at l.word b ≡ 1 → at l.fn.records.words (record_at l.layout (l.from + b)) ≡ Some 0;
 }

@@ -18,4 +18,4 @@ loop-n-preserved c = rw c.store.ensures (record {
 })
 
 pub returns-clause-clear : goal.returns-clause-clear
-returns-clause-clear c = unmarked c.args.at _ c.loop-n.invariant.bits (λ k h. c.loop-n.invariant.zeros k (omega arith))
+returns-clause-clear c = unmarked c.args.layout _ c.loop-n.invariant.bits (λ k h. c.loop-n.invariant.zeros k (omega arith))
