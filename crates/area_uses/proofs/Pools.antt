@@ -8,42 +8,42 @@ use Rattle.region_words.specs.declared.chunk.Chunk.{Chunk}
 use Rattle.size_classes.specs.Classes.{IsClass, class_size}
 use Rattle.size_classes.proofs.Sizes.{class_range}
 use Rattle.free_pages.specs.Legal.{PagesState}
-use Rattle.free_pages.specs.Book as pages
+use Rattle.free_pages.specs.PagesView as pages
 use Rattle.span_pools.specs.declared.layout.Layout.{Layout}
-use Rattle.span_pools.specs.Book.{Book, layout_of, IsOver}
+use Rattle.span_pools.specs.PoolView.{PoolView, layout_of, IsOver}
 use Rattle.span_pools.proofs.Offers.{layout_over}
 use Rattle.area_uses.specs.Arenas.{IsPoolOf, ArePools, IsArena, HasNoRun, pages_for}
 
-pub pools_at : (region : TableId) (first pages class : ℕ) (bs : List Book) (i : ℕ) (d : Book) → ArePools region first pages class bs → i < length bs → IsPoolOf region first pages (class + i) (get_or bs i d)
+pub pools_at : (region : TableId) (first pages class : ℕ) (bs : List PoolView) (i : ℕ) (d : PoolView) → ArePools region first pages class bs → i < length bs → IsPoolOf region first pages (class + i) (get_or bs i d)
 pools_at region first pages class [] i d h low = absurd (omega arith)
 pools_at region first pages class (b ∷ bs) zero d h low = subst (λ (z : ℕ). IsPoolOf region first pages z b) (let e : class ≡ class + 0 = omega arith in e) h.0
 pools_at region first pages class (b ∷ bs) (suc i) d h low = subst (λ (z : ℕ). IsPoolOf region first pages z (get_or bs i d)) (let e : suc class + i ≡ class + suc i = omega arith in e)
     (pools_at region first pages (suc class) bs i d h.1 (omega arith))
 
-pub pools_set : (region : TableId) (first pages class : ℕ) (bs : List Book) (i : ℕ) (x : Book) → ArePools region first pages class bs → IsPoolOf region first pages (class + i) x → ArePools region first pages class (set bs i x)
+pub pools_set : (region : TableId) (first pages class : ℕ) (bs : List PoolView) (i : ℕ) (x : PoolView) → ArePools region first pages class bs → IsPoolOf region first pages (class + i) x → ArePools region first pages class (set bs i x)
 pools_set region first pages class [] i x h p = tt
 pools_set region first pages class (b ∷ bs) zero x h p = (subst (λ (z : ℕ). IsPoolOf region first pages z x) (let e : class + 0 ≡ class = omega arith in e) p, h.1)
 pools_set region first pages class (b ∷ bs) (suc i) x h p = (h.0, pools_set region first pages (suc class) bs i x h.1 (subst (λ (z : ℕ). IsPoolOf region first pages z x) (let e : class + suc i ≡ suc class + i = omega arith in e) p))
 
-pub pools_push : (region : TableId) (first pages class : ℕ) (bs : List Book) (x : Book) → ArePools region first pages class bs → IsPoolOf region first pages (class + length bs) x → ArePools region first pages class (bs ++ x ∷ [])
+pub pools_push : (region : TableId) (first pages class : ℕ) (bs : List PoolView) (x : PoolView) → ArePools region first pages class bs → IsPoolOf region first pages (class + length bs) x → ArePools region first pages class (bs ++ x ∷ [])
 pools_push region first pages class [] x h p = (subst (λ (z : ℕ). IsPoolOf region first pages z x) (let e : class + 0 ≡ class = omega arith in e) p, tt)
 pools_push region first pages class (b ∷ bs) x h p = (h.0, pools_push region first pages (suc class) bs x h.1 (subst (λ (z : ℕ). IsPoolOf region first pages z x) (let e : class + suc (length bs) ≡ suc class + length bs = omega arith in e) p))
 
 -- the pool that stands at a class's place is of that class
-pub pool_there : (region : TableId) (first count : ℕ) (p : pages.Book) (bs : List Book) (class n : ℕ) (b : Book) → IsArena region first count p bs → IsClass class → n ≡ class → b ≡ get_or bs (n - 2) b → IsPoolOf region first count class b
+pub pool_there : (region : TableId) (first count : ℕ) (p : pages.PagesView) (bs : List PoolView) (class n : ℕ) (b : PoolView) → IsArena region first count p bs → IsClass class → n ≡ class → b ≡ get_or bs (n - 2) b → IsPoolOf region first count class b
 pool_there region first count p bs class n b a k e h =
     subst (λ (z : ℕ). IsPoolOf region first count z b) (let x : 2 + (n - 2) ≡ class = omega (arith, k.low) in x)
-    (subst (λ (z : Book). IsPoolOf region first count (2 + (n - 2)) z) (sym h) (pools_at region first count 2 bs (n - 2) b a.pools (let x : n - 2 < length bs = omega (arith, k.low, k.high, a.all) in x)))
+    (subst (λ (z : PoolView). IsPoolOf region first count (2 + (n - 2)) z) (sym h) (pools_at region first count 2 bs (n - 2) b a.pools (let x : n - 2 < length bs = omega (arith, k.low, k.high, a.all) in x)))
 
 -- so it is over these pages
-pub pool_over : (region : TableId) (first count class : ℕ) (p : pages.Book) (bs : List Book) (b : Book) → IsArena region first count p bs → IsPoolOf region first count class b → IsOver b.layout p.first p.state.pages
+pub pool_over : (region : TableId) (first count class : ℕ) (p : pages.PagesView) (bs : List PoolView) (b : PoolView) → IsArena region first count p bs → IsPoolOf region first count class b → IsOver b.layout p.first p.state.pages
 pool_over region first count class p bs b a q =
     subst (λ (l : Layout). IsOver l p.first p.state.pages) (sym q.layout)
     (subst (λ (z : ℕ). IsOver (layout_of class first count) z p.state.pages) (sym a.begins)
     (subst (λ (z : ℕ). IsOver (layout_of class first count) first z) (sym a.pages) (layout_over class first count)))
 
 -- the pages and one pool changed their states alone
-pub arena_after : (region : TableId) (first count : ℕ) (p q : pages.Book) (bs : List Book) (class n : ℕ) (b x : Book) → IsArena region first count p bs → IsClass class → n ≡ class → IsPoolOf region first count class b
+pub arena_after : (region : TableId) (first count : ℕ) (p q : pages.PagesView) (bs : List PoolView) (class n : ℕ) (b x : PoolView) → IsArena region first count p bs → IsClass class → n ≡ class → IsPoolOf region first count class b
     → q.region ≡ p.region → q.first ≡ p.first → q.state.pages ≡ p.state.pages → x.region ≡ b.region → x.layout ≡ b.layout → IsArena region first count q (set bs (n - 2) x)
 arena_after region first count p q bs class n b x a k e there same_region same_first same_pages x_region x_layout = record {
   here = same_region ∙ a.here;

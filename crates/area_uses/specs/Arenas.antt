@@ -2,22 +2,24 @@
 use Rattle.std.specs.Prelude.{◌≡◌, ℕ, suc, ◌+◌, ◌/◌, ◌<◌, ◌≤◌, cond, leb, List, [], ◌∷◌, length}
 use Rattle.atomic_table.specs.Seated.{TableId}
 use Rattle.region_words.specs.declared.chunk.Chunk.{Chunk}
+use Rattle.size_classes.specs.Classes.{largest_size}
+use Rattle.free_pages.specs.Area.{superblock_pages}
 use Rattle.free_pages.specs.Legal.{PagesState, IsLargest}
-use Rattle.free_pages.specs.Book as pages
-use Rattle.span_pools.specs.Book.{Book, layout_of}
+use Rattle.free_pages.specs.PagesView as pages
+use Rattle.span_pools.specs.PoolView.{PoolView, layout_of}
 
 -- a pool of this class, over so many pages of this region whose page 0 begins at word `first`
-pub record IsPoolOf (region : TableId) (first pages class : ℕ) (b : Book) : Type 0 where
+pub record IsPoolOf (region : TableId) (first pages class : ℕ) (b : PoolView) : Type 0 where
   pub here : b.region ≡ region
   pub layout : b.layout ≡ layout_of class first pages
 
 -- the pools of the classes from `class` on, in order
-abbrev pub ArePools : TableId → ℕ → ℕ → ℕ → List Book → Type 0
+abbrev pub ArePools : TableId → ℕ → ℕ → ℕ → List PoolView → Type 0
 ArePools region first pages class [] = Unit {0}
 ArePools region first pages class (b ∷ bs) = IsPoolOf region first pages class b × ArePools region first pages (suc class) bs
 
 -- the pages of an area of this region, and the pools of all 36 size classes over them
-pub record IsArena (region : TableId) (first count : ℕ) (p : pages.Book) (bs : List Book) : Type 0 where
+pub record IsArena (region : TableId) (first count : ℕ) (p : pages.PagesView) (bs : List PoolView) : Type 0 where
   pub here : p.region ≡ region
   pub begins : p.first ≡ first
   pub pages : p.state.pages ≡ count
@@ -35,4 +37,4 @@ HasNoRun s n = (largest : ℕ) × (largest < n) × IsLargest s.pages s.granted l
 
 -- the pages that a request of so many bytes takes where no object serves it: those of a superblock, or whole pages above 8,192 bytes
 abbrev pub pages_for : ℕ → ℕ
-pages_for bytes = cond {A = ℕ} (leb bytes 8192) 16 ((bytes + 4095) / 4096)
+pages_for bytes = cond {A = ℕ} (leb bytes largest_size) superblock_pages ((bytes + 4095) / 4096)

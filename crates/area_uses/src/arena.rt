@@ -9,7 +9,7 @@ use crate::blocks::{count_free, give_object, give_pages, take_object, take_pages
 use free_pages::Pages;
 use region_words::{Chunk, Part, Region};
 use rel_pointer::RelPtr;
-use size_classes::class_of;
+use size_classes::{class_of, class_with};
 use span_pools::Pool;
 use std::alloc::{AllocError, Global};
 
@@ -82,11 +82,8 @@ impl Arena {
         requires here { chunk.part.region ≡ r.now }
         ensures arena { IsArena r.now 35136 4096 self.new.pages self.new.pools.items }
     {
-        if chunk.bytes == 0 || chunk.bytes > 8192 {
+        let Some(class) = class_with(chunk.bytes) else {
             return give_pages(r, &mut self.pages, chunk);
-        }
-        let Some(class) = class_of(chunk.bytes as u32) else {
-            return false;
         };
         let pool = &mut self.pools[usize::from(class) - 2];
         give_object(r, &mut self.pages, pool, chunk)

@@ -1,10 +1,11 @@
 //! What is granted and taken back of one pool and of whole pages, as chunks.
 ghost use Rattle.std.specs.Prelude.{◌≡◌, ◌*◌, ◌≤◌, IfNone, IfSome};
+ghost use Rattle.free_pages.specs.Area.{superblock_pages};
 ghost use Rattle.span_pools.specs.Legal.{AllLive};
-ghost use Rattle.span_pools.specs.Book.{IsOver};
+ghost use Rattle.span_pools.specs.PoolView.{IsOver};
 ghost use Rattle.area_uses.specs.Arenas.{HasNoRun};
 
-use free_pages::Pages;
+use free_pages::{Pages, SUPERBLOCK_PAGES};
 use region_words::{Chunk, Region, Run};
 use span_pools::Pool;
 
@@ -16,12 +17,12 @@ pub(crate) fn take_object(r: &Region, pages: &mut Pages, pool: &mut Pool) -> Opt
     ensures as_many { pages.new.state.pages ≡ pages.old.state.pages }
     ensures pool { pool.new ≡ record pool.old { state = pool.new.state } }
     ensures chunk { IfSome result (λ c. (c.bytes ≡ 8 * pool.old.layout.size) × (c.part.region ≡ r.now)) }
-    ensures none { IfNone result (AllLive pool.old.state × HasNoRun pages.old.state 16) }
+    ensures none { IfNone result (AllLive pool.old.state × HasNoRun pages.old.state superblock_pages) }
 {
     if let Some(chunk) = pool.alloc(r) {
         return Some(chunk);
     }
-    match pages.take(r, 16, true) {
+    match pages.take(r, SUPERBLOCK_PAGES, true) {
         Ok(run) => Some(pool.add(r, run)),
         Err(_) => None,
     }

@@ -1,9 +1,9 @@
 use Rattle.std.proofs.Common.{◌≡◌, ℕ, ◌*◌, ◌≤◌, sym, ap, subst, ◌∙◌}
 use Rattle.size_classes.specs.Classes.{class_size}
-use Rattle.free_pages.specs.Book as pages
+use Rattle.free_pages.specs.PagesView as pages
 use Rattle.span_pools.specs.declared.layout.Layout.{Layout}
 use Rattle.span_pools.specs.Legal.{AllLive}
-use Rattle.span_pools.specs.Book.{Book}
+use Rattle.span_pools.specs.PoolView.{PoolView}
 use Rattle.span_pools.proofs.Offers.{object_bytes}
 use Rattle.area_uses.proofs.Pools.{pool_there, pool_over, arena_after, serves, a_superblock}
 use Rattle.area_uses.proofs.arena.Arena.alloc.Goals as goal
@@ -22,8 +22,8 @@ pub returns-in-Some-clause-arena : goal.returns-in-Some-clause-arena
 returns-in-Some-clause-arena c =
     let there = pool_there c.args.r.now 35136 4096 c.args.self.now.pages c.args.self.now.pools.items c.in-Some.class c.from.result c.index_mut-pool.result.now c.requires.arena c.in-Some.ensures.least.is_class c.from.ensures c.index_mut-pool.ensures.value in
     arena_after c.args.r.now 35136 4096 c.args.self.now.pages c.take_object.new.pages c.args.self.now.pools.items c.in-Some.class c.from.result c.index_mut-pool.result.now c.take_object.new.pool c.requires.arena c.in-Some.ensures.least.is_class c.from.ensures there
-    (ap (λ (b : pages.Book). b.region) c.take_object.ensures.pages) (ap (λ (b : pages.Book). b.first) c.take_object.ensures.pages) c.take_object.ensures.as_many
-    (ap (λ (b : Book). b.region) c.take_object.ensures.pool) (ap (λ (b : Book). b.layout) c.take_object.ensures.pool)
+    (ap (λ (b : pages.PagesView). b.region) c.take_object.ensures.pages) (ap (λ (b : pages.PagesView). b.first) c.take_object.ensures.pages) c.take_object.ensures.as_many
+    (ap (λ (b : PoolView). b.region) c.take_object.ensures.pool) (ap (λ (b : PoolView). b.layout) c.take_object.ensures.pool)
 
 pub returns-in-Some-clause-chunk : goal.returns-in-Some-clause-chunk
 returns-in-Some-clause-chunk c =
