@@ -15,7 +15,7 @@ mod sender;
 mod site;
 
 pub use done::{RingDone, home};
-pub use making::Ring;
+pub use making::{Ring, is_ring_size};
 pub use meeting::meet;
 pub use receiver::RingRx;
 pub use sender::RingTx;

@@ -1,5 +1,5 @@
 //! A ring is made of a chunk.
-ghost use Rattle.std.specs.Prelude.{◌≡◌, ℕ, ◌+◌, ◌*◌, ◌^◌, ◌<◌, ◌≤◌, [], None};
+ghost use Rattle.std.specs.Prelude.{◌≡◌, ◌≢◌, ℕ, ◌+◌, ◌*◌, ◌^◌, ◌<◌, ◌≤◌, [], None, false, IsTrue};
 ghost use Rattle.word_map.specs.WordMap.{rest_of, values_from};
 ghost use Rattle.ring_rule.specs.Ends.{first_sending, first_receiving};
 ghost use Rattle.region_rule.specs.RingMap.{IsFresh};
@@ -17,6 +17,19 @@ use std::marker::Brand;
 
 /// A ring that is to be made; its two ends are the values to hold.
 pub struct Ring;
+
+/// Whether a ring may have that many cells: a power of two, up to 2^20. At most 21 steps.
+pub fn is_ring_size(words: u64) -> bool
+    ensures allowed { IsTrue result → (e : ℕ) × (words ≡ 2 ^ e) × (e ≤ 20) }
+    ensures refused { result ≡ false → (e : ℕ) → e ≤ 20 → words ≢ 2 ^ e }
+{
+    for e in 0..21u32 {
+        if words == 2u64.pow(e) {
+            return true;
+        }
+    }
+    false
+}
 
 impl Ring {
     /// Makes a ring of the first `words + 3` words of a chunk, and keeps the rest of it in the sender's end. Both counts begin at `from`;
