@@ -200,8 +200,15 @@ hand_low max base taken buffer words len h some = go h.part refl
 pub hand_open : (max : ℕ) (base taken buffer : List ℕ) (words len : ℕ) → InHand max base taken buffer words len → 0 < words → words ≢ suc (word_count len) → IsOpen words len
 hand_open max base taken buffer words len h some other = let l = hand_low max base taken buffer words len h some in inr (omega (arith, l.0))
 
+-- what was taken stays taken
+abbrev pub Grows : List ℕ → List ℕ → Type 0
+Grows old new = (rest : List ℕ) × (new ≡ old ++ rest)
+
+pub grows_on : (a b c : List ℕ) → Grows a b → Grows b c → Grows a c
+grows_on a b c s t = (s.0 ++ t.0, t.1 ∙ ap (λ (z : List ℕ). z ++ t.0) s.1 ∙ append_assoc a s.0 t.0)
+
 pub takes_on : (a b c : Receiving) → Takes a b → Takes b c → Takes a c
-takes_on a b c s t = record { ring = t.ring ∙ s.ring; gone = t.gone ∙ s.gone; returned = t.returned ∙ s.returned; turn = let x = s.turn in let y = t.turn in omega arith }
+takes_on a b c s t = record { ring = t.ring ∙ s.ring; gone = t.gone ∙ s.gone; returned = t.returned ∙ s.returned; turn = let x = s.turn in let y = t.turn in omega arith; grows = grows_on a.taken b.taken c.taken s.grows t.grows }
 
 -- only the end of a receiver's value changes
 abbrev pub OnlyEnd : ReceivingEnd → ReceivingEnd → Type 0

@@ -1,16 +1,17 @@
 -- What a try to send leaves on the ring.
-use Rattle.std.proofs.Common.{◌≡◌, ℕ, zero, suc, ◌+◌, ◌-◌, ◌<◌, ◌≤◌, ⊎_elim, inl, inr, Bool, true, false, MatchBool, get_or, ◌/◌, List, [], ◌∷◌, ◌++◌, length, take, drop, min, All, None, refl, sym, ap, subst, ◌∙◌, arith, length-append, append_assoc}
+use Rattle.std.proofs.Common.{◌≡◌, ℕ, zero, suc, ◌+◌, ◌-◌, ◌<◌, ◌≤◌, ⊎_elim, inl, inr, Bool, true, false, cond, ◌||◌, ltb, MatchBool, get_or, ◌/◌, List, [], ◌∷◌, ◌++◌, length, take, drop, min, All, None, refl, sym, ap, subst, ◌∙◌, arith, length-append, append_assoc}
 use Rattle.std.proofs.lemmas.List.{length-take, length-take-le, take-append-drop, take_all, take_at}
 use Rattle.std.proofs.lemmas.List.Elements.{All-append}
 use Rattle.rel_pointer.specs.Bytes.{AllBytes}
 use Rattle.ring_rule.specs.Frames.{frame, frames, IsMessage, IsFramed}
 use Rattle.ring_rule.specs.Ring.{Ring, Sending}
-use Rattle.ring_rule.specs.Ends.{sender_sees_flag}
+use Rattle.ring_rule.specs.Ends.{sender_sees_flag, publishes}
 use Rattle.mq_handle.specs.Messages.{first_of, whole_of, left_of}
-use Rattle.mq_handle.specs.Sends.{Continues, published_of, IsSent, IsBlocked}
+use Rattle.mq_handle.specs.Sends.{Continues, published_of, IsSent, IsBlocked, StaysOpen}
 use Rattle.mq_handle.specs.Held.{IsTorn, InFrames}
-use Rattle.mq_handle.specs.Filling.{base_of, Fills, IsFull}
+use Rattle.mq_handle.specs.Filling.{base_of, total_with, Fills, FillsUp, finishes}
 use Rattle.mq_handle.proofs.Decoding.{torn}
+use Rattle.mq_handle.proofs.Filling.{Changed, changed, filled_up}
 use Rattle.mq_handle.proofs.Whole.{whole_is, left_is}
 
 pub append_nothing : {A : Type 0} (xs : List A) → xs ++ [] ≡ xs
@@ -53,6 +54,7 @@ pub record Begun (s : Sending) (stored : ℕ) (message : List ℕ) : Type 0 wher
   pub low : stored ≤ length (frame message)
   pub begins : s.put ≡ base_of s stored ++ take stored (frame message)
   pub framed : IsFramed s.ring.max (base_of s stored ++ frame message)
+  pub total : total_with s.put message ≡ length (base_of s stored ++ frame message)
 
 framed_all : (max : ℕ) (words : List ℕ) (ms : List (List ℕ)) → All (IsMessage max) ms → words ≡ frames ms → IsFramed max words
 unfolding IsFramed
@@ -78,6 +80,7 @@ begun s stored message f same mine =
       begins = f.are ∙ (λ i. sym base i ++ part i);
       framed = framed_all s.ring.max (base_of s stored ++ all) (f.messages ++ (message ∷ [])) (fit_more s.ring.max f.messages message f.fit mine)
           (ap (λ (z : List ℕ). z ++ all) base ∙ sym (frames_more f.messages message));
+      total = omega (arith, n, f.counted, total, ap length base, length-append (base_of s stored) all);
     }
 
 -- the whole frame is there
@@ -134,16 +137,18 @@ part_there s stored message put k b e low =
     }
 
 -- the ring was full
-pub blocked_is : (s b : Sending) (stored k : ℕ) (message : List ℕ) (all : ℕ) → Begun s stored message → Fills (sender_sees_flag s 0) b all → b.put ≡ base_of s stored ++ take k (frame message)
-    → k < length (frame message) → IsFull (sender_sees_flag s 0) b → IsBlocked s b message k
-blocked_is s b stored k message all g f put low full =
+pub blocked_is : (s b : Sending) (stored k total : ℕ) (message : List ℕ) → Begun s stored message → FillsUp total (sender_sees_flag s 0) b → b.put ≡ base_of s stored ++ take k (frame message)
+    → k < length (frame message) → IsBlocked s b message k
+blocked_is s b stored k total message g f put low =
     let p = part_there s stored message b.put k g put low in
+    let full = filled_up total (sender_sees_flag s 0) b f in
+    let flag = full.changed_is.flag in
     record {
       short = g.mine.short;
-      flag = record { once = f.flag.0; first = f.flag.1; found = f.flag.2 };
+      flag = record { once = flag.0; first = flag.1; found = flag.2 };
       looked = let l = full.looked in omega arith;
       full = full.full;
-      used_up = full.used_up;
+      used_up = full.used;
       whole = p.whole;
       stored_is = p.count;
       begins = p.left;
@@ -151,11 +156,42 @@ blocked_is s b stored k message all g f put low full =
       published = full.published;
     }
 
+-- what a step after the load of the flag leaves open
+pub opens : (s b : Sending) (total x : ℕ) → s.gone ≡ false → Changed (sender_sees_flag s x) b total → StaysOpen s b
+opens s b total x stays c = record { ring = c.ring; stays = c.gone ∙ stays; turn = let t = c.turn in omega arith; put = c.grows }
+
+choice : (flush : Bool) (s : Sending) (P : Sending → Type 0) → P s → P (publishes s) → P (finishes flush s)
+choice flush s P same published = go (flush || ltb (s.published + s.ring.size / 4) (length s.put))
+  where
+    go : (b : Bool) → P (cond {A = Sending} b (publishes s) s)
+    go true = published
+    go false = same
+
+-- publishing at the end changes nothing else
+pub finished_ring : (flush : Bool) (s : Sending) → (finishes flush s).ring ≡ s.ring
+finished_ring flush s = choice flush s (λ z. z.ring ≡ s.ring) refl refl
+
+pub finished_put : (flush : Bool) (s : Sending) → (finishes flush s).put ≡ s.put
+finished_put flush s = choice flush s (λ z. z.put ≡ s.put) refl refl
+
+pub finished_opens : (flush : Bool) (a s : Sending) → StaysOpen a s → StaysOpen a (finishes flush s)
+finished_opens flush a s o = choice flush s (StaysOpen a) o (record { ring = o.ring; stays = o.stays; turn = let t = o.turn in omega arith; put = o.put })
+
+finished_count : (flush : Bool) (s : Sending) → (finishes flush s).published ≡ published_of flush (length s.put) s.published (s.ring.size / 4)
+finished_count flush s = go (flush || ltb (s.published + s.ring.size / 4) (length s.put))
+  where
+    go : (b : Bool) → (cond {A = Sending} b (publishes s) s).published ≡ cond b (length s.put) s.published
+    go true = refl
+    go false = refl
+
+finished_same : (flush : Bool) (s : Sending) → finishes flush s ≡ record s { published = (finishes flush s).published; turn = (finishes flush s).turn }
+finished_same flush s = choice flush s (λ z. z ≡ record s { published = z.published; turn = z.turn }) refl refl
+
 -- the frame is on the ring, and the count published by the rule
-pub sent_is : (s b : Sending) (stored k published turn : ℕ) (message : List ℕ) (flush : Bool) → Begun s stored message → Fills (sender_sees_flag s 0) b (length (base_of s stored ++ frame message))
+sent_so : (s b : Sending) (stored k published turn : ℕ) (message : List ℕ) (flush : Bool) → Begun s stored message → Changed (sender_sees_flag s 0) b (length (base_of s stored ++ frame message))
     → b.put ≡ base_of s stored ++ take k (frame message) → k ≡ length (frame message) → published ≡ published_of flush (length b.put) b.published (b.ring.size / 4)
     → IsSent s (record b { published = published; turn = turn }) message flush
-sent_is s b stored k published turn message flush g f put all e =
+sent_so s b stored k published turn message flush g f put all e =
     let p = all_there s stored message b.put k g put all in
     let count : length (base_of s stored ++ frame message) ≡ length b.put = sym (ap length (put ∙ ap (λ (z : List ℕ). base_of s stored ++ z) (take_all k (frame message) (omega arith)))) in
     record {
@@ -168,12 +204,19 @@ sent_is s b stored k published turn message flush g f put all e =
         b.published,
         ⊎_elim
             (λ (l : (b.looked ≡ s.looked) × (b.published ≡ s.published) × (b.room ≡ s.room)). inl (l.0, l.1))
-            (λ (l : (s.turn + 1 < b.looked) × (b.published ≡ b.looked_put) × (s.room + s.ring.size ≤ b.looked_put) × (b.looked_put < length (base_of s stored ++ frame message))).
+            (λ (l : (s.turn + 1 < b.looked) × (b.published ≡ b.looked_put) × (s.room + s.ring.size ≤ b.looked_put) × (b.looked_put < length (base_of s stored ++ frame message)) × (b.looked_put ≤ length b.put)).
             inr (omega (arith, l.0), l.1, omega (arith, l.1, l.2), omega (arith, l.1, l.3, count)))
             f.looks,
         e ∙ ap (λ (r : Ring). published_of flush (length b.put) b.published (r.size / 4)) f.ring,
       );
     }
+
+pub sent_is : (s b : Sending) (stored k : ℕ) (message : List ℕ) (flush : Bool) → Begun s stored message → Fills (length (base_of s stored ++ frame message)) (sender_sees_flag s 0) b
+    → b.put ≡ base_of s stored ++ take k (frame message) → k ≡ length (frame message) → IsSent s (finishes flush b) message flush
+sent_is s b stored k message flush g f put all =
+    let end = finishes flush b in
+    subst (λ (z : Sending). IsSent s z message flush) (sym (finished_same flush b))
+    (sent_so s b stored k end.published end.turn message flush g (changed (length (base_of s stored ++ frame message)) (sender_sees_flag s 0) b f) put all (finished_count flush b))
 
 pub in_frames : (s : Sending) (b : Sending) (k : ℕ) (put : List ℕ) → b.ring ≡ s.ring → b.put ≡ put → InFrames s.ring.max put k → InFrames b.ring.max b.put k
 in_frames s b k put e h f = subst (λ (r : Ring). InFrames r.max b.put k) (sym e) (subst (λ (z : List ℕ). InFrames s.ring.max z k) (sym h) f)

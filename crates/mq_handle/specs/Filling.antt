@@ -1,23 +1,33 @@
--- What storing the words of a frame does to the sender's end.
-use Rattle.std.specs.Prelude.{◌≡◌, ℕ, ◌+◌, ◌-◌, ◌<◌, ◌≤◌, ◌⊎◌, true, List, length, take}
+-- The steps by which a try to send stores the words of a frame, each with its cause.
+use Rattle.std.specs.Prelude.{◌≡◌, ℕ, ◌+◌, ◌-◌, ◌<◌, ◌/◌, Bool, cond, ltb, ◌||◌, List, length, take}
+use Rattle.ring_rule.specs.Frames.{frame}
 use Rattle.ring_rule.specs.Ring.{Sending}
+use Rattle.ring_rule.specs.Ends.{puts, publishes, looks_read}
+use Rattle.mq_handle.specs.Messages.{left_of}
 
 -- the words before those of the frame in hand
 abbrev pub base_of : Sending → ℕ → List ℕ
 base_of s stored = take (length s.put - stored) s.put
 
--- how an end changes while words of a frame are stored, of which `all` words are there in the end
-pub record Fills (old new : Sending) (all : ℕ) : Type 0 where
-  pub ring : new.ring ≡ old.ring
-  pub gone : new.gone ≡ old.gone
-  pub flag : (new.flag_loads ≡ old.flag_loads) × (new.flag_turn ≡ old.flag_turn) × (new.flag_value ≡ old.flag_value)
-  pub turn : old.turn ≤ new.turn
-  pub looks : ((new.looked ≡ old.looked) × (new.published ≡ old.published) × (new.room ≡ old.room))
-      ⊎ ((old.turn < new.looked) × (new.published ≡ new.looked_put) × (old.room + old.ring.size ≤ new.looked_put) × (new.looked_put < all))
+-- how many words were put in all once the whole frame is stored
+abbrev pub total_with : List ℕ → List ℕ → ℕ
+total_with put message = length put - length (left_of put) + length (frame message)
 
--- the ring was found full
-pub record IsFull (old new : Sending) : Type 0 where
-  pub looked : old.turn < new.looked
-  pub full : (new.looked_full ≡ true) × (new.looked_put ≡ length new.put) × (length new.put ≡ new.room + new.ring.size)
-  pub used_up : old.room + old.ring.size ≤ length new.put
-  pub published : new.published ≡ length new.put
+-- no more words fit by the last look at the read count, and words of the frame are left
+abbrev pub LacksRoom : ℕ → Sending → Type 0
+LacksRoom total s = (length s.put ≡ s.room + s.ring.size) × (length s.put < total)
+
+-- the steps of a sender's end up to an end at which words may be left: a word is stored; or, where it lacks room, it publishes all that it
+-- put, then looks at the read count, and finds that there is room again
+pub data Fills (total : ℕ) (old : Sending) : Sending → Type 0 where
+  enters : Fills total old old
+  stores : (s : Sending) (word : ℕ) → Fills total old s → Fills total old (puts s word)
+  finds_room : (s : Sending) (n : ℕ) → Fills total old s → LacksRoom total s → length s.put < n + s.ring.size → Fills total old (looks_read (publishes s) n)
+
+-- they end with a look that found no room
+abbrev pub FillsUp : ℕ → Sending → Sending → Type 0
+FillsUp total old new = (s : Sending) × (n : ℕ) × Fills total old s × LacksRoom total s × (length s.put ≡ n + s.ring.size) × (new ≡ looks_read (publishes s) n)
+
+-- at the end of a message, all is published where that is asked for or more than a quarter of the ring is not published
+abbrev pub finishes : Bool → Sending → Sending
+finishes flush s = cond {A = Sending} (flush || ltb (s.published + s.ring.size / 4) (length s.put)) (publishes s) s

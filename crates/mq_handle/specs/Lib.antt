@@ -9,3 +9,5 @@ pub mod ReceiveAnswers
 pub mod Looking
 pub mod Waiting
 pub mod Told
+pub mod Home
+pub mod SendSteps

@@ -45,8 +45,9 @@ pub record IsBlocked (old new : Sending) (message : List ℕ) (stored : ℕ) : T
   pub more : stored < length (frame message)
   pub published : new.published ≡ length new.put
 
--- what stays in each call of the sender's end but `detach`
+-- what stays in each call of the sender's end but `detach`: it stays open, and what was put stays put
 pub record StaysOpen (old new : Sending) : Type 0 where
   pub ring : new.ring ≡ old.ring
   pub stays : new.gone ≡ false
   pub turn : old.turn ≤ new.turn
+  pub put : (rest : List ℕ) × (new.put ≡ old.put ++ rest)

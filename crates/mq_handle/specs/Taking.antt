@@ -46,6 +46,7 @@ pub record Takes (old new : Receiving) : Type 0 where
   pub gone : new.gone ≡ old.gone
   pub returned : new.returned ≡ old.returned
   pub turn : old.turn ≤ new.turn
+  pub grows : (rest : List ℕ) × (new.taken ≡ old.taken ++ rest)
 
 -- what a receiver keeps: the counts of its end, the frame in hand, whether its message is whole, and whether it is gone
 pub record IsReceiver (q : Receiving) (buffer : List ℕ) (words len ready unreturned : ℕ) (whole gone : Bool) : Type 0 where

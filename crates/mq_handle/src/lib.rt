@@ -18,6 +18,7 @@ mod queue;
 mod receiver;
 mod receiving;
 mod sender;
+mod sending;
 mod storing;
 mod taking;
 #[cfg(test)]

@@ -1,13 +1,43 @@
-//! Where no more words may be taken, the receiver looks at the count, then at the flag, and where this is set at the count once more.
-ghost use Rattle.std.specs.Prelude.{◌≡◌, ◌<◌, false};
+//! An end that can't go on by what it knows looks at what the other end has published. Where no more words fit, the sender publishes what
+//! it put and looks at the read count; where no more words may be taken, the receiver looks at the written count, then at the flag, and where
+//! this is set at the count once more.
+
+ghost use Rattle.std.specs.Prelude.{◌≡◌, ◌<◌, ◌⊎◌, false};
 ghost use Rattle.mq_handle.specs.Taking.{Ready};
 ghost use Rattle.mq_handle.specs.Looking.{Finds};
-ghost use Rattle.mq_handle.specs.Told.{LookFound};
+ghost use Rattle.mq_handle.specs.Told.{LookFound, SawRoom, RoomFound};
+ghost use Rattle.mq_handle.specs.Held.{Counted};
+ghost use Rattle.ring_rule.specs.Ends.{looks_read, publishes};
 
 use crate::answers::ReceiveAnswer;
+use crate::storing::Stored;
 use crate::taking::Taken;
-use mq_ring::RingRx;
+use mq_ring::{RingRx, RingTx};
 use region_words::Region;
+
+/// Where nothing fits, publishes what was put and looks again.
+pub(crate) fn look_for_room(tx: &mut RingTx, r: &Region, counts: Stored) -> Stored
+    requires here { tx.old.region ≡ r.now }
+    requires stays { tx.old.end.gone ≡ false }
+    requires counted { Counted tx.old.end counts.free counts.unpublished }
+    ensures kept { tx.new ≡ record tx.old { end = tx.new.end } }
+    ensures stored { result.words ≡ counts.words }
+    ensures counted { Counted tx.new.end result.free result.unpublished }
+    ensures looks { ((tx.new.end ≡ tx.old.end) × (0 < result.free)) ⊎ ((counts.free ≡ 0) × (result.unpublished ≡ 0) × (tx.new.end ≡ looks_read (publishes tx.old.end) tx.new.end.room)) }
+    ensures told { result.free ≡ 0 → SawRoom tx.old.told tx.new.end }
+    ensures found { RoomFound tx.old.told tx.old.end tx.new.end }
+{
+    if counts.free > 0 {
+        return counts;
+    }
+    tx.publish(r);
+    let free = tx.look_read(r);
+    Stored {
+        words: counts.words,
+        free,
+        unpublished: 0,
+    }
+}
 
 /// Looks for more words. Where there are none it answers why.
 pub(crate) fn look_for_words(

@@ -5,7 +5,7 @@ ghost use Rattle.region_words.specs.Parts.{owned};
 ghost use Rattle.word_map.specs.WordMap.{union};
 ghost use Rattle.region_rule.specs.RingMap.{ring_map};
 ghost use Rattle.mq_ring.specs.Ends.{ends_home};
-ghost use Rattle.mq_handle.specs.Messages.{whole_of};
+ghost use Rattle.mq_handle.specs.Messages.{whole_of, left_of};
 ghost use Rattle.mq_handle.specs.Held.{IsUnsent, IsUnread};
 ghost use Rattle.mq_handle.specs.Receives.{incoming};
 
@@ -31,21 +31,27 @@ pub struct MqDone {
 
 impl Model for MqDone {
     ghost use Rattle.mq_ring.specs.Ends.{EndsHome, ends_home_code};
+    ghost use Rattle.mq_handle.specs.Home.{CameHome};
 
     ghost Value = { EndsHome };
 
     ghost coded = { ends_home_code };
 
     ghost view = { λ d. d.done };
+
+    ghost invariant = { λ d. CameHome d.done };
 }
 
 /// Makes a queue of the ends of a ring that was not used yet; they are its handles' from then on. It takes memory for the greatest message,
 /// fills it with zeros, and is the only call that takes any. It makes no step on the ring.
+#[tactic(auto, using(crate::proofs::Uses::left_nothing))]
 pub fn attach(alloc: Global, tx: RingTx, rx: RingRx) -> Result<(Sender, Receiver), AttachRefused>
+    requires here { tx.region ≡ rx.region }
     requires one_ring { tx.end.ring ≡ rx.end.ring }
     requires unsent { IsUnsent tx.end }
     requires unread { IsUnread rx.end }
     ensures ends { IfOk result (λ ends. (ends.0 ≡ tx) × (ends.1 ≡ incoming rx.region rx.end rx.told [])) }
+    ensures fresh { IfOk result (λ ends. left_of ends.0.end.put ≡ []) }
     ensures refused { IfErr result (λ back. (back.tx ≡ tx) × (back.rx ≡ rx)) }
 {
     let max = rx.max() as usize;
@@ -87,6 +93,16 @@ pub fn home(s: Sender, q: Receiver, r: &Region) -> MqDone
 }
 
 impl MqDone {
+    /// Tells what holds of the ends of a queue that came home: what was received is a beginning of what was sent, and all of it where the
+    /// receiver was answered Detached. It does nothing.
+    pub fn is_sound(&self)
+        ensures sound { AreEnds self.now.sender self.now.receiver }
+        ensures beginning { (rest : List (List ℕ)) × (whole_of self.now.sender.put ≡ whole_of self.now.receiver.taken ++ rest) }
+        ensures all { self.now.receiver.final ≡ true → length self.now.receiver.taken ≡ self.now.receiver.avail → self.now.receiver.taken ≡ self.now.sender.put }
+    {
+        let _ = &self.done;
+    }
+
     /// The chunk that the ring was made of, whole again, for its next use. Three loads.
     pub fn into_chunk(self, r: &Region) -> Chunk
         requires { self.region ≡ r.now }

@@ -1,5 +1,5 @@
 //! The receiving end of a queue.
-ghost use Rattle.std.specs.Prelude.{◌≡◌, ◌+◌, ◌≤◌, false, true, [], length};
+ghost use Rattle.std.specs.Prelude.{◌≡◌, ◌+◌, ◌≤◌, ◌++◌, List, ℕ, false, true, [], length};
 ghost use Rattle.rel_pointer.specs.Bytes.{word_count};
 ghost use Rattle.ring_rule.specs.Ring.{Receiving};
 ghost use Rattle.ring_rule.specs.Ends.{receiver_leaves};
@@ -47,6 +47,7 @@ impl Receiver {
         requires room { length buffer.items ≡ rx.end.ring.max }
         ensures { result ≡ incoming rx.region rx.end rx.told [] }
     {
+        // The number of cells is a word, which the proof of the counts needs.
         let _size = rx.words();
         let taken = Taken {
             words: 0,
@@ -73,6 +74,7 @@ impl Receiver {
         ensures ring { self.new.end.ring ≡ self.old.end.ring }
         ensures stays { self.new.end.gone ≡ false }
         ensures later { self.old.end.turn ≤ self.new.end.turn }
+        ensures grows { (rest : List ℕ) × (self.new.end.taken ≡ self.old.end.taken ++ rest) }
         ensures few { length self.new.end.taken ≤ length self.old.end.taken + word_count self.old.end.ring.max + 1 }
         ensures answer { Gives self.old.end self.new.end self.new.message result }
         ensures told { ReceiveFound self.old.told self.old.end self.new.end result }

@@ -1,5 +1,5 @@
 //! One try to receive, by the ring's end.
-ghost use Rattle.std.specs.Prelude.{◌≡◌, ◌+◌, ◌-◌, ◌<◌, ◌≤◌, false, length};
+ghost use Rattle.std.specs.Prelude.{◌≡◌, ◌+◌, ◌-◌, ◌<◌, ◌≤◌, ◌++◌, List, ℕ, false, length};
 ghost use Rattle.rel_pointer.specs.Bytes.{word_count};
 ghost use Rattle.mq_handle.specs.ReceiveAnswers.{Gives, message_of, HasPlace};
 ghost use Rattle.mq_handle.specs.Told.{ReceiveFound};
@@ -28,6 +28,7 @@ pub(crate) fn receive_frame(
     ensures ring { rx.new.end.ring ≡ rx.old.end.ring }
     ensures stays { rx.new.end.gone ≡ false }
     ensures later { rx.old.end.turn ≤ rx.new.end.turn }
+    ensures grows { (rest : List ℕ) × (rx.new.end.taken ≡ rx.old.end.taken ++ rest) }
     ensures few { length rx.new.end.taken ≤ length rx.old.end.taken + word_count rx.old.end.ring.max + 1 }
     ensures counted { Ready rx.new.end result.0.ready result.0.unreturned }
     ensures hand { InHand rx.new.end.ring.max (before_of rx.new.end result.0.words) rx.new.end.taken buffer.new result.0.words result.0.len }

@@ -4,11 +4,13 @@ ghost use Rattle.ring_rule.specs.Ring.{Sending};
 ghost use Rattle.ring_rule.specs.Ends.{publishes, sender_leaves};
 ghost use Rattle.mq_handle.specs.Sends.{Continues, StaysOpen};
 ghost use Rattle.mq_handle.specs.SendAnswers.{Answers};
+ghost use Rattle.mq_handle.specs.SendSteps.{StepsAre};
 ghost use Rattle.mq_handle.specs.Told.{SendFound};
-ghost use Rattle.mq_handle.specs.Held.{Counted, InFrames, IsUnsent};
+ghost use Rattle.mq_handle.specs.Held.{IsUnsent};
 
 use crate::answers::SendAnswer;
-use crate::storing::{Counts, fill, finish};
+use crate::sending::send_frame;
+use crate::storing::Stored;
 use mq_ring::RingTx;
 use region_words::Region;
 use std::marker::Model;
@@ -18,7 +20,7 @@ use std::marker::Model;
 #[derive(Drop)]
 pub struct Sender {
     pub(crate) tx: RingTx,
-    counts: Counts,
+    counts: Stored,
     gone: bool,
 }
 
@@ -33,7 +35,7 @@ impl Model for Sender {
 
     ghost view = { λ s. s.tx };
 
-    ghost invariant = { λ s. IsSender s.tx.end s.counts.stored s.counts.free s.counts.unpublished s.gone };
+    ghost invariant = { λ s. IsSender s.tx.end s.counts.words s.counts.free s.counts.unpublished s.gone };
 }
 
 impl Sender {
@@ -43,8 +45,8 @@ impl Sender {
         ensures { result ≡ tx }
     {
         let free = tx.words();
-        let counts = Counts {
-            stored: 0,
+        let counts = Stored {
+            words: 0,
             free,
             unpublished: 0,
         };
@@ -66,6 +68,7 @@ impl Sender {
         ensures kept { self.new ≡ record self.old { end = self.new.end } }
         ensures stays { StaysOpen self.old.end self.new.end }
         ensures answer { Answers self.old.end self.new.end message.now flush result }
+        ensures steps { StepsAre self.old.end self.new.end message.now flush result }
         ensures told { SendFound self.old.told self.old.end self.new.end result }
     {
         let (counts, answer) = send_frame(&mut self.tx, r, message, self.counts, flush);
@@ -107,40 +110,4 @@ impl Sender {
         let Sender { tx, .. } = self;
         tx
     }
-}
-
-/// One try to send, by the ring's end.
-fn send_frame(
-    tx: &mut RingTx,
-    r: &Region,
-    message: &[u8],
-    counts: Counts,
-    flush: bool,
-) -> (Counts, SendAnswer)
-    requires here { tx.old.region ≡ r.now }
-    requires stays { tx.old.end.gone ≡ false }
-    requires counted { Counted tx.old.end counts.free counts.unpublished }
-    requires framed { InFrames tx.old.end.ring.max tx.old.end.put counts.stored }
-    requires continues { Continues tx.old.end.put message.now }
-    ensures kept { tx.new ≡ record tx.old { end = tx.new.end } }
-    ensures stays { StaysOpen tx.old.end tx.new.end }
-    ensures answer { Answers tx.old.end tx.new.end message.now flush result.1 }
-    ensures told { SendFound tx.old.told tx.old.end tx.new.end result.1 }
-    ensures counted { Counted tx.new.end result.0.free result.0.unpublished }
-    ensures framed { InFrames tx.new.end.ring.max tx.new.end.put result.0.stored }
-{
-    let length = message.len() as u64;
-    if length > u64::from(tx.max()) {
-        return (counts, SendAnswer::TooLong { length });
-    }
-    if tx.look_flag(r) {
-        return (counts, SendAnswer::Detached);
-    }
-    let (counts, done) = fill(tx, r, message, counts);
-    if !done {
-        let stored = counts.stored;
-        return (counts, SendAnswer::WouldBlock { stored });
-    }
-    let counts = finish(tx, r, counts, flush);
-    (counts, SendAnswer::Sent)
 }

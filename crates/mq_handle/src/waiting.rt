@@ -1,5 +1,5 @@
 //! The calls that wait for the other end.
-ghost use Rattle.std.specs.Prelude.{◌≡◌, ◌≤◌, false};
+ghost use Rattle.std.specs.Prelude.{◌≡◌, ◌≤◌, ◌++◌, List, ℕ, false};
 ghost use Rattle.mq_handle.specs.Sends.{Continues, StaysOpen};
 ghost use Rattle.mq_handle.specs.Receives.{incoming};
 ghost use Rattle.mq_handle.specs.Waiting.{EndsSend, EndsReceive};
@@ -47,6 +47,7 @@ impl Receiver {
         ensures ring { self.new.end.ring ≡ self.old.end.ring }
         ensures stays { self.new.end.gone ≡ false }
         ensures later { self.old.end.turn ≤ self.new.end.turn }
+        ensures grows { (rest : List ℕ) × (self.new.end.taken ≡ self.old.end.taken ++ rest) }
         ensures answer { EndsReceive self.old.end self.new.end self.new.message result }
         ensures told { ReceiveEndFound self.old.told self.old.end self.new.end result }
     {

@@ -1,4 +1,4 @@
-use Rattle.std.proofs.Common.{◌≡◌, ℕ, Option, take, length, Some, sym, ap, subst, arith}
+use Rattle.std.proofs.Common.{◌≡◌, ℕ, List, Option, take, length, Some, sym, ap, subst, arith}
 use Rattle.rel_pointer.specs.Bytes.{word_count}
 use Rattle.ring_rule.specs.Ring.{Ring, Receiving}
 use Rattle.mq_ring.specs.Ends.{ReceivingEnd}
@@ -8,7 +8,7 @@ use Rattle.mq_handle.specs.Looking.{Finds}
 use Rattle.mq_handle.specs.Taking.{InHand, before_of}
 use Rattle.mq_handle.specs.declared.answers.ReceiveAnswer.TheVariants.{Message, WouldBlock, Detached}
 use Rattle.mq_handle.specs.ReceiveAnswers.{HasPlace}
-use Rattle.mq_handle.proofs.Hands.{hand_low}
+use Rattle.mq_handle.proofs.Hands.{Grows, hand_low}
 use Rattle.mq_handle.proofs.Sends.{chosen_true, chosen_false}
 use Rattle.mq_handle.proofs.Receipts.{came, same_whole, gives_on, received_is, few_words, finds_same}
 use Rattle.mq_handle.proofs.receiving.receive_frame.Goals as goal
@@ -80,3 +80,12 @@ returns-in-Some-clause-few c =
     let found : Finds c.loop-whole.rx.end c.look_for_words-answer.new.rx.end c.look_for_words-answer.result.0.ready (Some c.in-Some.answer) =
     subst (λ (a : Option ReceiveAnswer). Finds c.loop-whole.rx.end c.look_for_words-answer.new.rx.end c.look_for_words-answer.result.0.ready a) c.in-Some.is c.look_for_words-answer.ensures.found in
     omega (arith, few, ap length (finds_same c.loop-whole.rx.end c.look_for_words-answer.new.rx.end c.look_for_words-answer.result.0.ready c.in-Some.answer found), ap (λ (r : Ring). word_count r.max) c.loop-whole.invariant.takes.ring)
+
+pub returns-clause-grows : goal.returns-clause-grows
+returns-clause-grows c = subst (Grows c.args.rx.now.end.taken) (sym (ap (λ (o : ReceivingEnd). o.end.taken) c.finish_taking.ensures.kept)) c.loop-whole.invariant.takes.grows
+
+pub returns-in-Some-clause-grows : goal.returns-in-Some-clause-grows
+returns-in-Some-clause-grows c =
+    let found : Finds c.loop-whole.rx.end c.look_for_words-answer.new.rx.end c.look_for_words-answer.result.0.ready (Some c.in-Some.answer) =
+    subst (λ (a : Option ReceiveAnswer). Finds c.loop-whole.rx.end c.look_for_words-answer.new.rx.end c.look_for_words-answer.result.0.ready a) c.in-Some.is c.look_for_words-answer.ensures.found in
+    subst (Grows c.args.rx.now.end.taken) (sym (finds_same c.loop-whole.rx.end c.look_for_words-answer.new.rx.end c.look_for_words-answer.result.0.ready c.in-Some.answer found)) c.loop-whole.invariant.takes.grows

@@ -1,5 +1,4 @@
 use Rattle.std.proofs.Common.{◌≡◌, ◌≤◌, ◌⊎◌, length, false}
-use Rattle.mq_handle.specs.Sends.{Continues}
 use Rattle.mq_handle.specs.Waiting.{SendsOn}
 use Rattle.mq_handle.specs.Told.{RoomFound}
 use Rattle.mq_handle.proofs.sender.Sender.send.Given as goal
@@ -10,8 +9,7 @@ invariant-loop g l = record {
   finite : (goal.iterator-loop g).is_finite l.iterator';
   kept : l.self ≡ record l.fn.self { end = l.self.end };
   first : (l.self ≡ l.fn.self) ⊎ (length l.message ≤ l.fn.self.end.ring.max);
-  on : SendsOn l.fn.self.end l.self.end;
+  on : SendsOn l.fn.self.end l.self.end l.message;
   found : RoomFound l.fn.self.told l.fn.self.end l.self.end;
   stays : l.self.end.gone ≡ false;
-  continues : Continues l.self.end.put l.message;
 }
