@@ -1,10 +1,10 @@
 pub mod Slots
 pub mod Keys
-pub mod Front
 pub mod Refusals
 pub mod Places
 pub mod Maps
 pub mod Placed
+pub mod Grouped
 pub mod OneRow
 pub mod Blocks
 pub mod Ideal
@@ -13,3 +13,4 @@ pub mod Combining
 pub mod Adding
 pub mod AnyOrder
 pub mod Joining
+pub mod Rest

@@ -1,11 +1,9 @@
 pub mod State
-pub mod Front
 pub mod Rows
 pub mod Groups
-pub mod Reading
-pub mod Reads
+pub mod Values
+pub mod Status
 pub mod Listed
-pub mod Knows
 pub mod Placed
 pub mod Blocks
 pub mod Laws

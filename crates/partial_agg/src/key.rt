@@ -1,25 +1,15 @@
-//! A group's key: its encoded columns, at most 248 bytes, in an array, so that a key takes no allocation.
-//!
-//! Two keys are compared by their first eight bytes as a number, highest byte first, then by the next eight, and byte by byte
-//! only where these are the same too, as PostgreSQL's sort compares abbreviated keys. So where a key ends before its
-//! sixteenth byte, zeros stand up to there; the places past that have bytes of keys that stood there before, and no call
-//! reads them.
+//! A group's key: its encoded columns, at most 248 bytes, in an array, so that a key takes no allocation. Only the bytes before
+//! `len` are the key's; those past it are what stood there before, and no call reads them.
 
-ghost use Rattle.std.specs.Prelude.{◌≡◌, ◌<◌, ◌≤◌, ◌+◌, ◌*◌, ◌^◌, ◌++◌, ◌↔◌, [], ℕ, IsSome, IfSome, IsTrue, drop, length, slice_index};
+ghost use Rattle.std.specs.Prelude.{◌≡◌, ◌≤◌, ◌+◌, ◌++◌, ◌↔◌, [], IsSome, IfSome, IsTrue, length};
 ghost use Rattle.std.specs.Bool.{OnTrue};
-ghost use Rattle.std.specs.Cmp.Lexicographic.{slice_cmp, pointwise};
-ghost use Rattle.std.specs.Ordering.{nat_cmp};
 ghost use Rattle.par_model.specs.Key.{encoded_field};
-ghost use Rattle.partial_agg.specs.Front.{front};
 
 use std::cmp::Ordering;
 use std::marker::Model;
 
 /// The most bytes that a key has.
 pub const LONGEST_KEY: usize = 248;
-
-// The bytes that are compared as numbers.
-const FRONT: usize = 16;
 
 /// An encoded key. Keys compare byte by byte.
 #[derive(Debug, Drop)]
@@ -35,9 +25,7 @@ impl Model for GroupKey {
 
     ghost view = { λ k. take k.len k.bytes };
 
-    ghost use Rattle.partial_agg.specs.Front.{IsZeroFrom};
-
-    ghost invariant = { λ k. record { fits : k.len ≤ 248; zeros : IsZeroFrom k.len k.bytes } };
+    ghost invariant = { λ k. k.len ≤ 248 };
 }
 
 impl GroupKey {
@@ -58,7 +46,7 @@ impl GroupKey {
         &self.bytes[..self.len as usize]
     }
 
-    // The key of no columns.
+    /// The key of no columns.
     pub(crate) fn none() -> GroupKey
         ensures { result ≡ [] }
     {
@@ -68,52 +56,24 @@ impl GroupKey {
         }
     }
 
-    // Another key of the same bytes.
-    pub(crate) fn copied(&self) -> GroupKey
-        ensures { result ≡ self.now }
+    /// The key of these bytes, which are not too many.
+    pub(crate) fn copy_of(bytes: &[u8]) -> GroupKey
+        requires { length bytes.now ≤ 248 }
+        ensures { result ≡ bytes.now }
     {
-        GroupKey {
-            bytes: self.bytes,
-            len: self.len,
-        }
+        let mut key = GroupKey::none();
+        let _fits = key.push(bytes);
+        key
     }
 
-    // Whether another key has the same bytes.
-    pub(crate) fn is(&self, other: &GroupKey) -> bool
-        ensures { IsTrue result ↔ (self.now ≡ other.now) }
-    {
-        if self.len as usize <= FRONT {
-            self.len == other.len
-                && self.first_word() == other.first_word()
-                && self.second_word() == other.second_word()
-        } else {
-            self.bytes() == other.bytes()
-        }
-    }
-
-    // A number that keys of other bytes seldom have.
-    pub(crate) fn hash(&self) -> u64 {
-        let mut hash = mixed(self.len.into(), self.first_word());
-        hash = mixed(hash, self.second_word());
-        let len = self.len as usize;
-        if len > FRONT {
-            for at in (FRONT..len - 7).step_by(8) {
-                hash = mixed(hash, word_at(&self.bytes, at));
-            }
-            hash = mixed(hash, word_at(&self.bytes, len - 8));
-        }
-        hash
-    }
-
-    // Takes the bytes away.
+    /// Takes the bytes away.
     pub(crate) fn clear(&mut self)
         ensures { self.new ≡ [] }
     {
-        self.bytes[..FRONT].copy_from_slice(&[0; FRONT]);
         self.len = 0;
     }
 
-    // Adds bytes behind those that are there, if they all fit.
+    /// Adds bytes behind those that are there, if they all fit.
     pub(crate) fn push(&mut self, more: &[u8]) -> bool
         ensures fits { IsTrue result ↔ (length self.old + length more.now ≤ LONGEST_KEY) }
         ensures pushed { OnTrue result (self.new ≡ self.old ++ more.now) }
@@ -128,7 +88,7 @@ impl GroupKey {
         true
     }
 
-    // Adds a column's field, after its length, if both fit.
+    /// Adds a column's field, after its length, if both fit.
     pub(crate) fn push_field(&mut self, field: &[u8]) -> bool
         ensures fits { IsTrue result ↔ (length self.old + (4 + length field.now) ≤ LONGEST_KEY) }
         ensures pushed { OnTrue result (self.new ≡ self.old ++ encoded_field field.now) }
@@ -138,60 +98,6 @@ impl GroupKey {
         }
         self.push(&(field.len() as u32).to_le_bytes()) && self.push(field)
     }
-
-    // The first eight bytes as a number, highest first, with zeros for those past the key's end.
-    fn first_word(&self) -> u64
-        ensures number { result ≡ front 8 self.now }
-        ensures bytes { (i : ℕ) → slice_index self.now i < 2 ^ 8 }
-    {
-        word_at(&self.bytes, 0)
-    }
-
-    // And the next eight.
-    fn second_word(&self) -> u64
-        ensures number { front 16 self.now ≡ front 8 self.now * 2 ^ 64 + result }
-        ensures bytes { (i : ℕ) → slice_index self.now i < 2 ^ 8 }
-    {
-        word_at(&self.bytes, 8)
-    }
-
-    // Compares two keys whose first words are the same.
-    fn cmp_rest(&self, other: &GroupKey) -> Ordering
-        requires { front 8 self.now ≡ front 8 other.now }
-        ensures { result ≡ slice_cmp nat_cmp self.now other.now }
-    {
-        let (a, b) = (self.second_word(), other.second_word());
-        if a < b {
-            Ordering::Less
-        } else if b < a {
-            Ordering::Greater
-        } else {
-            self.bytes().cmp(other.bytes())
-        }
-    }
-}
-
-// A hash after one more word.
-fn mixed(hash: u64, word: u64) -> u64 {
-    (hash.rotate_left(5) ^ word).wrapping_mul(0x517C_C1B7_2722_0A95)
-}
-
-// The eight bytes from a place on as a number, highest first.
-fn word_at(bytes: &[u8; 248], at: usize) -> u64
-    requires { at + 8 ≤ length bytes.now }
-    ensures number { result ≡ front 8 (drop at bytes.now) }
-    ensures bytes { (i : ℕ) → slice_index bytes.now i < 2 ^ 8 }
-{
-    u64::from_be_bytes([
-        bytes[at],
-        bytes[at + 1],
-        bytes[at + 2],
-        bytes[at + 3],
-        bytes[at + 4],
-        bytes[at + 5],
-        bytes[at + 6],
-        bytes[at + 7],
-    ])
 }
 
 impl PartialEq for GroupKey {
@@ -241,13 +147,6 @@ impl Ord for GroupKey {
     ghost matches_eq = { texts_ties };
 
     fn cmp(&self, other: &GroupKey) -> Ordering {
-        let (a, b) = (self.first_word(), other.first_word());
-        if a < b {
-            Ordering::Less
-        } else if b < a {
-            Ordering::Greater
-        } else {
-            self.cmp_rest(other)
-        }
+        self.bytes().cmp(other.bytes())
     }
 }

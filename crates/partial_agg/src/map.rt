@@ -1,38 +1,36 @@
 //! The map from the keys of groups to their aggregates, and the list that it ends as.
 //!
-//! It has three parts. `states` has the state of each group, one after the other in the order in which the groups came;
-//! `places` is std's ordered map from each key to the place of its state, and gives the order in the end; `recent` knows the
-//! places of keys that rows had lately, and is asked first. So a row of a group that was met lately costs one comparison of
-//! keys and changes its state in place; another costs a path of comparisons. A new group takes about 260 bytes for its key
-//! and 400 for its state, and its next row as much again for the key if `recent` has room. PostgreSQL's hash aggregation
-//! keeps states apart from what finds them, too.
+//! It has three parts. `keys` finds the place of a key by its hash; `states` has the state of each key, one after the other in
+//! the order in which the keys came; `left` has the places of the groups that are in the map, and is put in the order of
+//! their keys, the greatest first, when the first group is asked for. So a row of a group that is there costs one look-up and
+//! changes its state in place, and the order is made once.
 //!
-//! A new group is put at the end of `states`, then into `places`. `take_first` takes a key out of `places`, and leaves its state
-//! where it is, to be used no more, until no key is left. Each place is below the number of states and is that of one key, so
-//! that a state that changes is that of one key alone; and what `recent` knows of a key is the place that `places` has, so that
-//! it matters nowhere what it knows.
+//! `take_first` takes the last place out of `left`, and leaves the key and its state where they are, until no place is left. A
+//! key that comes again after that gets its old place back. While no key was taken, each key that is found is in the map.
 
-ghost use Rattle.std.specs.Prelude.{◌≡◌, ◌<◌, ◌≤◌, ◌+◌, ◌*◌, ◌^◌, ◌∷◌, ◌++◌, [], ℕ, List, IfOk, IfErr, IfSome, IfNone, OnOk, OnErr, None, Some, All, length};
+ghost use Rattle.std.specs.Prelude.{◌≡◌, ◌<◌, ◌≤◌, ◌+◌, ◌*◌, ◌^◌, ◌∷◌, ◌++◌, ◌↔◌, [], ℕ, List, Contains, IsTrue, true, false, IfOk, IfErr, IfSome, IfNone, OnOk, OnErr, None, Some, All, length, map as map_list, reverse};
 ghost use Rattle.std.specs.FinMap as map;
+ghost use Rattle.std.specs.List.Sorted.{IsPermutation, IsSorted};
+ghost use Rattle.key_table.specs.Keys.{key_at, key_cmp};
 ghost use Rattle.csv_rows.specs.Records.{record_at};
 ghost use Rattle.par_model.specs.Plan.{Plan};
 ghost use Rattle.par_model.specs.Columns.{HasColumns};
 ghost use Rattle.partial_agg.specs.Blocks.{Explains, Stopped};
 ghost use Rattle.partial_agg.specs.Groups.{AreGroups, added, with_rows};
-ghost use Rattle.partial_agg.specs.Listed.{listed};
-ghost use Rattle.partial_agg.specs.Reading.{values_state};
-ghost use Rattle.partial_agg.specs.Reads.{IsKeptBy};
+ghost use Rattle.partial_agg.specs.Listed.{group, listed};
+ghost use Rattle.partial_agg.specs.Placed.{placed, places_of};
+ghost use Rattle.partial_agg.specs.Values.{values_state};
+ghost use Rattle.partial_agg.specs.Status.{IsKeptBy};
 ghost use Rattle.partial_agg.specs.Rows.{IsAccepted, block_rows, header_width};
 
 use crate::groups::{Group, Groups};
 use crate::key::GroupKey;
-use crate::recent::Recent;
-use crate::row::{Reading, RowBuffer, items, read_values};
+use crate::row::{RowBuffer, RowStatus, items, read_values};
 use crate::state::{add_values, combine, one_row};
 use csv_rows::RowStore;
+use key_table::KeyTable;
 use par_model::{AggState, BoundPlan};
 use std::alloc::{AllocError, Global};
-use std::collections::BTreeMap;
 use std::marker::Model;
 
 /// The rows of a block.
@@ -41,25 +39,32 @@ pub const BLOCK_ROWS: u64 = 256;
 /// A map from keys to states, in the order of the keys' bytes.
 #[derive(Drop)]
 pub struct GroupMap {
-    places: BTreeMap<GroupKey, usize>,
+    /// Each key that came, with its place, also where its group was taken.
+    keys: KeyTable,
+    /// The state of the key at each place.
     states: Vec<AggState>,
-    recent: Recent,
+    /// The places of the groups that are in the map.
+    left: Vec<usize>,
+    /// That no group was taken, so that each place is left.
+    whole: bool,
+    /// That `left` is in the order of the keys, the greatest first.
+    sorted: bool,
     alloc: Global,
 }
 
 impl Model for GroupMap {
-    ghost use Rattle.std.specs.Prelude.{length};
+    ghost use Rattle.std.specs.Prelude.{length, reverse};
     ghost use Rattle.partial_agg.specs.Groups.{GroupsByKey, groups_code};
 
     ghost Value = { GroupsByKey };
 
     ghost coded = { groups_code };
 
-    ghost use Rattle.partial_agg.specs.Placed.{ArePlaces, groups_at};
+    ghost use Rattle.partial_agg.specs.Placed.{IsGrouped, groups_at, places_of};
 
-    ghost view = { λ m. groups_at m.places.entries m.states.items };
+    ghost view = { λ m. groups_at (places_of m.keys (reverse m.left.items)) m.states.items };
 
-    ghost invariant = { λ m. ArePlaces m.places.entries (length m.states.items) m.recent };
+    ghost invariant = { λ m. IsGrouped m.keys (length m.states.items) (reverse m.left.items) m.whole m.sorted };
 }
 
 /// Why a block was not added whole: its first refused row, or want of memory.
@@ -76,9 +81,11 @@ impl GroupMap {
         ensures groups { (plan : Plan) → AreGroups plan [] result }
     {
         GroupMap {
-            places: BTreeMap::new(alloc),
+            keys: KeyTable::new(alloc),
             states: Vec::new(alloc),
-            recent: Recent::new(alloc),
+            left: Vec::new(alloc),
+            whole: true,
+            sorted: true,
             alloc,
         }
     }
@@ -87,7 +94,7 @@ impl GroupMap {
     pub fn len(&self) -> usize
         ensures { result ≡ map.len self.now }
     {
-        self.places.len()
+        self.left.len()
     }
 
     /// Adds a state under a key: to the state that the key has, if it has one. The time is that of a look-up.
@@ -95,12 +102,7 @@ impl GroupMap {
         ensures ok { OnOk result (self.new ≡ added self.old key state.now) }
         ensures err { OnErr result (self.new ≡ self.old) }
     {
-        if let Some(place) = self.places.get(&key) {
-            let place = *place;
-            combine(&mut self.states[place], state);
-            return Ok(());
-        }
-        self.add_new(key, state)
+        self.add_state(&key, state)
     }
 
     /// Takes the group with the least key out of the map.
@@ -109,16 +111,17 @@ impl GroupMap {
         ensures none { IfNone result (self.old ≡ map.empty) }
         ensures unchanged { IfNone result (self.new ≡ self.old) }
     {
-        let Some((key, place)) = self.places.pop_first() else {
+        put_in_order(&self.keys, &mut self.left, self.sorted);
+        self.sorted = true;
+        let Some(place) = self.left.pop() else {
             return None;
         };
-        self.recent.forget();
-        let state = self.states[place];
-        if self.places.is_empty() {
-            self.states.clear();
-            self.recent = Recent::new(self.alloc);
+        self.whole = false;
+        let group = (GroupKey::copy_of(self.keys.get(place)), self.states[place]);
+        if self.left.is_empty() {
+            *self = GroupMap::new(self.alloc);
         }
-        Some((key, state))
+        Some(group)
     }
 
     /// The groups as a list in the order of their keys. The map is used up, also where memory is wanting.
@@ -126,19 +129,15 @@ impl GroupMap {
         ensures { IfOk result (λ groups. groups ≡ listed self) }
     {
         let GroupMap {
-            places,
+            keys,
             states,
-            recent: _,
+            mut left,
+            sorted,
             alloc,
+            ..
         } = self;
-        let mut list = Vec::with_capacity(alloc, places.len())?;
-        for (key, place) in places {
-            let state = states[place];
-            if list.push(Group { key, state }).is_err() {
-                return Err(AllocError);
-            }
-        }
-        Ok(Groups::of_list(list))
+        put_in_order(&keys, &mut left, sorted);
+        list_of(alloc, &keys, states.as_slice(), left)
     }
 
     /// Adds the rows of a block in order, but for those that the filter leaves out. A refused row stops it, the first of
@@ -174,7 +173,7 @@ impl GroupMap {
         Ok(())
     }
 
-    // Reads a row, and adds it if it is kept.
+    /// Reads a row, and adds it if it is kept.
     fn add_read(
         &mut self,
         buffer: &mut RowBuffer,
@@ -190,18 +189,18 @@ impl GroupMap {
         ensures err { OnErr result (self.new ≡ self.old) }
     {
         match buffer.read_key(rows, row, plan) {
-            Reading::Refused(refusal) => Err(BlockAnswer::Row {
+            RowStatus::Refused(refusal) => Err(BlockAnswer::Row {
                 row,
                 cause: refusal.cause,
                 item: refusal.item,
             }),
-            Reading::LeftOut => Ok(()),
-            Reading::Kept => self.add_kept(buffer, rows, row, plan),
+            RowStatus::LeftOut => Ok(()),
+            RowStatus::Kept => self.add_kept(buffer, rows, row, plan),
         }
     }
 
-    // Reads the values of a row whose key is read, and adds it. The key is looked for first, so that what this waits for comes
-    // while the values are parsed.
+    /// Reads the values of a row whose key is read, and adds it. The key is looked for first, so that what this waits for comes
+    /// while the values are parsed.
     fn add_kept(
         &mut self,
         buffer: &mut RowBuffer,
@@ -217,7 +216,7 @@ impl GroupMap {
         ensures stopped { IfErr result (Explains plan.now rows.now row) }
         ensures err { OnErr result (self.new ≡ self.old) }
     {
-        let known = self.recent.find(&buffer.key);
+        let known = self.keys.find(buffer.key.bytes());
         let items = items(plan);
         match read_values(&mut buffer.values, rows, row, items) {
             Ok(()) => {}
@@ -229,49 +228,84 @@ impl GroupMap {
         }
         let values = &buffer.values[..items.len()];
         if let Some(place) = known {
-            add_values(&mut self.states[place], values);
-            return Ok(());
+            if self.whole {
+                add_values(&mut self.states[place], values);
+                return Ok(());
+            }
         }
-        match self.add_looked_up(&buffer.key, values) {
+        match self.add_state(&buffer.key, &one_row(values)) {
             Ok(()) => Ok(()),
             Err(AllocError) => Err(BlockAnswer::Memory),
         }
     }
 
-    // Adds a row of this key that has these values, where the key is none of those that were met lately.
+    /// Adds a state under a key.
     #[inline(never)]
-    fn add_looked_up(&mut self, key: &GroupKey, values: &[Option<i64>]) -> Result<(), AllocError>
-        requires { length values.now ≤ 8 }
-        ensures ok { OnOk result (self.new ≡ added self.old key.now (values_state values.now)) }
+    fn add_state(&mut self, key: &GroupKey, state: &AggState) -> Result<(), AllocError>
+        ensures ok { OnOk result (self.new ≡ added self.old key.now state.now) }
         ensures err { OnErr result (self.new ≡ self.old) }
     {
-        if let Some(place) = self.places.get(key) {
-            let place = *place;
-            self.recent.note(key, place);
-            add_values(&mut self.states[place], values);
-            return Ok(());
-        }
-        self.add_new(key.copied(), &one_row(values))
-    }
-
-    // Puts a group that is not there into the map.
-    #[inline(never)]
-    fn add_new(&mut self, key: GroupKey, state: &AggState) -> Result<(), AllocError>
-        requires { map.get self.old key ≡ None }
-        ensures ok { OnOk result (self.new ≡ added self.old key state.now) }
-        ensures err { OnErr result (self.new ≡ self.old) }
-    {
-        let place = self.states.len();
-        self.states.push(*state)?;
-        match self.places.insert(key, place) {
-            Ok(_) => {
-                self.recent.fit(self.alloc, self.places.len());
+        match self.keys.find(key.bytes()) {
+            Some(place) => {
+                if self.whole || is_left(self.left.as_slice(), place) {
+                    combine(&mut self.states[place], state);
+                } else {
+                    self.left.push(place)?;
+                    self.states[place] = *state;
+                    self.sorted = false;
+                }
                 Ok(())
             }
-            Err(_) => {
-                let _ = self.states.pop();
-                Err(AllocError)
+            None => {
+                self.left.reserve(1)?;
+                self.states.reserve(1)?;
+                self.keys.push(self.alloc, key.bytes())?;
+                self.left.push_reserved(self.states.len());
+                self.states.push_reserved(*state);
+                self.sorted = false;
+                Ok(())
             }
         }
     }
+}
+
+fn is_left(left: &[usize], place: usize) -> bool
+    ensures { IsTrue result ↔ Contains left.now place }
+{
+    left.contains(&place)
+}
+
+/// Puts places in the order of their keys, the greatest first, if they are not in it.
+fn put_in_order(keys: &KeyTable, left: &mut Vec<usize>, sorted: bool)
+    ensures permutation { IsPermutation left.old.items left.new.items }
+    ensures sorted { sorted ≡ false → IsSorted key_cmp (map_list (key_at keys.now) (reverse left.new.items)) }
+    ensures unchanged { sorted ≡ true → left.new.items ≡ left.old.items }
+{
+    if !sorted {
+        keys.sort(left);
+        left.reverse();
+    }
+}
+
+/// The groups at places, the last one first.
+fn list_of(
+    alloc: Global,
+    keys: &KeyTable,
+    states: &[AggState],
+    mut left: Vec<usize>,
+) -> Result<Groups, AllocError>
+    requires keys { All (λ place. place < length keys.now) left.items }
+    requires states { length states.now ≡ length keys.now }
+    requires fits { All (λ key. length key ≤ 248) keys.now }
+    ensures { IfOk result (λ groups. groups ≡ map_list group (placed (places_of keys.now (reverse left.items)) states.now)) }
+{
+    let mut list = Vec::with_capacity(alloc, left.len())?;
+    while let Some(place) = left.pop() {
+        let key = GroupKey::copy_of(keys.get(place));
+        let state = states[place];
+        if list.push(Group { key, state }).is_err() {
+            return Err(AllocError);
+        }
+    }
+    Ok(Groups::of_list(list))
 }

@@ -1,21 +1,22 @@
-use Rattle.std.proofs.Common.{◌≡◌, ◌∷◌, ◌∙◌, [], ap, sym, arith, List, ℕ, ℤ, Option, None, length, map, take}
+use Rattle.std.proofs.Common.{◌≡◌, ◌∷◌, ◌∙◌, [], ap, sym, arith, List, ℕ, ℤ, Option, Some, None, reverse, length, map, take}
 use Rattle.std.specs.List.{position_from}
 use Rattle.csv_rows.specs.Records.{record_at}
 use Rattle.par_model.specs.Plan.{Plan}
 use Rattle.par_model.specs.Refuse.{is_unreadable}
 use Rattle.par_model.specs.declared.plan.Item.{Item}
 use Rattle.partial_agg.specs.Groups.{GroupsByKey, added, with_rows}
-use Rattle.partial_agg.specs.Reading.{value_of, values_state}
-use Rattle.partial_agg.specs.Reads.{IsKeptBy}
+use Rattle.partial_agg.specs.Values.{value_of, values_state}
+use Rattle.partial_agg.specs.Status.{IsKeptBy}
 use Rattle.partial_agg.specs.Rows.{header_width}
 use Rattle.par_model.specs.Key.{key_of}
 use Rattle.partial_agg.proofs.Blocks.{with_rows-kept}
 use Rattle.partial_agg.proofs.OneRow.{state_of_one}
+use Rattle.std.proofs.lemmas.Option.{slice_get_within}
+use Rattle.par_model.specs.declared.state.AggState.{AggState}
+use Rattle.partial_agg.specs.Placed.{places_of}
+use Rattle.partial_agg.proofs.Grouped.{are_places, place_whole}
 use Rattle.partial_agg.proofs.Placed.{state_changed}
 use Rattle.partial_agg.proofs.map.GroupMap.add_kept.Goals as goal
-
-pub index_mut-requires : goal.index_mut-requires
-index_mut-requires c = omega (arith, c.self.invariant.within c.args.buffer.now.key c.in-Some.place (c.self.invariant.known c.args.buffer.now.key c.in-Some.place c.in-Some.ensures))
 
 -- to add the values that were read under the key that was read is to add the row
 row_added : (plan : Plan) (width : ℕ) (row : List (List ℕ)) (key : List ℕ) (items : List Item) (values : List (Option ℤ)) (groups : GroupsByKey) → IsKeptBy plan width row key → items ≡ plan.items
@@ -26,16 +27,28 @@ row_added plan width row key items values groups kept same read readable =
     ∙ ap (added groups (key_of plan row)) (sym (state_of_one plan row (ap (λ (items : List Item). position_from (is_unreadable row) 0 items) (sym same) ∙ readable)))
     ∙ sym (with_rows-kept plan groups row kept.kept)
 
-pub returns-in-Some-clause-added : goal.returns-in-Some-clause-added
-returns-in-Some-clause-added c =
-    state_changed c.args.self.now c.self.inside.places.entries c.self.inside.states.items c.self.inside.recent c.args.buffer.now.key c.in-Some.place c.index_mut.result.now c.add_values.new.state
+pub index_mut-requires : goal.index_mut-requires
+index_mut-requires c =
+    let there = slice_get_within c.self.inside.keys c.in-Some.place c.bytes.result.now c.in-Some.ensures.found in
+    let counted = c.self.invariant.counted in
+    omega (arith, there, counted)
+
+pub returns-then-self-clause-added : goal.returns-then-self-clause-added
+returns-then-self-clause-added c =
+    let keys = c.self.inside.keys in
+    let left = reverse c.self.inside.left.items in
+    let count = length c.self.inside.states.items in
+    state_changed c.args.self.now (places_of keys left) c.self.inside.states.items c.args.buffer.now.key c.in-Some.place c.index_mut.result.now c.add_values.new.state
     (values_state (take (length c.items-items.result.now) c.read_values.new.values))
-    c.self.view_is c.self.invariant (c.self.invariant.known c.args.buffer.now.key c.in-Some.place c.in-Some.ensures) c.index_mut.ensures.value c.add_values.ensures
+    c.self.view_is (are_places keys count left c.self.inside.whole c.self.inside.sorted c.self.invariant)
+    (place_whole keys count left c.self.inside.whole c.self.inside.sorted c.args.buffer.now.key c.in-Some.place c.self.invariant c.if-self.true (c.in-Some.ensures.found ∙ ap Some c.bytes.ensures.bytes))
+    c.index_mut.ensures.value c.add_values.ensures
     ∙ row_added c.args.plan.now (header_width c.args.rows.now) (record_at c.args.rows.now c.args.row) c.args.buffer.now.key c.items-items.result.now c.read_values.new.values c.args.self.now
     c.requires.kept c.items-items.ensures.items c.in-Ok.ensures.values c.in-Ok.ensures.readable
 
-pub returns-in-Ok-add_looked_up-clause-added : goal.returns-in-Ok-add_looked_up-clause-added
-returns-in-Ok-add_looked_up-clause-added c =
-    c.in-Ok-add_looked_up.ensures.ok
+pub returns-in-Ok-add_state-clause-added : goal.returns-in-Ok-add_state-clause-added
+returns-in-Ok-add_state-clause-added c =
+    c.in-Ok-add_state.ensures.ok
+    ∙ ap (λ (state : AggState). added c.args.self.now c.args.buffer.now.key state) c.one_row.ensures
     ∙ row_added c.args.plan.now (header_width c.args.rows.now) (record_at c.args.rows.now c.args.row) c.args.buffer.now.key c.items-items.result.now c.read_values.new.values c.args.self.now
     c.requires.kept c.items-items.ensures.items c.in-Ok.ensures.values c.in-Ok.ensures.readable

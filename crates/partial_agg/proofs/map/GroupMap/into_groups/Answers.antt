@@ -1,38 +1,28 @@
-use Rattle.std.proofs.Common.{◌≡◌, ◌<◌, ◌∷◌, ◌++◌, ◌∙◌, [], ap, sym, subst, arith, ℕ, suc, List, All, map, length}
-use Rattle.partial_agg.specs.Listed.{group, listed}
-use Rattle.partial_agg.specs.Placed.{Places, placed}
+use Rattle.std.proofs.Common.{◌≡◌, ◌<◌, ◌∙◌, List, IfOk, ap, sym, subst, length, reverse, map as map_list}
+use Rattle.std.proofs.lemmas.List.Sorted.{All-permutation, IsPermutation-reverse, IsPermutation-sym, IsPermutation-trans}
+use Rattle.partial_agg.specs.Listed.{group}
+use Rattle.partial_agg.specs.Placed.{IsGrouped}
 use Rattle.partial_agg.specs.declared.groups.Group.{Group}
-use Rattle.partial_agg.proofs.Placed.{all_within, entries-groups_at, one_listed}
+use Rattle.partial_agg.proofs.Grouped.{entries_of, grouped_ordered, reversed_moved, same_places}
 use Rattle.partial_agg.proofs.map.GroupMap.into_groups.Goals as goal
 
-pub loop-key-init : goal.loop-key-init
-loop-key-init c = record {
-  done = ap (λ (list : List Group). list ++ map group (placed c.into_iter-key-iterator.result c.self.inside.states.items)) c.in_ok-list.ensures.items
-      ∙ ap (λ (places : Places). map group (placed places c.self.inside.states.items)) c.into_iter-key-iterator.ensures.into_iter_gives.0
-      ∙ sym (ap (map group) (entries-groups_at c.args.self c.self.inside.places.entries c.self.inside.states.items c.self.view_is c.len.ensures.ordered));
-  within = subst (λ (places : Places). All (λ entry. entry.1 < length c.self.inside.states.items) places) (sym c.into_iter-key-iterator.ensures.into_iter_gives.0)
-      (all_within c.self.inside.places.entries (length c.self.inside.states.items) c.self.inside.recent c.self.invariant c.len.ensures.ordered);
-}
+pub list_of-requires-clause-keys : goal.list_of-requires-clause-keys
+list_of-requires-clause-keys c =
+    let old = c.self.inside.left.items in
+    let new = c.put_in_order.new.left.items in
+    All-permutation (λ place. place < length c.self.inside.keys) (reverse old) new
+    (IsPermutation-trans (reverse old) old new (IsPermutation-sym old (reverse old) (IsPermutation-reverse old)) c.put_in_order.ensures.permutation) c.self.invariant.within
 
--- the next entry's place
-next_within : (places rest : Places) (key : List ℕ) (place n : ℕ) → places ≡ (key, place) ∷ rest → All (λ entry. entry.1 < n) places → place < n
-next_within places rest key place n is within = subst (λ (places : Places). All (λ entry. entry.1 < n) places) is within 0 (key, place) (omega arith)
-
-rest_within : (places rest : Places) (key : List ℕ) (place n : ℕ) → places ≡ (key, place) ∷ rest → All (λ entry. entry.1 < n) places → All (λ entry. entry.1 < n) rest
-rest_within places rest key place n is within i d lt = subst (λ (places : Places). All (λ entry. entry.1 < n) places) is within (suc i) d (omega arith)
-
-pub index-state-requires : goal.index-state-requires
-index-state-requires c = omega (arith, next_within c.loop-key.key-iterator c.next.new.self c.in-Some.key c.in-Some.place (length c.self.inside.states.items) c.in-Some.ensures.steps c.loop-key.invariant.within)
-
-pub loop-key-preserved : goal.loop-key-preserved
-loop-key-preserved c =
+pub returns : goal.returns
+returns c =
+    let keys = c.self.inside.keys in
     let states = c.self.inside.states.items in
-    let one : Group = record { key = c.in-Some.key; state = c.index-state.result.now } in
-    let pushed : c.push.new.self.items ≡ c.loop-key.list.items ++ one ∷ [] = rw c.if-is_err.ensures.negation at c.push.ensures.items in
-    let within = next_within c.loop-key.key-iterator c.next.new.self c.in-Some.key c.in-Some.place (length states) c.in-Some.ensures.steps c.loop-key.invariant.within in
-    record {
-      done = ap (λ (list : List Group). list ++ map group (placed c.next.new.self states)) pushed
-          ∙ one_listed c.loop-key.list.items c.loop-key.key-iterator c.next.new.self states (listed c.args.self) c.in-Some.key c.in-Some.place c.index-state.result.now
-          c.loop-key.invariant.done c.in-Some.ensures.steps within c.index-state.ensures;
-      within = rest_within c.loop-key.key-iterator c.next.new.self c.in-Some.key c.in-Some.place (length states) c.in-Some.ensures.steps c.loop-key.invariant.within;
-    }
+    let old = c.self.inside.left.items in
+    let new = c.put_in_order.new.left.items in
+    let whole = c.self.inside.whole in
+    let sorted = c.self.inside.sorted in
+    let ordered : IsGrouped keys (length states) (reverse new) whole _ =
+    grouped_ordered keys (length states) old new whole sorted c.self.invariant c.put_in_order.ensures.permutation c.put_in_order.ensures.sorted c.put_in_order.ensures.unchanged in
+    let same = same_places keys (length states) (reverse old) (reverse new) whole sorted states c.self.invariant (reversed_moved old new c.put_in_order.ensures.permutation) ∙ c.self.view_is in
+    let entries = entries_of c.args.self keys (length states) (reverse new) whole states same ordered in
+    subst (λ (groups : List Group). IfOk c.list_of.result (λ result. result ≡ groups)) (ap (map_list group) (sym entries)) (rw c.as_slice.ensures.value at c.list_of.ensures)
