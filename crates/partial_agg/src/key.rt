@@ -4,17 +4,16 @@
 ghost use Rattle.std.specs.Prelude.{◌≡◌, ◌≤◌, ◌+◌, ◌++◌, ◌↔◌, [], IsSome, IfSome, IsTrue, length};
 ghost use Rattle.std.specs.Bool.{OnTrue};
 ghost use Rattle.par_model.specs.Key.{encoded_field};
+ghost use Rattle.par_model.specs.declared.refusal.TheConstants.{LONGEST_KEY};
 
+use par_model::LONGEST_KEY;
 use std::cmp::Ordering;
 use std::marker::Model;
-
-/// The most bytes that a key has.
-pub const LONGEST_KEY: usize = 248;
 
 /// An encoded key. Keys compare byte by byte.
 #[derive(Debug, Drop)]
 pub struct GroupKey {
-    bytes: [u8; 248],
+    bytes: [u8; LONGEST_KEY],
     len: u32,
 }
 
@@ -25,7 +24,9 @@ impl Model for GroupKey {
 
     ghost view = { λ k. take k.len k.bytes };
 
-    ghost invariant = { λ k. k.len ≤ 248 };
+    ghost use Rattle.par_model.specs.declared.refusal.TheConstants.{LONGEST_KEY};
+
+    ghost invariant = { λ k. k.len ≤ LONGEST_KEY };
 }
 
 impl GroupKey {
@@ -58,7 +59,7 @@ impl GroupKey {
 
     /// The key of these bytes, which are not too many.
     pub(crate) fn copy_of(bytes: &[u8]) -> GroupKey
-        requires { length bytes.now ≤ 248 }
+        requires { length bytes.now ≤ LONGEST_KEY }
         ensures { result ≡ bytes.now }
     {
         let mut key = GroupKey::none();

@@ -25,11 +25,11 @@ ghost use Rattle.partial_agg.specs.Rows.{IsAccepted, block_rows, header_width};
 
 use crate::groups::{Group, Groups};
 use crate::key::GroupKey;
-use crate::row::{RowBuffer, RowStatus, items, read_values};
+use crate::row::{RowBuffer, RowStatus, read_values};
 use crate::state::{add_values, combine, one_row};
 use csv_rows::RowStore;
 use key_table::KeyTable;
-use par_model::{AggState, BoundPlan};
+use par_model::{AggState, BoundPlan, ITEM_CAUSE};
 use std::alloc::{AllocError, Global};
 use std::marker::Model;
 
@@ -217,12 +217,12 @@ impl GroupMap {
         ensures err { OnErr result (self.new ≡ self.old) }
     {
         let known = self.keys.find(buffer.key.bytes());
-        let items = items(plan);
+        let items = plan.items();
         match read_values(&mut buffer.values, rows, row, items) {
             Ok(()) => {}
             Err(item) => return Err(BlockAnswer::Row {
                 row,
-                cause: 3,
+                cause: ITEM_CAUSE,
                 item,
             }),
         }
