@@ -1,5 +1,5 @@
-//! The text of an average: four decimals, rounded half away from zero. A sum of 128 bits is exact here, since at most 2^32
-//! numbers of 64 bits leave room for the four decimals and one bit more.
+//! The text of an average: four decimals, rounded half away from zero. A sum of 128 bits is exact here, since at most
+//! 2^32 numbers of 64 bits leave room for the four decimals and one bit more.
 
 ghost use Rattle.std.specs.Prelude.{◌≡◌, ◌<◌, ◌≤◌, ◌+◌, ◌*◌, ◌%◌, ◌^◌, ◌++◌, OnOk, unsigned_abs};
 ghost use Rattle.std.specs.Fmt.{sign_text};
@@ -22,7 +22,7 @@ pub(crate) fn push_average(text: &mut Vec<u8>, sum: i128, count: u64) -> Result<
     Ok(())
 }
 
-// A minus, where there is one.
+/// A minus, where there is one.
 fn push_sign(text: &mut Vec<u8>, minus: bool) -> Result<(), AllocError>
     ensures { OnOk result (text.new.items ≡ text.old.items ++ sign_text minus) }
 {
@@ -32,7 +32,7 @@ fn push_sign(text: &mut Vec<u8>, minus: bool) -> Result<(), AllocError>
     Ok(())
 }
 
-// The quotient in ten-thousandths, rounded half up.
+/// The quotient in ten-thousandths, rounded half up.
 fn ten_thousandths(size: u128, count: u64) -> u128
     requires some { 0 < count }
     requires few { count ≤ 2 ^ 32 }
@@ -43,7 +43,7 @@ fn ten_thousandths(size: u128, count: u64) -> u128
     (2 * (10_000 * size) + count) / (2 * count)
 }
 
-// The digits of a number below 10,000, with leading zeros.
+/// The digits of a number below 10,000, with leading zeros.
 fn four_digits(n: u16) -> [u8; 4]
     requires { n < 10000 }
     ensures { result ≡ decimal.four_digits n }
@@ -51,7 +51,7 @@ fn four_digits(n: u16) -> [u8; 4]
     [digit(n / 1000), digit(n / 100), digit(n / 10), digit(n)]
 }
 
-// The last digit of a number.
+/// The last digit of a number.
 fn digit(n: u16) -> u8
     ensures { result ≡ 48 + n % 10 }
 {

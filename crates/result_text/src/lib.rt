@@ -1,8 +1,8 @@
 //! The text of the table that answers a query: the header, and a line for each group.
 //!
-//! The groups come in the order of their encoded keys, in which a short column stands before a long one. The table is in
-//! the order of the columns themselves, so a list of references is sorted, column by column. Each line is put together in one
-//! record, whose memory serves for all lines, and the crate `csv` writes it and decides all quotes.
+//! The groups come in the order of their encoded keys, in which a short column stands before a long one. The table is
+//! in the order of the columns themselves, so a list of references is sorted, column by column. Each line is put
+//! together in one record, whose memory serves for all lines, and the crate `csv` writes it and decides all quotes.
 #![tactic(auto)]
 
 ghost use Rattle.std.specs.Prelude.{◌≡◌, ◌∷◌, ℕ, List, IfOk};
@@ -25,9 +25,9 @@ use partial_agg::Groups;
 use plan_spec::Plan;
 use std::alloc::{AllocError, Global};
 
-/// The text of the table of some groups, under the plan that they were made by and its columns. The groups are only read.
-/// An error is want of memory. It takes memory for the text and 24 bytes a group; the time is that of the text, and of
-/// n log n comparisons of the keys of n groups.
+/// The text of the table of some groups, under the plan that they were made by and its columns. The groups are only
+/// read. An error is want of memory. It takes memory for the text and 24 bytes a group; the time is that of the text,
+/// and of n log n comparisons of the keys of n groups.
 pub fn text_of(
     alloc: Global,
     plan: &Plan,

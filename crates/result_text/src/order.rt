@@ -36,7 +36,7 @@ pub(crate) fn in_order<'a>(
     Ok(refs)
 }
 
-// The groups as they are listed.
+/// The groups as they are listed.
 fn as_they_are<'a>(alloc: Global, groups: &'a Groups) -> Result<Vec<GroupRef<'a>>, AllocError>
     ensures same { IfOk result (λ refs. map group_of refs.items ≡ groups.now) }
     ensures short { OnOk result (All (λ group. length group.key ≤ 248) groups.now) }
@@ -51,7 +51,7 @@ fn as_they_are<'a>(alloc: Global, groups: &'a Groups) -> Result<Vec<GroupRef<'a>
     Ok(refs)
 }
 
-// How two keys compare by so many columns.
+/// How two keys compare by so many columns.
 fn compare(a: &[u8], b: &[u8], columns: u32) -> Ordering
     ensures { result ≡ columns_cmp (columns_in columns a.now) (columns_in columns b.now) }
 {

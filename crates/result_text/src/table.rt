@@ -20,7 +20,8 @@ use partial_agg::empty;
 use plan_spec::Plan;
 use std::alloc::{AllocError, Global};
 
-/// A table as far as it is written. The record and the text of an average are filled anew for each line, in the same memory.
+/// A table as far as it is written. The record and the text of an average are filled anew for each line, in the same
+/// memory.
 #[derive(Drop)]
 pub(crate) struct TableWriter {
     writer: Writer<Vec<u8>>,
@@ -69,7 +70,7 @@ impl TableWriter {
         self.write_each(bound, groups)
     }
 
-    // A line for each group.
+    /// A line for each group.
     fn write_each(&mut self, bound: &BoundPlan, groups: &[GroupRef<'_>]) -> Result<(), AllocError>
         requires between { IsBetween self.old.writer }
         requires small { All (λ group. All IsSmallSlot group.state.now.slots) groups.now }
@@ -81,7 +82,7 @@ impl TableWriter {
         Ok(())
     }
 
-    // The line of a group with this key.
+    /// The line of a group with this key.
     fn write_group(
         &mut self,
         bound: &BoundPlan,
@@ -99,7 +100,7 @@ impl TableWriter {
         self.write_record()
     }
 
-    // Writes the record. Over memory nothing but want of memory can fail, since all lines have as many fields.
+    /// Writes the record. Over memory nothing but want of memory can fail, since all lines have as many fields.
     fn write_record(&mut self) -> Result<(), AllocError>
         requires { IsBetween self.old.writer }
         ensures text { OnOk result (written self.new.writer ≡ written self.old.writer ++ row_text default_writer (fields_of self.old.row)) }

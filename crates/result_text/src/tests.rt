@@ -17,7 +17,7 @@ use plan_spec::Plan;
 use std::alloc::{AllocError, Global};
 use std::test::Fail;
 
-// The answer to a plan over the rows of a store, whose groups are in a map: the caller of CALLING.md.
+/// The answer to a plan over the rows of a store, whose groups are in a map: the caller of CALLING.md.
 fn answer(
     alloc: Global,
     plan: &Plan,
@@ -34,7 +34,7 @@ fn answer(
     text_of(alloc, plan, bound, &groups)
 }
 
-// Whether a plan without a filter reads columns below this width alone.
+/// Whether a plan without a filter reads columns below this width alone.
 fn reads_below(bound: &BoundPlan, width: u32) -> bool
     ensures { OnTrue result (HasColumns bound.now width) }
 {
@@ -45,7 +45,7 @@ fn reads_below(bound: &BoundPlan, width: u32) -> bool
         && items.iter().all(|item| item.column < width)
 }
 
-// The groups of a store of at most one block.
+/// The groups of a store of at most one block.
 fn groups_of(alloc: Global, bound: &BoundPlan, store: &RowStore) -> Option<GroupMap>
     requires { length store.now ≤ 257 }
     ensures { IfSome result (λ map. AreGroups bound.now (drop 1 store.now) map) }
@@ -64,7 +64,7 @@ fn groups_of(alloc: Global, bound: &BoundPlan, store: &RowStore) -> Option<Group
     }
 }
 
-// The text of the table of some words over at most 256 rows.
+/// The text of the table of some words over at most 256 rows.
 fn table(alloc: Global, words: &str, input: &str) -> Option<Vec<u8>> {
     let store = rows(alloc, input.as_bytes()).ok()?;
     let list = owned(alloc, words).ok()?;
@@ -144,7 +144,7 @@ fn tables(rt: HostRuntime) -> Result<(), Fail> {
     Ok(())
 }
 
-// The text of an average, if the sum is one of so many integers.
+/// The text of an average, if the sum is one of so many integers.
 fn average(alloc: Global, sum: i128, count: u64) -> Option<Vec<u8>> {
     if count == 0 || count > 1 << 32 {
         return None;

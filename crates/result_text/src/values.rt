@@ -10,7 +10,7 @@ use crate::decimal::push_average;
 use crate::order::split_column;
 use csv::ByteRecord;
 use itoa::Integer;
-use par_model::{AggState, BoundPlan, Item, ItemKind, SlotState};
+use par_model::{AggState, BoundPlan, ItemKind, SlotState};
 use plan_spec::Plan;
 use std::alloc::AllocError;
 
@@ -25,10 +25,10 @@ pub(crate) fn push_header(
     ensures fields { OnOk result (fields_of row.new ≡ fields_of row.old ++ table_header plan.now.plan) }
 {
     push_names(row, plan, bound.group_count)?;
-    push_item_texts(row, plan, items(bound).len() as u32)
+    push_item_texts(row, plan, bound.items().len() as u32)
 }
 
-// The so many names that a plan groups by.
+/// The so many names that a plan groups by.
 fn push_names(row: &mut ByteRecord, plan: &Plan, columns: u32) -> Result<(), AllocError>
     requires whole { partial_of row.old ≡ [] }
     requires columns { columns ≡ length plan.now.plan.groups }
@@ -41,7 +41,7 @@ fn push_names(row: &mut ByteRecord, plan: &Plan, columns: u32) -> Result<(), All
     Ok(())
 }
 
-// The names of a plan's so many aggregates.
+/// The names of a plan's so many aggregates.
 fn push_item_texts(row: &mut ByteRecord, plan: &Plan, count: u32) -> Result<(), AllocError>
     requires whole { partial_of row.old ≡ [] }
     requires items { count ≡ length plan.now.plan.items }
@@ -51,14 +51,6 @@ fn push_item_texts(row: &mut ByteRecord, plan: &Plan, count: u32) -> Result<(), 
         row.push_field(plan.item_text(at).as_bytes())?;
     }
     Ok(())
-}
-
-// A plan's aggregates, without the unused places.
-fn items(bound: &BoundPlan) -> &[Item]
-    ensures items { result.now ≡ bound.now.items }
-    ensures few { length result.now ≤ 8 }
-{
-    &bound.items[..bound.item_count as usize]
 }
 
 /// The so many columns of an encoded key.
@@ -87,13 +79,13 @@ pub(crate) fn push_values(
     requires small { All IsSmallSlot state.now.slots }
     ensures fields { OnOk result (fields_of row.new ≡ fields_of row.old ++ values_text bound.now state.now) }
 {
-    for (item, slot) in items(bound).iter().zip(state.slots.iter()) {
+    for (item, slot) in bound.items().iter().zip(state.slots.iter()) {
         push_value(row, average, item.kind, state.rows, slot)?;
     }
     Ok(())
 }
 
-// The value of one aggregate, or an empty field where it is null.
+/// The value of one aggregate, or an empty field where it is null.
 fn push_value(
     row: &mut ByteRecord,
     average: &mut Vec<u8>,
@@ -121,7 +113,7 @@ fn push_value(
     }
 }
 
-// An integer of any width.
+/// An integer of any width.
 fn push_integer<I: Integer>(row: &mut ByteRecord, n: I) -> Result<(), AllocError>
     requires whole { partial_of row.old ≡ [] }
     ensures fields { OnOk result (fields_of row.new ≡ fields_of row.old ++ I.text n ∷ []) }
