@@ -1,5 +1,5 @@
--- The messages of a worker's error queue as bytes, in the manner of parallel.c: the first byte tells the kind, and the numbers
--- after it stand lowest byte first.
+-- The messages of a worker's error queue as bytes, in the manner of parallel.c: the first byte tells the kind, and the
+-- numbers after it stand lowest byte first.
 use Rattle.std.specs.Prelude.{◌<◌, ◌^◌, ◌==◌, if◌then◌else◌, ℕ, List, [], ◌∷◌, ◌++◌, length, Option, Some, None}
 use Rattle.std.specs.Int.{w32, w64, to_le_bytes}
 use Rattle.error_queue.specs.declared.ErrorMessage.{ErrorMessage}

@@ -1,8 +1,9 @@
 //! What a worker says on its error queue: the row that it was refused, or that it ended in order.
 //!
-//! A message is a few bytes whose first byte tells its kind, as in PostgreSQL's parallel workers: `E` for an error, `X` for the end.
-//! The numbers after `E` stand lowest byte first. `encoding` of `specs/Message.antt` is the format; `write` and `read` are its two
-//! directions, and neither takes memory.
+//! A message is a few bytes whose first byte tells its kind, as in PostgreSQL's parallel workers: `E` for an error, `X`
+//! for the end. The numbers after `E` stand lowest byte first. `encoding` of `specs/Message.antt` is the format;
+//! `write` and `read` are its two directions, and neither takes memory.
+
 #![tactic(auto)]
 
 ghost use Rattle.std.specs.Prelude.{◌≡◌, IfOk, IfErr, Some, None, Ok, take, drop, length};
@@ -17,7 +18,8 @@ const END_TAG: u8 = b'X';
 /// A message of an error queue.
 #[derive(Debug, Clone, Copy, PartialEq, Eq)]
 pub enum ErrorMessage {
-    /// A refused row: its number (the first row after the header is 1), the cause, and for cause 3 the place of the item.
+    /// A refused row: its number (the first row after the header is 1), the cause, and for cause 3 the place of the
+    /// item.
     Row { row: u64, cause: u8, item: u32 },
     /// The worker ended in order.
     End,

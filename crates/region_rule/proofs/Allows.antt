@@ -1,4 +1,5 @@
--- What a table under the rule asks of a step: that it is an event of the region. Once for a load, a store, a split and a join.
+-- What a table under the rule asks of a step: that it is an event of the region. Once for a load, a store, a split and
+-- a join.
 use Rattle.std.proofs.Common.{◌≡◌, ◌≢◌, ℕ, zero, suc, ◌<◌, List, [], ◌∷◌, set, get_or, length, refl, sym, ap, subst, ◌∙◌, arith}
 use mathlib.Core.Option.{some}
 use lib.ListN.{get_elem?}

@@ -1,4 +1,4 @@
--- EACH KIND OF STEP keeps a sound world sound.
+-- Each kind of step keeps a sound world sound.
 use Rattle.std.proofs.Common.{sym, subst}
 use Rattle.region_rule.specs.Sound.{World, Sound}
 use Rattle.region_rule.specs.Steps.{Event, Load, Store, Split, Join, Freeze, Share, LoadFrozen, EndShare, MakeRing, LoadRead, StoreData, StoreWritten, LoadWritten, LoadData, StoreRead, StoreSenderFlag, StoreReceiverFlag, LoadSenderFlag, LoadReceiverFlag, LoadWrittenLast, JoinEnds, LoadDone, EndDone, PartAgain, Happens}

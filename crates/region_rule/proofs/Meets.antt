@@ -24,7 +24,7 @@ no_partner Neither e = refl
 no_partner (Sends r) e = cc
 no_partner (Receives r) e = cc
 
--- ONE TOKEN BECOMES THE TWO ENDS OF A RING
+-- one token becomes the two ends of a ring
 pub new_ends : (w : World) (i : ℕ) (u : View) (s : Sending) (t : Option Receiving) (q : Receiving) (v : Option Sending) → Sound w → Sees w i u → role u ≡ Neither
     → ((k : ℕ) → InRing s.ring k → Holds u k) → ((x : View) (k : ℕ) → MayShare w.words u x k → ⊥)
     → IsSending w.words s → IsReceiving w.words q → ArePaired w.words s t q v
@@ -90,7 +90,7 @@ framed_nothing max = ([], [], λ k d l. absurd (omega arith), refl)
 value_at : (m : WordMap) (from len k : ℕ) → HasJust m from len → from ≤ k → k < from + len → at m k ≡ Some (unwrap_or (at m k) 0)
 value_at m from len k h a b = value_is (at m k) (just_has m from len k h a b)
 
--- AN OWNER OF JUST A RING MAKES ITS ENDS
+-- an owner of just a ring makes its ends
 pub makes_ring : (w : World) (i : ℕ) (r : Ring) (m : WordMap) (o : Olds) → Sound w → Sees w i (Own m o) → IsFresh m r
     → Sound (cut_anew w i (Sender (first_sending r (values_from m (r.base + 3) r.size)) None) (Receiver (first_receiving r) None))
 makes_ring w i r m o sound here fresh =
@@ -128,7 +128,7 @@ makes_ring w i r m o sound here fresh =
       told_receiver = tt;
     }
 
--- THE ENDS ARE JOINED
+-- the ends are joined
 ring_row : (words : List ℕ) (s : Sending) (t : Option Receiving) (q : Receiving) (u : Option Sending) → IsSending words s → IsReceiving words q → ArePaired words s t q u
     → (i x k : ℕ) → k ≡ s.ring.base + i → get_elem? (ring_words s q) i ≡ some x → get_elem? words k ≡ some x
 ring_row words s t q u a b c zero x k e f = ap (get_elem? words) (let z : k ≡ s.ring.base = omega arith in z) ∙ (a.written ∙ f)
@@ -252,7 +252,7 @@ joins_ends w i j s t q u sound here there same apart =
         absurd (sound.apart i k (Sender s t) (Sender r.0 r.1) (λ z. ki (sym z)) here at_k' q.ring.base in_s in_r))
         (λ (nf : h.0 ≢ j). (h.0, h.1, set_else (slice_set w.views j Spent) i h.0 (Done (ring_map s q) s q) ne ∙ (set_else w.views j h.0 Spent nf ∙ h.2), h.3)))
 
--- THE JOINED ENDS
+-- the joined ends
 pub loads_done : (w : World) (i : ℕ) (m : WordMap) (s : Sending) (q : Receiving) → Sound w → Sees w i (Done m s q) → Sound (seen_anew w i (Done m s q))
 loads_done w i m s q sound here = turn_still w i (Done m s q) (Done m s q) sound here refl (sound.honest i (Done m s q) here)
     (λ j x n at_j b. (b, sound.apart j i x (Done m s q) n at_j here))

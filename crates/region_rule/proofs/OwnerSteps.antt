@@ -1,10 +1,10 @@
 -- What a table asks of the steps of owners and of tokens of frozen words.
-use Rattle.std.proofs.Common.{◌≡◌, ℕ, ◌<◌, List, [], Option, Some, None, IfSome, replicate, refl, sym, ◌∙◌}
+use Rattle.std.proofs.Common.{◌≡◌, ℕ, ◌<◌, List, [], Option, Some, None, IfSome, refl, sym, ◌∙◌}
 use mathlib.Core.Option.{some, some-injective}
 use lib.ListN.{get_elem?}
 use Rattle.std.specs.FinMap as fin
-use Rattle.atomic_table.specs.Table.{Allows, Splits, Joins, opening}
-use Rattle.word_map.specs.WordMap.{WordMap, at, Has, numbered}
+use Rattle.atomic_table.specs.Table.{Allows, Splits, Joins}
+use Rattle.word_map.specs.WordMap.{WordMap, at, Has}
 use Rattle.region_rule.specs.View.{Own, Frozen, Spent, Olds}
 use Rattle.region_rule.specs.Sound.{Agrees}
 use Rattle.region_rule.specs.Steps.{Ruled, Load, Store, Split, Join, Freeze, Share, LoadFrozen, EndShare}
@@ -15,9 +15,6 @@ use Rattle.region_rule.proofs.Allows.{load_allows, store_allows, split_allows, j
 own_value : (words : List ℕ) (m : WordMap) (k x : ℕ) → Agrees words m → get_elem? words k ≡ some x → (o : Option ℕ) → at m k ≡ o → IfSome o (λ y. y ≡ x)
 own_value words m k x a found (Some y) e = some-injective y x (sym (a k y e) ∙ found)
 own_value words m k x a found None e = tt
-
-pub opening_allowed : (count : ℕ) → Ruled count (opening (replicate count 0) [] (Own (numbered 0 (replicate count 0)) None))
-opening_allowed count = ([], refl)
 
 pub load_allowed : (count slots id k : ℕ) (m : WordMap) (o : Olds) → k < count → Allows (Ruled count) slots id (Own m o, []) k (λ n. n) (λ n after. TellsLoad (Own m o) k n after.0 × (after.1 ≡ []))
 load_allowed count slots id k m o inside = load_allows count slots id k (Own m o) (TellsLoad (Own m o) k) inside

@@ -91,7 +91,7 @@ joins w i j m n o p s here there apart =
     (at_set w.views j k Spent x at_k)) in
     subst (λ vs. Sound record { words = w.words; views = vs }) (sym (set_swap w.views i j both Spent apart)) two
 
--- FROZEN WORDS
+-- frozen words
 pub freezes : (w : World) (i : ℕ) (m : WordMap) (o : Olds) → Sound w → Sees w i (Own m o) → Sound (seen_anew w i (Frozen m))
 freezes w i m o s here = turn_still w i (Own m o) (Frozen m) s here refl (s.honest i (Own m o) here).0
     (λ j x n at_j b. (λ k h g. absurd (b k h g), λ k g h. absurd (b k h g)))

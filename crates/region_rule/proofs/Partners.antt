@@ -1,4 +1,5 @@
--- What a step of an end of a ring owes: its own rules, and those that tie it to the other end. The two ends of a ring find each other.
+-- What a step of an end of a ring owes: its own rules, and those that tie it to the other end. The two ends of a ring
+-- find each other.
 use Rattle.std.proofs.Common.{◌≡◌, ◌≢◌, ℕ, suc, ◌+◌, ◌<◌, ◌≤◌, slice_set, Option, refl, sym, ap, subst, ◌∙◌, arith}
 use mathlib.Core.Option.{some, some-injective}
 use mathlib.Core.Logic.{dite}
@@ -30,7 +31,7 @@ sender_beside w j k n s s' t ring inside other x at_j b h = (
   λ i hx hs. absurd (b i (subst (λ r. InRing r i) ring hs) hx),
 )
 
--- A STEP OF THE SENDER THAT WRITES A WORD OF THE RING: it has to be honest, and the receiver has to go on
+-- a step of the sender that writes a word of the ring: it has to be honest, and the receiver has to go on
 pub sender_writes : (w : World) (i k n : ℕ) (s s' : Sending) (t : Option Receiving) → Sound w → n < 18446744073709551616 → Sees w i (Sender s t) → s'.ring ≡ s.ring → InRing s.ring k
     → IsSending (slice_set w.words k n) s'
     → ((j : ℕ) (q : Receiving) (u : Option Sending) → Sees w j (Receiver q u) → ArePaired w.words s t q u → IsReceiving w.words q → IsReceiving (slice_set w.words k n) q × ArePaired (slice_set w.words k n) s' t q u)
@@ -80,7 +81,7 @@ receiver_beside w j k n q q' u ring inside other x at_j b h = (
   λ i hx hs. absurd (b i (subst (λ r. InRing r i) ring hs) hx),
 )
 
--- A STEP OF THE RECEIVER THAT WRITES A WORD OF THE RING
+-- a step of the receiver that writes a word of the ring
 pub receiver_writes : (w : World) (i k n : ℕ) (q q' : Receiving) (u : Option Sending) → Sound w → n < 18446744073709551616 → Sees w i (Receiver q u) → q'.ring ≡ q.ring → InRing q.ring k
     → IsReceiving (slice_set w.words k n) q'
     → ((j : ℕ) (s : Sending) (t : Option Receiving) → Sees w j (Sender s t) → ArePaired w.words s t q u → IsSending w.words s → IsSending (slice_set w.words k n) s × ArePaired (slice_set w.words k n) s t q' u)
@@ -176,3 +177,14 @@ sender_of w i q u sound here =
       paired = are_paired w p.0 i r.0 r.1 q u sound there here r.3;
       sending = sound.honest p.0 (Sender r.0 r.1) there;
     }
+
+-- a ring has a word, so two tokens of one role would hold it together
+pub one_receiver : (w : World) (i j : ℕ) (p q : Receiving) (t u : Option Sending) → Sound w → Sees w i (Receiver p t) → Sees w j (Receiver q u) → p.ring ≡ q.ring → i ≡ j
+one_receiver w i j p q t u sound a b same = dite (ℕ_discrete i j) (λ e. e)
+    (λ (n : i ≢ j). let h : InRing p.ring p.ring.base = (omega arith, omega arith) in
+    absurd (sound.apart i j (Receiver p t) (Receiver q u) n a b p.ring.base h (subst (λ (r : Ring). InRing r p.ring.base) same h)))
+
+pub one_sender : (w : World) (i j : ℕ) (r s : Sending) (t u : Option Receiving) → Sound w → Sees w i (Sender r t) → Sees w j (Sender s u) → r.ring ≡ s.ring → i ≡ j
+one_sender w i j r s t u sound a b same = dite (ℕ_discrete i j) (λ e. e)
+    (λ (n : i ≢ j). let h : InRing r.ring r.ring.base = (omega arith, omega arith) in
+    absurd (sound.apart i j (Sender r t) (Sender s u) n a b r.ring.base h (subst (λ (x : Ring). InRing x r.ring.base) same h)))

@@ -23,7 +23,7 @@ use Rattle.region_rule.proofs.Partners.{receiver_of, sender_of}
 pub make_ring_allowed : (count id : ℕ) (r : Ring) (m : WordMap) (o : Olds) → IsFresh m r → Splits (Ruled count) id (Own m o) (sender_view r (Own m o)) (receiver_view r (Own m o))
 make_ring_allowed count id r m o fresh = split_allows count id (Own m o) (sender_view r (Own m o)) (receiver_view r (Own m o)) (λ w here. (MakeRing id r, (m, o, here, fresh, refl)))
 
--- THE SENDER
+-- the steps of the sender
 told_returned : (t : Option Receiving) (q : Receiving) → IfSome t (λ old. WasReceiving old q) → IfSome t (λ old. old.returned ≤ q.returned)
 told_returned (Some old) q h = h.returned
 told_returned None q h = tt
@@ -68,9 +68,9 @@ sender_flag_allowed count slots id s t stays inside = load_allows count slots id
     (λ w x sound here found.
     let o = receiver_of w id s t sound here in
     let is = sender_finds w.words s t o.end o.told x stays o.paired found in
-    (Sender (sender_sees_flag s x) t, LoadSenderFlag id x, (s, t, here, stays, found, refl), (refl, subst (λ (z : ℕ). z ≤ 1) (sym is) (flag_small o.end.gone), told_gone t o.end x is o.paired.told_sender)))
+    (Sender (sender_sees_flag s x) t, LoadSenderFlag id x, (s, t, here, stays, found, refl), (refl, subst (λ (z : ℕ). z ≤ 1) (sym is) (flag_small o.end.gone), told_gone t o.end x is o.paired.told_sender, λ set. is ∙ ap flag_word (o.paired.tied.sender_flag set))))
 
--- THE RECEIVER
+-- the steps of the receiver
 told_published : (u : Option Sending) (s : Sending) → IfSome u (λ old. WasSending old s) → IfSome u (λ old. old.published ≤ s.published)
 told_published (Some old) s h = h.published
 told_published None s h = tt
@@ -124,9 +124,9 @@ receiver_flag_allowed count slots id q u stays inside = load_allows count slots 
     (λ w x sound here found.
     let o = sender_of w id q u sound here in
     let is = receiver_finds w.words o.end o.told q u x stays o.paired found in
-    (Receiver (receiver_sees_flag q x) u, LoadReceiverFlag id x, (q, u, here, stays, found, refl), (refl, subst (λ (z : ℕ). z ≤ 1) (sym is) (flag_small o.end.gone), told_left u o.end x is o.paired.told_receiver)))
+    (Receiver (receiver_sees_flag q x) u, LoadReceiverFlag id x, (q, u, here, stays, found, refl), (refl, subst (λ (z : ℕ). z ≤ 1) (sym is) (flag_small o.end.gone), told_left u o.end x is o.paired.told_receiver, λ set. is ∙ ap flag_word (o.paired.tied.receiver_flag set))))
 
--- BOTH
+-- what the two do together
 pub join_ends_allowed : (count id other : ℕ) (s : Sending) (t : Option Receiving) (q : Receiving) (u : Option Sending) → s.ring ≡ q.ring
     → Joins (Ruled count) id (Sender s t) other (Receiver q u) (done_view (Sender s t) (Receiver q u)) Spent
 join_ends_allowed count id other s t q u same = join_allows count id other (Sender s t) (Receiver q u) (Done (ring_map s q) s q)

@@ -1,4 +1,4 @@
--- THE STEPS OF THE TWO ENDS OF A RING keep a world sound. What is their own of each is proved in `ring_rule`.
+-- The steps of the two ends of a ring keep a world sound. What is their own of each is proved in `ring_rule`.
 use Rattle.std.proofs.Common.{◌≡◌, ℕ, ◌+◌, ◌<◌, false, [], ◌∷◌, ◌++◌, length, Option, refl, arith, mod-lt}
 use Rattle.ring_rule.specs.Frames.{IsFramed}
 use Rattle.ring_rule.specs.Ring.{Ring, Sending, Receiving, cell_of, place_of, count_word}

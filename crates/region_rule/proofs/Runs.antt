@@ -28,7 +28,7 @@ pub reaches : (count : ℕ) (words : List ℕ) (views : List View) (e : Event) (
 reaches count words views e words' views' r h =
     (r.0 ++ e ∷ [], run_on r.0 e (opening (replicate count 0)) record { words = words; views = views } record { words = words'; views = views' } r.1 h)
 
--- NO STEP CHANGES THE NUMBER OF WORDS
+-- no step changes the number of words
 happens-length : (e : Event) (before after : World) → Happens e before after → length after.words ≡ length before.words
 happens-length (Load i k x) before after h = ap (λ (w : World). length w.words) h.4
 happens-length (Store i k x) before after h = ap (λ (w : World). length w.words) h.5 ∙ length-set {A = ℕ} before.words _ _

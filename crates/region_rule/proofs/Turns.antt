@@ -1,4 +1,4 @@
--- WHAT EVERY KIND OF STEP NEEDS: one token's view changes, or a new token comes, and a world stays sound.
+-- What every kind of step needs: one token's view changes, or a new token comes, and a world stays sound.
 use Rattle.std.proofs.Common.{◌≡◌, ◌≢◌, ℕ, zero, suc, ◌<◌, List, [], ◌∷◌, ◌++◌, set, slice_set, length, refl, sym, ap, subst, ◌∙◌, ⊎_elim}
 use mathlib.Core.Option.{some, some-injective}
 use mathlib.Core.Logic.{dite}
@@ -50,7 +50,7 @@ pub record Plain (w : World) : Type 0 where
 pub plain : (w : World) → Sound w → Plain w
 plain w s = record { fits = s.fits; honest = s.honest; apart = s.apart }
 
--- ONE TOKEN'S VIEW CHANGES
+-- one token's view changes
 pub turn_plain : (w : World) (i : ℕ) (u v : View) (words : List ℕ) → Plain w → AreWords words → Sees w i u → Honest words v
     → ((j : ℕ) (x : View) → j ≢ i → Sees w j x → Beside w.words u x → Honest w.words x → Honest words x × Beside words v x × Beside words x v)
     → ((a b : ℕ) (x y : View) → a ≢ i → b ≢ i → a ≢ b → Sees w a x → Sees w b y → Beside w.words x y → Beside words x y)
@@ -73,7 +73,7 @@ turn_plain w i u v words s fits here own others thirds = record {
       (at_set w.views i j v x e);
 }
 
--- ONE TOKEN'S VIEW CHANGES, and it keeps its role
+-- one token's view changes, and it keeps its role
 pub turn : (w : World) (i : ℕ) (u v : View) (words : List ℕ) → Sound w → AreWords words → Sees w i u → role v ≡ role u → Honest words v
     → ((j : ℕ) (x : View) → j ≢ i → Sees w j x → Beside w.words u x → Honest w.words x → Honest words x × Beside words v x × Beside words x v)
     → ((a b : ℕ) (x y : View) → a ≢ i → b ≢ i → a ≢ b → Sees w a x → Sees w b y → Beside w.words x y → Beside words x y)
@@ -89,7 +89,7 @@ pub turn_still : (w : World) (i : ℕ) (u v : View) → Sound w → Sees w i u �
 turn_still w i u v s here same own others = turn w i u v w.words s s.fits here same own
     (λ j x n e b h. let c = others j x n e b in (h, c.0, c.1)) (λ a b x y _ _ _ _ _ c. c)
 
--- A NEW TOKEN COMES
+-- a new token comes
 pub arrive_plain : (w : World) (v : View) → Plain w → Honest w.words v
     → ((j : ℕ) (x : View) → Sees w j x → Beside w.words v x × Beside w.words x v)
     → Plain record { words = w.words; views = w.views ++ v ∷ [] }

@@ -60,7 +60,8 @@ cut_anew w i v new = record { words = w.words; views = slice_set w.views i v ++ 
 abbrev pub joined_anew : World → ℕ → View → ℕ → World
 joined_anew w i v j = record { words = w.words; views = slice_set (slice_set w.views i v) j Spent }
 
--- The step leads from one world to the other. A step of an end, other than a meeting, asks that the end has not set the flag
+-- The step leads from one world to the other. A step of an end, other than a meeting, asks that the end has not set the
+-- flag
 abbrev pub Happens : Event → World → World → Type 0
 Happens (Load i k x) before after = (m : WordMap) × (olds : Olds) × Sees before i (Own m olds) × Finds before k x × (after ≡ seen_anew before i (Own m None))
 Happens (Store i k x) before after =

@@ -1,4 +1,5 @@
--- What each step tells its token, and the views that a cut and a join leave. No step tells anything to a token of another kind.
+-- What each step tells its token, and the views that a cut and a join leave. No step tells anything to a token of
+-- another kind.
 use Rattle.std.specs.Prelude.{◌≡◌, ℕ, ◌+◌, ◌≤◌, ◌∷◌, ◌++◌, [], true, Some, None, IfSome}
 use Rattle.std.specs.FinMap as fin
 use Rattle.word_map.specs.WordMap.{at, range_of, rest_of, union, values_from}
@@ -9,7 +10,8 @@ use Rattle.region_rule.specs.RingMap.{ring_map}
 use Rattle.region_rule.specs.View.{View, Own, Frozen, Sender, Receiver, Done}
 use Rattle.region_rule.specs.Sound.{OldsApart}
 
--- an owner that loads word k finds n: its own value, if it has the word. The two maps of its last join had no word in common
+-- an owner that loads word k finds n: its own value, if it has the word. The two maps of its last join had no word in
+-- common
 abbrev pub TellsLoad : View → ℕ → ℕ → View → Type 0
 TellsLoad (Own m olds) k n after = IfSome (at m k) (λ x. x ≡ n) × OldsApart olds × (after ≡ Own m None)
 TellsLoad u k n after = ⊥
@@ -69,7 +71,8 @@ abbrev pub TellsPublish : View → View → Type 0
 TellsPublish (Sender s t) after = after ≡ Sender (publishes s) t
 TellsPublish u after = ⊥
 
--- a receiver that loads the written count finds the word of a count, likewise. By its last note of the flag it has seen all or not
+-- a receiver that loads the written count finds the word of a count, likewise. By its last note of the flag it has seen
+-- all or not
 abbrev pub TellsLookWritten : View → ℕ → View → Type 0
 TellsLookWritten (Receiver q u) x after = (n : ℕ) × (after ≡ Receiver (sees_written q n) u) × IsWrittenCount q x n × (q.avail ≤ n) × IfSome u (λ old. old.published ≤ n)
 TellsLookWritten v x after = ⊥
@@ -90,10 +93,10 @@ TellsLeave (Sender s t) after = after ≡ Sender (sender_leaves s) t
 TellsLeave (Receiver q u) after = after ≡ Receiver (receiver_leaves q) u
 TellsLeave u after = ⊥
 
--- an end loads the flag and finds 0 or 1; 1 where it was told that the other end is gone
+-- an end loads the flag and finds 0 or 1; 1 where it was told that the other end is gone, and 1 again where it found 1
 abbrev pub TellsFlag : View → ℕ → View → Type 0
-TellsFlag (Sender s t) x after = (after ≡ Sender (sender_sees_flag s x) t) × (x ≤ 1) × IfSome t (λ old. old.gone ≡ true → x ≡ 1)
-TellsFlag (Receiver q u) x after = (after ≡ Receiver (receiver_sees_flag q x) u) × (x ≤ 1) × IfSome u (λ old. old.gone ≡ true → x ≡ 1)
+TellsFlag (Sender s t) x after = (after ≡ Sender (sender_sees_flag s x) t) × (x ≤ 1) × IfSome t (λ old. old.gone ≡ true → x ≡ 1) × (s.flag_value ≡ 1 → x ≡ 1)
+TellsFlag (Receiver q u) x after = (after ≡ Receiver (receiver_sees_flag q x) u) × (x ≤ 1) × IfSome u (λ old. old.gone ≡ true → x ≡ 1) × (q.flag_value ≡ 1 → x ≡ 1)
 TellsFlag u x after = ⊥
 
 -- two ends are joined

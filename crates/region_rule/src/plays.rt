@@ -1,4 +1,5 @@
 //! The kinds of step, as a table is told them: what each tells its token, and what a cut and a join leave.
+
 ghost use Rattle.std.specs.Prelude.{◌≡◌, ℕ};
 ghost use Rattle.ring_rule.specs.Ring.{Ring};
 ghost use Rattle.region_rule.specs.View.{Spent};

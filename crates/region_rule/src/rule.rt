@@ -1,4 +1,5 @@
 //! The rule of a table that is a region: its words and views are those of a run.
+
 ghost use Rattle.std.specs.Prelude.{List, replicate, None};
 ghost use Rattle.word_map.specs.WordMap.{numbered};
 ghost use Rattle.region_rule.specs.View.{View, Own};

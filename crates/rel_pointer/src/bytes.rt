@@ -1,4 +1,5 @@
 //! Bytes in words of eight, the lowest byte first, and the last word filled up with zeros.
+
 ghost use Rattle.std.specs.Prelude.{◌≡◌, ℕ, ◌+◌, ◌*◌, ◌<◌, ◌≤◌, length, slice_index, cond, IsTrue};
 ghost use Rattle.rel_pointer.specs.Bytes.{word_count, value_of, packed, byte_of, is_of_word};
 

@@ -1,4 +1,5 @@
 //! Places in a region, which hold wherever the region lies, and the packing of bytes into its words.
+
 #![tactic(auto)]
 
 mod bytes;

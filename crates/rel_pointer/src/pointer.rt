@@ -1,4 +1,5 @@
 //! A relative pointer: the number of a word of the region.
+
 ghost use Rattle.std.specs.Prelude.{◌≡◌, ◌+◌, ◌<◌, ◌^◌, ◌↔◌, IsTrue};
 
 use std::marker::Model;

@@ -1,4 +1,5 @@
 //! Words from outside, and each call once.
+
 ghost use Rattle.std.specs.Prelude.{◌≡◌};
 
 use crate::{RelPtr, pack, unpack, words_of};

@@ -1,4 +1,4 @@
--- THE STEPS OF THE RECEIVER: after each its own rules hold, and those that tie it to the sender.
+-- The steps of the receiver: after each its own rules hold, and those that tie it to the sender.
 use Rattle.std.proofs.Common.{◌≡◌, ℕ, ◌+◌, ◌<◌, ◌≤◌, Bool, true, false, ◌||◌, List, [], ◌∷◌, ◌++◌, slice_set, length, Option, refl, sym, ap, subst, ◌∙◌, arith, length-append, append_assoc, le_trans, le_refl}
 use mathlib.Core.Option.{some, some-injective, some-ne-none}
 use lib.ListN.{get_elem?}
@@ -8,7 +8,7 @@ use Rattle.ring_rule.specs.Ends.{looks_written, looks_last, takes, gives_back, r
 use Rattle.ring_rule.proofs.Stored.{in_list, has_at, sending_set, same_base, told_receiving}
 use Rattle.ring_rule.proofs.Sends.{flag_set}
 
--- IT LOADS THE WRITTEN COUNT
+-- it loads the written count
 pub looks_written_own : (words : List ℕ) (q : Receiving) (n : ℕ) → q.avail ≤ n → IsReceiving words q → IsReceiving words (looks_written q n)
 looks_written_own words q n more h = record { own = record { ring = h.own.ring; returned = h.own.returned; taken = le_trans h.own.taken more }; read = h.read }
 
@@ -31,7 +31,7 @@ looks_written_paired words s t q u n is p =
       told_receiver = p.told_receiver;
     }
 
--- IT LOADS THE WRITTEN COUNT AFTER IT HAS FOUND THE FLAG SET
+-- it loads the written count after it has found the flag set
 pub looks_last_own : (words : List ℕ) (q : Receiving) (n : ℕ) → q.avail ≤ n → IsReceiving words q → IsReceiving words (looks_last q n)
 looks_last_own words q n more h = record { own = record { ring = h.own.ring; returned = h.own.returned; taken = le_trans h.own.taken more }; read = h.read }
 
@@ -54,7 +54,7 @@ looks_last_paired words s t q u n is one p =
       told_receiver = p.told_receiver;
     }
 
--- IT TAKES A WORD
+-- it takes a word
 after_taken : (taken rest : List ℕ) (x : ℕ) → get_elem? (taken ++ rest) (length taken) ≡ some x → (more : List ℕ) × (rest ≡ x ∷ more)
 after_taken [] [] x e = absurd (some-ne-none x (sym e))
 after_taken [] (y ∷ ys) x e = (ys, λ k. some-injective y x e k ∷ ys)
@@ -102,7 +102,7 @@ takes_paired words s t q u x next p = record {
   told_receiver = p.told_receiver;
 }
 
--- IT STORES THE READ COUNT
+-- it stores the read count
 pub gives_back_own : (words : List ℕ) (q : Receiving) → IsReceiving words q → IsReceiving (slice_set words (q.ring.base + 1) (count_word q.ring (length q.taken))) (gives_back q)
 gives_back_own words q h = record {
   own = record { ring = h.own.ring; returned = le_refl (length q.taken); taken = h.own.taken };
@@ -134,7 +134,7 @@ gives_back_paired words s t q u h p =
 pub receiver_other : (words : List ℕ) (s : Sending) (q : Receiving) (k n : ℕ) → s.ring ≡ q.ring → q.ring.base < k → k < q.ring.base + 3 → IsSending words s → IsSending (slice_set words k n) s
 receiver_other words s q k n same low high h = let b = same_base s q same in sending_set words k n s (λ e. omega arith) (λ i l e. omega arith) h
 
--- IT SETS THE FLAG
+-- it sets the flag
 or_true : (b : Bool) → flag_word (b || true) ≡ 1
 or_true true = refl
 or_true false = refl
@@ -167,7 +167,7 @@ receiver_leaves_paired words s t q u p =
       told_receiver = p.told_receiver;
     }
 
--- IT LOADS THE FLAG
+-- it loads the flag
 or_false : (b : Bool) → flag_word (b || false) ≡ flag_word b
 or_false true = refl
 or_false false = refl

@@ -1,4 +1,4 @@
--- THE STEPS OF THE SENDER: after each its own rules hold, and those that tie it to the receiver.
+-- The steps of the sender: after each its own rules hold, and those that tie it to the receiver.
 use Rattle.std.proofs.Common.{◌≡◌, ◌≢◌, ℕ, ◌+◌, ◌<◌, ◌≤◌, Bool, true, false, ◌||◌, List, [], ◌∷◌, ◌++◌, slice_set, length, Option, refl, sym, ap, subst, ◌∙◌, ⊎_elim, arith, length-append, length-set, append_assoc, mod-lt, le_trans, le_refl}
 use mathlib.Core.Option.{some, some-injective}
 use lib.ListN.{get_elem?}
@@ -9,7 +9,7 @@ use Rattle.ring_rule.specs.Ends.{looks_read, puts, publishes, sender_leaves, sen
 use Rattle.ring_rule.proofs.Counts.{some_cells}
 use Rattle.ring_rule.proofs.Stored.{in_list, has_at, snoc_place, receiving_set, same_base, told_sending}
 
--- IT LOADS THE READ COUNT
+-- it loads the read count
 pub looks_read_own : (words : List ℕ) (s : Sending) (n : ℕ) → length s.put ≤ n + s.ring.size → IsSending words s → IsSending words (looks_read s n)
 looks_read_own words s n near h = record {
   own = record { ring = h.own.ring; counted = h.own.counted; published = h.own.published; room = near; framed = h.own.framed };
@@ -35,7 +35,7 @@ looks_read_paired words s t q u n is p =
       told_receiver = told_sending u s (looks_read s n) refl (le_refl s.published) (omega arith) (λ g. g) p.told_receiver;
     }
 
--- IT STORES A WORD
+-- it stores a word
 next_cell : (s : Sending) → IsSendingEnd s → cell_of s.ring (length s.put) < s.ring.size
 next_cell s h = mod-lt (s.ring.start + length s.put) (some_cells s.ring h.ring)
 
@@ -102,7 +102,7 @@ puts_paired words s t q u x room h p =
 pub puts_other : (words : List ℕ) (s : Sending) (q : Receiving) (x : ℕ) → s.ring ≡ q.ring → IsReceiving words q → IsReceiving (slice_set words (place_of s.ring (length s.put)) x) q
 puts_other words s q x same h = let b = same_base s q same in receiving_set words (place_of s.ring (length s.put)) x q (λ e. omega arith) h
 
--- IT STORES THE WRITTEN COUNT
+-- it stores the written count
 pub publishes_own : (words : List ℕ) (s : Sending) → IsSending words s → IsSending (slice_set words s.ring.base (count_word s.ring (length s.put))) (publishes s)
 publishes_own words s h =
     let k = s.ring.base in
@@ -136,7 +136,7 @@ publishes_paired words s t q u stays h p =
 pub publishes_other : (words : List ℕ) (s : Sending) (q : Receiving) (n : ℕ) → s.ring ≡ q.ring → IsReceiving words q → IsReceiving (slice_set words s.ring.base n) q
 publishes_other words s q n same h = let b = same_base s q same in receiving_set words s.ring.base n q (λ e. omega arith) h
 
--- IT SETS THE FLAG
+-- it sets the flag
 pub sender_leaves_own : (words : List ℕ) (s : Sending) → IsSending words s → IsSending (slice_set words (s.ring.base + 2) 1) (sender_leaves s)
 sender_leaves_own words s h =
     let k = s.ring.base + 2 in
@@ -167,7 +167,7 @@ sender_leaves_paired words s t q u p = record {
 pub sender_leaves_other : (words : List ℕ) (s : Sending) (q : Receiving) → s.ring ≡ q.ring → IsReceiving words q → IsReceiving (slice_set words (s.ring.base + 2) 1) q
 sender_leaves_other words s q same h = let b = same_base s q same in receiving_set words (s.ring.base + 2) 1 q (λ e. omega arith) h
 
--- IT LOADS THE FLAG
+-- it loads the flag
 -- who has not set the flag finds in it whether the other end has
 pub sender_finds : (words : List ℕ) (s : Sending) (t : Option Receiving) (q : Receiving) (u : Option Sending) (x : ℕ) → s.gone ≡ false → ArePaired words s t q u
     → get_elem? words (s.ring.base + 2) ≡ some x → x ≡ flag_word q.gone

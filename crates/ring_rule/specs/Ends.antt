@@ -16,7 +16,8 @@ pub record IsReadCount (s : Sending) (x n : ℕ) : Type 0 where
   pub below : n ≤ length s.put
   pub near : length s.put ≤ n + s.ring.size
 
--- n is the written count that a receiver finds in the word x: the one no more than a ring's length above what it has given back
+-- n is the written count that a receiver finds in the word x: the one no more than a ring's length above what it has
+-- given back
 pub record IsWrittenCount (q : Receiving) (x n : ℕ) : Type 0 where
   pub word : x ≡ count_word q.ring n
   pub above : q.returned ≤ n

@@ -1,13 +1,18 @@
--- A ring of words that one sender and one receiver share, in the manner of shm_mq.c. Who may change which word, and when:
+-- A ring of words that one sender and one receiver share, in the manner of shm_mq.c. Who may change which word, and
+-- when:
 --
--- * The first word is the count of words written. Only the sender stores it, and only the length of what it has stored before.
--- * The second is the count of words read. Only the receiver stores it, and only the length of what it has taken before.
+-- * The first word is the count of words written. Only the sender stores it, and only the length of what it has stored
+--   before.
+-- * The second is the count of words read. Only the receiver stores it, and only the length of what it has taken
+--   before.
 -- * The third is the flag, 0 or 1. Either end sets it, as its last step, and none clears it.
--- * The cells come after these. Only the sender stores them, and only in the cell of the next word, where by its last look at the read
---   count what stood there was taken. The receiver loads a cell only where by its last look at the written count its word stands there.
+-- * The cells come after these. Only the sender stores them, and only in the cell of the next word, where by its last
+--   look at the read count what stood there was taken. The receiver loads a cell only where by its last look at the
+--   written count its word stands there.
 --
--- Counts have no bound, and their words are modulo 2 ^ 64. `IsSending` is what the sender's end says, `IsReceiving` what the receiver's
--- says, and `ArePaired` what ties the two. Each has a part that speaks of the ends alone: `AreEnds` is these three parts together.
+-- Counts have no bound, and their words are modulo 2 ^ 64. `IsSending` is what the sender's end says, `IsReceiving`
+-- what the receiver's says, and `ArePaired` what ties the two. Each has a part that speaks of the ends alone: `AreEnds`
+-- is these three parts together.
 use Rattle.std.specs.Prelude.{◌≡◌, ℕ, ◌+◌, ◌%◌, ◌^◌, ◌<◌, ◌≤◌, Bool, true, ◌||◌, cond, List, ◌∷◌, ◌++◌, length, Option, IfSome}
 use mathlib.Core.Option.{some}
 use lib.ListN.{get_elem?}
@@ -46,7 +51,8 @@ count_word r n = (r.start + n) % 2 ^ 64
 abbrev pub flag_word : Bool → ℕ
 flag_word set = cond {A = ℕ} set 1 0
 
--- the sender's end: its cells, the words that it has put, how many of them it has published, and how many it last saw to be read
+-- the sender's end: its cells, the words that it has put, how many of them it has published, and how many it last saw
+-- to be read
 pub record Sending : Type 0 where
   pub ring : Ring
   pub cells : List ℕ
@@ -55,7 +61,8 @@ pub record Sending : Type 0 where
   pub room : ℕ
   -- it has set the flag
   pub gone : Bool
-  -- the number of its steps; meetings with the other end do not count. The first step has turn 1, so a turn of 0 says that there was none
+  -- the number of its steps; meetings with the other end do not count. The first step has turn 1, so a turn of 0 says
+  -- that there was none
   pub turn : ℕ
   -- its last load of the read count: the turn, the length of put at it, and whether it found the ring full
   pub looked : ℕ
@@ -66,7 +73,8 @@ pub record Sending : Type 0 where
   pub flag_turn : ℕ
   pub flag_value : ℕ
 
--- the receiver's end: the words that it has taken, how many of them it has given back, and how many it last saw to be written
+-- the receiver's end: the words that it has taken, how many of them it has given back, and how many it last saw to be
+-- written
 pub record Receiving : Type 0 where
   pub ring : Ring
   pub taken : List ℕ
@@ -99,8 +107,8 @@ pub record IsReceivingEnd (q : Receiving) : Type 0 where
   pub returned : q.returned ≤ length q.taken
   pub taken : length q.taken ≤ q.avail
 
--- what ties the ends: a word that was put and not given back stands in its cell, what was taken is a beginning of what was put, no end
--- has seen more than the other has published, and a flag that an end found set was set by the other
+-- what ties the ends: a word that was put and not given back stands in its cell, what was taken is a beginning of what
+-- was put, no end has seen more than the other has published, and a flag that an end found set was set by the other
 pub record AreTied (s : Sending) (q : Receiving) : Type 0 where
   pub same : s.ring ≡ q.ring
   pub cells : (i x : ℕ) → q.returned ≤ i → get_elem? s.put i ≡ some x → get_elem? s.cells (cell_of s.ring i) ≡ some x

@@ -1,4 +1,5 @@
 //! What makes the rules of a ring mean something: words fix counts and messages.
+
 ghost use Rattle.std.specs.Prelude.{◌≡◌, ℕ, ◌+◌, ◌≤◌, List, All};
 ghost use Rattle.rel_pointer.specs.Bytes.{AllBytes};
 ghost use Rattle.ring_rule.specs.Frames.{frames, AreWhole};
@@ -14,8 +15,8 @@ pub fn whole_messages_are_fixed()
     ensures { (words : List ℕ) (ms ns : List (List ℕ)) → AreWhole words ms → AreWhole words ns → ms ≡ ns }
 {}
 
-/// Two counts that one word stands for are equal where they are at most a ring's length above a common count. So the word of a count
-/// fixes the count, though counts have no bound.
+/// Two counts that one word stands for are equal where they are at most a ring's length above a common count. So the
+/// word of a count fixes the count, though counts have no bound.
 pub fn a_count_is_fixed()
     ensures { (r : Ring) (low m n : ℕ) → IsRing r → low ≤ m → m ≤ low + r.size → low ≤ n → n ≤ low + r.size → count_word r m ≡ count_word r n → m ≡ n }
 {}

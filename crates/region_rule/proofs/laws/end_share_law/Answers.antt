@@ -1,10 +1,8 @@
 use Rattle.std.proofs.Common.{ap}
 use Rattle.region_rule.proofs.Effected.{joins}
-use Rattle.region_rule.proofs.Keeps.{keeps}
 use Rattle.region_rule.specs.Sound.{World}
-use Rattle.region_rule.specs.Steps.{EndShare}
 use Rattle.region_rule.proofs.laws.end_share_law.Goals as goal
 
 pub returns : goal.returns
 returns c = λ before after i j s h.
-    (keeps (EndShare i j) before after s h, h.0, joins before after i j _ _ _ h.1 h.2 h.3 h.4, ap (λ (w : World). w.words) h.4)
+    (h.0, joins before after i j _ _ _ h.1 h.2 h.3 h.4, ap (λ (w : World). w.words) h.4)

@@ -1,11 +1,9 @@
 use Rattle.std.proofs.Common.{ap}
 use Rattle.region_rule.proofs.Effected.{found_value, turns}
-use Rattle.region_rule.proofs.Keeps.{keeps}
 use Rattle.region_rule.specs.Sound.{World}
-use Rattle.region_rule.specs.Steps.{Load}
 use Rattle.region_rule.specs.View.{Own}
 use Rattle.region_rule.proofs.laws.load_law.Goals as goal
 
 pub returns : goal.returns
 returns c = λ before after i k x s h.
-    (keeps (Load i k x) before after s h, h.0, h.1, turns before after i _ _ h.2 (ap (λ (w : World). w.views) h.4), ap (λ (w : World). w.words) h.4, found_value before.words h.0 k x (s.honest i (Own h.0 h.1) h.2).0 h.3, (s.honest i (Own h.0 h.1) h.2).1)
+    (h.0, h.1, turns before after i _ _ h.2 (ap (λ (w : World). w.views) h.4), ap (λ (w : World). w.words) h.4, found_value before.words h.0 k x (s.honest i (Own h.0 h.1) h.2).0 h.3, (s.honest i (Own h.0 h.1) h.2).1)

@@ -1,14 +1,10 @@
 use Rattle.std.proofs.Common.{ap}
 use Rattle.region_rule.proofs.Effected.{turns}
-use Rattle.region_rule.proofs.Keeps.{keeps}
 use Rattle.region_rule.specs.Sound.{World}
-use Rattle.region_rule.specs.Steps.{StoreReceiverFlag, StoreSenderFlag}
 use Rattle.region_rule.proofs.laws.store_flag_law.Goals as goal
 
 pub returns-clause-sender : goal.returns-clause-sender
-returns-clause-sender c = λ before after i s h.
-    (keeps (StoreSenderFlag i) before after s h, h.0, h.1, turns before after i _ _ h.2 (ap (λ (w : World). w.views) h.4), ap (λ (w : World). w.words) h.4)
+returns-clause-sender c = λ before after i s h. (h.0, (h.1, turns before after i _ _ h.2 (ap (λ (w : World). w.views) h.4)), ap (λ (w : World). w.words) h.4, h.3)
 
 pub returns-clause-receiver : goal.returns-clause-receiver
-returns-clause-receiver c = λ before after i s h.
-    (keeps (StoreReceiverFlag i) before after s h, h.0, h.1, turns before after i _ _ h.2 (ap (λ (w : World). w.views) h.4), ap (λ (w : World). w.words) h.4)
+returns-clause-receiver c = λ before after i s h. (h.0, (h.1, turns before after i _ _ h.2 (ap (λ (w : World). w.views) h.4)), ap (λ (w : World). w.words) h.4, h.3)
