@@ -5,6 +5,7 @@ use Rattle.std.specs.Option.{option_map_or}
 use Rattle.par_io.specs.Faults.{Rose}
 use Rattle.par_model.specs.Named.{NamedPlan}
 use Rattle.par_model.specs.Outcome.{Outcome, Usage, TooManyBytes, NoHeader, TooManyRows, NoColumn, Refused, Table}
+use Rattle.par_model.specs.Refuse.{item_cause, key_cause, width_cause}
 use Rattle.par_model.specs.declared.refusal.Refusal.{Refusal}
 use Rattle.par_gather.specs.Answers.{status_of}
 use Rattle.par_gather.specs.declared.status.TheConstants.{MISUSED, NO_MEMORY, READ_FAULT, REFUSED, TOO_LARGE, WRITE_FAULT}
@@ -27,19 +28,20 @@ outcome_text (NoColumn name) = codes "no column " ++ name
 outcome_text (Refused rows) = []
 outcome_text Table = []
 
--- the name of the column that the aggregate at a place reads, and that of the filter's column
+-- the name of the column that the aggregate at a place reads
 abbrev pub item_name : NamedPlan → ℕ → List ℕ
 item_name plan place = unwrap_or (option_and_then (λ item. item.column) (slice_get plan.items place)) []
 
+-- the name of the filter's column
 abbrev pub filter_name : NamedPlan → List ℕ
 filter_name plan = option_map_or (λ filter. filter.column) plan.filter []
 
 -- why a row is refused
 abbrev pub refusal_text : NamedPlan → Refusal → List ℕ
 refusal_text plan why =
-    if why.cause == 1 then codes "wrong number of fields"
-    else (if why.cause == 2 then codes "group key is longer than 248 bytes"
-    else (if why.cause == 3 then codes "column " ++ (item_name plan why.item ++ codes " is not an integer")
+    if why.cause == width_cause then codes "wrong number of fields"
+    else (if why.cause == key_cause then codes "group key is longer than 248 bytes"
+    else (if why.cause == item_cause then codes "column " ++ (item_name plan why.item ++ codes " is not an integer")
     else codes "filter column " ++ (filter_name plan ++ codes " is not an integer")))
 
 -- what a line says of a refused row

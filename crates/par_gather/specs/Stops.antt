@@ -102,10 +102,10 @@ stop_of_parsing parsing.TooManyRows = stop.TooManyRows
 stop_of_parsing parsing.Memory = stop.Memory
 
 -- the reason is that this row is refused, and has the text of the refusal
-abbrev pub IsRow : NamedPlan → ℕ → Refusal → Stop → Type 0
-IsRow plan row refusal why = (cause : Cause) × (why ≡ stop.Refused row cause) × (cause_text cause ≡ refusal_text plan refusal)
+abbrev pub IsRefusedRow : NamedPlan → ℕ → Refusal → Stop → Type 0
+IsRefusedRow plan row refusal why = (cause : Cause) × (why ≡ stop.Refused row cause) × (cause_text cause ≡ refusal_text plan refusal)
 
 -- the reason says of an answer of a block what the answer says, or is want of memory
 abbrev pub Restates : NamedPlan → BlockAnswer → Stop → Type 0
-Restates plan (answer.Row row cause item) why = IsRow plan row (record { cause = cause; item = item }) why ⊎ (why ≡ stop.Memory)
+Restates plan (answer.Row row cause item) why = IsRefusedRow plan row (record { cause = cause; item = item }) why ⊎ (why ≡ stop.Memory)
 Restates plan answer.Memory why = why ≡ stop.Memory

@@ -1,7 +1,6 @@
 //! The groups of the rows, block by block.
 
-ghost use Rattle.std.specs.Prelude.{◌≡◌, ◌<◌, ◌≤◌, [], IfErr, IfOk, OnOk, length};
-ghost use Rattle.csv_rows.specs.declared.records.TheConstants.{MOST_RECORDS};
+ghost use Rattle.std.specs.Prelude.{◌≡◌, [], IfErr, IfOk, OnOk};
 ghost use Rattle.par_model.specs.Columns.{HasColumns};
 ghost use Rattle.partial_agg.specs.Rows.{header_width};
 ghost use Rattle.par_gather.specs.Grouping.{ListsGroups, NamesRefused, refused_in};
@@ -11,15 +10,13 @@ use par_model::BoundPlan;
 use partial_agg::{BLOCK_ROWS, BlockAnswer, GroupMap, Groups};
 use std::alloc::{AllocError, Global};
 
-/// The groups of all rows, in the order of their keys. The blocks go one after the other, so a refused row that stops it
-/// is the first of all.
+/// The groups of all rows, in the order of their keys. The blocks go one after the other, so a refused row that stops
+/// it is the first of all.
 pub(crate) fn groups_of(
     alloc: Global,
     rows: &RowStore,
     plan: &BoundPlan,
 ) -> Result<Groups, BlockAnswer>
-    requires some { 0 < length rows.now }
-    requires few { length rows.now ≤ MOST_RECORDS }
     requires columns { HasColumns plan.now (header_width rows.now) }
     ensures groups { IfOk result (λ groups. ListsGroups plan.now rows.now groups) }
     ensures none_refused { OnOk result (refused_in plan.now rows.now ≡ []) }

@@ -11,7 +11,7 @@ ghost use Rattle.csv_rows.specs.declared.records.TheConstants.{MOST_RECORDS};
 ghost use Rattle.par_io.specs.Faults.{Rose};
 ghost use Rattle.par_model.specs.Outcome.{IsAnswer, Outcome, Table, by_records};
 ghost use Rattle.par_gather.specs.Answers.{IsOutcome, IsTableText, outcome_over, plan_of, status_of, statuses, texts, workers_of};
-ghost use Rattle.par_gather.specs.Lines.{IsLine, IsSaid, NamesFirst};
+ghost use Rattle.par_gather.specs.Lines.{IsLine, IsSaid, NamesFirst, line, usage_text};
 ghost use Rattle.par_gather.specs.Stops.{Explains, IsExplained};
 ghost use Rattle.par_gather.specs.declared.stop.Stop.TheVariants as stop;
 
@@ -32,11 +32,12 @@ use stop::Stop;
 
 /// Answers the query that `words` name, over the bytes of `source`: writes its table to `out`, or a line to `err` that
 /// says why there is none, and returns the exit status. `words` are those after the program's name. Time is linear in
-/// the input, but for the look-up of each row's group and the order of the groups. Memory is the input, its records, and
-/// about 700 bytes for each group, twice over while their list is made.
+/// the input, but for the look-up of each row's group and the order of the groups. Memory is the input, its records,
+/// and about 700 bytes for each group, twice over while their list is made.
 ///
-/// So far the caller's thread does all the work: the words `--workers`, `--plan` and `--area-pages` are read and checked,
-/// and the gate is not passed. Of several refused rows the line may name any one, unless no workers are asked for.
+/// So far the caller's thread does all the work: the words `--workers`, `--plan` and `--area-pages` are read and
+/// checked, and the gate is not passed. Of several refused rows the line may name any one, unless no workers are asked
+/// for.
 pub fn pargather<R: Sync, S: Source, O: Sink, E: Sink, G: Gate>(
     _rt: &R,
     alloc: Global,
@@ -72,6 +73,8 @@ pub fn pargather<R: Sync, S: Source, O: Sink, E: Sink, G: Gate>(
     ensures line { (result ≢ TABLE) → (o : Outcome) × IsOutcome (plan_of (texts words.now)) (S.left source.old) o
         × (said : List ℕ) × IsLine (plan_of (texts words.now)) result o said × IsSaid (E.taken err.old) (E.taken err.new) (E.faults err.old) (E.faults err.new) said }
     ensures quiet { result ≡ TABLE → err.new ≡ err.old }
+    ensures usage { IsNone (plan_of (texts words.now)) → result ≡ MISUSED
+        → IsSaid (E.taken err.old) (E.taken err.new) (E.faults err.old) (E.faults err.new) (line usage_text) }
 
     // Without workers the row that it names is the first that is refused.
     ensures first { workers_of (texts words.now) ≡ Some 0 → result ≡ REFUSED → IfSome (S.left source.old) (λ bytes.
@@ -115,6 +118,8 @@ pub fn aggregate_alone<S: Source, O: Sink, E: Sink>(
     ensures line { (result ≢ TABLE) → (o : Outcome) × IsOutcome (plan_of (texts words.now)) (S.left source.old) o
         × (said : List ℕ) × IsLine (plan_of (texts words.now)) result o said × IsSaid (E.taken err.old) (E.taken err.new) (E.faults err.old) (E.faults err.new) said }
     ensures quiet { result ≡ TABLE → err.new ≡ err.old }
+    ensures usage { IsNone (plan_of (texts words.now)) → result ≡ MISUSED
+        → IsSaid (E.taken err.old) (E.taken err.new) (E.faults err.old) (E.faults err.new) (line usage_text) }
 
     // The row that it names is the first that is refused.
     ensures first { result ≡ REFUSED → IfSome (S.left source.old) (λ bytes.
@@ -129,7 +134,7 @@ pub fn aggregate_alone<S: Source, O: Sink, E: Sink>(
     }
 }
 
-// Reads the words and the source, and writes the table.
+/// Reads the words and the source, and writes the table.
 fn answer<S: Source, O: Sink>(
     alloc: Global,
     words: &[String],
@@ -155,7 +160,7 @@ fn answer<S: Source, O: Sink>(
     }
 }
 
-// Reads the source and makes the text of the table.
+/// Reads the source and makes the text of the table.
 fn read_table<S: Source>(alloc: Global, plan: &Plan, source: &mut S) -> Result<Vec<u8>, Stop>
     ensures table { IfOk result (λ text. IfSome (S.left source.old) (λ bytes. IsTableText (Some plan.now.plan) bytes text.items)) }
     ensures why { IfErr result (λ why. IsExplained (Some plan.now.plan) (S.left source.old) why) }
@@ -167,7 +172,7 @@ fn read_table<S: Source>(alloc: Global, plan: &Plan, source: &mut S) -> Result<V
     table_of(alloc, plan, &rows)
 }
 
-// The text of the table over these records.
+/// The text of the table over these records.
 fn table_of(alloc: Global, plan: &Plan, rows: &RowStore) -> Result<Vec<u8>, Stop>
     requires some { 0 < length rows.now }
     requires few { length rows.now ≤ MOST_RECORDS }

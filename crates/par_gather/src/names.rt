@@ -8,7 +8,7 @@ ghost use Rattle.par_gather.specs.Lines.{refusal_text};
 ghost use Rattle.par_gather.specs.Stops.{Restates, cause_text};
 
 use crate::stop::{Cause, Stop};
-use par_model::Refusal;
+use par_model::{ITEM_CAUSE, KEY_CAUSE, Refusal, WIDTH_CAUSE};
 use partial_agg::BlockAnswer;
 use plan_spec::Plan;
 use std::alloc::{AllocError, Global};
@@ -28,17 +28,17 @@ pub(crate) fn stop_of_block(alloc: Global, plan: &Plan, answer: BlockAnswer) -> 
     }
 }
 
-// The cause of a refusal with the name that its line speaks of.
+/// The cause of a refusal with the name that its line speaks of.
 fn cause_of(alloc: Global, plan: &Plan, why: Refusal) -> Result<Cause, AllocError>
     ensures { IfOk result (λ cause. cause_text cause ≡ refusal_text plan.now.plan why) }
 {
-    if why.cause == 1 {
+    if why.cause == WIDTH_CAUSE {
         return Ok(Cause::Width);
     }
-    if why.cause == 2 {
+    if why.cause == KEY_CAUSE {
         return Ok(Cause::LongKey);
     }
-    if why.cause == 3 {
+    if why.cause == ITEM_CAUSE {
         let name = plan.item_name(why.item).unwrap_or("");
         return Ok(Cause::Item(String::from_str(alloc, name)?));
     }

@@ -79,7 +79,7 @@ impl From<RowsAnswer> for Stop {
 }
 
 impl Cause {
-    // What the line says of it: a text, a name, and the text behind that.
+    /// What the line says of it: a text, a name, and the text behind that.
     fn text(&self) -> (&str, &str, &str)
         ensures { result.0.now ++ (result.1.now ++ result.2.now) ≡ cause_text self.now }
     {
@@ -93,7 +93,7 @@ impl Cause {
 }
 
 impl Stop {
-    // The exit status.
+    /// The exit status.
     pub(crate) fn status(&self) -> u8
         ensures { result ≡ stop_status self.now }
     {
@@ -107,7 +107,7 @@ impl Stop {
         }
     }
 
-    // What its line says, in pieces: of a refused row it is what comes after the row's number.
+    /// What its line says, in pieces: of a refused row it is what comes after the row's number.
     fn text(&self) -> (&str, &str, &str)
         ensures { result.0.now ++ (result.1.now ++ result.2.now) ≡ text_of self.now }
     {
@@ -128,7 +128,7 @@ impl Stop {
         }
     }
 
-    // The pieces of its line.
+    /// The pieces of its line.
     fn pieces<'a>(&'a self, digits: &'a mut itoa::Buffer) -> [&'a str; 8]
         ensures { concat (map (λ piece. piece.now) result) ≡ line (stop_text self.now) }
     {
@@ -140,17 +140,16 @@ impl Stop {
         ["pargather: ", row, number, colon, text, name, rest, "\n"]
     }
 
-    // Writes the line. A failed write ends it, and changes nothing else.
+    /// Writes the line. A failed write ends it, and changes nothing else.
     pub(crate) fn report<E: Sink>(&self, err: &mut E)
         ensures { IsSaid (E.taken err.old) (E.taken err.new) (E.faults err.old) (E.faults err.new) (line (stop_text self.now)) }
     {
         let mut digits = itoa::Buffer::new();
-        let said = write_pieces(err, &self.pieces(&mut digits));
-        let _ = said;
+        let _ = write_pieces(err, &self.pieces(&mut digits));
     }
 }
 
-// Writes the pieces one after the other, up to a write that fails.
+/// Writes the pieces one after the other, up to a write that fails.
 fn write_pieces<E: Sink>(err: &mut E, pieces: &[&str]) -> Result<(), Failed>
     ensures { IsSaid (E.taken err.old) (E.taken err.new) (E.faults err.old) (E.faults err.new) (concat (map (λ piece. piece.now) pieces.now)) }
 {

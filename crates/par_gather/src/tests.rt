@@ -1,5 +1,6 @@
 //! Worked rows: words, bytes and failing calls, and what both calls answer.
 
+mod slow;
 mod worked;
 
 use super::*;
@@ -14,8 +15,8 @@ const LETTERS: &str = "g,v\na,1\nb,2\na,3\n";
 
 const SUMS: &str = "--group g --agg sum:v,avg:v --workers 4";
 
-// A run over a source that gives 3 bytes a call and sinks that take 5, with the numbers of the calls that fail. The
-// words stand between spaces.
+/// A run over a source that gives 3 bytes a call and sinks that take 5, with the numbers of the calls that fail. The
+/// words stand between spaces.
 #[derive(Clone, Copy)]
 struct Run<'a> {
     words: &'a str,
@@ -25,7 +26,7 @@ struct Run<'a> {
     failing_lines: &'a [u64],
 }
 
-// The status, and what the two sinks were given.
+/// The status, and what the two sinks were given.
 #[derive(Drop)]
 struct Answered {
     status: u8,
@@ -44,7 +45,7 @@ impl<'a> Run<'a> {
         }
     }
 
-    // What a call answers: `aggregate_alone`, or `pargather`.
+    /// What a call answers: `aggregate_alone`, or `pargather`.
     fn answer(&self, alloc: Global, is_alone: bool) -> Result<Answered, AllocError> {
         let mut words = Vec::new(alloc);
         for word in self.words.split(' ') {

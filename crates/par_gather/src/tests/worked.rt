@@ -6,10 +6,10 @@ use std::alloc::{AllocError, Global};
 use std::process::Abort;
 use std::test::Fail;
 
-// Texts that stand one after the other, each so many times.
+/// Texts that stand one after the other, each so many times.
 type Pieces<'a> = &'a [(&'a str, u32)];
 
-// The words between spaces, the input, and the answer.
+/// The words between spaces, the input, and the answer.
 #[derive(Clone, Copy)]
 struct Row<'a> {
     words: &'a str,
@@ -22,7 +22,7 @@ struct Row<'a> {
 const USAGE: &str =
     "pargather: usage: pargather [--group COLUMNS] --agg ITEMS [--where FILTER] [--workers N] [--plan gather|hash] [--area-pages N]\n";
 
-// A row that has a table.
+/// A row that has a table.
 fn table<'a>(words: &'a str, input: Pieces<'a>, out: Pieces<'a>) -> Row<'a> {
     Row {
         words,
@@ -33,7 +33,7 @@ fn table<'a>(words: &'a str, input: Pieces<'a>, out: Pieces<'a>) -> Row<'a> {
     }
 }
 
-// A row that has none.
+/// A row that has none.
 fn refusal<'a>(words: &'a str, input: Pieces<'a>, status: u8, err: &'a str) -> Row<'a> {
     Row {
         words,
@@ -44,7 +44,7 @@ fn refusal<'a>(words: &'a str, input: Pieces<'a>, status: u8, err: &'a str) -> R
     }
 }
 
-// The bytes of some pieces.
+/// The bytes of some pieces.
 fn bytes_of(alloc: Global, pieces: Pieces<'_>) -> Result<Vec<u8>, AllocError> {
     let mut bytes = Vec::new(alloc);
     for (text, times) in pieces {
@@ -55,7 +55,7 @@ fn bytes_of(alloc: Global, pieces: Pieces<'_>) -> Result<Vec<u8>, AllocError> {
     Ok(bytes)
 }
 
-// The words of a text. No text is no words.
+/// The words of a text. No text is no words.
 fn words_of(alloc: Global, text: &str) -> Result<Vec<String>, AllocError> {
     let mut words = Vec::new(alloc);
     if text.is_empty() {
@@ -67,7 +67,7 @@ fn words_of(alloc: Global, text: &str) -> Result<Vec<String>, AllocError> {
     Ok(words)
 }
 
-// The status of one of the two calls over these words and bytes, and what its sinks were given.
+/// The status of one of the two calls over these words and bytes, and what its sinks were given.
 fn answer(
     alloc: Global,
     words: &str,
@@ -98,7 +98,7 @@ fn answer(
     ))
 }
 
-// Whether both calls answer each of these rows as it says.
+/// Whether both calls answer each of these rows as it says.
 fn check(rt: &impl Abort, alloc: Global, rows: &[Row<'_>]) -> Result<(), Fail> {
     for row in rows {
         for alone in [false, true] {
@@ -117,7 +117,7 @@ const LETTERS: Pieces<'static> = &[("g,v\na,1\nb,2\na,3\n", 1)];
 
 const EMPTY: Pieces<'static> = &[("g,v\n", 1)];
 
-// Tables: groups, aggregates, nulls, sums past 64 bits, averages of both signs.
+/// Tables: groups, aggregates, nulls, sums past 64 bits, averages of both signs.
 #[test]
 fn tables(rt: HostRuntime) -> Result<(), Fail> {
     let rows = [
@@ -183,7 +183,7 @@ fn tables(rt: HostRuntime) -> Result<(), Fail> {
     check(&rt, rt.alloc(), &rows)
 }
 
-// Tables of a filter, and the refusals that it makes and spares.
+/// Tables of a filter, and the refusals that it makes and spares.
 #[test]
 fn filters(rt: HostRuntime) -> Result<(), Fail> {
     let input: Pieces<'_> = &[("g,v,w\na,1,5\nb,2,x\na,,7\nb,9,1\n", 1)];
@@ -233,7 +233,7 @@ fn filters(rt: HostRuntime) -> Result<(), Fail> {
     check(&rt, rt.alloc(), &rows)
 }
 
-// What is no plan, no table's input, or has a refused row. The first refused row is named.
+/// What is no plan, no table's input, or has a refused row. The first refused row is named.
 #[test]
 fn refusals(rt: HostRuntime) -> Result<(), Fail> {
     let x_twice: Pieces<'_> = &[
@@ -301,7 +301,7 @@ fn refusals(rt: HostRuntime) -> Result<(), Fail> {
     check(&rt, rt.alloc(), &rows)
 }
 
-// Text that is written oddly: each input has its one answer.
+/// Text that is written oddly: each input has its one answer.
 #[test]
 fn odd_text(rt: HostRuntime) -> Result<(), Fail> {
     let rows = [
@@ -430,7 +430,7 @@ fn odd_text(rt: HostRuntime) -> Result<(), Fail> {
     check(&rt, rt.alloc(), &rows)
 }
 
-// A thousand orders of an item whose name is quoted.
+/// A thousand orders of an item whose name is quoted.
 fn orders(alloc: Global) -> Result<Vec<u8>, AllocError> {
     let mut text = Vec::from_slice(alloc, b"region,item,cents\n")?;
     for cents in 1..=1000u32 {
@@ -440,7 +440,7 @@ fn orders(alloc: Global) -> Result<Vec<u8>, AllocError> {
     Ok(text)
 }
 
-// Every call's answer over them, whatever plan the words ask for.
+/// Every call's answer over them, whatever plan the words ask for.
 #[test]
 fn thousand_orders(rt: HostRuntime) -> Result<(), Fail> {
     let by_region =
@@ -466,6 +466,32 @@ fn thousand_orders(rt: HostRuntime) -> Result<(), Fail> {
             assert_eq!(rt; status, 0, "status of {words}");
             assert_eq!(rt; out.as_slice(), want.as_bytes(), "table of {words}");
             assert!(rt; err.is_empty(), "line of {words}");
+        }
+    }
+    Ok(())
+}
+
+/// Bytes that are no text, in keys and in a column of integers.
+#[test]
+fn bytes_that_are_no_text(rt: HostRuntime) -> Result<(), Fail> {
+    let words = "--group g --agg sum:v";
+    let line = b"pargather: row 2: column v is not an integer\n".as_slice();
+    let rows: [(&[u8], u8, &[u8], &[u8]); 2] = [
+        (
+            b"g,v\n\xFF,1\n\xC3,2\n\xFF,3\n\xC3\xA9,4\n",
+            0,
+            b"g,sum(v)\n\xC3,2\n\xC3\xA9,4\n\xFF,4\n",
+            b"",
+        ),
+        (b"g,v\n\xFF,1\na,1\xFF\n", 1, b"", line),
+    ];
+    for (at, (input, status, out, line)) in rows.iter().enumerate() {
+        for alone in [false, true] {
+            let input = Vec::from_slice(rt.alloc(), input)?;
+            let found = answer(rt.alloc(), words, input, alone)?;
+            assert_eq!(rt; found.0, *status, "status of row {at}");
+            assert_eq!(rt; found.1.as_slice(), *out, "table of row {at}");
+            assert_eq!(rt; found.2.as_slice(), *line, "line of row {at}");
         }
     }
     Ok(())

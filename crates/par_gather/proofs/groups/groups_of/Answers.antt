@@ -20,7 +20,7 @@ loop-block-preserved c =
     let block = block_rows c.args.rows.now c.loop-block.block in
     let more = block_more c.args.rows.now c.loop-block.block in
     let inv = c.loop-block.invariant in
-    let fits : length front + 256 < 2 ^ 64 = omega (arith, length-take (256 * c.loop-block.block) rows, length-drop 1 c.args.rows.now, c.requires.few) in
+    let fits : length front + 256 < 2 ^ 64 = omega (arith, length-take (256 * c.loop-block.block) rows, length-drop 1 c.args.rows.now, c.count.ensures.rows, c.count.ensures.few) in
     let P : List (List (List ℕ)) → Type 0 = λ l. AreGroups c.args.plan.now l c.add_block.new.self in
     record {
       accepted = All-same (IsAccepted c.args.plan.now (header_width c.args.rows.now)) _ (front ++ block) (sym more) (All-append (IsAccepted c.args.plan.now (header_width c.args.rows.now)) front block inv.accepted c.in-Ok.ensures.accepted);
