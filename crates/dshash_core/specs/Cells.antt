@@ -7,7 +7,7 @@ use Rattle.std.specs.FinMap as fin
 use Rattle.atomic_table.specs.Seated.{TableId, table_id_coded}
 use Rattle.dshash_core.specs.Key.{hash_of}
 use Rattle.dshash_core.specs.Chains.{Among, Item}
-use Rattle.dshash_core.specs.Hung.{Hung, chain_of}
+use Rattle.dshash_core.specs.Hung.{Hung, Layout, chain_of}
 
 -- a finite map from keys, which are lists of words
 abbrev pub KeyMap : Type 0 → Type 0
@@ -22,6 +22,10 @@ pub record PartitionView (S : Type 0) : Type 0 where
   pub item_bytes : ℕ
   pub size : ℕ
   pub cells : KeyMap S
+
+-- the shape of a partition's items, with values of so many words
+abbrev pub layout_of : {S : Type 0} → PartitionView S → ℕ → Layout
+layout_of p value_words = record { key_words = p.key_words; value_words = value_words; item_bytes = p.item_bytes }
 
 -- the code by which proofs tell such values apart
 abbrev pub partition_code : {S : Type 0} → Coded S → Coded (PartitionView S)

@@ -2,12 +2,16 @@
 use Rattle.std.specs.Prelude.{◌≡◌, ◌≢◌, ℕ, ◌+◌, ◌<◌, ◌≤◌, List, ◌∷◌, ◌++◌, IsSome}
 use Rattle.word_map.specs.WordMap.{WordMap, at}
 use Rattle.dshash_core.specs.Key.{hash_of}
-use Rattle.dshash_core.specs.Chains.{word, words_at, most_words, Among, link_behind}
+use Rattle.dshash_core.specs.Chains.{word, words_at, most_words, places, Among, link_behind}
 
 -- a walk can compare the item at a with keys of that many words: the map has its words, and its hash is that of its key
 pub record IsReadable (m : WordMap) (key_words a : ℕ) : Type 0 where
   pub owned : (k : ℕ) → a ≤ k → k < a + (2 + key_words) → IsSome (at m k)
   pub hashed : word m (a + 1) ≡ hash_of (words_at (word m) (a + 2) key_words)
+
+-- the places of the items on the chain from the word `link`
+abbrev pub chain_from : WordMap → ℕ → List ℕ
+chain_from m link = places (word m) most_words (word m link)
 
 -- the key stands at item, the first on the chain from `link` that has it, behind the link at word `behind`
 pub record IsPlaced (w : ℕ → ℕ) (chain : List ℕ) (link behind item key_words : ℕ) (key : List ℕ) : Type 0 where

@@ -8,7 +8,6 @@ ghost use Rattle.dshash_core.specs.Outcome.{HandsOut};
 ghost use Rattle.dshash_core.specs.Calls.{IsCalled, IsAnswered};
 
 use crate::buckets::Buckets;
-use crate::key::hash_key;
 use crate::object::CellObject;
 use crate::outcome::CoreOut;
 use crate::sizes::{bucket_of_hash, is_full_at};
@@ -31,7 +30,8 @@ pub(crate) fn change<O: CellObject>(
     requires buffer { length buffer.old ≡ O.VALUE_WORDS }
     requires cells { (size : ℕ) × AreCells size count.old O.VALUE_WORDS buckets.old }
     ensures buffer { length buffer.new ≡ length buffer.old }
-    ensures called { (size : ℕ) (key : List ℕ) (spare : Bool) → AreCells size count.old O.VALUE_WORDS buckets.old → HasItem buckets.old bucket spot.link spot.item key → IsCalled O.stepped O.decoded size count.new O.VALUE_WORDS buckets.old buckets.new key call.now spare result.0 spare (is_some result.1) }
+    ensures called { (size : ℕ) (key : List ℕ) (spare : Bool) → AreCells size count.old O.VALUE_WORDS buckets.old → HasItem buckets.old bucket spot.link spot.item key
+        → IsCalled O.stepped O.decoded size count.new O.VALUE_WORDS buckets.old buckets.new key call.now spare result.0 spare (is_some result.1) }
     ensures freed { IfSome result.1 (λ c. (c.part.region ≡ buckets.old.region) × (c.bytes ≡ buckets.old.layout.item_bytes)) }
 {
     buckets.read_value(r, spot.item, buffer);
@@ -136,18 +136,20 @@ fn put_in<O: CellObject>(
     }
 }
 
-/// Makes a call of a partition of a size.
+/// Makes a call of a partition of a size, of a key with this hash.
 pub(crate) fn answer<O: CellObject>(
     buckets: &mut Buckets,
     r: &Region,
     count: &mut u64,
     buffer: &mut [u64],
     size: u32,
+    hash: u64,
     key: &[u64],
     call: &O::Call,
     spare: Option<Chunk>,
 ) -> CoreOut<O>
     requires here { buckets.old.region ≡ r.now }
+    requires hash { hash ≡ hash_of key.now }
     requires key { length key.now ≡ buckets.old.layout.key_words }
     requires buffer { length buffer.old ≡ O.VALUE_WORDS }
     requires cells { AreCells size count.old O.VALUE_WORDS buckets.old }
@@ -155,7 +157,6 @@ pub(crate) fn answer<O: CellObject>(
     ensures answered { IsAnswered O.stepped O.decoded size count.old count.new O.VALUE_WORDS buckets.old buckets.new key.now call.now (is_some spare) result }
     ensures handed { HandsOut buckets.old.region buckets.old.layout.item_bytes spare result }
 {
-    let hash = u64::from(hash_key(key));
     let bucket = bucket_of_hash(size, hash);
     match buckets.find(r, bucket, hash, key) {
         Some(spot) => {

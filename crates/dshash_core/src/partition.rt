@@ -6,8 +6,8 @@
 //! number of keys, and there are at most three quarters as many keys as buckets and one more, or the size is 20.
 ghost use Rattle.std.specs.Prelude.{◌≡◌, false, ◌+◌, ◌*◌, ◌/◌, ◌<◌, ◌≤◌, length, is_some, IfOk, IfSome, MatchOption};
 ghost use Rattle.std.specs.FinMap as fin;
-ghost use Rattle.dshash_core.specs.Key.{item_size};
-ghost use Rattle.dshash_core.specs.Cells.{IsRoomy, AreCells, buckets_of, cells_of};
+ghost use Rattle.dshash_core.specs.Key.{hash_of, item_size};
+ghost use Rattle.dshash_core.specs.Cells.{IsRoomy, AreCells, buckets_of, cells_of, layout_of};
 ghost use Rattle.dshash_core.specs.Outcome.{IsOutcome, HandsOut, ListsAll};
 ghost use Rattle.dshash_core.specs.Listing.{pairs_of};
 ghost use Rattle.dshash_core.specs.Chains.{Item};
@@ -16,6 +16,7 @@ ghost use Rattle.dshash_core.specs.Hung.{IsItemChunk};
 use crate::buckets::Buckets;
 use crate::calls::answer;
 use crate::entries::{Entry, list_all};
+use crate::key::hash_key;
 use crate::object::CellObject;
 use crate::outcome::CoreOut;
 use crate::sizes::{LEAST_SIZE, bucket_count, bucket_of_hash};
@@ -83,6 +84,7 @@ impl<O: CellObject> Partition<O> {
     pub fn size(&self) -> u32
         ensures is { result ≡ self.now.size }
         ensures range { (7 ≤ result) × (result ≤ 20) }
+        ensures roomy { IsRoomy result (fin.len self.now.cells) }
     {
         self.size
     }
@@ -95,7 +97,7 @@ impl<O: CellObject> Partition<O> {
         self.count
     }
 
-    /// Makes a call of a key, or says what it lacks: an item, or more buckets. It walks one chain and takes no memory.
+    /// Makes a call of a key, or says what it lacks: an item, or more buckets. It hashes the key, walks one chain and takes no memory.
     pub fn try_call(
         &mut self,
         r: &Region,
@@ -111,12 +113,34 @@ impl<O: CellObject> Partition<O> {
         ensures handed { HandsOut self.old.region self.old.item_bytes spare result }
         ensures roomy { IsRoomy self.new.size (fin.len self.new.cells) }
     {
+        self.try_call_with_hash(r, hash_key(key), key, call, spare)
+    }
+
+    /// The same, of a key whose hash is known: a table that needs the hash for the partition's number hashes each key once.
+    pub fn try_call_with_hash(
+        &mut self,
+        r: &Region,
+        hash: u32,
+        key: &[u64],
+        call: &O::Call,
+        spare: Option<Chunk>,
+    ) -> CoreOut<O>
+        requires here { self.old.region ≡ r.now }
+        requires hash { hash ≡ hash_of key.now }
+        requires key { length key.now ≡ self.old.key_words }
+        requires spare { IfSome spare (λ c. (c.part.region ≡ r.now) × (c.bytes ≡ self.old.item_bytes)) }
+        ensures outcome { IsOutcome O.stepped self.old.size self.old.cells key.now call.now (is_some spare) result self.new.cells }
+        ensures same { self.new ≡ record self.old { cells = self.new.cells } }
+        ensures handed { HandsOut self.old.region self.old.item_bytes spare result }
+        ensures roomy { IsRoomy self.new.size (fin.len self.new.cells) }
+    {
         answer::<O>(
             &mut self.buckets,
             r,
             &mut self.count,
             self.buffer.as_mut_slice(),
             self.size,
+            u64::from(hash),
             key,
             call,
             spare,
@@ -127,6 +151,7 @@ impl<O: CellObject> Partition<O> {
     pub fn list(&mut self, alloc: Global, r: &Region) -> Result<Vec<Entry<O>>, AllocError>
         requires here { self.old.region ≡ r.now }
         ensures same { self.new ≡ self.old }
+        ensures roomy { IsRoomy self.old.size (fin.len self.old.cells) }
         ensures all { IfOk result (λ v. ListsAll self.old.cells (pairs_of v.items)) }
     {
         list_all::<O>(&mut self.buckets, alloc, r, self.buffer.as_mut_slice())
@@ -161,9 +186,9 @@ impl<O: CellObject> Partition<O> {
     pub fn take_in(&mut self, r: &Region, item: Chunk)
         requires here { (self.old.region ≡ r.now) × (item.part.region ≡ r.now) }
         requires size { item.bytes ≡ self.old.item_bytes }
-        requires item { (it : Item) × IsItemChunk item.at item.part.words (record { key_words = self.old.key_words; value_words = O.VALUE_WORDS; item_bytes = self.old.item_bytes }) it × (fin.contains_key self.old.cells it.key ≡ false) }
+        requires item { (it : Item) × IsItemChunk item.at item.part.words (layout_of self.old O.VALUE_WORDS) it × (fin.contains_key self.old.cells it.key ≡ false) }
         requires room { IsRoomy self.old.size (fin.len self.old.cells + 1) }
-        ensures { (it : Item) → IsItemChunk item.at item.part.words (record { key_words = self.old.key_words; value_words = O.VALUE_WORDS; item_bytes = self.old.item_bytes }) it → self.new ≡ record self.old { cells = fin.insert self.old.cells it.key (O.decoded it.value) } }
+        ensures { (it : Item) → IsItemChunk item.at item.part.words (layout_of self.old O.VALUE_WORDS) it → self.new ≡ record self.old { cells = fin.insert self.old.cells it.key (O.decoded it.value) } }
     {
         let mut item = item;
         self.buckets.is_sound();

@@ -3,7 +3,9 @@ ghost use Rattle.std.specs.Prelude.{◌≡◌, true, length, IfSome, IfNone};
 ghost use Rattle.std.specs.FinMap as fin;
 ghost use Rattle.dshash_core.specs.Outcome.{changed, next_of, is_full};
 
-use crate::{CellObject, CoreOut, Partition, hash_key, item_bytes, pack_key, unpack_key};
+use crate::{
+    CellObject, CoreOut, Partition, hash_key, item_bytes, pack_key, partition_of_hash, unpack_key,
+};
 use region_words::{Chunk, Region};
 use std::test::Fail;
 
@@ -48,6 +50,7 @@ fn hashes_are_those_of_fnv_and_murmur(rt: HostRuntime) {
     let none: [u64; 0] = [];
     assert_eq!(rt; hash_key(&none), 0x5db4_a501);
     assert_eq!(rt; hash_key(&[1, 2, 3]), 0xb400_764d);
+    assert_eq!(rt; partition_of_hash(0xb400_764d), 90);
     assert_eq!(rt; hash_key(&[0x0123_4567_89ab_cdef]), 0x1647_ad01);
     assert_eq!(rt; item_bytes(32, 41), 600);
     assert_eq!(rt; item_bytes(32, 1), 280);

@@ -4,8 +4,8 @@ ghost use Rattle.std.specs.FinMap as fin;
 ghost use Rattle.word_map.specs.WordMap.{at as word_at, HasJust};
 ghost use Rattle.region_words.specs.Parts.{owned};
 ghost use Rattle.dshash_core.specs.Key.{hash_of};
-ghost use Rattle.dshash_core.specs.Chains.{word, words_at, most_words, places, IsChain, Among, Item, item_at};
-ghost use Rattle.dshash_core.specs.Walk.{IsReadable, IsPlaced, IsNowhere, IsHungIn, IsTakenOut};
+ghost use Rattle.dshash_core.specs.Chains.{word, words_at, IsChain, Among, Item, item_at};
+ghost use Rattle.dshash_core.specs.Walk.{IsReadable, chain_from, IsPlaced, IsNowhere, IsHungIn, IsTakenOut};
 
 use region_words::{Chunk, Part, Region};
 
@@ -92,10 +92,10 @@ pub(crate) fn seek(part: &mut Part, r: &Region, link: u64, hash: u64, key: &[u64
     requires here { part.old.region ≡ r.now }
     requires link { IsSome (word_at part.old.words link) }
     requires hash { hash ≡ hash_of key.now }
-    requires chain { IsChain (word part.old.words) (word part.old.words link) (places (word part.old.words) most_words (word part.old.words link)) }
-    requires items { (a : ℕ) → Among a (places (word part.old.words) most_words (word part.old.words link)) → IsReadable part.old.words (length key.now) a }
+    requires chain { IsChain (word part.old.words) (word part.old.words link) (chain_from part.old.words link) }
+    requires items { (a : ℕ) → Among a (chain_from part.old.words link) → IsReadable part.old.words (length key.now) a }
     ensures same { part.new ≡ part.old }
-    ensures found { MatchOption result (IsNowhere (word part.old.words) (places (word part.old.words) most_words (word part.old.words link)) (length key.now) key.now) (λ s. IsPlaced (word part.old.words) (places (word part.old.words) most_words (word part.old.words link)) link s.link s.item (length key.now) key.now) }
+    ensures found { MatchOption result (IsNowhere (word part.old.words) (chain_from part.old.words link) (length key.now) key.now) (λ s. IsPlaced (word part.old.words) (chain_from part.old.words link) link s.link s.item (length key.now) key.now) }
 {
     let mut behind = link;
     let mut item = part.load(r, link);

@@ -3,7 +3,7 @@ mod growing;
 mod number;
 mod store;
 
-use dshash_core::hash_key;
+use dshash_core::{hash_key, partition_of_hash};
 use growing::Growing;
 use number::NumberCall;
 use std::alloc::{AllocError, Global};
@@ -13,7 +13,7 @@ use std::test::Fail;
 fn keys_of(alloc: Global, partition: u32, count: usize) -> Result<Vec<u64>, AllocError> {
     let mut keys = Vec::new(alloc);
     for key in 0..200_000u64 {
-        if keys.len() < count && hash_key(&[key]) >> 25 == partition {
+        if keys.len() < count && partition_of_hash(hash_key(&[key])) == partition {
             keys.push(key)?;
         }
     }

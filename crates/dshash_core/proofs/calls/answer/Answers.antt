@@ -9,7 +9,7 @@ change-reply-requires-clause-spot g c = subst (λ (u : Hung). (key : List ℕ) �
 
 pub put_in-requires-clause-absent : goal.put_in-requires-clause-absent
 put_in-requires-clause-absent g c =
-    subst (λ (u : Hung). HasNoItem u (bucket_of c.args.size c.from-hash.result) c.args.key.now) (sym c.find.ensures.same)
+    subst (λ (u : Hung). HasNoItem u (bucket_of c.args.size c.args.hash) c.args.key.now) (sym c.find.ensures.same)
     (subst (λ (i : ℕ). HasNoItem c.args.buckets.now i c.args.key.now) c.bucket_of_hash-bucket.ensures c.in-None.ensures.found)
 
 pub returns-in-Some-clause-answered : goal.returns-in-Some-clause-answered

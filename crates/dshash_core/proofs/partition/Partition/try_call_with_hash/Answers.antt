@@ -2,7 +2,7 @@ use Rattle.std.proofs.Common.{ℕ, is_some, sym, subst}
 use Rattle.dshash_core.specs.Cells.{IsRoomy, AreCells}
 use Rattle.dshash_core.proofs.Flats.{cells_len}
 use Rattle.dshash_core.proofs.Steps.{answered_cells}
-use Rattle.dshash_core.proofs.partition.Partition.try_call.Goals as goal
+use Rattle.dshash_core.proofs.partition.Partition.try_call_with_hash.Goals as goal
 
 pub returns-clause-roomy : goal.returns-clause-roomy
 returns-clause-roomy g c =
