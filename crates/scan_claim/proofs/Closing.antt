@@ -25,9 +25,6 @@ module _ (P : ClaimSeat → Type 0) (all xs : List ClaimSeat) (x : ClaimSeat) (e
   pub left_last : P x
   left_last = h (length xs) x (subst (λ (m : List ClaimSeat). get_elem? m (length xs) ≡ some x) (sym e) (at_last xs x (length xs) refl))
 
-pub drawn_once : (b n : ℕ) (ls : List (List ℕ)) → IsDrawn b ls n → (x : ℕ) → times x (flat ls) ≤ 1
-drawn_once b n ls d x = let e = d.once x in let f : once_below x n ≤ 1 = grind (arith, nat_tests) in omega arith
-
 late_in : (b : ℕ) (ss : List ClaimSeat) (k : ℕ) (s : ClaimSeat) → get_elem? ss k ≡ some s → late b (draws_of s) ≤ late b (flat (map draws_of ss))
 late_in b [] k s e = absurd (some-ne-none s (sym e))
 late_in b (x ∷ xs) zero s e = let is : late b (draws_of x) ≡ late b (draws_of s) = ap (λ z. late b (draws_of z)) (some-injective x s e) in let a = late-append b (draws_of x) (flat (map draws_of xs)) in omega arith

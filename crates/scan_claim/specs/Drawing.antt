@@ -1,5 +1,5 @@
 -- What the seats have drawn, and the rule of the counter's table.
-use Rattle.std.specs.Prelude.{◌≡◌, ℕ, zero, suc, ◌+◌, ◌-◌, ◌<◌, ◌≤◌, ◌==◌, Bool, ltb, if◌then◌else◌, List, [], ◌∷◌, ◌++◌, length, slice_index, replicate}
+use Rattle.std.specs.Prelude.{◌≡◌, ℕ, zero, suc, ◌+◌, ◌-◌, ◌^◌, ◌<◌, ◌≤◌, ◌==◌, Bool, ltb, if◌then◌else◌, List, [], ◌∷◌, ◌++◌, length, slice_index, replicate}
 use mathlib.Core.Option.{some}
 use lib.ListN.{get_elem?}
 use Rattle.atomic_table.specs.Table.{State, Me, Step}
@@ -68,7 +68,7 @@ Knows blocks callers n v = 0 < length v.lists → (v.blocks ≡ blocks) × (v.ca
 -- The rule of the counter. The word is the number of draws made; each number below it stands in the lists once, and no other does; there are as many lists as callers, and each has at most one number that is not below the blocks
 pub record Counts (blocks callers : ℕ) (s : State (Unit {0}) Draws) : Type 0 where
   pub wide : length s.words ≡ 1
-  pub small : (blocks ≤ 4294967296) × (callers < 4294967296)
+  pub small : (blocks ≤ 2 ^ 32) × (callers < 2 ^ 32)
   pub once : (x : ℕ) → total (λ v. times x (all_of v)) s.views ≡ once_below x (slice_index s.words 0)
   pub seats : total seats_of s.views ≡ callers
   pub ends : total (λ v. late blocks (all_of v)) s.views ≡ slice_index s.words 0 - blocks
