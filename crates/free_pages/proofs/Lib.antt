@@ -10,3 +10,4 @@ pub mod News
 pub mod Apart
 pub mod Offers
 pub mod AreaWords
+pub mod Filled

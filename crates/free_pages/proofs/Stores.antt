@@ -6,7 +6,7 @@ use Rattle.std.specs.FinMap as fin
 use Rattle.word_map.specs.WordMap.{WordMap, at}
 use Rattle.word_map.proofs.Maps.{at-insert_same, at-insert_other}
 use Rattle.free_pages.specs.Legal.{Adds}
-use Rattle.free_pages.specs.Runs.{run_word, IsRuns, granted_at, granted_in}
+use Rattle.free_pages.specs.Runs.{run_word, IsRuns, KeepsHeads, granted_at, granted_in}
 use Rattle.free_pages.proofs.Laid.{fuse_laid, cut_laid, mark_laid}
 use Rattle.free_pages.proofs.Lists.{granted_same, granted_more}
 
@@ -15,6 +15,12 @@ word_here m heads q x p e = ap (λ (o : Option ℕ). unwrap_or o 0) (at-insert_s
 
 pub word_else : (m : WordMap) (heads q x p : ℕ) → p ≢ q → run_word (fin.insert m (heads + q) x) heads p ≡ run_word m heads p
 word_else m heads q x p n = ap (λ (o : Option ℕ). unwrap_or o 0) (at-insert_other m (heads + q) x (heads + p) (λ e. n (let z : p ≡ q = omega arith in z)))
+
+-- a word that is not 0 loses no run
+pub keeps_head : (m : WordMap) (heads q x : ℕ) → 0 < x → KeepsHeads m (fin.insert m (heads + q) x) heads
+keeps_head m heads q x some k h = dite (ℕ_discrete k q)
+    (λ (e : k ≡ q). subst (λ (z : ℕ). 0 < z) (sym (word_here m heads q x k e)) some)
+    (λ (n : k ≢ q). subst (λ (z : ℕ). 0 < z) (sym (word_else m heads q x k n)) h)
 
 pub owns_after : (m : WordMap) (k x j : ℕ) → IsSome (at m j) → IsSome (at (fin.insert m k x) j)
 owns_after m k x j h = dite (ℕ_discrete j k)

@@ -1,9 +1,9 @@
 -- The run words, which stand in the region and say which runs of pages are granted. Only `Pages` changes them: the word of a run's
 -- first page is four times its number of pages, plus 0 where it is free, 1 where it was granted without its control records, 2 with them.
 -- Every other run word is 0. (freepage.c keeps free runs in a tree in the pages; here all runs stand in these words.)
-use Rattle.std.specs.Prelude.{◌≡◌, ℕ, zero, suc, ◌+◌, ◌/◌, ◌%◌, ◌<◌, ◌≤◌, cond, ◌==◌, List, [], ◌∷◌, unwrap_or, IsSome}
+use Rattle.std.specs.Prelude.{◌≡◌, ℕ, zero, suc, ◌+◌, ◌/◌, ◌%◌, ◌<◌, ◌≤◌, cond, ◌==◌, true, List, [], ◌∷◌, unwrap_or, IsSome}
 use Rattle.word_map.specs.WordMap.{WordMap, at}
-use Rattle.free_pages.specs.Legal.{Granted, IsFree}
+use Rattle.free_pages.specs.Legal.{Granted, IsFree, is_taken}
 
 -- the value of the run word of page p
 abbrev pub run_word : WordMap → ℕ → ℕ → ℕ
@@ -39,6 +39,16 @@ pub record IsRuns (m : WordMap) (heads pages : ℕ) : Type 0 where
 -- the granted runs that these run words show
 abbrev pub granted_in : WordMap → ℕ → ℕ → List Granted
 granted_in m heads pages = granted_of (run_word m heads) 0 pages
+
+-- every page before page p is granted, and a run begins there or the pages end
+pub record IsFilled (m : WordMap) (heads pages p : ℕ) : Type 0 where
+  pub inside : p ≤ pages
+  pub head : p < pages → 0 < run_word m heads p
+  pub taken : (k : ℕ) → k < p → is_taken (granted_in m heads pages) k ≡ true
+
+-- no run is lost: where one began, one begins
+abbrev pub KeepsHeads : WordMap → WordMap → ℕ → Type 0
+KeepsHeads before after heads = (k : ℕ) → 0 < run_word before heads k → 0 < run_word after heads k
 
 -- among the runs of free pages that begin before page p, the longest has n pages
 pub record IsBest (pages : ℕ) (granted : List Granted) (p n : ℕ) : Type 0 where

@@ -12,7 +12,7 @@ ghost use Rattle.free_pages.specs.Runs.{IsRuns, granted_in};
 ghost use Rattle.free_pages.specs.PagesView.{pages_view, IsRunOf, MayGive, SplitsOff, JoinsBack, MaySplit};
 
 use crate::layout::{HEAD_WORDS, PAGE_WORDS, RECORD_WORDS, front};
-use crate::walk::{grant, release, seek};
+use crate::walk::{find, grant, release, smaller};
 use region_words::{Part, Region, Run};
 use rel_pointer::RelPtr;
 use std::marker::Model;
@@ -35,6 +35,8 @@ pub struct Pages {
     pages: u64,
     /// The first run word.
     heads: u64,
+    /// A page before which every page is granted; a run begins there, or the pages end. A walk begins here.
+    filled: u64,
     /// The words at the head and the run words.
     runs: Part,
     /// The words of the pages that are not granted.
@@ -44,7 +46,7 @@ pub struct Pages {
 }
 
 impl Model for Pages {
-    ghost use Rattle.free_pages.specs.Runs.{granted_in};
+    ghost use Rattle.free_pages.specs.Runs.{IsFilled, granted_in};
     ghost use Rattle.free_pages.specs.PagesView.{PagesView, pages_view_code, pages_view, IsPages};
 
     ghost Value = { PagesView };
@@ -53,7 +55,7 @@ impl Model for Pages {
 
     ghost view = { λ p. pages_view p.runs.region p.first p.pages (granted_in p.runs.words p.heads p.pages) };
 
-    ghost invariant = { λ p. IsPages p.first p.pages p.heads p.runs p.words p.records };
+    ghost invariant = { λ p. IsPages p.first p.pages p.heads p.runs p.words p.records × IsFilled p.runs.words p.heads p.pages p.filled };
 }
 
 impl Pages {
@@ -85,14 +87,15 @@ impl Pages {
             first,
             pages,
             heads,
+            filled: 0,
             runs,
             words,
             records,
         }
     }
 
-    /// Any `n` pages in a row that are free, with their control records where `control` is true. Walks from run to run, from page 0 to
-    /// the first free run of `n` pages, and makes one of the free runs that touch on its way.
+    /// Any `n` pages in a row that are free, with their control records where `control` is true. Walks from run to run, from the
+    /// first free page to the first free run of `n` pages, and makes one of the free runs that touch on its way.
     pub fn take(&mut self, r: &Region, n: u32, control: bool) -> Result<Run, NoRun>
         requires here { self.old.region ≡ r.now }
         requires some { 1 ≤ n }
@@ -102,11 +105,19 @@ impl Pages {
         ensures refused { IfErr result (λ no. IsLegal self.old.first self.old.state (Take n control) (Lacks no.wanted no.largest) self.new.state) }
     {
         let count = u64::from(n);
-        let (at, len) = seek(&mut self.runs, r, self.heads, self.pages, count);
-        if at >= self.pages {
+        let found = find(
+            &mut self.runs,
+            r,
+            self.heads,
+            self.pages,
+            self.filled,
+            count,
+        );
+        self.filled = found.filled;
+        if found.at >= self.pages {
             return Err(NoRun {
                 wanted: n,
-                largest: len as u32,
+                largest: found.len as u32,
             });
         }
         grant(
@@ -114,14 +125,14 @@ impl Pages {
             r,
             self.heads,
             self.pages,
-            at,
+            found.at,
             count,
-            len,
+            found.len,
             control,
         );
-        let place = self.first + PAGE_WORDS * at;
+        let place = self.first + PAGE_WORDS * found.at;
         let words = self.words.split(r, place, PAGE_WORDS * count);
-        let from = self.heads + self.pages + RECORD_WORDS * at;
+        let from = self.heads + self.pages + RECORD_WORDS * found.at;
         let control = split_off(&mut self.records, r, from, RECORD_WORDS * count, control);
         Ok(Run {
             at: RelPtr::of(place),
@@ -158,6 +169,7 @@ impl Pages {
         ) {
             return Err(run);
         }
+        self.filled = smaller(self.filled, at);
         let Run {
             at: _,
             pages: _,
@@ -169,14 +181,22 @@ impl Pages {
         Ok(())
     }
 
-    /// The pages of the longest run that is free; 0 where no page is. Walks once over all runs.
+    /// The pages of the longest run that is free; 0 where no page is. Walks once over all runs from the first free page on.
     pub fn largest(&mut self, r: &Region) -> u32
         requires here { self.old.region ≡ r.now }
         ensures same { self.new ≡ self.old }
         ensures largest { IsLargest self.old.state.pages self.old.state.granted result }
     {
-        let (_, len) = seek(&mut self.runs, r, self.heads, self.pages, self.pages + 1);
-        len as u32
+        let found = find(
+            &mut self.runs,
+            r,
+            self.heads,
+            self.pages,
+            self.filled,
+            self.pages + 1,
+        );
+        self.filled = found.filled;
+        found.len as u32
     }
 }
 

@@ -6,5 +6,5 @@ use Rattle.free_pages.proofs.pages.Pages.largest.Goals as goal
 
 pub returns-clause-largest : goal.returns-clause-largest
 returns-clause-largest c =
-    let full : c.self.inside.pages ≤ c.seek-len.result.0 = ⊎_elim (λ (h : c.seek-len.result.0 < c.self.inside.pages). absurd (let x = c.seek-len.ensures.found h in omega (arith, x))) (λ (h : c.self.inside.pages ≤ c.seek-len.result.0). h) (cases_lt c.seek-len.result.0 c.self.inside.pages) in
-    subst (λ (b : PagesView). IsLargest b.state.pages b.state.granted c.seek-len.result.1) c.self.view_is (c.seek-len.ensures.none full).1
+    let full : c.self.inside.pages ≤ c.find-found.result.at = ⊎_elim (λ (h : c.find-found.result.at < c.self.inside.pages). absurd (let x = c.find-found.ensures.found h in omega (arith, x))) (λ (h : c.self.inside.pages ≤ c.find-found.result.at). h) (cases_lt c.find-found.result.at c.self.inside.pages) in
+    subst (λ (b : PagesView). IsLargest b.state.pages b.state.granted c.find-found.result.len) c.self.view_is (c.find-found.ensures.none full).1

@@ -4,43 +4,47 @@ use Rattle.free_pages.specs.Legal.{Granted, Adds, IsTake}
 use Rattle.free_pages.specs.Runs.{granted_in}
 use Rattle.free_pages.specs.PagesView.{PagesView, pages_view, IsRunOf}
 use Rattle.free_pages.proofs.Grants.{found_free, may_split, may_split_words, after_grant, take_is, run_is, run_just}
+use Rattle.free_pages.proofs.Filled.{filled_grant}
 use Rattle.free_pages.proofs.pages.Pages.take.Goals as goal
 
 pub split-words-requires-clause-owns : goal.split-words-requires-clause-owns
 split-words-requires-clause-owns c =
-    let found = c.seek-at.ensures.found c.if-at-self.false in
-    may_split_words _ c.self.inside.pages c.self.inside.heads _ _ c.self.inside.runs _ _ c.self.invariant
-    (found_free c.self.inside.pages c.self.inside.heads c.seek-at.result.0 c.from-count.result c.seek-at.result.1 c.self.inside.runs c.seek-at.new.runs c.seek-at.ensures.runs c.seek-at.ensures.granted c.if-at-self.false (omega (arith, c.from-count.ensures, c.requires.some)) found.0 found.1)
+    let found = c.find-found.ensures.found c.if-found-self.false in
+    may_split_words _ c.self.inside.pages c.self.inside.heads _ _ c.self.inside.runs _ _ c.self.invariant.0
+    (found_free c.self.inside.pages c.self.inside.heads c.find-found.result.at c.from-count.result c.find-found.result.len c.self.inside.runs c.find-found.new.runs c.find-found.ensures.runs c.find-found.ensures.granted c.if-found-self.false (omega (arith, c.from-count.ensures, c.requires.some)) found.0 found.1)
 
 pub split_off-control-requires-clause-owns : goal.split_off-control-requires-clause-owns
 split_off-control-requires-clause-owns c =
-    let found = c.seek-at.ensures.found c.if-at-self.false in
-    may_split c.self.inside.first c.self.inside.pages c.self.inside.heads c.seek-at.result.0 c.from-count.result c.self.inside.runs c.self.inside.words c.self.inside.records c.args.control c.self.invariant
-    (found_free c.self.inside.pages c.self.inside.heads c.seek-at.result.0 c.from-count.result c.seek-at.result.1 c.self.inside.runs c.seek-at.new.runs c.seek-at.ensures.runs c.seek-at.ensures.granted c.if-at-self.false (omega (arith, c.from-count.ensures, c.requires.some)) found.0 found.1)
+    let found = c.find-found.ensures.found c.if-found-self.false in
+    may_split c.self.inside.first c.self.inside.pages c.self.inside.heads c.find-found.result.at c.from-count.result c.self.inside.runs c.self.inside.words c.self.inside.records c.args.control c.self.invariant.0
+    (found_free c.self.inside.pages c.self.inside.heads c.find-found.result.at c.from-count.result c.find-found.result.len c.self.inside.runs c.find-found.new.runs c.find-found.ensures.runs c.find-found.ensures.granted c.if-found-self.false (omega (arith, c.from-count.ensures, c.requires.some)) found.0 found.1)
 
 pub invariant_of-self-2 : goal.invariant_of-self-2
 invariant_of-self-2 c =
-    after_grant c.self.inside.first c.self.inside.pages c.self.inside.heads c.seek-at.result.0 c.from-count.result c.self.inside.runs c.grant.new.runs c.self.inside.words c.split-words.new.self c.self.inside.records c.split_off-control.new.records c.split_off-control.result c.args.control c.self.invariant
-    (c.grant.ensures.region ∙ c.seek-at.ensures.region) c.grant.ensures.runs (subst (λ (gs : List Granted). Adds gs (granted_in c.grant.new.runs.words c.self.inside.heads c.self.inside.pages) (record { from = c.seek-at.result.0; len = c.from-count.result; control = c.args.control })) c.seek-at.ensures.granted c.grant.ensures.granted) c.split-words.ensures.rest c.split_off-control.ensures
+    let adds : Adds (granted_in c.self.inside.runs.words c.self.inside.heads c.self.inside.pages) (granted_in c.grant.new.runs.words c.self.inside.heads c.self.inside.pages) (record { from = c.find-found.result.at; len = c.from-count.result; control = c.args.control }) = subst (λ (gs : List Granted). Adds gs (granted_in c.grant.new.runs.words c.self.inside.heads c.self.inside.pages) (record { from = c.find-found.result.at; len = c.from-count.result; control = c.args.control })) c.find-found.ensures.granted c.grant.ensures.granted in (
+      after_grant c.self.inside.first c.self.inside.pages c.self.inside.heads c.find-found.result.at c.from-count.result c.self.inside.runs c.grant.new.runs c.self.inside.words c.split-words.new.self c.self.inside.records c.split_off-control.new.records c.split_off-control.result c.args.control c.self.invariant.0
+          (c.grant.ensures.region ∙ c.find-found.ensures.region) c.grant.ensures.runs adds c.split-words.ensures.rest c.split_off-control.ensures,
+      filled_grant c.find-found.new.runs.words c.grant.new.runs.words c.self.inside.heads c.self.inside.pages c.find-found.result.filled _ c.grant.ensures.heads c.grant.ensures.granted c.find-found.ensures.filled,
+    )
 
 pub invariant_of-result : goal.invariant_of-result
 invariant_of-result c =
-    let found = c.seek-at.ensures.found c.if-at-self.false in
-    let j = run_just c.self.inside.first c.self.inside.pages c.self.inside.heads c.seek-at.result.0 c.from-count.result c.of.result c.self.inside.runs c.self.inside.words c.split-words.result c.self.inside.records c.self.invariant
-    (found_free c.self.inside.pages c.self.inside.heads c.seek-at.result.0 c.from-count.result c.seek-at.result.1 c.self.inside.runs c.seek-at.new.runs c.seek-at.ensures.runs c.seek-at.ensures.granted c.if-at-self.false (omega (arith, c.from-count.ensures, c.requires.some)) found.0 found.1)
+    let found = c.find-found.ensures.found c.if-found-self.false in
+    let j = run_just c.self.inside.first c.self.inside.pages c.self.inside.heads c.find-found.result.at c.from-count.result c.of.result c.self.inside.runs c.self.inside.words c.split-words.result c.self.inside.records c.self.invariant.0
+    (found_free c.self.inside.pages c.self.inside.heads c.find-found.result.at c.from-count.result c.find-found.result.len c.self.inside.runs c.find-found.new.runs c.find-found.ensures.runs c.find-found.ensures.granted c.if-found-self.false (omega (arith, c.from-count.ensures, c.requires.some)) found.0 found.1)
     c.split-words.ensures.range c.of.ensures in
     record { valid = j.0; just = subst (λ (z : ℕ). HasJust c.split-words.result.words c.of.result (512 * z)) c.from-count.ensures j.1 }
 
 pub returns-clause-taken : goal.returns-clause-taken
 returns-clause-taken c =
-    let found = c.seek-at.ensures.found c.if-at-self.false in
+    let found = c.find-found.ensures.found c.if-found-self.false in
     subst (λ (b : PagesView). IsTake b.first b.state c.args.n c.args.control c.of.result (pages_view c.self.inside.runs.region c.self.inside.first c.self.inside.pages (granted_in c.grant.new.runs.words c.self.inside.heads c.self.inside.pages)).state) c.self.view_is
     (subst (λ (z : ℕ). IsTake c.self.inside.first (pages_view c.self.inside.runs.region c.self.inside.first c.self.inside.pages (granted_in c.self.inside.runs.words c.self.inside.heads c.self.inside.pages)).state z c.args.control c.of.result (pages_view c.self.inside.runs.region c.self.inside.first c.self.inside.pages (granted_in c.grant.new.runs.words c.self.inside.heads c.self.inside.pages)).state) c.from-count.ensures
-    (take_is c.self.inside.first c.self.inside.pages c.self.inside.heads c.seek-at.result.0 c.from-count.result c.of.result c.self.inside.runs c.grant.new.runs c.args.control c.grant.ensures.runs (found_free c.self.inside.pages c.self.inside.heads c.seek-at.result.0 c.from-count.result c.seek-at.result.1 c.self.inside.runs c.seek-at.new.runs c.seek-at.ensures.runs c.seek-at.ensures.granted c.if-at-self.false (omega (arith, c.from-count.ensures, c.requires.some)) found.0 found.1) (subst (λ (gs : List Granted). Adds gs (granted_in c.grant.new.runs.words c.self.inside.heads c.self.inside.pages) (record { from = c.seek-at.result.0; len = c.from-count.result; control = c.args.control })) c.seek-at.ensures.granted c.grant.ensures.granted) c.of.ensures))
+    (take_is c.self.inside.first c.self.inside.pages c.self.inside.heads c.find-found.result.at c.from-count.result c.of.result c.self.inside.runs c.grant.new.runs c.args.control c.grant.ensures.runs (found_free c.self.inside.pages c.self.inside.heads c.find-found.result.at c.from-count.result c.find-found.result.len c.self.inside.runs c.find-found.new.runs c.find-found.ensures.runs c.find-found.ensures.granted c.if-found-self.false (omega (arith, c.from-count.ensures, c.requires.some)) found.0 found.1) (subst (λ (gs : List Granted). Adds gs (granted_in c.grant.new.runs.words c.self.inside.heads c.self.inside.pages) (record { from = c.find-found.result.at; len = c.from-count.result; control = c.args.control })) c.find-found.ensures.granted c.grant.ensures.granted) c.of.ensures))
 
 pub returns-clause-run : goal.returns-clause-run
 returns-clause-run c =
-    let found = c.seek-at.ensures.found c.if-at-self.false in
+    let found = c.find-found.ensures.found c.if-found-self.false in
     subst (λ (b : PagesView). IsRunOf b.region b.first b.state.pages c.args.n c.args.control c.of.result c.args.n c.split-words.result c.split_off-control.result) c.self.view_is
     (subst (λ (z : ℕ). IsRunOf c.self.inside.runs.region c.self.inside.first c.self.inside.pages z c.args.control c.of.result z c.split-words.result c.split_off-control.result) c.from-count.ensures
-    (run_is c.self.inside.first c.self.inside.pages c.self.inside.heads c.seek-at.result.0 c.from-count.result c.of.result c.self.inside.runs c.self.inside.words c.split-words.result c.self.inside.records c.split_off-control.new.records c.split_off-control.result c.args.control c.self.invariant (found_free c.self.inside.pages c.self.inside.heads c.seek-at.result.0 c.from-count.result c.seek-at.result.1 c.self.inside.runs c.seek-at.new.runs c.seek-at.ensures.runs c.seek-at.ensures.granted c.if-at-self.false (omega (arith, c.from-count.ensures, c.requires.some)) found.0 found.1) c.split_off-control.ensures c.split-words.ensures.range c.of.ensures))
+    (run_is c.self.inside.first c.self.inside.pages c.self.inside.heads c.find-found.result.at c.from-count.result c.of.result c.self.inside.runs c.self.inside.words c.split-words.result c.self.inside.records c.split_off-control.new.records c.split_off-control.result c.args.control c.self.invariant.0 (found_free c.self.inside.pages c.self.inside.heads c.find-found.result.at c.from-count.result c.find-found.result.len c.self.inside.runs c.find-found.new.runs c.find-found.ensures.runs c.find-found.ensures.granted c.if-found-self.false (omega (arith, c.from-count.ensures, c.requires.some)) found.0 found.1) c.split_off-control.ensures c.split-words.ensures.range c.of.ensures))
