@@ -80,8 +80,8 @@ push-stands ends xs row_ends text field from end i covers at behind stands =
     let cut2 = rw (last, size, rest) at cut in
     cut2 ∙ ap (λ f. cut_from 0 ends xs ++ (f ∷ [])) (sym stands.bytes)
 
--- after a text is put behind some bytes and the ends of some of its fields behind theirs: what those fields end with is all
--- that need be kept
+-- after a text is put behind some bytes and the ends of some of its fields behind theirs: what those fields end with is
+-- all that need be kept
 pub front-kept : (ends more xs text : List ℕ) (end : ℕ) (fields : List (List ℕ)) → Covers ends (length xs) → Covers more end → end ≤ length (xs ++ text)
     → cut_from 0 more (xs ++ text) ≡ cut_from 0 ends (xs ++ text) ++ fields
     → Covers more (length (take end (xs ++ text))) × (cut_from 0 more (take end (xs ++ text)) ≡ cut_from 0 ends xs ++ fields)

@@ -4,6 +4,7 @@
 //! records, as RFC 4180 has them, through the crate `csv`; [`RowStore`] keeps the records in a
 //! few lists of numbers, with no allocation for a record or a field. The store keeps that the places
 //! in its lists rise, so that each record and each field is a run of them.
+
 #![tactic(auto)]
 
 mod input;

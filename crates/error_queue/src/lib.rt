@@ -82,7 +82,7 @@ impl ErrorMessage {
 mod tests {
     use super::*;
 
-    // Row 300, cause 3, item 0, written by hand from the format.
+    /// Row 300, cause 3, item 0, written by hand from the format.
     const ROW_300: [u8; 14] = [0x45, 0x2c, 0x01, 0, 0, 0, 0, 0, 0, 3, 0, 0, 0, 0];
 
     #[test]

@@ -5,6 +5,7 @@
 //! never falls, and no call answers [`Failed`] unless it raised the count (or the count stands at
 //! its last value, 2^64 - 1). What a source has left and what a sink was given are told only where
 //! they can be, as in memory; of the streams of the system nothing but the faults is known.
+
 #![tactic(auto)]
 
 ghost use Rattle.std.specs.Prelude.{◌<◌, ◌≤◌, ℕ, List, IfOk, OnOk, OnErr, length, take};

@@ -18,7 +18,8 @@ stands op.LessEqual a b = int_le a b
 stands op.Greater a b = int_lt b a
 stands op.GreaterEqual a b = int_le b a
 
--- whether an integer does not stand in the filter's relation to its value; what is no integer is refused, and not left out
+-- whether an integer does not stand in the filter's relation to its value; what is no integer is refused, and not left
+-- out
 abbrev pub fails : Filter → Option ℤ → Bool
 fails filter None = false
 fails filter (Some n) = not (stands filter.op n filter.value)

@@ -3,7 +3,8 @@ use Rattle.std.specs.Prelude.{ℕ, Bool, List, Option}
 use Rattle.par_model.specs.declared.plan.Filter.{Filter}
 use Rattle.par_model.specs.declared.plan.Item.{Item}
 
--- the columns to group by, the aggregates to compute, whether the shared hash table is to be used, and which rows to keep
+-- the columns to group by, the aggregates to compute, whether the shared hash table is to be used, and which rows to
+-- keep
 pub record Plan : Type 0 where
   pub groups : List ℕ
   pub items : List Item

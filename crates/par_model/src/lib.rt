@@ -4,6 +4,7 @@
 //! the rows are numbered from 1. `specs/` says, over such lists and over nothing else, which rows a plan keeps, which
 //! rows it refuses, what the aggregates of a group are, and which table is the answer. No definition there speaks of a
 //! loop, a map or a thread, so that each way to run a query is measured by the same words.
+
 #![tactic(auto)]
 
 pub mod integer;

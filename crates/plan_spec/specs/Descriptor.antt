@@ -1,5 +1,5 @@
--- The plan descriptor: a plan as words of 64 bits, by which all who compute a query find it in shared memory. Version 2 has 32 words. Version 1 has
--- the first 28 of them, and no filter.
+-- The plan descriptor: a plan as words of 64 bits, by which all who compute a query find it in shared memory. Version 2
+-- has 32 words. Version 1 has the first 28 of them, and no filter.
 use Rattle.std.specs.Prelude.{◌≡◌, ◌==◌, ◌&&◌, ◌||◌, ◌+◌, ◌-◌, ◌*◌, ◌/◌, ◌%◌, ◌<◌, ◌≤◌, ◌^◌, ◌⊎◌, ℕ, Bool, All, List, Option, Some, None, FitsSigned, if◌then◌else◌, length, map, nat_le, nat_lt, not, slice_index, slice_index_or}
 use Rattle.std.specs.Int.{cast_unsigned, w64}
 use Rattle.std.specs.List.{position_from, range_with_len}
@@ -39,7 +39,8 @@ relation_word op.LessEqual = 4
 relation_word op.Greater = 5
 relation_word op.GreaterEqual = 6
 
--- words 0 to 3: the version, the number of columns to group by, the number of aggregates, and 1 for the plan over the shared hash table
+-- words 0 to 3: the version, the number of columns to group by, the number of aggregates, and 1 for the plan over the
+-- shared hash table
 abbrev pub head_word : ℕ → Plan → ℕ → ℕ
 head_word version plan k = if k == 0 then version else (if k == 1 then length plan.groups else (if k == 2 then length plan.items else (if plan.hash then 1 else 0)))
 
@@ -47,13 +48,14 @@ head_word version plan k = if k == 0 then version else (if k == 1 then length pl
 abbrev pub item_word : Item → ℕ → ℕ
 item_word item k = if k == 0 then kind_word item.kind else item.column
 
--- the last four words: the filter's relation, its column, its value in two's complement, and a zero; without a filter four zeros
+-- the last four words: the filter's relation, its column, its value in two's complement, and a zero; without a filter
+-- four zeros
 abbrev pub filter_word : Option Filter → ℕ → ℕ
 filter_word None k = 0
 filter_word (Some filter) k = if k == 0 then relation_word filter.op else (if k == 1 then filter.column else (if k == 2 then cast_unsigned w64 filter.value else 0))
 
--- the word at a place: the head in words 0 to 3, the columns to group by in words 4 to 11, the aggregates in words 12 to 27, and the filter from word
--- 28 on. What a place has that no column or aggregate uses is zero
+-- the word at a place: the head in words 0 to 3, the columns to group by in words 4 to 11, the aggregates in words 12
+-- to 27, and the filter from word 28 on. What a place has that no column or aggregate uses is zero
 abbrev pub plan_word : ℕ → Plan → ℕ → ℕ
 plan_word version plan k = if nat_lt k 4 then head_word version plan k else (if nat_lt k 12 then slice_index plan.groups (k - 4)
     else (if nat_lt k 28 then item_word (slice_index_or plan.items ((k - 12) / 2) unused) (k % 2) else filter_word plan.filter (k - 28)))
@@ -66,7 +68,8 @@ plan_words version plan = map (plan_word version plan) (range_with_len 0 (size_o
 abbrev pub IsDescriptor : List ℕ → Plan → Type 0
 IsDescriptor words plan = (words ≡ plan_words 2 plan) ⊎ ((words ≡ plan_words 1 plan) × (plan.filter ≡ None))
 
--- the plan's lists have room in its arrays: at most eight columns to group by, one to eight aggregates, and column 0 where an aggregate reads none
+-- the plan's lists have room in its arrays: at most eight columns to group by, one to eight aggregates, and column 0
+-- where an aggregate reads none
 pub record HasRoom (plan : Plan) : Type 0 where
   pub groups : length plan.groups ≤ 8
   pub some_item : 1 ≤ length plan.items
@@ -90,7 +93,8 @@ is_column stands word = if stands then nat_lt word (2 ^ 32) else word == 0
 abbrev pub is_head : ℕ → ℕ → Bool
 is_head k word = if k == 0 then word == 1 || word == 2 else (if k == 1 then nat_le word 8 else (if k == 2 then nat_le 1 word && nat_le word 8 else nat_le word 1))
 
--- the two words of the aggregate at place i: a kind, and a column where the kind reads one; zeros past the number of aggregates
+-- the two words of the aggregate at place i: a kind, and a column where the kind reads one; zeros past the number of
+-- aggregates
 abbrev pub is_item : List ℕ → ℕ → ℕ → ℕ → Bool
 is_item words i k word = if k == 0 then (if nat_lt i (slice_index words 2) then nat_le word 5 else word == 0)
     else is_column (nat_lt i (slice_index words 2) && not (slice_index words (12 + 2 * i) == 0)) word

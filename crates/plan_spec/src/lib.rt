@@ -4,6 +4,7 @@
 //! [`Plan::bind`] looks its names up in the first record of a store. A plan keeps its names in the order in which they
 //! are counted: those to group by, those of the aggregates, that of the filter. [`write_plan`] puts the bound plan into
 //! shared memory, and [`plan_in`] finds it there for all who compute it.
+
 #![tactic(auto)]
 
 mod bind;

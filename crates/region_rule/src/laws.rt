@@ -1,5 +1,5 @@
-//! The laws of the region: every run is sound, each end of a ring has one other end, and what each kind of step does and
-//! finds in a sound world.
+//! The laws of the region: every run is sound, each end of a ring has one other end, and what each kind of step does
+//! and finds in a sound world.
 
 ghost use Rattle.std.specs.Prelude.{◌≡◌, ◌≢◌, ℕ, ◌+◌, ◌<◌, ◌^◌, true, false, List, [], ◌∷◌, ◌++◌, length, slice_set, Option, Some, None};
 ghost use mathlib.Core.Option.{some};
@@ -91,8 +91,8 @@ pub fn end_share_law()
         → (m : WordMap) × Joins before after i j (Frozen m) (Frozen m) (Frozen m) × WordsStay before after }
 {}
 
-/// An owner of just a ring, with both counts and the flag as at the start, becomes its two ends, which have done nothing
-/// yet.
+/// An owner of just a ring, with both counts and the flag as at the start, becomes its two ends, which have done
+/// nothing yet.
 pub fn make_ring_law()
     ensures { (before after : World) (i : ℕ) (r : Ring) → Sound before → Happens (MakeRing i r) before after
         → (m : WordMap) × (olds : Olds)

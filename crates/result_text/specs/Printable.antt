@@ -23,7 +23,8 @@ pub record IsSmallSlot (slot : SlotState) : Type 0 where
   pub count : slot.count ≤ 2 ^ 32
   pub sum : unsigned_abs slot.sum ≤ 2 ^ 63 * slot.count
 
--- no two groups have one key, each key is the encoding of as many columns as the plan groups by, and the slots are small
+-- no two groups have one key, each key is the encoding of as many columns as the plan groups by, and the slots are
+-- small
 pub record ArePrintable (plan : Plan) (groups : List Group) : Type 0 where
   pub different : IsDistinct bytes_eq (map (λ group. group.key) groups)
   pub keys : All (λ group. IsKeyOf (length plan.groups) group.key) groups

@@ -3,6 +3,7 @@
 //! The groups come in the order of their encoded keys, in which a short column stands before a long one. The table is
 //! in the order of the columns themselves, so a list of references is sorted, column by column. Each line is put
 //! together in one record, whose memory serves for all lines, and the crate `csv` writes it and decides all quotes.
+
 #![tactic(auto)]
 
 ghost use Rattle.std.specs.Prelude.{◌≡◌, ◌∷◌, ℕ, List, IfOk};

@@ -1,9 +1,10 @@
-//! The size classes of a shared area's objects, as dsa.c has them: a request of up to 8,192 bytes is served by an object of the least
-//! class that holds it.
+//! The size classes of a shared area's objects, as dsa.c has them: a request of up to 8,192 bytes is served by an
+//! object of the least class that holds it.
 //!
-//! The classes are numbered from 2 to 37; dsa.c uses 0 and 1 for blocks that are no objects. Each size is a multiple of 8, so a
-//! class is found by one look-up at the request in words. `sizes` of `specs/Classes.antt` is the table of sizes, and `IsLeast` says
-//! what the look-up gives. No call takes memory, and each costs the same for every argument.
+//! The classes are numbered from 2 to 37; dsa.c uses 0 and 1 for blocks that are no objects. Each size is a multiple of
+//! 8, so a class is found by one look-up at the request in words. `sizes` of `specs/Classes.antt` is the table of
+//! sizes, and `IsLeast` says what the look-up gives. No call takes memory, and each costs the same for every argument.
+
 #![tactic(auto)]
 
 ghost use Rattle.std.specs.Prelude.{◌≡◌, ◌≢◌, ℕ, ◌%◌, ◌<◌, ◌≤◌, IfSome, IfNone};

@@ -1,4 +1,5 @@
 //! The classes of requests at the edges of the table, and a caller of all three calls.
+
 ghost use Rattle.std.specs.Prelude.{◌≡◌, ◌<◌, ◌≤◌, MatchOption};
 ghost use Rattle.size_classes.specs.Classes.{class_objects, class_size, IsLeast};
 

@@ -3,6 +3,7 @@
 //! A tuple is the key after its length, the number of rows, the number of slots and the slots, each number lowest byte
 //! first. `tuple_bytes` of `specs/Tuple.antt` is the format, and `refusal` says why bytes are none; `encode` and
 //! `decode` are the two directions, and neither takes memory.
+
 #![tactic(auto)]
 
 mod read;
