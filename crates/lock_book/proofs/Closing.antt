@@ -11,7 +11,7 @@ use Rattle.lock_book.specs.declared.view.Entry.{Entry}
 use Rattle.lock_book.specs.declared.view.Stage.TheVariants.{Idle, Holding}
 use Rattle.lock_book.specs.declared.view.View.{View}
 use Rattle.lock_book.specs.History.{last_of, calls_by, IsLegal, row_at}
-use Rattle.lock_book.specs.Ruled.{total, holders, Line, mine_at, seen_at, StageOk, Ruled}
+use Rattle.lock_book.specs.Ruled.{total, holders, Line, mine_at, seen_at, StageOk, Ruled, AllSeen}
 use Rattle.lock_book.proofs.Histories.{calls_by-append, nil_of, front_nil}
 use Rattle.lock_book.proofs.Totals.{total_none, total_two}
 use Rattle.lock_book.proofs.Stages.{holders_none}
@@ -23,12 +23,6 @@ module _ {S C R : Type 0} where
   of_nobody : (xs : List (Entry S C R)) → ((n : ℕ) → calls_by n xs ≡ []) → xs ≡ []
   of_nobody [] h = refl
   of_nobody (x ∷ xs) h = absurd (let a : x ∷ calls_by x.by xs ≡ [] = sym (ap (λ (b : Bool). cond b (x ∷ calls_by x.by xs) (calls_by x.by xs)) (eq-eqb x.by x.by refl)) ∙ h x.by in cc)
-
--- what the seat of all callers knows at the end
-pub record AllSeen {N S C R : Type 0} (legal : N → ℕ → S → C → R → S → Type 0) (opens : List (N × S)) (callers : ℕ) (v : View N S C R) : Type 0 where
-  pub lawful : (i : ℕ) (o : N × S) → get_elem? opens i ≡ some o → IsLegal (legal o.0) o.1 (seen_at v i)
-  pub mine : (n i : ℕ) → n < callers → mine_at v n i ≡ calls_by n (seen_at v i)
-  pub no_others : (i n : ℕ) → callers ≤ n → calls_by n (seen_at v i) ≡ []
 
 module _ {X N S C R : Type 0} (slot_name : X → N) (slot_state : X → S) (legal : N → ℕ → S → C → R → S → Type 0) (opens : List (N × S)) (callers : ℕ) where
   module _ (s : State X (View N S C R)) (r : Ruled slot_name slot_state legal opens callers s) (id : ℕ) (v : View N S C R) (at : get_elem? s.views id ≡ some v) (first : v.from ≡ 0) (all : length v.owns ≡ callers) (idle : v.stage ≡ Idle) where

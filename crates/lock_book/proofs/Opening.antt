@@ -6,6 +6,7 @@ use Rattle.lock_book.specs.declared.view.View.{View}
 use Rattle.lock_book.specs.Ruled.{first_caller, other_callers, fresh_pass, newcomers, Ruled}
 use Rattle.atomic_table.specs.Table.{opening}
 use Rattle.lock_book.proofs.Joins.{opens_so}
+use Rattle.lock_book.proofs.Uses.{map_at, at_map}
 
 module _ {A : Type 0} where
   -- a fact of each place, and of one more at the end
@@ -14,16 +15,6 @@ module _ {A : Type 0} where
   each_snoc P [] x h p (suc k) s e = absurd (some-ne-none s (sym e))
   each_snoc P (y ∷ ys) x h p zero s e = h 0 s e
   each_snoc P (y ∷ ys) x h p (suc k) s e = each_snoc (λ j. P (suc j)) ys x (λ j u e'. h (suc j) u e') p k s e
-
-  pub map_at : {B : Type 0} (f : A → B) (xs : List A) (i : ℕ) (b : B) → get_elem? (map f xs) i ≡ some b → (x : A) × (get_elem? xs i ≡ some x) × (f x ≡ b)
-  map_at f [] i b e = absurd (some-ne-none b (sym e))
-  map_at f (x ∷ xs) zero b e = (x, refl, some-injective (f x) b e)
-  map_at f (x ∷ xs) (suc i) b e = map_at f xs i b e
-
-  pub at_of : {B : Type 0} (f : A → B) (xs : List A) (i : ℕ) (x : A) → get_elem? xs i ≡ some x → get_elem? (map f xs) i ≡ some (f x)
-  at_of f [] i x e = absurd (some-ne-none x (sym e))
-  at_of f (y ∷ ys) zero x e = ap (λ (z : A). some (f z)) (some-injective y x e)
-  at_of f (y ∷ ys) (suc i) x e = at_of f ys i x e
 
   pub map_length : {B : Type 0} (f : A → B) (xs : List A) → length (map f xs) ≡ length xs
   map_length f [] = refl
@@ -65,7 +56,7 @@ module _ {X N S C R : Type 0} (slot_name : X → N) (slot_state : X → S) (lega
       subst (λ (w : List ℕ). Ruled slot_name slot_state legal opens callers (opening w slots (newcomers opens callers))) ws
       (opens_so slot_name slot_state legal opens callers slots (omega arith) few
       (λ i o e. let m = map_at (λ x. (value_name x, value_state x)) values i o (sym (ap (λ (l : List (N × S)). get_elem? l i) is) ∙ e) in
-      (shelve m.0, ap (λ (l : List X). get_elem? l i) shelved ∙ at_of shelve values i m.0 m.1, same_name m.0 ∙ ap (λ (p : N × S). p.0) m.2, same_state m.0 ∙ ap (λ (p : N × S). p.1) m.2)))
+      (shelve m.0, ap (λ (l : List X). get_elem? l i) shelved ∙ at_map shelve values i m.0 m.1, same_name m.0 ∙ ap (λ (p : N × S). p.0) m.2, same_state m.0 ∙ ap (λ (p : N × S). p.1) m.2)))
 
 pub zeros_length : (n : ℕ) → length (replicate {A = ℕ} n 0) ≡ n
 zeros_length zero = refl

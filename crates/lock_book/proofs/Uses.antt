@@ -1,18 +1,23 @@
--- Laws for the callers of a shelf: of legal histories, of their states, and of the calls of each caller.
-use Rattle.std.proofs.Common.{◌≡◌, ℕ, zero, suc, ◌+◌, ◌<◌, ◌≤◌, eqb, Bool, true, false, cond, List, [], ◌∷◌, ◌++◌, length, sym, refl, ap, ◌∙◌, subst, arith, length-append, eq-eqb, ne_eqb}
+-- Laws for the callers of a shelf: of legal histories, of their states, of the calls of each caller and of those of all, and of what lists have where.
+use Rattle.std.proofs.Common.{◌≡◌, ℕ, zero, suc, ◌+◌, ◌<◌, ◌≤◌, eqb, Bool, true, false, cond, ◌≢◌, List, [], ◌∷◌, ◌++◌, length, map, sym, refl, ap, ◌∙◌, subst, arith, length-append, eq-eqb, ne_eqb}
 use mathlib.Core.Logic.{dite}
 use native.Mathlib.Decide.{ℕ_discrete, dec_le}
-use mathlib.Core.Option.{some}
+use mathlib.Core.Option.{some, some-injective, some-ne-none}
 use lib.ListN.{get_elem?}
 use Rattle.lock_book.specs.declared.view.Entry.{Entry}
 use Rattle.lock_book.specs.History.{entry, last_of, calls_by, StartsWith, IsLegal}
 use Rattle.lock_book.specs.declared.kept.Kept.{Ghosts}
 use Rattle.lock_book.specs.declared.shelf.Pass.{Pass}
 use Rattle.lock_book.specs.declared.shelf.Shelf.{Shelf}
-use Rattle.lock_book.specs.Told.{Histories, IsPass, Adds}
+use Rattle.lock_book.specs.Folds.{IsCommutativeMonoid, folded, folded_below}
+use Rattle.lock_book.specs.Told.{Histories, IsPass, Adds, MakesAll}
 use Rattle.lock_book.specs.Shown.{Belongs, Called, callers_of, count_of, mine_of, number_of, opens_of, seen_of}
 use Rattle.lock_book.proofs.Histories.{last_snoc}
 use Rattle.lock_book.proofs.Totals.{there}
+
+-- numbers may be added up in any order
+pub sums : IsCommutativeMonoid (λ (a b : ℕ). a + b) 0
+sums = record { unit_first = λ a. omega arith; associative = λ a b c. omega arith; commutative = λ a b. omega arith }
 
 module _ {S C R : Type 0} where
   -- a legal history, and what follows it
@@ -62,56 +67,65 @@ module _ {S C R : Type 0} where
       let first : x.by ≡ 0 = (let b = first_below 1 x xs h in omega arith) in
       ap (λ (b : Bool). cond b (x ∷ calls_by 0 xs) (calls_by 0 xs)) (eq-eqb x.by 0 first) ∙ ap (λ (m : List (Entry S C R)). x ∷ m) (lone xs (rest_below 1 x xs h))
 
+  module _ {M : Type 0} (op : M → M → M) (unit : M) (laws : IsCommutativeMonoid op unit) (f : Entry S C R → M) where
+    unit_last : (a : M) → op a unit ≡ a
+    unit_last a = laws.commutative a unit ∙ laws.unit_first a
+
+    -- a b goes in behind a as well as before it
+    turned : (a b c : M) → op a (op b c) ≡ op b (op a c)
+    turned a b c = sym (laws.associative a b c) ∙ (ap (λ (m : M). op m c) (laws.commutative a b) ∙ laws.associative b a c)
+
+    folded_none : (n : ℕ) → folded_below op unit f n [] ≡ unit
+    folded_none zero = refl
+    folded_none (suc n) = unit_last (folded_below op unit f n []) ∙ folded_none n
+
+    folded_cond : (b : Bool) (x : Entry S C R) (xs : List (Entry S C R)) → folded op unit f (cond b (x ∷ xs) xs) ≡ cond b (op (f x) (folded op unit f xs)) (folded op unit f xs)
+    folded_cond true x xs = refl
+    folded_cond false x xs = refl
+
+    folded_cons : (n : ℕ) (x : Entry S C R) (xs : List (Entry S C R)) → (n ≤ x.by → folded_below op unit f n (x ∷ xs) ≡ folded_below op unit f n xs) × (x.by < n → folded_below op unit f n (x ∷ xs) ≡ op (f x) (folded_below op unit f n xs))
+    folded_cons zero x xs = ((λ _. refl), (λ lt. absurd (omega arith)))
+    folded_cons (suc n) x xs =
+        let r = folded_cons n x xs in
+        let rest : M = folded op unit f (calls_by n xs) in
+        let more : M = op (f x) rest in
+        let lower : M = folded_below op unit f n xs in
+        let w : folded op unit f (calls_by n (x ∷ xs)) ≡ cond (eqb x.by n) more rest = folded_cond (eqb x.by n) x (calls_by n xs) in
+        let other : x.by ≢ n → folded op unit f (calls_by n (x ∷ xs)) ≡ rest = λ ne. w ∙ ap (λ (b : Bool). cond b more rest) (ne_eqb x.by n ne) in
+        let own : x.by ≡ n → folded op unit f (calls_by n (x ∷ xs)) ≡ more = λ e. w ∙ ap (λ (b : Bool). cond b more rest) (eq-eqb x.by n e) in (
+          (λ le. ap (λ (m : M). op m (folded op unit f (calls_by n (x ∷ xs)))) (r.0 (omega arith)) ∙ ap (op lower) (other (λ e. omega arith))),
+          (λ lt. dite (ℕ_discrete x.by n)
+              (λ e. ap (λ (m : M). op m (folded op unit f (calls_by n (x ∷ xs)))) (r.0 (omega arith)) ∙ (ap (op lower) (own e) ∙ turned lower (f x) rest))
+              (λ ne. ap (λ (m : M). op m (folded op unit f (calls_by n (x ∷ xs)))) (r.1 (omega arith)) ∙ (ap (op (op (f x) lower)) (other ne) ∙ laws.associative (f x) lower rest))),
+        )
+
+    -- the entries of all callers are all entries, each once
+    pub folded_parts : (callers : ℕ) (xs : List (Entry S C R)) → ((m : ℕ) → callers ≤ m → calls_by m xs ≡ []) → folded op unit f xs ≡ folded_below op unit f callers xs
+    folded_parts callers [] h = sym (folded_none callers)
+    folded_parts callers (x ∷ xs) h = ap (op (f x)) (folded_parts callers xs (rest_below callers x xs h)) ∙ sym ((folded_cons callers x xs).1 (first_below callers x xs h))
+
+    pub folded-append : (xs ys : List (Entry S C R)) → folded op unit f (xs ++ ys) ≡ op (folded op unit f xs) (folded op unit f ys)
+    folded-append [] ys = sym (laws.unit_first (folded op unit f ys))
+    folded-append (x ∷ xs) ys = ap (op (f x)) (folded-append xs ys) ∙ sym (laws.associative (f x) (folded op unit f xs) (folded op unit f ys))
+
   -- f of each entry, added up
   abbrev pub weigh : (Entry S C R → ℕ) → List (Entry S C R) → ℕ
-  weigh f [] = 0
-  weigh f (x ∷ xs) = f x + weigh f xs
+  weigh = folded (λ a b. a + b) 0
 
   -- the same, of the callers below a number, one after another
   abbrev pub weigh_below : (Entry S C R → ℕ) → ℕ → List (Entry S C R) → ℕ
-  weigh_below f zero xs = 0
-  weigh_below f (suc n) xs = weigh_below f n xs + weigh f (calls_by n xs)
-
-  below_nil : (f : Entry S C R → ℕ) (n : ℕ) → weigh_below f n [] ≡ 0
-  below_nil f zero = refl
-  below_nil f (suc n) = let r = below_nil f n in omega arith
-
-  weigh_cond : (f : Entry S C R → ℕ) (b : Bool) (x : Entry S C R) (xs : List (Entry S C R)) → weigh f (cond b (x ∷ xs) xs) ≡ cond b (f x) 0 + weigh f xs
-  weigh_cond f true x xs = refl
-  weigh_cond f false x xs = omega arith
-
-  below_cons : (f : Entry S C R → ℕ) (n : ℕ) (x : Entry S C R) (xs : List (Entry S C R)) → (n ≤ x.by → weigh_below f n (x ∷ xs) ≡ weigh_below f n xs) × (x.by < n → weigh_below f n (x ∷ xs) ≡ f x + weigh_below f n xs)
-  below_cons f zero x xs = ((λ _. refl), (λ lt. absurd (omega arith)))
-  below_cons f (suc n) x xs =
-      let r = below_cons f n x xs in
-      let w = weigh_cond f (eqb x.by n) x (calls_by n xs) in (
-        (λ le.
-            let b : cond {A = ℕ} (eqb x.by n) (f x) 0 ≡ 0 = ap (λ (b : Bool). cond b (f x) 0) (ne_eqb x.by n (λ e. omega arith)) in
-            let s = r.0 (omega arith) in omega arith),
-        (λ lt. dite (ℕ_discrete x.by n)
-            (λ e.
-            let b : cond {A = ℕ} (eqb x.by n) (f x) 0 ≡ f x = ap (λ (b : Bool). cond b (f x) 0) (eq-eqb x.by n e) in
-            let s = r.0 (omega arith) in omega arith)
-            (λ ne.
-            let b : cond {A = ℕ} (eqb x.by n) (f x) 0 ≡ 0 = ap (λ (b : Bool). cond b (f x) 0) (ne_eqb x.by n ne) in
-            let s = r.1 (omega arith) in omega arith)),
-      )
+  weigh_below = folded_below (λ a b. a + b) 0
 
   -- the entries of all callers are all entries, each once
   pub weigh_parts : (f : Entry S C R → ℕ) (callers : ℕ) (xs : List (Entry S C R)) → ((m : ℕ) → callers ≤ m → calls_by m xs ≡ []) → weigh f xs ≡ weigh_below f callers xs
-  weigh_parts f callers [] h = sym (below_nil f callers)
-  weigh_parts f callers (x ∷ xs) h =
-      let r = weigh_parts f callers xs (rest_below callers x xs h) in
-      let s = (below_cons f callers x xs).1 (first_below callers x xs h) in
-      omega arith
+  weigh_parts f callers xs h = folded_parts (λ (a b : ℕ). a + b) 0 sums f callers xs h
 
   pub length-weigh : (xs : List (Entry S C R)) → length xs ≡ weigh (λ _. 1) xs
   length-weigh [] = refl
   length-weigh (x ∷ xs) = let r = length-weigh xs in omega arith
 
   pub weigh-append : (f : Entry S C R → ℕ) (xs ys : List (Entry S C R)) → weigh f (xs ++ ys) ≡ weigh f xs + weigh f ys
-  weigh-append f [] ys = omega arith
-  weigh-append f (x ∷ xs) ys = let r = weigh-append f xs ys in omega arith
+  weigh-append f xs ys = folded-append (λ (a b : ℕ). a + b) 0 sums f xs ys
 
 snoc_same : {A : Type 0} (xs ys : List A) (x : A) → xs ++ x ∷ [] ≡ ys ++ x ∷ [] → xs ≡ ys
 snoc_same [] [] x e = refl
@@ -146,3 +160,48 @@ module _ {T E I O N S C R : Type 0} {g : Ghosts T E I O N S C R} where
       λ n e. subst (λ (m : ℕ). (x : Adds g.legal (opens_of s) m (seen_of p) (mine_of p) (seen_of q) (mine_of q) at c r) → g.legal o.0 m (last_of o.1 (seen_of p at)) c r x.after) (sym e)
       (λ x. lone_step g.legal (opens_of s) (seen_of p) (mine_of p) (seen_of q) (mine_of q) at c r P Q x o eo) in
       (step (number_of p) first a, ap (last_of o.1) a.ends ∙ last_snoc o.1 a.before _)
+
+-- a call at a place of a shelf is one call at the value there
+pub one_call : {N S C R : Type 0} (legal : N → ℕ → S → C → R → S → Type 0) (opens : List (N × S)) (n : ℕ) (seen mine seen' mine' : Histories S C R) (at : ℕ) (c : C) (r : R) (o : N × S) → get_elem? opens at ≡ some o
+    → Adds legal opens n seen mine seen' mine' at c r → MakesAll (legal o.0) o.1 n (seen at) (mine at) (seen' at) (mine' at) ((c, r) ∷ [])
+one_call legal opens n seen mine seen' mine' at c r o there a = (seen' at, mine' at, record { before = a.before; after = a.after; ends = a.ends; begins = a.begins; step = a.step o there; own = a.mine_grows }, (refl, refl))
+
+module _ {S C R : Type 0} (legal : ℕ → S → C → R → S → Type 0) (opening : S) (n : ℕ) where
+  same_start : (s m s' m' s'' m'' : List (Entry S C R)) (es : List (C × R)) → s' ≡ s → m' ≡ m → MakesAll legal opening n s' m' s'' m'' es → MakesAll legal opening n s m s'' m'' es
+  same_start s m s' m' s'' m'' es e f x = subst (λ (z : List (Entry S C R) × List (Entry S C R)). MakesAll legal opening n z.0 z.1 s'' m'' es) (λ i. (e i, f i)) x
+
+  -- calls after other calls
+  pub then_calls : (s m s' m' s'' m'' : List (Entry S C R)) (es fs : List (C × R)) → MakesAll legal opening n s m s' m' es → MakesAll legal opening n s' m' s'' m'' fs → MakesAll legal opening n s m s'' m'' (es ++ fs)
+  then_calls s m s' m' s'' m'' [] fs x y = same_start s m s' m' s'' m'' fs x.0 x.1 y
+  then_calls s m s' m' s'' m'' (e ∷ es) fs x y = (x.0, x.1, x.2, then_calls x.0 x.1 s' m' s'' m'' es fs x.3 y)
+
+module _ {A : Type 0} where
+  -- what stands where among what f makes of the items, and what it was made of
+  pub map_at : {B : Type 0} (f : A → B) (xs : List A) (i : ℕ) (b : B) → get_elem? (map f xs) i ≡ some b → (x : A) × (get_elem? xs i ≡ some x) × (f x ≡ b)
+  map_at f [] i b e = absurd (some-ne-none b (sym e))
+  map_at f (x ∷ xs) zero b e = (x, refl, some-injective (f x) b e)
+  map_at f (x ∷ xs) (suc i) b e = map_at f xs i b e
+
+  -- and the other way
+  pub at_map : {B : Type 0} (f : A → B) (xs : List A) (i : ℕ) (x : A) → get_elem? xs i ≡ some x → get_elem? (map f xs) i ≡ some (f x)
+  at_map f [] i x e = absurd (some-ne-none x (sym e))
+  at_map f (y ∷ ys) zero x e = ap (λ (z : A). some (f z)) (some-injective y x e)
+  at_map f (y ∷ ys) (suc i) x e = at_map f ys i x e
+
+  -- what stands in the first of two lists stands there in both together
+  pub at_longer : (xs ys : List A) (i : ℕ) (x : A) → get_elem? xs i ≡ some x → get_elem? (xs ++ ys) i ≡ some x
+  at_longer = Rattle.atomic_table.proofs.Lists.at_longer
+
+  -- what was pushed last stands at the number of those before it
+  pub at_last : (xs : List A) (x : A) (n : ℕ) → length xs ≡ n → get_elem? (xs ++ x ∷ []) n ≡ some x
+  at_last = Rattle.atomic_table.proofs.Lists.at_last
+
+  -- a list of two, popped twice
+  pub both : (all xs ys : List A) (x y : A) → all ≡ xs ++ y ∷ [] → xs ≡ ys ++ x ∷ [] → length all ≡ 2 → (get_elem? all 0 ≡ some x) × (get_elem? all 1 ≡ some y)
+  both all xs [] x y e f len = let is : all ≡ x ∷ y ∷ [] = e ∙ ap (λ (m : List A). m ++ y ∷ []) f in (ap (λ (m : List A). get_elem? m 0) is, ap (λ (m : List A). get_elem? m 1) is)
+  both all xs (z ∷ zs) x y e f len = absurd (omega (arith, ap length e, ap length f, length-append xs (y ∷ []), length-append (z ∷ zs) (x ∷ [])))
+
+  -- a list of one, popped
+  pub only : (all xs : List A) (x : A) → all ≡ xs ++ x ∷ [] → length all ≡ 1 → get_elem? all 0 ≡ some x
+  only all [] x e len = ap (λ (m : List A). get_elem? m 0) e
+  only all (y ∷ ys) x e len = absurd (omega (arith, ap length e, length-append (y ∷ ys) (x ∷ [])))

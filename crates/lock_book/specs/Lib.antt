@@ -1,4 +1,5 @@
 pub mod History
 pub mod Ruled
 pub mod Told
+pub mod Folds
 pub mod Shown

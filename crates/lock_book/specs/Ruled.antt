@@ -1,6 +1,6 @@
 -- The rule of a shelf's table, and what each step tells.
 -- X is what a slot holds, N a name, S a state, C a call and R a reply.
-use Rattle.std.specs.Prelude.{◌≡◌, ◌≢◌, ℕ, ◌+◌, ◌*◌, ◌%◌, ◌<◌, ◌≤◌, ◌==◌, if◌then◌else◌, List, [], ◌∷◌, ◌++◌, length, slice_index, replicate, Option, Some}
+use Rattle.std.specs.Prelude.{◌≡◌, ◌≢◌, ℕ, ◌+◌, ◌*◌, ◌%◌, ◌^◌, ◌<◌, ◌≤◌, ◌==◌, if◌then◌else◌, List, [], ◌∷◌, ◌++◌, length, slice_index, replicate, Option, Some}
 use mathlib.Core.Option.{some}
 use lib.ListN.{get_elem?}
 use Rattle.atomic_table.specs.Table.{State, Me, Step, rest}
@@ -15,16 +15,19 @@ abbrev pub total : {V : Type 0} → (V → ℕ) → List V → ℕ
 total f [] = 0
 total f (v ∷ vs) = f v + total f vs
 
+-- 1 where a seat at this stage has a ticket for the value i, and else 0
 abbrev pub tickets : ℕ → Stage → ℕ
 tickets i Idle = 0
 tickets i (Waiting j t) = if j == i then 1 else 0
 tickets i (Holding j t) = if j == i then 1 else 0
 
+-- 1 where a seat at this stage has the value i itself, and else 0
 abbrev pub holders : ℕ → Stage → ℕ
 holders i Idle = 0
 holders i (Waiting j t) = 0
 holders i (Holding j t) = if j == i then 1 else 0
 
+-- a seat at this stage has the ticket t for the value i
 abbrev pub HasTicket : ℕ → ℕ → Stage → Type 0
 HasTicket i t Idle = ⊥
 HasTicket i t (Waiting j u) = (j ≡ i) × (u ≡ t)
@@ -45,47 +48,60 @@ module _ {N S C R : Type 0} where
   abbrev pub mine_at : (View N S C R) → ℕ → ℕ → List (Entry S C R)
   mine_at v k i = calls_at i (row_at v.owns k)
 
+  -- the history of the value i that the seat has seen
   abbrev pub seen_at : (View N S C R) → ℕ → List (Entry S C R)
   seen_at v i = row_at v.seen i
 
+  -- the history of the value i that a note told the seat
   abbrev pub told_at : (View N S C R) → ℕ → List (Entry S C R)
   told_at v i = row_at v.told i
 
+  -- the seat at another stage
   abbrev pub at_stage : (View N S C R) → Stage → (View N S C R)
-  at_stage v g = record { opens = v.opens; callers = v.callers; from = v.from; owns = v.owns; seen = v.seen; told = v.told; stage = g }
+  at_stage v g = record v { stage = g }
 
+  -- the seat at another stage, with this history of the value i seen
   abbrev pub seeing : (View N S C R) → ℕ → List (Entry S C R) → Stage → (View N S C R)
-  seeing v i log g = record { opens = v.opens; callers = v.callers; from = v.from; owns = v.owns; seen = put_row v.seen i log; told = v.told; stage = g }
+  seeing v i log g = record v { seen = put_row v.seen i log; stage = g }
 
   -- the one caller of the seat made a call at the value i
   abbrev pub with_entry : (View N S C R) → ℕ → Entry S C R → (View N S C R)
-  with_entry v i e = record { opens = v.opens; callers = v.callers; from = v.from; owns = (row_at v.owns 0 ++ (i, e) ∷ []) ∷ []; seen = put_row v.seen i (seen_at v i ++ e ∷ []); told = v.told; stage = v.stage }
+  with_entry v i e = record v { owns = (row_at v.owns 0 ++ (i, e) ∷ []) ∷ []; seen = put_row v.seen i (seen_at v i ++ e ∷ []) }
 
+  -- the seat after a look: of each value it has seen the longer of what it had seen and what it was told
   abbrev pub merged : (View N S C R) → (View N S C R)
-  merged v = record { opens = v.opens; callers = v.callers; from = v.from; owns = v.owns; seen = longer_rows v.seen v.told; told = []; stage = v.stage }
+  merged v = record v { seen = longer_rows v.seen v.told; told = [] }
 
+  -- the first caller's part of a seat that is cut in two
   abbrev pub first_caller : (View N S C R) → (View N S C R)
-  first_caller v = record { opens = v.opens; callers = v.callers; from = v.from; owns = first_row v.owns; seen = v.seen; told = v.told; stage = v.stage }
+  first_caller v = record v { owns = first_row v.owns }
 
+  -- the other callers' part
   abbrev pub other_callers : (View N S C R) → (View N S C R)
-  other_callers v = record { opens = v.opens; callers = v.callers; from = v.from + 1; owns = other_rows v.owns; seen = v.seen; told = v.told; stage = Idle }
+  other_callers v = record v { from = v.from + 1; owns = other_rows v.owns; stage = Idle }
 
+  -- a seat that has seen as much and stands for nobody
   abbrev pub note : (View N S C R) → (View N S C R)
-  note v = record { opens = v.opens; callers = v.callers; from = 0; owns = []; seen = v.seen; told = []; stage = Idle }
+  note v = record v { from = 0; owns = []; told = []; stage = Idle }
 
+  -- the seat v once it was told what w has seen
   abbrev pub informed : (View N S C R) → (View N S C R) → (View N S C R)
-  informed v w = record { opens = v.opens; callers = v.callers; from = v.from; owns = v.owns; seen = v.seen; told = w.seen; stage = v.stage }
+  informed v w = record v { told = w.seen }
 
+  -- two seats joined: the callers of v, and then those of w
   abbrev pub together : (View N S C R) → (View N S C R) → (View N S C R)
-  together v w = record { opens = v.opens; callers = v.callers; from = v.from; owns = v.owns ++ w.owns; seen = longer_rows v.seen w.seen; told = []; stage = v.stage }
+  together v w = record v { owns = v.owns ++ w.owns; seen = longer_rows v.seen w.seen; told = [] }
 
+  -- what is left of a seat that was joined into another
   abbrev pub nobody : (View N S C R)
   nobody = record { opens = []; callers = 0; from = 0; owns = []; seen = []; told = []; stage = Idle }
 
+  -- the first seat, which stands for all callers and has seen nothing
   abbrev pub newcomers : List (N × S) → ℕ → (View N S C R)
   newcomers opens callers = record { opens = opens; callers = callers; from = 0; owns = replicate callers []; seen = []; told = []; stage = Idle }
 
   module _ (opens : List (N × S)) (callers : ℕ) (lines : ℕ → Line S C R) where
+    -- what is true of a seat at a stage: its ticket is drawn and not passed on, and who has the value has seen its whole history
     abbrev pub StageOk : (View N S C R) → Stage → Type 0
     StageOk v Idle = Unit {0}
     StageOk v (Waiting i t) = (length v.owns ≡ 1) × (i < length opens) × ((lines i).served ≤ t) × (t < (lines i).drawn)
@@ -105,9 +121,9 @@ module _ {N S C R : Type 0} where
   module _ {X : Type 0} (slot_name : X → N) (slot_state : X → S) (legal : N → ℕ → S → C → R → S → Type 0) where
     -- what is true of the value i, which opened as o
     pub record LineOk (callers : ℕ) (words : List ℕ) (homes : List (mathlib.Core.Option.Option X)) (views : List (View N S C R)) (i : ℕ) (o : N × S) (l : Line S C R) : Type 0 where
-      pub ticket : slice_index words (3 * i) ≡ l.drawn % 18446744073709551616
-      pub serving : slice_index words (3 * i + 1) ≡ l.served % 18446744073709551616
-      pub tally : slice_index words (3 * i + 2) ≡ length l.log % 18446744073709551616
+      pub ticket : slice_index words (3 * i) ≡ l.drawn % 2 ^ 64
+      pub serving : slice_index words (3 * i + 1) ≡ l.served % 2 ^ 64
+      pub tally : slice_index words (3 * i + 2) ≡ length l.log % 2 ^ 64
       pub queue : l.served + total (λ v. tickets i v.stage) views ≡ l.drawn
       pub lawful : IsLegal (legal o.0) o.1 l.log
       pub at_home : total (λ v. holders i v.stage) views ≡ 0 → (x : X) × (get_elem? homes i ≡ some (some x)) × (slot_name x ≡ o.0) × (slot_state x ≡ last_of o.1 l.log)
@@ -115,7 +131,7 @@ module _ {N S C R : Type 0} where
     -- Each value has one legal history. A value at home has its last state and its name, tickets are unique, and each caller's entries are the calls that its seat made
     pub record Ruled (opens : List (N × S)) (callers : ℕ) (s : State X (View N S C R)) : Type 0 where
       pub lines : ℕ → Line S C R
-      pub few : callers < 4294967296
+      pub few : callers < 2 ^ 32
       pub some_value : 0 < length opens
       pub wide : length s.words ≡ 3 * length opens
       pub each_line : (i : ℕ) (o : N × S) → get_elem? opens i ≡ some o → LineOk callers s.words s.homes s.views i o (lines i)
@@ -127,7 +143,7 @@ module _ {N S C R : Type 0} where
 
     -- a ticket was drawn, and the word found is its number
     abbrev pub ticketed : Step X → Me X (View N S C R) → ℕ → Me X (View N S C R) → Type 0
-    ticketed st m r m' = (i : ℕ) → st.word ≡ 3 * i → (t : ℕ) × (r ≡ t % 18446744073709551616) × (m'.1 ≡ m.1) × (m'.0 ≡ at_stage m.0 (Waiting i t))
+    ticketed st m r m' = (i : ℕ) → st.word ≡ 3 * i → (t : ℕ) × (r ≡ t % 2 ^ 64) × (m'.1 ≡ m.1) × (m'.0 ≡ at_stage m.0 (Waiting i t))
 
     -- the seat's turn came: it has the value, and has seen its history so far
     pub record Turned (m : Me X (View N S C R)) (i t : ℕ) (m' : Me X (View N S C R)) : Type 0 where
@@ -140,13 +156,15 @@ module _ {N S C R : Type 0} where
       pub mine : mine_at m.0 0 i ≡ calls_by m.0.from log
       pub bounded : (n : ℕ) → m.0.callers ≤ n → calls_by n log ≡ []
 
+    -- a load of the number served: where it is the seat's ticket its turn came, and else nothing changed
     abbrev pub turned_to : Step X → Me X (View N S C R) → ℕ → Me X (View N S C R) → Type 0
-    turned_to st m r m' = (i t : ℕ) → m.0.stage ≡ Waiting i t → (r ≡ t % 18446744073709551616 → Turned m i t m') × (r ≢ t % 18446744073709551616 → m' ≡ m)
+    turned_to st m r m' = (i t : ℕ) → m.0.stage ≡ Waiting i t → (r ≡ t % 2 ^ 64 → Turned m i t m') × (r ≢ t % 2 ^ 64 → m' ≡ m)
 
     -- the call that the slot tells of stands in the history
     abbrev pub committed : (X → Option (C × R)) → Step X → Me X (View N S C R) → ℕ → Me X (View N S C R) → Type 0
     committed made st m r m' = (i : ℕ) (x : X) (c : C) (y : R) → st.word ≡ 3 * i + 2 → m.1 ≡ (i, x) ∷ [] → made x ≡ Some (c, y) → (m'.1 ≡ m.1) × (m'.0 ≡ with_entry m.0 i (entry m.0.from c y (slot_state x)))
 
+    -- the value went back, and the seat is in no queue
     abbrev pub passed_on : Step X → Me X (View N S C R) → ℕ → Me X (View N S C R) → Type 0
     passed_on st m r m' = (m'.1 ≡ rest m.1) × (m'.0 ≡ at_stage m.0 Idle)
 
@@ -159,8 +177,15 @@ module _ {N S C R : Type 0} where
       pub mine : (k i : ℕ) → k < length v.owns → mine_at v k i ≡ calls_by (v.from + k) (seen_at w i)
       pub bounded : 0 < length v.owns → (i n : ℕ) → v.callers ≤ n → calls_by n (seen_at w i) ≡ []
 
+    -- a load that changes nothing but what the seat has seen
     abbrev pub looked : Step X → Me X (View N S C R) → ℕ → Me X (View N S C R) → Type 0
     looked st m r m' = (m'.1 ≡ m.1) × Looks m.0 m'.0
+
+-- what the seat of all callers has seen at the end: of each value a legal history, in which the calls of each caller are its own and there are no others
+pub record AllSeen {N S C R : Type 0} (legal : N → ℕ → S → C → R → S → Type 0) (opens : List (N × S)) (callers : ℕ) (v : View N S C R) : Type 0 where
+  pub lawful : (i : ℕ) (o : N × S) → get_elem? opens i ≡ some o → IsLegal (legal o.0) o.1 (seen_at v i)
+  pub mine : (n i : ℕ) → n < callers → mine_at v n i ≡ calls_by n (seen_at v i)
+  pub no_others : (i n : ℕ) → callers ≤ n → calls_by n (seen_at v i) ≡ []
 
 module _ {N S C R : Type 0} where
   -- the seat of one caller, which stands in no queue

@@ -1,5 +1,5 @@
 -- What a contract sees of a shelf, of its passes and of a closed shelf.
-use Rattle.std.specs.Prelude.{◌≡◌, ℕ, ◌≤◌, List, [], length}
+use Rattle.std.specs.Prelude.{◌≡◌, ℕ, ◌+◌, ◌≤◌, List, [], length, map}
 use mathlib.Core.Option.{some}
 use lib.ListN.{get_elem?}
 use Rattle.lock_book.specs.declared.kept.Kept.{Ghosts}
@@ -7,7 +7,8 @@ use Rattle.lock_book.specs.declared.view.Entry.{Entry}
 use Rattle.lock_book.specs.declared.shelf.Pass.{Pass}
 use Rattle.lock_book.specs.declared.shelf.Shelf.{Shelf}
 use Rattle.lock_book.specs.declared.close.Closed.{Closed}
-use Rattle.lock_book.specs.History.{calls_by, StartsWith, IsLegal}
+use Rattle.lock_book.specs.declared.joined.Joined.{Joined}
+use Rattle.lock_book.specs.History.{calls_by, StartsWith, IsLegal, row_at}
 use Rattle.lock_book.specs.Ruled.{mine_at, seen_at, view_of}
 use Rattle.lock_book.specs.Told.{IsPass, Adds, Meets}
 
@@ -58,6 +59,20 @@ module _ {T E I O N S C R : Type 0} {g : Ghosts T E I O N S C R} where
   -- what a meeting with `other` made of the pass p, which is q afterwards
   abbrev pub Met : Pass T E I O N S C R g → Pass T E I O N S C R g → Pass T E I O N S C R g → Type 0
   Met p other q = Meets (seen_of p) (mine_of p) (seen_of other) (seen_of q) (mine_of q)
+
+  -- the number of the first of the callers whose passes were joined
+  abbrev pub first_of : Joined T E I O N S C R g → ℕ
+  first_of j = j.whole.me.0.from
+
+  -- These are the passes that were joined, of the callers from that number on to the last: their own calls are all kept, and what is seen begins with what each had seen
+  pub record IsJoined (s : Shelf T E I O N S C R) (passes : List (Pass T E I O N S C R g)) (j : Joined T E I O N S C R g) : Type 0 where
+    pub table : j.whole.table_id ≡ s.board.shared.table_id
+    pub opens : j.whole.me.0.opens ≡ opens_of s
+    pub count : first_of j + length passes ≡ callers_of s
+    pub each : (k : ℕ) (p : Pass T E I O N S C R g) → get_elem? passes k ≡ some p → Belongs s p
+    pub numbers : (k : ℕ) (p : Pass T E I O N S C R g) → get_elem? passes k ≡ some p → number_of p ≡ first_of j + k
+    pub owns : j.whole.me.0.owns ≡ map (λ p. row_at (view_of p.badge.views).owns 0) passes
+    pub begins : (k i : ℕ) (p : Pass T E I O N S C R g) → get_elem? passes k ≡ some p → StartsWith (seen_at j.whole.me.0 i) (seen_of p i)
 
   -- how many values a closed shelf has left
   abbrev pub left_of : Closed T E I O N S C R g → ℕ

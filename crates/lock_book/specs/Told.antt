@@ -29,6 +29,22 @@ module _ {N S C R : Type 0} (legal : N → ℕ → S → C → R → S → Type 
     pub others_seen : (j : ℕ) → j ≢ at → seen' j ≡ seen j
     pub others_mine : (j : ℕ) → j ≢ at → mine' j ≡ mine j
 
+-- How what a pass shows of one value grows by calls of its own. S, C and R are the value's states, calls and replies, `opening` the state in which it was shelved, and n the number of the pass
+module _ {S C R : Type 0} (legal : ℕ → S → C → R → S → Type 0) (opening : S) (n : ℕ) where
+  -- One call: the history that is seen then begins with all that was seen before, and ends with the call, which is legal where it stands and one more of the pass's own
+  pub record Makes (seen mine seen' mine' : List (Entry S C R)) (c : C) (r : R) : Type 0 where
+    pub before : List (Entry S C R)
+    pub after : S
+    pub ends : seen' ≡ before ++ entry n c r after ∷ []
+    pub begins : StartsWith before seen
+    pub step : legal n (last_of opening before) c r after
+    pub own : mine' ≡ mine ++ entry n c r after ∷ []
+
+  -- these calls with these replies, one after another, and no others
+  abbrev pub MakesAll : (seen mine seen' mine' : List (Entry S C R)) → List (C × R) → Type 0
+  MakesAll seen mine seen' mine' [] = (seen' ≡ seen) × (mine' ≡ mine)
+  MakesAll seen mine seen' mine' (e ∷ es) = (s m : List (Entry S C R)) × Makes seen mine s m e.0 e.1 × MakesAll s m seen' mine' es
+
 -- What a meeting with a pass that had seen `other` leaves: of each value the longer of the two histories, which begins with both; its own calls stay
 pub record Meets {S C R : Type 0} (seen mine other seen' mine' : Histories S C R) : Type 0 where
   pub longer_of_two : (i : ℕ) → seen' i ≡ longer (seen i) (other i)

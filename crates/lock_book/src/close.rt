@@ -1,6 +1,6 @@
 //! How a shelf ends: all passes are joined, and the values come home, from the last to the first.
 //! What the joined seat has seen is each value's whole history, and the closed shelf keeps a note of it.
-ghost use Rattle.std.specs.Prelude.{◌≡◌, ℕ, ◌+◌, ◌<◌, ◌≤◌, true, false, [], ◌∷◌, length, IfSome, IsNone, ◌↔◌, slice_index_or};
+ghost use Rattle.std.specs.Prelude.{◌≡◌, ℕ, ◌+◌, ◌<◌, ◌≤◌, true, false, List, [], ◌∷◌, length, IfSome, IsNone, ◌↔◌, slice_index_or};
 ghost use Rattle.std.specs.Mem.Slots.{slots_items, slots_filled, slots_len};
 ghost use mathlib.Core.Option.{some};
 ghost use lib.ListN.{get_elem?};
@@ -9,6 +9,7 @@ ghost use Rattle.lock_book.specs.Ruled.{seen_at};
 
 use crate::Kept;
 use crate::gather::gather;
+use crate::joined::Joined;
 use crate::shelf::{Pass, Shelf};
 use crate::table::{Held, Note, Place, Slot};
 use std::alloc::Global;
@@ -26,7 +27,34 @@ pub struct Closed<T: Kept> {
 }
 
 impl<T: Kept> Shelf<T> {
-    ghost use Rattle.lock_book.specs.Shown.{AreAll, Ended, count_of, left_of, opened_of, opens_of};
+    ghost use Rattle.lock_book.specs.declared.view.Stage.TheVariants.{Idle};
+    ghost use Rattle.lock_book.specs.Ruled.{AllSeen};
+    ghost use Rattle.lock_book.specs.Shown.{AreAll, Ended, IsJoined, callers_of, count_of, first_of, left_of, opened_of, opens_of, whole_of};
+
+    /// Ends a shelf whose callers' seats are all joined into one.
+    fn finish(self, whole: Place<T>) -> Closed<T>
+        requires own { (whole.table_id ≡ self.board.shared.table_id) × (whole.me.1 ≡ []) }
+        requires view { (whole.me.0.from ≡ 0) × (whole.me.0.stage ≡ Idle) × (whole.me.0.opens ≡ opens_of self) }
+        requires all { length whole.me.0.owns ≡ callers_of self }
+        ensures left { left_of result ≡ count_of self }
+        ensures opens { opened_of result ≡ opens_of self }
+        ensures seen { (i : ℕ) → whole_of result i ≡ seen_at whole.me.0 i }
+        ensures all_seen { AllSeen T.legal (opens_of self) (callers_of self) whole.me.0 }
+    {
+        let Shelf {
+            board,
+            count,
+            callers: _,
+        } = self;
+        let mut whole = whole;
+        let note = board.shared.split_seat::<Note>(&mut whole);
+        let slots = board.close_with(whole);
+        Closed {
+            slots,
+            left: count,
+            note,
+        }
+    }
 
     /// Ends the shelf. It takes all passes, in order of their numbers, makes a few loads for each, and takes no memory.
     pub fn close(self, passes: Vec<Pass<T>>) -> Closed<T>
@@ -35,19 +63,20 @@ impl<T: Kept> Shelf<T> {
         ensures opens { opened_of result ≡ opens_of self }
         ensures ended { Ended self passes.items result }
     {
-        let Shelf {
-            board,
-            count,
-            callers: _,
-        } = self;
-        let mut whole = gather(&board, passes);
-        let note = board.shared.split_seat::<Note>(&mut whole);
-        let slots = board.close_with(whole);
-        Closed {
-            slots,
-            left: count,
-            note,
-        }
+        let whole = gather(&self.board, passes);
+        self.finish(whole)
+    }
+
+    /// Ends the shelf, where its passes were joined one by one. It takes no memory.
+    pub fn close_joined(self, joined: Joined<T>) -> Closed<T>
+        requires joined { (passes : List _) × IsJoined self passes joined }
+        requires all { first_of joined ≡ 0 }
+        ensures left { left_of result ≡ count_of self }
+        ensures opens { opened_of result ≡ opens_of self }
+        ensures ended { (passes : List _) → IsJoined self passes joined → Ended self passes result }
+    {
+        let Joined { whole } = joined;
+        self.finish(whole)
     }
 }
 

@@ -14,7 +14,7 @@ use crate::shelf::Pass;
 use crate::table::{Board, Callers, Place};
 
 // Joins the seat of the callers behind to that of one caller, which has then seen as much as both.
-fn join_behind<T: Kept>(board: &Board<T>, seat: &mut Place<T>, mut behind: Place<T>)
+pub(crate) fn join_behind<T: Kept>(board: &Board<T>, seat: &mut Place<T>, mut behind: Place<T>)
     requires own { (seat.old.table_id ≡ board.now.shared.table_id) × (behind.table_id ≡ board.now.shared.table_id) × (0 < board.now.shared.table_id.words) × (behind.me.1 ≡ []) }
     requires free { IsFree seat.old.me.0 × (behind.me.0.stage ≡ Idle) }
     requires next { behind.me.0.from ≡ seat.old.me.0.from + 1 }

@@ -8,7 +8,9 @@
 
 mod close;
 mod gather;
+mod joined;
 mod kept;
+mod laws;
 mod meet;
 mod noted;
 mod open;
@@ -19,6 +21,8 @@ mod turn;
 mod view;
 
 pub use close::Closed;
+pub use joined::Joined;
 pub use kept::Kept;
+pub use laws::calls_of_all;
 pub use shelf::{Pass, Shelf};
 pub use view::Entry;
