@@ -8,9 +8,10 @@ use Rattle.csv.specs.Reading.{default_config, records, strip_bom}
 abbrev pub records_of : List ℕ → List (List (List ℕ))
 records_of bytes = records default_config (strip_bom bytes)
 
--- the record of this number, and the field at this place of it; what is not there is empty
+-- the record of this number; one that is not there is empty
 abbrev pub record_at : List (List (List ℕ)) → ℕ → List (List ℕ)
 record_at records row = get_or records row []
 
+-- the field at this place of a record; one that is not there is empty
 abbrev pub field_of : List (List (List ℕ)) → ℕ → ℕ → List ℕ
 field_of records row at = get_or (record_at records row) at []

@@ -86,16 +86,18 @@ Explains plan stop.Memory o = ⊤
 abbrev pub IsExplained : Option NamedPlan → Option (List ℕ) → Stop → Type 0
 IsExplained plan left why = (o : Outcome) × IsOutcome plan left o × Explains plan why o
 
--- the reason that stands for an answer of `of_words`, of `read_all` and of `rows`
+-- the reason that stands for an answer of `of_words`
 abbrev pub stop_of_words : PlanAnswer → Stop
 stop_of_words words.Usage = stop.Usage
 stop_of_words words.Memory = stop.Memory
 
+-- that for an answer of `read_all`
 abbrev pub stop_of_reading : ReadAnswer → Stop
 stop_of_reading reading.ReadFault = stop.ReadFault
 stop_of_reading reading.TooManyBytes = stop.TooManyBytes
 stop_of_reading reading.Memory = stop.Memory
 
+-- that for an answer of `rows`
 abbrev pub stop_of_parsing : RowsAnswer → Stop
 stop_of_parsing parsing.NoHeader = stop.NoHeader
 stop_of_parsing parsing.TooManyRows = stop.TooManyRows

@@ -24,11 +24,12 @@ values_of column rows = filter (λ field. not (is_null field)) (map (λ row. fie
 abbrev pub total : List ℤ → ℤ
 total numbers = fold (λ sum n. sum +ℤ n) (pos 0) numbers
 
--- the least and the greatest of some numbers, and 0 of none
+-- the least of some numbers, and 0 of none
 abbrev pub least : List ℤ → ℤ
 least [] = pos 0
 least (n ∷ numbers) = fold int_min n numbers
 
+-- the greatest of some numbers, and 0 of none
 abbrev pub greatest : List ℤ → ℤ
 greatest [] = pos 0
 greatest (n ∷ numbers) = fold int_max n numbers

@@ -42,9 +42,11 @@ missing_name header plan = find (λ name. is_none (column_of header name)) (name
 abbrev pub bound_column : List (List ℕ) → List ℕ → ℕ
 bound_column header name = unwrap_or (column_of header name) 0
 
+-- an aggregate over the column of its name, and over column 0 where it has none
 abbrev pub bound_item : List (List ℕ) → NamedItem → Item
 bound_item header item = record { kind = item.kind; column = option_map_or (bound_column header) item.column 0 }
 
+-- a filter over the column of its name
 abbrev pub bound_filter : List (List ℕ) → NamedFilter → Filter
 bound_filter header filter = record { column = bound_column header filter.column; op = filter.op; value = filter.value }
 

@@ -5,10 +5,11 @@ use Rattle.par_model.specs.Refuse.{refused_rows}
 use Rattle.par_model.specs.Table.{IsTable, table_text}
 use Rattle.par_model.specs.declared.refusal.Refusal.{Refusal}
 
--- the limits of an input: its bytes, and its rows without the header
+-- the most bytes that an input has
 abbrev pub most_bytes : ℕ
 most_bytes = 67108864
 
+-- the most rows that it has beside the header
 abbrev pub most_rows : ℕ
 most_rows = 4194304
 

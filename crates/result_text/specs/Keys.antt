@@ -6,10 +6,11 @@ use Rattle.std.specs.Int.{from_le_bytes, w32}
 abbrev pub first_size : List ℕ → ℕ
 first_size key = from_le_bytes w32 (take 4 key)
 
--- the first column, and what comes after it
+-- the first column
 abbrev pub first_column : List ℕ → List ℕ
 first_column key = take (first_size key) (drop 4 key)
 
+-- what comes after it
 abbrev pub after_first_column : List ℕ → List ℕ
 after_first_column key = drop (first_size key) (drop 4 key)
 

@@ -8,13 +8,15 @@ use Rattle.par_model.specs.declared.state.SlotState.{SlotState}
 use Rattle.tuple_codec.specs.declared.read.TupleRead.{TupleRead}
 use Rattle.tuple_codec.specs.declared.read.TupleRead.TheVariants as refused
 
--- a number in 8 bytes, a signed one in two's complement, and one of 128 bits as its low and its high word
+-- a number in 8 bytes
 unfoldable pub word : ℕ → List ℕ
 word n = to_le_bytes w64 n
 
+-- a signed one, in two's complement
 abbrev pub signed_word : ℤ → List ℕ
 signed_word z = word (cast_unsigned w64 z)
 
+-- one of 128 bits, as its low and its high word
 abbrev pub sum_bytes : ℤ → List ℕ
 sum_bytes z = word (cast_unsigned w128 z % 2 ^ 64) ++ word (cast_unsigned w128 z / 2 ^ 64)
 
