@@ -1,8 +1,9 @@
 -- What a pool is after a superblock came in.
-use Rattle.std.proofs.Common.{◌≡◌, ◌≢◌, ℕ, ◌+◌, ◌-◌, ◌*◌, ◌<◌, ◌≤◌, ◌⊎◌, inl, inr, ⊎_elim, Bool, true, false, not, ◌&&◌, ◌||◌, Option, Some, None, is_some, IfSome, IfNone, refl, sym, ap, subst, ◌∙◌, arith}
+use Rattle.std.proofs.Common.{◌≡◌, ◌≢◌, ℕ, ◌+◌, ◌-◌, ◌*◌, ◌/◌, ◌<◌, ◌≤◌, ◌⊎◌, inl, inr, ⊎_elim, Bool, true, false, not, ◌&&◌, ◌||◌, Option, Some, None, is_some, IsSomeAnd, refl, sym, ap, subst, ◌∙◌, arith}
 use mathlib.Core.Logic.{dite}
 use native.Mathlib.Decide.{ℕ_discrete}
 use Rattle.std.proofs.lemmas.Bool.{cases_lt, false_from_ne_true}
+use Rattle.atomic_table.specs.Seated.{TableId}
 use Rattle.word_map.specs.WordMap.{WordMap, at, HasJust, Disjoint, is_within, rest_of, union}
 use Rattle.word_map.proofs.Maps.{at-rest_out, at-rest_in, within_is, within_true}
 use Rattle.free_pages.proofs.AreaWords.{cut_just}
@@ -11,6 +12,7 @@ use Rattle.span_pools.specs.declared.layout.Layout.{Layout}
 use Rattle.span_pools.specs.Places.{base, place, record_at, covers, IsLayout}
 use Rattle.span_pools.specs.Legal.{AllLive, HasFree, IsAdd}
 use Rattle.span_pools.specs.View.{mark_of, owns, first_word, state_of, IsRecordOf, HasRoom, IsMarked, IsAdmitted, IsPool}
+use Rattle.span_pools.specs.PoolView.{IsSuperblock}
 use Rattle.span_pools.proofs.Lists.{new_listed}
 use Rattle.span_pools.proofs.Covers.{place_in, place_covers, no_common, in_object, other_object, size_small}
 use Rattle.span_pools.proofs.Shapes.{shape_added, records_added}
@@ -22,6 +24,28 @@ use Rattle.span_pools.proofs.Pools.{no_bool, book_same, rest_keys, no_room, seen
 abbrev pub NowActive : Layout → ℕ → WordMap → WordMap → Option ℕ → Option ℕ → Type 0
 NowActive l page marks records active after = ((after ≡ Some page) × ((q : ℕ) → mark_of l marks q ≡ true → at records (record_at l q) ≡ Some 0))
     ⊎ ((after ≡ active) × ((q : ℕ) × (mark_of l marks q ≡ true) × HasRoom l records q))
+
+-- the tokens of a superblock that comes in at a page
+pub record IsComing (l : Layout) (page run_at : ℕ) (run control : Owned) : Type 0 where
+  pub fits : page + 16 ≤ l.pages
+  pub control_is : HasJust control.words (record_at l page) 112
+  pub run_is : HasJust run.words (base l page) 8192
+  pub at_is : run_at ≡ base l page
+
+-- the page of a superblock's run is found by its first word
+pub coming : (region : TableId) (l : Layout) (run_at word run_pages : ℕ) (run : Owned) (records : Option Owned) (control : Owned) → IsSuperblock region l run_at run_pages run records → word ≡ run_at → records ≡ Some control
+    → HasJust run.words run_at (512 * run_pages) → IsComing l ((word - l.first) / 512) run_at run control
+coming region l run_at word run_pages run records control q here there just =
+    let same : q.page ≡ (word - l.first) / 512 = page_is l.first q.page word (here ∙ q.at_is) in
+    subst (λ (z : ℕ). IsComing l z run_at run control) same (record {
+      fits = q.inside;
+      control_is = (subst (λ (o : Option Owned). IsSomeAnd o (λ x. (x.region ≡ region) × HasJust x.words (record_at l q.page) 112)) there q.records_are).1;
+      run_is = subst (λ (z : ℕ). HasJust run.words z 8192) q.at_is (subst (λ (z : ℕ). HasJust run.words run_at (512 * z)) q.pages_is just);
+      at_is = q.at_is;
+    })
+  where
+    page_is : (first page at_word : ℕ) → at_word ≡ first + 512 * page → page ≡ (at_word - first) / 512
+    page_is first page at_word e = omega arith
 
 first_place : (l : Layout) (page : ℕ) → place l page 0 ≡ base l page
 first_place l page = plain (base l page) l.size
@@ -51,7 +75,7 @@ apart_new l active page marks records words control p just apart q m = ⊎_elim
     both : (b : ℕ) → is_within (record_at l q) 112 (record_at l b) ≡ true → is_within (record_at l page) 112 (record_at l b) ≡ true → ⊥
     both b x y = clash (at records.words (record_at l b)) (at control.words (record_at l b)) (record_at l b) refl refl (p.records_are.all q (record_at l b) m x) (just (record_at l b) ∙ y)
 
-unlike_new : (q page : ℕ) → ((page + 16 ≤ q) ⊎ (q + 16 ≤ page)) → q ≢ page
+pub unlike_new : (q page : ℕ) → ((page + 16 ≤ q) ⊎ (q + 16 ≤ page)) → q ≢ page
 unlike_new q page h e = ⊎_elim (λ (x : page + 16 ≤ q). omega arith) (λ (x : q + 16 ≤ page). omega arith) h
 
 join_less : (o c w : Bool) → (w ≡ true → o ≡ false) → ((o || c) && not w) ≡ (o || (c && not w))
@@ -78,10 +102,6 @@ and_none false b e = refl
 and_all : (a b : Bool) → a ≡ true → b ≡ true → (a && b) ≡ true
 and_all true b e f = f
 and_all false b e f = cc
-
-or_both : (a b : Bool) → a ≡ false → b ≡ false → (a || b) ≡ false
-or_both true b e f = cc
-or_both false b e f = f
 
 or_second : (a b : Bool) → b ≡ true → (a || b) ≡ true
 or_second true b e = refl
@@ -200,8 +220,3 @@ pub part_just : (l : Layout) (page : ℕ) (records words control run records2 wo
 part_just l page records words control run records2 words2 part a just d =
     subst (λ (o : Owned). HasJust o.words (base l page) l.size) (sym d.range)
     (cut_just (union words.words run.words) (base l page) l.size (λ k x y. union_has words.words run.words (base l page) 8192 k just (let s = size_small l a in within_true (base l page) 8192 k x (omega arith))))
-
-pub now_active : (l : Layout) (page : ℕ) (marks records : WordMap) (active free after : Option ℕ) → IfSome free (λ q. (mark_of l marks q ≡ true) × HasRoom l records q)
-    → IfNone free ((q : ℕ) → mark_of l marks q ≡ true → at records (record_at l q) ≡ Some 0) → (free ≡ None → after ≡ Some page) → ((q : ℕ) → free ≡ Some q → after ≡ active) → NowActive l page marks records active after
-now_active l page marks records active (Some q) after some none a b = inr (b q refl, (q, some.0, some.1))
-now_active l page marks records active None after some none a b = inl (a refl, none)

@@ -6,7 +6,7 @@ use Rattle.std.specs.FinMap as fin
 use Rattle.std.specs.Int.{bit_at}
 use Rattle.word_map.specs.WordMap.{WordMap, at, HasJust, is_within}
 use Rattle.region_words.specs.Parts.{Owned, owned}
-use Rattle.std.proofs.lemmas.Bool.{cases_lt, false_from_ne_true, eqb-true}
+use Rattle.std.proofs.lemmas.Bool.{cases_lt, false_from_ne_true}
 use Rattle.std.proofs.lemmas.Nat.Bits.{bit_at-zero}
 use Rattle.word_map.proofs.Maps.{at-insert_same, at-insert_other, insert-just, just_has, within_is}
 use Rattle.span_pools.specs.declared.layout.Layout.{Layout}
@@ -66,8 +66,3 @@ mark_in_word l m n b word e h =
 
 pub set_marked : (l : Layout) (m : WordMap) (n b word : ℕ) → at m (l.marks + n) ≡ Some word → b < 64 → bit_at word b ≡ 1 → mark_of l m (64 * n + b) ≡ true
 set_marked l m n b word e h s = mark_in_word l m n b word e h ∙ eq-eqb (bit_at word b) 1 s
-
-pub marked_set : (l : Layout) (m : WordMap) (n word p : ℕ) → at m (l.marks + n) ≡ Some word → p / 64 ≡ n → mark_of l m p ≡ true → (p ≡ 64 * n + p % 64) × (bit_at word (p % 64) ≡ 1)
-marked_set l m n word p e h s =
-    let same : p ≡ 64 * n + p % 64 = omega arith in
-    (same, eqb-true (bit_at word (p % 64)) 1 (sym (mark_in_word l m n (p % 64) word e (omega arith)) ∙ ap (mark_of l m) (sym same) ∙ s))

@@ -60,10 +60,6 @@ place_covers l p i a low = (in_object l p i (place l p i) a low (place_in l p i 
 pub place_object : (l : Layout) (p i : ℕ) → IsLayout l → i < l.objects → object_of l p (place l p i) ≡ i
 place_object l p i a low = (in_object l p i (place l p i) a low (place_in l p i a low)).1
 
--- two objects of a superblock with the same place are one
-pub same_object : (l : Layout) (p i j : ℕ) → IsLayout l → i < l.objects → j < l.objects → place l p i ≡ place l p j → i ≡ j
-same_object l p i j a x y e = sym (place_object l p i a x) ∙ ap (object_of l p) e ∙ place_object l p j a y
-
 -- the first word of another object is none of this one's
 pub other_object : (l : Layout) (p i j : ℕ) → IsLayout l → j ≢ i → is_within (place l p i) l.size (place l p j) ≡ false
 other_object l p i j a n = false_from_ne_true (is_within (place l p i) l.size (place l p j)) (λ h.

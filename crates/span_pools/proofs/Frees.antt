@@ -30,10 +30,6 @@ or_second : (a b : Bool) → b ≡ true → (a || b) ≡ true
 or_second true b e = refl
 or_second false b e = e
 
-or_first : (a b : Bool) → b ≡ false → (a || b) ≡ a
-or_first true b e = refl
-or_first false b e = e
-
 and_none : (a b : Bool) → a ≡ false → (a && b) ≡ false
 and_none true b e = cc
 and_none false b e = refl
@@ -112,6 +108,17 @@ pub record IsLast (l : Layout) (page index at_word : ℕ) (records words part : 
   pub full : (x : ℕ) → at records.words (record_at l page) ≡ Some x → x + 1 ≡ l.objects
   pub apart : Disjoint words.words part.words
 
+-- an object whose superblock has all others free is such
+pub is_last : (l : Layout) (page index at_word room : ℕ) (records words part : Owned) → index < l.objects → at_word ≡ place l page index → HasJust part.words at_word l.size
+    → at records.words (record_at l page) ≡ Some room → room + 1 ≡ l.objects → Disjoint words.words part.words → IsLast l page index at_word records words part
+is_last l page index at_word room records words part low at_is just room_is full apart = record {
+  low = low;
+  at_is = at_is;
+  just = just;
+  full = λ x e. ap (λ (z : ℕ). z + 1) (some_same x room (sym e ∙ room_is)) ∙ full;
+  apart = apart;
+}
+
 last_out : (l : Layout) (page index at_word : ℕ) (records words part : Owned) → IsLayout l → IsLast l page index at_word records words part → owns words.words (place l page index) ≡ false
 last_out l page index at_word records words part a t = subst (λ (z : ℕ). owns words.words z ≡ false) t.at_is (apart_none words.words part.words at_word l.size at_word t.apart t.just (within_true at_word l.size at_word (omega arith) (let s = a.size in omega arith)))
 
@@ -130,9 +137,6 @@ last_whole l active page index at_word k marks records words part p m t c =
     (λ (e : i ≡ index). or_second (owns words.words (place l page i)) (is_within (place l page index) l.size (place l page i)) (subst (λ (z : ℕ). is_within (place l page index) l.size (place l page z) ≡ true) (sym e) (place_in l page index p.layout t.low)))
     (λ (n : i ≢ index). ap (λ (b : Bool). b || is_within (place l page index) l.size (place l page i)) (others_in l active page index at_word i marks records words part p m t low n)))
     c
-
-pub last_records : (l : Layout) (active : Option ℕ) (page : ℕ) (marks records words : Owned) → IsPool l active marks records words → mark_of l marks.words page ≡ true → (k : ℕ) → is_within (record_at l page) 112 k ≡ true → owns records.words k ≡ true
-last_records l active page marks records words p m k w = p.records_are.all page k m w
 
 -- which words are owned when the superblock is out
 keys_out : (l : Layout) (page index at_word k : ℕ) (records words part records2 words2 run control : Owned) → IsLayout l → IsLast l page index at_word records words part → IsReleased l page records words part records2 words2 run control

@@ -11,3 +11,4 @@ pub mod Adds
 pub mod Empty
 pub mod Frees
 pub mod Offers
+pub mod Totals

@@ -131,10 +131,6 @@ each_live objects place v room head used i l none h = none_free objects i (λ j.
 pub has_free : (objects : ℕ) (place : ℕ → ℕ) (v : ℕ → Option ℕ) (room head used : ℕ) → IsListed objects place v room head used → 0 < room → (i : ℕ) × (i < objects) × (is_some (v i) ≡ true)
 has_free objects place v room head used l some = one_free objects (λ j. is_some (v j)) (let c = l.count in omega arith)
 
--- where as many are free as there are, none is live
-pub none_live : (objects : ℕ) (place : ℕ → ℕ) (v : ℕ → Option ℕ) (room head used i : ℕ) → IsListed objects place v room head used → room ≡ objects → i < objects → is_some (v i) ≡ true
-none_live objects place v room head used i l full h = each_free objects i (λ j. is_some (v j)) (let c = l.count in omega arith) h
-
 pub has_live : (objects : ℕ) (place : ℕ → ℕ) (v : ℕ → Option ℕ) (room head used : ℕ) → IsListed objects place v room head used → room < objects → (i : ℕ) × (i < objects) × (is_some (v i) ≡ false)
 has_live objects place v room head used l less = one_live objects (λ j. is_some (v j)) (let c = l.count in omega arith)
 

@@ -1,4 +1,5 @@
--- A run of 16 pages with its records is a superblock for a pool over these pages; one that a pool gives back may be given to the pages.
+-- A run of 16 pages with its records is a superblock for a pool over these pages; one that a pool gives back may be
+-- given to the pages.
 use Rattle.std.proofs.Common.{◌≡◌, ℕ, ◌+◌, ◌*◌, ◌/◌, ◌%◌, ◌≤◌, true, Option, Some, None, is_some, IsSomeAnd, refl, sym, ap, subst, ◌∙◌, arith}
 use Rattle.atomic_table.specs.Seated.{TableId}
 use Rattle.word_map.specs.WordMap.{HasJust}

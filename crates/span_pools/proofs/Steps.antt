@@ -109,6 +109,7 @@ taken_out l p room at_word records words mid records2 words2 part a room_is n e 
       rest = f;
       range = g;
       same = records_twice l p records mid records2 n.same (record_stored l p 0 (room - 1) mid records2 (omega arith) has store);
+      less = λ x h. stored_here mid records2 (record_at l p) (room - 1) e ∙ ap (λ (z : ℕ). Some (z - 1)) (some_same room x (sym room_is ∙ h));
       says = record {
         room = room - 1;
         head = n.head;

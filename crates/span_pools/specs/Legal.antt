@@ -1,20 +1,20 @@
--- What a pool answers, as a relation of the state before, the call, the reply and the state after. Source: dsa.c (`alloc_object`,
--- `ensure_active_superblock`, `dsa_free`), but for its fullness classes: here each superblock that has a free object serves as well as
--- another, and only the active one comes first.
+-- What a pool answers, as a relation of the state before, the call, the reply and the state after. Source: dsa.c
+-- (`alloc_object`, `ensure_active_superblock`, `dsa_free`), but for its fullness classes: here each superblock that has
+-- a free object serves as well as another, and only the active one comes first.
 use Rattle.std.specs.Prelude.{◌≡◌, ◌≢◌, ℕ, ◌+◌, ◌*◌, ◌<◌, ◌≤◌, ◌==◌, ◌⊎◌, Bool, true, false, cond, List, [], ◌∷◌, Option, Some, None, IsSome, length}
 use Rattle.std.specs.List.{slice_get}
 use Rattle.free_pages.specs.Area.{superblock_pages}
 use Rattle.span_pools.specs.declared.layout.Layout.{Layout}
 use Rattle.span_pools.specs.Places.{base, place}
 
--- a superblock: the page at which it begins, and of each of its objects whether it is live (dsa_area_span of dsa.c says it by a count
--- and a list of the free objects)
+-- a superblock: the page at which it begins, and of each of its objects whether it is live (dsa_area_span of dsa.c says
+-- it by a count and a list of the free objects)
 pub record Span : Type 0 where
   pub page : ℕ
   pub live : List Bool
 
--- the state: the superblocks in the order of their pages, and the page of the active one (dsa_area_pool of dsa.c, whose active
--- superblock is the first of fullness class 1)
+-- the state: the superblocks in the order of their pages, and the page of the active one (dsa_area_pool of dsa.c, whose
+-- active superblock is the first of fullness class 1)
 pub record PoolState : Type 0 where
   pub spans : List Span
   pub active : Option ℕ
@@ -48,28 +48,30 @@ SameBut before after p i = (q j : ℕ) → (q ≢ p) ⊎ (j ≢ i) → object_in
 abbrev pub SameBeside : PoolState → PoolState → ℕ → Type 0
 SameBeside before after p = (q j : ℕ) → q ≢ p → object_in after q j ≡ object_in before q j
 
--- the superblocks stand in the order of their pages, from page `low` on; each has 16 of the pages and says of each of its objects whether
--- it is live, and no two have a page in common
+-- the superblocks stand in the order of their pages, from page `low` on; each has 16 of the pages and says of each of
+-- its objects whether it is live, and no two have a page in common
 abbrev pub AreApart : Layout → ℕ → List Span → Type 0
 AreApart l low [] = Unit {0}
 AreApart l low (s ∷ ss) = (low ≤ s.page) × (s.page + superblock_pages ≤ l.pages) × (length s.live ≡ l.objects) × AreApart l (s.page + superblock_pages) ss
 
--- What is so between two calls: the superblocks are apart, each has a live object or is the active one, and one is active exactly where
--- there is one. (In dsa.c, too, a superblock that is wholly free goes back at once, unless it is the active one.)
+-- What is so between two calls: the superblocks are apart, each has a live object or is the active one, and one is
+-- active exactly where there is one. (In dsa.c, too, a superblock that is wholly free goes back at once, unless it is
+-- the active one.)
 pub record IsSettled (l : Layout) (s : PoolState) : Type 0 where
   pub apart : AreApart l 0 s.spans
   pub used : (p i : ℕ) → IsSome (object_in s p i) → (s.active ≡ Some p) ⊎ HasLive s p
   pub active : (p : ℕ) → s.active ≡ Some p → IsSome (object_in s p 0)
   pub some_active : (p i : ℕ) → IsSome (object_in s p i) → IsSome s.active
 
--- a call: an object; a superblock that is added, by its first word; an object that comes back, by its first word and its bytes
+-- a call: an object; a superblock that is added, by its first word; an object that comes back, by its first word and
+-- its bytes
 pub data PoolCall : Type 0 where
   Alloc : PoolCall
   Add : ℕ → PoolCall
   Free : ℕ → ℕ → PoolCall
 
--- a reply: the first word of an object; no object is free; the object is free now; the superblock that went back with it, by its first
--- word; the object is handed back
+-- a reply: the first word of an object; no object is free; the object is free now; the superblock that went back with
+-- it, by its first word; the object is handed back
 pub data PoolReply : Type 0 where
   Object : ℕ → PoolReply
   Full : PoolReply
@@ -77,8 +79,8 @@ pub data PoolReply : Type 0 where
   Whole : ℕ → PoolReply
   Stranger : PoolReply
 
--- a free object becomes live, of the active superblock where that has one; its superblock is the active one then (`alloc_object` and
--- `ensure_active_superblock` of dsa.c)
+-- a free object becomes live, of the active superblock where that has one; its superblock is the active one then
+-- (`alloc_object` and `ensure_active_superblock` of dsa.c)
 pub record IsAlloc (l : Layout) (before : PoolState) (at : ℕ) (after : PoolState) : Type 0 where
   pub page : ℕ
   pub index : ℕ
@@ -95,8 +97,8 @@ pub record IsFull (before after : PoolState) : Type 0 where
   pub all_live : AllLive before
   pub same : after ≡ before
 
--- A superblock comes in that was not there; one of its objects is live. It is the active one exactly where no other superblock has a
--- free object
+-- A superblock comes in that was not there; one of its objects is live. It is the active one exactly where no other
+-- superblock has a free object
 pub record IsAdd (l : Layout) (before : PoolState) (run at : ℕ) (after : PoolState) : Type 0 where
   pub page : ℕ
   pub index : ℕ
@@ -109,7 +111,8 @@ pub record IsAdd (l : Layout) (before : PoolState) (run at : ℕ) (after : PoolS
   pub active : ((after.active ≡ Some page) × AllLive before) ⊎ ((after.active ≡ before.active) × (before.active ≢ Some page) × HasFree before)
   pub settled : IsSettled l after
 
--- a live object becomes free, and its superblock stays, since it has another live object or is the active one (`dsa_free` of dsa.c)
+-- a live object becomes free, and its superblock stays, since it has another live object or is the active one
+-- (`dsa_free` of dsa.c)
 pub record IsFreed (l : Layout) (before : PoolState) (at bytes : ℕ) (after : PoolState) : Type 0 where
   pub page : ℕ
   pub index : ℕ
@@ -121,8 +124,8 @@ pub record IsFreed (l : Layout) (before : PoolState) (at bytes : ℕ) (after : P
   pub active : after.active ≡ before.active
   pub settled : IsSettled l after
 
--- the last live object of a superblock that is not the active one becomes free, and the superblock goes out (`dsa_free` of dsa.c, which
--- calls `destroy_superblock` there)
+-- the last live object of a superblock that is not the active one becomes free, and the superblock goes out (`dsa_free`
+-- of dsa.c, which calls `destroy_superblock` there)
 pub record IsEmptied (l : Layout) (before : PoolState) (at bytes run : ℕ) (after : PoolState) : Type 0 where
   pub page : ℕ
   pub index : ℕ

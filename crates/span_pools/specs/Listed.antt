@@ -16,15 +16,15 @@ abbrev pub Once : List ℕ → Type 0
 Once [] = Unit {0}
 Once (x ∷ xs) = (IsIn x xs → ⊥) × Once xs
 
--- The list of free objects, of which each has the place of the next in its first word, and the last has 0 (NextFreeObjectIndex of dsa.c,
--- which stores the next one's number)
+-- The list of free objects, of which each has the place of the next in its first word, and the last has 0
+-- (NextFreeObjectIndex of dsa.c, which stores the next one's number)
 abbrev pub Chain : (ℕ → ℕ) → (ℕ → Option ℕ) → ℕ → List ℕ → Type 0
 Chain place word head [] = head ≡ 0
 Chain place word head (i ∷ is) = (head ≡ place i) × ((next : ℕ) × (word i ≡ Some next) × Chain place word next is)
 
--- A superblock's record says how many objects are free, where their list begins, and how many objects were used before: a free object is
--- on the list, or was never used (as in dsa.c). `place i` is the place of object i, and `word i` is the value of its first word, if the
--- pool has it: then the object is free
+-- A superblock's record says how many objects are free, where their list begins, and how many objects were used before:
+-- a free object is on the list, or was never used (as in dsa.c). `place i` is the place of object i, and `word i` is
+-- the value of its first word, if the pool has it: then the object is free
 pub record IsListed (objects : ℕ) (place : ℕ → ℕ) (word : ℕ → Option ℕ) (room head used : ℕ) : Type 0 where
   pub listed : List ℕ
   pub few : used ≤ objects

@@ -1,5 +1,5 @@
--- Where the superblocks of one class, their objects and their records stand. (A superblock of dsa.c has 16 pages, too; its records
--- stand in objects of a class of their own, and here in the control records of its pages.)
+-- Where the superblocks of one class, their objects and their records stand. (A superblock of dsa.c has 16 pages, too;
+-- its records stand in objects of a class of their own, and here in the control records of its pages.)
 use Rattle.std.specs.Prelude.{ℕ, ◌+◌, ◌*◌, ◌-◌, ◌/◌, ◌≤◌, ◌<◌, Bool}
 use Rattle.word_map.specs.WordMap.{is_within}
 use Rattle.free_pages.specs.Area.{page_words, record_words, superblock_pages, mark_words}
@@ -21,8 +21,8 @@ base l p = l.first + page_words * p
 abbrev pub place : Layout → ℕ → ℕ → ℕ
 place l p i = base l p + l.size * i
 
--- the first word of page p's control record. A superblock's first record has in its first three words how many objects are free, the
--- place of the first object of the list of free ones or 0, and how many objects were used so far
+-- the first word of page p's control record. A superblock's first record has in its first three words how many objects
+-- are free, the place of the first object of the list of free ones or 0, and how many objects were used so far
 abbrev pub record_at : Layout → ℕ → ℕ
 record_at l p = l.records + record_words * p
 

@@ -40,7 +40,8 @@ spans_of marked live p (suc n) = cond (marked p) (record { page = p; live = live
 abbrev pub state_of : Layout → Option ℕ → WordMap → WordMap → PoolState
 state_of l active marks words = record { spans = spans_of (mark_of l marks) (live_of l words) 0 l.pages; active = active }
 
--- the record of the superblock at page p says which of its objects are free (dsa_area_span of dsa.c: nallocatable, firstfree, ninitialized)
+-- the record of the superblock at page p says which of its objects are free (dsa_area_span of dsa.c: nallocatable,
+-- firstfree, ninitialized)
 pub record IsRecordOf (l : Layout) (records words : WordMap) (p : ℕ) : Type 0 where
   pub room : ℕ
   pub head : ℕ
@@ -53,6 +54,19 @@ pub record IsRecordOf (l : Layout) (records words : WordMap) (p : ℕ) : Type 0 
 -- the superblock at page p has a free object, by its record
 abbrev pub HasRoom : Layout → WordMap → ℕ → Type 0
 HasRoom l records p = (room : ℕ) × (at records (record_at l p) ≡ Some room) × (0 < room)
+
+-- how many objects of the superblock at page p are free, by its record; none where no superblock begins there
+abbrev pub room_at : Layout → WordMap → WordMap → ℕ → ℕ
+room_at l marks records p = cond {A = ℕ} (mark_of l marks p) (unwrap_or (at records (record_at l p)) 0) 0
+
+-- the sum of the first n numbers
+abbrev pub total : (ℕ → ℕ) → ℕ → ℕ
+total f zero = 0
+total f (suc n) = f n + total f n
+
+-- how many objects of all superblocks are free, by their records
+abbrev pub free_objects : Layout → WordMap → WordMap → ℕ
+free_objects l marks records = total (room_at l marks records) l.pages
 
 -- object i goes out: the record says so where its words are no longer owned, and those of the others are
 abbrev pub IsPopped : ℕ → (ℕ → ℕ) → (ℕ → Option ℕ) → ℕ → ℕ → ℕ → ℕ → Type 0
@@ -87,6 +101,7 @@ pub record IsTakenOut (l : Layout) (p : ℕ) (records words records2 words2 part
   pub rest : words2 ≡ owned words.region (rest_of words.words at_word l.size)
   pub range : part ≡ owned words.region (range_of words.words at_word l.size)
   pub same : SameRecords l p records records2
+  pub less : (room : ℕ) → at records.words (record_at l p) ≡ Some room → at records2.words (record_at l p) ≡ Some (room - 1)
   pub says : IsRecordOf l records2.words words2.words p
 
 -- object `index` of page p is back, with its words
@@ -129,8 +144,8 @@ pub record IsReleased (l : Layout) (p : ℕ) (records words part records2 words2
   pub rest_records : records2 ≡ owned records.region (rest_of records.words (record_at l p) superblock_records)
   pub control_is : control ≡ owned records.region (range_of records.words (record_at l p) superblock_records)
 
--- The parts of a pool: `marks` has the words of its class's bits, `records` the control records of its superblocks, `words` the words of
--- their free objects and the words behind their last objects
+-- The parts of a pool: `marks` has the words of its class's bits, `records` the control records of its superblocks,
+-- `words` the words of their free objects and the words behind their last objects
 pub record IsPool (l : Layout) (active : Option ℕ) (marks records words : Owned) : Type 0 where
   pub records_here : records.region ≡ marks.region
   pub words_here : words.region ≡ marks.region

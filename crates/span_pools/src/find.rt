@@ -31,7 +31,8 @@ fn find_in_word(records: &mut Part, r: &Region, layout: Layout, from: u64, word:
     None
 }
 
-/// The first page whose superblock has a free object. Goes over the bits a word at a time, and passes by the words that are 0.
+/// The first page whose superblock has a free object. Goes over the bits a word at a time, and passes by the words that
+/// are 0.
 fn find_free(marks: &mut Part, records: &mut Part, r: &Region, layout: Layout) -> Option<u64>
     requires here { (marks.old.region ≡ r.now) × (records.old.region ≡ r.now) }
     requires layout { IsLayout layout }
@@ -91,7 +92,8 @@ fn is_object(layout: Layout, page: u64, place: u64) -> bool
     offset % layout.size == 0 && offset / layout.size < layout.objects
 }
 
-/// The page whose superblock has an object at a place: looks at the bit of the place's page and those of the 15 pages before it.
+/// The page whose superblock has an object at a place: looks at the bit of the place's page and those of the 15 pages
+/// before it.
 pub(crate) fn holder(marks: &mut Part, r: &Region, layout: Layout, place: u64) -> Option<u64>
     requires here { marks.old.region ≡ r.now }
     requires layout { IsLayout layout }

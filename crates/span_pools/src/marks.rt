@@ -1,4 +1,5 @@
-//! The bits of a class, one for each page, in words of the region: a superblock of the class begins at a page whose bit is set.
+//! The bits of a class, one for each page, in words of the region: a superblock of the class begins at a page whose bit
+//! is set.
 //!
 //! Only the class's pool changes them. `mark_of` of `specs/View.antt` reads them.
 ghost use Rattle.std.specs.Prelude.{◌≡◌, ◌≢◌, ℕ, ◌+◌, ◌*◌, ◌/◌, ◌<◌, ◌≤◌, true, false, Some, IfSome, IfNone, IsSome};

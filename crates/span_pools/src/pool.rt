@@ -1,10 +1,11 @@
 //! A pool: the superblocks of one size class, and the objects of them that are free.
 //!
-//! The pool owns the words of its class's bits, the control records of its superblocks, and of the superblocks' words those of no live
-//! object. Nobody else changes any of them. An object that goes out takes its words with it, and they are live until they come back: so
-//! which objects are live is read off the words that the pool owns, and its record and its list only say so again. What the parts own
-//! is `IsPool` of `specs/View.antt`; what the calls answer is `IsLegal` of `specs/Legal.antt`.
-ghost use Rattle.std.specs.Prelude.{◌≡◌, ◌≢◌, ℕ, ◌+◌, ◌*◌, ◌/◌, ◌<◌, ◌≤◌, ◌^◌, [], None, Some, IfSome, IfNone, IfOk, IfErr, MatchOption, true, IsSome, is_some};
+//! The pool owns the words of its class's bits, the control records of its superblocks, and of the superblocks' words
+//! those of no live object. Nobody else changes any of them. An object that goes out takes its words with it, and they
+//! are live until they come back: so which objects are live is read off the words that the pool owns, and its record
+//! and its list only say so again. What the parts own is `IsPool` of `specs/View.antt`; what the calls answer is
+//! `IsLegal` of `specs/Legal.antt`.
+ghost use Rattle.std.specs.Prelude.{◌≡◌, ◌≢◌, ℕ, ◌+◌, ◌*◌, ◌/◌, ◌<◌, ◌≤◌, ◌^◌, [], None, Some, IfSome, IfNone, IfOk, IfErr, true, IsSome, is_some};
 ghost use Rattle.word_map.specs.WordMap.{HasJust};
 ghost use Rattle.size_classes.specs.Classes.{IsClass};
 ghost use Rattle.free_pages.specs.Area.{front, head_words, mark_words, marks_at, page_words};
@@ -21,14 +22,17 @@ use region_words::{Chunk, Part, Region, Run};
 use rel_pointer::RelPtr;
 use std::marker::Model;
 
-/// The superblocks of one size class. Contracts see the region, where the superblocks stand, the superblocks with their live objects,
-/// and which of them is active.
+/// The superblocks of one size class. Contracts see the region, where the superblocks stand, the superblocks with their
+/// live objects, and which of them is active.
 #[derive(Drop)]
 pub struct Pool {
     /// Where the words stand.
     layout: Layout,
     /// The page of the active superblock.
     active: Option<u64>,
+    /// How many objects of all superblocks are free. It only says again what the records say, so that nobody has to
+    /// look at each.
+    left: u64,
     /// The words of the class's bits.
     marks: Part,
     /// The control records of the superblocks.
@@ -38,7 +42,8 @@ pub struct Pool {
 }
 
 impl Model for Pool {
-    ghost use Rattle.span_pools.specs.View.{state_of, IsPool};
+    ghost use Rattle.std.specs.Prelude.{◌≡◌};
+    ghost use Rattle.span_pools.specs.View.{free_objects, state_of, IsPool};
     ghost use Rattle.span_pools.specs.PoolView.{PoolView, pool_view_code, pool_view};
 
     ghost Value = { PoolView };
@@ -47,12 +52,12 @@ impl Model for Pool {
 
     ghost view = { λ p. pool_view p.marks.region p.layout (state_of p.layout p.active p.marks.words p.words.words) };
 
-    ghost invariant = { λ p. IsPool p.layout p.active p.marks p.records p.words };
+    ghost invariant = { λ p. IsPool p.layout p.active p.marks p.records p.words × (p.left ≡ free_objects p.layout p.marks.words p.records.words) };
 }
 
 impl Pool {
-    /// The pool of a class, without a superblock. `marks` is the words of the class's bits in an area of this many pages whose page 0
-    /// begins at `first`, whatever they hold. Writes each of them once.
+    /// The pool of a class, without a superblock. `marks` is the words of the class's bits in an area of this many
+    /// pages whose page 0 begins at `first`, whatever they hold. Writes each of them once.
     pub fn new(r: &Region, class: u8, first: RelPtr, pages: u32, marks: Part) -> Pool
         requires here { marks.region ≡ r.now }
         requires class { IsClass class }
@@ -75,14 +80,16 @@ impl Pool {
         Pool {
             layout,
             active: None,
+            left: 0,
             marks,
             records,
             words,
         }
     }
 
-    /// A free object, which is live then: of the active superblock, where that has one. Costs the same for every state while the active
-    /// superblock has a free object; else it goes over the class's bits, a word at a time.
+    /// A free object, which is live then: of the active superblock, where that has one. Costs the same for every state
+    /// while the active superblock has a free object, or none has; else it goes over the class's bits, a word at a
+    /// time.
     pub fn alloc(&mut self, r: &Region) -> Option<Chunk>
         requires here { self.old.region ≡ r.now }
         ensures same { self.new ≡ record self.old { state = self.new.state } }
@@ -90,6 +97,9 @@ impl Pool {
         ensures chunk { IfSome result (λ chunk. (chunk.bytes ≡ 8 * self.old.layout.size) × (chunk.part.region ≡ self.old.region)) }
         ensures full { IfNone result (IsLegal self.old.layout self.old.state Alloc Full self.new.state) }
     {
+        if self.left == 0 {
+            return None;
+        }
         let page = free_page(
             self.active,
             &mut self.marks,
@@ -99,6 +109,7 @@ impl Pool {
         )?;
         let (place, part) = take_object(&mut self.words, &mut self.records, r, self.layout, page);
         self.active = Some(page);
+        self.left -= 1;
         Some(Chunk {
             at: RelPtr::of(place),
             bytes: 8 * self.layout.size,
@@ -106,7 +117,8 @@ impl Pool {
         })
     }
 
-    /// Takes in a superblock, which the pool owns from now on, and gives an object of it. Costs as `alloc`.
+    /// Takes in a superblock, which the pool owns from now on, and gives an object of it. Costs the same for every
+    /// state.
     pub fn add(&mut self, r: &Region, run: Run) -> Chunk
         requires here { self.old.region ≡ r.now }
         requires run { IsSuperblock self.old.region self.old.layout run.at run.pages run.words run.control }
@@ -115,13 +127,6 @@ impl Pool {
         ensures chunk { (result.bytes ≡ 8 * self.old.layout.size) × (result.part.region ≡ self.old.region) }
     {
         let page = (run.at.word() - self.layout.first) / PAGE_WORDS;
-        let free = free_page(
-            self.active,
-            &mut self.marks,
-            &mut self.records,
-            r,
-            self.layout,
-        );
         let Run {
             at,
             pages: _,
@@ -141,7 +146,8 @@ impl Pool {
             words,
             control,
         );
-        self.active = next_active(self.active, free, page);
+        self.active = next_active(self.active, self.left, page);
+        self.left += self.layout.objects - 1;
         Chunk {
             at,
             bytes: 8 * self.layout.size,
@@ -149,12 +155,14 @@ impl Pool {
         }
     }
 
-    /// Takes an object back. Where it was the last live one of a superblock that is not the active one, gives the superblock back. Hands
-    /// the object back where no superblock has an object at this place and of this size. Looks at 16 bits.
+    /// Takes an object back. Where it was the last live one of a superblock that is not the active one, gives the
+    /// superblock back. Hands the object back where no superblock has an object at this place and of this size. Looks
+    /// at 16 bits.
     pub fn free(&mut self, r: &Region, object: Chunk) -> Result<Option<Run>, Chunk>
         requires here { (self.old.region ≡ r.now) × (object.part.region ≡ r.now) }
         ensures same { self.new ≡ record self.old { state = self.new.state } }
-        ensures freed { IfOk result (λ out. MatchOption out (IsLegal self.old.layout self.old.state (Free object.at object.bytes) Kept self.new.state) (λ run. IsLegal self.old.layout self.old.state (Free object.at object.bytes) (Whole run.at) self.new.state)) }
+        ensures kept { IfOk result (λ out. IfNone out (IsLegal self.old.layout self.old.state (Free object.at object.bytes) Kept self.new.state)) }
+        ensures whole { IfOk result (λ out. IfSome out (λ run. IsLegal self.old.layout self.old.state (Free object.at object.bytes) (Whole run.at) self.new.state)) }
         ensures run { IfOk result (λ out. IfSome out (λ run. IsSuperblock self.old.region self.old.layout run.at run.pages run.words run.control)) }
         ensures refused { IfErr result (λ back. IsLegal self.old.layout self.old.state (Free object.at object.bytes) Stranger self.new.state) }
         ensures back { IfErr result (λ back. back ≡ object) }
@@ -182,6 +190,7 @@ impl Pool {
                 page,
                 part,
             );
+            self.left -= free;
             return Ok(Some(Run {
                 at: RelPtr::of(self.layout.first + PAGE_WORDS * page),
                 pages: SUPERBLOCK_PAGES,
@@ -198,6 +207,7 @@ impl Pool {
             place,
             part,
         );
+        self.left += 1;
         Ok(None)
     }
 }
@@ -213,13 +223,10 @@ fn is_page(active: Option<u64>, page: u64) -> bool
     }
 }
 
-/// The active superblock's page, when a new superblock came in at a page and another has a free object, or none.
-fn next_active(active: Option<u64>, free: Option<u64>, page: u64) -> Option<u64>
-    ensures none { free ≡ None → result ≡ Some page }
-    ensures some { (other : ℕ) → free ≡ Some other → result ≡ active }
+/// The active superblock's page, when a new superblock came in at a page and so many objects of the others are free.
+fn next_active(active: Option<u64>, left: u64, page: u64) -> Option<u64>
+    ensures none { left ≡ 0 → result ≡ Some page }
+    ensures some { 0 < left → result ≡ active }
 {
-    match free {
-        Some(_) => active,
-        None => Some(page),
-    }
+    if left == 0 { Some(page) } else { active }
 }

@@ -60,8 +60,8 @@ fn grow(r: &Region, pages: &mut Pages, pool: &mut Pool) -> Option<Chunk>
     }
 }
 
-/// Takes objects as long as there are, up to `n`, then takes in a superblock, and gives the objects back, the last first: how many they
-/// were, how many superblocks went out, and the first object of the new one.
+/// Takes objects as long as there are, up to `n`, then takes in a superblock, and gives the objects back, the last
+/// first: how many they were, how many superblocks went out, and the first object of the new one.
 fn fill(r: &Region, pages: &mut Pages, pool: &mut Pool, n: u32) -> (u32, u32, Option<Chunk>)
     requires here { (pages.old.region ≡ r.now) × (pool.old.region ≡ r.now) }
     requires over { IsOver pool.old.layout pages.old.first pages.old.state.pages }
