@@ -1,6 +1,7 @@
--- Where the words of an area stand, before its pages: a head, of which the first word has the number of pages; a run word for each page; a
--- control record for each page; and for each size class a bit for each page, in whole words. (dsa.c has its control object, the page map
--- and freepage.c's manager at the head of a segment; this order is our own.)
+-- Where the words of an area stand, before its pages: a head, of which the first word has the number of pages; a run
+-- word for each page; a control record for each page; and for each size class a bit for each page, in whole words.
+-- (dsa.c has its control object, the page map and freepage.c's manager at the head of a segment; this order is our
+-- own.)
 use Rattle.std.specs.Prelude.{◌≡◌, ℕ, ◌+◌, ◌*◌, ◌-◌, ◌/◌, Bool, true, false, Option, Some, None}
 use Rattle.atomic_table.specs.Seated.{TableId}
 use Rattle.word_map.specs.WordMap.{HasJust}

@@ -43,13 +43,14 @@ pub record PagesState : Type 0 where
   pub pages : ℕ
   pub granted : List Granted
 
--- a call: n pages, with their control records or not; or a run, by its first word, its pages, and whether its records are with it
+-- a call: n pages, with their control records or not; or a run, by its first word, its pages, and whether its records
+-- are with it
 pub data PagesCall : Type 0 where
   Take : ℕ → Bool → PagesCall
   Give : ℕ → ℕ → Bool → PagesCall
 
--- a reply: the first word of the run that is granted; or the pages that were wanted, and the longest run of free ones; the run is taken
--- back; or it is handed back
+-- a reply: the first word of the run that is granted; or the pages that were wanted, and the longest run of free ones;
+-- the run is taken back; or it is handed back
 pub data PagesReply : Type 0 where
   Gets : ℕ → PagesReply
   Lacks : ℕ → ℕ → PagesReply

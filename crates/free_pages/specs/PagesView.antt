@@ -35,8 +35,8 @@ pages_view_code = code_by (TableId × (ℕ × (ℕ × List Granted))) (coded× t
 abbrev pub HasKept : WordMap → ℕ → ℕ → ℕ → (ℕ → Bool) → Type 0
 HasKept m from unit pages out = (k : ℕ) → is_some (at m k) ≡ (is_within from (unit * pages) k && not (out ((k - from) / unit)))
 
--- The parts of `Pages`: `runs` has the words at the head and the run words, for good; `words` has the words of the pages that are not
--- granted; `records` has the control records that are not out with a run
+-- The parts of `Pages`: `runs` has the words at the head and the run words, for good; `words` has the words of the
+-- pages that are not granted; `records` has the control records that are not out with a run
 pub record IsPages (first pages heads : ℕ) (runs words records : Owned) : Type 0 where
   pub words_here : words.region ≡ runs.region
   pub records_here : records.region ≡ runs.region
@@ -56,8 +56,8 @@ pub record IsRunOf (region : TableId) (first pages n : ℕ) (control : Bool) (pl
   pub here : words.region ≡ region
   pub records_are : HasRecords region first pages from n control records
 
--- the tokens of a run that may be offered: where its place is that of some of these pages, the control records with it are those of its
--- pages
+-- the tokens of a run that may be offered: where its place is that of some of these pages, the control records with it
+-- are those of its pages
 pub record MayGive (region : TableId) (first pages place run_pages : ℕ) (words : Owned) (records : Option Owned) : Type 0 where
   pub here : words.region ≡ region
   pub records_are : (from : ℕ) → place ≡ first + page_words * from → from + run_pages ≤ pages → HasRecords region first pages from run_pages (is_some records) records

@@ -1,9 +1,10 @@
 //! The pages of an area: which runs of them are granted, and the words of those that are not.
 //!
-//! `Pages` owns the 64 words at the head of the area and the run words for good, and the words and the control records of each page
-//! that is not granted. Nobody else changes a run word. A granted run takes the words of its pages with it, and its control records
-//! where they are asked for; `give` takes the same tokens back. What the parts own is `IsPages` of `specs/PagesView.antt`: one equation for
-//! each word, whether it is kept. What the calls answer is `IsLegal` of `specs/Legal.antt`.
+//! `Pages` owns the 64 words at the head of the area and the run words for good, and the words and the control records
+//! of each page that is not granted. Nobody else changes a run word. A granted run takes the words of its pages with
+//! it, and its control records where they are asked for; `give` takes the same tokens back. What the parts own is
+//! `IsPages` of `specs/PagesView.antt`: one equation for each word, whether it is kept. What the calls answer is
+//! `IsLegal` of `specs/Legal.antt`.
 ghost use Rattle.std.specs.Prelude.{◌≡◌, ℕ, ◌+◌, ◌*◌, ◌-◌, ◌/◌, ◌<◌, ◌≤◌, ◌^◌, [], ◌≢◌, MatchResult, IfOk, IfErr, Some, IfSome, IsSome, is_some};
 ghost use Rattle.word_map.specs.WordMap.{at as word_at, HasJust};
 ghost use Rattle.free_pages.specs.Area.{front, control_words, head_words, page_words};
@@ -17,7 +18,8 @@ use region_words::{Part, Region, Run};
 use rel_pointer::RelPtr;
 use std::marker::Model;
 
-/// There are not as many pages in a row that are not granted: the pages that were wanted, and those of the longest run that is free.
+/// There are not as many pages in a row that are not granted: the pages that were wanted, and those of the longest run
+/// that is free.
 #[derive(Drop)]
 pub struct NoRun {
     /// The pages that were wanted.
@@ -26,7 +28,8 @@ pub struct NoRun {
     pub largest: u32,
 }
 
-/// The pages of an area. Contracts see the region, the first word of page 0, how many pages there are, and the granted runs.
+/// The pages of an area. Contracts see the region, the first word of page 0, how many pages there are, and the granted
+/// runs.
 #[derive(Drop)]
 pub struct Pages {
     /// The first word of page 0.
@@ -59,8 +62,8 @@ impl Model for Pages {
 }
 
 impl Pages {
-    /// The pages of an area whose page 0 begins at `first`, all free. `words` is the pages' words; `control` is the first
-    /// `HEAD_WORDS + control_words(pages)` words of the area, whatever they hold. Writes each run word once.
+    /// The pages of an area whose page 0 begins at `first`, all free. `words` is the pages' words; `control` is the
+    /// first `HEAD_WORDS + control_words(pages)` words of the area, whatever they hold. Writes each run word once.
     pub fn new(r: &Region, first: RelPtr, pages: u32, words: Part, control: Part) -> Pages
         requires here { (words.region ≡ r.now) × (control.region ≡ r.now) }
         requires place { (head_words + front pages ≤ first) × (first + page_words * pages ≤ 2 ^ 26) }
@@ -94,8 +97,9 @@ impl Pages {
         }
     }
 
-    /// Any `n` pages in a row that are free, with their control records where `control` is true. Walks from run to run, from the
-    /// first free page to the first free run of `n` pages, and makes one of the free runs that touch on its way.
+    /// Any `n` pages in a row that are free, with their control records where `control` is true. Walks from run to run,
+    /// from the first free page to the first free run of `n` pages, and makes one of the free runs that touch on its
+    /// way.
     pub fn take(&mut self, r: &Region, n: u32, control: bool) -> Result<Run, NoRun>
         requires here { self.old.region ≡ r.now }
         requires some { 1 ≤ n }
@@ -142,8 +146,8 @@ impl Pages {
         })
     }
 
-    /// Takes a granted run back. Hands it back where no granted run has its first page, its length and its records or lack of them.
-    /// Looks at one run word.
+    /// Takes a granted run back. Hands it back where no granted run has its first page, its length and its records or
+    /// lack of them. Looks at one run word.
     pub fn give(&mut self, r: &Region, run: Run) -> Result<(), Run>
         requires here { self.old.region ≡ r.now }
         requires run { MayGive self.old.region self.old.first self.old.state.pages run.at run.pages run.words run.control }
@@ -181,7 +185,8 @@ impl Pages {
         Ok(())
     }
 
-    /// The pages of the longest run that is free; 0 where no page is. Walks once over all runs from the first free page on.
+    /// The pages of the longest run that is free; 0 where no page is. Walks once over all runs from the first free page
+    /// on.
     pub fn largest(&mut self, r: &Region) -> u32
         requires here { self.old.region ≡ r.now }
         ensures same { self.new ≡ self.old }

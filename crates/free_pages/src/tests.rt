@@ -62,7 +62,8 @@ fn no_run_of_others(
     }
 }
 
-/// The longest free run while a run is out, what is said of one page more then, and the longest free run after the run came back.
+/// The longest free run while a run is out, what is said of one page more then, and the longest free run after the run
+/// came back.
 fn while_out(r: &Region, pages: &mut Pages, n: u32) -> Option<(u32, Option<NoRun>, u32)>
     requires here { pages.old.region ≡ r.now }
     requires some { 1 ≤ n }

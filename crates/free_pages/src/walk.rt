@@ -1,6 +1,7 @@
 //! The run words: how runs of pages are found, cut, marked and joined. `heads` is the place of page 0's run word.
 //!
-//! Each function keeps `IsRuns`: the run words part the pages into runs. Only `grant` and `release` change which runs are granted.
+//! Each function keeps `IsRuns`: the run words part the pages into runs. Only `grant` and `release` change which runs
+//! are granted.
 ghost use Rattle.std.specs.Prelude.{◌≡◌, ℕ, ◌+◌, ◌*◌, ◌/◌, ◌%◌, ◌<◌, ◌≤◌, ◌^◌, ◌⊎◌, IsSome, Some, ◌==◌, cond, true, false, List};
 ghost use Rattle.word_map.specs.WordMap.{at as word_at};
 ghost use Rattle.free_pages.specs.Legal.{IsFree, IsLargest, Adds, Granted};
@@ -85,7 +86,8 @@ fn skip(runs: &mut Part, r: &Region, heads: u64, pages: u64, filled: u64) -> u64
     at
 }
 
-/// The page of the first free run of `n` pages and its pages, or `pages` and the longest run's. Every page before `filled` is granted.
+/// The page of the first free run of `n` pages and its pages, or `pages` and the longest run's. Every page before
+/// `filled` is granted.
 fn seek(runs: &mut Part, r: &Region, heads: u64, pages: u64, filled: u64, n: u64) -> (u64, u64)
     requires here { runs.old.region ≡ r.now }
     requires small { heads + pages < 2 ^ 27 }
