@@ -38,16 +38,6 @@ value_is left opens o xs value times at is here last h two a b =
     let parts = total_two (xs 0) two in
     omega arith
 
--- a list of two, popped twice
-pub both : {A : Type 0} (all xs ys : List A) (zero one : A) → all ≡ xs ++ one ∷ [] → xs ≡ ys ++ zero ∷ [] → length all ≡ 2 → (get_elem? all 0 ≡ some zero) × (get_elem? all 1 ≡ some one)
-both {A} all xs [] zero one e f len = let is : all ≡ zero ∷ one ∷ [] = e ∙ ap (λ (m : List A). m ++ one ∷ []) f in (ap (λ (m : List A). get_elem? m 0) is, ap (λ (m : List A). get_elem? m 1) is)
-both all xs (y ∷ ys) zero one e f len = absurd (omega (arith, ap length e, ap length f, length-append xs (one ∷ []), length-append (y ∷ ys) (zero ∷ [])))
-
--- a list of one, popped
-pub only : {A : Type 0} (all xs : List A) (x : A) → all ≡ xs ++ x ∷ [] → length all ≡ 1 → get_elem? all 0 ≡ some x
-only {A} all [] x e len = ap (λ (m : List A). get_elem? m 0) e
-only all (y ∷ ys) x e len = absurd (omega (arith, ap length e, length-append (y ∷ ys) (x ∷ [])))
-
 pub has_some : (w : Maybe ℕ) (x : ℕ) → w ≡ Some x → IsSome w
 has_some w x e = subst (λ (v : Maybe ℕ). IsSome v) (sym e) refl
 

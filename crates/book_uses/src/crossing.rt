@@ -1,7 +1,11 @@
-//! What crosses threads: a struct over shelves by reference, and a struct over passes by value, generic or not.
+//! What crosses threads: a struct over shelves by reference, and a struct over passes by value, generic or not. At the end
+//! both shelves are closed, with no list of the passes of each.
+ghost use Rattle.std.specs.Prelude.{◌≡◌, [], ◌∷◌};
+ghost use Rattle.lock_book.specs.Shown.{Belongs, Ended, callers_of, number_of};
+
 use crate::counter::Counter;
 use crate::numbered::{Numbered, Tag};
-use lock_book::{Kept, Pass, Shelf};
+use lock_book::{Closed, Joined, Kept, Pass, Shelf};
 use std::thread::{Threads, join};
 
 /// Two shelves, as a structure above `lock_book` has them.
@@ -37,6 +41,39 @@ pub fn cross<R: Threads + Sync, O: Tag>(
 
 fn through<O: Tag>(_cabinet: &Cabinet<O>, passes: CabinetPass<O>) -> CabinetPass<O> {
     passes
+}
+
+/// Ends a shelf of two callers.
+pub fn end_two<T: Kept>(shelf: Shelf<T>, zero: Pass<T>, one: Pass<T>) -> Closed<T>
+    requires callers { callers_of shelf ≡ 2 }
+    requires zero { Belongs shelf zero × (number_of zero ≡ 0) }
+    requires one { Belongs shelf one × (number_of one ≡ 1) }
+    ensures { Ended shelf (zero ∷ one ∷ []) result }
+{
+    let last = Joined::new(&shelf, one);
+    let all = last.join(&shelf, zero);
+    shelf.close_joined(all)
+}
+
+/// Ends both shelves of a cabinet of two callers. It takes no memory.
+pub fn close_both<O: Tag>(
+    cabinet: Cabinet<O>,
+    zero: CabinetPass<O>,
+    one: CabinetPass<O>,
+) -> (Closed<Counter>, Closed<Numbered<O>>)
+    requires callers { (callers_of cabinet.tallies ≡ 2) × (callers_of cabinet.drawers ≡ 2) }
+    requires zero_own { Belongs cabinet.tallies zero.tallies × Belongs cabinet.drawers zero.drawers }
+    requires one_own { Belongs cabinet.tallies one.tallies × Belongs cabinet.drawers one.drawers }
+    requires zero { (number_of zero.tallies ≡ 0) × (number_of zero.drawers ≡ 0) }
+    requires one { (number_of one.tallies ≡ 1) × (number_of one.drawers ≡ 1) }
+    ensures tallies { Ended cabinet.tallies (zero.tallies ∷ one.tallies ∷ []) result.0 }
+    ensures drawers { Ended cabinet.drawers (zero.drawers ∷ one.drawers ∷ []) result.1 }
+{
+    let Cabinet { tallies, drawers } = cabinet;
+    (
+        end_two(tallies, zero.tallies, one.tallies),
+        end_two(drawers, zero.drawers, one.drawers),
+    )
 }
 
 /// The same at one tag.

@@ -1,11 +1,12 @@
-//! Callers of `lock_book`, kept so that its surface is proved where it is used: a counter that two threads add to, and a
-//! drawer that holds a part of a region, behind a generic wrapper.
+//! Callers of `lock_book`, kept so that its surface is proved where it is used: a counter that two threads add to, a
+//! drawer that holds a part of a region, behind a generic wrapper, and an object of the user's behind another.
 #![tactic(auto)]
 
 mod asks;
 mod counter;
 mod crossing;
 mod drawer;
+mod guarded;
 mod numbered;
 mod round;
 #[cfg(test)]
@@ -14,8 +15,9 @@ mod twice;
 
 pub use asks::{Answer, Ask, Call, DrawerName, Reply};
 pub use counter::Counter;
-pub use crossing::{Cabinet, CabinetPass, Lent, One, cross};
+pub use crossing::{Cabinet, CabinetPass, Lent, One, close_both, cross, end_two};
 pub use drawer::Drawer;
+pub use guarded::{Guarded, Object, advance, called_by_two, called_once};
 pub use numbered::{Numbered, Tag};
 pub use round::{put_in, round_trip, take_out};
 pub use twice::{added_by_two, closed_by_two};

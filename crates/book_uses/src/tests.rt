@@ -4,9 +4,12 @@ ghost use mathlib.Core.Option.{some};
 ghost use lib.ListN.{get_elem?};
 ghost use Rattle.word_map.specs.WordMap.{at as word_at};
 ghost use Rattle.lock_book.specs.History.{last_of};
-ghost use Rattle.lock_book.specs.Shown.{Belongs, callers_of, count_of, opens_of, seen_of};
+ghost use Rattle.lock_book.specs.Shown.{Belongs, callers_of, count_of, number_of, opens_of, seen_of};
 
-use crate::{Numbered, Tag, added_by_two, put_in, round_trip, take_out};
+use crate::{
+    Guarded, Numbered, Object, Tag, added_by_two, called_by_two, called_once, end_two, put_in,
+    round_trip, take_out,
+};
 use lock_book::{Pass, Shelf};
 use region_words::{Part, Region};
 use std::alloc::{AllocError, Global};
@@ -71,5 +74,60 @@ fn a_part_goes_in_and_comes_out(rt: HostRuntime) -> Result<(), Fail> {
     assert_eq!(rt; taken.1, 77);
     let none = take_out(&rt, &region, &shelf, &mut pass, 1);
     assert!(rt; none.is_none());
+    Ok(())
+}
+
+// A number that each call raises to itself at least.
+struct Most;
+
+impl Object for Most {
+    ghost use Rattle.std.specs.Prelude.{nat_lt, if◌then◌else◌};
+
+    type State = u64;
+
+    type Call = u64;
+
+    ghost stepped = { λ s c. if nat_lt s c then c else s };
+
+    fn step(state: &u64, call: &u64) -> u64 {
+        if *state < *call { *call } else { *state }
+    }
+}
+
+// A shelf of one such number, and the passes of two callers.
+fn one_most(
+    alloc: Global,
+) -> Result<
+    (
+        Shelf<Guarded<Most>>,
+        Pass<Guarded<Most>>,
+        Pass<Guarded<Most>>,
+    ),
+    AllocError,
+>
+    ensures shelf { IfOk result (λ r. (0 < count_of r.0) × (callers_of r.0 ≡ 2)) }
+    ensures zero { IfOk result (λ r. Belongs r.0 r.1 × (number_of r.1 ≡ 0)) }
+    ensures one { IfOk result (λ r. Belongs r.0 r.2 × (number_of r.2 ≡ 1)) }
+{
+    let mut values = Vec::new(alloc);
+    values.push(Guarded::new(3))?;
+    let (shelf, mut passes) = Shelf::new(alloc, values, 2)?;
+    let Some(one) = passes.pop() else {
+        unreachable!()
+    };
+    let Some(zero) = passes.pop() else {
+        unreachable!()
+    };
+    Ok((shelf, zero, one))
+}
+
+#[test]
+fn two_threads_raise_a_number(rt: HostRuntime) -> Result<(), Fail> {
+    let (shelf, zero, one) = one_most(rt.alloc())?;
+    let (mut zero, one) = called_by_two(&rt, &shelf, zero, one, 5, 9);
+    assert_eq!(rt; called_once(&rt, &shelf, &mut zero, 7), 9);
+    let mut closed = end_two(shelf, zero, one);
+    let last = closed.take_last().ok_or("no value")?;
+    assert_eq!(rt; last.state, 9);
     Ok(())
 }

@@ -1,7 +1,8 @@
 use Rattle.std.proofs.Common.{◌∙◌, sym, ap, arith, length}
 use Rattle.lock_book.specs.History.{last_of}
 use Rattle.book_uses.specs.Drawers.{held_word}
-use Rattle.book_uses.proofs.Sums.{first_of, only}
+use Rattle.lock_book.proofs.Uses.{only}
+use Rattle.book_uses.proofs.Sums.{first_of}
 use Rattle.book_uses.proofs.tests.one_drawer.Goals as goal
 
 pub returns-clause-own : goal.returns-clause-own

@@ -1,5 +1,5 @@
 use Rattle.std.proofs.Common.{◌∙◌}
-use Rattle.book_uses.proofs.Sums.{both}
+use Rattle.lock_book.proofs.Uses.{both}
 use Rattle.book_uses.proofs.twice.for_two.Goals as goal
 
 pub returns-clause-zero : goal.returns-clause-zero
