@@ -1,9 +1,9 @@
 -- The page before which every page is granted: how it moves on, and that it stays so.
-use Rattle.std.proofs.Common.{◌≡◌, ℕ, ◌+◌, ◌*◌, ◌/◌, ◌%◌, ◌<◌, ◌≤◌, Bool, true, false, cond, ◌||◌, List, ◌⊎◌, ⊎_elim, refl, sym, ap, subst, ◌∙◌, arith}
+use Rattle.std.proofs.Common.{◌≡◌, ℕ, ◌+◌, ◌*◌, ◌/◌, ◌%◌, ◌<◌, ◌≤◌, Bool, true, false, cond, ◌||◌, List, ◌⊎◌, ⊎_elim, sym, ap, subst, ◌∙◌, arith}
 use Rattle.std.proofs.lemmas.Bool.{cases_lt, both_ways, or_right, false_from_ne_true}
 use Rattle.word_map.specs.WordMap.{WordMap, is_within}
 use Rattle.word_map.proofs.Maps.{within_is}
-use Rattle.free_pages.specs.Legal.{Granted, Adds, IsFree, is_taken}
+use Rattle.free_pages.specs.Legal.{Granted, Adds, is_taken}
 use Rattle.free_pages.specs.Runs.{IsRuns, IsBest, IsFilled, KeepsHeads, granted_in, run_word}
 use Rattle.free_pages.proofs.Lists.{of_taken, word_of}
 use Rattle.free_pages.proofs.Keys.{taken_more}
