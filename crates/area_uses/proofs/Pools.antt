@@ -1,4 +1,5 @@
--- The pools of all classes in a list: one is looked at, changed, added at the end; and what a step on one of them leaves of the arena.
+-- The pools of all classes in a list: one is looked at, changed, added at the end; and what a step on one of them
+-- leaves of the arena.
 use Rattle.std.proofs.Common.{◌≡◌, ℕ, zero, suc, ◌+◌, ◌-◌, ◌/◌, ◌<◌, ◌≤◌, Bool, cond, Option, Some, None, is_some, IsSome, IfSome, IfNone, List, [], ◌∷◌, ◌++◌, length, get_or, set, length-set, sym, ap, subst, ◌∙◌, arith}
 use Rattle.std.proofs.lemmas.Bool.{false_from_ne_true, le-leb}
 use Rattle.atomic_table.specs.Seated.{TableId}

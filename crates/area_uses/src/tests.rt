@@ -1,8 +1,9 @@
-//! A walk of 2,000 requests over an area of 4,096 pages. Call i asks for `1 + (37 * i) % 20000` bytes, and the chunk of call i - 40 is
-//! given back after it. So 40 chunks are held at a time, objects of 33 of the classes and runs of three to five pages among them.
+//! A walk of 2,000 requests over an area of 4,096 pages. Call i asks for `1 + (37 * i) % 20000` bytes, and the chunk of
+//! call i - 40 is given back after it. So 40 chunks are held at a time, objects of 33 of the classes and runs of three
+//! to five pages among them.
 ghost use Rattle.std.specs.Prelude.{◌≡◌, ℕ, ◌+◌, ◌-◌, ◌/◌, ◌<◌, ◌^◌, All, IfOk, Some};
 ghost use Rattle.word_map.specs.WordMap.{at as word_at};
-ghost use Rattle.area_uses.specs.Arenas.{IsArena, IsHeld};
+ghost use Rattle.area_uses.specs.Arenas.{IsArena, IsHeld, first_word, page_count};
 
 use crate::{Arena, WORDS};
 use region_words::{Chunk, Region};
@@ -34,9 +35,9 @@ fn has_number(r: &Region, chunk: &mut Chunk, number: u64) -> bool
 
 /// Gives the chunk back that is held for the longest time. Says whether it has its number, and was taken back.
 fn give_back(r: &Region, arena: &mut Arena, held: &mut VecDeque<Chunk>, number: u64) -> bool
-    requires arena { IsArena r.now 35136 4096 arena.old.pages arena.old.pools.items }
+    requires arena { IsArena r.now first_word page_count arena.old.pages arena.old.pools.items }
     requires held { All (IsHeld r.now) held.old.items }
-    ensures arena { IsArena r.now 35136 4096 arena.new.pages arena.new.pools.items }
+    ensures arena { IsArena r.now first_word page_count arena.new.pages arena.new.pools.items }
     ensures held { All (IsHeld r.now) held.new.items }
 {
     let Some(mut chunk) = held.pop_front() else {
@@ -45,17 +46,18 @@ fn give_back(r: &Region, arena: &mut Arena, held: &mut VecDeque<Chunk>, number: 
     has_number(r, &mut chunk, number) && arena.free(r, chunk)
 }
 
-/// Call i: a chunk with the number i is held, and from call 40 on one is given back. Says whether all that went as it has to.
+/// Call i: a chunk with the number i is held, and from call 40 on one is given back. Says whether all that went as it
+/// has to.
 fn step(
     r: &Region,
     arena: &mut Arena,
     held: &mut VecDeque<Chunk>,
     i: u64,
 ) -> Result<bool, AllocError>
-    requires arena { IsArena r.now 35136 4096 arena.old.pages arena.old.pools.items }
+    requires arena { IsArena r.now first_word page_count arena.old.pages arena.old.pools.items }
     requires held { All (IsHeld r.now) held.old.items }
     requires few { i < 2 ^ 32 }
-    ensures arena { IsArena r.now 35136 4096 arena.new.pages arena.new.pools.items }
+    ensures arena { IsArena r.now first_word page_count arena.new.pages arena.new.pools.items }
     ensures held { All (IsHeld r.now) held.new.items }
 {
     let bytes = 1 + (37 * i) % 20000;
@@ -74,10 +76,10 @@ fn walk(
     held: &mut VecDeque<Chunk>,
     calls: u64,
 ) -> Result<bool, AllocError>
-    requires arena { IsArena r.now 35136 4096 arena.old.pages arena.old.pools.items }
+    requires arena { IsArena r.now first_word page_count arena.old.pages arena.old.pools.items }
     requires held { All (IsHeld r.now) held.old.items }
     requires few { calls < 2 ^ 32 }
-    ensures arena { IsArena r.now 35136 4096 arena.new.pages arena.new.pools.items }
+    ensures arena { IsArena r.now first_word page_count arena.new.pages arena.new.pools.items }
     ensures held { All (IsHeld r.now) held.new.items }
 {
     for i in 0..calls {
@@ -96,9 +98,9 @@ fn give_rest(
     from: u64,
     calls: u64,
 ) -> bool
-    requires arena { IsArena r.now 35136 4096 arena.old.pages arena.old.pools.items }
+    requires arena { IsArena r.now first_word page_count arena.old.pages arena.old.pools.items }
     requires held { All (IsHeld r.now) held.old.items }
-    ensures arena { IsArena r.now 35136 4096 arena.new.pages arena.new.pools.items }
+    ensures arena { IsArena r.now first_word page_count arena.new.pages arena.new.pools.items }
 {
     for i in from..calls {
         if !give_back(r, arena, held, i) {
@@ -110,7 +112,7 @@ fn give_rest(
 
 /// A region and the area in it.
 fn area(alloc: Global) -> Result<(Region, Arena), AllocError>
-    ensures { IfOk result (λ p. IsArena p.0 35136 4096 p.1.pages p.1.pools.items) }
+    ensures { IfOk result (λ p. IsArena p.0 first_word page_count p.1.pages p.1.pools.items) }
 {
     let (region, part) = Region::new(alloc, WORDS)?;
     let arena = Arena::new(alloc, &region, part)?;
