@@ -1,4 +1,4 @@
-use Rattle.std.proofs.Common.{◌≡◌, ◌+◌, ◌∙◌, [], ◌∷◌, ◌++◌, ap, arith, subst, sym, suc}
+use Rattle.std.proofs.Common.{◌≡◌, ◌+◌, ◌∙◌, [], ◌∷◌, ◌++◌, ap, arith, subst}
 use Rattle.lock_book.specs.History.{StartsWith, row_at}
 use Rattle.lock_book.specs.Ruled.{seen_at, view_of}
 use Rattle.lock_book.specs.Shown.{Belongs, number_of, seen_of}

@@ -1,6 +1,6 @@
-use Rattle.std.proofs.Common.{◌≡◌, ◌+◌, ◌∙◌, [], ◌∷◌, ap, arith, subst, sym}
+use Rattle.std.proofs.Common.{◌≡◌, ◌+◌, ◌∙◌, [], ◌∷◌, ap, arith, subst}
 use Rattle.lock_book.specs.History.{StartsWith, row_at}
-use Rattle.lock_book.specs.Ruled.{seen_at, view_of}
+use Rattle.lock_book.specs.Ruled.{seen_at}
 use Rattle.lock_book.specs.Shown.{Belongs, number_of, seen_of}
 use Rattle.lock_book.proofs.Histories.{starts_refl}
 use Rattle.lock_book.proofs.Closing.{one_row}

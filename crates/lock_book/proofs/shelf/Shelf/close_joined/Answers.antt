@@ -1,4 +1,4 @@
-use Rattle.std.proofs.Common.{◌∙◌, ap, arith, length, sym}
+use Rattle.std.proofs.Common.{◌∙◌, ap, arith, length}
 use Rattle.lock_book.proofs.Closing.{map_length}
 use Rattle.lock_book.proofs.Endings.{ended_of}
 use Rattle.lock_book.proofs.shelf.Shelf.close_joined.Goals as goal

@@ -1,4 +1,4 @@
-use Rattle.std.proofs.Common.{arith, ◌∙◌, sym, ap, subst, ℕ, zero-le, length, ◌<◌, ◌≤◌}
+use Rattle.std.proofs.Common.{arith, ◌∙◌, sym, ap, subst, zero-le, length, ◌≤◌}
 use Rattle.std.specs.Mem.Slots.{slots_len}
 use lib.ListN.{get_elem?}
 use Rattle.lock_book.specs.History.{last_of}
