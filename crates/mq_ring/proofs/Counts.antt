@@ -1,5 +1,5 @@
 -- How far one count is behind another, from their words; and where in the region a ring's words are.
-use Rattle.std.proofs.Common.{◌≡◌, ℕ, ◌+◌, ◌-◌, ◌%◌, ◌^◌, ◌<◌, ◌≤◌, sym, ap, subst, ◌∙◌, arith}
+use Rattle.std.proofs.Common.{◌≡◌, ℕ, ◌+◌, ◌-◌, ◌%◌, ◌^◌, ◌<◌, ◌≤◌, sym, ap, subst, ◌∙◌, arith, pow_mono}
 use Rattle.std.proofs.lemmas.Nat.{and_mask}
 use Rattle.std.specs.Int.Bits.{bit_and}
 use Rattle.atomic_table.specs.Seated.{TableId}
@@ -26,3 +26,7 @@ place_is t r base size max position n k lies e is =
     ap (λ (x : ℕ). position % x) lies.size_is ∙ ap (λ (x : ℕ). x % r.size) e ∙ cell_by_word r n lies.ring in
     let b = lies.base_is in
     omega arith
+
+-- a ring has few cells
+pub power_few : (words e : ℕ) → words ≡ 2 ^ e → e ≤ 20 → words ≤ 2 ^ 20
+power_few words e is low = subst (λ (n : ℕ). n ≤ 2 ^ 20) (sym is) (pow_mono {i = e} {j = 20} low)

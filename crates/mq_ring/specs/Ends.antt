@@ -11,8 +11,8 @@ use Rattle.region_rule.specs.View.{View, Sender, Receiver, Done, map_code}
 use Rattle.region_rule.specs.RingMap.{ring_map}
 use Rattle.region_words.specs.Parts.{IsSized}
 
--- the sender's end: its region, what it knows, what the receiver was at their last meeting, the words of the chunk behind the ring, and
--- the bytes of the whole chunk
+-- the sender's end: its region, what it knows, what the receiver was at their last meeting, the words of the chunk
+-- behind the ring, and the bytes of the whole chunk
 pub record SendingEnd : Type 0 where
   pub region : TableId
   pub end : Sending
@@ -34,7 +34,8 @@ pub record ReceivingEnd : Type 0 where
 abbrev pub receiving_end : TableId → Receiving → Option Sending → ReceivingEnd
 receiving_end region q told = record { region = region; end = q; told = told }
 
--- the two ends that came home: the last view of each, the words of the chunk behind the ring, and the bytes of the whole chunk
+-- the two ends that came home: the last view of each, the words of the chunk behind the ring, and the bytes of the
+-- whole chunk
 pub record EndsHome : Type 0 where
   pub region : TableId
   pub sender : Sending

@@ -1,4 +1,5 @@
 //! The two ends of a ring come home, and give their chunk back.
+
 ghost use Rattle.std.specs.Prelude.{◌≡◌};
 ghost use Rattle.word_map.specs.WordMap.{union};
 ghost use Rattle.ring_rule.specs.Ring.{AreEnds};
@@ -15,7 +16,8 @@ use region_words::{Chunk, Part, Region};
 use rel_pointer::RelPtr;
 use std::marker::Model;
 
-/// The two ends of a ring that came home. Contracts see the last view of each, and what the sender's end kept of the chunk.
+/// The two ends of a ring that came home. Contracts see the last view of each, and what the sender's end kept of the
+/// chunk.
 #[derive(Drop)]
 pub struct RingDone {
     seat: Seat<(), Known>,

@@ -1,4 +1,5 @@
 //! A ring is made of a chunk.
+
 ghost use Rattle.std.specs.Prelude.{◌≡◌, ◌≢◌, ℕ, ◌+◌, ◌*◌, ◌^◌, ◌<◌, ◌≤◌, [], None, false, IsTrue};
 ghost use Rattle.word_map.specs.WordMap.{rest_of, values_from};
 ghost use Rattle.ring_rule.specs.Ends.{first_sending, first_receiving};
@@ -19,8 +20,10 @@ use std::marker::Brand;
 pub struct Ring;
 
 /// Whether a ring may have that many cells: a power of two, up to 2^20. At most 21 steps.
+#[tactic(auto, using(crate::proofs::Counts::power_few))]
 pub fn is_ring_size(words: u64) -> bool
     ensures allowed { IsTrue result → (e : ℕ) × (words ≡ 2 ^ e) × (e ≤ 20) }
+    ensures few { IsTrue result → words ≤ 2 ^ 20 }
     ensures refused { result ≡ false → (e : ℕ) → e ≤ 20 → words ≢ 2 ^ e }
 {
     for e in 0..21u32 {
@@ -32,8 +35,8 @@ pub fn is_ring_size(words: u64) -> bool
 }
 
 impl Ring {
-    /// Makes a ring of the first `words + 3` words of a chunk, and keeps the rest of it in the sender's end. Both counts begin at `from`;
-    /// a message has at most `max` bytes. The cells keep what their words held.
+    /// Makes a ring of the first `words + 3` words of a chunk, and keeps the rest of it in the sender's end. Both
+    /// counts begin at `from`; a message has at most `max` bytes. The cells keep what their words held.
     pub fn create(r: &Region, chunk: Chunk, words: u64, from: u64, max: u32) -> (RingTx, RingRx)
         requires here { chunk.part.region ≡ r.now }
         requires power { (e : ℕ) × (words ≡ 2 ^ e) × (e ≤ 20) }
@@ -65,7 +68,7 @@ impl Ring {
     }
 }
 
-// The owner of a fresh ring becomes its two ends. `J` names the ring, since a cut can't take it as an argument.
+/// The owner of a fresh ring becomes its two ends. `J` names the ring, since a cut can't take it as an argument.
 fn part_ends<J: Shape>(
     r: &Region,
     mut seat: Seat<(), Known>,

@@ -1,4 +1,5 @@
 //! Where a word of a ring stands in the region.
+
 ghost use Rattle.std.specs.Prelude.{◌≡◌, ℕ, ◌+◌, ◌%◌, ◌^◌, ◌<◌, ◌≤◌};
 
 /// The word of the region that is the cell of a count's word.

@@ -1,4 +1,5 @@
 //! The receiver's end of a ring. It alone stores the read count.
+
 ghost use Rattle.std.specs.Prelude.{◌≡◌, ◌+◌, ◌<◌, ◌≤◌, false, true, length, IfSome, IsTrue};
 ghost use Rattle.ring_rule.specs.Frames.{IsFramed};
 ghost use Rattle.ring_rule.specs.Ring.{flag_word};
@@ -10,14 +11,15 @@ use region_rule::{GivesBack, Known, Leaves, LoadsFlag, LooksWritten, Takes};
 use region_words::Region;
 use std::marker::Model;
 
-/// The receiver's end of a ring. Contracts see its region, what it knows (`end`), and what the sender was at their last meeting (`told`).
+/// The receiver's end of a ring. Contracts see its region, what it knows (`end`), and what the sender was at their last
+/// meeting (`told`).
 #[derive(Drop)]
 pub struct RingRx {
     pub(crate) seat: Seat<(), Known>,
     pub(crate) base: u64,
     pub(crate) size: u64,
     pub(crate) max: u32,
-    // The word of the count of what was taken.
+    /// The word of the count of what was taken.
     pub(crate) position: u64,
 }
 
@@ -48,8 +50,8 @@ impl RingRx {
         self.max
     }
 
-    /// Loads the written count, and answers how many published words are not yet taken. Where the last look at the flag found it set, this
-    /// is the last count that the sender ever publishes.
+    /// Loads the written count, and answers how many published words are not yet taken. Where the last look at the flag
+    /// found it set, this is the last count that the sender ever publishes.
     pub fn look_written(&mut self, r: &Region) -> u64
         requires here { self.old.region ≡ r.now }
         requires stays { self.old.end.gone ≡ false }
@@ -63,7 +65,8 @@ impl RingRx {
         found.wrapping_sub(self.position)
     }
 
-    /// Takes the next word that was put. What was taken is a beginning of the frames of some messages, since what was put is.
+    /// Takes the next word that was put. What was taken is a beginning of the frames of some messages, since what was
+    /// put is.
     pub fn take(&mut self, r: &Region) -> u64
         requires here { self.old.region ≡ r.now }
         requires stays { self.old.end.gone ≡ false }
@@ -95,12 +98,13 @@ impl RingRx {
         r.store_as::<Leaves>(&mut self.seat, self.base + 2, 1);
     }
 
-    /// Loads the flag: whether the sender is gone.
+    /// Loads the flag: whether the sender is gone. A flag that was found set is found set from then on.
     pub fn look_flag(&mut self, r: &Region) -> bool
         requires here { self.old.region ≡ r.now }
         requires stays { self.old.end.gone ≡ false }
         ensures end { self.new ≡ record self.old { end = receiver_sees_flag self.old.end (flag_word result) } }
         ensures told { IfSome self.old.told (λ old. old.gone ≡ true → IsTrue result) }
+        ensures stays_set { self.old.end.flag_value ≡ 1 → IsTrue result }
     {
         r.load_as::<LoadsFlag>(&mut self.seat, self.base + 2) == 1
     }

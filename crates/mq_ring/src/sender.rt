@@ -1,4 +1,5 @@
 //! The sender's end of a ring. It alone stores the cells and the written count.
+
 ghost use Rattle.std.specs.Prelude.{◌≡◌, ◌+◌, ◌<◌, ◌≤◌, ◌++◌, ◌∷◌, [], false, true, length, IfSome, IsTrue};
 ghost use Rattle.ring_rule.specs.Frames.{IsFramed};
 ghost use Rattle.ring_rule.specs.Ring.{flag_word};
@@ -11,15 +12,15 @@ use region_rule::{Known, Leaves, LoadsFlag, LooksRead, Publishes, Puts};
 use region_words::Region;
 use std::marker::Model;
 
-/// The sender's end of a ring. Contracts see its region, what it knows (`end`), what the receiver was at their last meeting (`told`), and
-/// what it keeps of the chunk (`rest`, `bytes`).
+/// The sender's end of a ring. Contracts see its region, what it knows (`end`), what the receiver was at their last
+/// meeting (`told`), and what it keeps of the chunk (`rest`, `bytes`).
 #[derive(Drop)]
 pub struct RingTx {
     pub(crate) seat: Seat<(), Known>,
-    // A token of no words, which stands in the place of the receiver's while the ends are joined.
+    /// A token of no words, which stands in the place of the receiver's while the ends are joined.
     pub(crate) spare: Option<Seat<(), Known>>,
     pub(crate) site: Site,
-    // The word of the count of what was put.
+    /// The word of the count of what was put.
     pub(crate) position: u64,
 }
 
@@ -96,12 +97,13 @@ impl RingTx {
         r.store_as::<Leaves>(&mut self.seat, self.site.base + 2, 1);
     }
 
-    /// Loads the flag: whether the receiver is gone.
+    /// Loads the flag: whether the receiver is gone. A flag that was found set is found set from then on.
     pub fn look_flag(&mut self, r: &Region) -> bool
         requires here { self.old.region ≡ r.now }
         requires stays { self.old.end.gone ≡ false }
         ensures end { self.new ≡ record self.old { end = sender_sees_flag self.old.end (flag_word result) } }
         ensures told { IfSome self.old.told (λ old. old.gone ≡ true → IsTrue result) }
+        ensures stays_set { self.old.end.flag_value ≡ 1 → IsTrue result }
     {
         r.load_as::<LoadsFlag>(&mut self.seat, self.site.base + 2) == 1
     }

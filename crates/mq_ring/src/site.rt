@@ -1,11 +1,13 @@
 //! The chunk of a ring: where the ring lies, and the words of the chunk behind it, which the sender's end keeps.
+
 ghost use Rattle.std.specs.Prelude.{◌≡◌, ◌+◌, ◌-◌, ◌*◌, ◌/◌, ◌%◌, ◌<◌, ◌≤◌};
 ghost use Rattle.word_map.specs.WordMap.{HasJust};
 ghost use Rattle.region_words.specs.Parts.{HasJust-prop};
 
 use region_words::Part;
 
-/// The ring's place, its number of cells and its greatest message, the bytes of the whole chunk, and the part of its other words.
+/// The ring's place, its number of cells and its greatest message, the bytes of the whole chunk, and the part of its
+/// other words.
 #[derive(Drop)]
 pub(crate) struct Site {
     pub(crate) base: u64,
