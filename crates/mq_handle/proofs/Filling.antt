@@ -9,6 +9,7 @@ use Rattle.ring_rule.specs.Ends.{puts, publishes, looks_read}
 use Rattle.ring_rule.proofs.Messages.{framed_front}
 use Rattle.mq_ring.specs.Ends.{SendingEnd}
 use Rattle.mq_handle.specs.Held.{Counted}
+use Rattle.mq_handle.specs.Looking.{LooksForRoom}
 use Rattle.mq_handle.specs.Filling.{LacksRoom, Fills, enters, stores, finds_room, FillsUp}
 
 pub length-frame : (m : List ℕ) → length (frame m) ≡ suc (word_count (length m))
@@ -107,16 +108,12 @@ counted_put s free unpublished x c some =
     let l : length (s.put ++ (x ∷ [])) ≡ length s.put + 1 = length-append s.put (x ∷ []) in
     record { free_is = omega (arith, c.free_is); unpublished_is = omega (arith, c.unpublished_is); few = omega (arith, c.few); small = c.small }
 
--- one look where nothing fits, or none
-abbrev pub Looks : Sending → Sending → ℕ → ℕ → ℕ → Type 0
-Looks old new free_before free unpublished = ((new ≡ old) × (0 < free)) ⊎ ((free_before ≡ 0) × (unpublished ≡ 0) × (new ≡ looks_read (publishes old) new.room))
-
 lacks : (total : ℕ) (s : Sending) (free unpublished : ℕ) → Counted s free unpublished → free ≡ 0 → length s.put < total → LacksRoom total s
 lacks total s free unpublished c none less = (omega (arith, c.free_is), less)
 
 -- after a look that leaves room
 pub looked : (total : ℕ) (a b c : Sending) (free unpublished free' unpublished' : ℕ) → Fills total a b → Counted b free unpublished → Counted c free' unpublished' → length b.put < total → 0 < free'
-    → Looks b c free free' unpublished' → Fills total a c
+    → LooksForRoom b c free free' unpublished' → Fills total a c
 looked total a b c free unpublished free' unpublished' f n m less some_room l = ⊎_elim
     (λ (p : (c ≡ b) × (0 < free')). subst (Fills total a) (sym p.0) f)
     (λ (p : (free ≡ 0) × (unpublished' ≡ 0) × (c ≡ looks_read (publishes b) c.room)).
@@ -126,7 +123,7 @@ looked total a b c free unpublished free' unpublished' f n m less some_room l = 
     l
 
 -- a look stores no word
-pub looked_put : (b c : Sending) (free free' unpublished' : ℕ) → Looks b c free free' unpublished' → c.put ≡ b.put
+pub looked_put : (b c : Sending) (free free' unpublished' : ℕ) → LooksForRoom b c free free' unpublished' → c.put ≡ b.put
 looked_put b c free free' unpublished' l = ⊎_elim
     (λ (p : (c ≡ b) × (0 < free')). ap (λ (s : Sending). s.put) p.0)
     (λ (p : (free ≡ 0) × (unpublished' ≡ 0) × (c ≡ looks_read (publishes b) c.room)). ap (λ (s : Sending). s.put) p.2)
@@ -134,7 +131,7 @@ looked_put b c free free' unpublished' l = ⊎_elim
 
 -- after one that leaves none
 pub looked_full : (total : ℕ) (a b c : Sending) (free unpublished free' unpublished' : ℕ) → Fills total a b → Counted b free unpublished → Counted c free' unpublished' → length b.put < total → free' ≡ 0
-    → Looks b c free free' unpublished' → FillsUp total a c
+    → LooksForRoom b c free free' unpublished' → FillsUp total a c
 looked_full total a b c free unpublished free' unpublished' f n m less none l = ⊎_elim
     (λ (p : (c ≡ b) × (0 < free')). absurd (omega arith))
     (λ (p : (free ≡ 0) × (unpublished' ≡ 0) × (c ≡ looks_read (publishes b) c.room)).

@@ -208,7 +208,7 @@ pub grows_on : (a b c : List ℕ) → Grows a b → Grows b c → Grows a c
 grows_on a b c s t = (s.0 ++ t.0, t.1 ∙ ap (λ (z : List ℕ). z ++ t.0) s.1 ∙ append_assoc a s.0 t.0)
 
 pub takes_on : (a b c : Receiving) → Takes a b → Takes b c → Takes a c
-takes_on a b c s t = record { ring = t.ring ∙ s.ring; gone = t.gone ∙ s.gone; returned = t.returned ∙ s.returned; turn = let x = s.turn in let y = t.turn in omega arith; grows = grows_on a.taken b.taken c.taken s.grows t.grows }
+takes_on a b c s t = record { ring = t.ring ∙ s.ring; gone = t.gone ∙ s.gone; returned = t.returned ∙ s.returned; turn = let x = s.turn in let y = t.turn in omega arith; grows = grows_on a.taken b.taken c.taken s.grows t.grows; flag = λ e. t.flag (s.flag e) }
 
 -- only the end of a receiver's value changes
 abbrev pub OnlyEnd : ReceivingEnd → ReceivingEnd → Type 0

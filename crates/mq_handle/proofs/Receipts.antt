@@ -10,14 +10,14 @@ use Rattle.mq_handle.specs.Held.{IsTorn}
 use Rattle.mq_handle.specs.Receives.{IsReceived, returned_of}
 use Rattle.mq_handle.specs.ReceiveAnswers.{Gives, message_of}
 use Rattle.mq_handle.specs.Looking.{Finds}
-use Rattle.mq_handle.specs.Taking.{InHand, HasBytes, IsOpen, Takes}
+use Rattle.mq_handle.specs.Taking.{InHand, HasBytes, IsOpen, Takes, before_of}
 use Rattle.mq_handle.specs.declared.answers.ReceiveAnswer.{ReceiveAnswer}
 use Rattle.mq_handle.specs.declared.answers.ReceiveAnswer.TheVariants.{Message, WouldBlock, Detached}
 use Rattle.mq_handle.proofs.Decoding.{unpacked}
 use Rattle.mq_handle.proofs.Whole.{whole_is, left_is}
 use Rattle.mq_handle.proofs.Filling.{length-frame}
 use Rattle.mq_handle.proofs.Sends.{append_nothing, frames_more, fit_more, bytes_of_all, part_torn}
-use Rattle.mq_handle.proofs.Hands.{length-bytes, hand_low}
+use Rattle.mq_handle.proofs.Hands.{length-bytes, hand_low, base_same}
 
 hand_torn : (max : ℕ) (base taken buffer : List ℕ) (words len : ℕ) (h : InHand max base taken buffer words len) → IsOpen words len → IsTorn max h.part
 hand_torn max base taken buffer words len h o = go h.part refl
@@ -182,3 +182,18 @@ pub finds_same : (old new : Receiving) (ready : ℕ) (answer : ReceiveAnswer) �
 finds_same old new ready Message f = absurd f
 finds_same old new ready WouldBlock f = f.0.taken
 finds_same old new ready Detached f = f.0.taken
+
+pub finds_ring : (old new : Receiving) (ready : ℕ) (answer : ReceiveAnswer) → Finds old new ready (Some answer) → new.ring ≡ old.ring
+finds_ring old new ready Message f = absurd f
+finds_ring old new ready WouldBlock f = f.0.ring
+finds_ring old new ready Detached f = f.0.ring
+
+-- where no word was taken, the frame in hand is the same
+pub hand_same : (old new : Receiving) (base buffer : List ℕ) (words len words' len' : ℕ) → new.ring ≡ old.ring → new.taken ≡ old.taken → words' ≡ words → len' ≡ len
+    → InHand old.ring.max base old.taken buffer words len → InHand new.ring.max (before_of new words') new.taken buffer words' len'
+hand_same old new base buffer words len words' len' ring taken w l h =
+    let first = subst (λ (z : List ℕ). InHand old.ring.max z old.taken buffer words len) (sym (base_same old.ring.max base old.taken buffer words len h)) h in
+    let second = subst (λ (t : List ℕ). InHand old.ring.max (take (length t - words) t) t buffer words len) (sym taken) first in
+    let third = subst (λ (r : Ring). InHand r.max (take (length new.taken - words) new.taken) new.taken buffer words len) (sym ring) second in
+    let fourth = subst (λ (k : ℕ). InHand new.ring.max (take (length new.taken - k) new.taken) new.taken buffer k len) (sym w) third in
+    subst (λ (k : ℕ). InHand new.ring.max (before_of new words') new.taken buffer words' k) (sym l) fourth

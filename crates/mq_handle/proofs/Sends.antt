@@ -8,6 +8,7 @@ use Rattle.ring_rule.specs.Ring.{Ring, Sending}
 use Rattle.ring_rule.specs.Ends.{sender_sees_flag, publishes}
 use Rattle.mq_handle.specs.Messages.{first_of, whole_of, left_of}
 use Rattle.mq_handle.specs.Sends.{Continues, published_of, IsSent, IsBlocked, StaysOpen}
+use Rattle.mq_handle.specs.Waiting.{SendsOn}
 use Rattle.mq_handle.specs.Held.{IsTorn, InFrames}
 use Rattle.mq_handle.specs.Filling.{base_of, total_with, Fills, FillsUp, finishes}
 use Rattle.mq_handle.proofs.Decoding.{torn}
@@ -157,8 +158,8 @@ blocked_is s b stored k total message g f put low =
     }
 
 -- what a step after the load of the flag leaves open
-pub opens : (s b : Sending) (total x : ℕ) → s.gone ≡ false → Changed (sender_sees_flag s x) b total → StaysOpen s b
-opens s b total x stays c = record { ring = c.ring; stays = c.gone ∙ stays; turn = let t = c.turn in omega arith; put = c.grows }
+pub opens : (s b : Sending) (total x : ℕ) → s.gone ≡ false → (s.flag_value ≡ 1 → ⊥) → Changed (sender_sees_flag s x) b total → StaysOpen s b
+opens s b total x stays unset c = record { ring = c.ring; stays = c.gone ∙ stays; turn = let t = c.turn in omega arith; put = c.grows; flag = λ e. absurd (unset e) }
 
 choice : (flush : Bool) (s : Sending) (P : Sending → Type 0) → P s → P (publishes s) → P (finishes flush s)
 choice flush s P same published = go (flush || ltb (s.published + s.ring.size / 4) (length s.put))
@@ -175,7 +176,7 @@ pub finished_put : (flush : Bool) (s : Sending) → (finishes flush s).put ≡ s
 finished_put flush s = choice flush s (λ z. z.put ≡ s.put) refl refl
 
 pub finished_opens : (flush : Bool) (a s : Sending) → StaysOpen a s → StaysOpen a (finishes flush s)
-finished_opens flush a s o = choice flush s (StaysOpen a) o (record { ring = o.ring; stays = o.stays; turn = let t = o.turn in omega arith; put = o.put })
+finished_opens flush a s o = choice flush s (StaysOpen a) o (record { ring = o.ring; stays = o.stays; turn = let t = o.turn in omega arith; put = o.put; flag = o.flag })
 
 finished_count : (flush : Bool) (s : Sending) → (finishes flush s).published ≡ published_of flush (length s.put) s.published (s.ring.size / 4)
 finished_count flush s = go (flush || ltb (s.published + s.ring.size / 4) (length s.put))
@@ -233,3 +234,13 @@ chosen_false A B false e h = h
 pub chosen_true : (A B : Type 0) (b : Bool) → b ≡ true → MatchBool b A B → A
 chosen_true A B true e h = h
 chosen_true A B false e h = cc
+
+-- the last try of a send, and those before it
+pub stays_on : (a b c : Sending) (message : List ℕ) → SendsOn a b message → StaysOpen b c → StaysOpen a c
+stays_on a b c message on stays = record {
+  ring = stays.ring ∙ on.ring;
+  stays = stays.stays;
+  turn = let t = on.turn in let u = stays.turn in omega arith;
+  put = (on.put.0 ++ stays.put.0, stays.put.1 ∙ ap (λ (z : List ℕ). z ++ stays.put.0) on.put.1 ∙ append_assoc a.put on.put.0 stays.put.0);
+  flag = λ e. stays.flag (on.flag e);
+}

@@ -1,5 +1,5 @@
 -- The steps by which a try to send stores the words of a frame, each with its cause.
-use Rattle.std.specs.Prelude.{◌≡◌, ℕ, ◌+◌, ◌-◌, ◌<◌, ◌/◌, Bool, cond, ltb, ◌||◌, List, length, take}
+use Rattle.std.specs.Prelude.{◌≡◌, ℕ, ◌+◌, ◌-◌, ◌<◌, ◌/◌, Bool, MatchBool, cond, ltb, ◌||◌, List, length, take}
 use Rattle.ring_rule.specs.Frames.{frame}
 use Rattle.ring_rule.specs.Ring.{Sending}
 use Rattle.ring_rule.specs.Ends.{puts, publishes, looks_read}
@@ -17,8 +17,8 @@ total_with put message = length put - length (left_of put) + length (frame messa
 abbrev pub LacksRoom : ℕ → Sending → Type 0
 LacksRoom total s = (length s.put ≡ s.room + s.ring.size) × (length s.put < total)
 
--- the steps of a sender's end up to an end at which words may be left: a word is stored; or, where it lacks room, it publishes all that it
--- put, then looks at the read count, and finds that there is room again
+-- the steps of a sender's end up to an end at which words may be left: a word is stored; or, where it lacks room, it
+-- publishes all that it put, then looks at the read count, and finds that there is room again
 pub data Fills (total : ℕ) (old : Sending) : Sending → Type 0 where
   enters : Fills total old old
   stores : (s : Sending) (word : ℕ) → Fills total old s → Fills total old (puts s word)
@@ -27,6 +27,10 @@ pub data Fills (total : ℕ) (old : Sending) : Sending → Type 0 where
 -- they end with a look that found no room
 abbrev pub FillsUp : ℕ → Sending → Sending → Type 0
 FillsUp total old new = (s : Sending) × (n : ℕ) × Fills total old s × LacksRoom total s × (length s.put ≡ n + s.ring.size) × (new ≡ looks_read (publishes s) n)
+
+-- how words were stored: all of the frame, or as far as there was room
+abbrev pub FillsTo : Bool → ℕ → Sending → Sending → Type 0
+FillsTo done total old new = MatchBool done (Fills total old new) (FillsUp total old new)
 
 -- at the end of a message, all is published where that is asked for or more than a quarter of the ring is not published
 abbrev pub finishes : Bool → Sending → Sending

@@ -1,16 +1,23 @@
--- What a look for more words finds.
-use Rattle.std.specs.Prelude.{◌≡◌, ℕ, ◌<◌, ◌≤◌, Option, Some, None}
-use Rattle.ring_rule.specs.Ring.{Receiving}
+-- What a look for room, and one for more words, finds.
+use Rattle.std.specs.Prelude.{◌≡◌, ℕ, ◌+◌, ◌<◌, ◌≤◌, ◌⊎◌, Option, Some, None}
+use Rattle.ring_rule.specs.Ring.{Sending, Receiving}
+use Rattle.ring_rule.specs.Ends.{publishes, looks_read}
 use Rattle.mq_handle.specs.Receives.{IsWaiting, IsOver}
 use Rattle.mq_handle.specs.declared.answers.ReceiveAnswer.{ReceiveAnswer}
 use Rattle.mq_handle.specs.declared.answers.ReceiveAnswer.TheVariants.{Message, WouldBlock, Detached}
 
--- the end after a look: the words taken are the same, the ring too, and it stays open
+-- the sender looks for room only where no word fits by what it knows, and has published all before it does
+abbrev pub LooksForRoom : Sending → Sending → ℕ → ℕ → ℕ → Type 0
+LooksForRoom old new free_before free unpublished = ((new ≡ old) × (0 < free)) ⊎ ((free_before ≡ 0) × (unpublished ≡ 0) × (new ≡ looks_read (publishes old) new.room))
+
+-- the receiver after a look: the words taken are the same, the ring too, and it stays open
 pub record LooksOn (old new : Receiving) : Type 0 where
   pub ring : new.ring ≡ old.ring
   pub gone : new.gone ≡ old.gone
   pub taken : new.taken ≡ old.taken
   pub turn : old.turn ≤ new.turn
+  pub steps : new.turn ≤ old.turn + 3
+  pub flag : old.flag_value ≡ 1 → new.flag_value ≡ 1
 
 -- more words, or why there are none
 abbrev pub Finds : Receiving → Receiving → ℕ → Option ReceiveAnswer → Type 0

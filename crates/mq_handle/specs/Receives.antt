@@ -7,8 +7,8 @@ use Rattle.ring_rule.specs.Ring.{Sending, Receiving}
 use Rattle.ring_rule.specs.Codes.{sending_code, receiving_code}
 use Rattle.mq_handle.specs.Messages.{whole_of, left_of}
 
--- the receiving end of a queue: its region, what the ring's end knows, what the sender was at their last meeting, and the message that the
--- last receive call gave
+-- the receiving end of a queue: its region, what the ring's end knows, what the sender was at their last meeting, and
+-- the message that the last receive call gave
 pub record Incoming : Type 0 where
   pub region : TableId
   pub end : Receiving
@@ -22,7 +22,8 @@ abbrev pub incoming_code : Coded Incoming
 incoming_code = code_by (TableId × (Receiving × (Option Sending × List ℕ))) (coded× table_id_coded (coded× receiving_code (coded× (coded_option sending_code) (coded_list coded_ℕ))))
     (λ p. (p.region, (p.end, (p.told, p.message)))) (λ p. record { region = p.0; end = p.1.0; told = p.1.1.0; message = p.1.1.1 }) (λ _. refl)
 
--- the read count at the end of a message: all that was taken, where more than a quarter of the ring is above the count at entry
+-- the read count at the end of a message: all that was taken, where more than a quarter of the ring is above the count
+-- at entry
 abbrev pub returned_of : ℕ → ℕ → ℕ → ℕ
 returned_of taken returned quarter = cond (ltb (returned + quarter) taken) taken returned
 

@@ -21,7 +21,8 @@ HasBytes buffer (n ∷ tail) len = (len ≡ n) × ((i : ℕ) → i < n → i < 8
 abbrev pub IsBegun : ℕ → List ℕ → Type 0
 IsBegun max part = (part ≡ []) ⊎ ((message more : List ℕ) × IsMessage max message × (frame message ≡ part ++ more))
 
--- the frame in hand: it begins behind `base`, which is the frames of messages; that many of its words are taken, and their bytes are kept
+-- the frame in hand: it begins behind `base`, which is the frames of messages; that many of its words are taken, and
+-- their bytes are kept
 pub record InHand (max : ℕ) (base taken buffer : List ℕ) (words len : ℕ) : Type 0 where
   pub messages : List (List ℕ)
   pub part : List ℕ
@@ -47,6 +48,7 @@ pub record Takes (old new : Receiving) : Type 0 where
   pub returned : new.returned ≡ old.returned
   pub turn : old.turn ≤ new.turn
   pub grows : (rest : List ℕ) × (new.taken ≡ old.taken ++ rest)
+  pub flag : old.flag_value ≡ 1 → new.flag_value ≡ 1
 
 -- what a receiver keeps: the counts of its end, the frame in hand, whether its message is whole, and whether it is gone
 pub record IsReceiver (q : Receiving) (buffer : List ℕ) (words len ready unreturned : ℕ) (whole gone : Bool) : Type 0 where

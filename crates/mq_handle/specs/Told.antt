@@ -1,5 +1,6 @@
--- What an end finds once it has met the other. Each load of the flag finds it set where the other end had set it by then, and each load of a
--- count finds at least what the other end had published by then. A call that made several loads of a count tells of the last.
+-- What an end finds once it has met the other. Each load of the flag finds it set where the other end had set it by
+-- then, and each load of a count finds at least what the other end had published by then. A call that made several
+-- loads of a count tells of the last.
 use Rattle.std.specs.Prelude.{◌≡◌, ◌<◌, ◌≤◌, ◌⊎◌, true, Option, Some, None, IfSome}
 use Rattle.ring_rule.specs.Ring.{Sending, Receiving}
 use Rattle.mq_handle.specs.declared.answers.SendAnswer.{SendAnswer}
@@ -36,7 +37,8 @@ SawWords told new = IfSome told (λ s. s.published ≤ new.avail)
 abbrev pub WordsFound : Option Sending → Receiving → Receiving → Type 0
 WordsFound told old new = ((new.looked ≡ old.looked) × (new.avail ≡ old.avail)) ⊎ ((old.turn < new.looked) × SawWords told new)
 
--- what a try to send found: each loads the flag but the one that is too long, and one that would block has loaded the read count
+-- what a try to send found: each loads the flag but the one that is too long, and one that would block has loaded the
+-- read count
 abbrev pub SendFound : Option Receiving → Sending → Sending → SendAnswer → Type 0
 SendFound told old new Sent = SawReceiver told new × RoomFound told old new
 SendFound told old new (SendBlocks stored) = SawReceiver told new × SawRoom told new

@@ -11,13 +11,15 @@ use Rattle.mq_handle.specs.declared.answers.SendDone.TheVariants.{Sent, TooLong}
 use Rattle.mq_handle.specs.declared.answers.SendDone.TheVariants.{Detached as SendDetached}
 use Rattle.mq_handle.specs.declared.answers.ReceiveDone.TheVariants.{Message, Detached}
 
--- the end before the last try of a send: tries that would block went before it, and stored words of this message's frame
+-- the end before the last try of a send: tries that would block went before it, and stored words of this message's
+-- frame
 pub record SendsOn (old last : Sending) (message : List ℕ) : Type 0 where
   pub ring : last.ring ≡ old.ring
   pub whole : whole_of last.put ≡ whole_of old.put
   pub turn : old.turn ≤ last.turn
   pub put : (rest : List ℕ) × (last.put ≡ old.put ++ rest)
   pub part : Continues last.put message
+  pub flag : old.flag_value ≡ 1 → last.flag_value ≡ 1
 
 -- one that is too long is refused by its first try, before any step; else the last try decides
 abbrev pub EndsSend : Sending → Sending → List ℕ → Bool → SendDone → Type 0
@@ -31,6 +33,7 @@ pub record ReceivesOn (old last : Receiving) : Type 0 where
   pub whole : whole_of last.taken ≡ whole_of old.taken
   pub turn : old.turn ≤ last.turn
   pub grows : (rest : List ℕ) × (last.taken ≡ old.taken ++ rest)
+  pub flag : old.flag_value ≡ 1 → last.flag_value ≡ 1
 
 -- what the last try of a receive decides
 abbrev pub EndsReceive : Receiving → Receiving → List ℕ → ReceiveDone → Type 0

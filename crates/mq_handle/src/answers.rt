@@ -5,7 +5,8 @@
 pub enum SendAnswer {
     /// The message is on the ring.
     Sent,
-    /// The ring is full; that many words of the frame, its length word too, are on it. Call again with the same message.
+    /// The ring is full; that many words of the frame, its length word too, are on it. Call again with the same
+    /// message.
     WouldBlock { stored: u64 },
     /// The receiver has detached. Nothing was stored.
     Detached,

@@ -1,14 +1,18 @@
 //! A queue of messages over a ring of words, in the manner of shm_mq.c.
 //!
-//! A message lies on the ring as its length in one word and then its bytes in words, zero-padded. A message may be longer than the ring: a
-//! try that finds the ring full has stored a part, and the caller repeats the call with the same message. The sender publishes what it put
-//! at the end of a message where that is asked for or more than a quarter of the ring is unpublished, before it answers that it would
-//! block, and before it sets the flag; the receiver gives room back likewise. Each call is a row of steps on the ring's words, of which
-//! `mq_ring` says who may make them: the sender alone stores the cells and the written count, the receiver alone the read count, and each
-//! sets the flag as its last step. The ring's ends hold no list of messages; `specs/Messages.antt` reads it off the words (`whole_of`).
+//! A message lies on the ring as its length in one word and then its bytes in words, zero-padded. A message may be
+//! longer than the ring: a try that finds the ring full has stored a part, and the caller repeats the call with the
+//! same message. The sender publishes what it put at the end of a message where that is asked for or more than a
+//! quarter of the ring is unpublished, before it answers that it would block, and before it sets the flag; the receiver
+//! gives room back likewise. Each call is a row of steps on the ring's words, of which `mq_ring` says who may make
+//! them: the sender alone stores the cells and the written count, the receiver alone the read count, and each sets the
+//! flag as its last step. The ring's ends hold no list of messages; `specs/Messages.antt` reads it off the words
+//! (`whole_of`).
 //!
-//! `storing` puts words, `taking` and `looking` take them, `sender`, `receiver` and `waiting` are the calls over these, and `queue` makes
-//! a queue and brings its ends together.
+//! `storing` puts the words of a frame on the ring and `taking` takes them off it, `looking` looks for more room and for
+//! more words, `sending` and `receiving` are one try each, `sender`, `receiver` and `waiting` are the calls over these,
+//! and `queue` makes a queue and brings its ends together.
+
 #![tactic(auto)]
 
 mod answers;

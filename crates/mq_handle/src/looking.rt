@@ -1,13 +1,12 @@
-//! An end that can't go on by what it knows looks at what the other end has published. Where no more words fit, the sender publishes what
-//! it put and looks at the read count; where no more words may be taken, the receiver looks at the written count, then at the flag, and where
-//! this is set at the count once more.
+//! An end that can't go on by what it knows looks at what the other end has published. Where no more words fit, the
+//! sender publishes what it put and looks at the read count; where no more words may be taken, the receiver looks at
+//! the written count, then at the flag, and where this is set at the count once more.
 
-ghost use Rattle.std.specs.Prelude.{◌≡◌, ◌<◌, ◌⊎◌, false};
+ghost use Rattle.std.specs.Prelude.{◌≡◌, ◌<◌, false};
 ghost use Rattle.mq_handle.specs.Taking.{Ready};
-ghost use Rattle.mq_handle.specs.Looking.{Finds};
+ghost use Rattle.mq_handle.specs.Looking.{LooksForRoom, Finds};
 ghost use Rattle.mq_handle.specs.Told.{LookFound, SawRoom, RoomFound};
 ghost use Rattle.mq_handle.specs.Held.{Counted};
-ghost use Rattle.ring_rule.specs.Ends.{looks_read, publishes};
 
 use crate::answers::ReceiveAnswer;
 use crate::storing::Stored;
@@ -23,7 +22,7 @@ pub(crate) fn look_for_room(tx: &mut RingTx, r: &Region, counts: Stored) -> Stor
     ensures kept { tx.new ≡ record tx.old { end = tx.new.end } }
     ensures stored { result.words ≡ counts.words }
     ensures counted { Counted tx.new.end result.free result.unpublished }
-    ensures looks { ((tx.new.end ≡ tx.old.end) × (0 < result.free)) ⊎ ((counts.free ≡ 0) × (result.unpublished ≡ 0) × (tx.new.end ≡ looks_read (publishes tx.old.end) tx.new.end.room)) }
+    ensures looks { LooksForRoom tx.old.end tx.new.end counts.free result.free result.unpublished }
     ensures told { result.free ≡ 0 → SawRoom tx.old.told tx.new.end }
     ensures found { RoomFound tx.old.told tx.old.end tx.new.end }
 {

@@ -1,11 +1,12 @@
 //! The receiving end of a queue.
-ghost use Rattle.std.specs.Prelude.{◌≡◌, ◌+◌, ◌≤◌, ◌++◌, List, ℕ, false, true, [], length};
+
+ghost use Rattle.std.specs.Prelude.{◌≡◌, ◌+◌, ◌*◌, ◌≤◌, ◌++◌, List, ℕ, false, true, [], length};
 ghost use Rattle.rel_pointer.specs.Bytes.{word_count};
 ghost use Rattle.ring_rule.specs.Ring.{Receiving};
 ghost use Rattle.ring_rule.specs.Ends.{receiver_leaves};
 ghost use Rattle.mq_handle.specs.Held.{IsUnread};
 ghost use Rattle.mq_handle.specs.Receives.{incoming};
-ghost use Rattle.mq_handle.specs.ReceiveAnswers.{Gives};
+ghost use Rattle.mq_handle.specs.ReceiveAnswers.{Gives, steps_beside};
 ghost use Rattle.mq_handle.specs.Told.{ReceiveFound};
 
 use crate::answers::ReceiveAnswer;
@@ -15,8 +16,9 @@ use mq_ring::RingRx;
 use region_words::Region;
 use std::marker::Model;
 
-/// The receiving end of a queue. Contracts see the ring's end, of whose words `whole_of` gives the messages received, and the message of
-/// the last receive call. It owns a buffer for the greatest message. A receiver that is dropped tells the sender nothing: `detach` first.
+/// The receiving end of a queue. Contracts see the ring's end, of whose words `whole_of` gives the messages received,
+/// and the message of the last receive call. It owns a buffer for the greatest message. A receiver that is dropped
+/// tells the sender nothing: `detach` first.
 #[derive(Drop)]
 pub struct Receiver {
     pub(crate) rx: RingRx,
@@ -41,7 +43,7 @@ impl Model for Receiver {
 }
 
 impl Receiver {
-    // The receiving end over a ring from which nothing was taken, with a buffer for the greatest message.
+    /// The receiving end over a ring from which nothing was taken, with a buffer for the greatest message.
     pub(crate) fn new(rx: RingRx, buffer: Vec<u8>) -> Receiver
         requires unread { IsUnread rx.end }
         requires room { length buffer.items ≡ rx.end.ring.max }
@@ -64,9 +66,10 @@ impl Receiver {
         }
     }
 
-    /// Takes the next message off the ring, if a whole one is there, and a part of it otherwise. Each byte is copied once, from the ring to
-    /// the receiver's buffer, where the message before is lost. It costs one load a word and at most one store of the read count; each
-    /// time that the words known are used up, it loads the written count, and where there are no more the flag. It takes no memory.
+    /// Takes the next message off the ring, if a whole one is there, and a part of it otherwise. Each byte is copied
+    /// once, from the ring to the receiver's buffer, where the message before is lost. A word costs one load; each time
+    /// that the words known are used up, it loads the written count, and where there are no more the flag, and at the
+    /// end it may store the read count. It takes no memory.
     pub fn try_receive(&mut self, r: &Region) -> ReceiveAnswer
         requires here { self.old.region ≡ r.now }
         requires stays { self.old.end.gone ≡ false }
@@ -75,6 +78,8 @@ impl Receiver {
         ensures stays { self.new.end.gone ≡ false }
         ensures later { self.old.end.turn ≤ self.new.end.turn }
         ensures grows { (rest : List ℕ) × (self.new.end.taken ≡ self.old.end.taken ++ rest) }
+        ensures set { self.old.end.flag_value ≡ 1 → self.new.end.flag_value ≡ 1 }
+        ensures steps { self.new.end.turn + 4 * length self.old.end.taken ≤ self.old.end.turn + 4 * length self.new.end.taken + steps_beside result }
         ensures few { length self.new.end.taken ≤ length self.old.end.taken + word_count self.old.end.ring.max + 1 }
         ensures answer { Gives self.old.end self.new.end self.new.message result }
         ensures told { ReceiveFound self.old.told self.old.end self.new.end result }
@@ -86,8 +91,8 @@ impl Receiver {
         answer
     }
 
-    /// The message of the last receive call, where it answered Message; else nothing. It is lent from the receiver's buffer, without a
-    /// copy, up to the next receive call.
+    /// The message of the last receive call, where it answered Message; else nothing. It is lent from the receiver's
+    /// buffer, without a copy, up to the next receive call.
     pub fn message(&self) -> &[u8]
         ensures { result.now ≡ self.now.message }
     {
@@ -98,8 +103,8 @@ impl Receiver {
         }
     }
 
-    /// Tells the sender that nothing more is received; what is on the ring stays there. One store; afterwards the end can only meet, come
-    /// home and lend its last message. On a detached end it does nothing.
+    /// Tells the sender that nothing more is received; what is on the ring stays there. One store; afterwards the end
+    /// can only meet, come home and lend its last message. On a detached end it does nothing.
     pub fn detach(&mut self, r: &Region)
         requires here { self.old.region ≡ r.now }
         ensures first { self.old.end.gone ≡ false → self.new ≡ record self.old { end = receiver_leaves self.old.end } }
@@ -112,7 +117,7 @@ impl Receiver {
         self.gone = true;
     }
 
-    // The ring's end, for the way home.
+    /// The ring's end, for the way home.
     pub(crate) fn into_ring(self) -> RingRx
         ensures here { result.region ≡ self.region }
         ensures end { (result.end ≡ self.end) × (result.told ≡ self.told) }

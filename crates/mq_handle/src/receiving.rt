@@ -1,7 +1,8 @@
 //! One try to receive, by the ring's end.
-ghost use Rattle.std.specs.Prelude.{◌≡◌, ◌+◌, ◌-◌, ◌<◌, ◌≤◌, ◌++◌, List, ℕ, false, length};
+
+ghost use Rattle.std.specs.Prelude.{◌≡◌, ◌+◌, ◌-◌, ◌*◌, ◌<◌, ◌≤◌, ◌++◌, List, ℕ, false, length};
 ghost use Rattle.rel_pointer.specs.Bytes.{word_count};
-ghost use Rattle.mq_handle.specs.ReceiveAnswers.{Gives, message_of, HasPlace};
+ghost use Rattle.mq_handle.specs.ReceiveAnswers.{Gives, message_of, HasPlace, steps_beside};
 ghost use Rattle.mq_handle.specs.Told.{ReceiveFound};
 ghost use Rattle.mq_handle.specs.Taking.{Ready, InHand, IsOpen, before_of};
 
@@ -29,6 +30,8 @@ pub(crate) fn receive_frame(
     ensures stays { rx.new.end.gone ≡ false }
     ensures later { rx.old.end.turn ≤ rx.new.end.turn }
     ensures grows { (rest : List ℕ) × (rx.new.end.taken ≡ rx.old.end.taken ++ rest) }
+    ensures set { rx.old.end.flag_value ≡ 1 → rx.new.end.flag_value ≡ 1 }
+    ensures steps { rx.new.end.turn + 4 * length rx.old.end.taken ≤ rx.old.end.turn + 4 * length rx.new.end.taken + steps_beside result.1 }
     ensures few { length rx.new.end.taken ≤ length rx.old.end.taken + word_count rx.old.end.ring.max + 1 }
     ensures counted { Ready rx.new.end result.0.ready result.0.unreturned }
     ensures hand { InHand rx.new.end.ring.max (before_of rx.new.end result.0.words) rx.new.end.taken buffer.new result.0.words result.0.len }

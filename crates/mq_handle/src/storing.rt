@@ -1,17 +1,19 @@
 //! The words of a frame are stored one by one, with what the sender's end counts.
+
 ghost use Rattle.std.specs.Prelude.{◌≡◌, ◌+◌, ◌-◌, ◌*◌, ◌/◌, ◌<◌, ◌≤◌, ◌++◌, ◌⊎◌, ℕ, false, true, length, take, drop, slice_index, IsTrue, MatchBool, cond, ◌||◌, ltb};
 ghost use Rattle.rel_pointer.specs.Bytes.{word_count};
 ghost use Rattle.ring_rule.specs.Frames.{frame, IsFramed};
 ghost use Rattle.mq_handle.specs.Held.{Counted};
 ghost use Rattle.mq_handle.specs.Told.{SawRoom, RoomFound};
-ghost use Rattle.mq_handle.specs.Filling.{Fills, FillsUp, base_of, finishes};
+ghost use Rattle.mq_handle.specs.Filling.{FillsTo, base_of, finishes};
 
 use crate::looking::look_for_room;
 use mq_ring::RingTx;
 use region_words::Region;
 use rel_pointer::{pack, words_of};
 
-/// How many words of the frame in hand are stored, how many more words fit by the last look, and how many are not published.
+/// How many words of the frame in hand are stored, how many more words fit by the last look, and how many are not
+/// published.
 #[derive(Clone, Copy)]
 pub(crate) struct Stored {
     pub(crate) words: u64,
@@ -45,7 +47,7 @@ pub(crate) fn store_words(
     requires begins { tx.old.end.put ≡ base_of tx.old.end counts.words ++ take counts.words (frame message.now) }
     requires framed { IsFramed tx.old.end.ring.max (base_of tx.old.end counts.words ++ frame message.now) }
     ensures kept { tx.new ≡ record tx.old { end = tx.new.end } }
-    ensures steps { MatchBool result.1 (Fills (length (base_of tx.old.end counts.words ++ frame message.now)) tx.old.end tx.new.end) (FillsUp (length (base_of tx.old.end counts.words ++ frame message.now)) tx.old.end tx.new.end) }
+    ensures steps { FillsTo result.1 (length (base_of tx.old.end counts.words ++ frame message.now)) tx.old.end tx.new.end }
     ensures counted { Counted tx.new.end result.0.free result.0.unpublished }
     ensures put { tx.new.end.put ≡ base_of tx.old.end counts.words ++ take result.0.words (frame message.now) }
     ensures told { result.1 ≡ false → SawRoom tx.old.told tx.new.end }

@@ -1,4 +1,5 @@
 //! The words of a frame are taken one by one, and the bytes of each go to their place in the receiver's buffer.
+
 ghost use Rattle.std.specs.Prelude.{◌≡◌, ◌+◌, ◌-◌, ◌*◌, ◌/◌, ◌<◌, ◌≤◌, ◌++◌, ◌∷◌, [], ℕ, false, true, length, suc, slice_index, cond, MatchBool, MatchOption, IsTrue};
 ghost use Rattle.rel_pointer.specs.Bytes.{word_count, byte_of, is_of_word};
 ghost use Rattle.ring_rule.specs.Ends.{takes, gives_back, sees_written, receiver_sees_flag};
@@ -10,8 +11,8 @@ use mq_ring::RingRx;
 use region_words::Region;
 use rel_pointer::{unpack, words_of};
 
-/// How many words of the frame in hand are taken, the length of its message once the first of them is there, how many more words may be
-/// taken by the last look, and of how many the room was not given back.
+/// How many words of the frame in hand are taken, the length of its message once the first of them is there, how many
+/// more words may be taken by the last look, and of how many the room was not given back.
 #[derive(Clone, Copy)]
 pub(crate) struct Taken {
     pub(crate) words: u64,
@@ -44,6 +45,8 @@ fn take_word(rx: &mut RingRx, r: &Region, buffer: &mut [u8], taken: Taken) -> Ta
     requires room { length buffer.old ≡ rx.old.end.ring.max }
     ensures kept { rx.new ≡ record rx.old { end = rx.new.end } }
     ensures takes { Takes rx.old.end rx.new.end }
+    ensures steps { rx.new.end.turn + length rx.old.end.taken ≡ rx.old.end.turn + length rx.new.end.taken }
+    ensures words { result.words + length rx.old.end.taken ≡ taken.words + length rx.new.end.taken }
     ensures looks { (rx.new.end.looked ≡ rx.old.end.looked) × (rx.new.end.avail ≡ rx.old.end.avail) }
     ensures counted { Ready rx.new.end result.ready result.unreturned }
     ensures hand { InHand rx.new.end.ring.max (before_of rx.old.end taken.words) rx.new.end.taken buffer.new result.words result.len }
@@ -74,6 +77,8 @@ pub(crate) fn take_words(
     requires room { length buffer.old ≡ rx.old.end.ring.max }
     ensures kept { rx.new ≡ record rx.old { end = rx.new.end } }
     ensures takes { Takes rx.old.end rx.new.end }
+    ensures steps { rx.new.end.turn + length rx.old.end.taken ≡ rx.old.end.turn + length rx.new.end.taken }
+    ensures words { result.0.words + length rx.old.end.taken ≡ taken.words + length rx.new.end.taken }
     ensures looks { (rx.new.end.looked ≡ rx.old.end.looked) × (rx.new.end.avail ≡ rx.old.end.avail) }
     ensures counted { Ready rx.new.end result.0.ready result.0.unreturned }
     ensures hand { InHand rx.new.end.ring.max (before_of rx.old.end taken.words) rx.new.end.taken buffer.new result.0.words result.0.len }
@@ -100,6 +105,7 @@ pub(crate) fn finish_taking(rx: &mut RingRx, r: &Region, taken: Taken) -> Taken
     ensures returned { rx.new.end.returned ≡ returned_of (length rx.old.end.taken) rx.old.end.returned (rx.old.end.ring.size / 4) }
     ensures next { (result.words ≡ 0) × (result.len ≡ taken.len) }
     ensures later { rx.old.end.turn ≤ rx.new.end.turn }
+    ensures few { rx.new.end.turn ≤ rx.old.end.turn + 1 }
 {
     if taken.unreturned > rx.words() / 4 {
         rx.publish_read(r);

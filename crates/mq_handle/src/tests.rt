@@ -1,52 +1,44 @@
 //! Sends and receives in a row, and a stream between two threads.
-ghost use Rattle.std.specs.Prelude.{◌≡◌, ◌<◌, ◌≤◌, ◌*◌, ◌+◌, ◌^◌, [], false, true, ℕ, length, IsSome, IfSome, IsTrue};
-ghost use Rattle.word_map.specs.WordMap.{at as word_at};
+
+ghost use Rattle.std.specs.Prelude.{◌≡◌, ◌<◌, ◌≤◌, ◌*◌, ◌+◌, ◌^◌, [], false, true, length, IfSome, IsTrue};
 ghost use Rattle.mq_handle.specs.Messages.{left_of};
 ghost use Rattle.mq_handle.specs.Sends.{Continues};
 
 use crate::{
     ReceiveAnswer, ReceiveDone, Receiver, SendAnswer, SendDone, Sender, attach, home, meet,
 };
-use mq_ring::Ring;
-use region_words::{Chunk, Part, Region};
-use rel_pointer::RelPtr;
+use mq_ring::{Ring, is_ring_size};
+use region_words::{Chunk, Region};
 use std::alloc::Global;
 use std::sync::Wait;
 use std::thread::{Threads, join};
 
-/// A queue over the words behind word 0.
-fn queue_of(
-    alloc: Global,
-    r: &Region,
-    part: &mut Part,
-    words: u64,
-    from: u64,
-    max: u32,
-) -> Option<(Sender, Receiver)>
-    requires here { part.old.region ≡ r.now }
-    requires power { (e : ℕ) × (words ≡ 2 ^ e) × (e ≤ 20) }
+/// A new region, and in its words behind word 0 a queue.
+fn new_queue(alloc: Global, words: u64, from: u64, max: u32) -> Option<(Region, Sender, Receiver)>
     requires max { max ≤ 1048576 }
-    requires owns { (k : ℕ) → 1 ≤ k → k < 1 + (words + 3) → IsSome (word_at part.old.words k) }
-    ensures here { IfSome result (λ ends. (ends.0.region ≡ r.now) × (ends.1.region ≡ r.now)) }
-    ensures stays { IfSome result (λ ends. (ends.0.end.gone ≡ false) × (ends.1.end.gone ≡ false)) }
-    ensures fresh { IfSome result (λ ends. left_of ends.0.end.put ≡ []) }
-    ensures one_ring { IfSome result (λ ends. ends.0.end.ring ≡ ends.1.end.ring) }
-    ensures room { IfSome result (λ ends. (ends.0.bytes ≡ 8 * (words + 3)) × (ends.0.end.ring.max ≡ max)) }
+    ensures here { IfSome result (λ made. (made.1.region ≡ made.0) × (made.2.region ≡ made.0)) }
+    ensures stays { IfSome result (λ made. (made.1.end.gone ≡ false) × (made.2.end.gone ≡ false)) }
+    ensures fresh { IfSome result (λ made. left_of made.1.end.put ≡ []) }
+    ensures one_ring { IfSome result (λ made. made.1.end.ring ≡ made.2.end.ring) }
+    ensures room { IfSome result (λ made. (made.1.bytes ≡ 8 * (words + 3)) × (made.1.end.ring.max ≡ max)) }
 {
-    let words_of_ring = part.split(r, 1, words + 3);
-    let chunk = Chunk {
-        at: RelPtr::of(1),
-        bytes: 8 * (words + 3),
-        part: words_of_ring,
+    if !is_ring_size(words) {
+        return None;
+    }
+    let Ok((r, part)) = Region::new(alloc, words as usize + 4) else {
+        return None;
     };
-    let (tx, rx) = Ring::create(r, chunk, words, from, max);
+    let mut part = part;
+    let chunk = part.split_chunk(&r, 1, words + 3);
+    let (tx, rx) = Ring::create(&r, chunk, words, from, max);
     match attach(alloc, tx, rx) {
-        Ok(ends) => Some(ends),
+        Ok((s, q)) => Some((r, s, q)),
         Err(_) => None,
     }
 }
 
-/// A message of ten bytes goes through; of the next one word is stored; then it follows, the sender goes, and its message is still there.
+/// A message of ten bytes goes through; of the next one word is stored; then it follows, the sender goes, and its
+/// message is still there.
 fn part_of_a_message(r: &Region, s: &mut Sender, q: &mut Receiver) -> bool
     requires here { (s.old.region ≡ r.now) × (q.old.region ≡ r.now) }
     requires stays { (s.old.end.gone ≡ false) × (q.old.end.gone ≡ false) }
@@ -186,6 +178,9 @@ fn there_and_home(alloc: Global, r: &Region, mut s: Sender, mut q: Receiver) -> 
         return false;
     }
     s.detach(r);
+    if !is_ring_size(4) {
+        return false;
+    }
     let chunk = home(s, q, r).into_chunk(r);
     let (tx, rx) = Ring::create(r, chunk, 4, 0, 8);
     attach(alloc, tx, rx).is_ok()
@@ -259,23 +254,63 @@ fn stream<R: Threads + Wait + Sync>(rt: &R, r: &Region, s: Sender, q: Receiver, 
     sent && received
 }
 
-/// A new region, and a queue in it.
-fn new_queue(alloc: Global, words: u64, from: u64, max: u32) -> Option<(Region, Sender, Receiver)>
-    requires power { (e : ℕ) × (words ≡ 2 ^ e) × (e ≤ 20) }
-    requires small { words ≤ 2 ^ 20 }
-    requires max { max ≤ 1048576 }
-    ensures here { IfSome result (λ made. (made.1.region ≡ made.0) × (made.2.region ≡ made.0)) }
-    ensures stays { IfSome result (λ made. (made.1.end.gone ≡ false) × (made.2.end.gone ≡ false)) }
-    ensures fresh { IfSome result (λ made. left_of made.1.end.put ≡ []) }
-    ensures one_ring { IfSome result (λ made. made.1.end.ring ≡ made.2.end.ring) }
-    ensures room { IfSome result (λ made. (made.1.bytes ≡ 8 * (words + 3)) × (made.1.end.ring.max ≡ max)) }
+/// Sends one message and goes.
+fn talk<R: Wait>(rt: &R, r: &Region, mut s: Sender) -> Sender
+    requires here { s.region ≡ r.now }
+    requires stays { s.end.gone ≡ false }
+    requires fresh { left_of s.end.put ≡ [] }
+    ensures { (result.region ≡ s.region) × (result.end.ring ≡ s.end.ring) }
 {
-    let Ok((region, part)) = Region::new(alloc, words as usize + 4) else {
-        return None;
-    };
-    let mut part = part;
-    let (s, q) = queue_of(alloc, &region, &mut part, words, from, max)?;
-    Some((region, s, q))
+    s.send(rt, r, b"hello", true);
+    s.detach(r);
+    s
+}
+
+/// Receives one message and goes. Answers whether it was that of `talk`.
+fn listen<R: Wait>(rt: &R, r: &Region, mut q: Receiver) -> (Receiver, bool)
+    requires here { q.region ≡ r.now }
+    requires stays { q.end.gone ≡ false }
+    ensures { (result.0.region ≡ q.region) × (result.0.end.ring ≡ q.end.ring) }
+{
+    let heard = q.receive(rt, r) == ReceiveDone::Message && q.message() == b"hello".as_slice();
+    q.detach(r);
+    (q, heard)
+}
+
+/// The two ends of a queue, each in a thread of its own; then they come home, and give their chunk back.
+fn conversation<R: Threads + Wait + Sync>(
+    rt: &R,
+    r: &Region,
+    s: Sender,
+    q: Receiver,
+) -> (bool, Chunk)
+    requires here { (s.region ≡ r.now) × (q.region ≡ r.now) }
+    requires one_ring { s.end.ring ≡ q.end.ring }
+    requires stays { (s.end.gone ≡ false) × (q.end.gone ≡ false) }
+    requires fresh { left_of s.end.put ≡ [] }
+    ensures { result.1.part.region ≡ r.now }
+{
+    let (s, (q, heard)) = join(
+        rt,
+        || -> Sender
+            requires { (s.region ≡ r.now) × (s.end.gone ≡ false) × (left_of s.end.put ≡ []) }
+            ensures { (result.region ≡ s.region) × (result.end.ring ≡ s.end.ring) }
+        { talk(rt, r, s) },
+        || -> (Receiver, bool)
+            requires { (q.region ≡ r.now) × (q.end.gone ≡ false) }
+            ensures { (result.0.region ≡ q.region) × (result.0.end.ring ≡ q.end.ring) }
+        { listen(rt, r, q) },
+    );
+    let done = home(s, q, r);
+    done.is_sound();
+    (heard, done.into_chunk(r))
+}
+
+#[test]
+fn one_message_goes_through(rt: HostRuntime) {
+    let (r, s, q) = new_queue(rt.alloc(), 64, 0, 100).expect(&rt, "memory");
+    let (heard, _) = conversation(&rt, &r, s, q);
+    assert!(rt; heard);
 }
 
 #[test]

@@ -1,4 +1,5 @@
 //! The calls that wait for the other end.
+
 ghost use Rattle.std.specs.Prelude.{◌≡◌, ◌≤◌, ◌++◌, List, ℕ, false};
 ghost use Rattle.mq_handle.specs.Sends.{Continues, StaysOpen};
 ghost use Rattle.mq_handle.specs.Receives.{incoming};
@@ -13,8 +14,9 @@ use region_words::Region;
 use std::sync::Wait;
 
 impl Sender {
-    /// Sends the message, and waits while the ring is full: it tries again and again, and backs off in between. It answers as the last try
-    /// did, which did not block. It may wait for ever, where the receiver neither takes words nor detaches.
+    /// Sends the message, and waits while the ring is full: it tries again and again, and backs off in between. It
+    /// answers as the last try did, which did not block. It may wait for ever, where the receiver neither takes words
+    /// nor detaches.
     pub fn send<R: Wait>(&mut self, rt: &R, r: &Region, message: &[u8], flush: bool) -> SendDone
         requires here { self.old.region ≡ r.now }
         requires stays { self.old.end.gone ≡ false }
@@ -38,8 +40,9 @@ impl Sender {
 }
 
 impl Receiver {
-    /// Receives the next message, and waits while none is there: it tries again and again, and backs off in between. It answers as the last
-    /// try did, which did not block. It may wait for ever, where the sender neither sends nor detaches.
+    /// Receives the next message, and waits while none is there: it tries again and again, and backs off in between. It
+    /// answers as the last try did, which did not block. It may wait for ever, where the sender neither sends nor
+    /// detaches.
     pub fn receive<R: Wait>(&mut self, rt: &R, r: &Region) -> ReceiveDone
         requires here { self.old.region ≡ r.now }
         requires stays { self.old.end.gone ≡ false }
@@ -47,6 +50,7 @@ impl Receiver {
         ensures ring { self.new.end.ring ≡ self.old.end.ring }
         ensures stays { self.new.end.gone ≡ false }
         ensures later { self.old.end.turn ≤ self.new.end.turn }
+        ensures set { self.old.end.flag_value ≡ 1 → self.new.end.flag_value ≡ 1 }
         ensures grows { (rest : List ℕ) × (self.new.end.taken ≡ self.old.end.taken ++ rest) }
         ensures answer { EndsReceive self.old.end self.new.end self.new.message result }
         ensures told { ReceiveEndFound self.old.told self.old.end self.new.end result }

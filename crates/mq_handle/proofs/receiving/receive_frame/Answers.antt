@@ -1,4 +1,4 @@
-use Rattle.std.proofs.Common.{◌≡◌, ℕ, List, Option, take, length, Some, sym, ap, subst, arith}
+use Rattle.std.proofs.Common.{◌≡◌, ℕ, ◌+◌, ◌*◌, ◌≤◌, Option, take, length, Some, sym, ap, subst, arith}
 use Rattle.rel_pointer.specs.Bytes.{word_count}
 use Rattle.ring_rule.specs.Ring.{Ring, Receiving}
 use Rattle.mq_ring.specs.Ends.{ReceivingEnd}
@@ -7,10 +7,10 @@ use Rattle.mq_handle.specs.Receives.{IsReceived}
 use Rattle.mq_handle.specs.Looking.{Finds}
 use Rattle.mq_handle.specs.Taking.{InHand, before_of}
 use Rattle.mq_handle.specs.declared.answers.ReceiveAnswer.TheVariants.{Message, WouldBlock, Detached}
-use Rattle.mq_handle.specs.ReceiveAnswers.{HasPlace}
+use Rattle.mq_handle.specs.ReceiveAnswers.{HasPlace, steps_beside}
 use Rattle.mq_handle.proofs.Hands.{Grows, hand_low}
 use Rattle.mq_handle.proofs.Sends.{chosen_true, chosen_false}
-use Rattle.mq_handle.proofs.Receipts.{came, same_whole, gives_on, received_is, few_words, finds_same}
+use Rattle.mq_handle.proofs.Receipts.{came, same_whole, gives_on, received_is, few_words, finds_same, finds_ring, hand_same}
 use Rattle.mq_handle.proofs.receiving.receive_frame.Goals as goal
 
 pub returns-in-Some-clause-answer : goal.returns-in-Some-clause-answer
@@ -89,3 +89,29 @@ returns-in-Some-clause-grows c =
     let found : Finds c.loop-whole.rx.end c.look_for_words-answer.new.rx.end c.look_for_words-answer.result.0.ready (Some c.in-Some.answer) =
     subst (λ (a : Option ReceiveAnswer). Finds c.loop-whole.rx.end c.look_for_words-answer.new.rx.end c.look_for_words-answer.result.0.ready a) c.in-Some.is c.look_for_words-answer.ensures.found in
     subst (Grows c.args.rx.now.end.taken) (sym (finds_same c.loop-whole.rx.end c.look_for_words-answer.new.rx.end c.look_for_words-answer.result.0.ready c.in-Some.answer found)) c.loop-whole.invariant.takes.grows
+
+-- the steps of a look that finds no word
+steps_none : (answer : ReceiveAnswer) (old new : Receiving) (ready first turn : ℕ) → Finds old new ready (Some answer) → old.turn + 4 * first ≤ turn + 4 * length old.taken
+    → new.turn + 4 * first ≤ turn + 4 * length new.taken + steps_beside answer
+steps_none Message old new ready first turn f s = absurd f
+steps_none WouldBlock old new ready first turn f s = omega (arith, s, f.0.steps, ap length f.0.taken)
+steps_none Detached old new ready first turn f s = omega (arith, s, f.0.steps, ap length f.0.taken)
+
+pub returns-in-Some-clause-steps : goal.returns-in-Some-clause-steps
+returns-in-Some-clause-steps c =
+    let found : Finds c.loop-whole.rx.end c.look_for_words-answer.new.rx.end c.look_for_words-answer.result.0.ready (Some c.in-Some.answer) =
+    subst (λ (a : Option ReceiveAnswer). Finds c.loop-whole.rx.end c.look_for_words-answer.new.rx.end c.look_for_words-answer.result.0.ready a) c.in-Some.is c.look_for_words-answer.ensures.found in
+    steps_none c.in-Some.answer c.loop-whole.rx.end c.look_for_words-answer.new.rx.end c.look_for_words-answer.result.0.ready (length c.args.rx.now.end.taken) c.args.rx.now.end.turn found c.loop-whole.invariant.steps
+
+pub returns-clause-steps : goal.returns-clause-steps
+returns-clause-steps c =
+    omega (arith, c.loop-whole.invariant.steps, c.finish_taking.ensures.few, ap (λ (o : ReceivingEnd). length o.end.taken) c.finish_taking.ensures.kept)
+
+pub returns-in-Some-clause-hand : goal.returns-in-Some-clause-hand
+returns-in-Some-clause-hand c =
+    let found : Finds c.loop-whole.rx.end c.look_for_words-answer.new.rx.end c.look_for_words-answer.result.0.ready (Some c.in-Some.answer) =
+    subst (λ (a : Option ReceiveAnswer). Finds c.loop-whole.rx.end c.look_for_words-answer.new.rx.end c.look_for_words-answer.result.0.ready a) c.in-Some.is c.look_for_words-answer.ensures.found in
+    hand_same c.loop-whole.rx.end c.look_for_words-answer.new.rx.end _ _ _ _ _ _
+    (finds_ring c.loop-whole.rx.end c.look_for_words-answer.new.rx.end c.look_for_words-answer.result.0.ready c.in-Some.answer found)
+    (finds_same c.loop-whole.rx.end c.look_for_words-answer.new.rx.end c.look_for_words-answer.result.0.ready c.in-Some.answer found)
+    c.look_for_words-answer.ensures.same.0 c.look_for_words-answer.ensures.same.1 c.loop-whole.invariant.hand

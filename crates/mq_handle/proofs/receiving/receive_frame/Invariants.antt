@@ -1,4 +1,4 @@
-use Rattle.std.proofs.Common.{◌≡◌, ◌-◌, suc, MatchBool}
+use Rattle.std.proofs.Common.{◌≡◌, ◌+◌, ◌*◌, ◌-◌, ◌≤◌, length, suc, MatchBool}
 use Rattle.rel_pointer.specs.Bytes.{word_count}
 use Rattle.mq_handle.specs.Taking.{Ready, InHand, IsOpen, Takes, before_of}
 use Rattle.mq_handle.specs.Told.{WordsFound}
@@ -8,6 +8,7 @@ abbrev pub invariant-loop-whole : goal.invariant-loop-whole
 invariant-loop-whole l = record {
   kept : l.rx ≡ record l.fn.rx { end = l.rx.end };
   takes : Takes l.fn.rx.end l.rx.end;
+  steps : l.rx.end.turn + 4 * length l.fn.rx.end.taken ≤ l.fn.rx.end.turn + 4 * length l.rx.end.taken;
   found : WordsFound l.fn.rx.told l.fn.rx.end l.rx.end;
   counted : Ready l.rx.end l.taken.ready l.taken.unreturned;
   hand : InHand l.rx.end.ring.max (before_of l.fn.rx.end l.fn.taken.words) l.rx.end.taken l.buffer l.taken.words l.taken.len;

@@ -1,4 +1,4 @@
-use Rattle.std.proofs.Common.{◌≡◌, ℕ, ◌++◌, length, take, refl, sym, ap, subst, ◌∙◌, arith}
+use Rattle.std.proofs.Common.{◌≡◌, ℕ, true, false, ◌++◌, length, take, refl, sym, ap, subst, ◌∙◌, arith}
 use Rattle.ring_rule.specs.Frames.{frame, IsFramed, IsMessage}
 use Rattle.ring_rule.specs.Ring.{Sending}
 use Rattle.ring_rule.specs.Ends.{sender_sees_flag}
@@ -9,6 +9,10 @@ use Rattle.mq_handle.specs.Sends.{IsSent, StaysOpen}
 use Rattle.mq_handle.proofs.Sends.{begun, all_there, part_there, blocked_is, sent_is, opens, finished_ring, finished_put, finished_opens, in_frames, all_bytes, chosen_true, chosen_false}
 use Rattle.mq_handle.proofs.Filling.{changed, filled_up}
 use Rattle.mq_handle.proofs.sending.send_frame.Goals as goal
+
+-- a flag that was not found set was not set before
+unset : false ≡ true → ⊥
+unset e = cc
 
 pub store_words-done-requires-clause-stored : goal.store_words-done-requires-clause-stored
 store_words-done-requires-clause-stored c =
@@ -58,7 +62,7 @@ returns-then-not-done-clause-stays c =
     let steps = chosen_false _ _ c.store_words-done.result.1 c.if-not-done.true c.store_words-done.ensures.steps in
     let put = c.store_words-done.ensures.put ∙ ap (λ (s : Sending). base_of s c.args.counts.words ++ take c.store_words-done.result.0.words (frame c.args.message.now)) end in
     let up = subst (λ (s : Sending). FillsUp (length (base_of s c.args.counts.words ++ frame c.args.message.now)) s c.store_words-done.new.tx.end) end steps in
-    opens c.args.tx.now.end c.store_words-done.new.tx.end _ 0 c.requires.stays (filled_up _ _ _ up).changed_is
+    opens c.args.tx.now.end c.store_words-done.new.tx.end _ 0 c.requires.stays (λ e. unset (c.if-look_flag.ensures.stays_set e)) (filled_up _ _ _ up).changed_is
 
 pub returns-then-not-done-clause-framed : goal.returns-then-not-done-clause-framed
 returns-then-not-done-clause-framed c =
@@ -114,7 +118,7 @@ returns-clause-stays c =
     let fills = subst (λ (s : Sending). Fills (length (base_of s c.args.counts.words ++ frame c.args.message.now)) s c.store_words-done.new.tx.end) end steps in
     let last : c.finish_storing-counts.new.tx.end ≡ finishes c.args.flush c.store_words-done.new.tx.end = ap (λ (o : SendingEnd). o.end) c.finish_storing-counts.ensures.end in
     subst (StaysOpen c.args.tx.now.end) (sym last)
-    (finished_opens c.args.flush c.args.tx.now.end c.store_words-done.new.tx.end (opens c.args.tx.now.end c.store_words-done.new.tx.end _ 0 c.requires.stays (changed _ _ _ fills)))
+    (finished_opens c.args.flush c.args.tx.now.end c.store_words-done.new.tx.end (opens c.args.tx.now.end c.store_words-done.new.tx.end _ 0 c.requires.stays (λ e. unset (c.if-look_flag.ensures.stays_set e)) (changed _ _ _ fills)))
 
 pub returns-clause-framed : goal.returns-clause-framed
 returns-clause-framed c =

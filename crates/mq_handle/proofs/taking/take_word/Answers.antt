@@ -1,4 +1,4 @@
-use Rattle.std.proofs.Common.{ap, subst, sym, refl, arith, ◌+◌, ◌∷◌, []}
+use Rattle.std.proofs.Common.{ap, subst, sym, refl, arith, ◌+◌, ◌∷◌, [], length, length-append}
 use Rattle.ring_rule.specs.Ring.{Receiving}
 use Rattle.mq_ring.specs.Ends.{ReceivingEnd}
 use Rattle.mq_handle.specs.Taking.{InHand, Takes, before_of}
@@ -15,4 +15,16 @@ returns-clause-hand c =
 pub returns-clause-takes : goal.returns-clause-takes
 returns-clause-takes c =
     let end = ap (λ (o : ReceivingEnd). o.end) c.take-word.ensures.end in
-    subst (Takes c.args.rx.now.end) (sym end) (record { ring = refl; gone = refl; returned = refl; turn = omega arith; grows = (c.take-word.result ∷ [], refl) })
+    subst (Takes c.args.rx.now.end) (sym end) (record { ring = refl; gone = refl; returned = refl; turn = omega arith; grows = (c.take-word.result ∷ [], refl); flag = λ e. e })
+
+pub returns-clause-steps : goal.returns-clause-steps
+returns-clause-steps c =
+    let end = ap (λ (o : ReceivingEnd). o.end) c.take-word.ensures.end in
+    let more = length-append c.args.rx.now.end.taken (c.take-word.result ∷ []) in
+    omega (arith, ap (λ (q : Receiving). q.turn) end, ap (λ (q : Receiving). length q.taken) end, more)
+
+pub returns-clause-words : goal.returns-clause-words
+returns-clause-words c =
+    let end = ap (λ (o : ReceivingEnd). o.end) c.take-word.ensures.end in
+    let more = length-append c.args.rx.now.end.taken (c.take-word.result ∷ []) in
+    omega (arith, ap (λ (q : Receiving). length q.taken) end, more)

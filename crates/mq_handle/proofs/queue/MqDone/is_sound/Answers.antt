@@ -1,4 +1,4 @@
-use Rattle.std.proofs.Common.{◌≡◌, ◌++◌, List, ℕ, sym, subst}
+use Rattle.std.proofs.Common.{◌≡◌, ◌++◌, List, ℕ, subst}
 use Rattle.mq_ring.specs.Ends.{EndsHome}
 use Rattle.mq_handle.specs.Messages.{whole_of}
 use Rattle.mq_handle.proofs.Whole.{whole_front}
