@@ -1,5 +1,0 @@
-use Rattle.std.proofs.Common.{refl, arith}
-use Rattle.mq_handle.proofs.tests.a_message_is_longer_than_the_ring.Goals as goal
-
-pub new_queue-requires-clause-power : goal.new_queue-requires-clause-power
-new_queue-requires-clause-power g c = (2, refl, omega arith)
