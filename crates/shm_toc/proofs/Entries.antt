@@ -69,7 +69,8 @@ not_here e es key h =
       p.1,
     )
 
-place_behind : (es : List Entry) (last : Entry) (key : ℕ) → place_of es key ≡ None → last.key ≢ key → place_of (es ++ (last ∷ [])) key ≡ None
+-- a key that no entry has, behind one more with another key
+pub place_behind : (es : List Entry) (last : Entry) (key : ℕ) → place_of es key ≡ None → last.key ≢ key → place_of (es ++ (last ∷ [])) key ≡ None
 place_behind [] last key h n = further_is last [] key n
 place_behind (e ∷ es) last key h n = let p = not_here e es key h in further_is e _ key p.0 ∙ place_behind es last key p.1 n
 

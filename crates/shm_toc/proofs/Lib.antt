@@ -2,3 +2,4 @@ pub mod Entries
 pub mod Stores
 pub mod Tables
 pub mod Serving
+pub mod Uses

@@ -6,9 +6,10 @@ use Rattle.shm_toc.specs.Requests.{empty_table, with_chunk, with_entry}
 use Rattle.shm_toc.specs.Held.{IsHeld}
 use Rattle.word_map.specs.WordMap.{is_within, rest_of, union, Disjoint}
 use Rattle.word_map.proofs.Maps.{at-rest_cond, within_true, within_is}
+use Rattle.word_map.proofs.Uses.{union-left}
 use Rattle.word_map.specs.WordMap.{HasJust}
 use Rattle.region_words.specs.Parts.{Owned, owned}
-use Rattle.shm_toc.proofs.Stores.{other, this, IsStored, stored_at, stored_has, joined_at}
+use Rattle.shm_toc.proofs.Stores.{other, this, IsStored, stored_at, stored_has}
 use Rattle.shm_toc.proofs.Entries.{length-entries, word_same, entries_same, entries_more, differ_more}
 
 -- what the numbers of a table are
@@ -127,7 +128,7 @@ pub kept_held : (m n : WordMap) (o p : Owned) (total taken count : ℕ) → IsHe
     → IsHeld p.words total taken count × (table_of p.words ≡ table_of m)
 kept_held m n o p total taken count h is e apart =
     let here : (k : ℕ) → IsSome (at m k) → at p.words k ≡ at m k =
-    λ k has. ap (λ (z : Owned). at z.words k) e ∙ joined_at o.words n k apart (subst (λ (z : WordMap). IsSome (at z k)) (sym is) has) ∙ ap (λ (z : WordMap). at z k) is in
+    λ k has. ap (λ (z : Owned). at z.words k) e ∙ union-left o.words n k apart (subst (λ (z : WordMap). IsSome (at z k)) (sym is) has) ∙ ap (λ (z : WordMap). at z k) is in
     let l = length-entries m 4 (word_of m 3) in
     let same = table_same m p.words (λ k low. here k (h.table.owns k (omega (arith, h.table.room, l)))) in (
       record {

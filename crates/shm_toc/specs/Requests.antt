@@ -1,5 +1,6 @@
 -- Lists of chunks and keys that a table is asked for.
 use Rattle.std.specs.Prelude.{ℕ, suc, ◌+◌, ◌≤◌, List, [], ◌∷◌, ◌++◌}
+use Rattle.std.specs.List.Sorted.{IsPermutation}
 use Rattle.shm_toc.specs.Table.{Entry, Table, rounded, free_bytes_of}
 
 -- what a table may be asked for: a chunk of this many bytes, or an entry
@@ -36,3 +37,7 @@ abbrev pub Serves : Table → List Request → Type 0
 Serves t [] = Unit {0}
 Serves t (Allocate bytes ∷ requests) = (rounded bytes ≤ free_bytes_of t) × Serves (with_chunk t bytes) requests
 Serves t (Insert entry ∷ requests) = (16 ≤ free_bytes_of t) × Serves (with_entry t entry) requests
+
+-- whatever is asked for of chunks of these sizes and of this many keys, in any order, finds room
+abbrev pub Provides : Table → List ℕ → ℕ → Type 0
+Provides t chunks keys = (requests : List Request) (more : List ℕ) → IsPermutation (sizes_of requests ++ more) chunks → keys_of requests ≤ keys → Serves t requests

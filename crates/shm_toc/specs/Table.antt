@@ -7,7 +7,8 @@ pub record Entry : Type 0 where
   pub key : ℕ
   pub place : ℕ
 
--- a table of contents: its magic number, the bytes of its segment, the bytes that it gave as chunks, and its entries, oldest first
+-- a table of contents: its magic number, the bytes of its segment, the bytes that it gave as chunks, and its entries,
+-- oldest first
 pub record Table : Type 0 where
   pub magic : ℕ
   pub total : ℕ
@@ -18,7 +19,8 @@ pub record Table : Type 0 where
 abbrev pub rounded : ℕ → ℕ
 rounded bytes = (bytes + 31) / 32 * 32
 
--- the bytes for chunks of these sizes and this many keys: a header of 32 bytes, 16 for each key, and each chunk rounded up
+-- the bytes for chunks of these sizes and this many keys: a header of 32 bytes, 16 for each key, and each chunk rounded
+-- up
 abbrev pub estimated : List ℕ → ℕ → ℕ
 estimated chunks keys = rounded (32 + 16 * keys + sum_by rounded chunks)
 

@@ -1,4 +1,5 @@
 //! The table once it is frozen: no word of it changes, so each holder of a share reads the same.
+
 ghost use Rattle.std.specs.Prelude.{◌≡◌, ◌≢◌, ◌+◌, ◌*◌, ◌<◌, ◌^◌, ℕ, IfOk, IfErr, OnOk, IsSome, Some};
 ghost use Rattle.word_map.specs.WordMap.{at as word_at};
 ghost use Rattle.shm_toc.specs.Table.{Table, place_of, entries_from, table_of, word_of, IsTable};

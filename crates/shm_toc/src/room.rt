@@ -1,4 +1,5 @@
 //! How much room chunks and keys take.
+
 ghost use Rattle.std.specs.Prelude.{◌≡◌, ◌+◌, ◌*◌, ◌≤◌, ◌<◌, ◌^◌, List, ℕ, ◌++◌, sum_by, length};
 ghost use Rattle.std.specs.List.Sorted.{IsPermutation};
 ghost use Rattle.shm_toc.specs.Table.{rounded, estimated};
@@ -24,8 +25,9 @@ pub fn estimate(chunks: &[u64], keys: u64) -> u64
     round_up(total)
 }
 
-/// A new table of `estimate(chunks, keys)` bytes grants each request of a list whose chunks are some of `chunks`, in any order, and that
-/// has at most `keys` keys.
+/// A new table of `estimate(chunks, keys)` bytes grants each request of a list whose chunks are some of `chunks`, in
+/// any order, and that has at most `keys` keys.
 pub fn serves_in_any_order()
-    ensures { (magic : ℕ) (chunks more : List ℕ) (keys : ℕ) (requests : List Request) → IsPermutation (sizes_of requests ++ more) chunks → keys_of requests ≤ keys → Serves (empty_table magic (estimated chunks keys)) requests }
+    ensures { (magic : ℕ) (chunks more : List ℕ) (keys : ℕ) (requests : List Request)
+        → IsPermutation (sizes_of requests ++ more) chunks → keys_of requests ≤ keys → Serves (empty_table magic (estimated chunks keys)) requests }
 {}

@@ -1,5 +1,6 @@
-//! The table while it grows. Only the holder of the `Toc` changes words 0 to 3 and the entries. Words 1 to 3 stand in fields too, so that
-//! no call loads them again.
+//! The table while it grows. Only the holder of the `Toc` changes words 0 to 3 and the entries. Words 1 to 3 stand in
+//! fields too, so that no call loads them again.
+
 ghost use Rattle.std.specs.Prelude.{◌≡◌, ℕ, ◌+◌, ◌*◌, ◌/◌, ◌-◌, ◌%◌, ◌<◌, ◌≤◌, ◌^◌, ◌==◌, cond, IfOk, IfErr, OnOk, IsSome, Option, None, Some};
 ghost use Rattle.word_map.specs.WordMap.{at as word_at, is_within, union};
 ghost use Rattle.word_map.specs.WordMap.{HasJust};
@@ -78,8 +79,8 @@ impl Toc {
         self.total - 32 - 16 * self.count - self.taken
     }
 
-    /// A chunk of that many bytes, rounded up to a multiple of 32, which the caller owns. It is the one before the chunk that was given
-    /// last, or the segment's end.
+    /// A chunk of that many bytes, rounded up to a multiple of 32, which the caller owns. It is the one before the
+    /// chunk that was given last, or the segment's end.
     pub fn allocate(&mut self, r: &Region, bytes: u64) -> Result<Chunk, TocAnswer>
         requires here { self.old.region ≡ r.now }
         requires size { (1 ≤ bytes) × (bytes ≤ 2 ^ 40) }
@@ -87,7 +88,8 @@ impl Toc {
         ensures chunk { IfOk result (λ chunk. (chunk.part.region ≡ r.now) × (chunk.bytes ≡ rounded bytes) × (chunk.at ≡ low_of (table_of self.new.words))) }
         ensures room { OnOk result (rounded bytes ≤ free_bytes_of (table_of self.old.words)) }
         ensures taken { OnOk result (table_of self.new.words ≡ with_chunk (table_of self.old.words) bytes) }
-        ensures others { IfOk result (λ chunk. (k : ℕ) → front_of (table_of self.old.words) ≤ k → word_at self.new.words k ≡ cond {A = Option ℕ} (is_within chunk.at (chunk.bytes / 8) k) None (word_at self.old.words k)) }
+        ensures others { IfOk result (λ chunk. (k : ℕ) → front_of (table_of self.old.words) ≤ k
+            → word_at self.new.words k ≡ cond {A = Option ℕ} (is_within chunk.at (chunk.bytes / 8) k) None (word_at self.old.words k)) }
         ensures full { IfErr result (λ answer. IsFull (table_of self.old.words) (rounded bytes) answer × (self.new ≡ self.old)) }
     {
         let wanted = round_up(bytes);
@@ -137,7 +139,8 @@ impl Toc {
         self.part.join(r, part);
     }
 
-    /// From now on no word of the table or of a chunk that it kept changes. The words that it never gave are frozen too.
+    /// From now on no word of the table or of a chunk that it kept changes. The words that it never gave are frozen
+    /// too.
     pub fn freeze(self, r: &Region) -> FrozenToc
         requires here { self.region ≡ r.now }
         ensures { result ≡ self }
@@ -155,7 +158,8 @@ fn give_chunk(part: &mut Part, r: &Region, total: u64, taken: u64, bytes: u64) -
     requires small { total ≤ 2 ^ 29 }
     ensures here { part.new.region ≡ part.old.region }
     ensures chunk { (result.part.region ≡ r.now) × (result.bytes ≡ bytes) × (result.at ≡ (total - taken) / 8) }
-    ensures words { (k : ℕ) → word_at part.new.words k ≡ cond {A = Option ℕ} (is_within ((total - taken) / 8) (bytes / 8) k) None (cond {A = Option ℕ} (k == 2) (Some taken) (word_at part.old.words k)) }
+    ensures words { (k : ℕ) → word_at part.new.words k
+        ≡ cond {A = Option ℕ} (is_within ((total - taken) / 8) (bytes / 8) k) None (cond {A = Option ℕ} (k == 2) (Some taken) (word_at part.old.words k)) }
 {
     let at = (total - taken) / 8;
     part.store(r, 2, taken);
@@ -173,7 +177,9 @@ fn put_entry(part: &mut Part, r: &Region, count: u64, key: u64, at: RelPtr)
     requires owns { (k : ℕ) → k < 6 + 2 * count → IsSome (word_at part.old.words k) }
     requires small { count < 2 ^ 32 }
     ensures here { part.new.region ≡ part.old.region }
-    ensures words { (k : ℕ) → word_at part.new.words k ≡ cond {A = Option ℕ} (k == 3) (Some (count + 1)) (cond {A = Option ℕ} (k == 5 + 2 * count) (Some at) (cond {A = Option ℕ} (k == 4 + 2 * count) (Some key) (word_at part.old.words k))) }
+    ensures words { (k : ℕ) → word_at part.new.words k
+        ≡ cond {A = Option ℕ} (k == 3) (Some (count + 1))
+        (cond {A = Option ℕ} (k == 5 + 2 * count) (Some at) (cond {A = Option ℕ} (k == 4 + 2 * count) (Some key) (word_at part.old.words k))) }
 {
     part.store(r, 4 + 2 * count, key);
     part.store(r, 5 + 2 * count, at.word());
