@@ -1,9 +1,9 @@
 -- The words of `abcdefgh12` and of a message of three bytes behind it, as they are stored one by one.
-use Rattle.std.proofs.Common.{◌≡◌, ℕ, ◌<◌, ◌≤◌, Bool, true, false, ◌&&◌, ltb, List, [], ◌∷◌, ◌++◌, length, All, refl, arith}
+use Rattle.std.proofs.Common.{◌≡◌, ℕ, ◌<◌, Bool, true, false, ◌&&◌, ltb, List, [], ◌∷◌, All, refl, arith}
 use Rattle.std.proofs.lemmas.List.Elements.{All-nil, All-cons}
 use Rattle.std.proofs.lemmas.Bool.Decides.{nat_tests}
 use Rattle.rel_pointer.specs.Bytes.{AllBytes}
-use Rattle.ring_rule.specs.Frames.{IsMessage, IsFramed, frames}
+use Rattle.ring_rule.specs.Frames.{IsMessage, IsFramed}
 
 both : (a b : Bool) → (a && b) ≡ true → (a ≡ true) × (b ≡ true)
 both true true e = (refl, refl)

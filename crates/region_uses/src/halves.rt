@@ -1,4 +1,5 @@
 //! Two threads in the two halves of a region.
+
 ghost use Rattle.std.specs.Prelude.{◌≡◌, ℕ, ◌+◌, ◌<◌, ◌≤◌, ◌^◌, IsSome, IsTrue, Some};
 ghost use Rattle.word_map.specs.WordMap.{at as word_at, union};
 ghost use Rattle.region_words.specs.Parts.{owned};
@@ -21,7 +22,8 @@ pub fn both_halves(r: &Region, part: &mut Part) -> (u64, u64)
     (low, part.load(r, 40))
 }
 
-/// Stores the numbers below `rounds` in turn in 32 words, and reads each back at once. Answers the part and whether all were read back.
+/// Stores the numbers below `rounds` in turn in 32 words, and reads each back at once. Answers the part and whether all
+/// were read back.
 #[tactic(auto, using(word_map::proofs::Maps::answers, std::proofs::lemmas::Bool::Decides::nat_tests))]
 pub fn count_up(r: &Region, part: Part, from: u64, rounds: u64) -> (Part, bool)
     requires here { part.region ≡ r.now }
