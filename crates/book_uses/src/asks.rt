@@ -1,4 +1,5 @@
 //! What a drawer is asked and answers, and how a contract sees it.
+
 use region_words::{Part, Region};
 
 /// What goes in.

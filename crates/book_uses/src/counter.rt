@@ -1,4 +1,5 @@
 //! A number that calls add to, as a kept value. Its name says nothing, and anything fits it.
+
 ghost use Rattle.std.specs.Prelude.{◌≡◌};
 ghost use Rattle.book_uses.specs.Counting.{AddsTo};
 

@@ -1,5 +1,6 @@
-//! What crosses threads: a struct over shelves by reference, and a struct over passes by value, generic or not. At the end
-//! both shelves are closed, with no list of the passes of each.
+//! What crosses threads: a struct over shelves by reference, and a struct over passes by value, generic or not. At the
+//! end both shelves are closed, with no list of the passes of each.
+
 ghost use Rattle.std.specs.Prelude.{◌≡◌, [], ◌∷◌};
 ghost use Rattle.lock_book.specs.Shown.{Belongs, Ended, callers_of, number_of};
 

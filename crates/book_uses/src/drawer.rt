@@ -1,4 +1,5 @@
 //! A drawer that holds at most one part of a region, and the word that it read there.
+
 ghost use Rattle.std.specs.Prelude.{◌≡◌, IsSome, Some, None};
 ghost use Rattle.std.specs.Option.{ForSome};
 ghost use Rattle.word_map.specs.WordMap.{at as word_at};
@@ -37,7 +38,7 @@ impl Drawer {
         Answer::Stored(word)
     }
 
-    // Holds a part with that word.
+    /// Holds a part with that word.
     fn keep(&mut self, part: Part, word: u64)
         requires { (part.region ≡ self.old.base.region) × (word_at part.words self.old.at ≡ Some word) }
         ensures { (self.new.base ≡ self.old.base) × (self.new.at ≡ self.old.at) × (self.new.word ≡ word) × (self.new.held ≡ Some part) }

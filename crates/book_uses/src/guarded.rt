@@ -2,6 +2,7 @@
 //!
 //! The object's trait asks for no `Send`, and so does each function that `apply` calls. The wrapper is kept, is called
 //! and crosses threads where the object, its states and its calls are `Send`.
+
 ghost use Rattle.std.specs.Prelude.{◌≡◌, ◌<◌};
 ghost use Rattle.lock_book.specs.Shown.{Belongs, Called, count_of, number_of};
 

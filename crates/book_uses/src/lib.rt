@@ -1,5 +1,6 @@
 //! Callers of `lock_book`, kept so that its surface is proved where it is used: a counter that two threads add to, a
 //! drawer that holds a part of a region, behind a generic wrapper, and an object of the user's behind another.
+
 #![tactic(auto)]
 
 mod asks;

@@ -2,6 +2,7 @@
 //!
 //! A part goes in and comes out as a token, of which histories tell one word's value: the word at a place that the
 //! drawer's name says. The region is in the name too, so whoever takes a part out knows which region it is of.
+
 ghost use Rattle.std.specs.Prelude.{◌≡◌, ℕ, None};
 ghost use Rattle.book_uses.specs.Drawers.{AnswerFits, AskFits, DrawerLegal, call_of, reply_of, state_of};
 

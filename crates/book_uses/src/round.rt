@@ -1,4 +1,5 @@
 //! A part goes into a drawer and comes out again.
+
 ghost use Rattle.std.specs.Prelude.{◌≡◌, ◌<◌, IsSome, IfSome, Some, None};
 ghost use mathlib.Core.Option.{some};
 ghost use lib.ListN.{get_elem?};
@@ -56,8 +57,8 @@ pub fn put_in<R: Wait, O: Tag>(
     }
 }
 
-/// Puts a part into an empty drawer and takes it out again. The one caller of a shelf knows that nobody came between: it
-/// gets a part back that has the same word.
+/// Puts a part into an empty drawer and takes it out again. The one caller of a shelf knows that nobody came between:
+/// it gets a part back that has the same word.
 pub fn round_trip<R: Wait, O: Tag>(
     rt: &R,
     region: &Region,

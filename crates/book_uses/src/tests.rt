@@ -1,4 +1,5 @@
 //! Two threads that add a thousand times each, and a part that goes into a drawer and comes out, run.
+
 ghost use Rattle.std.specs.Prelude.{◌≡◌, ◌<◌, IfOk, None, Some};
 ghost use mathlib.Core.Option.{some};
 ghost use lib.ListN.{get_elem?};
@@ -15,7 +16,7 @@ use region_words::{Part, Region};
 use std::alloc::{AllocError, Global};
 use std::test::Fail;
 
-// The tag of the drawers here.
+/// The tag of the drawers here.
 struct Nine;
 
 impl Tag for Nine {
@@ -32,7 +33,7 @@ fn two_threads_add_a_thousand_times_each(rt: HostRuntime) -> Result<(), Fail> {
     Ok(())
 }
 
-// A region of 8 words, a part of it, and the part of its word 1, which has 77.
+/// A region of 8 words, a part of it, and the part of its word 1, which has 77.
 fn with_77(alloc: Global) -> Result<(Region, Part, Part), AllocError>
     ensures base { IfOk result (λ r. r.1.region ≡ r.0) }
     ensures one { IfOk result (λ r. (r.2.region ≡ r.0) × (word_at r.2.words 1 ≡ Some 77)) }
@@ -43,7 +44,7 @@ fn with_77(alloc: Global) -> Result<(Region, Part, Part), AllocError>
     Ok((region, base, one))
 }
 
-// A shelf of one drawer, for parts of the region that own the word 1.
+/// A shelf of one drawer, for parts of the region that own the word 1.
 fn one_drawer(
     alloc: Global,
     base: Part,
@@ -77,7 +78,7 @@ fn a_part_goes_in_and_comes_out(rt: HostRuntime) -> Result<(), Fail> {
     Ok(())
 }
 
-// A number that each call raises to itself at least.
+/// A number that each call raises to itself at least.
 struct Most;
 
 impl Object for Most {
@@ -94,7 +95,7 @@ impl Object for Most {
     }
 }
 
-// A shelf of one such number, and the passes of two callers.
+/// A shelf of one such number, and the passes of two callers.
 fn one_most(
     alloc: Global,
 ) -> Result<

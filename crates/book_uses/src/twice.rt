@@ -1,4 +1,5 @@
 //! Two threads add to one counter, each so many times. Then their passes meet, and the shelf is closed.
+
 ghost use Rattle.std.specs.Prelude.{◌≡◌, ◌<◌, ◌≤◌, ◌*◌, ◌+◌, ◌%◌, ◌^◌, ℕ, length, [], ◌∷◌, IfOk};
 ghost use Rattle.lock_book.specs.History.{calls_by};
 ghost use Rattle.lock_book.specs.Shown.{Belongs, callers_of, count_of, left_of, mine_of, number_of, opened_of, opens_of, seen_of, whole_of};
@@ -10,7 +11,7 @@ use std::alloc::{AllocError, Global};
 use std::sync::Wait;
 use std::thread::{Threads, join};
 
-// A shelf of one counter at 0, with two callers.
+/// A shelf of one counter at 0, with two callers.
 fn for_two(alloc: Global) -> Result<(Shelf<Counter>, Pass<Counter>, Pass<Counter>), AllocError>
     ensures shelf { IfOk result (λ r. (count_of r.0 ≡ 1) × (callers_of r.0 ≡ 2) × (opens_of r.0 ≡ (tt, 0) ∷ [])) }
     ensures zero { IfOk result (λ r. Belongs r.0 r.1 × (number_of r.1 ≡ 0) × (mine_of r.1 0 ≡ [])) }
@@ -28,7 +29,7 @@ fn for_two(alloc: Global) -> Result<(Shelf<Counter>, Pass<Counter>, Pass<Counter
     Ok((shelf, zero, one))
 }
 
-// Adds 1 so many times, by whoever has the pass.
+/// Adds 1 so many times, by whoever has the pass.
 fn add_times<R: Wait>(
     rt: &R,
     shelf: &Shelf<Counter>,
@@ -47,7 +48,7 @@ fn add_times<R: Wait>(
     pass
 }
 
-// Ends a shelf of two callers.
+/// Ends a shelf of two callers.
 fn close_two(
     alloc: Global,
     shelf: Shelf<Counter>,

@@ -13,7 +13,8 @@ use Rattle.dshash_core.specs.Hung.{Hung, Layout, chain_of}
 abbrev pub KeyMap : Type 0 → Type 0
 KeyMap S = fin.FinMap (slice_cmp nat_cmp) S
 
--- what contracts see of a partition: its region, the words of its bucket slice, the items' shape, its size, and the states under its keys
+-- what contracts see of a partition: its region, the words of its bucket slice, the items' shape, its size, and the
+-- states under its keys
 pub record PartitionView (S : Type 0) : Type 0 where
   pub region : TableId
   pub slice : ℕ
@@ -38,8 +39,8 @@ partition_code {S} s =
 abbrev pub partition_of : ℕ → ℕ
 partition_of hash = hash / 2 ^ 25
 
--- the bucket of a hash in a partition of a size: the hash's top bits, as many as the size, without the 7 of the partition (dshash.c,
--- BUCKET_INDEX_FOR_HASH_AND_SIZE)
+-- the bucket of a hash in a partition of a size: the hash's top bits, as many as the size, without the 7 of the
+-- partition (dshash.c, BUCKET_INDEX_FOR_HASH_AND_SIZE)
 abbrev pub bucket_of : ℕ → ℕ → ℕ
 bucket_of size hash = hash / 2 ^ (32 - size) % 2 ^ (size - 7)
 
@@ -47,12 +48,13 @@ bucket_of size hash = hash / 2 ^ (32 - size) % 2 ^ (size - 7)
 abbrev pub buckets_of : ℕ → ℕ
 buckets_of size = 2 ^ (size - 7)
 
--- with more keys than this a partition grows before it inserts: three quarters of its buckets, each part rounded down (dshash.c,
--- MAX_COUNT_PER_PARTITION)
+-- with more keys than this a partition grows before it inserts: three quarters of its buckets, each part rounded down
+-- (dshash.c, MAX_COUNT_PER_PARTITION)
 abbrev pub full_above : ℕ → ℕ
 full_above size = buckets_of size / 2 + buckets_of size / 4
 
--- a partition of that size can have so many keys: a size is from 7 to 20, and only at 20 it may hold more than one key too many
+-- a partition of that size can have so many keys: a size is from 7 to 20, and only at 20 it may hold more than one key
+-- too many
 pub record IsRoomy (size keys : ℕ) : Type 0 where
   pub from : 7 ≤ size
   pub to : size ≤ 20
@@ -76,7 +78,8 @@ abbrev pub AreKeyed : List Item → Type 0
 AreKeyed [] = Unit {0}
 AreKeyed (it ∷ items) = ((x : Item) → Among x items → x.key ≢ it.key) × AreKeyed items
 
--- the chains of a partition of a size: one for each bucket, each item in that of its key's hash, each key once, and `count` items in all
+-- the chains of a partition of a size: one for each bucket, each item in that of its key's hash, each key once, and
+-- `count` items in all
 pub record AreCells (size count value_words : ℕ) (h : Hung) : Type 0 where
   pub buckets : length h.chains ≡ buckets_of size
   pub placed : (i : ℕ) (it : Item) → i < length h.chains → Among it (chain_of h i) → bucket_of size (hash_of it.key) ≡ i

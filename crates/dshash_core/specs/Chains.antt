@@ -1,5 +1,5 @@
--- Chains of items in words, and the items that they stand for. An item is its link, its hash, its key's words and its value's words
--- (dshash.c, struct dshash_table_item: next, hash, entry).
+-- Chains of items in words, and the items that they stand for. An item is its link, its hash, its key's words and its
+-- value's words (dshash.c, struct dshash_table_item: next, hash, entry).
 use Rattle.std.specs.Prelude.{◌≡◌, ◌≢◌, ℕ, zero, suc, ◌+◌, ◌^◌, ◌<◌, ◌⊎◌, ◌==◌, cond, List, [], ◌∷◌, map, unwrap_or}
 use Rattle.word_map.specs.WordMap.{WordMap, at}
 

@@ -1,5 +1,5 @@
--- The buckets of a slice, as contracts see them, and how the words stand for them (dshash.c: an array of pointers to items, and the items'
--- links).
+-- The buckets of a slice, as contracts see them, and how the words stand for them (dshash.c: an array of pointers to
+-- items, and the items' links).
 use Rattle.std.specs.Prelude.{◌≡◌, ◌≢◌, ℕ, ◌+◌, ◌/◌, ◌%◌, ◌<◌, ◌≤◌, List, [], ◌∷◌, ◌++◌, map, length, refl, IsSome, slice_set, slice_index_or}
 use Rattle.std.specs.Coded.{Coded, code_by, coded×, coded_ℕ, coded_list}
 use Rattle.atomic_table.specs.Seated.{TableId, table_id_coded}
@@ -14,7 +14,8 @@ pub record Layout : Type 0 where
   pub value_words : ℕ
   pub item_bytes : ℕ
 
--- a bucket slice with its chains: the region, the first word and the words of the slice, the items' layout, and the items of each bucket
+-- a bucket slice with its chains: the region, the first word and the words of the slice, the items' layout, and the
+-- items of each bucket
 pub record Hung : Type 0 where
   pub region : TableId
   pub slice : ℕ

@@ -22,7 +22,8 @@ finalized h =
 unfoldable pub hash_of : List ℕ → ℕ
 hash_of key = finalized (fold fnv_word 0x811c_9dc5 key)
 
--- a byte string of at most 248 bytes as a key: its length, then its bytes in 31 words, the lowest first, with zeros behind them
+-- a byte string of at most 248 bytes as a key: its length, then its bytes in 31 words, the lowest first, with zeros
+-- behind them
 unfoldable pub packed_key : List ℕ → List ℕ
 packed_key bytes = length bytes ∷ packed_words 31 bytes
 

@@ -1,5 +1,6 @@
--- What calls of a partition answer, and what they make of its map: the steps of dshash.c's find, find_or_insert and delete in one.
--- Each relation is over plain data, so that a history of a partition behind a lock can be stated by them.
+-- What calls of a partition answer, and what they make of its map: the steps of dshash.c's find, find_or_insert and
+-- delete in one. Each relation is over plain data, so that a history of a partition behind a lock can be stated by
+-- them.
 use Rattle.std.specs.Prelude.{◌≡◌, ℕ, ◌<◌, ◌≤◌, Bool, true, false, not, ◌&&◌, nat_lt, List, length, Option, Some, None, is_some, is_none, IfSome}
 use Rattle.std.specs.FinMap as fin
 use Rattle.atomic_table.specs.Seated.{TableId}
@@ -21,7 +22,8 @@ would_insert m key next = not (fin.contains_key m key) && is_some next
 abbrev pub removes : {S : Type 0} → KeyMap S → List ℕ → Option S → Bool
 removes m key next = fin.contains_key m key && is_none next
 
--- the partition has to grow before it inserts (dshash.c, dshash_find_or_insert: its count exceeds MAX_COUNT_PER_PARTITION); at size 20 it grows no more
+-- the partition has to grow before it inserts (dshash.c, dshash_find_or_insert: its count exceeds
+-- MAX_COUNT_PER_PARTITION); at size 20 it grows no more
 abbrev pub is_full : {S : Type 0} → KeyMap S → ℕ → Bool
 is_full m size = nat_lt (full_above size) (fin.len m) && nat_lt size 20
 
@@ -30,8 +32,8 @@ abbrev pub next_of : {S C R : Type 0} → (Option S → C → Option S × R) →
 next_of step before key call = (step (fin.get before key) call).0
 
 module _ {S C R : Type 0} (step : Option S → C → Option S × R) (size : ℕ) (before : KeyMap S) (key : List ℕ) (call : C) (spare : Bool) where
-  -- the call was made: the key has the state of its step and no other key changes. An item that came and was not taken is handed back, and
-  -- that of a key that went is handed out
+  -- the call was made: the key has the state of its step and no other key changes. An item that came and was not taken
+  -- is handed back, and that of a key that went is handed out
   pub record IsDone (reply : R) (unused freed : Bool) (after : KeyMap S) : Type 0 where
     pub replied : reply ≡ (step (fin.get before key) call).1
     pub steps : after ≡ changed before key (next_of step before key call)
@@ -60,7 +62,8 @@ module _ {S C R : Type 0} (step : Option S → C → Option S × R) (size : ℕ)
   IsOutcome NeedItem after = IsNeedItem after
   IsOutcome (TooFull told back) after = IsTooFull told (is_some back) after
 
--- what is handed out: the spare item itself, where it was not taken, and a whole item of the region, where one was freed
+-- what is handed out: the spare item itself, where it was not taken, and a whole item of the region, where one was
+-- freed
 abbrev pub HandsOut : {O S C R : Type 0} → TableId → ℕ → Option Chunk → CoreOut O S C R → Type 0
 HandsOut region item_bytes spare (Done reply unused freed) = IfSome unused (λ c. spare ≡ Some c) × IfSome freed (λ c. (c.part.region ≡ region) × (c.bytes ≡ item_bytes))
 HandsOut region item_bytes spare NeedItem = Unit {0}
@@ -71,8 +74,8 @@ pub record ListsAll {S : Type 0} (m : KeyMap S) (entries : List (List ℕ × S))
   pub all : fin.from_entries entries ≡ m
   pub once : length entries ≡ fin.len m
 
--- a move to a size above the partition's, up to 20, sets that size and keeps the map; any other move changes nothing (dshash.c, resize:
--- where another process has done it already there is nothing to do)
+-- a move to a size above the partition's, up to 20, sets that size and keeps the map; any other move changes nothing
+-- (dshash.c, resize: where another process has done it already there is nothing to do)
 pub record IsMoved {S : Type 0} (size : ℕ) (before : KeyMap S) (to after_size : ℕ) (after : KeyMap S) : Type 0 where
   pub same : after ≡ before
   pub size_is : size < to → to ≤ 20 → after_size ≡ to

@@ -1,9 +1,11 @@
-//! A bucket slice and its chains: a word for each bucket, which links to the first item of its chain, and each item's first word, which
-//! links to the next one. A link of 0 ends the chain.
+//! A bucket slice and its chains: a word for each bucket, which links to the first item of its chain, and each item's
+//! first word, which links to the next one. A link of 0 ends the chain.
 //!
-//! Who holds the `Buckets` owns the words of the slice and of all items, and he alone changes them, at any time: a link when an item is
-//! hung in or taken out, an item's value when it is written. An item's hash and key never change while it hangs.
-//! `AreHung` says how the words stand for the chains; no two items have a word in common, and no item hangs twice.
+//! Who holds the `Buckets` owns the words of the slice and of all items, and he alone changes them, at any time: a link
+//! when an item is hung in or taken out, an item's value when it is written. An item's hash and key never change while
+//! it hangs. `AreHung` says how the words stand for the chains; no two items have a word in common, and no item hangs
+//! twice.
+
 ghost use Rattle.std.specs.Prelude.{◌≡◌, ◌≢◌, ℕ, ◌+◌, ◌*◌, ◌/◌, ◌<◌, ◌≤◌, List, [], ◌∷◌, ◌++◌, ◌^◌, length, replicate, MatchOption, IfSome, IfNone};
 ghost use Rattle.dshash_core.specs.Key.{hash_of};
 ghost use Rattle.dshash_core.specs.Chains.{word, words_at, Item, item_at};
@@ -93,7 +95,8 @@ impl Buckets {
         self.item_bytes
     }
 
-    /// Tells that an item has room for its key and its value, and that the items are at most as many as a region has words. It does nothing.
+    /// Tells that an item has room for its key and its value, and that the items are at most as many as a region has
+    /// words. It does nothing.
     pub(crate) fn is_sound(&self)
         ensures fits { 2 + self.now.layout.key_words + self.now.layout.value_words ≤ self.now.layout.item_bytes / 8 }
         ensures few { length (all_items self.now.chains) ≤ 2 ^ 26 }

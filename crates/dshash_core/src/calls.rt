@@ -1,4 +1,5 @@
 //! The calls of a partition, on its buckets: of a key that is there, and of one that is not.
+
 ghost use Rattle.std.specs.Prelude.{◌≡◌, ℕ, ◌+◌, ◌/◌, ◌<◌, ◌≤◌, Bool, List, ◌∷◌, length, Option, Some, None, is_some, IfSome};
 ghost use Rattle.dshash_core.specs.Key.{hash_of};
 ghost use Rattle.dshash_core.specs.Chains.{Item};
@@ -84,7 +85,8 @@ fn first_step<O: CellObject>(call: &O::Call) -> (Option<O::State>, O::Reply)
     O::step(nothing.as_ref(), call)
 }
 
-/// Makes the call of a key that is not there: where it makes a state, and the partition is not full, the spare item takes it in.
+/// Makes the call of a key that is not there: where it makes a state, and the partition is not full, the spare item
+/// takes it in.
 fn put_in<O: CellObject>(
     buckets: &mut Buckets,
     r: &Region,

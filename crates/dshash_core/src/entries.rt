@@ -1,4 +1,5 @@
 //! Listing a partition: each key with its state.
+
 ghost use Rattle.std.specs.Prelude.{◌≡◌, ℕ, ◌<◌, List, ◌++◌, map, length, IfOk, OnOk};
 ghost use Rattle.dshash_core.specs.Chains.{Item};
 ghost use Rattle.dshash_core.specs.Hung.{Holds, chain_of};

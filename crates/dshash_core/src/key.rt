@@ -1,4 +1,5 @@
 //! Keys: their hash, and byte strings as keys.
+
 ghost use Rattle.std.specs.Prelude.{◌≡◌, ◌+◌, ◌*◌, ◌<◌, ◌≤◌, ◌^◌, ◌↔◌, List, ℕ, length, take, IfSome, IsNone};
 ghost use Rattle.rel_pointer.specs.Bytes.{AllBytes};
 ghost use Rattle.dshash_core.specs.Key.{fnv_word, finalized, hash_of, packed_key, IsPackedKey, item_size};

@@ -1,9 +1,12 @@
-//! A partition: what stands behind one lock of the shared hash table. It is a finite map from keys to states, kept in chains of items in
-//! the region, one chain a bucket, and it has a size of its own, from 7 to 20, which says how many buckets it has.
+//! A partition: what stands behind one lock of the shared hash table. It is a finite map from keys to states, kept in
+//! chains of items in the region, one chain a bucket, and it has a size of its own, from 7 to 20, which says how many
+//! buckets it has.
 //!
-//! Who holds the partition owns the words of its bucket slice and of its items, so a call is one step of one thread: behind a lock it is one
-//! event of the table. `IsPartition` says what is always so: each item hangs in the bucket of its key's hash, each key once, the count is the
-//! number of keys, and there are at most three quarters as many keys as buckets and one more, or the size is 20.
+//! Who holds the partition owns the words of its bucket slice and of its items, so a call is one step of one thread:
+//! behind a lock it is one event of the table. `IsPartition` says what is always so: each item hangs in the bucket of
+//! its key's hash, each key once, the count is the number of keys, and there are at most three quarters as many keys as
+//! buckets and one more, or the size is 20.
+
 ghost use Rattle.std.specs.Prelude.{◌≡◌, false, ◌+◌, ◌*◌, ◌/◌, ◌<◌, ◌≤◌, length, is_some, IfOk, IfSome, MatchOption};
 ghost use Rattle.std.specs.FinMap as fin;
 ghost use Rattle.dshash_core.specs.Key.{hash_of, item_size};
@@ -48,8 +51,8 @@ impl<O: CellObject> Model for Partition<O> {
 }
 
 impl<O: CellObject> Partition<O> {
-    /// The empty partition of size 7, on a slice of a word or more. It takes memory for one buffer of a value's words; where that fails,
-    /// the slice is dropped. Its items are to be chunks of `item_chunk` bytes.
+    /// The empty partition of size 7, on a slice of a word or more. It takes memory for one buffer of a value's words;
+    /// where that fails, the slice is dropped. Its items are to be chunks of `item_chunk` bytes.
     pub fn new(
         alloc: Global,
         r: &Region,
@@ -97,7 +100,8 @@ impl<O: CellObject> Partition<O> {
         self.count
     }
 
-    /// Makes a call of a key, or says what it lacks: an item, or more buckets. It hashes the key, walks one chain and takes no memory.
+    /// Makes a call of a key, or says what it lacks: an item, or more buckets. It hashes the key, walks one chain and
+    /// takes no memory.
     pub fn try_call(
         &mut self,
         r: &Region,
@@ -116,7 +120,8 @@ impl<O: CellObject> Partition<O> {
         self.try_call_with_hash(r, hash_key(key), key, call, spare)
     }
 
-    /// The same, of a key whose hash is known: a table that needs the hash for the partition's number hashes each key once.
+    /// The same, of a key whose hash is known: a table that needs the hash for the partition's number hashes each key
+    /// once.
     pub fn try_call_with_hash(
         &mut self,
         r: &Region,
@@ -157,8 +162,8 @@ impl<O: CellObject> Partition<O> {
         list_all::<O>(&mut self.buckets, alloc, r, self.buffer.as_mut_slice())
     }
 
-    /// Begins a move: the partition is empty, on a new slice and with the size that it is to have. Its chains of before are handed out; whoever
-    /// moves gives their items back by `take_in`. One store for each new bucket.
+    /// Begins a move: the partition is empty, on a new slice and with the size that it is to have. Its chains of before
+    /// are handed out; whoever moves gives their items back by `take_in`. One store for each new bucket.
     pub fn start_over(&mut self, r: &Region, size: u32, slice: Chunk) -> Buckets
         requires here { (self.old.region ≡ r.now) × (slice.part.region ≡ r.now) }
         requires size { (7 ≤ size) × (size ≤ 20) }

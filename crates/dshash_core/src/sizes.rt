@@ -1,4 +1,5 @@
 //! Sizes: how many buckets a partition has, which of them a hash belongs to, and when an insert has to wait for more.
+
 ghost use Rattle.std.specs.Prelude.{◌≡◌, ◌<◌, ◌≤◌, ◌&&◌, nat_lt};
 ghost use Rattle.dshash_core.specs.Cells.{bucket_of, buckets_of, full_above, partition_of};
 

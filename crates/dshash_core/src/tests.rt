@@ -1,4 +1,5 @@
 //! Hashes and packed keys from outside (a few lines of Python), each key read back, and the caller of the calling page.
+
 ghost use Rattle.std.specs.Prelude.{◌≡◌, true, length, IfSome, IfNone};
 ghost use Rattle.std.specs.FinMap as fin;
 ghost use Rattle.dshash_core.specs.Outcome.{changed, next_of, is_full};
@@ -9,7 +10,8 @@ use crate::{
 use region_words::{Chunk, Region};
 use std::test::Fail;
 
-/// Makes a call with an item at hand, which is dropped where the call does not take it. None where the partition has to grow first.
+/// Makes a call with an item at hand, which is dropped where the call does not take it. None where the partition has to
+/// grow first.
 fn call_with<O: CellObject>(
     p: &mut Partition<O>,
     r: &Region,

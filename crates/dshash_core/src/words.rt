@@ -1,4 +1,5 @@
 //! Words in a row of a part, and the walk along one chain of items.
+
 ghost use Rattle.std.specs.Prelude.{◌≡◌, ℕ, ◌+◌, ◌/◌, ◌<◌, ◌≤◌, ◌↔◌, length, IsSome, IsTrue, MatchOption, is_some};
 ghost use Rattle.std.specs.FinMap as fin;
 ghost use Rattle.word_map.specs.WordMap.{at as word_at, HasJust};

@@ -9,7 +9,8 @@ abbrev pub either_of : {S : Type 0} → Option S → Option S → Option S
 either_of (Some s) o = Some s
 either_of None o = o
 
--- each key of `all` is in p or still in the chains of `from`, which are those of a partition of size `former`, and in no more than one of them
+-- each key of `all` is in p or still in the chains of `from`, which are those of a partition of size `former`, and in
+-- no more than one of them
 pub record IsMoving {S : Type 0} (decoded : List ℕ → S) (value_words former total : ℕ) (all : KeyMap S) (p : PartitionView S) (from : Hung) : Type 0 where
   pub left : ℕ
   pub chains : AreCells former left value_words from

@@ -1,4 +1,5 @@
 //! The growing of a partition of the shared hash table (dshash.c, resize): its items go to a larger bucket slice.
+
 #![tactic(auto)]
 
 mod moving;

@@ -1,6 +1,8 @@
 //! A move: the partition begins again on the larger slice, and takes in one item after another of its former chains.
 //!
-//! Meanwhile each key is in just one of the two, with its state: `IsMoving` says so. The items' words stay where they are.
+//! Meanwhile each key is in just one of the two, with its state: `IsMoving` says so. The items' words stay where they
+//! are.
+
 ghost use Rattle.std.specs.Prelude.{◌≡◌, ℕ, ◌*◌, ◌/◌, ◌<◌, ◌≤◌, [], length};
 ghost use Rattle.std.specs.FinMap as fin;
 ghost use Rattle.dshash_core.specs.Cells.{KeyMap, IsRoomy, buckets_of};
@@ -25,8 +27,8 @@ fn move_chain<O: CellObject>(p: &mut Partition<O>, r: &Region, from: &mut Bucket
     }
 }
 
-/// Moves a partition to a larger slice, of 2^(size - 7) words or more. Its map and its count stay, and its former slice is handed out. It takes
-/// no memory, and some steps for each item, each former bucket and each new one.
+/// Moves a partition to a larger slice, of 2^(size - 7) words or more. Its map and its count stay, and its former slice
+/// is handed out. It takes no memory, and some steps for each item, each former bucket and each new one.
 pub fn move_partition<O: CellObject>(
     p: &mut Partition<O>,
     r: &Region,

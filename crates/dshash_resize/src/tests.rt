@@ -1,4 +1,6 @@
-//! A partition of numbers that grows: its sizes and how many keys it holds at each, and a thousand keys through its moves.
+//! A partition of numbers that grows: its sizes and how many keys it holds at each, and a thousand keys through its
+//! moves.
+
 mod growing;
 mod number;
 mod store;

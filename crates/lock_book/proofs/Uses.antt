@@ -1,4 +1,5 @@
--- Laws for the callers of a shelf: of legal histories, of their states, of the calls of each caller and of those of all, and of what lists have where.
+-- Laws for the callers of a shelf: of legal histories, of their states, of the calls of each caller and of those of
+-- all, and of what lists have where.
 use Rattle.std.proofs.Common.{◌≡◌, ℕ, zero, suc, ◌+◌, ◌<◌, ◌≤◌, eqb, Bool, true, false, cond, ◌≢◌, List, [], ◌∷◌, ◌++◌, length, map, sym, refl, ap, ◌∙◌, subst, arith, length-append, eq-eqb, ne_eqb}
 use mathlib.Core.Logic.{dite}
 use native.Mathlib.Decide.{ℕ_discrete, dec_le}

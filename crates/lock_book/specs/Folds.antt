@@ -3,7 +3,8 @@ use Rattle.std.specs.Prelude.{◌≡◌, ℕ, zero, suc, List, [], ◌∷◌}
 use Rattle.lock_book.specs.declared.view.Entry.{Entry}
 use Rattle.lock_book.specs.History.{calls_by}
 
--- a commutative monoid: what the operation puts together depends on neither order nor grouping, and the unit adds nothing
+-- a commutative monoid: what the operation puts together depends on neither order nor grouping, and the unit adds
+-- nothing
 pub record IsCommutativeMonoid {M : Type 0} (op : M → M → M) (unit : M) : Type 0 where
   pub unit_first : (a : M) → op unit a ≡ a
   pub associative : (a b c : M) → op (op a b) c ≡ op a (op b c)

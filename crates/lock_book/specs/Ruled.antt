@@ -101,7 +101,8 @@ module _ {N S C R : Type 0} where
   newcomers opens callers = record { opens = opens; callers = callers; from = 0; owns = replicate callers []; seen = []; told = []; stage = Idle }
 
   module _ (opens : List (N × S)) (callers : ℕ) (lines : ℕ → Line S C R) where
-    -- what is true of a seat at a stage: its ticket is drawn and not passed on, and who has the value has seen its whole history
+    -- what is true of a seat at a stage: its ticket is drawn and not passed on, and who has the value has seen its
+    -- whole history
     abbrev pub StageOk : (View N S C R) → Stage → Type 0
     StageOk v Idle = Unit {0}
     StageOk v (Waiting i t) = (length v.owns ≡ 1) × (i < length opens) × ((lines i).served ≤ t) × (t < (lines i).drawn)
@@ -128,7 +129,8 @@ module _ {N S C R : Type 0} where
       pub lawful : IsLegal (legal o.0) o.1 l.log
       pub at_home : total (λ v. holders i v.stage) views ≡ 0 → (x : X) × (get_elem? homes i ≡ some (some x)) × (slot_name x ≡ o.0) × (slot_state x ≡ last_of o.1 l.log)
 
-    -- Each value has one legal history. A value at home has its last state and its name, tickets are unique, and each caller's entries are the calls that its seat made
+    -- Each value has one legal history. A value at home has its last state and its name, tickets are unique, and each
+    -- caller's entries are the calls that its seat made
     pub record Ruled (opens : List (N × S)) (callers : ℕ) (s : State X (View N S C R)) : Type 0 where
       pub lines : ℕ → Line S C R
       pub few : callers < 2 ^ 32
@@ -181,7 +183,8 @@ module _ {N S C R : Type 0} where
     abbrev pub looked : Step X → Me X (View N S C R) → ℕ → Me X (View N S C R) → Type 0
     looked st m r m' = (m'.1 ≡ m.1) × Looks m.0 m'.0
 
--- what the seat of all callers has seen at the end: of each value a legal history, in which the calls of each caller are its own and there are no others
+-- what the seat of all callers has seen at the end: of each value a legal history, in which the calls of each caller
+-- are its own and there are no others
 pub record AllSeen {N S C R : Type 0} (legal : N → ℕ → S → C → R → S → Type 0) (opens : List (N × S)) (callers : ℕ) (v : View N S C R) : Type 0 where
   pub lawful : (i : ℕ) (o : N × S) → get_elem? opens i ≡ some o → IsLegal (legal o.0) o.1 (seen_at v i)
   pub mine : (n i : ℕ) → n < callers → mine_at v n i ≡ calls_by n (seen_at v i)

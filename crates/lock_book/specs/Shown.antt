@@ -12,7 +12,8 @@ use Rattle.lock_book.specs.History.{calls_by, StartsWith, IsLegal, row_at}
 use Rattle.lock_book.specs.Ruled.{mine_at, seen_at, view_of}
 use Rattle.lock_book.specs.Told.{IsPass, Adds, Meets}
 
--- T is the kept type, E, I and O its environment, input and output, N, S, C and R its names, states, calls and replies, and g its meanings
+-- T is the kept type, E, I and O its environment, input and output, N, S, C and R its names, states, calls and replies,
+-- and g its meanings
 module _ {T E I O N S C R : Type 0} where
   -- the name of each value, in order, and the state in which it was shelved
   abbrev pub opens_of : Shelf T E I O N S C R → List (N × S)
@@ -64,7 +65,8 @@ module _ {T E I O N S C R : Type 0} {g : Ghosts T E I O N S C R} where
   abbrev pub first_of : Joined T E I O N S C R g → ℕ
   first_of j = j.whole.me.0.from
 
-  -- These are the passes that were joined, of the callers from that number on to the last: their own calls are all kept, and what is seen begins with what each had seen
+  -- These are the passes that were joined, of the callers from that number on to the last: their own calls are all
+  -- kept, and what is seen begins with what each had seen
   pub record IsJoined (s : Shelf T E I O N S C R) (passes : List (Pass T E I O N S C R g)) (j : Joined T E I O N S C R g) : Type 0 where
     pub table : j.whole.table_id ≡ s.board.shared.table_id
     pub opens : j.whole.me.0.opens ≡ opens_of s
@@ -86,7 +88,8 @@ module _ {T E I O N S C R : Type 0} {g : Ghosts T E I O N S C R} where
   abbrev pub whole_of : Closed T E I O N S C R g → ℕ → List (Entry S C R)
   whole_of c i = seen_at c.note.me.0 i
 
-  -- What a closed shelf shows of its passes: each value's history is legal and begins with what each pass had seen; the entries of a caller are the own calls of its pass, and there are no others
+  -- What a closed shelf shows of its passes: each value's history is legal and begins with what each pass had seen; the
+  -- entries of a caller are the own calls of its pass, and there are no others
   pub record Ended (s : Shelf T E I O N S C R) (passes : List (Pass T E I O N S C R g)) (c : Closed T E I O N S C R g) : Type 0 where
     pub lawful : (i : ℕ) (o : N × S) → get_elem? (opens_of s) i ≡ some o → IsLegal (g.legal o.0) o.1 (whole_of c i)
     pub begins : (n i : ℕ) (p : Pass T E I O N S C R g) → get_elem? passes n ≡ some p → StartsWith (whole_of c i) (seen_of p i)

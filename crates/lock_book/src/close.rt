@@ -1,5 +1,6 @@
 //! How a shelf ends: all passes are joined, and the values come home, from the last to the first.
 //! What the joined seat has seen is each value's whole history, and the closed shelf keeps a note of it.
+
 ghost use Rattle.std.specs.Prelude.{◌≡◌, ℕ, ◌+◌, ◌<◌, ◌≤◌, true, false, List, [], ◌∷◌, length, IfSome, IsNone, ◌↔◌, slice_index_or};
 ghost use Rattle.std.specs.Mem.Slots.{slots_items, slots_filled, slots_len};
 ghost use mathlib.Core.Option.{some};

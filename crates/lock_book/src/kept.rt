@@ -1,4 +1,5 @@
 //! What a locked value is.
+
 ghost use Rattle.std.specs.Prelude.{◌≡◌, ℕ};
 
 /// A value that threads take turns at. Its name never changes; its state is what a call may change.

@@ -1,4 +1,5 @@
 //! The law by which the calls of all callers make up a history. The function does nothing and promises it.
+
 ghost use Rattle.std.specs.Prelude.{◌≡◌, ℕ, ◌≤◌, List, []};
 ghost use Rattle.lock_book.specs.declared.view.Entry.{Entry};
 ghost use Rattle.lock_book.specs.Folds.{IsCommutativeMonoid, folded, folded_below};

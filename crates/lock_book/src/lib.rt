@@ -4,6 +4,7 @@
 //! value, applies itself, and stands from then on in that value's history. The lock is three words of an `atomic_table`
 //! and one slot (`table`), and its invariant is `Ruled` of specs/Ruled: each value has one legal history, of which each
 //! pass has seen a beginning with all calls of its own.
+
 #![tactic(auto)]
 
 mod close;

@@ -1,4 +1,5 @@
 //! A value that clauses alone read. It has no bytes, so that a locked value can carry what its last call was.
+
 ghost use Rattle.std.specs.Prelude.{◌≡◌};
 ghost use Rattle.std.specs.Borrow.{ftrue};
 
@@ -27,7 +28,7 @@ impl<Y> Noted<Y> {
     }
 }
 
-// It owns nothing.
+/// It owns nothing.
 unsafe impl<Y> Send for Noted<Y> {}
 
 unsafe impl<Y> Sync for Noted<Y> {}

@@ -1,4 +1,5 @@
 //! How a shelf is made: each value goes into a slot, and a pass is cut off for each caller.
+
 ghost use Rattle.std.specs.Prelude.{◌≡◌, ℕ, ◌+◌, ◌-◌, ◌*◌, ◌^◌, ◌<◌, ◌≤◌, List, [], ◌∷◌, length, map, replicate, IfOk, None};
 ghost use mathlib.Core.Option.{some};
 ghost use lib.ListN.{get_elem?};
@@ -14,7 +15,7 @@ use std::alloc::{AllocError, Global};
 
 const MOST: usize = 1 << 60;
 
-// Each value in a slot of its own.
+/// Each value in a slot of its own.
 fn shelved<T: Kept>(alloc: Global, values: Vec<T>) -> Result<Vec<Held<T>>, AllocError>
     ensures { IfOk result (λ v. v.items ≡ map (λ x. record { value = x; made = None }) values.items) }
 {
@@ -30,7 +31,7 @@ fn zeros(alloc: Global, count: usize) -> Result<Vec<u64>, AllocError>
     vec![in alloc; 0u64; count]
 }
 
-// A pass for each caller.
+/// A pass for each caller.
 fn deal<T: Kept>(
     alloc: Global,
     board: &Board<T>,

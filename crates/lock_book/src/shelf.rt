@@ -1,7 +1,8 @@
 //! The shelf, its passes, and a call.
 //!
-//! A pass keeps its seat in a badge, which names no slot, so that it may go to another thread. Between two calls the seat
-//! stands for the pass's one caller and is in no queue.
+//! A pass keeps its seat in a badge, which names no slot, so that it may go to another thread. Between two calls the
+//! seat stands for the pass's one caller and is in no queue.
+
 ghost use Rattle.std.specs.Prelude.{◌≡◌, ℕ, ◌+◌, ◌*◌, ◌^◌, ◌<◌, ◌≤◌, [], ◌∷◌, length};
 ghost use mathlib.Core.Option.{some};
 ghost use lib.ListN.{get_elem?};
@@ -26,7 +27,8 @@ pub struct Shelf<T: Kept> {
     pub ghost some_caller: { 0 < callers },
 }
 
-/// One caller's token, which may go to another thread. For each value it shows the history seen, and its own calls in it.
+/// One caller's token, which may go to another thread. For each value it shows the history seen, and its own calls in
+/// it.
 #[derive(Drop)]
 pub struct Pass<T: Kept> {
     pub(crate) badge: Badge<Known<T>>,
@@ -37,7 +39,7 @@ pub struct Pass<T: Kept> {
     pub ghost numbered: { (view_of badge.views).from ≡ number },
 }
 
-// Takes the seat out of its badge.
+/// Takes the seat out of its badge.
 pub(crate) fn lend<T: Kept>(badge: &mut Badge<Known<T>>) -> Place<T>
     requires { length badge.old.views ≡ 1 }
     ensures { (result.table_id ≡ badge.old.table_id) × (result.me.0 ≡ view_of badge.old.views) × (result.me.1 ≡ []) }
@@ -46,7 +48,7 @@ pub(crate) fn lend<T: Kept>(badge: &mut Badge<Known<T>>) -> Place<T>
     whole.into_seat()
 }
 
-// Puts the seat back.
+/// Puts the seat back.
 pub(crate) fn give_back<T: Kept>(badge: &mut Badge<Known<T>>, seat: Place<T>)
     requires { seat.me.1 ≡ [] }
     ensures { (badge.new.table_id ≡ seat.table_id) × (badge.new.views ≡ seat.me.0 ∷ []) }

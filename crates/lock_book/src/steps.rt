@@ -1,5 +1,6 @@
 //! The moves of the lock, one by one: draw a ticket, wait for the turn, apply the call, commit it, pass the turn on.
 //! What is known between two of them is the stage of the seat and the value that it carries.
+
 ghost use Rattle.std.specs.Prelude.{◌≡◌, ℕ, ◌+◌, ◌*◌, ◌%◌, ◌^◌, ◌<◌, ◌≤◌, [], ◌∷◌, length, Some};
 ghost use mathlib.Core.Option.{some};
 ghost use lib.ListN.{get_elem?};
@@ -13,7 +14,7 @@ use crate::table::{Board, Commit, Held, Next, Place, Ticket, Turn};
 use crossbeam_utils::Backoff;
 use std::sync::Wait;
 
-// Draws a ticket for the value `at`.
+/// Draws a ticket for the value `at`.
 pub(crate) fn draw_ticket<T: Kept>(board: &Board<T>, seat: &mut Place<T>, at: usize) -> u64
     requires own { seat.old.table_id ≡ board.now.shared.table_id }
     requires word { (at < length board.now.shared.key.0.value) × (3 * at + 3 ≤ board.now.shared.table_id.words) }
@@ -25,7 +26,7 @@ pub(crate) fn draw_ticket<T: Kept>(board: &Board<T>, seat: &mut Place<T>, at: us
     board.shared.fetch_add::<Ticket>(seat, 3 * at, 1)
 }
 
-// Waits until the ticket is served. The seat then has the value.
+/// Waits until the ticket is served. The seat then has the value.
 pub(crate) fn wait_turn<T: Kept, R: Wait>(
     rt: &R,
     board: &Board<T>,
@@ -67,7 +68,7 @@ impl<T: Kept> Held<T> {
     }
 }
 
-// Applies the call to the value that the seat has.
+/// Applies the call to the value that the seat has.
 pub(crate) fn serve<T: Kept>(
     board: &Board<T>,
     seat: &mut Place<T>,
@@ -85,7 +86,7 @@ pub(crate) fn serve<T: Kept>(
     seat.slot_mut(&board.shared, at).apply(env, input)
 }
 
-// Adds the call to the history of the value that the seat has.
+/// Adds the call to the history of the value that the seat has.
 pub(crate) fn commit_call<T: Kept>(board: &Board<T>, seat: &mut Place<T>, at: usize)
     requires own { seat.old.table_id ≡ board.now.shared.table_id }
     requires word { 3 * at + 3 ≤ board.now.shared.table_id.words }
@@ -100,7 +101,7 @@ pub(crate) fn commit_call<T: Kept>(board: &Board<T>, seat: &mut Place<T>, at: us
     board.shared.fetch_add::<Commit>(seat, 3 * at + 2, 1);
 }
 
-// Gives the value back, and serves the next ticket.
+/// Gives the value back, and serves the next ticket.
 pub(crate) fn pass_on<T: Kept>(board: &Board<T>, seat: &mut Place<T>, at: usize)
     requires own { seat.old.table_id ≡ board.now.shared.table_id }
     requires word { (3 * at + 3 ≤ board.now.shared.table_id.words) × (at < board.now.shared.table_id.slots) }

@@ -1,17 +1,21 @@
 //! The table of a shelf: its words, its slots and the steps on them.
 //!
-//! Of the value at place i, word 3 i is the number of tickets drawn, word 3 i + 1 the number served and word 3 i + 2 the
-//! length of its history, each modulo 2^64; slot i has the value while nobody holds it. Who may change which, and when:
+//! Of the value at place i, word 3 i is the number of tickets drawn, word 3 i + 1 the number served and word 3 i + 2
+//! the length of its history, each modulo 2^64; slot i has the value while nobody holds it. Who may change which, and
+//! when:
 //!
 //! - tickets drawn: any caller, by a fetch-add of 1, to stand in the queue of the value (`Ticket`);
-//! - the slot: the caller whose ticket is the number served takes the value out, at the load that finds so (`Turn`), and
-//!   puts it back when it passes the turn on; in between only that caller reads or writes it;
-//! - length of the history: only the caller that holds the value, by a fetch-add of 1 after it applied its call (`Commit`);
-//! - tickets served: only the caller that holds the value, by a fetch-add of 1, which also puts the value back (`Next`).
+//! - the slot: the caller whose ticket is the number served takes the value out, at the load that finds so (`Turn`),
+//!   and puts it back when it passes the turn on; in between only that caller reads or writes it;
+//! - length of the history: only the caller that holds the value, by a fetch-add of 1 after it applied its call
+//!   (`Commit`);
+//! - tickets served: only the caller that holds the value, by a fetch-add of 1, which also puts the value back
+//!   (`Next`).
 //!
-//! A caller that waits for its turn loads the number served again and again and backs off in between (`Backoff`).
-//! A look (`Look`) is a load that changes nothing but what the caller knows. Passes are cut off and joined by `Callers`,
+//! A caller that waits for its turn loads the number served again and again and backs off in between (`Backoff`). A
+//! look (`Look`) is a load that changes nothing but what the caller knows. Passes are cut off and joined by `Callers`,
 //! and told what others have seen by `Note`. The rule is `Ruled` of specs/Ruled.
+
 ghost use Rattle.lock_book.specs.History.{made_of};
 ghost use Rattle.lock_book.specs.Ruled.{Ruled, newcomers, ticketed, turned_to, committed, passed_on, looked, first_caller, other_callers, note, informed, together, nobody};
 

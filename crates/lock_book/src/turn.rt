@@ -1,5 +1,6 @@
 //! A whole turn at one value, from the ticket to the next one served.
 //! The invariant is `IsPass` of specs/Told: what is always true of a pass holds again after its call.
+
 ghost use Rattle.std.specs.Prelude.{◌≡◌, ◌+◌, ◌*◌, ◌^◌, ◌<◌, ◌≤◌, [], length};
 ghost use mathlib.Core.Option.{some};
 ghost use lib.ListN.{get_elem?};
@@ -11,7 +12,7 @@ use crate::steps::{commit_call, draw_ticket, pass_on, serve, wait_turn};
 use crate::table::{Board, Place};
 use std::sync::Wait;
 
-// Takes a turn at the value `at`, and applies the call.
+/// Takes a turn at the value `at`, and applies the call.
 pub(crate) fn take_turn<T: Kept, R: Wait>(
     rt: &R,
     board: &Board<T>,

@@ -1,4 +1,5 @@
 //! What a seat at the table knows. It stands in the proofs alone: no value of these types is made.
+
 use std::collections::LinkedList;
 
 /// One call in a history: the caller's number, the call, the reply and the state after it.

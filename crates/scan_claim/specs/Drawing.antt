@@ -65,7 +65,8 @@ with_lists v ls = drawn v.blocks v.callers v.from ls
 abbrev pub Knows : ℕ → ℕ → ℕ → Draws → Type 0
 Knows blocks callers n v = 0 < length v.lists → (v.blocks ≡ blocks) × (v.callers ≡ callers) × EndsOnce blocks v.lists × (callers ≡ 1 → InOrder n v.lists)
 
--- The rule of the counter. The word is the number of draws made; each number below it stands in the lists once, and no other does; there are as many lists as callers, and each has at most one number that is not below the blocks
+-- The rule of the counter. The word is the number of draws made; each number below it stands in the lists once, and no
+-- other does; there are as many lists as callers, and each has at most one number that is not below the blocks
 pub record Counts (blocks callers : ℕ) (s : State (Unit {0}) Draws) : Type 0 where
   pub wide : length s.words ≡ 1
   pub small : (blocks ≤ 2 ^ 32) × (callers < 2 ^ 32)
@@ -93,7 +94,8 @@ pub record Drew (v : Draws) (r : ℕ) (w : Draws) : Type 0 where
 abbrev pub drew : Step (Unit {0}) → Sat → ℕ → Sat → Type 0
 drew st m r m' = (m'.1 ≡ m.1) × Drew m.0 r m'.0
 
--- The lists of all callers: n draws were made, each number below n was drawn once, and no other was. No list has two numbers that are not below the blocks, so n is at most the blocks and the callers together
+-- The lists of all callers: n draws were made, each number below n was drawn once, and no other was. No list has two
+-- numbers that are not below the blocks, so n is at most the blocks and the callers together
 pub record IsDrawn (blocks : ℕ) (lists : List (List ℕ)) (n : ℕ) : Type 0 where
   pub draws : length (flat lists) ≡ n
   pub once : (x : ℕ) → times x (flat lists) ≡ once_below x n

@@ -2,7 +2,9 @@
 //!
 //! The counter is one word, the number of draws made. Any seat may change it, at any time and in one way: a draw adds 1
 //! and gives the number found. A seat whose number was not below the blocks never draws again, so the word is at most
-//! the blocks and the callers together, and does not wrap. Splits and joins of seats load the word. The rule is `Counts`.
+//! the blocks and the callers together, and does not wrap. Splits and joins of seats load the word. The rule is
+//! `Counts`.
+
 ghost use Rattle.std.specs.Prelude.{◌≡◌, ◌≢◌, ℕ, ◌+◌, ◌<◌, ◌≤◌, ◌++◌, ◌⊎◌, ◌↔◌, ◌^◌, IsTrue, IsNone, List, Bool, true, false, [], ◌∷◌, length, map, IfOk, IfSome, IfNone, slice_index_or, EachIndex, ltb, if◌then◌else◌};
 ghost use mathlib.Core.Option.{some};
 ghost use lib.ListN.{get_elem?};
@@ -78,7 +80,7 @@ pub struct Drawn {
     seat: Seat<(), Draws>,
 }
 
-// One draw of a seat that has drawn no number too many.
+/// One draw of a seat that has drawn no number too many.
 fn draw_one(table: &Counter, seat: &mut Seat<(), Draws>) -> u64
     requires own { (seat.old.table_id ≡ table.now.shared.table_id) × (table.now.shared.table_id.words ≡ 1) }
     requires early { (length seat.old.me.0.lists ≡ 1) × (late seat.old.me.0.blocks (flat seat.old.me.0.lists) ≡ 0) }

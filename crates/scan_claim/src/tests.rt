@@ -1,4 +1,5 @@
 //! Each call once, and two threads that draw from one counter.
+
 ghost use Rattle.std.specs.Prelude.{◌≡◌, ◌<◌, ◌≤◌, ◌^◌, ℕ, [], IfOk, IsTrue};
 ghost use Rattle.scan_claim.specs.Drawing.{flat, is_spent, times};
 ghost use Rattle.scan_claim.specs.Shown.{Belongs, blocks_of, callers_of, draws_of, lists_of, number_of};
@@ -9,7 +10,7 @@ use std::sync::Wait;
 use std::test::Fail;
 use std::thread::{Threads, join};
 
-// A counter for two callers.
+/// A counter for two callers.
 fn for_two(alloc: Global, blocks: u64) -> Result<(Claims, ClaimSeat, ClaimSeat), AllocError>
     requires { blocks ≤ 2 ^ 32 }
     ensures counts { IfOk result (λ r. (blocks_of r.0 ≡ blocks) × (callers_of r.0 ≡ 2)) }
@@ -26,7 +27,7 @@ fn for_two(alloc: Global, blocks: u64) -> Result<(Claims, ClaimSeat, ClaimSeat),
     Ok((claims, zero, one))
 }
 
-// Ends a counter for two callers.
+/// Ends a counter for two callers.
 fn close_two(
     alloc: Global,
     claims: Claims,
@@ -45,7 +46,7 @@ fn close_two(
     Ok(claims.close(seats))
 }
 
-// Draws until there is no more.
+/// Draws until there is no more.
 fn draw_all<R: Wait>(rt: &R, claims: &Claims, mut seat: ClaimSeat) -> ClaimSeat
     requires { Belongs claims.now seat }
     ensures same { Belongs claims.now result × (number_of result ≡ number_of seat) }
@@ -59,7 +60,7 @@ fn draw_all<R: Wait>(rt: &R, claims: &Claims, mut seat: ClaimSeat) -> ClaimSeat
     unreachable!()
 }
 
-// Two threads draw all numbers below the blocks, each once.
+/// Two threads draw all numbers below the blocks, each once.
 fn drawn_by_two<R: Threads + Wait + Sync>(
     rt: &R,
     alloc: Global,

@@ -1,4 +1,5 @@
 //! What a seat knows of the draws. It stands in the proofs alone: no value of it is made.
+
 ghost use Rattle.std.specs.Prelude.{◌≡◌, ℕ};
 
 use std::collections::LinkedList;

@@ -1,4 +1,5 @@
 //! A number under a key. Each call answers the number of before, if any.
+
 ghost use Rattle.std.specs.Prelude.{ℕ, ◌<◌, ◌^◌, [], ◌∷◌, Option, Some, None, slice_index, refl};
 
 use dshash_core::CellObject;

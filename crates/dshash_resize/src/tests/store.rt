@@ -1,4 +1,5 @@
 //! Words that nobody has yet. Chunks are cut off their front, one after the other.
+
 ghost use Rattle.std.specs.Prelude.{◌≡◌, ℕ, ◌+◌, ◌*◌, ◌<◌, ◌≤◌, ◌^◌, cond, Option, Some, None, IfSome};
 ghost use Rattle.word_map.specs.WordMap.{at as word_at, is_within, HasJust};
 ghost use Rattle.region_words.specs.Parts.{HasJust-prop};

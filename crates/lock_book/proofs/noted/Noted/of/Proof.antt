@@ -1,4 +1,5 @@
--- `of` makes a value of no bytes, whose ghost field is what the caller's function makes of the value that the reference shows.
+-- `of` makes a value of no bytes, whose ghost field is what the caller's function makes of the value that the reference
+-- shows.
 use mathlib.Core.Path.{refl, sym, subst}
 use Prim.Native.Nat.{ℕ}
 use mathlib.Core.List.{List, [], ◌∷◌, ◌++◌}
