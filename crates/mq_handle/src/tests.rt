@@ -306,6 +306,31 @@ fn conversation<R: Threads + Wait + Sync>(
     (heard, done.into_chunk(r))
 }
 
+/// After Detached, a try never answers that it would block.
+fn detached_stays(r: &Region, q: &mut Receiver) -> bool
+    requires here { q.old.region ≡ r.now }
+    requires stays { q.old.end.gone ≡ false }
+    ensures { IsTrue result }
+{
+    if q.try_receive(r) != ReceiveAnswer::Detached {
+        return true;
+    }
+    q.try_receive(r) != ReceiveAnswer::WouldBlock
+}
+
+/// After a send that answered Detached, another try with the same message answers Detached too.
+fn nobody_receives_again<R: Wait>(rt: &R, r: &Region, s: &mut Sender, message: &[u8]) -> bool
+    requires here { s.old.region ≡ r.now }
+    requires stays { s.old.end.gone ≡ false }
+    requires continues { Continues s.old.end.put message.now }
+    ensures { IsTrue result }
+{
+    if s.send(rt, r, message, true) != SendDone::Detached {
+        return true;
+    }
+    s.try_send(r, message, true) == SendAnswer::Detached
+}
+
 #[test]
 fn one_message_goes_through(rt: HostRuntime) {
     let (r, s, q) = new_queue(rt.alloc(), 64, 0, 100).expect(&rt, "memory");
