@@ -9,9 +9,9 @@
 //! flag as its last step. The ring's ends hold no list of messages; `specs/Messages.antt` reads it off the words
 //! (`whole_of`).
 //!
-//! `storing` puts the words of a frame on the ring and `taking` takes them off it, `looking` looks for more room and for
-//! more words, `sending` and `receiving` are one try each, `sender`, `receiver` and `waiting` are the calls over these,
-//! and `queue` makes a queue and brings its ends together.
+//! `storing` puts the words of a frame on the ring and `taking` takes them off it, `looking` looks for more room and
+//! for more words, `sending` and `receiving` are one try each, `sender`, `receiver` and `waiting` are the calls over
+//! these, and `queue` makes a queue and brings its ends together.
 
 #![tactic(auto)]
 
