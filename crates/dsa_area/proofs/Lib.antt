@@ -1,0 +1,6 @@
+pub mod Steps
+pub mod Chunks
+pub mod Openings
+pub mod Uses
+pub mod Exact
+pub mod Endings

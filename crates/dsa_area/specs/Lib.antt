@@ -1,0 +1,7 @@
+pub mod Pages
+pub mod Pools
+pub mod Sizes
+pub mod Opening
+pub mod Shown
+pub mod Requests
+pub mod Ending
