@@ -1,13 +1,22 @@
 //! The table that finds keys by their hash.
+//!
+//! A search goes from the slot of a key's hash on to the first free one, but never further than `LONGEST_SEARCH` slots.
+//! No more than half of the slots are taken, so hardly a key in a million is further off, unless someone chose the keys
+//! for their hashes, whose seed is known. A key that finds no slot within that reach goes into an ordered map. So
+//! whatever the keys are, one is found by so many slots and one search of the map at most.
+//!
+//! The invariant, `IsIndexed`: each key's place is reached before a free slot, or else the map has a place of the key.
+//! Only `push` changes slots and map, and what was found stays found.
 
-ghost use Rattle.std.specs.Prelude.{◌≡◌, ◌<◌, ◌+◌, ◌^◌, ◌∷◌, ◌++◌, [], ℕ, Some, IfSome, IfNone, IfOk, OnOk, OnErr, length, map, slice_get};
+ghost use Rattle.std.specs.Prelude.{◌≡◌, ◌<◌, ◌≤◌, ◌+◌, ◌^◌, ◌∷◌, ◌++◌, ◌⊎◌, [], ℕ, List, Some, IfSome, IfNone, IfOk, OnOk, OnErr, length, map, slice_get};
 ghost use Rattle.std.specs.Bool.{OnTrue};
 ghost use Rattle.std.specs.List.Sorted.{IsPermutation, IsSorted};
 ghost use Rattle.key_table.specs.Keys.{key_at, key_cmp};
-ghost use Rattle.key_table.specs.Index.{IsIndexed, IsReached, hash, probe as probed};
+ghost use Rattle.key_table.specs.Index.{IsIndexed, IsLate, IsReached, hash, late_place, probe as probed, reach as reached};
 
 use crate::list::KeyList;
 use std::alloc::{AllocError, Global};
+use std::collections::BTreeMap;
 use std::hash::{FoldHasher, Hasher};
 use std::marker::Model;
 
@@ -20,11 +29,16 @@ pub(crate) struct Slot {
 
 const FREE: Slot = Slot { tag: 0, next: 0 };
 
+/// The most slots that a search looks at.
+const LONGEST_SEARCH: usize = 64;
+
 /// Keys in the order in which they came.
 #[derive(Drop)]
 pub struct KeyTable {
     slots: Vec<Slot>,
     keys: KeyList,
+    /// The keys that found no slot, each with its place.
+    late: BTreeMap<Vec<u8>, usize>,
 }
 
 impl Model for KeyTable {
@@ -36,7 +50,7 @@ impl Model for KeyTable {
 
     ghost use Rattle.key_table.specs.Index.{IsIndexed};
 
-    ghost invariant = { λ t. IsIndexed t.slots.items t.keys };
+    ghost invariant = { λ t. IsIndexed t.slots.items t.late t.keys };
 }
 
 impl KeyTable {
@@ -47,6 +61,7 @@ impl KeyTable {
         KeyTable {
             slots: Vec::new(alloc),
             keys: KeyList::new(alloc),
+            late: BTreeMap::new(alloc),
         }
     }
 
@@ -72,21 +87,23 @@ impl KeyTable {
     {
         let hash = hash_of(key);
         let tag = (hash >> 32) as u32;
-        for step in 0..self.slots.len() {
-            let slot = self.slots[probe(self.slots.len(), hash, step)];
+        let size = self.slots.len();
+        for step in 0..reach(size) {
+            let slot = self.slots[probe(size, hash, step)];
             if slot.next == 0 {
-                return None;
+                return find_late(&self.late, &self.keys, key);
             }
             let place = slot.next as usize - 1;
             if slot.tag == tag && self.keys.is(place, key) {
                 return Some(place);
             }
         }
-        None
+        find_late(&self.late, &self.keys, key)
     }
 
-    /// Puts places in the order of their keys. A place of no key comes first. If there is memory for it, the keys' first bytes are
-    /// sorted with the places at first, so that few keys are looked at twice; without it only takes longer.
+    /// Puts places in the order of their keys. A place of no key comes first. If there is memory for it, the keys'
+    /// first bytes are sorted with the places at first, so that few keys are looked at twice; without it only takes
+    /// longer.
     pub fn sort(&self, places: &mut Vec<usize>)
         ensures permutation { IsPermutation places.old.items places.new.items }
         ensures sorted { IsSorted key_cmp (map (key_at self.now) places.new.items) }
@@ -95,15 +112,21 @@ impl KeyTable {
         places.sort_unstable_by(|a, b| self.keys.cmp(*a, *b));
     }
 
-    /// Puts a key behind the others.
+    /// Puts a key behind the others. Whether it is there already is not asked.
     pub fn push(&mut self, alloc: Global, key: &[u8]) -> Result<(), AllocError>
         ensures ok { OnOk result (self.new ≡ self.old ++ key.now ∷ []) }
         ensures err { OnErr result (self.new ≡ self.old) }
     {
         self.make_room(alloc)?;
-        if !put(&mut self.slots, hash_of(key), self.keys.len()) {
-            return Err(AllocError);
-        }
+        let place = self.keys.len();
+        enter(
+            &mut self.slots,
+            &mut self.late,
+            &self.keys,
+            alloc,
+            key,
+            place,
+        )?;
         self.keys.push(key)
     }
 
@@ -113,7 +136,7 @@ impl KeyTable {
     {
         if self.keys.len() >= self.slots.len() / 2 {
             let size = self.slots.len().saturating_mul(4).max(FIRST_SLOTS);
-            self.slots = index_of(alloc, &self.keys, size)?;
+            self.slots = index_of(alloc, &self.keys, &mut self.late, size)?;
         }
         Ok(())
     }
@@ -141,7 +164,56 @@ fn probe(size: usize, hash: u64, step: usize) -> usize
     (hash as usize & mask).wrapping_add(step) & mask
 }
 
-/// Puts a place into the first free slot, if there is one.
+/// How many slots a search looks at.
+fn reach(size: usize) -> usize
+    ensures reach { result ≡ reached size }
+    ensures within { result ≤ size }
+{
+    size.min(LONGEST_SEARCH)
+}
+
+/// The place of a key in the ordered map, if it has one there.
+#[inline(never)]
+fn find_late(late: &BTreeMap<Vec<u8>, usize>, keys: &KeyList, key: &[u8]) -> Option<usize>
+    ensures there { IfSome result (λ place. late_place late.now key.now ≡ Some place) }
+    ensures found { IfSome result (λ place. slice_get keys.now place ≡ Some key.now) }
+    ensures absent { IfNone result (IsLate late.now keys.now key.now → ⊥) }
+{
+    let place = *late.get(key)?;
+    if keys.is(place, key) {
+        Some(place)
+    } else {
+        None
+    }
+}
+
+/// Gives a key that comes at this place a slot, or else puts it into the ordered map, if it is not there.
+fn enter(
+    slots: &mut Vec<Slot>,
+    late: &mut BTreeMap<Vec<u8>, usize>,
+    keys: &KeyList,
+    alloc: Global,
+    key: &[u8],
+    place: usize,
+) -> Result<(), AllocError>
+    ensures entered { OnOk result (IsReached slots.new.items (hash key.now) place ⊎ ((late_place late.new key.now ≡ Some place) ⊎ IsLate late.new keys.now key.now)) }
+    ensures kept { (other at : ℕ) → IsReached slots.old.items other at → IsReached slots.new.items other at }
+    ensures late_kept { (other : List ℕ) → IsLate late.old keys.now other → IsLate late.new keys.now other }
+{
+    if put(slots, hash_of(key), place) {
+        return Ok(());
+    }
+    if let Some(_place) = find_late(late, keys, key) {
+        return Ok(());
+    }
+    let copy = Vec::from_slice(alloc, key)?;
+    match late.insert(copy, place) {
+        Ok(_) => Ok(()),
+        Err(_) => Err(AllocError),
+    }
+}
+
+/// Puts a place into the first free slot within reach, if there is one.
 fn put(slots: &mut Vec<Slot>, hash: u64, place: usize) -> bool
     ensures reached { OnTrue result (IsReached slots.new.items hash place) }
     ensures kept { (other at : ℕ) → IsReached slots.old.items other at → IsReached slots.new.items other at }
@@ -149,8 +221,9 @@ fn put(slots: &mut Vec<Slot>, hash: u64, place: usize) -> bool
     if place >= MOST_KEYS {
         return false;
     }
-    for step in 0..slots.len() {
-        let at = probe(slots.len(), hash, step);
+    let size = slots.len();
+    for step in 0..reach(size) {
+        let at = probe(size, hash, step);
         if slots[at].next == 0 {
             slots[at] = Slot {
                 tag: (hash >> 32) as u32,
@@ -162,15 +235,19 @@ fn put(slots: &mut Vec<Slot>, hash: u64, place: usize) -> bool
     false
 }
 
-/// A table of so many slots for these keys.
-fn index_of(alloc: Global, keys: &KeyList, size: usize) -> Result<Vec<Slot>, AllocError>
-    ensures { IfOk result (λ slots. IsIndexed slots.items keys.now) }
+/// A table of so many slots for these keys. Those that find none go into the ordered map.
+fn index_of(
+    alloc: Global,
+    keys: &KeyList,
+    late: &mut BTreeMap<Vec<u8>, usize>,
+    size: usize,
+) -> Result<Vec<Slot>, AllocError>
+    ensures indexed { IfOk result (λ slots. IsIndexed slots.items late.new keys.now) }
+    ensures late_kept { (other : List ℕ) → IsLate late.old keys.now other → IsLate late.new keys.now other }
 {
     let mut slots = vec![in alloc; FREE; size]?;
     for place in 0..keys.len() {
-        if !put(&mut slots, hash_of(keys.get(place)), place) {
-            return Err(AllocError);
-        }
+        enter(&mut slots, late, keys, alloc, keys.get(place), place)?;
     }
     Ok(slots)
 }
