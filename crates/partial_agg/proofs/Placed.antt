@@ -1,13 +1,15 @@
 -- A map whose states lie in a list: what the finite map that it means becomes where a state changes, a group comes or one goes.
-use Rattle.std.proofs.Common.{◌≡◌, ◌<◌, ◌++◌, ℕ, Bool, true, false, cond, List, [], ◌∷◌, Option, Some, None, refl, ap, sym, subst, ◌∙◌, length, append_assoc, get_or, set, map as map_list}
+use Rattle.std.proofs.Common.{◌≡◌, ◌<◌, ◌++◌, ℕ, zero, suc, Bool, true, false, cond, List, [], ◌∷◌, Option, Some, None, refl, ap, sym, subst, ◌∙◌, length, append_assoc, get_or, set, map as map_list}
 use Rattle.std.proofs.lemmas.List.{get_or-set_other, get_or-set_same, get_or_default}
 use Rattle.std.proofs.lemmas.Map.Made.{lookup-map_values}
 use Rattle.std.proofs.Math.ListN.{get_or-append}
 use Rattle.std.proofs.Math.Seq.{get_or-append_seam}
+use Rattle.std.proofs.lemmas.Option.{get_or_from_slice_get}
 use Rattle.std.specs.BTreeMap.{is_at}
 use Rattle.std.specs.Cmp.{eq_by_cmp_equiv}
 use Rattle.std.specs.Cmp.Lexicographic.{nat_list_cmp_total}
 use Rattle.std.specs.FinMap as map
+use Rattle.std.specs.List.{slice_get}
 use Rattle.std.specs.List.Sorted.{IsStrictlySortedBy}
 use Rattle.std.specs.Option.{option_map}
 use Rattle.std.specs.Ordering.{is_eq}
@@ -15,7 +17,8 @@ use Rattle.std.specs.declared.cmp.Ordering.{Ordering}
 use Rattle.std.specs.declared.cmp.Ordering.TheVariants.{Less, Equal, Greater}
 use Rattle.par_model.specs.declared.state.AggState.{AggState}
 use Rattle.partial_agg.specs.Groups.{GroupsByKey, added, joined, key_cmp}
-use Rattle.partial_agg.specs.Listed.{group}
+use Rattle.key_table.specs.Keys.{key_at}
+use Rattle.partial_agg.specs.Listed.{group, listed_at}
 use Rattle.partial_agg.specs.Placed.{ArePlaces, Places, groups_at, place_of, placed}
 use Rattle.partial_agg.specs.State.{combined, empty_state}
 use Rattle.partial_agg.specs.declared.groups.Group.{Group}
@@ -120,12 +123,20 @@ entries-groups_at m places states view ordered =
     ap map.entries (sym view)
     ∙ entries-view (placed places states) (sorted-from_ordered (placed places states) (subst (λ (ks : List (List ℕ)). IsStrictlySortedBy key_cmp ks) (sym (keys-placed places states)) ordered))
 
--- one more entry as a group
-pub one_listed : (done : List Group) (places rest : Places) (states : List AggState) (whole : List Group) (key : List ℕ) (place : ℕ) (state : AggState)
-    → done ++ map_list group (placed places states) ≡ whole → places ≡ (key, place) ∷ rest → place < length states → state ≡ get_or states place state
-    → (done ++ record { key = key; state = state } ∷ []) ++ map_list group (placed rest states) ≡ whole
-one_listed done places rest states whole key place state is next within stood =
-    append_assoc done (record { key = key; state = state } ∷ []) (map_list group (placed rest states))
-    ∙ ap (λ (s : AggState). done ++ record { key = key; state = s } ∷ map_list group (placed rest states)) (stood ∙ get_or_default states place state empty_state within)
-    ∙ ap (λ (places : Places). done ++ map_list group (placed places states)) (sym next)
-    ∙ is
+-- the groups at places of a table as a list
+pub length-listed_at : (keys : List (List ℕ)) (states : List AggState) (places : List ℕ) → length (listed_at keys states places) ≡ length places
+length-listed_at keys states [] = refl
+length-listed_at keys states (p ∷ places) = ap suc (length-listed_at keys states places)
+
+pub listed-get : (keys : List (List ℕ)) (states : List AggState) (places : List ℕ) (at place : ℕ) (key : List ℕ) (state : AggState) → slice_get places at ≡ Some place → slice_get keys place ≡ Some key
+    → state ≡ get_or states place state → place < length states → slice_get (listed_at keys states places) at ≡ Some (group (key, state))
+listed-get keys states [] at place key state e k s lt = cc
+listed-get keys states (p ∷ places) zero place key state e k s lt =
+    let same : p ≡ place = some_place p place e in
+    ap (λ p. Some (group (key_at keys p, get_or states p empty_state))) same
+    ∙ ap (λ (key : List ℕ). Some (group (key, get_or states place empty_state))) (get_or_from_slice_get keys place key [] k)
+    ∙ ap (λ (state : AggState). Some (group (key, state))) (get_or_default states place empty_state state lt ∙ sym s)
+  where
+    some_place : (a b : ℕ) → Some a ≡ Some b → a ≡ b
+    some_place a b e = cc
+listed-get keys states (p ∷ places) (suc at) place key state e k s lt = listed-get keys states places at place key state e k s lt

@@ -1,5 +1,5 @@
-//! A group's key: its encoded columns, at most 248 bytes, in an array, so that a key takes no allocation. Only the bytes before
-//! `len` are the key's; those past it are what stood there before, and no call reads them.
+//! A group's key: its encoded columns, at most 248 bytes, in an array, so that a key takes no allocation. Only the
+//! bytes before `len` are the key's; those past it are what stood there before, and no call reads them.
 
 ghost use Rattle.std.specs.Prelude.{◌≡◌, ◌≤◌, ◌+◌, ◌++◌, ◌↔◌, [], IsSome, IfSome, IsTrue, length};
 ghost use Rattle.std.specs.Bool.{OnTrue};

@@ -1,12 +1,13 @@
 //! The map from the keys of groups to their aggregates, and the list that it ends as.
 //!
-//! It has three parts. `keys` finds the place of a key by its hash; `states` has the state of each key, one after the other in
-//! the order in which the keys came; `left` has the places of the groups that are in the map, and is put in the order of
-//! their keys, the greatest first, when the first group is asked for. So a row of a group that is there costs one look-up and
-//! changes its state in place, and the order is made once.
+//! It has three parts. `keys` finds the place of a key by its hash; `states` has the state of each key, one after the
+//! other in the order in which the keys came; `left` has the places of the groups that are in the map, and is put in
+//! the order of their keys, the greatest first, when the first group is asked for. So a row of a group that is there
+//! costs one look-up and changes its state in place, and the order is made once.
 //!
-//! `take_first` takes the last place out of `left`, and leaves the key and its state where they are, until no place is left. A
-//! key that comes again after that gets its old place back. While no key was taken, each key that is found is in the map.
+//! `take_first` takes the last place out of `left`, and leaves the key and its state where they are, until no place is
+//! left. A key that comes again after that gets its old place back. While no key was taken, each key that is found is
+//! in the map.
 
 ghost use Rattle.std.specs.Prelude.{◌≡◌, ◌<◌, ◌≤◌, ◌+◌, ◌*◌, ◌^◌, ◌∷◌, ◌++◌, ◌↔◌, [], ℕ, List, Contains, IsTrue, true, false, IfOk, IfErr, IfSome, IfNone, OnOk, OnErr, None, Some, All, length, map as map_list, reverse};
 ghost use Rattle.std.specs.FinMap as map;
@@ -17,13 +18,12 @@ ghost use Rattle.par_model.specs.Plan.{Plan};
 ghost use Rattle.par_model.specs.Columns.{HasColumns};
 ghost use Rattle.partial_agg.specs.Blocks.{Explains, Stopped};
 ghost use Rattle.partial_agg.specs.Groups.{AreGroups, added, with_rows};
-ghost use Rattle.partial_agg.specs.Listed.{group, listed};
-ghost use Rattle.partial_agg.specs.Placed.{placed, places_of};
+ghost use Rattle.partial_agg.specs.Listed.{listed};
 ghost use Rattle.partial_agg.specs.Values.{values_state};
 ghost use Rattle.partial_agg.specs.Status.{IsKeptBy};
 ghost use Rattle.partial_agg.specs.Rows.{IsAccepted, block_rows, header_width};
 
-use crate::groups::{Group, Groups};
+use crate::groups::{Groups, SortedGroups};
 use crate::key::GroupKey;
 use crate::row::{RowBuffer, RowStatus, read_values};
 use crate::state::{add_values, combine, one_row};
@@ -124,25 +124,33 @@ impl GroupMap {
         Some(group)
     }
 
-    /// The groups as a list in the order of their keys. The map is used up, also where memory is wanting.
-    pub fn into_groups(self) -> Result<Groups, AllocError>
-        ensures { IfOk result (λ groups. groups ≡ listed self) }
+    /// The groups in the order of their keys, where they lie. Takes no memory and copies no group.
+    pub fn into_sorted(self) -> SortedGroups
+        ensures { result ≡ listed self }
     {
         let GroupMap {
             keys,
             states,
             mut left,
             sorted,
-            alloc,
             ..
         } = self;
         put_in_order(&keys, &mut left, sorted);
-        list_of(alloc, &keys, states.as_slice(), left)
+        left.reverse();
+        SortedGroups::of_parts(keys, states, left)
     }
 
-    /// Adds the rows of a block in order, but for those that the filter leaves out. A refused row stops it, the first of
-    /// the block, before which the rows up to it were added; want of memory stops it at a row that it names nowhere, and
-    /// the map is then only dropped. Each row is read once; the time for it is that of a look-up.
+    /// The groups as a list in the order of their keys. The map is used up, also where memory is wanting.
+    pub fn into_groups(self) -> Result<Groups, AllocError>
+        ensures { IfOk result (λ groups. groups ≡ listed self) }
+    {
+        let alloc = self.alloc;
+        self.into_sorted().into_groups(alloc)
+    }
+
+    /// Adds the rows of a block in order, but for those that the filter leaves out. A refused row stops it, the first
+    /// of the block, before which the rows up to it were added; want of memory stops it at a row that it names nowhere,
+    /// and the map is then only dropped. Each row is read once; the time for it is that of a look-up.
     pub fn add_block(
         &mut self,
         rows: &RowStore,
@@ -155,7 +163,8 @@ impl GroupMap {
         ensures accepted { OnOk result (All (IsAccepted plan.now (header_width rows.now)) (block_rows rows.now block)) }
 
         // From the map of other rows it makes the map of those and the block's.
-        ensures groups { OnOk result ((xs : List (List (List ℕ))) → All (IsAccepted plan.now (header_width rows.now)) xs → length xs + 256 < 2 ^ 64 → AreGroups plan.now xs self.old → AreGroups plan.now (xs ++ block_rows rows.now block) self.new) }
+        ensures groups { OnOk result ((xs : List (List (List ℕ))) → All (IsAccepted plan.now (header_width rows.now)) xs → length xs + 256 < 2 ^ 64
+            → AreGroups plan.now xs self.old → AreGroups plan.now (xs ++ block_rows rows.now block) self.new) }
 
         // Where it stopped, and what it has added before.
         ensures stopped { IfErr result (Stopped plan.now rows.now block self.old self.new) }
@@ -199,8 +208,8 @@ impl GroupMap {
         }
     }
 
-    /// Reads the values of a row whose key is read, and adds it. The key is looked for first, so that what this waits for comes
-    /// while the values are parsed.
+    /// Reads the values of a row whose key is read, and adds it. The key is looked for first, so that what this waits
+    /// for comes while the values are parsed.
     fn add_kept(
         &mut self,
         buffer: &mut RowBuffer,
@@ -285,27 +294,4 @@ fn put_in_order(keys: &KeyTable, left: &mut Vec<usize>, sorted: bool)
         keys.sort(left);
         left.reverse();
     }
-}
-
-/// The groups at places, the last one first.
-fn list_of(
-    alloc: Global,
-    keys: &KeyTable,
-    states: &[AggState],
-    mut left: Vec<usize>,
-) -> Result<Groups, AllocError>
-    requires keys { All (λ place. place < length keys.now) left.items }
-    requires states { length states.now ≡ length keys.now }
-    requires fits { All (λ key. length key ≤ 248) keys.now }
-    ensures { IfOk result (λ groups. groups ≡ map_list group (placed (places_of keys.now (reverse left.items)) states.now)) }
-{
-    let mut list = Vec::with_capacity(alloc, left.len())?;
-    while let Some(place) = left.pop() {
-        let key = GroupKey::copy_of(keys.get(place));
-        let state = states[place];
-        if list.push(Group { key, state }).is_err() {
-            return Err(AllocError);
-        }
-    }
-    Ok(Groups::of_list(list))
 }
