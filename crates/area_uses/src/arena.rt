@@ -2,6 +2,7 @@
 //!
 //! Which chunk is whose is not kept: the bytes of a chunk say whether it is an object, and of which class, or whole
 //! pages.
+
 ghost use Rattle.std.specs.Prelude.{◌≡◌, ℕ, ◌+◌, ◌-◌, ◌*◌, ◌≤◌, ◌<◌, ◌^◌, IfNone, IfOk, IfSome, IsSome, length};
 ghost use Rattle.word_map.specs.WordMap.{at as word_at};
 ghost use Rattle.free_pages.specs.Area.{area_size, class_count, control_words, head_words};

@@ -1,4 +1,5 @@
 //! What is granted and taken back of one pool and of whole pages, as chunks.
+
 ghost use Rattle.std.specs.Prelude.{◌≡◌, ◌*◌, ◌≤◌, IfNone, IfSome};
 ghost use Rattle.free_pages.specs.Area.{superblock_pages};
 ghost use Rattle.span_pools.specs.Legal.{AllLive};

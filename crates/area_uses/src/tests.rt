@@ -1,6 +1,7 @@
 //! A walk of 2,000 requests over an area of 4,096 pages. Call i asks for `1 + (37 * i) % 20000` bytes, and the chunk of
 //! call i - 40 is given back after it. So 40 chunks are held at a time, objects of 33 of the classes and runs of three
 //! to five pages among them.
+
 ghost use Rattle.std.specs.Prelude.{◌≡◌, ℕ, ◌+◌, ◌-◌, ◌/◌, ◌<◌, ◌^◌, All, IfOk, Some};
 ghost use Rattle.word_map.specs.WordMap.{at as word_at};
 ghost use Rattle.area_uses.specs.Arenas.{IsArena, IsHeld, first_word, page_count};
@@ -119,7 +120,7 @@ fn area(alloc: Global) -> Result<(Region, Arena), AllocError>
     Ok((region, arena))
 }
 
-// Each pool that was used keeps the superblock that is its active one, and all other pages are free again.
+/// Each pool that was used keeps the superblock that is its active one, and all other pages are free again.
 #[test]
 fn two_thousand_sizes(rt: HostRuntime) -> Result<(), Fail> {
     let (region, mut arena) = area(rt.alloc())?;

@@ -76,7 +76,8 @@ module _ (a : Area) (p q : AreaPass) (at bytes : ℕ) where
       m)
       h
 
-  -- a chunk is not both taken back and handed back: so `free` answers Stranger exactly where its own event did, or by the size
+  -- a chunk is not both taken back and handed back: so `free` answers Stranger exactly where its own event did, or by
+  -- the size
   pub not_both : IsTakenBack a p q at bytes → IsHandedBack a p q at bytes → ⊥
   not_both x h = ⊎_elim
       (λ (k : (class : ℕ) × IsClass class × (class_size class ≡ bytes) × PoolEvents a p q class ((Free at bytes, Kept) ∷ [])). object_taken k.0 Kept (λ e. absurd (cc)) k.1 k.2 k.3.pool h)

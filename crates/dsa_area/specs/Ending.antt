@@ -21,8 +21,8 @@ pages_whole c = shelf.whole_of c.pages 0
 abbrev pub pool_whole : ClosedArea → ℕ → List (Entry PoolState PoolCall PoolReply)
 pool_whole c class = shelf.whole_of c.pools (class - first_class)
 
--- A value's whole history is legal and begins with what each pass had seen; the entries of a caller are the own calls of its
--- pass, and there are no others
+-- A value's whole history is legal and begins with what each pass had seen; the entries of a caller are the own calls
+-- of its pass, and there are no others
 pub record IsWhole {S C R : Type 0} (legal : ℕ → S → C → R → S → Type 0) (opening : S) (callers : ℕ) (passes : List AreaPass) (seen mine : AreaPass → List (Entry S C R)) (whole : List (Entry S C R)) : Type 0 where
   pub lawful : IsLegal legal opening whole
   pub begins : (n : ℕ) (p : AreaPass) → get_elem? passes n ≡ some p → StartsWith whole (seen p)

@@ -1,4 +1,5 @@
--- The locked pages: which call an ask stands for, which reply an answer stands for, and the runs that go in and come out.
+-- The locked pages: which call an ask stands for, which reply an answer stands for, and the runs that go in and come
+-- out.
 use Rattle.std.specs.Prelude.{◌≡◌, ℕ, ◌≤◌, is_some}
 use Rattle.free_pages.specs.Legal.{PagesState, PagesCall, PagesReply, Take, Give, Gets, Lacks, Accepts, HandsBack}
 use Rattle.free_pages.specs.Legal as pages

@@ -1,4 +1,5 @@
--- A locked pool: which call an ask stands for, which reply an answer stands for, and the tokens that go in and come out.
+-- A locked pool: which call an ask stands for, which reply an answer stands for, and the tokens that go in and come
+-- out.
 use Rattle.std.specs.Prelude.{◌≡◌, ℕ, ◌*◌}
 use Rattle.region_words.specs.declared.chunk.Chunk.{Chunk}
 use Rattle.span_pools.specs.Legal.{PoolState, PoolCall, PoolReply, Alloc, Add, Free, Object, Full, Kept, Whole, Stranger}
@@ -38,8 +39,8 @@ AskFits n (FreeObject chunk) = chunk.part.region ≡ n.region
 abbrev pub IsObject : PoolName → Chunk → Type 0
 IsObject n chunk = (chunk.bytes ≡ 8 * n.layout.size) × (chunk.part.region ≡ n.region)
 
--- an object has the bytes of the class; a superblock that goes out is one of these pages; an object that is handed back is
--- the one that was brought
+-- an object has the bytes of the class; a superblock that goes out is one of these pages; an object that is handed back
+-- is the one that was brought
 abbrev pub AnswerFits : PoolName → PoolAsk → PoolAnswer → Type 0
 AnswerFits n AllocObject (Given chunk) = IsObject n chunk
 AnswerFits n AllocObject AllLive = Unit {0}

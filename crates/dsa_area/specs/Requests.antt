@@ -1,5 +1,5 @@
--- Which events a request makes, and which answer it has by them. Each event is a call of `free_pages` or `span_pools` with
--- its reply, which stands in the history of the pages or of one pool.
+-- Which events a request makes, and which answer it has by them. Each event is a call of `free_pages` or `span_pools`
+-- with its reply, which stands in the history of the pages or of one pool.
 use Rattle.std.specs.Prelude.{◌≡◌, ◌≢◌, ℕ, ◌/◌, ◌%◌, ◌<◌, ◌⊎◌, true, false, List, [], ◌∷◌}
 use Rattle.size_classes.specs.Classes.{IsClass, IsLeast, class_size, largest_size}
 use Rattle.free_pages.specs.Area.{superblock_pages}
@@ -44,22 +44,23 @@ module _ (a : Area) (p q : AreaPass) where
       ⊎ (((class run : ℕ) × IsLeast bytes class × Events class ((Alloc, Full) ∷ (Add run, Object at) ∷ []) ((Take superblock_pages true, Gets run) ∷ []))
       ⊎ ((largest_size < bytes) × PageEvents ((Take (pages_for bytes) false, Gets at) ∷ [])))
 
-  -- The request is refused: a run of so many pages was asked for, and these were not there, nor, for an object, a free one
+  -- The request is refused: a run of so many pages was asked for, and these were not there, nor, for an object, a free
+  -- one
   abbrev pub IsRefused : ℕ → ℕ → ℕ → Type 0
   IsRefused bytes wanted largest =
       ((class : ℕ) × IsLeast bytes class × Events class ((Alloc, Full) ∷ []) ((Take superblock_pages true, Lacks wanted largest) ∷ []))
       ⊎ ((largest_size < bytes) × PageEvents ((Take (pages_for bytes) false, Lacks wanted largest) ∷ []))
 
-  -- The chunk is taken back: an object; or an object whose superblock then goes to the pages, whatever they reply; or whole
-  -- pages
+  -- The chunk is taken back: an object; or an object whose superblock then goes to the pages, whatever they reply; or
+  -- whole pages
   abbrev pub IsTakenBack : ℕ → ℕ → Type 0
   IsTakenBack at bytes =
       ((class : ℕ) × IsClass class × (class_size class ≡ bytes) × PoolEvents class ((Free at bytes, Kept) ∷ []))
       ⊎ (((class run : ℕ) × (reply : PagesReply) × IsClass class × (class_size class ≡ bytes) × Events class ((Free at bytes, Whole run) ∷ []) ((Give run superblock_pages true, reply) ∷ []))
       ⊎ ((largest_size < bytes) × (bytes % page_bytes ≡ 0) × PageEvents ((Give at (bytes / page_bytes) false, Accepts) ∷ [])))
 
-  -- The chunk is none of the area's: the pool of its size, or the pages, handed it back; or its size is neither a class's nor
-  -- that of whole pages above the largest size, and nothing was asked
+  -- The chunk is none of the area's: the pool of its size, or the pages, handed it back; or its size is neither a
+  -- class's nor that of whole pages above the largest size, and nothing was asked
   abbrev pub IsHandedBack : ℕ → ℕ → Type 0
   IsHandedBack at bytes =
       ((class : ℕ) × IsClass class × (class_size class ≡ bytes) × PoolEvents class ((Free at bytes, Stranger) ∷ []))

@@ -53,7 +53,8 @@ pages_legal a caller before call reply after = pages.IsLegal (first_of a) before
 abbrev pub pool_legal : Area → ℕ → ℕ → PoolState → PoolCall → PoolReply → PoolState → Type 0
 pool_legal a class caller before call reply after = pool.IsLegal (layout_of class (first_of a) (pages_of a)) before call reply after
 
--- The area is in this region. It opened with no page granted, and with a pool of each class, in order, without a superblock
+-- The area is in this region. It opened with no page granted, and with a pool of each class, in order, without a
+-- superblock
 pub record IsArea (region : TableId) (a : Area) : Type 0 where
   pub pages : shelf.opens_of a.pages ≡ (pages_name region a, none_granted a) ∷ []
   pub count : shelf.count_of a.pools ≡ class_count

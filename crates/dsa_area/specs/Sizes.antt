@@ -11,6 +11,7 @@ page_bytes = 8 * page_words
 abbrev pub pages_for : ℕ → ℕ
 pages_for bytes = (bytes + (page_bytes - 1)) / page_bytes
 
--- the bytes of the chunk that a request of so many bytes gets: the first size of a class that holds them, or whole pages
+-- the bytes of the chunk that a request of so many bytes gets: the first size of a class that holds them, or whole
+-- pages
 unfoldable pub chunk_size : ℕ → ℕ
 chunk_size bytes = first_size sizes (page_bytes * pages_for bytes) bytes

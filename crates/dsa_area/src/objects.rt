@@ -1,8 +1,8 @@
 //! Requests that are objects of a size class.
 //!
-//! Its pool is asked first. Where every object is live, 16 pages with their control records are taken from the pages and
-//! become a superblock of the pool; the two locks are taken one after the other. A superblock that goes out with its last
-//! object is given to the pages.
+//! Its pool is asked first. Where every object is live, 16 pages with their control records are taken from the pages
+//! and become a superblock of the pool; the two locks are taken one after the other. A superblock that goes out with
+//! its last object is given to the pages.
 
 ghost use Rattle.std.specs.Prelude.{◌≡◌, ℕ, ◌⊎◌, true, [], ◌∷◌, IfOk, IfErr};
 ghost use Rattle.size_classes.specs.Classes.{IsClass, class_size};
@@ -72,8 +72,8 @@ fn grow_pool<R: Wait>(
     }
 }
 
-/// An object of a class comes back. Its superblock goes to the pages where none of its objects is live any more and it is
-/// not the active one; where they hand it back, it is dropped.
+/// An object of a class comes back. Its superblock goes to the pages where none of its objects is live any more and it
+/// is not the active one; where they hand it back, it is dropped.
 pub(crate) fn take_object_back<R: Wait>(
     rt: &R,
     area: &Area,

@@ -1,7 +1,7 @@
 //! The pages behind a lock.
 //!
-//! What the locked pages are asked stands for a call of `free_pages`, what they answer for its reply (`specs/Pages.antt`),
-//! and the run that goes in or comes out is a token.
+//! What the locked pages are asked stands for a call of `free_pages`, what they answer for its reply
+//! (`specs/Pages.antt`), and the run that goes in or comes out is a token.
 
 ghost use Rattle.std.specs.Prelude.{◌≡◌};
 ghost use Rattle.dsa_area.specs.Pages.{name_of, call_of, reply_of, AskFits, AnswerFits, PagesLegal};

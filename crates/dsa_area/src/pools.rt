@@ -1,7 +1,7 @@
 //! A pool behind a lock.
 //!
-//! What a locked pool is asked stands for a call of `span_pools`, what it answers for its reply (`specs/Pools.antt`), and
-//! the object or the superblock that goes in or comes out is a token.
+//! What a locked pool is asked stands for a call of `span_pools`, what it answers for its reply (`specs/Pools.antt`),
+//! and the object or the superblock that goes in or comes out is a token.
 
 ghost use Rattle.std.specs.Prelude.{◌≡◌};
 ghost use Rattle.dsa_area.specs.Pools.{name_of, call_of, reply_of, AskFits, AnswerFits, PoolLegal};

@@ -1,5 +1,5 @@
-//! Areas in regions of their own: a program of two threads, a lone caller's first request, a walk of 2,000 requests, and
-//! the answers to chunks that are none of the area's.
+//! Areas in regions of their own: a program of two threads, a lone caller's first request, a walk of 2,000 requests,
+//! and the answers to chunks that are none of the area's.
 
 ghost use Rattle.std.specs.Prelude.{◌≡◌, ℕ, ◌≤◌, IfOk};
 ghost use mathlib.Core.Option.{some};

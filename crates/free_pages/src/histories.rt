@@ -2,6 +2,7 @@
 //! types.
 //!
 //! They stand in contracts and proofs alone, where a layer above keeps a history; no value of them need be made.
+
 use std::marker::Model;
 
 /// A state of the pages: how many there are, and which runs are granted.

@@ -1,6 +1,7 @@
 //! Where the words of an area stand: the numbers of its layout, and the sums that give the place of each kind of word.
 //!
 //! `specs/Area.antt` says the same for contracts. The layers above take these numbers from here.
+
 ghost use Rattle.std.specs.Prelude.{◌≡◌, ◌≤◌, ◌^◌};
 ghost use Rattle.free_pages.specs.Area as area;
 

@@ -6,6 +6,7 @@
 //! goes, so giving a run back is one store. A walk begins behind the pages that are granted without a gap from page 0
 //! on, whose number `Pages` keeps beside the region. The state, the calls and their replies are `specs/Legal.antt`,
 //! which the layers above cite.
+
 #![tactic(auto)]
 
 mod histories;

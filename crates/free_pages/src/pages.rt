@@ -5,6 +5,7 @@
 //! it, and its control records where they are asked for; `give` takes the same tokens back. What the parts own is
 //! `IsPages` of `specs/PagesView.antt`: one equation for each word, whether it is kept. What the calls answer is
 //! `IsLegal` of `specs/Legal.antt`.
+
 ghost use Rattle.std.specs.Prelude.{◌≡◌, ℕ, ◌+◌, ◌*◌, ◌-◌, ◌/◌, ◌<◌, ◌≤◌, ◌^◌, [], ◌≢◌, MatchResult, IfOk, IfErr, Some, IfSome, IsSome, is_some};
 ghost use Rattle.word_map.specs.WordMap.{at as word_at, HasJust};
 ghost use Rattle.free_pages.specs.Area.{front, control_words, head_words, page_words};

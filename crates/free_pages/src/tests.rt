@@ -1,4 +1,5 @@
 //! Pages that are granted and given back, and callers that prove what they need of the contracts.
+
 ghost use Rattle.std.specs.Prelude.{◌≡◌, ℕ, ◌+◌, ◌*◌, ◌<◌, ◌≤◌, ◌^◌, [], true, IfOk, IsSome};
 ghost use Rattle.word_map.specs.WordMap.{at as word_at};
 ghost use Rattle.free_pages.specs.Area.{area_size, front, head_words, page_words};

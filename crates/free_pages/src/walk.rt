@@ -2,6 +2,7 @@
 //!
 //! Each function keeps `IsRuns`: the run words part the pages into runs. Only `grant` and `release` change which runs
 //! are granted.
+
 ghost use Rattle.std.specs.Prelude.{◌≡◌, ℕ, ◌+◌, ◌*◌, ◌/◌, ◌%◌, ◌<◌, ◌≤◌, ◌^◌, ◌⊎◌, IsSome, Some, ◌==◌, cond, true, false, List};
 ghost use Rattle.word_map.specs.WordMap.{at as word_at};
 ghost use Rattle.free_pages.specs.Legal.{IsFree, IsLargest, Adds, Granted};

@@ -4,6 +4,7 @@
 //! The classes are numbered from 2 to 37; dsa.c uses 0 and 1 for blocks that are no objects. Each size is a multiple of
 //! 8, so a class is found by one look-up at the request in words. `sizes` of `specs/Classes.antt` is the table of
 //! sizes, and `IsLeast` says what the look-up gives. No call takes memory, and each costs the same for every argument.
+
 #![tactic(auto)]
 
 ghost use Rattle.std.specs.Prelude.{◌≡◌, ◌≢◌, ℕ, ◌%◌, ◌<◌, ◌≤◌, IfSome, IfNone};

@@ -1,4 +1,5 @@
 //! How a pool finds its superblocks: by the bits of its class.
+
 ghost use Rattle.std.specs.Prelude.{◌≡◌, ◌≢◌, ℕ, ◌+◌, ◌*◌, ◌-◌, ◌/◌, ◌<◌, ◌≤◌, true, false, Some, IfSome, IfNone, IsSome};
 ghost use Rattle.std.specs.Int.{bit_at};
 ghost use Rattle.word_map.specs.WordMap.{at as word_at, HasJust};

@@ -2,6 +2,7 @@
 //! types.
 //!
 //! They stand in contracts and proofs alone, where a layer above keeps a history; no value of them need be made.
+
 use crate::layout::Layout;
 use region_words::Region;
 use std::marker::Model;

@@ -1,4 +1,5 @@
 //! Where the words of a pool stand.
+
 ghost use Rattle.std.specs.Prelude.{◌≡◌, ◌+◌, ◌*◌, ◌≤◌, ◌^◌};
 ghost use Rattle.size_classes.specs.Classes.{IsClass};
 ghost use Rattle.free_pages.specs.Area as area;

@@ -4,6 +4,7 @@
 //! stands in the region: its bit among the class's bits, its record, and a list through the first words of the free
 //! objects that were used before. So a pool takes no memory; beside the region it keeps how many of its objects are
 //! free. `specs/Legal.antt` has the state, the calls and their replies, which the layers above cite.
+
 #![tactic(auto)]
 
 mod find;

@@ -2,6 +2,7 @@
 //! is set.
 //!
 //! Only the class's pool changes them. `mark_of` of `specs/View.antt` reads them.
+
 ghost use Rattle.std.specs.Prelude.{◌≡◌, ◌≢◌, ℕ, ◌+◌, ◌*◌, ◌/◌, ◌<◌, ◌≤◌, true, false, Some, IfSome, IfNone, IsSome};
 ghost use Rattle.word_map.specs.WordMap.{at as word_at, HasJust};
 ghost use Rattle.free_pages.specs.Area as area;

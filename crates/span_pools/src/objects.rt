@@ -5,6 +5,7 @@
 //! Only the pool changes a record. The list goes through the first words of the free objects, each of which has the
 //! place of the next; an object that was never used is free and on no list. `IsRecordOf` of `specs/View.antt` says what
 //! a record means.
+
 ghost use Rattle.std.specs.Prelude.{◌≡◌, ℕ, ◌||◌, ◌+◌, ◌*◌, ◌-◌, ◌/◌, ◌<◌, ◌≤◌, true, false, Some, IfSome, IfNone, IsSome};
 ghost use Rattle.word_map.specs.WordMap.{at as word_at, Disjoint, HasJust, is_within};
 ghost use Rattle.free_pages.specs.Area.{superblock_pages};

@@ -5,6 +5,7 @@
 //! are live until they come back: so which objects are live is read off the words that the pool owns, and its record
 //! and its list only say so again. What the parts own is `IsPool` of `specs/View.antt`; what the calls answer is
 //! `IsLegal` of `specs/Legal.antt`.
+
 ghost use Rattle.std.specs.Prelude.{◌≡◌, ◌≢◌, ℕ, ◌+◌, ◌*◌, ◌/◌, ◌<◌, ◌≤◌, ◌^◌, [], None, Some, IfSome, IfNone, IfOk, IfErr, true, IsSome, is_some};
 ghost use Rattle.word_map.specs.WordMap.{HasJust};
 ghost use Rattle.size_classes.specs.Classes.{IsClass};

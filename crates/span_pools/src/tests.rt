@@ -1,4 +1,5 @@
 //! Pools that give objects and take them back, and a caller that proves what it needs of the contracts.
+
 ghost use Rattle.std.specs.Prelude.{◌≡◌, ℕ, ◌+◌, ◌-◌, ◌*◌, ◌/◌, ◌<◌, ◌≤◌, ◌^◌, [], None, IfOk, IfSome, IsSome};
 ghost use Rattle.word_map.specs.WordMap.{at as word_at};
 ghost use Rattle.size_classes.specs.Classes.{IsClass};

@@ -1,4 +1,5 @@
-//! A lone caller's first object: by the laws of `proofs/Uses.antt` it is granted wherever the area has a superblock's pages.
+//! A lone caller's first object: by the laws of `proofs/Uses.antt` it is granted wherever the area has a superblock's
+//! pages.
 
 ghost use Rattle.std.specs.Prelude.{◌≡◌, ◌≤◌};
 ghost use Rattle.dsa_area.specs.Sizes.{chunk_size};
