@@ -39,8 +39,8 @@ AskFits n (FreeObject chunk) = chunk.part.region ≡ n.region
 abbrev pub IsObject : PoolName → Chunk → Type 0
 IsObject n chunk = (chunk.bytes ≡ 8 * n.layout.size) × (chunk.part.region ≡ n.region)
 
--- an object has the bytes of the class; a superblock that goes out is one of these pages; an object that is handed back
--- is the one that was brought
+-- an object has the bytes of the class; a superblock that goes out is one of these pages; an object that is handed
+-- back is the one that was brought
 abbrev pub AnswerFits : PoolName → PoolAsk → PoolAnswer → Type 0
 AnswerFits n AllocObject (Given chunk) = IsObject n chunk
 AnswerFits n AllocObject AllLive = Unit {0}

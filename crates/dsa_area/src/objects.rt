@@ -9,15 +9,16 @@ ghost use Rattle.size_classes.specs.Classes.{IsClass, class_size};
 ghost use Rattle.free_pages.specs.Area.{superblock_pages};
 ghost use Rattle.free_pages.specs.Legal.{Take, Give, Gets, Lacks, PagesReply};
 ghost use Rattle.span_pools.specs.Legal.{Alloc, Add, Free, Object, Full, Kept, Whole, Stranger as NoObject};
-ghost use Rattle.dsa_area.specs.Shown.{Belongs, IsArea, number_of};
-ghost use Rattle.dsa_area.specs.Requests.{Events, PoolEvents};
+ghost use Rattle.span_pools.specs.PoolView.{IsSuperblock};
+ghost use Rattle.dsa_area.specs.Shown.{Belongs, IsArea, number_of, pool_name};
+ghost use Rattle.dsa_area.specs.Requests.{Events, PageEvents, PoolEvents};
 
 use crate::area::{Area, AreaPass};
 use crate::at_pages::{give_run, take_run};
 use crate::at_pools::{add_superblock, alloc_object, free_object};
 use crate::requests::{NoSpace, Stranger};
 use free_pages::SUPERBLOCK_PAGES;
-use region_words::{Chunk, Region};
+use region_words::{Chunk, Region, Run};
 use std::sync::Wait;
 
 /// An object of a class, and a superblock for its pool first where that has no free one.
@@ -72,8 +73,28 @@ fn grow_pool<R: Wait>(
     }
 }
 
-/// An object of a class comes back. Its superblock goes to the pages where none of its objects is live any more and it
-/// is not the active one; where they hand it back, it is dropped.
+/// A superblock goes to the pages; where they hand it back, it is dropped.
+fn give_superblock<R: Wait>(
+    rt: &R,
+    area: &Area,
+    r: &Region,
+    pass: &mut AreaPass,
+    class: u8,
+    run: Run,
+)
+    requires area { IsArea r.now area.now }
+    requires own { Belongs area.now pass.old }
+    requires class { IsClass class }
+    requires run { IsSuperblock r.now (pool_name r.now area.now class).layout run.at run.pages run.words run.control }
+    ensures own { Belongs area.now pass.new }
+    ensures caller { number_of pass.new ≡ number_of pass.old }
+    ensures given { (reply : PagesReply) × PageEvents area.now pass.old pass.new ((Give run.at superblock_pages true, reply) ∷ []) }
+{
+    let _handed_back = give_run(rt, area, r, pass, run);
+}
+
+/// An object of a class comes back. Its superblock goes to the pages where none of its objects is live any more and
+/// it is not the active one.
 pub(crate) fn take_object_back<R: Wait>(
     rt: &R,
     area: &Area,
@@ -96,7 +117,7 @@ pub(crate) fn take_object_back<R: Wait>(
     match free_object(rt, area, r, pass, class, object) {
         Ok(None) => Ok(()),
         Ok(Some(run)) => {
-            let _handed_back = give_run(rt, area, r, pass, run);
+            give_superblock(rt, area, r, pass, class, run);
             Ok(())
         }
         Err(chunk) => Err(Stranger { chunk }),

@@ -32,9 +32,9 @@ pub struct Stranger {
 }
 
 impl Area {
-    /// A chunk of `chunk_bytes(bytes)` bytes, which the caller owns from then on, whatever its words hold. It takes no
-    /// memory, and may wait for the lock of one pool and for that of the pages, one after the other. Costs one call of
-    /// a pool while that has a free object, and three calls where it gets a superblock first.
+    /// A chunk of `chunk_bytes(bytes)` bytes, which the caller owns from then on, whatever its words hold. It takes
+    /// no memory, and may wait for the lock of one pool and for that of the pages, one after the other. Costs one
+    /// call of a pool while that has a free object, and three calls where it gets a superblock first.
     pub fn alloc<R: Wait>(
         &self,
         rt: &R,

@@ -1,6 +1,6 @@
-//! A walk of 2,000 requests over an area of 4,096 pages. Request i asks for `1 + (37 * i) % 20000` bytes, and the chunk
-//! of request i - 40 is given back after it. So 40 chunks are held at a time, objects of 33 of the classes and runs of
-//! three to five pages among them.
+//! A walk of 2,000 requests over an area of 4,096 pages. Request i asks for `1 + (37 * i) % 20000` bytes, and the
+//! chunk of request i - 40 is given back after it. So 40 chunks are held at a time, objects of 33 of the classes and
+//! runs of three to five pages among them.
 
 ghost use Rattle.std.specs.Prelude.{◌≡◌, ◌+◌, ◌-◌, ◌/◌, ◌<◌, ◌≤◌, ◌^◌, All, Some};
 ghost use Rattle.word_map.specs.WordMap.{at as word_at};
