@@ -36,7 +36,7 @@ fn is_taken<R: Wait>(rt: &R, area: &Area, r: &Region, pass: &mut AreaPass, chunk
     area.free(rt, r, pass, chunk).is_ok()
 }
 
-// An area of 64 pages: four superblocks of 16 pages, or one run of all of them.
+/// An area of 64 pages: four superblocks of 16 pages, or one run of all of them.
 #[test]
 fn the_numbers_of_a_refusal(rt: HostRuntime) -> Result<(), Fail> {
     let (region, area, mut pass) = area_for_one(rt.alloc(), 64)?;
