@@ -1,6 +1,5 @@
--- A map whose states lie in a list: what the finite map that it means becomes where a state changes, a group comes or
--- one goes.
-use Rattle.std.proofs.Common.{◌≡◌, ◌<◌, ◌++◌, ℕ, zero, suc, Bool, true, false, cond, List, [], ◌∷◌, Option, Some, None, refl, ap, sym, subst, ◌∙◌, length, append_assoc, get_or, set, map as map_list}
+-- A map whose states lie in a list: what the finite map that it means becomes where a state changes, a group comes or one goes.
+use Rattle.std.proofs.Common.{◌≡◌, ◌<◌, ◌++◌, ℕ, zero, suc, Bool, true, false, cond, List, [], ◌∷◌, Option, Some, None, refl, ap, sym, subst, ◌∙◌, length, get_or, set, map as map_list}
 use Rattle.std.proofs.lemmas.List.{get_or-set_other, get_or-set_same, get_or_default}
 use Rattle.std.proofs.lemmas.Map.Made.{lookup-map_values}
 use Rattle.std.proofs.Math.ListN.{get_or-append}
@@ -22,7 +21,6 @@ use Rattle.key_table.specs.Keys.{key_at}
 use Rattle.partial_agg.specs.Listed.{group, listed_at}
 use Rattle.partial_agg.specs.Placed.{ArePlaces, Places, groups_at, place_of, placed}
 use Rattle.partial_agg.specs.State.{combined, empty_state}
-use Rattle.partial_agg.specs.declared.groups.Group.{Group}
 use Rattle.partial_agg.proofs.Maps.{entries-view, get-view, same_groups, sorted-from_ordered}
 
 abbrev pub state_in : List AggState → ℕ → AggState

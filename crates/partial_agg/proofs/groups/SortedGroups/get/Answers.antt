@@ -1,7 +1,6 @@
-use Rattle.std.proofs.Common.{◌≡◌, ◌<◌, ◌≤◌, ◌∙◌, [], ℕ, List, Some, ap, sym, subst, arith, length}
+use Rattle.std.proofs.Common.{◌<◌, ◌≤◌, ◌∙◌, [], ℕ, List, Some, ap, sym, subst, arith, length}
 use Rattle.std.proofs.lemmas.Option.{get_or_from_slice_get, slice_get-get_or, slice_get_within}
 use Rattle.std.specs.List.{slice_get}
-use Rattle.partial_agg.specs.Listed.{group}
 use Rattle.partial_agg.specs.declared.groups.Group.{Group}
 use Rattle.partial_agg.proofs.Placed.{length-listed_at, listed-get}
 use Rattle.partial_agg.proofs.groups.SortedGroups.get.Goals as goal

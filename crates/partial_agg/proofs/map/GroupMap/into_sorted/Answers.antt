@@ -1,4 +1,4 @@
-use Rattle.std.proofs.Common.{◌≡◌, ◌∙◌, List, ℕ, ap, sym, subst, length, reverse}
+use Rattle.std.proofs.Common.{◌∙◌, ap, sym, subst, length, reverse}
 use Rattle.partial_agg.specs.Listed.{listed_at}
 use Rattle.partial_agg.specs.Placed.{AreListed}
 use Rattle.partial_agg.proofs.Grouped.{are_listed, grouped_ordered, listed_in_order}
