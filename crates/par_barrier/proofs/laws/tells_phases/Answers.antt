@@ -1,0 +1,5 @@
+use Rattle.par_barrier.proofs.Histories as histories
+use Rattle.par_barrier.proofs.laws.tells_phases.Goals as goal
+
+pub returns : goal.returns
+returns c = histories.tells_phases

@@ -1,0 +1,5 @@
+pub mod Parties
+pub mod Legal
+pub mod Kept
+pub mod Phases
+pub mod Shown

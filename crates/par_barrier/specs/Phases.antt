@@ -1,0 +1,84 @@
+-- The phases of a barrier's history.
+use Rattle.std.specs.Prelude.{◌≡◌, ◌⊎◌, ℕ, ◌+◌, ◌%◌, ◌^◌, ◌==◌, Bool, not, ◌&&◌, true, false, cond, List, [], ◌∷◌, ◌++◌, Option, Some, None}
+use Rattle.std.specs.List.{list_any}
+use Rattle.lock_book.specs.declared.view.Entry.{Entry}
+use Rattle.lock_book.specs.History.{last_of, IsLegal}
+use Rattle.par_barrier.specs.declared.history.BarrierState.{BarrierState}
+use Rattle.par_barrier.specs.declared.history.BarrierCall.{BarrierCall}
+use Rattle.par_barrier.specs.declared.history.BarrierCall.TheVariants.{Attach, Arrive, Look, Detach}
+use Rattle.par_barrier.specs.declared.history.BarrierReply.{BarrierReply}
+use Rattle.par_barrier.specs.declared.history.BarrierReply.TheVariants.{Attached, Waiting, Released, Left, AlreadyIn, NotIn, Twice}
+use Rattle.par_barrier.specs.Parties.{is_among, nobody}
+use Rattle.par_barrier.specs.Legal.{BarrierLegal}
+
+-- a call with its reply and the state after it
+abbrev pub Step : Type 0
+Step = Entry BarrierState BarrierCall BarrierReply
+
+-- the history is one of a barrier that nobody took part in when it was made
+abbrev pub IsHistory : List Step → Type 0
+IsHistory es = IsLegal BarrierLegal nobody es
+
+-- whether the call ended the phase of the state before it
+abbrev pub is_end : BarrierState → Step → Bool
+is_end s e = not (e.after.phase == s.phase)
+
+-- how many calls of a history that begins in s ended a phase
+abbrev pub ends_in : BarrierState → List Step → ℕ
+ends_in s [] = 0
+ends_in s (e ∷ es) = cond (is_end s e) 1 0 + ends_in e.after es
+
+-- the calls behind the last end of a phase, where those of the first list came before in the same phase
+abbrev pub this_phase : BarrierState → List Step → List Step → List Step
+this_phase s before [] = before
+this_phase s before (e ∷ es) = this_phase e.after (cond (is_end s e) [] (before ++ e ∷ [])) es
+
+-- the phase that a reply tells
+abbrev pub phase_told : BarrierReply → Option ℕ
+phase_told (Attached p) = Some p
+phase_told Waiting = None
+phase_told (Released p elected) = Some p
+phase_told (Left p last) = Some p
+phase_told (AlreadyIn p) = Some p
+phase_told (NotIn p) = Some p
+phase_told (Twice p) = Some p
+
+-- the caller n arrived by this call
+abbrev pub ArrivesBy : ℕ → Step → Type 0
+ArrivesBy n e = (e.by ≡ n) × (e.call ≡ Arrive) × ((e.reply ≡ Waiting) ⊎ ((p : ℕ) × (e.reply ≡ Released p true)))
+
+abbrev pub is_detach : BarrierCall → Bool
+is_detach Attach = false
+is_detach Arrive = false
+is_detach Look = false
+is_detach Detach = true
+
+-- whether the call is the caller's, to leave
+abbrev pub leaves_by : ℕ → Step → Bool
+leaves_by n e = (e.by == n) && is_detach e.call
+
+-- among these calls of one phase there is one by which n arrived, and n has not left since
+pub record HasArrived (n : ℕ) (phase : List Step) : Type 0 where
+  pub before : List Step
+  pub arrival : Step
+  pub since : List Step
+  pub stands : phase ≡ before ++ arrival ∷ since
+  pub arrives : ArrivesBy n arrival
+  pub stays : list_any (leaves_by n) since ≡ false
+
+-- The phase that a call is told is the number of ends up to it: no call of a later phase stands before the end of the
+-- one before
+abbrev pub TellsPhases : Type 0
+TellsPhases = (front : List Step) (e : Step) (p : ℕ) → IsHistory (front ++ e ∷ []) → phase_told e.reply ≡ Some p → p ≡ ends_in nobody (front ++ e ∷ []) % 2 ^ 64
+
+-- Each end of a phase elects one caller, who takes part at that moment and has arrived in that phase
+abbrev pub ElectsOne : Type 0
+ElectsOne = (front : List Step) (e : Step) → IsHistory (front ++ e ∷ []) → is_end (last_of nobody front) e ≡ true → (m : ℕ) × (e.after.elected ≡ Some m) × (is_among m e.after.attached ≡ true) × HasArrived m (this_phase nobody [] front ++ e ∷ [])
+
+-- Until the next end nobody else is told to be elected
+abbrev pub TellsElected : Type 0
+TellsElected = (front mid : List Step) (e x : Step) (p : ℕ) → IsHistory (front ++ e ∷ (mid ++ x ∷ [])) → ends_in e.after (mid ++ x ∷ []) ≡ 0 → x.reply ≡ Released p true → e.after.elected ≡ Some x.by
+
+-- Who has arrived, and has not left since, cannot arrive again before the phase ends
+abbrev pub ArrivesOnce : Type 0
+ArrivesOnce = (front mid : List Step) (x y : Step) → IsHistory (front ++ x ∷ (mid ++ y ∷ [])) → x.call ≡ Arrive → x.reply ≡ Waiting → ends_in x.after mid ≡ 0 → list_any (leaves_by x.by) mid ≡ false → y.by ≡ x.by → y.call ≡ Arrive → y.reply ≡ Twice x.after.phase

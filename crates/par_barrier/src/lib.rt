@@ -1,0 +1,21 @@
+//! A barrier with phases, for parties that come and go, as PostgreSQL's barrier.c has it.
+//!
+//! `parties` is the value behind the lock, with a function for each call; `history` says what its history is made of,
+//! `barrier` has the calls, `waiting` the one that waits for the others, `answers` what they answer, and `laws` what is
+//! true of every history. It is one shelf of `lock_book` with one value, and so a pattern for shared objects.
+
+#![tactic(auto)]
+
+mod answers;
+mod barrier;
+mod history;
+mod laws;
+mod parties;
+#[cfg(test)]
+mod tests;
+mod waiting;
+
+pub use answers::{Arrival, Arrived, BarrierAnswer, Left};
+pub use barrier::{Barrier, BarrierPass};
+pub use history::{BarrierCall, BarrierReply, BarrierState};
+pub use laws::{arrives_once, elects_one, tells_elected, tells_phases};
