@@ -1,0 +1,3 @@
+pub mod Tuples
+pub mod Parts
+pub mod Law

@@ -1,0 +1,51 @@
+-- What a participant's blocks come to, and the tuples that a worker sends for them.
+use Rattle.std.specs.Prelude.{◌≡◌, ◌<◌, ◌≤◌, ◌+◌, ◌*◌, ◌++◌, ℕ, List, [], ◌∷◌, length, map as map_list}
+use Rattle.std.specs.FinMap as map
+use Rattle.std.specs.List.{AllByRecursion, flat_map}
+use Rattle.par_model.specs.Plan.{Plan}
+use Rattle.par_model.specs.declared.state.AggState.{AggState}
+use Rattle.partial_agg.specs.Groups.{GroupsByKey, with_rows}
+use Rattle.partial_agg.specs.Rows.{block_rows}
+use Rattle.tuple_codec.specs.Tuple.{IsTuple, tuple_bytes}
+
+-- a table: its records, each the list of its fields
+abbrev pub Table : Type 0
+Table = List (List (List ℕ))
+
+-- a key and the partial aggregates of some of its rows
+abbrev pub Group : Type 0
+Group = List ℕ × AggState
+
+-- the rows of some blocks, one after the other; a number that is no block has none
+abbrev pub rows_of_blocks : Table → List ℕ → Table
+rows_of_blocks records blocks = flat_map (block_rows records) blocks
+
+-- the groups of some rows, in the order of their keys
+abbrev pub groups_of : Plan → Table → List Group
+groups_of plan rows = map.entries (with_rows plan map.empty rows)
+
+-- a group as a tuple
+abbrev pub tuple_of : Plan → Group → List ℕ
+tuple_of plan group = tuple_bytes group.0 group.1 (length plan.items)
+
+-- a group that has a tuple
+abbrev pub HasTuple : Plan → Group → Type 0
+HasTuple plan group = IsTuple group.0 group.1 (length plan.items)
+
+-- bytes are the tuple of a group
+pub record IsTupleOf (plan : Plan) (bytes : List ℕ) : Type 0 where
+  pub group : Group
+  pub has : HasTuple plan group
+  pub is : bytes ≡ tuple_of plan group
+
+-- messages are the tuples of some rows: the rows were cut into batches, and the groups of each were sent
+pub record AreTuples (plan : Plan) (rows : Table) (messages : List (List ℕ)) : Type 0 where
+  pub batches : List Table
+  pub cut : flat_map (λ batch. batch) batches ≡ rows
+  pub sent : messages ≡ map_list (tuple_of plan) (flat_map (groups_of plan) batches)
+  pub written : AllByRecursion (HasTuple plan) (flat_map (groups_of plan) batches)
+
+-- so many blocks cover the rows, and each of them has a row
+pub record AreBlocks (records : Table) (blocks : ℕ) : Type 0 where
+  pub each : (b : ℕ) → b < blocks → 256 * b + 1 < length records
+  pub all : length records ≤ 256 * blocks + 1
