@@ -1,0 +1,3 @@
+mod Sent
+pub mod Working
+pub mod Ends
