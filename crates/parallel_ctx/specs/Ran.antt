@@ -1,0 +1,31 @@
+-- What the caller of a context learns when all tokens are home.
+use Rattle.std.specs.Prelude.{◌≡◌, ℕ, List, ◌∷◌, MatchOption, count_by, is_some, length, map}
+use Rattle.std.specs.List.{AllZip}
+use Rattle.par_model.specs.Plan.{Plan}
+use Rattle.scan_claim.specs.Drawing.{IsDrawn}
+use Rattle.scan_claim.specs.Shown.{blocks_of, lists_of}
+use Rattle.parallel_ctx.specs.declared.home.Returned.{Returned}
+use Rattle.parallel_ctx.specs.declared.home.Finished.{Finished}
+use Rattle.parallel_ctx.specs.Queues.{IsQueue}
+use Rattle.parallel_ctx.specs.Accounts.{Account, Heard, IsIdle, account_of, heard_of}
+use Rattle.parallel_ctx.specs.Tokens.{AreNumbered, Prepared}
+
+-- of a worker that came home: it did nothing where it did not start, and else kept its promise; its queues are home
+pub record Finishes {E : Type 0} (did : Plan → ℕ → Account → E → Type 0) (plan : Plan) (blocks : ℕ) (draws : List ℕ) (r : Returned E) : Type 0 where
+  pub done : MatchOption r.end (IsIdle (account_of draws r)) (λ e. did plan blocks (account_of draws r) e)
+  pub errors : IsQueue r.errors
+  pub tuples : IsQueue r.tuples
+
+-- What the caller learns: of each worker asked for, in order of their numbers, and of the lead what it drew and did. No
+-- number was drawn twice
+pub record Ran {E L : Type 0} (did : Plan → ℕ → Account → E → Type 0) (leads : Plan → ℕ → List ℕ → List Heard → L → Type 0) (p : Prepared) (f : Finished E) (lead : L) : Type 0 where
+  pub region : f.region ≡ p.shared.region
+  pub own : List ℕ
+  pub draws : List (List ℕ)
+  pub lists : lists_of f.drawn ≡ own ∷ draws
+  pub drawn : (n : ℕ) × IsDrawn (blocks_of p.shared.claims) (lists_of f.drawn) n
+  pub workers : AllZip (Finishes did p.plan (blocks_of p.shared.claims)) draws f.workers.items
+  pub led : leads p.plan (blocks_of p.shared.claims) own (map heard_of f.workers.items) lead
+  pub numbers : AreNumbered 1 (map (λ w. w.number) f.workers.items)
+  pub asked : length f.workers.items ≡ length p.hands
+  pub launched : f.launched ≡ count_by (λ w. is_some w.end) f.workers.items
