@@ -1,0 +1,4 @@
+mod Anys
+pub mod Parts
+pub mod Looking
+pub mod Together

@@ -1,0 +1,290 @@
+-- What the workers and the leader did, put together.
+use Rattle.std.proofs.Common.{◌≡◌, ◌<◌, ◌≤◌, ◌+◌, ◌-◌, ◌*◌, ◌^◌, ◌++◌, ◌⊎◌, inl, inr, ℕ, List, [], ◌∷◌, length, drop, map, All, IsTrue, MatchOption, Option, Some, None, true, false, zero, suc, get_or, is_some, refl, ap, sym, subst, ◌∙◌, arith, Any, length-append}
+use Rattle.std.specs.List.{AllByRecursion, AllZip, flat_map}
+use Rattle.std.proofs.lemmas.List.Elements.{All-head, All-map, All-nil, All-tail, All-weaker}
+use Rattle.error_queue.specs.Message.{encoding}
+use Rattle.error_queue.specs.declared.ErrorMessage.{ErrorMessage}
+use Rattle.error_queue.specs.declared.ErrorMessage.TheVariants as message
+use Rattle.mq_handle.specs.Messages.{whole_of}
+use Rattle.par_model.specs.Plan.{Plan}
+use Rattle.partial_agg.specs.Groups.{AreGroups, GroupsByKey}
+use Rattle.partial_agg.specs.Rows.{IsAccepted, block_rows, header_width}
+use Rattle.partial_agg.proofs.Adding.{no_groups}
+use Rattle.partial_agg.proofs.Blocks.{length-block}
+use Rattle.scan_claim.specs.Drawing.{IsDrawn, flat, is_spent, late, once_below, times}
+use Rattle.scan_claim.proofs.Totals.{late-append}
+use Rattle.gather_law.specs.Law.{AreSent, CombineTo, IsGathered}
+use Rattle.gather_law.specs.Parts.{after}
+use Rattle.gather_law.specs.Tuples.{AreBlocks, Group, HasTuple, Table, groups_of, rows_of_blocks, tuple_of}
+use Rattle.gather_law.proofs.Gathering.{All-apart, combines, gathers}
+use Rattle.parallel_ctx.specs.Ran.{Finishes}
+use Rattle.parallel_ctx.specs.Accounts.{Account, Heard, IsIdle, account_of, heard_of}
+use Rattle.parallel_ctx.specs.Tokens.{AreUnheard}
+use Rattle.parallel_ctx.specs.declared.home.Returned.{Returned}
+use Rattle.worker_run.specs.Ended.{IsNotice, IsRefused}
+use Rattle.worker_run.specs.declared.WorkerEnd.{WorkerEnd}
+use Rattle.worker_run.specs.declared.WorkerEnd.TheVariants.{Finished, Stopped, Refused, NoMemory}
+use Rattle.parallel_ctx.proofs.Idle.{whole_nothing}
+use Rattle.parallel_ctx.proofs.Zips.{AllZip-length}
+use Rattle.gather_run.proofs.Anys.{any_cases, any_head, any_none, any_tail}
+use Rattle.parallel_ctx.specs.declared.tokens.LeaderEnds.{LeaderEnds}
+use Rattle.parallel_ctx.specs.declared.tokens.Shared.{Shared}
+use Rattle.gather_run.specs.Looks.{tuples_of}
+use Rattle.gather_run.specs.declared.GatherAnswer.{GatherAnswer}
+use Rattle.gather_run.specs.declared.GatherAnswer.TheVariants.{Row, Memory}
+use Rattle.gather_run.specs.Did.{AreVerdict, DidWork, EndsWell, IsVerdict}
+use Rattle.gather_run.specs.Answers.{IsCause, IsFirst, IsFirstCause}
+use Rattle.gather_run.specs.Leading.{HasLed, Led, NamesRow}
+use Rattle.gather_run.specs.Used.{SentItsRows}
+use Rattle.gather_run.specs.Reading.{ReadAs, ReadsAs, ReadsRow}
+
+-- tuples are read as the groups that they are
+pub same_groups : (plan : Plan) (hs gs : List Group) → ReadAs (map (tuple_of plan) hs) gs → AllByRecursion (HasTuple plan) hs → gs ≡ hs
+same_groups plan [] [] r t = refl
+same_groups plan [] (g ∷ gs) r t = absurd r
+same_groups plan (h ∷ hs) [] r t = absurd r
+same_groups plan (h ∷ hs) (g ∷ gs) r t =
+    let one : g ≡ h = r.0.each h.0 h.1 (length plan.items) t.0 refl in
+    ap (λ x. x ∷ gs) one ∙ ap (λ l. h ∷ l) (same_groups plan hs gs r.1 t.1)
+
+no_groups_read : (gs : List Group) → ReadAs [] gs → gs ≡ []
+no_groups_read [] r = refl
+no_groups_read (g ∷ gs) r = absurd r
+
+module _ (plan : Plan) (records : Table) (blocks : ℕ) where
+  abbrev Did : Plan → ℕ → Account → WorkerEnd → Type 0
+  Did p b account end = DidWork p records b account end
+
+  abbrev Worker : List ℕ → Returned WorkerEnd → Type 0
+  Worker draws r = Finishes Did plan blocks draws r
+
+  -- ---- what was sent
+
+  one_sent : (draws : List ℕ) (r : Returned WorkerEnd) (gs : List Group) → Worker draws r → EndsWell r.end → (heard_of r).tuples_over ≡ true → ReadAs (heard_of r).tuples gs
+      → AreSent plan (header_width records) records draws gs
+  one_sent draws r gs f well over read =
+      by r.end f.done well
+    where
+      all : whole_of r.tuples.receiver.taken ≡ whole_of r.tuples.sender.put
+      all = f.tuples.all over
+
+      by : (end : Option WorkerEnd) → MatchOption end (IsIdle (account_of draws r)) (λ e. Did plan blocks (account_of draws r) e) → EndsWell end → AreSent plan (header_width records) records draws gs
+      by None d w =
+          let none : gs ≡ [] = no_groups_read gs (subst (λ ms. ReadAs ms gs) (all ∙ d.tuples) read) in
+          subst (λ ds. AreSent plan (header_width records) records ds gs) (sym d.draws)
+          (record { batches = []; cut = refl; sent = none; accepted = All-nil (IsAccepted plan (header_width records)) })
+      by (Some Finished) d w =
+          let t = d.ended.sent in
+          record {
+            batches = t.batches;
+            cut = t.cut;
+            sent = same_groups plan (flat_map (groups_of plan) t.batches) gs (subst (λ ms. ReadAs ms gs) (all ∙ t.sent) read) t.written;
+            accepted = d.ended.accepted;
+          }
+      by (Some Stopped) d w = absurd w
+      by (Some (Refused row cause item)) d w = absurd w
+      by (Some NoMemory) d w = absurd w
+
+  all_sent : (draws : List (List ℕ)) (ws : List (Returned WorkerEnd)) (taken : List (List Group)) → AllZip Worker draws ws → All (λ (w : Returned WorkerEnd). EndsWell w.end) ws
+      → All (λ (h : Heard). h.tuples_over ≡ true) (map heard_of ws) → AllZip ReadAs (map (λ (h : Heard). h.tuples) (map heard_of ws)) taken
+      → AllZip (AreSent plan (header_width records) records) draws taken
+  all_sent [] [] [] f w o r = tt
+  all_sent [] [] (gs ∷ taken) f w o r = absurd r
+  all_sent [] (v ∷ ws) taken f w o r = absurd f
+  all_sent (ds ∷ draws) [] taken f w o r = absurd f
+  all_sent (ds ∷ draws) (v ∷ ws) [] f w o r = absurd r
+  all_sent (ds ∷ draws) (v ∷ ws) (gs ∷ taken) f w o r = (
+    one_sent ds v gs f.0 (All-head (λ (w : Returned WorkerEnd). EndsWell w.end) v ws w) (All-head (λ (h : Heard). h.tuples_over ≡ true) (heard_of v) (map heard_of ws) o) r.0,
+    all_sent draws ws taken f.1 (All-tail (λ (w : Returned WorkerEnd). EndsWell w.end) v ws w) (All-tail (λ (h : Heard). h.tuples_over ≡ true) (heard_of v) (map heard_of ws) o) r.1,
+  )
+
+  -- ---- all rows
+
+  spent_is : (own : List ℕ) → IsTrue (is_spent blocks own) → 0 < late blocks own
+  spent_is own h = grind (arith, h)
+
+  pub all_gathered : (own : List ℕ) (draws : List (List ℕ)) (ws : List (Returned WorkerEnd)) (groups : GroupsByKey) (lists : List (List ℕ)) (n : ℕ)
+      → AreBlocks records blocks → length records ≤ 4194305 → lists ≡ own ∷ draws → IsDrawn blocks lists n → AllZip Worker draws ws → All (λ (w : Returned WorkerEnd). EndsWell w.end) ws
+      → HasLed plan records blocks own (map heard_of ws) groups
+      → All (IsAccepted plan (header_width records)) (drop 1 records) × AreGroups plan (drop 1 records) groups
+  all_gathered own draws ws groups lists n are few e d f w led =
+      let drawn : IsDrawn blocks (own ∷ draws) n = subst (λ l. IsDrawn blocks l n) e d in
+      let some = spent_is own led.spent in
+      let lates = late-append blocks own (flat draws) in
+      let past : late blocks (own ++ flat draws) ≡ n - blocks = drawn.past in
+      let l = led.leading in
+      let both = gathers plan (header_width records) records own draws l.taken l.parts n
+      (record { own_blocks = l.own; own_accepted = l.accepted; all_received = l.received; all_sent = all_sent draws ws l.taken f w led.over l.read })
+      drawn.once (omega (arith, some, lates, past, are.all)) (omega (arith, few)) in
+      (both.0, subst (AreGroups plan (drop 1 records)) (sym l.map_is) both.1)
+
+  -- ---- refused rows
+
+  row_inj : (a b c d e f : ℕ) → message.Row a b c ≡ message.Row d e f → (a ≡ d) × (b ≡ e) × (c ≡ f)
+  row_inj a b c d e f h = (cc, cc, cc)
+
+  one_notice : (draws : List ℕ) (row cause item : ℕ) (bytes : List ℕ) → ReadsRow row cause item bytes → IsNotice plan records draws bytes → IsRefused plan records row cause item
+  one_notice draws row cause item bytes r (inl n) =
+      let same = row_inj n.row n.cause n.item row cause item (r.each (message.Row n.row n.cause n.item) n.fits n.is) in
+      subst (λ x. IsRefused plan records x cause item) same.0 (subst (λ x. IsRefused plan records n.row x item) same.1 (subst (λ x. IsRefused plan records n.row n.cause x) same.2 n.refused))
+  one_notice draws row cause item bytes r (inr e) = let no : message.End ≡ message.Row row cause item = r.each message.End tt e in cc
+
+  any_notice : (draws : List ℕ) (row cause item : ℕ) (messages : List (List ℕ)) → Any (ReadsRow row cause item) messages → All (IsNotice plan records draws) messages → IsRefused plan records row cause item
+  any_notice draws row cause item [] a h = absurd (any_none (ReadsRow row cause item) a)
+  any_notice draws row cause item (m ∷ ms) a h =
+      by (any_cases (ReadsRow row cause item) m ms a) (any_notice draws row cause item ms)
+    where
+      by : ReadsRow row cause item m ⊎ Any (ReadsRow row cause item) ms → (Any (ReadsRow row cause item) ms → All (IsNotice plan records draws) ms → IsRefused plan records row cause item) → IsRefused plan records row cause item
+      by (inl r) rest = one_notice draws row cause item m r (All-head (IsNotice plan records draws) m ms h)
+      by (inr a) rest = rest a (All-tail (IsNotice plan records draws) m ms h)
+
+  worker_notices : (draws : List ℕ) (r : Returned WorkerEnd) → Worker draws r → All (IsNotice plan records draws) (whole_of r.errors.sender.put)
+  worker_notices draws r f = by r.end f.done
+    where
+      by : (end : Option WorkerEnd) → MatchOption end (IsIdle (account_of draws r)) (λ e. Did plan blocks (account_of draws r) e) → All (IsNotice plan records draws) (whole_of r.errors.sender.put)
+      by None d = subst (All (IsNotice plan records draws)) (sym d.errors) (All-nil (IsNotice plan records draws))
+      by (Some e) d = d.notices
+
+  pub named : (draws : List (List ℕ)) (ws : List (Returned WorkerEnd)) (row cause item : ℕ) → AllZip Worker draws ws → Any (λ (h : Heard). Any (ReadsRow row cause item) h.errors) (map heard_of ws) → IsRefused plan records row cause item
+  named [] [] row cause item f a = absurd (any_none (λ (h : Heard). Any (ReadsRow row cause item) h.errors) a)
+  named [] (w ∷ ws) row cause item f a = absurd f
+  named (ds ∷ draws) [] row cause item f a = absurd f
+  named (ds ∷ draws) (w ∷ ws) row cause item f a =
+      by (any_cases (λ (h : Heard). Any (ReadsRow row cause item) h.errors) (heard_of w) (map heard_of ws) a) (named draws ws row cause item f.1)
+    where
+      by : Any (ReadsRow row cause item) (heard_of w).errors ⊎ Any (λ (h : Heard). Any (ReadsRow row cause item) h.errors) (map heard_of ws)
+          → (Any (λ (h : Heard). Any (ReadsRow row cause item) h.errors) (map heard_of ws) → IsRefused plan records row cause item) → IsRefused plan records row cause item
+      by (inl a) rest =
+          let b = f.0.errors.beginning in
+          let all : All (IsNotice plan records ds) (whole_of w.errors.receiver.taken ++ b.0) = subst (All (IsNotice plan records ds)) b.1 (worker_notices ds w f.0) in
+          any_notice ds row cause item (whole_of w.errors.receiver.taken) a (All-apart (IsNotice plan records ds) (whole_of w.errors.receiver.taken) b.0 all).0
+      by (inr a) rest = rest a
+
+  pub ended : (draws : List (List ℕ)) (ws : List (Returned WorkerEnd)) (row cause item : ℕ) → AllZip Worker draws ws → Any (λ (w : Returned WorkerEnd). w.end ≡ Some (Refused row cause item)) ws → IsRefused plan records row cause item
+  ended [] [] row cause item f a = absurd (any_none (λ (w : Returned WorkerEnd). w.end ≡ Some (Refused row cause item)) a)
+  ended [] (w ∷ ws) row cause item f a = absurd f
+  ended (ds ∷ draws) [] row cause item f a = absurd f
+  ended (ds ∷ draws) (w ∷ ws) row cause item f a =
+      by (any_cases (λ (w : Returned WorkerEnd). w.end ≡ Some (Refused row cause item)) w ws a) (ended draws ws row cause item f.1)
+    where
+      by : (w.end ≡ Some (Refused row cause item)) ⊎ Any (λ (w : Returned WorkerEnd). w.end ≡ Some (Refused row cause item)) ws
+          → (Any (λ (w : Returned WorkerEnd). w.end ≡ Some (Refused row cause item)) ws → IsRefused plan records row cause item) → IsRefused plan records row cause item
+      by (inl e) rest = (subst (λ o. MatchOption o (IsIdle (account_of ds w)) (λ e. Did plan blocks (account_of ds w) e)) e f.0.done).ended.refused
+      by (inr a) rest = rest a
+
+  -- ---- what is answered
+
+  pub leader_row : (own : List ℕ) (draws : List (List ℕ)) (ws : List (Returned WorkerEnd)) (groups : GroupsByKey) (failure : Option GatherAnswer) (why : GatherAnswer) → AllZip Worker draws ws
+      → Led plan records blocks own (map heard_of ws) groups failure → failure ≡ Some why → IsCause plan records why
+  leader_row own draws ws groups failure (Row row cause item) f led e =
+      by (subst (Led plan records blocks own (map heard_of ws) groups) e led)
+    where
+      by : NamesRow plan records (map heard_of ws) row cause item → IsRefused plan records row cause item
+      by (inl m) = m.refused
+      by (inr a) = named draws ws row cause item f a
+  leader_row own draws ws groups failure Memory f led e = tt
+
+  pub worker_row : (draws : List (List ℕ)) (ws : List (Returned WorkerEnd)) (why : GatherAnswer) → AllZip Worker draws ws → AreVerdict ws (Some why) → IsCause plan records why
+  worker_row draws ws (Row row cause item) f a = ended draws ws row cause item f a
+  worker_row draws ws Memory f a = tt
+
+  -- ---- with no workers the first refused row is named
+
+  pub leader_first : (own : List ℕ) (ws : List (Returned WorkerEnd)) (groups : GroupsByKey) (failure : Option GatherAnswer) (why : GatherAnswer) → length ws ≡ 0
+      → Led plan records blocks own (map heard_of ws) groups failure → failure ≡ Some why → IsFirstCause plan records why
+  leader_first own [] groups failure (Row row cause item) none led e = by (subst (Led plan records blocks own [] groups) e led)
+    where
+      by : NamesRow plan records [] row cause item → IsFirst plan records row
+      by (inl m) = m.first refl
+      by (inr a) = absurd (any_none (λ (h : Heard). Any (ReadsRow row cause item) h.errors) a)
+  leader_first own [] groups failure Memory none led e = tt
+  leader_first own (w ∷ ws) groups failure why none led e = let no : ⊥ = grind arith in absurd no
+
+  pub worker_first : (ws : List (Returned WorkerEnd)) (why : GatherAnswer) → length ws ≡ 0 → AreVerdict ws (Some why) → IsFirstCause plan records why
+  worker_first [] (Row row cause item) none a = absurd (any_none (λ (w : Returned WorkerEnd). w.end ≡ Some (Refused row cause item)) a)
+  worker_first [] Memory none a = tt
+  worker_first (w ∷ ws) why none a = let no : ⊥ = grind arith in absurd no
+
+  -- ---- the blocks and the tuples
+
+  rows_few : (draws : List ℕ) → length (rows_of_blocks records draws) ≤ 256 * length draws
+  rows_few [] = omega arith
+  rows_few (b ∷ draws) = omega (arith, length-append (block_rows records b) (rows_of_blocks records draws), length-block records b, rows_few draws)
+
+  nothing_sent : CombineTo plan [] []
+  nothing_sent = record { groups = []; has = tt; are = refl; whole = no_groups plan }
+
+  sent_its_rows : (draws : List ℕ) (r : Returned WorkerEnd) → length draws < 2 ^ 50 → Worker draws r → EndsWell r.end → (heard_of r).tuples_over ≡ true → SentItsRows plan records draws r
+  sent_its_rows draws r few f well over =
+      subst (CombineTo plan (rows_of_blocks records draws)) (sym all) (by r.end f.done well)
+    where
+      all : whole_of r.tuples.receiver.taken ≡ whole_of r.tuples.sender.put
+      all = f.tuples.all over
+
+      by : (end : Option WorkerEnd) → MatchOption end (IsIdle (account_of draws r)) (λ e. Did plan blocks (account_of draws r) e) → EndsWell end → CombineTo plan (rows_of_blocks records draws) (whole_of r.tuples.sender.put)
+      by None d w =
+          subst (λ ds. CombineTo plan (rows_of_blocks records ds) (whole_of r.tuples.sender.put)) (sym d.draws) (subst (CombineTo plan []) (sym d.tuples) nothing_sent)
+      by (Some Finished) d w = combines plan (header_width records) (rows_of_blocks records draws) (whole_of r.tuples.sender.put) d.ended.accepted (omega (arith, rows_few draws, few)) d.ended.sent
+      by (Some Stopped) d w = absurd w
+      by (Some (Refused row cause item)) d w = absurd w
+      by (Some NoMemory) d w = absurd w
+
+  all_sent_rows : (draws : List (List ℕ)) (ws : List (Returned WorkerEnd)) → length (flat draws) < 2 ^ 50 → AllZip Worker draws ws → All (λ (w : Returned WorkerEnd). EndsWell w.end) ws
+      → All (λ (h : Heard). h.tuples_over ≡ true) (map heard_of ws) → AllZip (SentItsRows plan records) draws ws
+  all_sent_rows [] [] few f w o = tt
+  all_sent_rows [] (v ∷ ws) few f w o = absurd f
+  all_sent_rows (ds ∷ draws) [] few f w o = absurd f
+  all_sent_rows (ds ∷ draws) (v ∷ ws) few f w o =
+      let long = length-append ds (flat draws) in (
+        sent_its_rows ds v (omega (arith, long, few)) f.0 (All-head (λ (w : Returned WorkerEnd). EndsWell w.end) v ws w) (All-head (λ (h : Heard). h.tuples_over ≡ true) (heard_of v) (map heard_of ws) o),
+        all_sent_rows draws ws (omega (arith, long, few)) f.1 (All-tail (λ (w : Returned WorkerEnd). EndsWell w.end) v ws w) (All-tail (λ (h : Heard). h.tuples_over ≡ true) (heard_of v) (map heard_of ws) o),
+      )
+
+  few_blocks : AreBlocks records blocks → length records ≤ 4194305 → blocks ≤ 16384
+  few_blocks are few = by blocks are.each
+    where
+      by : (n : ℕ) → ((b : ℕ) → b < n → 256 * b + 1 < length records) → n ≤ 16384
+      by zero h = omega arith
+      by (suc n) h = omega (arith, h n (omega arith), few)
+
+  pub all_used : (own : List ℕ) (draws : List (List ℕ)) (ws : List (Returned WorkerEnd)) (groups : GroupsByKey) (lists : List (List ℕ)) (n : ℕ)
+      → AreBlocks records blocks → length records ≤ 4194305 → length ws ≤ 64 → lists ≡ own ∷ draws → IsDrawn blocks lists n → AllZip Worker draws ws → All (λ (w : Returned WorkerEnd). EndsWell w.end) ws
+      → HasLed plan records blocks own (map heard_of ws) groups
+      → ((b : ℕ) → 256 * b + 1 < length records → times b (flat lists) ≡ 1) × AllZip (SentItsRows plan records) draws ws
+  all_used own draws ws groups lists n are few short e d f w led =
+      let drawn : IsDrawn blocks (own ∷ draws) n = subst (λ l. IsDrawn blocks l n) e d in
+      let some = spent_is own led.spent in
+      let lates = late-append blocks own (flat draws) in
+      let past : late blocks (own ++ flat draws) ≡ n - blocks = drawn.past in
+      let most = few_blocks are few in
+      let long : length draws ≡ length ws = AllZip-length Worker draws ws f in
+      let parts = length-append own (flat draws) in
+      let count : length (own ++ flat draws) ≡ n = drawn.draws in (
+        λ b h. d.once b ∙ once_is b n (omega (arith, some, lates, past, are.all, h)),
+        all_sent_rows draws ws (omega (arith, drawn.few, long, short, most, parts, count)) f w led.over,
+      )
+    where
+      once_is : (b n : ℕ) → b < n → once_below b n ≡ 1
+      once_is b n h = grind (arith, h)
+
+-- ---- the verdict on some workers
+
+any_get : {A : Type 0} (P : A → Type 0) (xs : List A) (k : ℕ) (d : A) → k < length xs → P (get_or xs k d) → Any P xs
+any_get P [] k d h p = absurd (omega arith)
+any_get P (x ∷ xs) zero d h p = any_head P x xs p
+any_get P (x ∷ xs) (suc k) d h p = any_tail P x xs (any_get P xs k d (omega arith) p)
+
+pub verdict_there : (ws : List (Returned WorkerEnd)) (k : ℕ) (w : Returned WorkerEnd) (r : Option GatherAnswer) → k < length ws → w ≡ get_or ws k w → is_some r ≡ true → IsVerdict w.end r → AreVerdict ws r
+verdict_there ws k w None h e some v = cc
+verdict_there ws k w (Some (Row row cause item)) h e some v =
+    any_get (λ (x : Returned WorkerEnd). x.end ≡ Some (Refused row cause item)) ws k w h (subst (λ (x : Returned WorkerEnd). x.end ≡ Some (Refused row cause item)) e v)
+verdict_there ws k w (Some Memory) h e some v = tt
+
+pub well_there : (ws : List (Returned WorkerEnd)) (k : ℕ) (w : Returned WorkerEnd) (r : Option GatherAnswer) → w ≡ get_or ws k w → is_some r ≡ false → IsVerdict w.end r → EndsWell (get_or ws k w).end
+well_there ws k w None e none v = subst (λ (x : Returned WorkerEnd). EndsWell x.end) e v
+well_there ws k w (Some why) e none v = cc
+
+-- ---- at the start
+
+pub unheard : (w : Shared) (queues : List LeaderEnds) → All (AreUnheard w) queues → All (λ ms. ms ≡ []) (map tuples_of queues)
+unheard w queues h = All-map (λ ms. ms ≡ []) tuples_of queues (All-weaker (AreUnheard w) (λ (q : LeaderEnds). tuples_of q ≡ []) (λ q u. ap whole_of u.tuples.taken ∙ whole_nothing) queues h)

@@ -1,0 +1,19 @@
+use Rattle.std.proofs.Common.{◌≡◌, ℕ, List, map}
+use Rattle.std.specs.List.{All, AllZip}
+use Rattle.parallel_ctx.specs.Tokens.{SameQueues}
+use Rattle.scan_claim.specs.Shown.{Belongs, draws_of, number_of}
+use Rattle.gather_run.specs.Leading.{DrawsInOrder, IsLeading}
+use Rattle.gather_run.specs.Looks.{IsOpen, tuples_of}
+use Rattle.gather_run.proofs.leading.lead_all.Given as goal
+
+abbrev pub invariant-loop : goal.invariant-loop
+invariant-loop g l = record {
+  can_next : (goal.iterator-loop g).can_next l.iterator';
+  finite : (goal.iterator-loop g).is_finite l.iterator';
+  seat : Belongs l.claims l.claim;
+  in_order : DrawsInOrder l.claims l.claim;
+  number : number_of l.claim ≡ number_of l.initial.claim;
+  open_are : All (IsOpen l.r) l.queues;
+  same : AllZip SameQueues l.initial.queues l.queues;
+  leading : IsLeading l.plan l.rows (draws_of l.claim) (map tuples_of l.queues) l.groups;
+}

@@ -1,0 +1,7 @@
+pub mod Reading
+pub mod Answers
+pub mod Did
+pub mod Leading
+pub mod Looks
+pub mod Steps
+pub mod Used
