@@ -2,3 +2,4 @@ pub mod Inputs
 pub mod Pieces
 pub mod Refusals
 pub mod Statuses
+mod Ready

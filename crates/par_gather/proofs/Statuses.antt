@@ -6,7 +6,7 @@ use Rattle.par_model.specs.Named.{NamedPlan}
 use Rattle.par_model.specs.Outcome.{Outcome}
 use Rattle.par_gather.specs.Answers.{IsOutcome, outcome_over, status_of}
 use Rattle.par_gather.specs.Lines.{IsLine, NamesFirst, NamesRow, line, outcome_text, refusal_text, refused_of, row_text}
-use Rattle.par_gather.specs.Stops.{Explains, IsExplained, cause_text, stop_status, stop_text}
+use Rattle.par_gather.specs.Stops.{Explains, IsExplained, IsFirstStop, cause_text, stop_status, stop_text}
 use Rattle.par_gather.specs.declared.status.TheConstants.{REFUSED}
 use Rattle.par_gather.specs.declared.stop.Cause.{Cause}
 use Rattle.par_gather.specs.declared.stop.Stop.{Stop}
@@ -22,16 +22,13 @@ says-row plan row cause refusal same = ap line (ap (λ l. (codes "row " ++ (deci
 
 NamesRow-refused : (plan : Option NamedPlan) (row : ℕ) (cause : Cause) (o : Outcome) → Explains plan (stop.Refused row cause) o → NamesRow plan o (line (stop_text (stop.Refused row cause)))
 NamesRow-refused None row cause o explains = explains
-NamesRow-refused (Some plan) row cause o explains =
-    let P : Outcome → Type 0 = λ p. Contains (refused_of p) (row, explains.0) in
-    ((row, explains.0), subst P (sym explains.2) (0, omega arith, refl), says-row plan row cause explains.0 explains.3)
+NamesRow-refused (Some plan) row cause o explains = ((row, explains.refusal), explains.has, says-row plan row cause explains.refusal explains.says)
 
-NamesFirst-refused : (plan : Option NamedPlan) (row : ℕ) (cause : Cause) (o : Outcome) → Explains plan (stop.Refused row cause) o → NamesFirst plan o (line (stop_text (stop.Refused row cause)))
-NamesFirst-refused None row cause o explains = explains
-NamesFirst-refused (Some plan) row cause o explains =
-    ((row, explains.0), ap (λ p. slice_get (refused_of p) 0) explains.2, says-row plan row cause explains.0 explains.3)
+NamesFirst-refused : (plan : Option NamedPlan) (row : ℕ) (cause : Cause) (o : Outcome) → IsFirstStop plan (stop.Refused row cause) o → NamesFirst plan o (line (stop_text (stop.Refused row cause)))
+NamesFirst-refused None row cause o first = first
+NamesFirst-refused (Some plan) row cause o first = ((row, first.refusal), first.first, says-row plan row cause first.refusal first.says)
 
-NamesFirst-stop : (plan : Option NamedPlan) (why : Stop) (o : Outcome) → Explains plan why o → stop_status why ≡ REFUSED → NamesFirst plan o (line (stop_text why))
+NamesFirst-stop : (plan : Option NamedPlan) (why : Stop) (o : Outcome) → IsFirstStop plan why o → stop_status why ≡ REFUSED → NamesFirst plan o (line (stop_text why))
 NamesFirst-stop plan stop.Usage o explains is = cc is
 NamesFirst-stop plan stop.ReadFault o explains is = cc is
 NamesFirst-stop plan stop.TooManyBytes o explains is = cc is
@@ -59,8 +56,7 @@ pub line_outcome : (plan : Option NamedPlan) (left : Option (List ℕ)) (why : S
 line_outcome plan left why explained = (explained.0, explained.1, IsLine-stop plan why explained.0 explained.2)
 
 -- the first of the rows that the outcome refuses, where the source tells
-pub line_first : (plan : Option NamedPlan) (left : Option (List ℕ)) (why : Stop) → IsExplained plan left why → stop_status why ≡ REFUSED → IfSome left (λ bytes. NamesFirst plan (outcome_over plan bytes) (line (stop_text why)))
-line_first plan None why explained is = tt
-line_first plan (Some bytes) why explained is =
-    let P : Outcome → Type 0 = λ o. NamesFirst plan o (line (stop_text why)) in
-    subst P explained.1 (NamesFirst-stop plan why explained.0 explained.2 is)
+pub line_first : (plan : Option NamedPlan) (left : Option (List ℕ)) (why : Stop) → IfSome left (λ bytes. IsFirstStop plan why (outcome_over plan bytes)) → stop_status why ≡ REFUSED
+    → IfSome left (λ bytes. NamesFirst plan (outcome_over plan bytes) (line (stop_text why)))
+line_first plan None why first is = tt
+line_first plan (Some bytes) why first is = NamesFirst-stop plan why (outcome_over plan bytes) first is

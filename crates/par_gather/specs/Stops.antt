@@ -1,5 +1,5 @@
 -- What a reason to have no table says of the outcome.
-use Rattle.std.specs.Prelude.{◌≡◌, ◌⊎◌, ⊤, ℕ, List, Option, codes, decimal, ◌++◌, ◌∷◌, [], IsSomeAnd, string_bytes}
+use Rattle.std.specs.Prelude.{◌≡◌, ◌⊎◌, ⊤, ℕ, List, Option, Some, Contains, slice_get, codes, decimal, ◌++◌, ◌∷◌, [], IsSomeAnd, string_bytes}
 use Rattle.csv_rows.specs.declared.input.ReadAnswer.{ReadAnswer}
 use Rattle.csv_rows.specs.declared.input.ReadAnswer.TheVariants as reading
 use Rattle.csv_rows.specs.declared.records.RowsAnswer.{RowsAnswer}
@@ -11,8 +11,10 @@ use Rattle.partial_agg.specs.declared.map.BlockAnswer.{BlockAnswer}
 use Rattle.partial_agg.specs.declared.map.BlockAnswer.TheVariants as answer
 use Rattle.plan_spec.specs.declared.plan.PlanAnswer.{PlanAnswer}
 use Rattle.plan_spec.specs.declared.plan.PlanAnswer.TheVariants as words
+use Rattle.gather_run.specs.declared.GatherAnswer.{GatherAnswer}
+use Rattle.gather_run.specs.declared.GatherAnswer.TheVariants as gathering
 use Rattle.par_gather.specs.Answers.{IsOutcome}
-use Rattle.par_gather.specs.Lines.{refusal_text, usage_text}
+use Rattle.par_gather.specs.Lines.{refusal_text, refused_of, usage_text}
 use Rattle.par_gather.specs.declared.status.TheConstants.{MISUSED, NO_MEMORY, READ_FAULT, REFUSED, TOO_LARGE, WRITE_FAULT}
 use Rattle.par_gather.specs.declared.stop.Cause.{Cause}
 use Rattle.par_gather.specs.declared.stop.Cause.TheVariants as cause
@@ -66,9 +68,17 @@ front_of stop.Memory = []
 abbrev pub stop_text : Stop → List ℕ
 stop_text why = front_of why ++ text_of why
 
--- the outcome refuses this row first, and for this cause
-abbrev pub RefusesFirst : NamedPlan → ℕ → Cause → Outcome → Type 0
-RefusesFirst plan row why o = (refusal : Refusal) × (rest : List (ℕ × Refusal)) × (o ≡ Refused ((row, refusal) ∷ rest)) × (cause_text why ≡ refusal_text plan refusal)
+-- the outcome refuses this row, and for this cause
+pub record RefusesRow (plan : NamedPlan) (row : ℕ) (why : Cause) (o : Outcome) : Type 0 where
+  pub refusal : Refusal
+  pub has : Contains (refused_of o) (row, refusal)
+  pub says : cause_text why ≡ refusal_text plan refusal
+
+-- it refuses it first
+pub record RefusesFirst (plan : NamedPlan) (row : ℕ) (why : Cause) (o : Outcome) : Type 0 where
+  pub refusal : Refusal
+  pub first : slice_get (refused_of o) 0 ≡ Some (row, refusal)
+  pub says : cause_text why ≡ refusal_text plan refusal
 
 -- what a reason says of the outcome
 abbrev pub Explains : Option NamedPlan → Stop → Outcome → Type 0
@@ -78,9 +88,33 @@ Explains plan stop.TooManyBytes o = o ≡ TooManyBytes
 Explains plan stop.NoHeader o = o ≡ NoHeader
 Explains plan stop.TooManyRows o = o ≡ TooManyRows
 Explains plan (stop.NoColumn name) o = o ≡ NoColumn (string_bytes name)
-Explains plan (stop.Refused row why) o = IsSomeAnd plan (λ plan. RefusesFirst plan row why o)
+Explains plan (stop.Refused row why) o = IsSomeAnd plan (λ plan. RefusesRow plan row why o)
 Explains plan stop.WriteFault o = o ≡ Table
 Explains plan stop.Memory o = ⊤
+
+-- where a reason names a row, it is the first that the outcome refuses
+abbrev pub IsFirstStop : Option NamedPlan → Stop → Outcome → Type 0
+IsFirstStop plan stop.Usage o = ⊤
+IsFirstStop plan stop.ReadFault o = ⊤
+IsFirstStop plan stop.TooManyBytes o = ⊤
+IsFirstStop plan stop.NoHeader o = ⊤
+IsFirstStop plan stop.TooManyRows o = ⊤
+IsFirstStop plan (stop.NoColumn name) o = ⊤
+IsFirstStop plan (stop.Refused row why) o = IsSomeAnd plan (λ plan. RefusesFirst plan row why o)
+IsFirstStop plan stop.WriteFault o = ⊤
+IsFirstStop plan stop.Memory o = ⊤
+
+-- a reason that comes before the rows are read
+abbrev pub IsEarly : Stop → Type 0
+IsEarly stop.Usage = ⊤
+IsEarly stop.ReadFault = ⊤
+IsEarly stop.TooManyBytes = ⊤
+IsEarly stop.NoHeader = ⊤
+IsEarly stop.TooManyRows = ⊤
+IsEarly (stop.NoColumn name) = ⊤
+IsEarly (stop.Refused row why) = ⊥
+IsEarly stop.WriteFault = ⊥
+IsEarly stop.Memory = ⊤
 
 -- it explains an outcome, which is that of the plan over what the source had left, where that is told
 abbrev pub IsExplained : Option NamedPlan → Option (List ℕ) → Stop → Type 0
@@ -111,3 +145,8 @@ IsRefusedRow plan row refusal why = (cause : Cause) × (why ≡ stop.Refused row
 abbrev pub Restates : NamedPlan → BlockAnswer → Stop → Type 0
 Restates plan (answer.Row row cause item) why = IsRefusedRow plan row (record { cause = cause; item = item }) why ⊎ (why ≡ stop.Memory)
 Restates plan answer.Memory why = why ≡ stop.Memory
+
+-- likewise of an answer of `gather`
+abbrev pub RestatesGather : NamedPlan → GatherAnswer → Stop → Type 0
+RestatesGather plan (gathering.Row row cause item) why = IsRefusedRow plan row (record { cause = cause; item = item }) why ⊎ (why ≡ stop.Memory)
+RestatesGather plan gathering.Memory why = why ≡ stop.Memory

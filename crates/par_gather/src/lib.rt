@@ -1,51 +1,70 @@
-//! One query over comma-separated bytes, from the words of a command line to an exit status.
+//! One query over comma-separated bytes, from the words of a command line to an exit status, in the caller's thread
+//! alone or with workers beside it.
 //!
 //! The calls keep one order of faults: the words, then the reading, the header, the number of rows, the columns, the
 //! rows, and the writing. The first that holds ends it. One place writes to `out`, and only a whole table; one place
 //! writes the line on `err`, and what becomes of that line changes no status.
+
 #![tactic(auto)]
 
-ghost use Rattle.std.specs.Prelude.{◌≡◌, ◌≢◌, ◌⊎◌, ◌<◌, ◌≤◌, ℕ, List, Some, IfOk, IfErr, IfSome, IsNone, OnOk, Contains, length, take};
+ghost use Rattle.std.specs.Prelude.{◌≡◌, ◌≢◌, ◌⊎◌, ℕ, List, None, Some, IfOk, IfErr, IfSome, IsNone, OnOk, Contains, take};
 ghost use Rattle.std.specs.Io.KnownBytes.{Appends};
-ghost use Rattle.csv_rows.specs.declared.records.TheConstants.{MOST_RECORDS};
 ghost use Rattle.par_io.specs.Faults.{Rose};
-ghost use Rattle.par_model.specs.Outcome.{IsAnswer, Outcome, Table, by_records};
+ghost use Rattle.par_model.specs.Outcome.{Outcome};
+ghost use Rattle.plan_spec.specs.Query.{query_of};
 ghost use Rattle.par_gather.specs.Answers.{IsOutcome, IsTableText, outcome_over, plan_of, status_of, statuses, texts, workers_of};
 ghost use Rattle.par_gather.specs.Lines.{IsLine, IsSaid, NamesFirst, line, usage_text};
-ghost use Rattle.par_gather.specs.Stops.{Explains, IsExplained};
+ghost use Rattle.par_gather.specs.Ran.{IsMadeBy, IsRun};
+ghost use Rattle.par_gather.specs.Stops.{IsExplained, IsFirstStop};
 ghost use Rattle.par_gather.specs.declared.stop.Stop.TheVariants as stop;
 
-mod gate;
 mod groups;
+mod input;
 mod names;
+mod output;
 mod status;
 mod stop;
 
-use csv_rows::{RowStore, read_all, rows};
-pub use gate::{Gate, OpenGate};
-use par_io::{Sink, Source, write_whole};
-use plan_spec::Plan;
-use result_text::text_of;
+use gather_run::{Gathered, gather};
+use groups::groups_of;
+use input::prepare;
+use names::{stop_of_block, stop_of_gather};
+use output::write_table;
+use par_io::{Sink, Source};
 pub use status::{MISUSED, NO_MEMORY, READ_FAULT, REFUSED, TABLE, TOO_LARGE, WRITE_FAULT};
 use std::alloc::Global;
+use std::sync::Wait;
+use std::thread::Threads;
 use stop::Stop;
+pub use worker_run::{Gate, OpenGate};
+
+/// How a table was made.
+#[derive(Drop)]
+pub enum Ran {
+    /// By workers that gathered their groups.
+    Gather(Gathered),
+}
 
 /// Answers the query that `words` name, over the bytes of `source`: writes its table to `out`, or a line to `err` that
-/// says why there is none, and returns the exit status. `words` are those after the program's name. Time is linear in
-/// the input, but for the look-up of each row's group and the order of the groups. Memory is the input, its records,
-/// and about 700 bytes for each group, twice over while their list is made.
+/// says why there is none, and returns the exit status. `words` are those after the program's name.
 ///
-/// So far the caller's thread does all the work: the words `--workers`, `--plan` and `--area-pages` are read and
-/// checked, and the gate is not passed. Of several refused rows the line may name any one, unless no workers are asked
-/// for.
-pub fn pargather<R: Sync, S: Source, O: Sink, E: Sink, G: Gate>(
-    _rt: &R,
+/// The rows are shared out, by blocks of 256, among the caller's thread and as many workers as the words ask for; each
+/// passes the gate before each of its blocks, the caller's thread as participant 0. So far the plan `hash` runs as the
+/// plan `gather`, and `--area-pages` is read and checked alone. Of several refused rows the line may name any one,
+/// unless no workers are asked for.
+///
+/// Time is linear in the input, but for the look-up of each row's group and the order of the groups. Memory is the
+/// input, its records, about 700 bytes for each group, twice over while their list is made, and for each worker 82 KB
+/// and the groups that it keeps, 4,351 at most.
+pub fn pargather<R: Threads + Wait + Sync, S: Source, O: Sink, E: Sink, G: Gate + Sync>(
+    rt: &R,
     alloc: Global,
     words: &[String],
     source: &mut S,
     out: &mut O,
     err: &mut E,
-    _gate: &G,
+    gate: &G,
+    ran: &mut Option<Ran>,
 ) -> u8
     // There is no other status, and one that tells of no fault is that of the outcome.
     ensures statuses { Contains statuses result }
@@ -79,8 +98,22 @@ pub fn pargather<R: Sync, S: Source, O: Sink, E: Sink, G: Gate>(
     // Without workers the row that it names is the first that is refused.
     ensures first { workers_of (texts words.now) ≡ Some 0 → result ≡ REFUSED → IfSome (S.left source.old) (λ bytes.
         (said : List ℕ) × NamesFirst (plan_of (texts words.now)) (outcome_over (plan_of (texts words.now)) bytes) said × IsSaid (E.taken err.old) (E.taken err.new) (E.faults err.old) (E.faults err.new) said) }
+
+    // Beside a table `ran` says how its groups were made, and on every other status it is None.
+    ensures ran { result ≡ TABLE → IfSome (S.left source.old) (λ bytes.
+        (text : List ℕ) × IsRun (query_of (texts words.now)) bytes text ran.new × Appends (O.taken out.old) (O.taken out.new) text) }
+    ensures none { (result ≢ TABLE) → ran.new ≡ None }
 {
-    aggregate_alone(alloc, words, source, out, err)
+    match answer_gathered(rt, alloc, words, source, out, gate) {
+        Ok(gathered) => {
+            *ran = Some(Ran::Gather(gathered));
+            TABLE
+        }
+        Err(stop) => {
+            *ran = None;
+            stop.end(err)
+        }
+    }
 }
 
 /// Answers the query as [`pargather`] does with `--workers 0`, whatever number the words give: in the caller's thread
@@ -125,17 +158,14 @@ pub fn aggregate_alone<S: Source, O: Sink, E: Sink>(
     ensures first { result ≡ REFUSED → IfSome (S.left source.old) (λ bytes.
         (said : List ℕ) × NamesFirst (plan_of (texts words.now)) (outcome_over (plan_of (texts words.now)) bytes) said × IsSaid (E.taken err.old) (E.taken err.new) (E.faults err.old) (E.faults err.new) said) }
 {
-    match answer(alloc, words, source, out) {
+    match answer_alone(alloc, words, source, out) {
         Ok(()) => TABLE,
-        Err(stop) => {
-            stop.report(err);
-            stop.status()
-        }
+        Err(stop) => stop.end(err),
     }
 }
 
-/// Reads the words and the source, and writes the table.
-fn answer<S: Source, O: Sink>(
+/// Reads the words and the source, and writes the table, in the caller's thread.
+fn answer_alone<S: Source, O: Sink>(
     alloc: Global,
     words: &[String],
     source: &mut S,
@@ -151,46 +181,53 @@ fn answer<S: Source, O: Sink>(
     ensures write_fault { IfErr result (λ why. why ≡ stop.WriteFault → Rose (O.faults out.old) (O.faults out.new)) }
     ensures no_plan { IsNone (plan_of (texts words.now)) → (result ≡ Err stop.Usage) ⊎ (result ≡ Err stop.Memory) }
     ensures unread { IsNone (plan_of (texts words.now)) → source.new ≡ source.old }
+    ensures first { IfErr result (λ why. IfSome (S.left source.old) (λ bytes. IsFirstStop (plan_of (texts words.now)) why (outcome_over (plan_of (texts words.now)) bytes))) }
 {
-    let plan = Plan::of_words(alloc, words)?;
-    let text = read_table(alloc, &plan, source)?;
-    match write_whole(out, text.as_slice()) {
-        Ok(()) => Ok(()),
-        Err(_) => Err(Stop::WriteFault),
+    let ready = prepare(alloc, words, source)?;
+    match groups_of(alloc, &ready.rows, &ready.bound) {
+        Ok(groups) => write_table(alloc, &ready, &groups, out),
+        Err(answer) => Err(stop_of_block(alloc, &ready.plan, answer)),
     }
 }
 
-/// Reads the source and makes the text of the table.
-fn read_table<S: Source>(alloc: Global, plan: &Plan, source: &mut S) -> Result<Vec<u8>, Stop>
-    ensures table { IfOk result (λ text. IfSome (S.left source.old) (λ bytes. IsTableText (Some plan.now.plan) bytes text.items)) }
-    ensures why { IfErr result (λ why. IsExplained (Some plan.now.plan) (S.left source.old) why) }
+/// Reads the words and the source, and writes the table, with as many workers as the words ask for.
+fn answer_gathered<R: Threads + Wait + Sync, S: Source, O: Sink, G: Gate + Sync>(
+    rt: &R,
+    alloc: Global,
+    words: &[String],
+    source: &mut S,
+    out: &mut O,
+    gate: &G,
+) -> Result<Gathered, Stop>
+    ensures table { OnOk result (IfSome (S.left source.old) (λ bytes.
+        (text : List ℕ) × IsTableText (plan_of (texts words.now)) bytes text × Appends (O.taken out.old) (O.taken out.new) text)) }
+    ensures made { IfOk result (λ gathered. IfSome (S.left source.old) (λ bytes.
+        (text : List ℕ) × IsMadeBy (query_of (texts words.now)) bytes text gathered × Appends (O.taken out.old) (O.taken out.new) text)) }
+    ensures part { IfErr result (λ why. why ≡ stop.WriteFault → IfSome (S.left source.old) (λ bytes.
+        (text : List ℕ) × IsTableText (plan_of (texts words.now)) bytes text × (n : ℕ) × Appends (O.taken out.old) (O.taken out.new) (take n text))) }
+    ensures nothing { IfErr result (λ why. (why ≢ stop.WriteFault) → out.new ≡ out.old) }
+    ensures why { IfErr result (λ why. IsExplained (plan_of (texts words.now)) (S.left source.old) why) }
     ensures read_fault { IfErr result (λ why. why ≡ stop.ReadFault → Rose (S.faults source.old) (S.faults source.new)) }
-    ensures no_write { IfErr result (λ why. why ≢ stop.WriteFault) }
+    ensures write_fault { IfErr result (λ why. why ≡ stop.WriteFault → Rose (O.faults out.old) (O.faults out.new)) }
+    ensures no_plan { IsNone (plan_of (texts words.now)) → (result ≡ Err stop.Usage) ⊎ (result ≡ Err stop.Memory) }
+    ensures unread { IsNone (plan_of (texts words.now)) → source.new ≡ source.old }
+    ensures first { workers_of (texts words.now) ≡ Some 0 → IfErr result (λ why. IfSome (S.left source.old) (λ bytes.
+        IsFirstStop (plan_of (texts words.now)) why (outcome_over (plan_of (texts words.now)) bytes))) }
 {
-    let bytes = read_all(alloc, source)?;
-    let rows = rows(alloc, bytes.as_slice())?;
-    table_of(alloc, plan, &rows)
-}
-
-/// The text of the table over these records.
-fn table_of(alloc: Global, plan: &Plan, rows: &RowStore) -> Result<Vec<u8>, Stop>
-    requires some { 0 < length rows.now }
-    requires few { length rows.now ≤ MOST_RECORDS }
-    ensures table { IfOk result (λ text. (by_records plan.now.plan rows.now ≡ Table) × IsAnswer plan.now.plan rows.now text.items) }
-    ensures why { IfErr result (λ why. Explains (Some plan.now.plan) why (by_records plan.now.plan rows.now)) }
-    ensures no_fault { IfErr result (λ why. (why ≢ stop.ReadFault) × (why ≢ stop.WriteFault)) }
-{
-    let bound = match plan.bind(rows) {
-        Ok(bound) => bound,
-        Err(missing) => {
-            let name = String::from_str(alloc, plan.name(missing.at))?;
-            return Err(Stop::NoColumn(name));
-        }
+    let ready = prepare(alloc, words, source)?;
+    let gathered = match gather(
+        rt,
+        alloc,
+        &ready.rows,
+        &ready.bound,
+        ready.plan.workers(),
+        gate,
+    ) {
+        Ok(gathered) => gathered,
+        Err(answer) => return Err(stop_of_gather(alloc, &ready.plan, answer)),
     };
-    match groups::groups_of(alloc, rows, &bound) {
-        Ok(groups) => Ok(text_of(alloc, plan, &bound, &groups)?),
-        Err(answer) => Err(names::stop_of_block(alloc, plan, answer)),
-    }
+    write_table(alloc, &ready, &gathered.groups, out)?;
+    Ok(gathered)
 }
 
 #[cfg(test)]

@@ -3,11 +3,13 @@
 //! A plan lends them: that of an aggregate by its place, and that of the filter. They are copied, since the line is
 //! written after the plan is gone.
 
-ghost use Rattle.std.specs.Prelude.{◌≡◌, IfOk};
+ghost use Rattle.std.specs.Prelude.{◌≡◌, ◌⊎◌, IfOk};
 ghost use Rattle.par_gather.specs.Lines.{refusal_text};
-ghost use Rattle.par_gather.specs.Stops.{Restates, cause_text};
+ghost use Rattle.par_gather.specs.Stops.{IsRefusedRow, Restates, RestatesGather, cause_text};
+ghost use Rattle.par_gather.specs.declared.stop.Stop.TheVariants as stop;
 
 use crate::stop::{Cause, Stop};
+use gather_run::GatherAnswer;
 use par_model::{ITEM_CAUSE, KEY_CAUSE, Refusal, WIDTH_CAUSE};
 use partial_agg::BlockAnswer;
 use plan_spec::Plan;
@@ -19,12 +21,37 @@ pub(crate) fn stop_of_block(alloc: Global, plan: &Plan, answer: BlockAnswer) -> 
 {
     match answer {
         BlockAnswer::Memory => Stop::Memory,
-        BlockAnswer::Row { row, cause, item } => {
-            match cause_of(alloc, plan, Refusal { cause, item }) {
-                Ok(cause) => Stop::Refused(row, cause),
-                Err(AllocError) => Stop::Memory,
-            }
-        }
+        BlockAnswer::Row { row, cause, item } => stop_of_row(
+            alloc,
+            plan,
+            row,
+            Refusal { cause, item },
+        ),
+    }
+}
+
+/// The reason that stands for an answer of `gather`.
+pub(crate) fn stop_of_gather(alloc: Global, plan: &Plan, answer: GatherAnswer) -> Stop
+    ensures { RestatesGather plan.now.plan answer result }
+{
+    match answer {
+        GatherAnswer::Memory => Stop::Memory,
+        GatherAnswer::Row { row, cause, item } => stop_of_row(
+            alloc,
+            plan,
+            row,
+            Refusal { cause, item },
+        ),
+    }
+}
+
+/// The reason that this row is refused, or want of memory.
+fn stop_of_row(alloc: Global, plan: &Plan, row: u64, why: Refusal) -> Stop
+    ensures { IsRefusedRow plan.now.plan row why result ⊎ (result ≡ stop.Memory) }
+{
+    match cause_of(alloc, plan, why) {
+        Ok(cause) => Stop::Refused(row, cause),
+        Err(AllocError) => Stop::Memory,
     }
 }
 

@@ -94,7 +94,7 @@ impl Cause {
 
 impl Stop {
     /// The exit status.
-    pub(crate) fn status(&self) -> u8
+    fn status(&self) -> u8
         ensures { result ≡ stop_status self.now }
     {
         match self {
@@ -140,8 +140,17 @@ impl Stop {
         ["pargather: ", row, number, colon, text, name, rest, "\n"]
     }
 
+    /// Writes the line, and gives the status.
+    pub(crate) fn end<E: Sink>(&self, err: &mut E) -> u8
+        ensures said { IsSaid (E.taken err.old) (E.taken err.new) (E.faults err.old) (E.faults err.new) (line (stop_text self.now)) }
+        ensures status { result ≡ stop_status self.now }
+    {
+        self.report(err);
+        self.status()
+    }
+
     /// Writes the line. A failed write ends it, and changes nothing else.
-    pub(crate) fn report<E: Sink>(&self, err: &mut E)
+    fn report<E: Sink>(&self, err: &mut E)
         ensures { IsSaid (E.taken err.old) (E.taken err.new) (E.faults err.old) (E.faults err.new) (line (stop_text self.now)) }
     {
         let mut digits = itoa::Buffer::new();

@@ -2,6 +2,7 @@
 
 mod slow;
 mod worked;
+mod workers;
 
 use super::*;
 use par_io::{MemSink, MemSource};
@@ -46,7 +47,12 @@ impl<'a> Run<'a> {
     }
 
     /// What a call answers: `aggregate_alone`, or `pargather`.
-    fn answer(&self, alloc: Global, is_alone: bool) -> Result<Answered, AllocError> {
+    fn answer<R: Threads + Wait + Sync>(
+        &self,
+        rt: &R,
+        alloc: Global,
+        is_alone: bool,
+    ) -> Result<Answered, AllocError> {
         let mut words = Vec::new(alloc);
         for word in self.words.split(' ') {
             words.push(String::from_str(alloc, word)?)?;
@@ -59,13 +65,14 @@ impl<'a> Run<'a> {
             aggregate_alone(alloc, words.as_slice(), &mut source, &mut out, &mut err)
         } else {
             pargather(
-                &(),
+                rt,
                 alloc,
                 words.as_slice(),
                 &mut source,
                 &mut out,
                 &mut err,
                 &OpenGate,
+                &mut None,
             )
         };
         Ok(Answered {
@@ -166,7 +173,7 @@ fn answers_worked_rows(rt: HostRuntime) -> Result<(), Fail> {
     ];
     for (at, (run, status, out, err)) in runs.iter().enumerate() {
         for is_alone in [false, true] {
-            let answer = run.answer(rt.alloc(), is_alone)?;
+            let answer = run.answer(&rt, rt.alloc(), is_alone)?;
             assert_eq!(rt; answer.status, *status, "status of run {at}");
             assert_eq!(rt; answer.out.as_slice(), out.as_bytes(), "table of run {at}");
             assert_eq!(rt; answer.err.as_slice(), err.as_bytes(), "line of run {at}");

@@ -38,6 +38,7 @@ fn main(rt: HostRuntime) -> ExitCode {
         &mut StdSink::new(rt.stdout()),
         &mut StdSink::new(rt.stderr()),
         &OpenGate,
+        &mut None,
     );
     ExitCode::from(status)
 }

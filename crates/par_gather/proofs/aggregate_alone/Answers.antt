@@ -13,18 +13,18 @@ returns-in-Err-clause-line g c = λ _.
     let plan = plan_of (texts c.args.words.now) in
     let said = line_outcome plan (g.S.Source.left c.args.source.now) c.in-Err.stop c.in-Err.ensures.why in
     let P : ℕ → Type 0 = λ n. IsLine plan n said.0 (line (stop_text c.in-Err.stop)) in
-    (said.0, said.1, line (stop_text c.in-Err.stop), subst P (sym c.status.ensures) said.2, c.report.ensures)
+    (said.0, said.1, line (stop_text c.in-Err.stop), subst P (sym c.end.ensures.status) said.2, c.end.ensures.said)
 
 pub returns-in-Err-clause-first : goal.returns-in-Err-clause-first
 returns-in-Err-clause-first g c = λ is.
-    let first = line_first (plan_of (texts c.args.words.now)) (g.S.Source.left c.args.source.now) c.in-Err.stop c.in-Err.ensures.why (sym c.status.ensures ∙ is) in
-    IfSome_then (g.S.Source.left c.args.source.now) first (λ bytes names. (line (stop_text c.in-Err.stop), names, c.report.ensures))
+    let first = line_first (plan_of (texts c.args.words.now)) (g.S.Source.left c.args.source.now) c.in-Err.stop c.in-Err.ensures.first (sym c.end.ensures.status ∙ is) in
+    IfSome_then (g.S.Source.left c.args.source.now) first (λ bytes names. (line (stop_text c.in-Err.stop), names, c.end.ensures.said))
 
 pub returns-in-Err-clause-usage : goal.returns-in-Err-clause-usage
 returns-in-Err-clause-usage g c = λ none is.
-    let Said : Stop → Type 0 = λ why. IsSaid (g.E.Sink.taken c.args.err.now) (g.E.Sink.taken c.report.new.err) (g.E.Sink.faults c.args.err.now) (g.E.Sink.faults c.report.new.err) (line (stop_text why)) in
-    let two : stop_status c.in-Err.stop ≡ 2 = sym c.status.ensures ∙ is in
+    let Said : Stop → Type 0 = λ why. IsSaid (g.E.Sink.taken c.args.err.now) (g.E.Sink.taken c.end.new.err) (g.E.Sink.faults c.args.err.now) (g.E.Sink.faults c.end.new.err) (line (stop_text why)) in
+    let two : stop_status c.in-Err.stop ≡ 2 = sym c.end.ensures.status ∙ is in
     elim (c.in-Err.ensures.no_plan none) [
-      | inl usage ↦ let why : c.in-Err.stop ≡ stop.Usage = cc usage in subst Said why c.report.ensures
+      | inl usage ↦ let why : c.in-Err.stop ≡ stop.Usage = cc usage in subst Said why c.end.ensures.said
       | inr memory ↦ let why : c.in-Err.stop ≡ stop.Memory = cc memory in let five : stop_status c.in-Err.stop ≡ 5 = ap stop_status why in absurd (omega (arith, two, five))
     ]

@@ -4,7 +4,9 @@ use crate::{OpenGate, aggregate_alone, pargather};
 use par_io::{MemSink, MemSource};
 use std::alloc::{AllocError, Global};
 use std::process::Abort;
+use std::sync::Wait;
 use std::test::Fail;
+use std::thread::Threads;
 
 /// Texts that stand one after the other, each so many times.
 type Pieces<'a> = &'a [(&'a str, u32)];
@@ -68,7 +70,8 @@ fn words_of(alloc: Global, text: &str) -> Result<Vec<String>, AllocError> {
 }
 
 /// The status of one of the two calls over these words and bytes, and what its sinks were given.
-fn answer(
+fn answer<R: Threads + Wait + Sync>(
+    rt: &R,
     alloc: Global,
     words: &str,
     input: Vec<u8>,
@@ -82,13 +85,14 @@ fn answer(
         aggregate_alone(alloc, words.as_slice(), &mut source, &mut out, &mut err)
     } else {
         pargather(
-            &(),
+            rt,
             alloc,
             words.as_slice(),
             &mut source,
             &mut out,
             &mut err,
             &OpenGate,
+            &mut None,
         )
     };
     Ok((
@@ -99,12 +103,16 @@ fn answer(
 }
 
 /// Whether both calls answer each of these rows as it says.
-fn check(rt: &impl Abort, alloc: Global, rows: &[Row<'_>]) -> Result<(), Fail> {
+fn check<R: Abort + Threads + Wait + Sync>(
+    rt: &R,
+    alloc: Global,
+    rows: &[Row<'_>],
+) -> Result<(), Fail> {
     for row in rows {
         for alone in [false, true] {
             let want = bytes_of(alloc, row.out)?;
             let input = bytes_of(alloc, row.input)?;
-            let (status, out, err) = answer(alloc, row.words, input, alone)?;
+            let (status, out, err) = answer(rt, alloc, row.words, input, alone)?;
             assert_eq!(rt; status, row.status, "status of {}", row.words);
             assert_eq!(rt; out.as_slice(), want.as_slice(), "table of {}", row.words);
             assert_eq!(rt; err.as_slice(), row.err.as_bytes(), "line of {}", row.words);
@@ -462,7 +470,7 @@ fn thousand_orders(rt: HostRuntime) -> Result<(), Fail> {
     ];
     for (words, want) in rows {
         for alone in [false, true] {
-            let (status, out, err) = answer(rt.alloc(), words, orders(rt.alloc())?, alone)?;
+            let (status, out, err) = answer(&rt, rt.alloc(), words, orders(rt.alloc())?, alone)?;
             assert_eq!(rt; status, 0, "status of {words}");
             assert_eq!(rt; out.as_slice(), want.as_bytes(), "table of {words}");
             assert!(rt; err.is_empty(), "line of {words}");
@@ -488,7 +496,7 @@ fn bytes_that_are_no_text(rt: HostRuntime) -> Result<(), Fail> {
     for (at, (input, status, out, line)) in rows.iter().enumerate() {
         for alone in [false, true] {
             let input = Vec::from_slice(rt.alloc(), input)?;
-            let found = answer(rt.alloc(), words, input, alone)?;
+            let found = answer(&rt, rt.alloc(), words, input, alone)?;
             assert_eq!(rt; found.0, *status, "status of row {at}");
             assert_eq!(rt; found.1.as_slice(), *out, "table of row {at}");
             assert_eq!(rt; found.2.as_slice(), *line, "line of row {at}");

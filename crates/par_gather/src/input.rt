@@ -1,0 +1,82 @@
+//! What a query needs before its rows are read: the plan of the words, the records of the source, and the plan over
+//! their columns. The first fault ends it, in the order of the words, the reading, the header, the number of rows and
+//! the columns.
+
+ghost use Rattle.std.specs.Prelude.{◌≡◌, ◌≢◌, ◌⊎◌, ◌<◌, ◌≤◌, IfErr, IfOk, IfSome, IsNone, None, OnOk, Some, length};
+ghost use Rattle.csv_rows.specs.Records.{record_at, records_of};
+ghost use Rattle.csv_rows.specs.declared.records.TheConstants.{MOST_RECORDS};
+ghost use Rattle.par_io.specs.Faults.{Rose};
+ghost use Rattle.par_model.specs.Columns.{HasColumns};
+ghost use Rattle.par_model.specs.Named.{bound_plan, missing_name};
+ghost use Rattle.par_model.specs.Outcome.{by_records};
+ghost use Rattle.partial_agg.specs.Rows.{header_width};
+ghost use Rattle.par_gather.specs.Answers.{plan_of, texts};
+ghost use Rattle.par_gather.specs.Ready.{AreRecordsOf, IsReady};
+ghost use Rattle.par_gather.specs.Stops.{Explains, IsEarly, IsExplained};
+ghost use Rattle.par_gather.specs.declared.stop.Stop.TheVariants as stop;
+
+use crate::stop::Stop;
+use csv_rows::{RowStore, read_all, rows};
+use par_io::Source;
+use par_model::BoundPlan;
+use plan_spec::Plan;
+use std::alloc::Global;
+
+/// A query that is ready to run.
+#[derive(Drop)]
+pub(crate) struct Ready {
+    pub(crate) plan: Plan,
+    pub(crate) rows: RowStore,
+    /// The plan over the columns of the rows' header.
+    pub(crate) bound: BoundPlan,
+}
+
+/// Reads the words and the source. Where the words are no plan the source is not read.
+pub(crate) fn prepare<S: Source>(
+    alloc: Global,
+    words: &[String],
+    source: &mut S,
+) -> Result<Ready, Stop>
+    ensures ready { IfOk result (λ ready. IsReady (texts words.now) (S.left source.old) ready) }
+    ensures why { IfErr result (λ why. IsExplained (plan_of (texts words.now)) (S.left source.old) why) }
+    ensures read_fault { IfErr result (λ why. why ≡ stop.ReadFault → Rose (S.faults source.old) (S.faults source.new)) }
+    ensures early { IfErr result (λ why. IsEarly why) }
+    ensures no_plan { IsNone (plan_of (texts words.now)) → (result ≡ Err stop.Usage) ⊎ (result ≡ Err stop.Memory) }
+    ensures unread { IsNone (plan_of (texts words.now)) → source.new ≡ source.old }
+{
+    let plan = Plan::of_words(alloc, words)?;
+    let rows = read_rows(alloc, &plan, source)?;
+    let bound = bind(alloc, &plan, &rows)?;
+    Ok(Ready { plan, rows, bound })
+}
+
+/// Reads the source.
+fn read_rows<S: Source>(alloc: Global, plan: &Plan, source: &mut S) -> Result<RowStore, Stop>
+    ensures records { IfOk result (λ rows. IfSome (S.left source.old) (λ bytes. AreRecordsOf rows bytes)) }
+    ensures some { IfOk result (λ rows. (0 < length rows) × (length rows ≤ MOST_RECORDS)) }
+    ensures why { IfErr result (λ why. IsExplained (Some plan.now.plan) (S.left source.old) why) }
+    ensures read_fault { IfErr result (λ why. why ≡ stop.ReadFault → Rose (S.faults source.old) (S.faults source.new)) }
+    ensures early { IfErr result (λ why. IsEarly why) }
+{
+    let bytes = read_all(alloc, source)?;
+    Ok(rows(alloc, bytes.as_slice())?)
+}
+
+/// The plan over the columns of the records.
+fn bind(alloc: Global, plan: &Plan, rows: &RowStore) -> Result<BoundPlan, Stop>
+    requires some { 0 < length rows.now }
+    requires few { length rows.now ≤ MOST_RECORDS }
+    ensures bound { IfOk result (λ bound. bound ≡ bound_plan (record_at rows.now 0) plan.now.plan) }
+    ensures columns { IfOk result (λ bound. HasColumns bound (header_width rows.now)) }
+    ensures whole { OnOk result (missing_name (record_at rows.now 0) plan.now.plan ≡ None) }
+    ensures why { IfErr result (λ why. Explains (Some plan.now.plan) why (by_records plan.now.plan rows.now)) }
+    ensures no_fault { IfErr result (λ why. (why ≢ stop.ReadFault) × IsEarly why) }
+{
+    match plan.bind(rows) {
+        Ok(bound) => Ok(bound),
+        Err(missing) => {
+            let name = String::from_str(alloc, plan.name(missing.at))?;
+            Err(Stop::NoColumn(name))
+        }
+    }
+}
