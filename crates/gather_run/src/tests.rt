@@ -178,7 +178,7 @@ fn one_group_with_any_workers(rt: HostRuntime) -> Result<(), Fail> {
     Ok(())
 }
 
-// There are more groups than a ring has room for.
+/// There are more groups than a ring has room for.
 #[test]
 fn many_groups_with_any_workers(rt: HostRuntime) -> Result<(), Fail> {
     let text = wide_table(rt.alloc(), 6_000, 1_500, 0)?;
@@ -199,7 +199,7 @@ fn no_rows(rt: HostRuntime) -> Result<(), Fail> {
     Ok(())
 }
 
-// The answer names the only refused row: early, late and in the midst of many groups.
+/// The answer names the only refused row: early, late and in the midst of many groups.
 #[test]
 fn a_refused_row(rt: HostRuntime) -> Result<(), Fail> {
     for bad in [1, 257, 2_500, 5_000] {

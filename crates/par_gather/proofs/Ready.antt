@@ -211,7 +211,7 @@ module _ (words : List (List ℕ)) where
       let n = row - 1 in
       let place : n + 1 ≡ row = omega (arith, refused.first) in
       let found = refused_first r.bound r.rows n refusal (omega (arith, refused.first, refused.within)) first
-          (subst (λ k. refusal_of r.bound (header_width r.rows) (record_at r.rows k) ≡ Some refusal) (sym place) refused.cause_is) in
+      (subst (λ k. refusal_of r.bound (header_width r.rows) (record_at r.rows k) ≡ Some refusal) (sym place) refused.cause_is) in
       refused_first_stop left r row refusal found.0 why ready (subst (λ k. refused_in r.bound r.rows ≡ (k, refusal) ∷ found.0) place found.1) is
   gather_first left r (gathering.Row row cause item) why ready refused first (inr e) = memory_first left why e
   gather_first left r gathering.Memory why ready refused first e = memory_first left why e

@@ -2,6 +2,7 @@
 //!
 //! This file is the edge to the system alone: it hands the words, the standard streams and an open gate to the library
 //! `par_gather`, whose contract says what the answer is, and ends with the status that it gets.
+
 #![tactic(auto)]
 
 use par_gather::{NO_MEMORY, OpenGate, pargather};

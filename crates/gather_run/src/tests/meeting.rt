@@ -54,7 +54,7 @@ impl Gate for Meeting {
     }
 }
 
-// Three participants are inside their first blocks at one time.
+/// Three participants are inside their first blocks at one time.
 #[test]
 fn all_are_at_work_at_once(rt: HostRuntime) -> Result<(), Fail> {
     let text = table(rt.alloc(), 768, 1, 0)?;
@@ -66,7 +66,7 @@ fn all_are_at_work_at_once(rt: HostRuntime) -> Result<(), Fail> {
     Ok(())
 }
 
-// So are four, who then have many groups to send at once.
+/// So are four, who then have many groups to send at once.
 #[test]
 fn all_send_at_once(rt: HostRuntime) -> Result<(), Fail> {
     let text = wide_table(rt.alloc(), 12_000, 3_000, 0)?;

@@ -27,8 +27,8 @@ returns-in_err-write_table-clause-part g c =
     let new = g.O.Sink.taken c.write_table.new.out in
     let none : refused_in ready.bound ready.rows ≡ [] = refused_in-none ready.bound ready.rows c.in-Ok.ensures.groups.accepted in
     let here : c.in_err-write_table.field-0.0 ≡ stop.WriteFault
-        → IfSome left (λ bytes. (text : List ℕ) × IsTableText (plan_of words) bytes text × (n : ℕ) × Appends old new (take n text)) =
-        λ e. part_written words left ready c.in-Ok.gathered.groups old new c.in_ok-ready.ensures.ready none (c.in_err-write_table.ensures.part e) in
+    → IfSome left (λ bytes. (text : List ℕ) × IsTableText (plan_of words) bytes text × (n : ℕ) × Appends old new (take n text)) =
+    λ e. part_written words left ready c.in-Ok.gathered.groups old new c.in_ok-ready.ensures.ready none (c.in_err-write_table.ensures.part e) in
     search rules
 
 pub returns-in_err-write_table-clause-why : goal.returns-in_err-write_table-clause-why

@@ -54,7 +54,7 @@ fn words_of(alloc: Global, text: &str) -> Result<Vec<String>, AllocError> {
     Ok(words)
 }
 
-// Three blocks, and three participants that are inside their first at one time.
+/// Three blocks, and three participants that are inside their first at one time.
 #[test]
 fn all_are_at_work_at_once(rt: HostRuntime) -> Result<(), Fail> {
     let alloc = rt.alloc();
@@ -93,7 +93,7 @@ fn all_are_at_work_at_once(rt: HostRuntime) -> Result<(), Fail> {
     Ok(())
 }
 
-// Of two refused rows either may be named where there are workers, and without them it is the first.
+/// Of two refused rows either may be named where there are workers, and without them it is the first.
 #[test]
 fn two_refused_rows(rt: HostRuntime) -> Result<(), Fail> {
     let alloc = rt.alloc();
@@ -120,7 +120,7 @@ fn two_refused_rows(rt: HostRuntime) -> Result<(), Fail> {
     Ok(())
 }
 
-// Sixteen bytes in pieces of 3: the eighth read, which finds the end, is the last.
+/// Sixteen bytes in pieces of 3: the eighth read, which finds the end, is the last.
 #[test]
 fn failing_reads(rt: HostRuntime) -> Result<(), Fail> {
     for call in 1..=8u64 {
@@ -135,7 +135,7 @@ fn failing_reads(rt: HostRuntime) -> Result<(), Fail> {
     Ok(())
 }
 
-// Sixteen bytes of a table in pieces of 5: four writes.
+/// Sixteen bytes of a table in pieces of 5: four writes.
 #[test]
 fn failing_writes(rt: HostRuntime) -> Result<(), Fail> {
     let table = b"g,count\na,2\nb,1\n".as_slice();

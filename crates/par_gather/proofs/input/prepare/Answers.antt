@@ -18,8 +18,8 @@ returns-in_err-bound-clause-why g c =
     let words = texts c.args.words.now in
     let why = c.in_err-bound.field-0.0 in
     let here : IsExplained (plan_of words) left why =
-        subst (λ (p : Option NamedPlan). IsExplained p left why) (sym (plan_is words c.in_ok-plan.plan c.in_ok-plan.ensures.plan))
-        (explained_rows c.in_ok-plan.plan.plan left c.in_ok-rows.rows why c.in_ok-rows.ensures.records c.in_err-bound.ensures.why) in
+    subst (λ (p : Option NamedPlan). IsExplained p left why) (sym (plan_is words c.in_ok-plan.plan c.in_ok-plan.ensures.plan))
+    (explained_rows c.in_ok-plan.plan.plan left c.in_ok-rows.rows why c.in_ok-rows.ensures.records c.in_err-bound.ensures.why) in
     search rules
 
 pub returns-clause-ready : goal.returns-clause-ready
