@@ -1,6 +1,6 @@
 //! The two calls that a request makes at the pages, each one event of `free_pages`.
 
-ghost use Rattle.std.specs.Prelude.{◌≡◌, ℕ, ◌≤◌, [], ◌∷◌, IfOk, IfErr, is_some};
+ghost use Rattle.std.specs.Prelude.{◌≡◌, ◌≤◌, [], ◌∷◌, IfOk, IfErr, is_some};
 ghost use Rattle.free_pages.specs.Legal.{Take, Give, Gets, Lacks, Accepts, HandsBack};
 ghost use Rattle.free_pages.specs.PagesView.{IsRunOf, MayGive};
 ghost use Rattle.dsa_area.specs.Shown.{Belongs, IsArea, first_of, number_of, pages_of};

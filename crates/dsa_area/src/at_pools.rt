@@ -1,6 +1,6 @@
 //! The three calls that a request makes at a pool, each one event of `span_pools`.
 
-ghost use Rattle.std.specs.Prelude.{◌≡◌, ℕ, ◌+◌, [], ◌∷◌, IfNone, IfSome, IfOk, IfErr};
+ghost use Rattle.std.specs.Prelude.{◌≡◌, ◌+◌, [], ◌∷◌, IfNone, IfSome, IfOk, IfErr};
 ghost use Rattle.size_classes.specs.Classes.{IsClass, class_size, first_class};
 ghost use Rattle.span_pools.specs.Legal.{Alloc, Add, Free, Object, Full, Kept, Whole, Stranger};
 ghost use Rattle.span_pools.specs.PoolView.{IsSuperblock};

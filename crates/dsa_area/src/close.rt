@@ -3,7 +3,7 @@
 //! Each pass is taken apart into its two, which are joined to those of the callers behind it, so that no list of
 //! passes is made.
 
-ghost use Rattle.std.specs.Prelude.{◌≡◌, map};
+ghost use Rattle.std.specs.Prelude.{map};
 ghost use Rattle.lock_book.specs.Shown.{IsJoined};
 ghost use Rattle.dsa_area.specs.Shown.{AreAll, IsArea};
 ghost use Rattle.dsa_area.specs.Ending.{Ended};

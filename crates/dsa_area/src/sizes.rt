@@ -1,8 +1,7 @@
 //! How large chunks are, and by which sizes a request is served.
 
 ghost use Rattle.std.specs.Prelude.{◌≡◌, ◌≤◌, ◌^◌};
-ghost use Rattle.size_classes.specs.Classes.{first_class};
-ghost use Rattle.dsa_area.specs.Sizes.{chunk_size, page_bytes, pages_for};
+ghost use Rattle.dsa_area.specs.Sizes.{chunk_size, pages_for};
 
 use free_pages::PAGE_WORDS;
 use size_classes::{class_bytes, class_of};

@@ -4,7 +4,7 @@
 ghost use Rattle.std.specs.Prelude.{◌≡◌, ℕ, ◌≤◌, IfOk};
 ghost use mathlib.Core.Option.{some};
 ghost use lib.ListN.{get_elem?};
-ghost use Rattle.dsa_area.specs.Shown.{AreAll, Belongs, IsArea, IsFresh, callers_of, number_of, pages_of};
+ghost use Rattle.dsa_area.specs.Shown.{AreAll, Belongs, IsArea, IsFresh, callers_of, pages_of};
 
 use crate::{Area, AreaPass, area_words};
 use region_words::Region;

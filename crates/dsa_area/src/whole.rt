@@ -1,6 +1,6 @@
 //! Requests that are whole pages, without their control records.
 
-ghost use Rattle.std.specs.Prelude.{◌≡◌, ◌≢◌, ℕ, ◌<◌, ◌≤◌, ◌/◌, ◌%◌, ◌*◌, ◌⊎◌, false, [], ◌∷◌, IfOk, IfErr};
+ghost use Rattle.std.specs.Prelude.{◌≡◌, ◌≢◌, ◌<◌, ◌≤◌, ◌/◌, ◌%◌, ◌*◌, ◌⊎◌, false, [], ◌∷◌, IfOk, IfErr};
 ghost use Rattle.size_classes.specs.Classes.{largest_size};
 ghost use Rattle.free_pages.specs.Legal.{Take, Give, Gets, Lacks, Accepts, HandsBack};
 ghost use Rattle.dsa_area.specs.Sizes.{page_bytes};
