@@ -1,0 +1,11 @@
+use Rattle.std.proofs.Common.{refl}
+use Rattle.lock_book.specs.Shown.{opens_of}
+use Rattle.dshash_parts.specs.Tables.{name_in}
+use Rattle.dshash_parts.proofs.Events.{turn, no_other_grow}
+use Rattle.dshash_parts.proofs.turns.grow_at.Goals as goal
+
+pub unreachable-requires : goal.unreachable-requires
+unreachable-requires g c = no_other_grow (name_in c.args.r.now c.args.table.now c.args.number) c.args.size c.args.slice c.call.result (c.call.ensures.output _ (c.requires.table.parts c.args.number c.requires.number)) c.in_default.not-LeftOver
+
+pub returns-clause-event : goal.returns-clause-event
+returns-clause-event g c = turn g.O.CellObject.stepped (opens_of c.args.table.now.shelf) _ _ _ _ _ c.args.number _ _ (name_in c.args.r.now c.args.table.now c.args.number) (c.requires.table.parts c.args.number c.requires.number) refl c.in-LeftOver.ensures.called

@@ -1,0 +1,7 @@
+pub mod States
+pub mod Asked
+pub mod Legal
+pub mod Tables
+pub mod Traces
+pub mod Promises
+pub mod Sweeps

@@ -1,0 +1,91 @@
+//! A partition that has to grow: a look at its size, a slice from the area, a move, and the slice that is left over back to the area.
+
+ghost use Rattle.std.specs.Prelude.{◌≡◌, ℕ, ◌<◌, ◌≤◌, List, MatchResult};
+ghost use Rattle.lock_book.specs.Shown.{Belongs, number_of, seen_of, mine_of};
+ghost use Rattle.dsa_area.specs.Shown.{Belongs as AreaBelongs, IsArea, number_of as area_number};
+ghost use Rattle.dshash_parts.specs.Tables.{IsTable};
+ghost use Rattle.dshash_parts.specs.Traces.{Trace, Event, sight};
+ghost use Rattle.dshash_parts.specs.Promises.{IsGrown, IsStuck};
+ghost use Rattle.dshash_parts.specs.Sweeps.{Swept, SweptUntil};
+
+use crate::requests::{ask, give};
+use crate::table::{DsPass, Dshash};
+use crate::turns::{grow_at, look_at};
+use dsa_area::{Area, AreaPass, NoSpace};
+use dshash_core::{CellObject, bucket_count};
+use region_words::Region;
+use std::sync::Wait;
+
+/// The partition of this number moves to this size, where it has a smaller one.
+pub(crate) fn grow_one<R: Wait, O: CellObject + Send>(
+    rt: &R,
+    table: &Dshash<O>,
+    r: &Region,
+    area: &Area,
+    pass: &mut DsPass<O>,
+    apass: &mut AreaPass,
+    number: u32,
+    size: u32,
+) -> Result<(), NoSpace>
+where
+    O::State: Send,
+    O::Call: Send,
+    O::Reply: Send,
+    requires table { IsTable r.now table.now }
+    requires own { Belongs table.now.shelf pass.old }
+    requires area { IsArea r.now area.now }
+    requires area_own { AreaBelongs area.now apass.old }
+    requires number { number < 128 }
+    requires size { (8 ≤ size) × (size ≤ 20) }
+    ensures own { Belongs table.now.shelf pass.new × (number_of pass.new ≡ number_of pass.old) }
+    ensures area_own { AreaBelongs area.now apass.new × (area_number apass.new ≡ area_number apass.old) }
+    ensures grown { MatchResult result
+        (λ _. (es : List (Event O.State O.Call O.Reply)) × IsGrown number size es × Trace O.stepped area.now (number_of pass.old) (sight (seen_of pass.old) (mine_of pass.old) apass.old) (sight (seen_of pass.new) (mine_of pass.new) apass.new) es)
+        (λ lack. (es : List (Event O.State O.Call O.Reply)) × IsStuck number size lack.pages lack.largest es × Trace O.stepped area.now (number_of pass.old) (sight (seen_of pass.old) (mine_of pass.old) apass.old) (sight (seen_of pass.new) (mine_of pass.new) apass.new) es) }
+{
+    if look_at(rt, table, r, pass, number) >= size {
+        return Ok(());
+    }
+    match ask(rt, area, r, apass, 8 * bucket_count(size)) {
+        Ok(slice) => {
+            let left = grow_at(rt, table, r, pass, number, size, slice);
+            give(rt, area, r, apass, left);
+            Ok(())
+        }
+        Err(lack) => Err(lack),
+    }
+}
+
+/// All partitions of a smaller size move to this one, from the first to the last.
+pub(crate) fn grow_all<R: Wait, O: CellObject + Send>(
+    rt: &R,
+    table: &Dshash<O>,
+    r: &Region,
+    area: &Area,
+    pass: &mut DsPass<O>,
+    apass: &mut AreaPass,
+    size: u32,
+) -> Result<(), NoSpace>
+where
+    O::State: Send,
+    O::Call: Send,
+    O::Reply: Send,
+    requires table { IsTable r.now table.now }
+    requires own { Belongs table.now.shelf pass.old }
+    requires area { IsArea r.now area.now }
+    requires area_own { AreaBelongs area.now apass.old }
+    requires size { (8 ≤ size) × (size ≤ 20) }
+    ensures own { Belongs table.now.shelf pass.new × (number_of pass.new ≡ number_of pass.old) }
+    ensures area_own { AreaBelongs area.now apass.new × (area_number apass.new ≡ area_number apass.old) }
+    ensures swept { MatchResult result
+        (λ _. Swept O.stepped area.now (number_of pass.old) size (sight (seen_of pass.old) (mine_of pass.old) apass.old) (sight (seen_of pass.new) (mine_of pass.new) apass.new))
+        (λ lack. SweptUntil O.stepped area.now (number_of pass.old) size lack.pages lack.largest (sight (seen_of pass.old) (mine_of pass.old) apass.old) (sight (seen_of pass.new) (mine_of pass.new) apass.new)) }
+{
+    for number in 0..128 {
+        match grow_one(rt, table, r, area, pass, apass, number, size) {
+            Ok(()) => {}
+            Err(lack) => return Err(lack),
+        }
+    }
+    Ok(())
+}

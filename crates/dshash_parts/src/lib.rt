@@ -1,0 +1,24 @@
+//! The shared hash table (dshash.c): 128 partitions, each behind a lock of its own, with items and bucket slices from a shared area.
+//!
+//! A key belongs to the partition of its hash's top 7 bits. A call is made under that partition's lock. Where the call lacks an item, or the
+//! partition has to grow first, it gives up the lock, gets what is lacking from the area, and begins again; each turn at a lock is an event of
+//! its own in the history of that partition.
+#![tactic(auto)]
+
+mod asks;
+mod close;
+mod growing;
+mod histories;
+mod key;
+mod listing;
+mod numbered;
+mod requests;
+mod table;
+mod turns;
+
+pub use asks::{TableAnswer, TableAsk};
+pub use close::ClosedTable;
+pub use histories::{PartitionCalls, PartitionName, PartitionReplies, PartitionStates};
+pub use key::{Key, MOST_KEY_WORDS};
+pub use numbered::Numbered;
+pub use table::{DsPass, Dshash};
