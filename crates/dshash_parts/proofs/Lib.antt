@@ -1,3 +1,5 @@
 pub mod Events
+pub mod Replays
+pub mod Sizes
 pub mod Grows
 pub mod Sweeps

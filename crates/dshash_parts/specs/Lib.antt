@@ -3,5 +3,6 @@ pub mod Asked
 pub mod Legal
 pub mod Tables
 pub mod Traces
+pub mod Replays
 pub mod Promises
 pub mod Sweeps

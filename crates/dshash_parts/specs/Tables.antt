@@ -15,6 +15,14 @@ use Rattle.dshash_parts.specs.declared.histories.PartitionCalls.{PartitionCalls}
 use Rattle.dshash_parts.specs.declared.histories.PartitionReplies.{PartitionReplies}
 use Rattle.dshash_parts.specs.declared.table.Dshash.{Dshash}
 
+-- the words of a table's keys
+abbrev pub key_words_of : {O S C R : Type 0} → Dshash O S C R → ℕ
+key_words_of t = t.key_words
+
+-- the bytes that are asked of the area for an item of a table
+abbrev pub item_of : {O S C R : Type 0} → Dshash O S C R → ℕ
+item_of t = t.item_bytes
+
 -- the name of the partition of this number
 abbrev pub name_in : {O S C R : Type 0} → TableId → Dshash O S C R → ℕ → PartitionName
 name_in region t number = record { region = region; number = number; key_words = t.key_words; item_bytes = chunk_size t.item_bytes }

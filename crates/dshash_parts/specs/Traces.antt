@@ -62,12 +62,27 @@ module _ {S C R : Type 0} where
   given (Asked Gave ∷ es) = 1 + given es
   given (e ∷ es) = given es
 
+  -- how many chunks the area was asked for
+  abbrev pub asked : List (Event S C R) → ℕ
+  asked [] = 0
+  asked (Asked (Got bytes) ∷ es) = 1 + asked es
+  asked (Asked (Missed bytes wanted largest) ∷ es) = 1 + asked es
+  asked (e ∷ es) = asked es
+
+  -- how often a partition had to grow first
+  abbrev pub fulls : List (Event S C R) → ℕ
+  fulls [] = 0
+  fulls (Turn number call (HasToGrow size back) ∷ es) = 1 + fulls es
+  fulls (e ∷ es) = fulls es
+
   -- no call of a key was made in these events
   abbrev pub NoneMade : List (Event S C R) → Type 0
   NoneMade [] = Unit {0}
   NoneMade (Turn number call (Made reply unused freed) ∷ es) = ⊥
   NoneMade (e ∷ es) = NoneMade es
 
-  -- an event among these
-  abbrev pub Among : Event S C R → List (Event S C R) → Type 0
-  Among e es = (xs ys : List (Event S C R)) × (es ≡ xs ++ e ∷ ys)
+  -- all of these events give a chunk to the area
+  abbrev pub AreGifts : List (Event S C R) → Type 0
+  AreGifts [] = Unit {0}
+  AreGifts (Asked Gave ∷ es) = AreGifts es
+  AreGifts (e ∷ es) = ⊥

@@ -1,12 +1,12 @@
-//! A partition that has to grow: a look at its size, a slice from the area, a move, and the slice that is left over back to the area.
+//! Partitions that have to grow: of each, a look at its size, a slice from the area, a move, and the slice that is left
+//! over back to the area. The partition's lock is given up in between, so the area is never asked under it.
 
-ghost use Rattle.std.specs.Prelude.{◌≡◌, ℕ, ◌<◌, ◌≤◌, List, MatchResult};
+ghost use Rattle.std.specs.Prelude.{◌≡◌, ℕ, ◌<◌, ◌≤◌, List, IfOk, MatchResult};
 ghost use Rattle.lock_book.specs.Shown.{Belongs, number_of, seen_of, mine_of};
 ghost use Rattle.dsa_area.specs.Shown.{Belongs as AreaBelongs, IsArea, number_of as area_number};
-ghost use Rattle.dshash_parts.specs.Tables.{IsTable};
+ghost use Rattle.dshash_parts.specs.Tables.{IsTable, size_at};
 ghost use Rattle.dshash_parts.specs.Traces.{Trace, Event, sight};
-ghost use Rattle.dshash_parts.specs.Promises.{IsGrown, IsStuck};
-ghost use Rattle.dshash_parts.specs.Sweeps.{Swept, SweptUntil};
+ghost use Rattle.dshash_parts.specs.Sweeps.{IsGrown, IsStuck, Swept, SweptUntil};
 
 use crate::requests::{ask, give};
 use crate::table::{DsPass, Dshash};
@@ -37,8 +37,12 @@ where
     requires area_own { AreaBelongs area.now apass.old }
     requires number { number < 128 }
     requires size { (8 ≤ size) × (size ≤ 20) }
-    ensures own { Belongs table.now.shelf pass.new × (number_of pass.new ≡ number_of pass.old) }
-    ensures area_own { AreaBelongs area.now apass.new × (area_number apass.new ≡ area_number apass.old) }
+    ensures own { Belongs table.now.shelf pass.new }
+    ensures caller { number_of pass.new ≡ number_of pass.old }
+    ensures area_own { AreaBelongs area.now apass.new }
+    ensures area_caller { area_number apass.new ≡ area_number apass.old }
+    ensures grows { (k : ℕ) → k < 128 → size_at (seen_of pass.old) k ≤ size_at (seen_of pass.new) k }
+    ensures large { IfOk result (λ _. size ≤ size_at (seen_of pass.new) number) }
     ensures grown { MatchResult result
         (λ _. (es : List (Event O.State O.Call O.Reply)) × IsGrown number size es × Trace O.stepped area.now (number_of pass.old) (sight (seen_of pass.old) (mine_of pass.old) apass.old) (sight (seen_of pass.new) (mine_of pass.new) apass.new) es)
         (λ lack. (es : List (Event O.State O.Call O.Reply)) × IsStuck number size lack.pages lack.largest es × Trace O.stepped area.now (number_of pass.old) (sight (seen_of pass.old) (mine_of pass.old) apass.old) (sight (seen_of pass.new) (mine_of pass.new) apass.new) es) }
@@ -75,10 +79,14 @@ where
     requires area { IsArea r.now area.now }
     requires area_own { AreaBelongs area.now apass.old }
     requires size { (8 ≤ size) × (size ≤ 20) }
-    ensures own { Belongs table.now.shelf pass.new × (number_of pass.new ≡ number_of pass.old) }
-    ensures area_own { AreaBelongs area.now apass.new × (area_number apass.new ≡ area_number apass.old) }
+    ensures own { Belongs table.now.shelf pass.new }
+    ensures caller { number_of pass.new ≡ number_of pass.old }
+    ensures area_own { AreaBelongs area.now apass.new }
+    ensures area_caller { area_number apass.new ≡ area_number apass.old }
+    ensures grows { (k : ℕ) → k < 128 → size_at (seen_of pass.old) k ≤ size_at (seen_of pass.new) k }
+    ensures large { IfOk result (λ _. (k : ℕ) → k < 128 → size ≤ size_at (seen_of pass.new) k) }
     ensures swept { MatchResult result
-        (λ _. Swept O.stepped area.now (number_of pass.old) size (sight (seen_of pass.old) (mine_of pass.old) apass.old) (sight (seen_of pass.new) (mine_of pass.new) apass.new))
+        (λ _. Swept O.stepped area.now (number_of pass.old) size 128 (sight (seen_of pass.old) (mine_of pass.old) apass.old) (sight (seen_of pass.new) (mine_of pass.new) apass.new))
         (λ lack. SweptUntil O.stepped area.now (number_of pass.old) size lack.pages lack.largest (sight (seen_of pass.old) (mine_of pass.old) apass.old) (sight (seen_of pass.new) (mine_of pass.new) apass.new)) }
 {
     for number in 0..128 {

@@ -6,19 +6,26 @@
 #![tactic(auto)]
 
 mod asks;
+mod calls;
 mod close;
 mod growing;
 mod histories;
 mod key;
+mod laws;
 mod listing;
 mod numbered;
+mod open;
 mod requests;
 mod table;
+#[cfg(test)]
+mod tests;
 mod turns;
 
 pub use asks::{TableAnswer, TableAsk};
 pub use close::ClosedTable;
 pub use histories::{PartitionCalls, PartitionName, PartitionReplies, PartitionStates};
 pub use key::{Key, MOST_KEY_WORDS};
+pub use laws::{keys_are_cells, sizes_grow, stays_roomy};
 pub use numbered::Numbered;
+pub use open::DsNew;
 pub use table::{DsPass, Dshash};

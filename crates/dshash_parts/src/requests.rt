@@ -14,7 +14,8 @@ pub(crate) fn give<R: Wait>(rt: &R, area: &Area, r: &Region, apass: &mut AreaPas
     requires area { IsArea r.now area.now }
     requires own { Belongs area.now apass.old }
     requires here { chunk.part.region ≡ r.now }
-    ensures own { Belongs area.now apass.new × (number_of apass.new ≡ number_of apass.old) }
+    ensures own { Belongs area.now apass.new }
+    ensures caller { number_of apass.new ≡ number_of apass.old }
     ensures gave { Requested area.now apass.old apass.new Gave }
 {
     let _refused = area.free(rt, r, apass, chunk);
@@ -31,9 +32,12 @@ pub(crate) fn ask<R: Wait>(
     requires area { IsArea r.now area.now }
     requires own { Belongs area.now apass.old }
     requires some { (1 ≤ bytes) × (bytes ≤ 2 ^ 30) }
-    ensures own { Belongs area.now apass.new × (number_of apass.new ≡ number_of apass.old) }
+    ensures own { Belongs area.now apass.new }
+    ensures caller { number_of apass.new ≡ number_of apass.old }
     ensures asked { MatchResult result (λ _. Requested area.now apass.old apass.new (Got bytes)) (λ lack. Requested area.now apass.old apass.new (Missed bytes lack.pages lack.largest)) }
-    ensures chunk { IfOk result (λ c. (c.bytes ≡ chunk_size bytes) × (c.part.region ≡ r.now)) }
+    ensures size { IfOk result (λ c. c.bytes ≡ chunk_size bytes) }
+    ensures holds { IfOk result (λ c. bytes ≤ c.bytes) }
+    ensures here { IfOk result (λ c. c.part.region ≡ r.now) }
 {
     area.alloc(rt, r, apass, bytes)
 }

@@ -7,7 +7,7 @@ ghost use Rattle.dshash_core.specs.Key.{hash_of};
 ghost use Rattle.dshash_core.specs.Cells.{buckets_of, partition_of};
 ghost use Rattle.dshash_core.specs.Outcome.{HandsOut};
 ghost use Rattle.dshash_parts.specs.Asked.{outcome_of};
-ghost use Rattle.dshash_parts.specs.Tables.{IsTable, AtPartition};
+ghost use Rattle.dshash_parts.specs.Tables.{IsTable, AtPartition, size_at};
 ghost use Rattle.dshash_parts.specs.declared.histories.PartitionCalls.TheVariants.{Call, Looks, Moves};
 ghost use Rattle.dshash_parts.specs.declared.histories.PartitionReplies.TheVariants.{HasSize, Moved};
 
@@ -42,6 +42,7 @@ where
     requires spare { IfSome spare (λ c. (c.part.region ≡ r.now) × (c.bytes ≡ chunk_size table.now.item_bytes)) }
     ensures own { Belongs table.now.shelf pass.new }
     ensures caller { number_of pass.new ≡ number_of pass.old }
+    ensures grows { (k : ℕ) → k < 128 → size_at (seen_of pass.old) k ≤ size_at (seen_of pass.new) k }
     ensures event { AtPartition O.stepped (number_of pass.old) (seen_of pass.old) (mine_of pass.old) (seen_of pass.new) (mine_of pass.new) number (Call key.now call.now (is_some spare)) (outcome_of result) }
     ensures handed { HandsOut r.now (chunk_size table.now.item_bytes) spare result }
 {
@@ -69,7 +70,9 @@ where
     requires number { number < 128 }
     ensures own { Belongs table.now.shelf pass.new }
     ensures caller { number_of pass.new ≡ number_of pass.old }
+    ensures grows { (k : ℕ) → k < 128 → size_at (seen_of pass.old) k ≤ size_at (seen_of pass.new) k }
     ensures event { AtPartition O.stepped (number_of pass.old) (seen_of pass.old) (mine_of pass.old) (seen_of pass.new) (mine_of pass.new) number Looks (HasSize result) }
+    ensures told { size_at (seen_of pass.new) number ≡ result }
     ensures size { (7 ≤ result) × (result ≤ 20) }
 {
     match table
@@ -102,7 +105,9 @@ where
     requires slice { (slice.part.region ≡ r.now) × (buckets_of size ≤ slice.bytes / 8) }
     ensures own { Belongs table.now.shelf pass.new }
     ensures caller { number_of pass.new ≡ number_of pass.old }
+    ensures grows { (k : ℕ) → k < 128 → size_at (seen_of pass.old) k ≤ size_at (seen_of pass.new) k }
     ensures event { AtPartition O.stepped (number_of pass.old) (seen_of pass.old) (mine_of pass.old) (seen_of pass.new) (mine_of pass.new) number (Moves size) Moved }
+    ensures grown { size ≤ size_at (seen_of pass.new) number }
     ensures here { result.part.region ≡ r.now }
 {
     let ask = TableAsk::Grow(size, slice);
