@@ -3,3 +3,4 @@ pub mod Replays
 pub mod Sizes
 pub mod Grows
 pub mod Sweeps
+pub mod Rounds

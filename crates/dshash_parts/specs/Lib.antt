@@ -6,3 +6,4 @@ pub mod Traces
 pub mod Replays
 pub mod Promises
 pub mod Sweeps
+pub mod Rounds

@@ -14,5 +14,5 @@ invariant-loop-number g l = record {
   area_caller : area.number_of l.apass ≡ area.number_of l.fn.apass;
   grows : (k : ℕ) → k < 128 → size_at (seen_of l.fn.pass) k ≤ size_at (seen_of l.pass) k;
   large : (k : ℕ) → k < l.number → l.size ≤ size_at (seen_of l.pass) k;
-  swept : Swept g.O.CellObject.stepped l.area (number_of l.fn.pass) l.size (sight (seen_of l.fn.pass) (mine_of l.fn.pass) l.fn.apass) (sight (seen_of l.pass) (mine_of l.pass) l.apass);
+  swept : Swept g.O.CellObject.stepped l.area (number_of l.fn.pass) l.size l.number (sight (seen_of l.fn.pass) (mine_of l.fn.pass) l.fn.apass) (sight (seen_of l.pass) (mine_of l.pass) l.apass);
 }
