@@ -1,5 +1,6 @@
 pub mod Events
 pub mod Replays
+pub mod Uses
 pub mod Sizes
 pub mod Grows
 pub mod Sweeps

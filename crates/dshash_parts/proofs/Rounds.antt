@@ -103,9 +103,9 @@ module _ {S C R : Type 0} (number item : ℕ) (key : List ℕ) (call : C) where
         (among_parts (Turn k (Moves to) Moved) es fs h);
     grants = λ bytes h. ⊎_elim
         (λ (a : Among (Asked (Got bytes)) es). ⊎_elim
-            (λ (l : (bytes ≡ item) × LackedItem number item key call es). inl (l.0, among_front (Turn number (Call key call false) LacksItem) es fs l.1))
-            (λ (r : (size : ℕ) × HadToGrow number item key call es size × (bytes ≡ slice_size (size + 1))). inr (r.0, grow_later es fs r.0 r.1, r.2))
-            (x.grants bytes a))
+        (λ (l : (bytes ≡ item) × LackedItem number item key call es). inl (l.0, among_front (Turn number (Call key call false) LacksItem) es fs l.1))
+        (λ (r : (size : ℕ) × HadToGrow number item key call es size × (bytes ≡ slice_size (size + 1))). inr (r.0, grow_later es fs r.0 r.1, r.2))
+        (x.grants bytes a))
         (λ (b : Among (Asked (Got bytes)) fs). y.grants bytes b)
         (among_parts (Asked (Got bytes)) es fs h);
   }
@@ -270,14 +270,22 @@ module _ {S C R : Type 0} (number item : ℕ) (key : List ℕ) (call : C) where
   slice_caused es spare size sweep k found wanted largest h =
       let told : HadToGrow number item key call (es ++ slice_end spare size sweep k found wanted largest) size = (spare, among_back (Turn number (Call key call spare) (HasToGrow size spare)) es (slice_end spare size sweep k found wanted largest) (inl refl)) in
       let g : OnlyGift spare = only_gift spare in record {
-        moves = λ j to x. (size, told, ⊎_elim (λ e. absurd (cc)) (λ (r : Among (Turn j (Moves to) Moved) (sweep ++ stuck size k found wanted largest spare)). ⊎_elim
-            (λ (a : Among (Turn j (Moves to) Moved) sweep). sweep_among (size + 1) (Turn j (Moves to) Moved) sweep h a)
-            (λ (b : Among (Turn j (Moves to) Moved) (stuck size k found wanted largest spare)). absurd (⊎_elim (λ e. absurd (cc)) (λ c. ⊎_elim (λ e. absurd (cc)) (λ (d : Among (Turn j (Moves to) Moved) (gift spare)). let e = gift_among (Turn j (Moves to) Moved) (gift spare) g.are d in absurd (cc)) c) b))
-            (among_parts (Turn j (Moves to) Moved) sweep (stuck size k found wanted largest spare) r)) x);
-        grants = λ bytes x. inr (size, told, ⊎_elim (λ e. absurd (cc)) (λ (r : Among (Asked (Got bytes)) (sweep ++ stuck size k found wanted largest spare)). ⊎_elim
-            (λ (a : Among (Asked (Got bytes)) sweep). sweep_among (size + 1) (Asked (Got bytes)) sweep h a)
-            (λ (b : Among (Asked (Got bytes)) (stuck size k found wanted largest spare)). absurd (⊎_elim (λ e. absurd (cc)) (λ c. ⊎_elim (λ e. absurd (cc)) (λ (d : Among (Asked (Got bytes)) (gift spare)). let e = gift_among (Asked (Got bytes)) (gift spare) g.are d in absurd (cc)) c) b))
-            (among_parts (Asked (Got bytes)) sweep (stuck size k found wanted largest spare) r)) x);
+        moves = λ j to x. (
+          size,
+          told,
+          ⊎_elim (λ e. absurd (cc)) (λ (r : Among (Turn j (Moves to) Moved) (sweep ++ stuck size k found wanted largest spare)). ⊎_elim
+              (λ (a : Among (Turn j (Moves to) Moved) sweep). sweep_among (size + 1) (Turn j (Moves to) Moved) sweep h a)
+              (λ (b : Among (Turn j (Moves to) Moved) (stuck size k found wanted largest spare)). absurd (⊎_elim (λ e. absurd (cc)) (λ c. ⊎_elim (λ e. absurd (cc)) (λ (d : Among (Turn j (Moves to) Moved) (gift spare)). let e = gift_among (Turn j (Moves to) Moved) (gift spare) g.are d in absurd (cc)) c) b))
+              (among_parts (Turn j (Moves to) Moved) sweep (stuck size k found wanted largest spare) r)) x,
+        );
+        grants = λ bytes x. inr (
+          size,
+          told,
+          ⊎_elim (λ e. absurd (cc)) (λ (r : Among (Asked (Got bytes)) (sweep ++ stuck size k found wanted largest spare)). ⊎_elim
+              (λ (a : Among (Asked (Got bytes)) sweep). sweep_among (size + 1) (Asked (Got bytes)) sweep h a)
+              (λ (b : Among (Asked (Got bytes)) (stuck size k found wanted largest spare)). absurd (⊎_elim (λ e. absurd (cc)) (λ c. ⊎_elim (λ e. absurd (cc)) (λ (d : Among (Asked (Got bytes)) (gift spare)). let e = gift_among (Asked (Got bytes)) (gift spare) g.are d in absurd (cc)) c) b))
+              (among_parts (Asked (Got bytes)) sweep (stuck size k found wanted largest spare) r)) x,
+        );
       }
 
   pub slice_refused : (es : List (Event S C R)) (spare : Bool) (size : ℕ) (sweep : List (Event S C R)) (k found wanted largest : ℕ) → IsUnderway number item key call spare es → fulls es + 1 ≤ 13 → AreSweeps (size + 1) sweep → granted sweep ≡ given sweep → asked sweep ≤ 127 → found < size + 1

@@ -117,7 +117,7 @@ where
         let hash = hash_key(key);
         let number = partition_of_hash(hash);
         let mut spare = None;
-        loop {
+        'turns: loop {
             match try_at(rt, self, r, pass, number, hash, key, call, spare) {
                 CoreOut::Done {
                     reply,
