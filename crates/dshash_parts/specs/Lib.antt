@@ -4,6 +4,7 @@ pub mod Legal
 pub mod Tables
 pub mod Traces
 pub mod Replays
+pub mod Opening
 pub mod Promises
 pub mod Sweeps
 pub mod Rounds

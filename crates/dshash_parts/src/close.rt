@@ -1,7 +1,11 @@
 //! Passes meet, and a table ends: all passes come home, and its partitions with them.
 
-ghost use Rattle.std.specs.Prelude.{◌≡◌, ℕ};
-ghost use Rattle.lock_book.specs.Shown.{AreAll, Belongs, Ended, Met, number_of, seen_of};
+ghost use Rattle.std.specs.Prelude.{◌≡◌, ℕ, ◌+◌, ◌↔◌, IfSome, IsNone};
+ghost use mathlib.Core.Option.{some};
+ghost use lib.ListN.{get_elem?};
+ghost use Rattle.lock_book.specs.History.{last_of};
+ghost use Rattle.lock_book.specs.Shown.{AreAll, Belongs, Ended, Met, left_of, number_of, opened_of, seen_of, whole_of};
+ghost use Rattle.dshash_parts.specs.Asked.{name_of, state_of};
 
 use crate::numbered::Numbered;
 use crate::table::{DsPass, Dshash};
@@ -66,7 +70,12 @@ where
     O::Reply: Send,
 {
     /// The last partition that is left, with the words of its slice and items. None where none is left.
-    pub fn take_last(&mut self) -> Option<Partition<O>> {
+    pub fn take_last(&mut self) -> Option<Partition<O>>
+        ensures none { IsNone result ↔ (left_of self.old.shelf ≡ 0) }
+        ensures some { IfSome result (λ _. left_of self.old.shelf ≡ left_of self.new.shelf + 1) }
+        ensures state { IfSome result (λ p. (o : _) × (get_elem? (opened_of self.old.shelf) (left_of self.new.shelf) ≡ some o) × (name_of o.0.number p ≡ o.0) × (state_of p ≡ last_of o.1 (whole_of self.old.shelf (left_of self.new.shelf)))) }
+        ensures history { (opened_of self.new.shelf ≡ opened_of self.old.shelf) × ((i : ℕ) → whole_of self.new.shelf i ≡ whole_of self.old.shelf i) }
+    {
         let Numbered {
             number: _,
             partition,

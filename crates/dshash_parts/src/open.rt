@@ -1,12 +1,15 @@
 //! How a table is made: a bucket slice of one word for each partition, and a pass for each caller.
 
-ghost use Rattle.std.specs.Prelude.{◌≡◌, ℕ, ◌<◌, ◌≤◌, ◌^◌, List, length, IfOk, IfErr};
+ghost use Rattle.std.specs.Prelude.{◌≡◌, ℕ, ◌≤◌, ◌^◌, [], length, map, replicate, IfOk, IfErr};
 ghost use mathlib.Core.Option.{some};
 ghost use lib.ListN.{get_elem?};
-ghost use Rattle.lock_book.specs.Shown.{AreAll, callers_of};
+ghost use Rattle.lock_book.specs.Shown.{AreAll, callers_of, mine_of, seen_of};
 ghost use Rattle.dsa_area.specs.Shown.{Belongs as AreaBelongs, IsArea, number_of as area_number};
 ghost use Rattle.dshash_core.specs.Key.{item_size};
+ghost use Rattle.dshash_parts.specs.Asked.{name_of, state_of};
 ghost use Rattle.dshash_parts.specs.Tables.{IsTable, key_words_of, item_of};
+ghost use Rattle.dshash_parts.specs.Traces.{Got, Gave};
+ghost use Rattle.dshash_parts.specs.Opening.{Asks, AreSlices, IsNoTable, opens_from};
 
 use crate::numbered::Numbered;
 use crate::requests::{ask, give};
@@ -38,7 +41,14 @@ fn give_slices<R: Wait>(
     r: &Region,
     apass: &mut AreaPass,
     mut slices: Vec<Chunk>,
-) {
+)
+    requires area { IsArea r.now area.now }
+    requires own { AreaBelongs area.now apass.old }
+    requires slices { AreSlices r.now slices.items }
+    ensures own { AreaBelongs area.now apass.new }
+    ensures caller { area_number apass.new ≡ area_number apass.old }
+    ensures gave { Asks area.now apass.old apass.new (replicate (length slices.items) Gave) }
+{
     while let Some(slice) = slices.pop() {
         give(rt, area, r, apass, slice);
     }
@@ -51,7 +61,16 @@ fn take_slices<R: Wait>(
     r: &Region,
     area: &Area,
     apass: &mut AreaPass,
-) -> Result<Vec<Chunk>, DsNew> {
+) -> Result<Vec<Chunk>, DsNew>
+    requires area { IsArea r.now area.now }
+    requires own { AreaBelongs area.now apass.old }
+    ensures own { AreaBelongs area.now apass.new }
+    ensures caller { area_number apass.new ≡ area_number apass.old }
+    ensures count { IfOk result (λ v. length v.items ≡ 128) }
+    ensures slices { IfOk result (λ v. AreSlices r.now v.items) }
+    ensures asked { IfOk result (λ _. Asks area.now apass.old apass.new (replicate 128 (Got 8))) }
+    ensures refused { IfErr result (λ e. IsNoTable area.now apass.old apass.new e) }
+{
     let mut slices = match Vec::with_capacity(alloc, PARTITIONS as usize) {
         Ok(slices) => slices,
         Err(_) => return Err(DsNew::Memory),
@@ -79,7 +98,12 @@ fn partitions<O: CellObject>(
     slices: Vec<Chunk>,
     key_words: u32,
     item_chunk: u64,
-) -> Result<Vec<Numbered<O>>, AllocError> {
+) -> Result<Vec<Numbered<O>>, AllocError>
+    requires slices { AreSlices r.now slices.items }
+    requires few { length slices.items ≤ 128 }
+    requires fits { item_size key_words O.VALUE_WORDS ≤ item_chunk }
+    ensures { IfOk result (λ v. map (λ x. (name_of x.number x.partition, state_of x.partition)) v.items ≡ opens_from r.now key_words item_chunk 0 (length slices.items)) }
+{
     let mut parts = Vec::with_capacity(alloc, slices.len())?;
     let mut number = 0;
     for slice in slices {
@@ -120,6 +144,9 @@ where
         ensures items { IfOk result (λ t. item_of t.0 ≡ item_size key_words O.VALUE_WORDS) }
         ensures callers { IfOk result (λ t. callers_of t.0.shelf ≡ callers) }
         ensures passes { IfOk result (λ t. AreAll t.0.shelf t.1.items) }
+        ensures fresh { IfOk result (λ t. (k : ℕ) (p : _) → get_elem? t.1.items k ≡ some p → (i : ℕ) → (seen_of p i ≡ []) × (mine_of p i ≡ [])) }
+        ensures asked { IfOk result (λ _. Asks area.now apass.old apass.new (replicate 128 (Got 8))) }
+        ensures refused { IfErr result (λ e. IsNoTable area.now apass.old apass.new e) }
     {
         let slices = take_slices(rt, alloc, r, area, apass)?;
         let item = item_bytes(key_words, O::VALUE_WORDS as u32);
