@@ -7,6 +7,9 @@ use rel_pointer::RelPtr;
 use std::alloc::{AllocError, Global};
 use std::test::Fail;
 
+mod two;
+
+/// A number under a key.
 pub struct Number;
 
 #[derive(Clone, Copy)]
@@ -58,7 +61,11 @@ impl CellObject for Number {
     }
 }
 
-fn area_for(alloc: Global, pages: u32) -> Result<(Region, Area, Vec<AreaPass>), AllocError> {
+fn area_for(
+    alloc: Global,
+    pages: u32,
+    callers: u32,
+) -> Result<(Region, Area, Vec<AreaPass>), AllocError> {
     let words = area_words(pages);
     let (region, mut part) = Region::new(alloc, words as usize + 1)?;
     let chunk = Chunk {
@@ -66,13 +73,13 @@ fn area_for(alloc: Global, pages: u32) -> Result<(Region, Area, Vec<AreaPass>), 
         bytes: 8 * words,
         part: part.split(&region, 1, words),
     };
-    let (area, passes) = Area::new(alloc, &region, chunk, pages, 1)?;
+    let (area, passes) = Area::new(alloc, &region, chunk, pages, callers)?;
     Ok((region, area, passes))
 }
 
 #[test]
 fn a_thousand_keys(rt: HostRuntime) -> Result<(), Fail> {
-    let (region, area, mut apasses) = area_for(rt.alloc(), 512)?;
+    let (region, area, mut apasses) = area_for(rt.alloc(), 512, 1)?;
     let mut apass = apasses.pop().expect(&rt, "a pass");
     let made = Dshash::<Number>::new(&rt, rt.alloc(), &region, &area, &mut apass, 1, 1);
     let (table, mut passes) = made.ok().expect(&rt, "a table");
