@@ -1,0 +1,72 @@
+//! What a line is made of: words between single spaces, names, and numbers.
+
+/// The byte between two words.
+const SPACE: u8 = b' ';
+
+/// The most words that a command has.
+const MOST_WORDS: usize = 5;
+
+/// The longest name, in bytes.
+const LONGEST_NAME: usize = 64;
+
+/// The most digits of a number.
+const MOST_DIGITS: usize = 20;
+
+/// The words of a line, as long as there are not too many for a command.
+#[derive(Clone, Copy)]
+pub(crate) struct Words<'a> {
+    words: [&'a [u8]; MOST_WORDS],
+    count: usize,
+}
+
+impl<'a> Words<'a> {
+    /// Cuts a line at its spaces.
+    pub(crate) fn of(line: &'a [u8]) -> Option<Words<'a>> {
+        let mut words: [&'a [u8]; MOST_WORDS] = [&[], &[], &[], &[], &[]];
+        let mut count = 0;
+        'words: for word in line.split(|byte| *byte == SPACE) {
+            if count == MOST_WORDS {
+                return None;
+            }
+            words[count] = word;
+            count += 1;
+        }
+        Some(Words { words, count })
+    }
+
+    /// The words, in order.
+    pub(crate) fn as_slice(&self) -> &[&'a [u8]] {
+        &self.words[..self.count]
+    }
+}
+
+/// What stands before the first space, and what stands behind it, if there is one.
+pub(crate) fn cut(text: &[u8]) -> (&[u8], Option<&[u8]>) {
+    match text.iter().position(|byte| *byte == SPACE) {
+        Some(at) => (&text[..at], Some(&text[at + 1..])),
+        None => (text, None),
+    }
+}
+
+/// The word as a name: one to 64 bytes.
+pub(crate) fn name(word: &[u8]) -> Option<&[u8]> {
+    (!word.is_empty() && word.len() <= LONGEST_NAME).then_some(word)
+}
+
+/// The word as a number: one to twenty digits, with a value from `least` to `most`.
+pub(crate) fn number(word: &[u8], least: u64, most: u64) -> Option<u64> {
+    if word.is_empty() || word.len() > MOST_DIGITS {
+        return None;
+    }
+    let mut value: u128 = 0;
+    'digits: for digit in word {
+        if !digit.is_ascii_digit() || value > u128::from(most) {
+            return None;
+        }
+        value = value * 10 + u128::from(*digit - b'0');
+    }
+    if value < u128::from(least) || value > u128::from(most) {
+        return None;
+    }
+    Some(value as u64)
+}
