@@ -3,6 +3,16 @@
 //! The shell holds the passes of all callers of each barrier. After each command the caller's pass meets all others, so
 //! that each has seen all that was done.
 
+ghost use Rattle.std.specs.Prelude.{◌≡◌, ◌⊎◌, ◌<◌, ◌≤◌, ℕ, List, IfOk, OnOk, Some, true, false};
+ghost use Rattle.par_barrier.specs.Legal.{BarrierLegal};
+ghost use Rattle.par_barrier.specs.Shown.{Belongs, Called, arrival_reply, callers_of, detach_reply, number_of, refusal_reply};
+ghost use Rattle.par_shell.specs.BarrierRequests.{IsAllowed, call_of, request_of};
+ghost use Rattle.par_shell.specs.Barriers.{AreBarriers, IsAnswered, IsCalled, IsParty, Makes, answer_of, text_of};
+ghost use Rattle.par_shell.specs.Names.{IsFree, Stays};
+ghost use Rattle.par_barrier.specs.declared.history.BarrierReply.{BarrierReply};
+ghost use Rattle.par_barrier.specs.declared.history.BarrierState.{BarrierState};
+ghost use Rattle.par_shell.specs.declared.barriers.PartyAnswer.TheVariants as answer;
+
 use crate::answers::{plain, with_number};
 use crate::command::{BarrierCommand, PartyCall};
 use par_barrier::{Arrival, Barrier, BarrierAnswer, BarrierPass, Left};
@@ -56,7 +66,9 @@ pub(crate) enum PartyAnswer {
 
 impl PartyAnswer {
     /// The line of the answer.
-    fn text(self, alloc: Global) -> Result<Vec<u8>, AllocError> {
+    fn text(self, alloc: Global) -> Result<Vec<u8>, AllocError>
+        ensures { IfOk result (λ line. line.items ≡ text_of self) }
+    {
         match self {
             PartyAnswer::Named => plain(alloc, "named"),
             PartyAnswer::NoName => plain(alloc, "noname"),
@@ -76,6 +88,8 @@ impl PartyAnswer {
 }
 
 impl From<BarrierAnswer> for PartyAnswer {
+    ghost from_gives = { λ refusal answer. answer ≡ answer_of (refusal_reply refusal) };
+
     fn from(refusal: BarrierAnswer) -> PartyAnswer {
         match refusal {
             BarrierAnswer::AlreadyIn { phase: _ } => PartyAnswer::There,
@@ -86,6 +100,10 @@ impl From<BarrierAnswer> for PartyAnswer {
 }
 
 impl From<Arrival> for PartyAnswer {
+    ghost use Rattle.std.specs.Prelude.{Ok};
+
+    ghost from_gives = { λ arrival answer. answer ≡ answer_of (arrival_reply (Ok arrival)) };
+
     fn from(arrival: Arrival) -> PartyAnswer {
         match arrival {
             Arrival::Waiting => PartyAnswer::Waits,
@@ -102,6 +120,10 @@ impl From<Arrival> for PartyAnswer {
 }
 
 impl From<Left> for PartyAnswer {
+    ghost use Rattle.std.specs.Prelude.{Ok};
+
+    ghost from_gives = { λ left answer. answer ≡ answer_of (detach_reply (Ok left)) };
+
     fn from(left: Left) -> PartyAnswer {
         if left.last {
             PartyAnswer::Last { phase: left.phase }
@@ -113,7 +135,10 @@ impl From<Left> for PartyAnswer {
 
 impl Barriers {
     /// No barriers.
-    pub(crate) fn new(alloc: Global) -> Barriers {
+    pub(crate) fn new(alloc: Global) -> Barriers
+        ensures free { (name : List ℕ) → IsFree result.named name }
+        ensures barriers { AreBarriers result }
+    {
         Barriers {
             named: BTreeMap::new(alloc),
         }
@@ -125,7 +150,12 @@ impl Barriers {
         rt: &R,
         alloc: Global,
         command: BarrierCommand<'_>,
-    ) -> Result<Vec<u8>, AllocError> {
+    ) -> Result<Vec<u8>, AllocError>
+        requires barriers { AreBarriers self.old }
+        requires allowed { IsAllowed (request_of command) }
+        ensures barriers { OnOk result (AreBarriers self.new) }
+        ensures answer { IfOk result (λ line. IsAnswered self.old self.new (request_of command) line.items) }
+    {
         let answer = match command {
             BarrierCommand::New { name, callers } => self.make(alloc, name, callers)?,
             BarrierCommand::Call { name, caller, call } => self.call(rt, name, caller, call),
@@ -134,7 +164,11 @@ impl Barriers {
     }
 
     /// What a caller of the barrier of this name does.
-    fn call<R: Wait>(&mut self, rt: &R, name: &[u8], caller: u64, call: PartyCall) -> PartyAnswer {
+    fn call<R: Wait>(&mut self, rt: &R, name: &[u8], caller: u64, call: PartyCall) -> PartyAnswer
+        requires barriers { AreBarriers self.old }
+        ensures barriers { AreBarriers self.new }
+        ensures answer { (IsFree self.old.named name.now × (result ≡ answer.NoName) × Stays self.old.named self.new.named) ⊎ IsCalled self.old self.new name.now caller (call_of call) result }
+    {
         match self.named.get_mut(name) {
             Some(party) => party.answer(rt, caller, call),
             None => PartyAnswer::NoName,
@@ -142,12 +176,12 @@ impl Barriers {
     }
 
     /// A barrier for so many callers under a new name.
-    fn make(
-        &mut self,
-        alloc: Global,
-        name: &[u8],
-        callers: u32,
-    ) -> Result<PartyAnswer, AllocError> {
+    fn make(&mut self, alloc: Global, name: &[u8], callers: u32) -> Result<PartyAnswer, AllocError>
+        requires barriers { AreBarriers self.old }
+        requires callers { (1 ≤ callers) × (callers ≤ 64) }
+        ensures barriers { OnOk result (AreBarriers self.new) }
+        ensures answer { IfOk result (λ answer. Makes self.old self.new name.now callers answer) }
+    {
         if self.named.contains_key(name) {
             return Ok(PartyAnswer::Named);
         }
@@ -162,7 +196,12 @@ impl Barriers {
 
 impl Party {
     /// What a caller does, and then all passes meet its pass.
-    fn answer<R: Wait>(&mut self, rt: &R, caller: u64, call: PartyCall) -> PartyAnswer {
+    fn answer<R: Wait>(&mut self, rt: &R, caller: u64, call: PartyCall) -> PartyAnswer
+        requires party { (s : BarrierState) × IsParty self.old s }
+        ensures same { self.new.barrier ≡ self.old.barrier }
+        ensures out { callers_of self.old.barrier ≤ caller → (result ≡ answer.Range) × (self.new ≡ self.old) }
+        ensures called { caller < callers_of self.old.barrier → (s t : BarrierState) × (r : BarrierReply) × IsParty self.old s × IsParty self.new t × BarrierLegal caller s (call_of call) r t × (result ≡ answer_of r) }
+    {
         if caller >= self.passes.len() as u64 {
             return PartyAnswer::Range;
         }
@@ -183,7 +222,11 @@ fn call_by<R: Wait>(
     barrier: &Barrier,
     pass: &mut BarrierPass,
     call: PartyCall,
-) -> PartyAnswer {
+) -> PartyAnswer
+    requires own { Belongs barrier.now pass.old }
+    ensures own { Belongs barrier.now pass.new × (number_of pass.new ≡ number_of pass.old) }
+    ensures called { (r : BarrierReply) × Called pass.old pass.new (call_of call) r × (result ≡ answer_of r) }
+{
     match call {
         PartyCall::Attach => match barrier.attach(rt, pass) {
             Ok(phase) => PartyAnswer::Phase { phase },

@@ -3,6 +3,13 @@
 //! A line is cut into words, and the words are read by each family of commands in turn; of `send` and `post` the text
 //! is all that stands behind the ring's name, spaces too. A line that no family knows is no command.
 
+ghost use Rattle.std.specs.Prelude.{◌≡◌, IfSome, map, option_map};
+ghost use Rattle.par_shell.specs.BarrierRequests as barriers;
+ghost use Rattle.par_shell.specs.ChunkRequests as chunks;
+ghost use Rattle.par_shell.specs.Lines.{IsAllowed, request_in, request_of};
+ghost use Rattle.par_shell.specs.RingRequests as rings;
+ghost use Rattle.par_shell.specs.TocRequests as toc;
+
 use crate::words::{Words, cut, name, number};
 
 /// The most bytes of one request.
@@ -103,7 +110,10 @@ pub(crate) enum Command<'a> {
 }
 
 /// The command that a line is, if it is one.
-pub(crate) fn read_line<'a>(line: &'a [u8]) -> Option<Command<'a>> {
+pub(crate) fn read_line<'a>(line: &'a [u8]) -> Option<Command<'a>>
+    ensures command { option_map request_of result ≡ request_in line.now }
+    ensures allowed { IfSome result (λ c. IsAllowed (request_of c)) }
+{
     if let Some(send) = send_command(line) {
         return Some(Command::Ring(send));
     }
@@ -123,7 +133,10 @@ pub(crate) fn read_line<'a>(line: &'a [u8]) -> Option<Command<'a>> {
 }
 
 /// The command over chunks that words are.
-fn chunk_command<'a>(words: &[&'a [u8]]) -> Option<ChunkCommand<'a>> {
+fn chunk_command<'a>(words: &[&'a [u8]]) -> Option<ChunkCommand<'a>>
+    ensures command { option_map chunks.request_of result ≡ chunks.request_in (map (λ word. word.now) words.now) }
+    ensures allowed { IfSome result (λ c. chunks.IsAllowed (chunks.request_of c)) }
+{
     match words {
         [b"alloc", chunk, bytes] => Some(ChunkCommand::Alloc {
             name: name(chunk)?,
@@ -144,7 +157,10 @@ fn chunk_command<'a>(words: &[&'a [u8]]) -> Option<ChunkCommand<'a>> {
 }
 
 /// The command with a text that a line is. The text is empty where no space stands behind the ring's name.
-fn send_command<'a>(line: &'a [u8]) -> Option<RingCommand<'a>> {
+fn send_command<'a>(line: &'a [u8]) -> Option<RingCommand<'a>>
+    ensures command { option_map rings.request_of result ≡ rings.send_in line.now }
+    ensures allowed { IfSome result (λ c. rings.IsAllowed (rings.request_of c)) }
+{
     let (verb, rest) = cut(line);
     let flush = match verb {
         b"send" => true,
@@ -160,7 +176,10 @@ fn send_command<'a>(line: &'a [u8]) -> Option<RingCommand<'a>> {
 }
 
 /// The command over rings that words are, but for those with a text.
-fn ring_command<'a>(words: &[&'a [u8]]) -> Option<RingCommand<'a>> {
+fn ring_command<'a>(words: &[&'a [u8]]) -> Option<RingCommand<'a>>
+    ensures command { option_map rings.request_of result ≡ rings.request_in (map (λ word. word.now) words.now) }
+    ensures allowed { IfSome result (λ c. rings.IsAllowed (rings.request_of c)) }
+{
     match words {
         [b"ring", ring, words, from, max] => {
             let words = number(words, 1, MOST_RING)?;
@@ -180,7 +199,10 @@ fn ring_command<'a>(words: &[&'a [u8]]) -> Option<RingCommand<'a>> {
 }
 
 /// The command over the table of contents that words are.
-fn toc_command<'a>(words: &[&'a [u8]]) -> Option<TocCommand<'a>> {
+fn toc_command<'a>(words: &[&'a [u8]]) -> Option<TocCommand<'a>>
+    ensures command { option_map toc.request_of result ≡ toc.request_in (map (λ word. word.now) words.now) }
+    ensures allowed { IfSome result (λ c. toc.IsAllowed (toc.request_of c)) }
+{
     match words {
         [b"toc", b"alloc", chunk, bytes] => Some(TocCommand::Alloc {
             name: name(chunk)?,
@@ -202,7 +224,9 @@ fn toc_command<'a>(words: &[&'a [u8]]) -> Option<TocCommand<'a>> {
 }
 
 /// What the word says a party of a barrier does.
-fn party_call(word: &[u8]) -> Option<PartyCall> {
+fn party_call(word: &[u8]) -> Option<PartyCall>
+    ensures { option_map barriers.call_of result ≡ barriers.call_in word.now }
+{
     match word {
         b"attach" => Some(PartyCall::Attach),
         b"arrive" => Some(PartyCall::Arrive),
@@ -213,7 +237,10 @@ fn party_call(word: &[u8]) -> Option<PartyCall> {
 }
 
 /// The command over barriers that words are.
-fn barrier_command<'a>(words: &[&'a [u8]]) -> Option<BarrierCommand<'a>> {
+fn barrier_command<'a>(words: &[&'a [u8]]) -> Option<BarrierCommand<'a>>
+    ensures command { option_map barriers.request_of result ≡ barriers.request_in (map (λ word. word.now) words.now) }
+    ensures allowed { IfSome result (λ c. barriers.IsAllowed (barriers.request_of c)) }
+{
     match words {
         [b"bar", b"new", barrier, callers] => Some(BarrierCommand::New {
             name: name(barrier)?,

@@ -3,6 +3,13 @@
 //! The table grows until it is frozen, and then it is only read. A chunk that it gave stands under its name beside those
 //! of the area, and the shell goes on to own it: what is frozen are the words of the table.
 
+ghost use Rattle.std.specs.Prelude.{◌≡◌, ◌≤◌, ℕ, IfOk, OnOk, Some};
+ghost use Rattle.par_shell.specs.Chunks.{AreChunks};
+ghost use Rattle.par_shell.specs.Contents.{Allocates, Attaches, Finds, Freezes, Inserts, IsAnswered, IsContents, IsFound, IsText, TocState, opening, state_of};
+ghost use Rattle.par_shell.specs.TocRequests.{IsAllowed, request_of};
+ghost use Rattle.par_shell.specs.declared.chunks.Chunks.{Chunks};
+ghost use Rattle.word_map.specs.WordMap.{HasJust};
+
 use crate::answers::{plain, with_bytes, with_number, with_numbers};
 use crate::chunks::Chunks;
 use crate::command::TocCommand;
@@ -53,7 +60,10 @@ pub(crate) enum ContentsAnswer {
 
 impl ContentsAnswer {
     /// The line of the answer. Of a place it says the name of the chunk that begins there, if one does.
-    fn text(self, alloc: Global, chunks: &Chunks) -> Result<Vec<u8>, AllocError> {
+    fn text(self, alloc: Global, chunks: &Chunks, r: &Region) -> Result<Vec<u8>, AllocError>
+        requires { AreChunks r.now chunks.now }
+        ensures { IfOk result (λ line. IsText chunks.now self line.items) }
+    {
         match self {
             ContentsAnswer::Frozen => plain(alloc, "frozen"),
             ContentsAnswer::NotFrozen => plain(alloc, "notfrozen"),
@@ -64,14 +74,18 @@ impl ContentsAnswer {
             ContentsAnswer::Full { wanted, free } => with_numbers(alloc, "tocfull ", wanted, free),
             ContentsAnswer::KeyThere => plain(alloc, "keythere"),
             ContentsAnswer::None => plain(alloc, "none"),
-            ContentsAnswer::Found { place } => found(alloc, chunks, place),
+            ContentsAnswer::Found { place } => found(alloc, chunks, r, place),
             ContentsAnswer::WrongMagic { found } => with_number(alloc, "wrongmagic ", found),
         }
     }
 }
 
 /// The line of a place that was found.
-fn found(alloc: Global, chunks: &Chunks, place: u64) -> Result<Vec<u8>, AllocError> {
+fn found(alloc: Global, chunks: &Chunks, r: &Region, place: u64) -> Result<Vec<u8>, AllocError>
+    requires { AreChunks r.now chunks.now }
+    ensures { IfOk result (λ line. IsFound chunks.now place line.items) }
+{
+    let _ = r;
     match chunks.name_at(place) {
         Some(name) => with_bytes(alloc, "found ", name),
         None => plain(alloc, "found"),
@@ -80,7 +94,12 @@ fn found(alloc: Global, chunks: &Chunks, place: u64) -> Result<Vec<u8>, AllocErr
 
 impl Contents {
     /// An empty table in words that it owns from then on.
-    pub(crate) fn new(r: &Region, part: Part) -> Contents {
+    pub(crate) fn new(r: &Region, part: Part) -> Contents
+        requires here { part.region ≡ r.now }
+        requires owns { HasJust part.words 0 TOC_WORDS }
+        ensures contents { IsContents r.now result }
+        ensures opening { state_of result ≡ Some opening }
+    {
         Contents {
             growing: Some(Toc::create(r, part, TOC_WORDS, MAGIC)),
             frozen: None,
@@ -94,7 +113,14 @@ impl Contents {
         r: &Region,
         chunks: &mut Chunks,
         command: TocCommand<'_>,
-    ) -> Result<Vec<u8>, AllocError> {
+    ) -> Result<Vec<u8>, AllocError>
+        requires contents { IsContents r.now self.old }
+        requires chunks { AreChunks r.now chunks.old }
+        requires allowed { IsAllowed (request_of command) }
+        ensures contents { OnOk result (IsContents r.now self.new) }
+        ensures chunks { OnOk result (AreChunks r.now chunks.new) }
+        ensures answer { IfOk result (λ line. IsAnswered (request_of command) self.old self.new chunks.old chunks.new line.items) }
+    {
         let answer = match command {
             TocCommand::Alloc { name, bytes } => self.alloc(alloc, r, chunks, name, bytes)?,
             TocCommand::Insert { key, name } => self.insert(r, chunks, key, name),
@@ -102,7 +128,7 @@ impl Contents {
             TocCommand::Freeze => self.freeze(r),
             TocCommand::Attach { magic } => self.attach(r, magic),
         };
-        answer.text(alloc, chunks)
+        answer.text(alloc, chunks, r)
     }
 
     /// A chunk of the table under a new name.
@@ -113,7 +139,14 @@ impl Contents {
         chunks: &mut Chunks,
         name: &[u8],
         bytes: u64,
-    ) -> Result<ContentsAnswer, AllocError> {
+    ) -> Result<ContentsAnswer, AllocError>
+        requires contents { IsContents r.now self.old }
+        requires chunks { AreChunks r.now chunks.old }
+        requires some { (1 ≤ bytes) × (bytes ≤ 1073741824) }
+        ensures contents { OnOk result (IsContents r.now self.new) }
+        ensures chunks { OnOk result (AreChunks r.now chunks.new) }
+        ensures answer { IfOk result (λ answer. (s t : TocState) × (state_of self.old ≡ Some s) × (state_of self.new ≡ Some t) × Allocates s t chunks.old chunks.new name.now bytes answer) }
+    {
         let Some(toc) = &mut self.growing else {
             return Ok(ContentsAnswer::Frozen);
         };
@@ -123,7 +156,7 @@ impl Contents {
         match toc.allocate(r, bytes) {
             Ok(chunk) => {
                 let bytes = chunk.bytes;
-                chunks.enter(alloc, name, chunk)?;
+                chunks.enter(alloc, r, name, chunk)?;
                 Ok(ContentsAnswer::Granted { bytes })
             }
             Err(refusal) => Ok(refused(refusal)),
@@ -131,7 +164,11 @@ impl Contents {
     }
 
     /// An entry of a key and the place of the chunk of this name.
-    fn insert(&mut self, r: &Region, chunks: &Chunks, key: u64, name: &[u8]) -> ContentsAnswer {
+    fn insert(&mut self, r: &Region, chunks: &Chunks, key: u64, name: &[u8]) -> ContentsAnswer
+        requires contents { IsContents r.now self.old }
+        ensures contents { IsContents r.now self.new }
+        ensures answer { (s t : TocState) × (state_of self.old ≡ Some s) × (state_of self.new ≡ Some t) × Inserts s t chunks.now chunks.now key name.now result }
+    {
         let Some(toc) = &mut self.growing else {
             return ContentsAnswer::Frozen;
         };
@@ -145,7 +182,11 @@ impl Contents {
     }
 
     /// The place beside the key.
-    fn find(&mut self, r: &Region, key: u64) -> ContentsAnswer {
+    fn find(&mut self, r: &Region, key: u64) -> ContentsAnswer
+        requires contents { IsContents r.now self.old }
+        ensures contents { IsContents r.now self.new }
+        ensures answer { (s t : TocState) × (state_of self.old ≡ Some s) × (state_of self.new ≡ Some t) × ((c : Chunks) → Finds s t c c key result) }
+    {
         let Some(toc) = &mut self.frozen else {
             return ContentsAnswer::NotFrozen;
         };
@@ -158,7 +199,11 @@ impl Contents {
     }
 
     /// From now on the table is only read.
-    fn freeze(&mut self, r: &Region) -> ContentsAnswer {
+    fn freeze(&mut self, r: &Region) -> ContentsAnswer
+        requires contents { IsContents r.now self.old }
+        ensures contents { IsContents r.now self.new }
+        ensures answer { (s t : TocState) × (state_of self.old ≡ Some s) × (state_of self.new ≡ Some t) × ((c : Chunks) → Freezes s t c c result) }
+    {
         match self.growing.take() {
             Some(toc) => {
                 self.frozen = Some(toc.freeze(r));
@@ -169,7 +214,11 @@ impl Contents {
     }
 
     /// A share of the table is attached to by a magic number, and given up.
-    fn attach(&mut self, r: &Region, magic: u64) -> ContentsAnswer {
+    fn attach(&mut self, r: &Region, magic: u64) -> ContentsAnswer
+        requires contents { IsContents r.now self.old }
+        ensures contents { IsContents r.now self.new }
+        ensures answer { (s t : TocState) × (state_of self.old ≡ Some s) × (state_of self.new ≡ Some t) × ((c : Chunks) → Attaches s t c c magic result) }
+    {
         let Some(toc) = &mut self.frozen else {
             return ContentsAnswer::NotFrozen;
         };

@@ -4,6 +4,15 @@
 //! has published or set by then. Where a part of a frame is stored, its text is kept, since only that text may be
 //! sent next.
 
+ghost use Rattle.std.specs.Prelude.{◌≡◌, ◌≢◌, ◌⊎◌, ◌≤◌, ◌^◌, ℕ, List, IfOk, OnOk, Some, None, true, false};
+ghost use Rattle.atomic_table.specs.Seated.{TableId};
+ghost use Rattle.par_shell.specs.Chunks.{IsHeap};
+ghost use Rattle.par_shell.specs.Names.{IsFree};
+ghost use Rattle.par_shell.specs.RingRequests.{IsAllowed, request_of};
+ghost use Rattle.par_shell.specs.Rings.{AreRings, At, IsAnswered, IsNoName, IsQueue, Makes, ReceiverLeaves, Receives, SenderLeaves, Sends, state_of, text_of};
+ghost use Rattle.par_shell.specs.declared.rings.RingAnswer.{RingAnswer};
+ghost use Rattle.par_shell.specs.declared.rings.RingAnswer.TheVariants as answer;
+
 use crate::answers::{plain, with_number, with_numbers};
 use crate::command::RingCommand;
 use crate::heap::Heap;
@@ -68,7 +77,9 @@ pub(crate) enum RingAnswer {
 
 impl RingAnswer {
     /// The line of the answer. A message that it speaks of is this one.
-    fn text(self, alloc: Global, message: &[u8]) -> Result<Vec<u8>, AllocError> {
+    fn text(self, alloc: Global, message: &[u8]) -> Result<Vec<u8>, AllocError>
+        ensures { IfOk result (λ line. line.items ≡ text_of self message.now) }
+    {
         match self {
             RingAnswer::Named => plain(alloc, "named"),
             RingAnswer::NoName => plain(alloc, "noname"),
@@ -89,7 +100,9 @@ impl RingAnswer {
 }
 
 /// The line of a message: its length, and the message behind it where it is not empty.
-fn got(alloc: Global, message: &[u8]) -> Result<Vec<u8>, AllocError> {
+fn got(alloc: Global, message: &[u8]) -> Result<Vec<u8>, AllocError>
+    ensures { IfOk result (λ line. line.items ≡ text_of answer.Got message.now) }
+{
     let mut answer = with_number(alloc, "got ", message.len() as u64)?;
     if !message.is_empty() {
         answer.push(b' ')?;
@@ -100,7 +113,10 @@ fn got(alloc: Global, message: &[u8]) -> Result<Vec<u8>, AllocError> {
 
 impl Rings {
     /// No rings.
-    pub(crate) fn new(alloc: Global) -> Rings {
+    pub(crate) fn new(alloc: Global) -> Rings
+        ensures free { (name : List ℕ) → IsFree result.named name }
+        ensures rings { (region : TableId) → AreRings region result }
+    {
         Rings {
             named: BTreeMap::new(alloc),
         }
@@ -114,7 +130,14 @@ impl Rings {
         r: &Region,
         heap: &mut Heap,
         command: RingCommand<'_>,
-    ) -> Result<Vec<u8>, AllocError> {
+    ) -> Result<Vec<u8>, AllocError>
+        requires heap { IsHeap r.now heap.old }
+        requires rings { AreRings r.now self.old }
+        requires allowed { IsAllowed (request_of command) }
+        ensures heap { OnOk result (IsHeap r.now heap.new) }
+        ensures rings { OnOk result (AreRings r.now self.new) }
+        ensures answer { IfOk result (λ line. IsAnswered heap.old heap.new self.old self.new (request_of command) line.items) }
+    {
         let answer = match command {
             RingCommand::Receive { name } => return self.receive(alloc, r, name),
             RingCommand::Ring {
@@ -141,7 +164,15 @@ impl Rings {
         words: u64,
         from: u64,
         max: u32,
-    ) -> Result<RingAnswer, AllocError> {
+    ) -> Result<RingAnswer, AllocError>
+        requires heap { IsHeap r.now heap.old }
+        requires rings { AreRings r.now self.old }
+        requires power { (e : ℕ) × (words ≡ 2 ^ e) × (e ≤ 20) }
+        requires max { max ≤ 1048576 }
+        ensures heap { OnOk result (IsHeap r.now heap.new) }
+        ensures rings { OnOk result (AreRings r.now self.new) }
+        ensures answer { IfOk result (λ answer. Makes heap.old heap.new self.old self.new name.now words from max answer) }
+    {
         if self.named.contains_key(name) {
             return Ok(RingAnswer::Named);
         }
@@ -176,7 +207,11 @@ impl Rings {
         name: &[u8],
         text: &[u8],
         flush: bool,
-    ) -> Result<RingAnswer, AllocError> {
+    ) -> Result<RingAnswer, AllocError>
+        requires rings { AreRings r.now self.old }
+        ensures rings { OnOk result (AreRings r.now self.new) }
+        ensures answer { IfOk result (λ answer. IsNoName self.old self.new name.now answer ⊎ At self.old self.new name.now (λ s t. Sends s t text.now flush answer)) }
+    {
         match self.named.get_mut(name) {
             Some(queue) => queue.send(alloc, r, text, flush),
             None => Ok(RingAnswer::NoName),
@@ -184,7 +219,11 @@ impl Rings {
     }
 
     /// One try to receive a message, answered by a line.
-    fn receive(&mut self, alloc: Global, r: &Region, name: &[u8]) -> Result<Vec<u8>, AllocError> {
+    fn receive(&mut self, alloc: Global, r: &Region, name: &[u8]) -> Result<Vec<u8>, AllocError>
+        requires rings { AreRings r.now self.old }
+        ensures rings { OnOk result (AreRings r.now self.new) }
+        ensures answer { IfOk result (λ line. (answer : RingAnswer) × (message : List ℕ) × (line.items ≡ text_of answer message) × (IsNoName self.old self.new name.now answer ⊎ At self.old self.new name.now (λ s t. Receives s t answer message))) }
+    {
         match self.named.get_mut(name) {
             Some(queue) => {
                 let answer = queue.receive(r);
@@ -195,7 +234,11 @@ impl Rings {
     }
 
     /// The sender goes.
-    fn detach_sender(&mut self, r: &Region, name: &[u8]) -> RingAnswer {
+    fn detach_sender(&mut self, r: &Region, name: &[u8]) -> RingAnswer
+        requires rings { AreRings r.now self.old }
+        ensures rings { AreRings r.now self.new }
+        ensures answer { IsNoName self.old self.new name.now result ⊎ ((result ≡ answer.Done) × At self.old self.new name.now SenderLeaves) }
+    {
         let Some(queue) = self.named.get_mut(name) else {
             return RingAnswer::NoName;
         };
@@ -205,7 +248,11 @@ impl Rings {
     }
 
     /// The receiver goes.
-    fn detach_receiver(&mut self, r: &Region, name: &[u8]) -> RingAnswer {
+    fn detach_receiver(&mut self, r: &Region, name: &[u8]) -> RingAnswer
+        requires rings { AreRings r.now self.old }
+        ensures rings { AreRings r.now self.new }
+        ensures answer { IsNoName self.old self.new name.now result ⊎ ((result ≡ answer.Done) × At self.old self.new name.now ReceiverLeaves) }
+    {
         let Some(queue) = self.named.get_mut(name) else {
             return RingAnswer::NoName;
         };
@@ -217,7 +264,10 @@ impl Rings {
 
 impl Queue {
     /// Whether a part of another text is stored.
-    fn is_pending(&self, text: &[u8]) -> bool {
+    fn is_pending(&self, text: &[u8]) -> bool
+        ensures pending { result ≡ true → (other : List ℕ) × ((state_of self.now).torn ≡ Some other) × (other ≢ text.now) }
+        ensures free { result ≡ false → ((state_of self.now).torn ≡ None) ⊎ ((state_of self.now).torn ≡ Some text.now) }
+    {
         match &self.torn {
             Some(torn) => torn.as_slice() != text,
             None => false,
@@ -231,7 +281,11 @@ impl Queue {
         r: &Region,
         text: &[u8],
         flush: bool,
-    ) -> Result<RingAnswer, AllocError> {
+    ) -> Result<RingAnswer, AllocError>
+        requires queue { IsQueue r.now self.old }
+        ensures queue { OnOk result (IsQueue r.now self.new) }
+        ensures answer { IfOk result (λ answer. Sends (state_of self.old) (state_of self.new) text.now flush answer) }
+    {
         if !self.sends {
             return Ok(RingAnswer::Closed);
         }
@@ -258,7 +312,11 @@ impl Queue {
     }
 
     /// One try to receive a message.
-    fn receive(&mut self, r: &Region) -> RingAnswer {
+    fn receive(&mut self, r: &Region) -> RingAnswer
+        requires queue { IsQueue r.now self.old }
+        ensures queue { IsQueue r.now self.new }
+        ensures answer { Receives (state_of self.old) (state_of self.new) result self.new.receiver.message }
+    {
         if !self.receives {
             return RingAnswer::Closed;
         }

@@ -1,5 +1,8 @@
 //! The shell: what its commands work on, and which family a line goes to.
 
+ghost use Rattle.std.specs.Prelude.{◌≤◌, IfOk, OnOk};
+ghost use Rattle.par_shell.specs.Lines.{IsAnswered, IsShell, Opens};
+
 use crate::answers::{UNKNOWN, plain};
 use crate::barriers::Barriers;
 use crate::chunks::Chunks;
@@ -26,7 +29,11 @@ pub struct Shell {
 impl Shell {
     /// A shell with an area of so many pages, in which nothing has a name. It takes memory for the region, 4,160 bytes
     /// a page, and for the locks of the area.
-    pub fn new(alloc: Global, pages: u32) -> Result<Shell, AllocError> {
+    pub fn new(alloc: Global, pages: u32) -> Result<Shell, AllocError>
+        requires few { pages ≤ 4096 }
+        ensures shell { IfOk result (λ s. IsShell s) }
+        ensures opens { IfOk result (λ s. Opens pages s) }
+    {
         let words = area_words(pages);
         let (region, mut part) = Region::new(alloc, (TOC_WORDS + words) as usize)?;
         let chunk = part.split_chunk(&region, TOC_WORDS, words);
@@ -52,7 +59,11 @@ impl Shell {
         rt: &R,
         alloc: Global,
         line: &[u8],
-    ) -> Result<Vec<u8>, AllocError> {
+    ) -> Result<Vec<u8>, AllocError>
+        requires shell { IsShell self.old }
+        ensures shell { OnOk result (IsShell self.new) }
+        ensures answer { IfOk result (λ answer. IsAnswered self.old self.new line.now answer.items) }
+    {
         let r = &self.region;
         match read_line(line) {
             Some(Command::Chunk(asked)) => {
