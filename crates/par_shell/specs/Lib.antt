@@ -10,3 +10,4 @@ pub mod Contents
 pub mod Barriers
 pub mod Lines
 pub mod Scripts
+pub mod Stops

@@ -1,7 +1,7 @@
 -- A whole script: its lines, what they are answered one after another, and how a run ends.
 use Rattle.std.specs.Prelude.{◌≡◌, ◌⊎◌, ◌==◌, ◌++◌, ◌∷◌, [], ℕ, List, Option, Some, None, String, bytes_eq, codes, map, length, nat_le, string_bytes, take, if◌then◌else◌}
 use Rattle.std.specs.List.{slice_split}
-use Rattle.std.specs.Io.KnownBytes.{Appends}
+use Rattle.std.specs.Io.KnownBytes.{Appends, Consumes}
 use Rattle.par_io.specs.Faults.{Rose}
 use Rattle.par_shell.specs.Lines.{IsAnswered, IsShell, Opens}
 use Rattle.par_shell.specs.Words.{number_in}
@@ -39,9 +39,9 @@ pages_in [] = Some 64
 pages_in (option ∷ pages ∷ []) = if bytes_eq option (codes "--pages") then (if nat_le (length pages) 4 then number_in 0 4096 pages else None) else None
 pages_in words = None
 
--- the most bytes of a script
-abbrev pub most_bytes : ℕ
-most_bytes = 1048576
+-- this many bytes were read, and they were the first of what was left
+abbrev pub ReadsCount : Option (List ℕ) → Option (List ℕ) → ℕ → Type 0
+ReadsCount old new count = (bytes : List ℕ) × Consumes old new bytes × (length bytes ≡ count)
 
 -- a script was answered to its end, in a shell of so many pages that opened: this is the text of the answers, and this the
 -- last shell

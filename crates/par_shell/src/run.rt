@@ -3,6 +3,14 @@
 //! The words come first, then the reading, and then each line in turn. Answers are gathered and written by the piece; so
 //! `out` has received a prefix of them at any moment, and all of them at the end.
 
+ghost use Rattle.std.specs.Prelude.{◌≡◌, ◌≢◌, ◌⊎◌, ◌≤◌, ◌++◌, ◌∷◌, [], ℕ, List, Contains, IfSome, IsNone, None, OnOk, Some, length};
+ghost use Rattle.std.specs.Io.KnownBytes.{Appends};
+ghost use Rattle.par_io.specs.Faults.{Rose};
+ghost use Rattle.par_shell.specs.Lines.{IsShell};
+ghost use Rattle.par_shell.specs.Scripts.{IsPart, IsRun, IsSaid, ReadsCount, line_of, pages_in, statuses, texts};
+ghost use Rattle.par_shell.specs.declared.shell.Shell.{Shell};
+ghost use Rattle.par_shell.specs.declared.status.TheConstants.{MISUSED, NO_MEMORY, READ_FAULT, TOO_LARGE, WRITE_FAULT};
+
 use crate::script::read_script;
 use crate::shell::Shell;
 use crate::status::ANSWERED;
@@ -37,7 +45,35 @@ pub fn parsh<R: Wait, S: Source, O: Sink, E: Sink>(
     out: &mut O,
     err: &mut E,
     left: &mut Option<Shell>,
-) -> u8 {
+) -> u8
+    // There is no other status, and 2 is answered just for words that the program does not take, unread.
+    ensures statuses { Contains statuses result }
+    ensures misused { result ≡ MISUSED → IsNone (pages_in (texts words.now)) }
+    ensures no_pages { IsNone (pages_in (texts words.now)) → (result ≡ MISUSED) × (source.new ≡ source.old) }
+
+    // On 0 each line was answered, once and in order, `out` received the answers, and `left` holds the last shell.
+    ensures answered { result ≡ ANSWERED → IfSome (S.left source.old) (λ script. IfSome (pages_in (texts words.now)) (λ pages.
+        (text : List ℕ) × (last : Shell) × (left.new ≡ Some last) × IsShell last × IsRun pages script text last × Appends (O.taken out.old) (O.taken out.new) text)) }
+    ensures left { (result ≢ ANSWERED) → left.new ≡ None }
+
+    // On 4 and 5 `out` received a prefix of the answers, and on 2, 3 and 6 nothing.
+    ensures part { ((result ≡ WRITE_FAULT) ⊎ (result ≡ NO_MEMORY)) → (out.new ≡ out.old) ⊎ IfSome (S.left source.old) (λ script. IfSome (pages_in (texts words.now)) (λ pages.
+        (text : List ℕ) × IsPart pages script text × Appends (O.taken out.old) (O.taken out.new) text)) }
+    ensures nothing { ((result ≡ MISUSED) ⊎ ((result ≡ READ_FAULT) ⊎ (result ≡ TOO_LARGE))) → out.new ≡ out.old }
+
+    // A fault is answered only where it came in this call, and 6 only where more than 1,048,576 bytes were read.
+    ensures read_fault { result ≡ READ_FAULT → Rose (S.faults source.old) (S.faults source.new) }
+    ensures write_fault { result ≡ WRITE_FAULT → Rose (O.faults out.old) (O.faults out.new) }
+    ensures too_large { result ≡ TOO_LARGE → ReadsCount (S.left source.old) (S.left source.new) 1048577 }
+
+    // Without a fault each script within the limit is answered, or memory ran out.
+    ensures complete { ¬ Rose (S.faults source.old) (S.faults source.new) → ¬ Rose (O.faults out.old) (O.faults out.new) → (pages_in (texts words.now) ≢ None)
+        → IfSome (S.left source.old) (λ script. length script ≤ 1048576 → (result ≡ NO_MEMORY) ⊎ (result ≡ ANSWERED)) }
+
+    // `err` receives the line of the status, or a prefix of it where a write of it failed, and on 0 nothing.
+    ensures line { (result ≢ ANSWERED) → IsSaid (E.taken err.old) (E.taken err.new) (E.faults err.old) (E.faults err.new) (line_of result) }
+    ensures quiet { result ≡ ANSWERED → err.new ≡ err.old }
+{
     match answer_script(rt, alloc, words, source, out) {
         Ok(shell) => {
             *left = Some(shell);
@@ -68,7 +104,10 @@ fn answer_script<R: Wait, S: Source, O: Sink>(
 }
 
 /// How many pages the words ask for.
-fn pages(words: &[String]) -> Option<u32> {
+fn pages(words: &[String]) -> Option<u32>
+    ensures pages { result ≡ pages_in (texts words.now) }
+    ensures few { IfSome result (λ pages. pages ≤ 4096) }
+{
     match words {
         [] => Some(USUAL_PAGES),
         [option, pages] if option.as_str() == "--pages" && pages.len() <= MOST_DIGITS => {
@@ -104,7 +143,9 @@ fn answer_lines<R: Wait, O: Sink>(
 }
 
 /// Puts an answer and a line feed behind the others.
-fn push_line(answers: &mut Vec<u8>, answer: &[u8]) -> Result<(), AllocError> {
+fn push_line(answers: &mut Vec<u8>, answer: &[u8]) -> Result<(), AllocError>
+    ensures { OnOk result (answers.new.items ≡ answers.old.items ++ (answer.now ++ 10 ∷ [])) }
+{
     answers.extend_from_slice(answer)?;
     answers.push(b'\n')?;
     Ok(())

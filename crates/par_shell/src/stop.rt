@@ -1,5 +1,10 @@
 //! Why a script was not answered to its end: its status and its line.
 
+ghost use Rattle.std.specs.Prelude.{◌≡◌};
+ghost use Rattle.par_shell.specs.Scripts.{IsSaid, line_of};
+ghost use Rattle.par_shell.specs.Stops.{status_of};
+ghost use Rattle.par_shell.specs.declared.stop.Stop.TheVariants as stop;
+
 use crate::status::{MISUSED, NO_MEMORY, READ_FAULT, TOO_LARGE, WRITE_FAULT};
 use par_io::{Sink, write_whole};
 use std::alloc::AllocError;
@@ -15,6 +20,8 @@ pub(crate) enum Stop {
 }
 
 impl From<AllocError> for Stop {
+    ghost from_gives = { λ _ why. why ≡ stop.Memory };
+
     fn from(_error: AllocError) -> Stop {
         Stop::Memory
     }
@@ -22,7 +29,9 @@ impl From<AllocError> for Stop {
 
 impl Stop {
     /// The exit status.
-    fn status(self) -> u8 {
+    fn status(self) -> u8
+        ensures { result ≡ status_of self }
+    {
         match self {
             Stop::Usage => MISUSED,
             Stop::ReadFault => READ_FAULT,
@@ -33,7 +42,9 @@ impl Stop {
     }
 
     /// The line that says so.
-    fn line(self) -> &'static str {
+    fn line(self) -> &'static str
+        ensures { result.now ≡ line_of (status_of self) }
+    {
         match self {
             Stop::Usage => "parsh: usage: parsh [--pages N]\n",
             Stop::ReadFault => "parsh: read fault\n",
@@ -44,7 +55,10 @@ impl Stop {
     }
 
     /// Writes the line, whatever becomes of it, and gives the status.
-    pub(crate) fn end<E: Sink>(self, err: &mut E) -> u8 {
+    pub(crate) fn end<E: Sink>(self, err: &mut E) -> u8
+        ensures status { result ≡ status_of self }
+        ensures said { IsSaid (E.taken err.old) (E.taken err.new) (E.faults err.old) (E.faults err.new) (line_of result) }
+    {
         let _said = write_whole(err, self.line().as_bytes());
         self.status()
     }
