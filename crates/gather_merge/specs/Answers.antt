@@ -1,5 +1,5 @@
 -- What the answers say of the rows.
-use Rattle.std.specs.Prelude.{◌≡◌, ◌<◌, ◌-◌, ℕ, List, [], ◌∷◌, All, None, drop, length, take}
+use Rattle.std.specs.Prelude.{◌≡◌, ◌<◌, ◌-◌, ℕ, List, [], ◌∷◌, All, None, drop, false, length, take}
 use Rattle.gather_law.specs.Tuples.{Table}
 use Rattle.par_model.specs.Plan.{Plan}
 use Rattle.par_model.specs.declared.plan.ItemKind.TheVariants.{Rows}
@@ -15,7 +15,7 @@ pub record OrdersRows (plan : Plan) : Type 0 where
   pub item : Item
   pub items : plan.items ≡ item ∷ []
   pub counts : item.kind ≡ Rows
-  pub gather : plan.hash ≡ Rattle.std.specs.Prelude.false
+  pub gather : plan.hash ≡ false
   pub whole : plan.filter ≡ None
 
 -- no row before this one is refused

@@ -1,5 +1,5 @@
 -- What a worker has done and said when it ends.
-use Rattle.std.specs.Prelude.{◌≡◌, ℕ, List, [], ◌∷◌, All, IsTrue, map}
+use Rattle.std.specs.Prelude.{◌≡◌, ◌⊎◌, ℕ, List, [], ◌∷◌, All, IsTrue, map}
 use Rattle.error_queue.specs.Message.{encoding}
 use Rattle.error_queue.specs.declared.ErrorMessage.TheVariants as message
 use Rattle.gather_law.specs.Tuples.{Table}
@@ -7,10 +7,12 @@ use Rattle.par_model.specs.Plan.{Plan}
 use Rattle.parallel_ctx.specs.Accounts.{Account}
 use Rattle.partial_agg.specs.Rows.{header_width}
 use Rattle.scan_claim.specs.Drawing.{is_spent}
+use Rattle.ring_rule.specs.Ring.{Sending}
+use Rattle.worker_run.specs.Sent.{FoundGone, HasSent}
 use Rattle.worker_run.specs.Ended.{HasRefused, IsNotice, IsStopped, Sends}
 use Rattle.worker_run.specs.declared.WorkerEnd.{WorkerEnd}
 use Rattle.worker_run.specs.declared.WorkerEnd.TheVariants.{Finished, Stopped, Refused, NoMemory}
-use Rattle.gather_merge.specs.Sent.{IsRowMessage, message_of}
+use Rattle.gather_merge.specs.Sent.{HasSentRows, IsRowMessage, StoppedSending, message_of}
 use Rattle.gather_merge.specs.Streams.{IsStream}
 
 -- the rows of a worker's blocks, in order, are the messages on its tuple queue
@@ -38,6 +40,13 @@ pub record HasEnded (plan : Plan) (records : Table) (blocks : ℕ) (draws : List
   pub ended : Ended plan records blocks draws s end
   pub notices : All (IsNotice plan records draws) s.errors
   pub tuples : All IsRowMessage s.tuples
+
+-- a worker that finishes sends all its rows, and only then says that it ended; it stops where a receiver is gone
+abbrev pub Finishes : List ℕ → Sending → Sending → Sending → Sending → WorkerEnd → Type 0
+Finishes rows errors tuples errors' tuples' Finished = HasSentRows rows tuples tuples' × HasSent errors errors' (encoding message.End ∷ [])
+Finishes rows errors tuples errors' tuples' Stopped = (StoppedSending tuples tuples' × (errors' ≡ errors)) ⊎ (HasSentRows rows tuples tuples' × FoundGone errors errors' [])
+Finishes rows errors tuples errors' tuples' (Refused row cause item) = ⊥
+Finishes rows errors tuples errors' tuples' NoMemory = ⊥
 
 -- what went out on a worker's queues
 abbrev pub sends_in : Account → Sends

@@ -1,5 +1,5 @@
 -- The heads of streams that are merged, the least at the end.
-use Rattle.std.specs.Prelude.{◌≡◌, ◌++◌, ℕ, List, [], ◌∷◌, drop, false, map, take, ⊤}
+use Rattle.std.specs.Prelude.{◌≡◌, ◌++◌, ℕ, List, [], ◌∷◌, drop, false, map, take, true, ⊤}
 use Rattle.std.specs.List.{AllByRecursion}
 use Rattle.std.specs.List.Sorted.{IsPartitionPoint}
 use Rattle.std.specs.Ordering.{is_gt, is_lt}
@@ -25,7 +25,7 @@ AreFalling plan records heads = AreFallingBy (row_cmp plan records) heads
 -- the heads up to a place come after a row, and those from it on do not
 abbrev pub IsPlace : Plan → Table → List Head → ℕ → ℕ → Type 0
 IsPlace plan records heads row at =
-    IsPartitionPoint (λ (h : Head). is_gt (row_cmp plan records h.row row) ≡ Rattle.std.specs.Prelude.true) (λ (h : Head). is_gt (row_cmp plan records h.row row) ≡ false) heads at
+    IsPartitionPoint (λ (h : Head). is_gt (row_cmp plan records h.row row) ≡ true) (λ (h : Head). is_gt (row_cmp plan records h.row row) ≡ false) heads at
 
 -- heads with one more at a place
 abbrev pub put_at : List Head → ℕ → Head → List Head

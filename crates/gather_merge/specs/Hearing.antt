@@ -32,9 +32,17 @@ queue_source q = record { rows = map row_of (whole_of q.tuples.end.taken); over 
 abbrev pub sources_of : OwnRows → List LeaderEnds → List Source
 sources_of own queues = own_source own ∷ map queue_source queues
 
--- a source that has given nothing
+-- a source that has given nothing, and may give more
 abbrev pub no_source : Source
 no_source = record { rows = []; over = false }
+
+-- a source has given nothing
+abbrev pub HasGivenNone : Source → Type 0
+HasGivenNone s = s.rows ≡ []
+
+-- none has given anything
+abbrev pub HaveGivenNone : List Source → Type 0
+HaveGivenNone sources = All HasGivenNone sources
 
 -- the source of this number, counted from 0
 abbrev pub source_at : List Source → ℕ → Source

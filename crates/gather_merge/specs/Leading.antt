@@ -5,6 +5,8 @@ use Rattle.par_model.specs.Plan.{Plan}
 use Rattle.parallel_ctx.specs.Accounts.{Heard}
 use Rattle.parallel_ctx.specs.declared.tokens.LeaderEnds.{LeaderEnds}
 use Rattle.partial_agg.specs.Rows.{header_width}
+use Rattle.partial_agg.specs.declared.map.BlockAnswer.{BlockAnswer}
+use Rattle.partial_agg.specs.declared.map.BlockAnswer.TheVariants as block
 use Rattle.scan_claim.specs.Drawing.{is_spent}
 use Rattle.worker_run.specs.Ended.{IsRefused}
 use Rattle.gather_merge.specs.Answers.{IsFirst}
@@ -50,6 +52,11 @@ Drains plan records sources order queues (Some (Row row cause)) = NamedBy (map n
 Drains plan records sources order queues (Some Memory) = Unit {0}
 
 -- ---- the leader
+
+-- why a block was not taken, as an answer
+abbrev pub Answers : BlockAnswer → MergeAnswer → Type 0
+Answers (block.Row row cause item) answer = answer ≡ Row row cause
+Answers block.Memory answer = answer ≡ Memory
 
 -- it has led to the end: there are no more blocks, and no more messages on the tuple queues
 pub record HasLed (plan : Plan) (records : Table) (blocks : ℕ) (draws : List ℕ) (heard : List Heard) (order : List ℕ) : Type 0 where

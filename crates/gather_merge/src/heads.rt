@@ -3,7 +3,7 @@
 //! compares 7 pairs of rows at most, since there are no more than 65 streams; the heads behind it move up by one, in one
 //! move of at most 1 KB.
 
-ghost use Rattle.std.specs.Prelude.{◌≡◌, ◌≤◌, ◌++◌, ◌∷◌, OnOk, length};
+ghost use Rattle.std.specs.Prelude.{◌≡◌, ◌≤◌, ℕ, OnOk, length};
 ghost use Rattle.gather_merge.specs.Heads.{AreFalling, IsPlace, put_at};
 
 use crate::drawing::compare;
@@ -37,7 +37,7 @@ pub(crate) fn put_head(
 ) -> Result<(), AllocError>
     requires { AreFalling plan.now rows.now heads.old.items }
     ensures falling { OnOk result (AreFalling plan.now rows.now heads.new.items) }
-    ensures put { OnOk result ((at : Rattle.std.specs.Prelude.ℕ) × (at ≤ length heads.old.items) × (heads.new.items ≡ put_at heads.old.items at head)) }
+    ensures put { OnOk result ((at : ℕ) × (at ≤ length heads.old.items) × (heads.new.items ≡ put_at heads.old.items at head)) }
 {
     let at = place_of(rows, plan, heads, head.row);
     match heads.insert(at, head) {

@@ -1,10 +1,10 @@
 //! Where the leader's rows come from: its own list, and the workers' queues. Source 0 is its own, and source n that of
 //! worker n. Each gives its rows in order, one after the other.
 
-ghost use Rattle.std.specs.Prelude.{◌≡◌, ◌≤◌, ◌++◌, length, false};
+ghost use Rattle.std.specs.Prelude.{◌≡◌, ◌≤◌, IfSome, false, length};
 ghost use Rattle.std.specs.List.{AllZip};
 ghost use Rattle.parallel_ctx.specs.Tokens.{SameQueues};
-ghost use Rattle.gather_merge.specs.Hearing.{AreOpen, Hears, HearsEnd, HearsFrom, IsOpen, Own, streams_of};
+ghost use Rattle.gather_merge.specs.Hearing.{AreOpen, Hears, HearsEnd, HearsFrom, IsOpen, Own};
 ghost use Rattle.gather_merge.specs.Sent.{row_of};
 
 use error_queue::ErrorMessage;
@@ -28,7 +28,7 @@ pub(crate) enum Next {
 
 /// The number of a row that a message is.
 fn read_row(message: &[u8]) -> Option<u64>
-    ensures { Rattle.std.specs.Prelude.IfSome result (λ row. row ≡ row_of message.now) }
+    ensures { IfSome result (λ row. row ≡ row_of message.now) }
 {
     match *message {
         [a, b, c, d, e, f, g, h] => Some(u64::from_le_bytes([a, b, c, d, e, f, g, h])),

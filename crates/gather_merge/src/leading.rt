@@ -2,7 +2,7 @@
 //! least of all heads, puts it behind the order, and gets the next row of the stream that it came from. A stream of
 //! which no head is there has no more rows, so the least head is the least of all rows that are left.
 
-ghost use Rattle.std.specs.Prelude.{◌≡◌, ◌<◌, ◌≤◌, suc, length, map};
+ghost use Rattle.std.specs.Prelude.{◌≡◌, ◌≤◌, [], suc, All, IfNone, length, map};
 ghost use Rattle.std.specs.List.{AllZip};
 ghost use Rattle.par_model.specs.Columns.{HasColumns};
 ghost use Rattle.partial_agg.specs.Rows.{header_width};
@@ -10,9 +10,9 @@ ghost use Rattle.scan_claim.specs.Shown.{Belongs, blocks_of, callers_of, draws_o
 ghost use Rattle.gather_law.specs.Tuples.{AreBlocks};
 ghost use Rattle.parallel_ctx.specs.Accounts.{heard};
 ghost use Rattle.parallel_ctx.specs.Tokens.{SameQueues};
-ghost use Rattle.gather_merge.specs.Drawn.{HasDrawn};
-ghost use Rattle.gather_merge.specs.Hearing.{AreOpen};
-ghost use Rattle.gather_merge.specs.Leading.{Led};
+ghost use Rattle.gather_merge.specs.Heads.{AreFalling};
+ghost use Rattle.gather_merge.specs.Hearing.{AreOpen, HasGivenNone, HaveGivenNone, queue_source, sources_of};
+ghost use Rattle.gather_merge.specs.Leading.{Answers, Drains, Fills, IsFilled, Led, Refills};
 
 use crate::MergeAnswer;
 use crate::drawing::{draw_all, sort_rows};
@@ -38,7 +38,16 @@ fn refill<R: Wait>(
     own: &mut OwnRows,
     queues: &mut [LeaderEnds],
     heads: &mut Vec<Head>,
-) -> Option<MergeAnswer> {
+) -> Option<MergeAnswer>
+    requires from { from ≤ length queues.old }
+    requires open { AreOpen r.now queues.old }
+    requires falling { AreFalling plan.now rows.now heads.old.items }
+    ensures list { own.new.list ≡ own.old.list }
+    ensures same { AllZip SameQueues queues.old queues.new }
+    ensures open { AreOpen r.now queues.new }
+    ensures falling { IfNone result (AreFalling plan.now rows.now heads.new.items) }
+    ensures refilled { Refills plan.now rows.now from (sources_of own.old queues.old) (sources_of own.new queues.new) heads.old.items heads.new.items queues.new result }
+{
     match next_of(rt, r, from, own, queues) {
         Next::Over => None,
         Next::Names { row, cause, item: _ } => Some(MergeAnswer::Row { row, cause }),
@@ -59,7 +68,15 @@ fn fill<R: Wait>(
     own: &mut OwnRows,
     queues: &mut [LeaderEnds],
     heads: &mut Vec<Head>,
-) -> Option<MergeAnswer> {
+) -> Option<MergeAnswer>
+    requires open { AreOpen r.now queues.old }
+    requires fresh { HaveGivenNone (sources_of own.old queues.old) }
+    requires empty { heads.old.items ≡ [] }
+    ensures list { own.new.list ≡ own.old.list }
+    ensures same { AllZip SameQueues queues.old queues.new }
+    ensures open { AreOpen r.now queues.new }
+    ensures filled { Fills plan.now rows.now (sources_of own.new queues.new) heads.new.items queues.new result }
+{
     for from in 0..queues.len() + 1 {
         let failure = refill(rt, r, plan, rows, from, own, queues, heads);
         if failure.is_some() {
@@ -79,7 +96,13 @@ fn drain<R: Wait>(
     queues: &mut [LeaderEnds],
     heads: &mut Vec<Head>,
     order: &mut Vec<u64>,
-) -> Option<MergeAnswer> {
+) -> Option<MergeAnswer>
+    requires open { AreOpen r.now queues.old }
+    requires filled { IsFilled plan.now rows.now (sources_of own.old queues.old) order.old.items heads.old.items }
+    ensures list { own.new.list ≡ own.old.list }
+    ensures same { AllZip SameQueues queues.old queues.new }
+    ensures drained { Drains plan.now rows.now (sources_of own.new queues.new) order.new.items queues.new result }
+{
     for _ in rt.forever() {
         let Some(least) = heads.pop() else {
             return None;
@@ -105,7 +128,14 @@ fn merge_all<R: Wait>(
     own: &mut OwnRows,
     queues: &mut [LeaderEnds],
     order: &mut Vec<u64>,
-) -> Option<MergeAnswer> {
+) -> Option<MergeAnswer>
+    requires open { AreOpen r.now queues.old }
+    requires fresh { HaveGivenNone (sources_of own.old queues.old) }
+    requires empty { order.old.items ≡ [] }
+    ensures list { own.new.list ≡ own.old.list }
+    ensures same { AllZip SameQueues queues.old queues.new }
+    ensures drained { Drains plan.now rows.now (sources_of own.new queues.new) order.new.items queues.new result }
+{
     let mut heads = Vec::new(alloc);
     let failure = fill(rt, r, plan, rows, own, queues, &mut heads);
     if failure.is_some() {
@@ -115,7 +145,9 @@ fn merge_all<R: Wait>(
 }
 
 /// Why a block was not taken, as an answer.
-fn answer_of(why: BlockAnswer) -> MergeAnswer {
+fn answer_of(why: BlockAnswer) -> MergeAnswer
+    ensures { Answers why result }
+{
     match why {
         BlockAnswer::Row { row, cause, item: _ } => MergeAnswer::Row { row, cause },
         BlockAnswer::Memory => MergeAnswer::Memory,
@@ -134,7 +166,19 @@ pub(crate) fn lead_all<G: Gate, R: Wait>(
     claim: &mut ClaimSeat,
     queues: &mut [LeaderEnds],
     order: &mut Vec<u64>,
-) -> Option<MergeAnswer> {
+) -> Option<MergeAnswer>
+    requires seat { Belongs claims.now claim.old }
+    requires fresh { draws_of claim.old ≡ [] }
+    requires callers { callers_of claims.now ≡ suc (length queues.old) }
+    requires blocks { AreBlocks rows.now (blocks_of claims.now) }
+    requires columns { HasColumns plan.now (header_width rows.now) }
+    requires open { AreOpen r.now queues.old }
+    requires unheard { All HasGivenNone (map queue_source queues.old) }
+    requires empty { order.old.items ≡ [] }
+    ensures seat { Belongs claims.now claim.new × (number_of claim.new ≡ number_of claim.old) }
+    ensures same { AllZip SameQueues queues.old queues.new }
+    ensures led { Led plan.now rows.now (blocks_of claims.now) (draws_of claim.new) (map heard queues.new) order.new.items result }
+{
     let mut list = Vec::new(alloc);
     if let Some(why) = draw_all(rt, 0, plan, rows, gate, claims, claim, &mut list) {
         return Some(answer_of(why));
