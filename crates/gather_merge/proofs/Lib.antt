@@ -1,3 +1,9 @@
-pub mod Ordered
-pub mod Numbers
+pub mod Anys
+pub mod Comparing
+pub mod Heads
 pub mod Law
+pub mod Merging
+pub mod Numbers
+pub mod Ordered
+pub mod Sent
+pub mod Together

@@ -53,7 +53,7 @@ module _ (cmp : ℕ → ℕ → Ordering) (o : IsTotalOrder cmp) (apart : (a b :
   rises [] h = tt
   rises (x ∷ xs) h = (
     all_from (λ y. NotBefore cmp y x) xs (λ k d l. sorted_far (λ a b. is_lt (cmp a b)) (ranks_by o (λ a. a)) (x ∷ xs) h 0 (suc k) d (omega arith) (omega (arith, l))),
-    rises xs (λ k d from l. h (suc k) d (omega arith) (omega (arith, l))),
+    rises xs (λ k d from l. let e : suc k + 1 ≡ suc (k + 1) = omega arith in subst (λ n. is_lt (cmp (get_or (x ∷ xs) n d) (get_or xs k d)) ≡ false) e (h (suc k) d (omega arith) (omega (arith, l)))),
   )
 
   both_ways : (a b : ℕ) (r : Ordering) → cmp a b ≡ r → is_lt r ≡ false → is_lt (ordering_reverse r) ≡ false → r ≡ Equal

@@ -1,5 +1,5 @@
 -- A merge under way: some rows are in order, of each source that has more rows the next is a head.
-use Rattle.std.specs.Prelude.{◌≡◌, ◌≢◌, ◌<◌, ◌++◌, ◌⊎◌, ℕ, List, [], ◌∷◌, All, Any, Contains, length, map, true}
+use Rattle.std.specs.Prelude.{◌≡◌, ◌≢◌, ◌<◌, ◌++◌, ◌⊎◌, ℕ, List, [], ◌∷◌, All, Contains, length, true}
 use Rattle.std.specs.List.{flat_map}
 use Rattle.std.specs.List.Sorted.{IsPermutation, IsSorted}
 use Rattle.std.specs.declared.cmp.Ordering.{Ordering}
@@ -27,9 +27,15 @@ pub record IsMerging (cmp : ℕ → ℕ → Ordering) (sources : List Source) (o
   pub known : All (IsHead sources) heads
   pub rising : All (IsSorted cmp) (streams sources) → IsRising cmp order heads
 
+-- a head is that of a source
+pub record HasHead (heads : List Head) (at : ℕ) : Type 0 where
+  pub head : Head
+  pub there : Contains heads head
+  pub from : head.from ≡ at
+
 -- a source has no more rows, or its next one is a head
 abbrev pub IsCovered : List Source → List Head → ℕ → Type 0
-IsCovered sources heads at = ((source_at sources at).over ≡ true) ⊎ Any (λ (h : Head). h.from ≡ at) heads
+IsCovered sources heads at = ((source_at sources at).over ≡ true) ⊎ HasHead heads at
 
 -- the next row of a source comes before none of those in order
 pub record CanRefill (cmp : ℕ → ℕ → Ordering) (sources : List Source) (order : List ℕ) (from : ℕ) : Type 0 where

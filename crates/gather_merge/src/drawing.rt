@@ -39,7 +39,7 @@ pub(crate) fn compare(rows: &RowStore, plan: &BoundPlan, a: u64, b: u64) -> Orde
 {
     for column in plan.group_columns() {
         let columns = field_or_none(rows, a, *column).cmp(field_or_none(rows, b, *column));
-        if columns != Ordering::Equal {
+        if columns.is_ne() {
             return columns;
         }
     }

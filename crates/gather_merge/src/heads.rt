@@ -10,7 +10,6 @@ use crate::drawing::compare;
 use csv_rows::RowStore;
 use par_model::BoundPlan;
 use std::alloc::AllocError;
-use std::cmp::Ordering;
 
 /// The next row of a stream, and the number of the stream.
 #[derive(Clone, Copy, Debug)]
@@ -25,7 +24,7 @@ fn place_of(rows: &RowStore, plan: &BoundPlan, heads: &[Head], row: u64) -> usiz
     ensures within { result ≤ length heads.now }
     ensures place { IsPlace plan.now rows.now heads.now row result }
 {
-    heads.partition_point(|head| compare(rows, plan, head.row, row) == Ordering::Greater)
+    heads.partition_point(|head| compare(rows, plan, head.row, row).is_gt())
 }
 
 /// Puts a head in its place.

@@ -1,0 +1,146 @@
+-- What the workers and the leader did, put together.
+use Rattle.std.proofs.Common.{◌≡◌, ◌<◌, ◌≤◌, ◌+◌, ◌-◌, ◌*◌, ◌++◌, ◌⊎◌, inl, inr, ℕ, List, [], ◌∷◌, length, drop, map, All, IsTrue, MatchOption, Option, Some, None, true, false, zero, suc, get_or, is_some, refl, ap, sym, subst, ◌∙◌, arith, Any, length-append, append-nil}
+use Rattle.std.specs.List.{AllZip, flat_map}
+use Rattle.std.specs.List.Sorted.{IsSorted}
+use Rattle.std.proofs.lemmas.List.Elements.{All-head, All-map, All-nil, All-tail, All-weaker}
+use Rattle.std.proofs.lemmas.List.Sorted.{IsPermutation-refl}
+use Rattle.error_queue.specs.Message.{encoding}
+use Rattle.error_queue.specs.declared.ErrorMessage.{ErrorMessage}
+use Rattle.error_queue.specs.declared.ErrorMessage.TheVariants as message
+use Rattle.mq_handle.specs.Messages.{whole_of}
+use Rattle.par_model.specs.Plan.{Plan}
+use Rattle.partial_agg.specs.Rows.{IsAccepted, header_width}
+use Rattle.scan_claim.specs.Drawing.{IsDrawn, flat, is_spent, late, once_below, times}
+use Rattle.scan_claim.proofs.Totals.{late-append}
+use Rattle.gather_law.specs.Tuples.{AreBlocks, Table}
+use Rattle.gather_law.proofs.Gathering.{All-apart}
+use Rattle.parallel_ctx.specs.Ran.{Finishes}
+use Rattle.parallel_ctx.specs.Accounts.{Account, Heard, IsIdle, account_of, heard_of}
+use Rattle.parallel_ctx.specs.declared.home.Returned.{Returned}
+use Rattle.worker_run.specs.Ended.{IsNotice, IsRefused}
+use Rattle.worker_run.specs.declared.WorkerEnd.{WorkerEnd}
+use Rattle.worker_run.specs.declared.WorkerEnd.TheVariants.{Finished, Stopped, Refused, NoMemory}
+use Rattle.gather_merge.specs.Answers.{IsFirst}
+use Rattle.gather_merge.specs.Ended.{DidWork}
+use Rattle.gather_merge.specs.Hearing.{NamedBy, ReadsRow, rows_heard}
+use Rattle.gather_merge.specs.Leading.{HasLed, Led, NamesRow}
+use Rattle.gather_merge.specs.Order.{IsOrder, row_cmp}
+use Rattle.gather_merge.specs.Sent.{message_of, row_of}
+use Rattle.gather_merge.specs.Streams.{IsStream}
+use Rattle.gather_merge.specs.Used.{AreVerdict, EndsWell, IsVerdict, SentItsRows, WasRefused}
+use Rattle.gather_merge.specs.declared.MergeAnswer.{MergeAnswer}
+use Rattle.gather_merge.specs.declared.MergeAnswer.TheVariants.{Row, Memory}
+use Rattle.gather_merge.proofs.Anys.{any_cases, any_head, any_none, any_tail}
+use Rattle.gather_merge.proofs.Law.{merges}
+
+-- a row is refused, for this cause
+abbrev pub IsRefusedRow : Plan → Table → ℕ → ℕ → Type 0
+IsRefusedRow plan records row cause = (item : ℕ) × IsRefused plan records row cause item
+
+module _ (plan : Plan) (records : Table) (blocks : ℕ) where
+  abbrev Did : Plan → ℕ → Account → WorkerEnd → Type 0
+  Did p n a e = DidWork p records n a e
+
+  abbrev Worker : List ℕ → Returned WorkerEnd → Type 0
+  Worker draws w = Finishes Did plan blocks draws w
+
+  -- ---- refused rows
+
+  row_inj : (a b c d e f : ℕ) → message.Row a b c ≡ message.Row d e f → (a ≡ d) × (b ≡ e) × (c ≡ f)
+  row_inj a b c d e f h = (cc, cc, cc)
+
+  one_notice : (draws : List ℕ) (row cause item : ℕ) (bytes : List ℕ) → ReadsRow row cause item bytes → IsNotice plan records draws bytes → IsRefused plan records row cause item
+  one_notice draws row cause item bytes r (inl n) =
+      let same = row_inj n.row n.cause n.item row cause item (r.each (message.Row n.row n.cause n.item) n.fits n.is) in
+      subst (λ x. IsRefused plan records x cause item) same.0 (subst (λ x. IsRefused plan records n.row x item) same.1 (subst (λ x. IsRefused plan records n.row n.cause x) same.2 n.refused))
+  one_notice draws row cause item bytes r (inr e) = let no : message.End ≡ message.Row row cause item = r.each message.End tt e in cc
+
+  any_notice : (draws : List ℕ) (row cause item : ℕ) (messages : List (List ℕ)) → Any (ReadsRow row cause item) messages → All (IsNotice plan records draws) messages → IsRefused plan records row cause item
+  any_notice draws row cause item [] a h = absurd (any_none (ReadsRow row cause item) a)
+  any_notice draws row cause item (m ∷ ms) a h =
+      by (any_cases (ReadsRow row cause item) m ms a) (any_notice draws row cause item ms)
+    where
+      by : ReadsRow row cause item m ⊎ Any (ReadsRow row cause item) ms → (Any (ReadsRow row cause item) ms → All (IsNotice plan records draws) ms → IsRefused plan records row cause item) → IsRefused plan records row cause item
+      by (inl r) rest = one_notice draws row cause item m r (All-head (IsNotice plan records draws) m ms h)
+      by (inr a) rest = rest a (All-tail (IsNotice plan records draws) m ms h)
+
+  worker_notices : (draws : List ℕ) (r : Returned WorkerEnd) → Worker draws r → All (IsNotice plan records draws) (whole_of r.errors.sender.put)
+  worker_notices draws r f = by r.end f.done
+    where
+      by : (end : Option WorkerEnd) → MatchOption end (IsIdle (account_of draws r)) (λ e. Did plan blocks (account_of draws r) e) → All (IsNotice plan records draws) (whole_of r.errors.sender.put)
+      by None d = subst (All (IsNotice plan records draws)) (sym d.errors) (All-nil (IsNotice plan records draws))
+      by (Some e) d = d.notices
+
+  -- the notices that were taken of each worker
+  abbrev taken_of : List (Returned WorkerEnd) → List (List (List ℕ))
+  taken_of ws = map (λ (h : Heard). h.errors) (map heard_of ws)
+
+  named : (draws : List (List ℕ)) (ws : List (Returned WorkerEnd)) (row cause item : ℕ) → AllZip Worker draws ws → Any (λ notices. Any (ReadsRow row cause item) notices) (taken_of ws) → IsRefused plan records row cause item
+  named [] [] row cause item f a = absurd (any_none (λ notices. Any (ReadsRow row cause item) notices) a)
+  named [] (w ∷ ws) row cause item f a = absurd f
+  named (ds ∷ draws) [] row cause item f a = absurd f
+  named (ds ∷ draws) (w ∷ ws) row cause item f a =
+      by (any_cases (λ notices. Any (ReadsRow row cause item) notices) (heard_of w).errors (taken_of ws) a) (named draws ws row cause item f.1)
+    where
+      by : Any (ReadsRow row cause item) (heard_of w).errors ⊎ Any (λ notices. Any (ReadsRow row cause item) notices) (taken_of ws)
+          → (Any (λ notices. Any (ReadsRow row cause item) notices) (taken_of ws) → IsRefused plan records row cause item) → IsRefused plan records row cause item
+      by (inl a) rest =
+          let b = f.0.errors.beginning in
+          let all : All (IsNotice plan records ds) (whole_of w.errors.receiver.taken ++ b.0) = subst (All (IsNotice plan records ds)) b.1 (worker_notices ds w f.0) in
+          any_notice ds row cause item (whole_of w.errors.receiver.taken) a (All-apart (IsNotice plan records ds) (whole_of w.errors.receiver.taken) b.0 all).0
+      by (inr a) rest = rest a
+
+  ended : (draws : List (List ℕ)) (ws : List (Returned WorkerEnd)) (row cause : ℕ) → AllZip Worker draws ws → Any (λ (w : Returned WorkerEnd). WasRefused row cause w.end) ws → IsRefusedRow plan records row cause
+  ended [] [] row cause f a = absurd (any_none (λ (w : Returned WorkerEnd). WasRefused row cause w.end) a)
+  ended [] (w ∷ ws) row cause f a = absurd f
+  ended (ds ∷ draws) [] row cause f a = absurd f
+  ended (ds ∷ draws) (w ∷ ws) row cause f a =
+      by (any_cases (λ (w : Returned WorkerEnd). WasRefused row cause w.end) w ws a) (ended draws ws row cause f.1)
+    where
+      by : WasRefused row cause w.end ⊎ Any (λ (w : Returned WorkerEnd). WasRefused row cause w.end) ws
+          → (Any (λ (w : Returned WorkerEnd). WasRefused row cause w.end) ws → IsRefusedRow plan records row cause) → IsRefusedRow plan records row cause
+      by (inl e) rest = (e.0, (subst (λ o. MatchOption o (IsIdle (account_of ds w)) (λ e. Did plan blocks (account_of ds w) e)) e.1 f.0.done).ended.refused)
+      by (inr a) rest = rest a
+
+  -- ---- why there is no order
+
+  pub leader_row : (own : List ℕ) (draws : List (List ℕ)) (ws : List (Returned WorkerEnd)) (order : List ℕ) (failure : Option MergeAnswer) (row cause : ℕ) → AllZip Worker draws ws
+      → Led plan records blocks own (map heard_of ws) order failure → failure ≡ Some (Row row cause) → IsRefusedRow plan records row cause
+  leader_row own draws ws order failure row cause f led e = by (subst (Led plan records blocks own (map heard_of ws) order) e led)
+    where
+      by : NamesRow plan records (map heard_of ws) row cause → IsRefusedRow plan records row cause
+      by (inl m) = (m.item, m.refused)
+      by (inr a) = (a.item, named draws ws row cause a.item f a.named)
+
+  pub worker_row : (draws : List (List ℕ)) (ws : List (Returned WorkerEnd)) (row cause : ℕ) → AllZip Worker draws ws → AreVerdict ws (Some (Row row cause)) → IsRefusedRow plan records row cause
+  worker_row draws ws row cause f a = ended draws ws row cause f a
+
+  pub leader_first : (own : List ℕ) (ws : List (Returned WorkerEnd)) (order : List ℕ) (failure : Option MergeAnswer) (row cause : ℕ) → length ws ≡ 0
+      → Led plan records blocks own (map heard_of ws) order failure → failure ≡ Some (Row row cause) → IsFirst plan records row
+  leader_first own [] order failure row cause none led e = by (subst (Led plan records blocks own [] order) e led)
+    where
+      by : NamesRow plan records [] row cause → IsFirst plan records row
+      by (inl m) = m.first refl
+      by (inr a) = absurd (any_none (λ notices. Any (ReadsRow row cause a.item) notices) a.named)
+  leader_first own (w ∷ ws) order failure row cause none led e = let no : ⊥ = grind arith in absurd no
+
+  pub worker_first : (ws : List (Returned WorkerEnd)) (row cause : ℕ) → length ws ≡ 0 → AreVerdict ws (Some (Row row cause)) → IsFirst plan records row
+  worker_first [] row cause none a = absurd (any_none (λ (w : Returned WorkerEnd). WasRefused row cause w.end) a)
+  worker_first (w ∷ ws) row cause none a = let no : ⊥ = grind arith in absurd no
+
+-- ---- the verdict on some workers
+
+any_get : {A : Type 0} (P : A → Type 0) (xs : List A) (k : ℕ) (d : A) → k < length xs → P (get_or xs k d) → Any P xs
+any_get P [] k d h p = absurd (omega arith)
+any_get P (x ∷ xs) zero d h p = any_head P x xs p
+any_get P (x ∷ xs) (suc k) d h p = any_tail P x xs (any_get P xs k d (omega arith) p)
+
+pub verdict_there : (ws : List (Returned WorkerEnd)) (k : ℕ) (w : Returned WorkerEnd) (r : Option MergeAnswer) → k < length ws → w ≡ get_or ws k w → is_some r ≡ true → IsVerdict w.end r → AreVerdict ws r
+verdict_there ws k w None h e some v = cc
+verdict_there ws k w (Some (Row row cause)) h e some v =
+    any_get (λ (x : Returned WorkerEnd). WasRefused row cause x.end) ws k w h (subst (λ (x : Returned WorkerEnd). WasRefused row cause x.end) e v)
+verdict_there ws k w (Some Memory) h e some v = tt
+
+pub well_there : (ws : List (Returned WorkerEnd)) (k : ℕ) (w : Returned WorkerEnd) (r : Option MergeAnswer) → w ≡ get_or ws k w → is_some r ≡ false → IsVerdict w.end r → EndsWell (get_or ws k w).end
+well_there ws k w None e none v = subst (λ (x : Returned WorkerEnd). EndsWell x.end) e v
+well_there ws k w (Some why) e none v = cc
