@@ -1,9 +1,14 @@
 pub mod Anys
+pub mod Causes
 pub mod Comparing
+pub mod Drawn
+pub mod Ends
 pub mod Heads
 pub mod Law
+pub mod Leading
 pub mod Merging
 pub mod Numbers
 pub mod Ordered
 pub mod Sent
+pub mod Streams
 pub mod Together

@@ -6,7 +6,7 @@ use Rattle.std.specs.List.Sorted.{IsPermutation, IsSorted}
 use Rattle.std.specs.Ordering.{is_lt}
 use Rattle.std.specs.declared.cmp.Ordering.{Ordering}
 use Rattle.std.proofs.lemmas.List.{get_or_append_left, get_or-append_right, get_or-set_other, get_or-set_same, length-map, length-set, map-append}
-use Rattle.std.proofs.lemmas.List.Elements.{All-append, All-cons, All-contains, All-drop, All-head, All-nil, All-push, All-tail, All-take, All-weaker, Contains-append_cases, Contains-append_left, Contains-append_right, Contains-push, Contains-push_cases}
+use Rattle.std.proofs.lemmas.List.Elements.{All-append, All-cons, All-contains, All-drop, All-from_get_or, All-head, All-nil, All-push, All-tail, All-take, All-weaker, Contains-append_cases, Contains-append_left, Contains-append_right, Contains-push, Contains-push_cases}
 use Rattle.std.proofs.lemmas.List.Sorted.{IsPermutation-append_left, IsPermutation-append_right, IsPermutation-cons, IsPermutation-middle, IsPermutation-refl, IsPermutation-sym, IsPermutation-to_front, IsPermutation-trans, ranks_by, sorted_far}
 use Rattle.std.proofs.lemmas.Bool.{cases_eq, cases_lt}
 use Rattle.gather_law.proofs.Gathering.{All-apart}
@@ -14,6 +14,7 @@ use Rattle.gather_law.proofs.Permute.{same-permutation}
 use Rattle.gather_merge.specs.Heads.{AreFallingBy, NotBefore, put_at, rows_of_heads}
 use Rattle.gather_merge.specs.Hearing.{Source, no_source, source_at, streams}
 use Rattle.gather_merge.specs.Merging.{CanRefill, HasHead, IsCovered, IsHead, IsLast, IsMerging, IsRising, Refilled}
+use Rattle.gather_merge.specs.Streams.{IsMerge}
 use Rattle.gather_merge.specs.declared.heads.Head.{Head}
 
 abbrev joined : List (List ℕ) → List ℕ
@@ -232,6 +233,7 @@ module _ (cmp : ℕ → ℕ → Ordering) (o : IsTotalOrder cmp) where
       };
       kept = kept;
       covered = inr (record { head = head_is; there = put_there heads at head_is; from = refl });
+      same = length-set sources from source;
     }
       where
         kept : (k : ℕ) → k ≢ from → IsCovered sources heads k → IsCovered next (put_at heads at head_is) k
@@ -265,8 +267,50 @@ module _ (cmp : ℕ → ℕ → Ordering) (o : IsTotalOrder cmp) where
       };
       kept = kept;
       covered = inl (subst (λ (s : Source). s.over ≡ true) (sym (get_or-set_same sources from source no_source there)) over);
+      same = length-set sources from source;
     }
       where
         kept : (k : ℕ) → k ≢ from → IsCovered sources heads k → IsCovered (set sources from source) heads k
         kept k n (inl o) = inl (subst (λ (s : Source). s.over ≡ true) (sym (get_or-set_other sources from k source no_source n)) o)
         kept k n (inr has) = inr has
+
+  -- ---- from the start to the end
+
+  none_joined : (sources : List Source) → All (λ (s : Source). s.rows ≡ []) sources → joined (streams sources) ≡ []
+  none_joined [] h = refl
+  none_joined (s ∷ sources) h =
+      ap (λ l. l ++ joined (streams sources)) (All-head (λ (s : Source). s.rows ≡ []) s sources h) ∙ none_joined sources (All-tail (λ (s : Source). s.rows ≡ []) s sources h)
+
+  pub merging_none : (sources : List Source) → All (λ (s : Source). s.rows ≡ []) sources → IsMerging cmp sources [] []
+  merging_none sources h = record {
+    each = subst (λ l. IsPermutation l []) (sym (none_joined sources h)) (IsPermutation-refl []);
+    known = All-nil (IsHead sources);
+    rising = λ up. record { sorted = λ k d from l. absurd (omega (arith, l)); last = All-nil (λ (h : Head). IsLast cmp [] h.row) };
+  }
+
+  pub can_start : (sources : List Source) (from : ℕ) → CanRefill cmp sources [] from
+  can_start sources from = record { next = λ up row s. All-nil (NotBefore cmp row) }
+
+  -- each source is covered
+  abbrev pub AllCovered : List Source → List Head → Type 0
+  AllCovered sources heads = (at : ℕ) → at < length sources → IsCovered sources heads at
+
+  pub goes_on : (sources sources' : List Source) (order : List ℕ) (heads heads' : List Head) (h : Head) → AreFallingBy cmp (heads ++ h ∷ []) → IsMerging cmp sources order (heads ++ h ∷ [])
+      → AllCovered sources (heads ++ h ∷ []) → Refilled cmp h.from sources sources' heads heads' → IsMerging cmp sources' (order ++ h.row ∷ []) heads' × AllCovered sources' heads'
+  goes_on sources sources' order heads heads' h f m c r =
+      let p = popped sources order heads h f m in
+      (r.merging (order ++ h.row ∷ []) p.merging p.can, λ at l. by at (subst (λ n. at < n) r.same l) p (cases_eq at h.from))
+    where
+      by : (at : ℕ) → at < length sources → Popped sources order heads h → (at ≡ h.from) ⊎ (at ≢ h.from) → IsCovered sources' heads' at
+      by at l p (inl e) = subst (IsCovered sources' heads') (sym e) r.covered
+      by at l p (inr n) = r.kept at n (p.kept at n (c at l))
+
+  pub over_all : (sources : List Source) → AllCovered sources [] → All (λ (s : Source). s.over ≡ true) sources
+  over_all sources c = All-from_get_or (λ (s : Source). s.over ≡ true) sources no_source (λ at l. by at (c at l))
+    where
+      by : (at : ℕ) → IsCovered sources [] at → (get_or sources at no_source).over ≡ true
+      by at (inl over) = over
+      by at (inr has) = absurd (omega (arith, has.there.1.0))
+
+  pub merged_all : (sources : List Source) (order : List ℕ) → IsMerging cmp sources order [] → IsMerge cmp (streams sources) order
+  merged_all sources order m = record { each = same-permutation (joined (streams sources)) (order ++ []) order (append-nil order) m.each; rising = λ up. (m.rising up).sorted }

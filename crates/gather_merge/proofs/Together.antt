@@ -1,5 +1,5 @@
 -- What the workers and the leader did, put together.
-use Rattle.std.proofs.Common.{◌≡◌, ◌<◌, ◌≤◌, ◌+◌, ◌-◌, ◌*◌, ◌++◌, ◌⊎◌, inl, inr, ℕ, List, [], ◌∷◌, length, drop, map, All, IsTrue, MatchOption, Option, Some, None, true, false, zero, suc, get_or, is_some, refl, ap, sym, subst, ◌∙◌, arith, Any, length-append, append-nil}
+use Rattle.std.proofs.Common.{◌≡◌, ◌<◌, ◌≤◌, ◌+◌, ◌-◌, ◌*◌, ◌^◌, ◌++◌, ◌⊎◌, inl, inr, ℕ, List, [], ◌∷◌, length, drop, map, All, IsTrue, MatchOption, Option, Some, None, true, false, zero, suc, get_or, is_some, refl, ap, sym, subst, ◌∙◌, arith, Any, length-append, append-nil}
 use Rattle.std.specs.List.{AllZip, flat_map}
 use Rattle.std.specs.List.Sorted.{IsSorted}
 use Rattle.std.proofs.lemmas.List.Elements.{All-head, All-map, All-nil, All-tail, All-weaker}
@@ -32,6 +32,7 @@ use Rattle.gather_merge.specs.declared.MergeAnswer.{MergeAnswer}
 use Rattle.gather_merge.specs.declared.MergeAnswer.TheVariants.{Row, Memory}
 use Rattle.gather_merge.proofs.Anys.{any_cases, any_head, any_none, any_tail}
 use Rattle.gather_merge.proofs.Law.{merges}
+use Rattle.gather_merge.proofs.Streams.{no_stream, read_rows}
 
 -- a row is refused, for this cause
 abbrev pub IsRefusedRow : Plan → Table → ℕ → ℕ → Type 0
@@ -144,3 +145,71 @@ verdict_there ws k w (Some Memory) h e some v = tt
 pub well_there : (ws : List (Returned WorkerEnd)) (k : ℕ) (w : Returned WorkerEnd) (r : Option MergeAnswer) → w ≡ get_or ws k w → is_some r ≡ false → IsVerdict w.end r → EndsWell (get_or ws k w).end
 well_there ws k w None e none v = subst (λ (x : Returned WorkerEnd). EndsWell x.end) e v
 well_there ws k w (Some why) e none v = cc
+
+-- ---- the rows of all participants
+
+module _ (plan : Plan) (records : Table) (blocks : ℕ) where
+  -- the rows that the lead took of a worker that ended well are a stream of its blocks
+  stream_of : (draws : List ℕ) (r : Returned WorkerEnd) → length records < 2 ^ 63 → Worker plan records blocks draws r → EndsWell r.end → (heard_of r).tuples_over ≡ true → SentItsRows plan records draws r
+  stream_of draws r few f well over = by r.end f.done well
+    where
+      all : whole_of r.tuples.receiver.taken ≡ whole_of r.tuples.sender.put
+      all = f.tuples.all over
+
+      by : (end : Option WorkerEnd) → MatchOption end (IsIdle (account_of draws r)) (λ e. Did plan records blocks plan blocks (account_of draws r) e) → EndsWell end → SentItsRows plan records draws r
+      by None d w = record { rows = []; stream = subst (λ ds. IsStream plan (header_width records) records ds []) (sym d.draws) (no_stream plan records); sent = d.tuples; taken = all ∙ d.tuples }
+      by (Some Finished) d w = record { rows = d.ended.sent.rows; stream = d.ended.sent.stream; sent = d.ended.sent.are; taken = all ∙ d.ended.sent.are }
+      by (Some Stopped) d w = absurd w
+      by (Some (Refused row cause item)) d w = absurd w
+      by (Some NoMemory) d w = absurd w
+
+  -- each worker's stream, as it was heard
+  streams_of : (draws : List (List ℕ)) (ws : List (Returned WorkerEnd)) → length records < 2 ^ 63 → AllZip (SentItsRows plan records) draws ws → AllZip (IsStream plan (header_width records) records) draws (map rows_heard (map heard_of ws))
+  streams_of [] [] few z = tt
+  streams_of [] (w ∷ ws) few z = absurd z
+  streams_of (ds ∷ draws) [] few z = absurd z
+  streams_of (ds ∷ draws) (w ∷ ws) few z =
+      let s = z.0 in
+      (subst (IsStream plan (header_width records) records ds) (sym (ap (map row_of) s.taken ∙ read_rows records ds s.rows few s.stream.each)) s.stream, streams_of draws ws few z.1)
+
+  all_sent : (draws : List (List ℕ)) (ws : List (Returned WorkerEnd)) → length records < 2 ^ 63 → AllZip (Worker plan records blocks) draws ws → All (λ (w : Returned WorkerEnd). EndsWell w.end) ws
+      → All (λ (h : Heard). h.tuples_over ≡ true) (map heard_of ws) → AllZip (SentItsRows plan records) draws ws
+  all_sent [] [] few f w o = tt
+  all_sent [] (v ∷ ws) few f w o = absurd f
+  all_sent (ds ∷ draws) [] few f w o = absurd f
+  all_sent (ds ∷ draws) (v ∷ ws) few f w o = (
+    stream_of ds v few f.0 (All-head (λ (w : Returned WorkerEnd). EndsWell w.end) v ws w) (All-head (λ (h : Heard). h.tuples_over ≡ true) (heard_of v) (map heard_of ws) o),
+    all_sent draws ws few f.1 (All-tail (λ (w : Returned WorkerEnd). EndsWell w.end) v ws w) (All-tail (λ (h : Heard). h.tuples_over ≡ true) (heard_of v) (map heard_of ws) o),
+  )
+
+  spent_is : (own : List ℕ) → IsTrue (is_spent blocks own) → 0 < late blocks own
+  spent_is own h = grind (arith, h)
+
+  once_is : (b n : ℕ) → b < n → once_below b n ≡ 1
+  once_is b n h = grind (arith, h)
+
+  -- what an order comes with
+  pub record HasOrder (own : List ℕ) (draws lists : List (List ℕ)) (ws : List (Returned WorkerEnd)) (order : List ℕ) : Type 0 where
+    pub accepted : All (IsAccepted plan (header_width records)) (drop 1 records)
+    pub is : IsOrder plan records order
+    pub drawn : (b : ℕ) → 256 * b + 1 < length records → times b (flat lists) ≡ 1
+    pub sent : AllZip (SentItsRows plan records) draws ws
+
+  pub all_merged : (own : List ℕ) (draws : List (List ℕ)) (ws : List (Returned WorkerEnd)) (order : List ℕ) (lists : List (List ℕ)) (n : ℕ)
+      → AreBlocks records blocks → length records ≤ 4194305 → lists ≡ own ∷ draws → IsDrawn blocks lists n → AllZip (Worker plan records blocks) draws ws → All (λ (w : Returned WorkerEnd). EndsWell w.end) ws
+      → HasLed plan records blocks own (map heard_of ws) order → HasOrder own draws lists ws order
+  all_merged own draws ws order lists n are few e d f w led =
+      let drawn : IsDrawn blocks (own ∷ draws) n = subst (λ l. IsDrawn blocks l n) e d in
+      let some = spent_is own led.spent in
+      let lates = late-append blocks own (flat draws) in
+      let past : late blocks (own ++ flat draws) ≡ n - blocks = drawn.past in
+      let small : length records < 2 ^ 63 = omega (arith, few) in
+      let sent = all_sent draws ws small f w led.over in
+      let both = merges plan (header_width records) records (own ∷ draws) (led.own ∷ map rows_heard (map heard_of ws)) order n (led.stream, streams_of draws ws small sent) led.merge drawn.once
+          (omega (arith, some, lates, past, are.all)) in
+      record {
+        accepted = both.0;
+        is = both.1;
+        drawn = λ b h. d.once b ∙ once_is b n (omega (arith, some, lates, past, are.all, h));
+        sent = sent;
+      }

@@ -46,3 +46,4 @@ pub record Refilled (cmp : ℕ → ℕ → Ordering) (from : ℕ) (sources sourc
   pub merging : (order : List ℕ) → IsMerging cmp sources order heads → CanRefill cmp sources order from → IsMerging cmp sources' order heads'
   pub kept : (at : ℕ) → at ≢ from → IsCovered sources heads at → IsCovered sources' heads' at
   pub covered : IsCovered sources' heads' from
+  pub same : length sources' ≡ length sources
