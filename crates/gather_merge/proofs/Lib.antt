@@ -4,6 +4,7 @@ pub mod Comparing
 pub mod Drawn
 pub mod Ends
 pub mod Heads
+pub mod Hearing
 pub mod Law
 pub mod Leading
 pub mod Merging

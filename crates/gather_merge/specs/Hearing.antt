@@ -98,15 +98,18 @@ Gives old new Over = (new.rows ≡ old.rows) × (new.over ≡ true)
 Gives old new (Names row cause item) = Unit {0}
 Gives old new Lost = Unit {0}
 
+-- the leader's own list names no row, and has nothing but rows
+abbrev pub IsPlain : Next → Type 0
+IsPlain (Row row) = Unit {0}
+IsPlain Over = Unit {0}
+IsPlain (Names row cause item) = ⊥
+IsPlain Lost = ⊥
+
 -- what came of the leader's own list
-abbrev pub Own : OwnRows → OwnRows → Next → Type 0
-Own old new next = (new.list ≡ old.list) × Gives (own_source old) (own_source new) next × IsOwnNext next
-  where
-    IsOwnNext : Next → Type 0
-    IsOwnNext (Row row) = Unit {0}
-    IsOwnNext Over = Unit {0}
-    IsOwnNext (Names row cause item) = ⊥
-    IsOwnNext Lost = ⊥
+pub record GivesOwn (old new : OwnRows) (next : Next) : Type 0 where
+  pub list : new.list ≡ old.list
+  pub gives : Gives (own_source old) (own_source new) next
+  pub plain : IsPlain next
 
 -- what came of a worker's queues
 pub record Hears (old new : LeaderEnds) (next : Next) : Type 0 where

@@ -4,7 +4,7 @@
 ghost use Rattle.std.specs.Prelude.{◌≡◌, ◌≤◌, IfSome, false, length};
 ghost use Rattle.std.specs.List.{AllZip};
 ghost use Rattle.parallel_ctx.specs.Tokens.{SameQueues};
-ghost use Rattle.gather_merge.specs.Hearing.{AreOpen, Hears, HearsEnd, HearsFrom, IsOpen, Own};
+ghost use Rattle.gather_merge.specs.Hearing.{AreOpen, GivesOwn, Hears, HearsEnd, HearsFrom, IsOpen};
 ghost use Rattle.gather_merge.specs.Sent.{row_of};
 
 use error_queue::ErrorMessage;
@@ -82,7 +82,7 @@ pub(crate) struct OwnRows {
 impl OwnRows {
     /// Gives the next row.
     fn next(&mut self) -> Next
-        ensures { Own self.old self.new result }
+        ensures { GivesOwn self.old self.new result }
     {
         if self.given >= self.list.len() {
             return Next::Over;

@@ -1,0 +1,34 @@
+-- A source that was asked, among all sources.
+use Rattle.std.proofs.Common.{◌≡◌, ◌<◌, ◌≤◌, ◌+◌, ◌-◌, ℕ, zero, suc, List, [], ◌∷◌, length, set, get_or, map, Any, refl, ap, sym, subst, ◌∙◌, arith}
+use Rattle.std.proofs.lemmas.List.{length-map}
+use Rattle.std.proofs.lemmas.List.Quantifiers.{any-set}
+use Rattle.parallel_ctx.specs.declared.tokens.LeaderEnds.{LeaderEnds}
+use Rattle.gather_merge.specs.Hearing.{Gives, GivesOwn, Hears, HearsFrom, NamedBy, ReadsRow, Source, notices_of, own_source, queue_source, source_at, sources_of}
+use Rattle.gather_merge.specs.declared.hearing.Next.{Next}
+use Rattle.gather_merge.specs.declared.hearing.Next.TheVariants.{Names}
+use Rattle.gather_merge.specs.declared.hearing.OwnRows.{OwnRows}
+
+map-set : {A B : Type 0} (f : A → B) (xs : List A) (k : ℕ) (x : A) → map f (set xs k x) ≡ set (map f xs) k (f x)
+map-set f [] k x = refl
+map-set f (y ∷ ys) zero x = refl
+map-set f (y ∷ ys) (suc k) x = ap (λ l. f y ∷ l) (map-set f ys k x)
+
+source_in : (own : OwnRows) (queues : List LeaderEnds) (k : ℕ) (d : LeaderEnds) → k < length queues → source_at (sources_of own queues) (suc k) ≡ queue_source (get_or queues k d)
+source_in own [] k d l = absurd (omega (arith, l))
+source_in own (q ∷ queues) zero d l = refl
+source_in own (q ∷ queues) (suc k) d l = source_in own queues k d (omega (arith, l))
+
+named_in : (queues : List LeaderEnds) (k : ℕ) (q : LeaderEnds) (row cause item : ℕ) → k < length queues → Any (ReadsRow row cause item) (notices_of q) → NamedBy (map notices_of (set queues k q)) row cause
+named_in queues k q row cause item l a = record {
+  item = item;
+  named = subst (Any (λ notices. Any (ReadsRow row cause item) notices)) (sym (map-set notices_of queues k q))
+      (any-set (λ notices. Any (ReadsRow row cause item) notices) (map notices_of queues) k (notices_of q) (omega (arith, l, length-map queues notices_of)) a);
+}
+
+pub hears_queue : (k : ℕ) (own : OwnRows) (queues : List LeaderEnds) (d q : LeaderEnds) (next : Next) → k < length queues → Hears (get_or queues k d) q next → HearsFrom (suc k) own own queues (set queues k q) next
+hears_queue k own queues d q next l h = record {
+  source = queue_source q;
+  others = ap (λ (ss : List Source). own_source own ∷ ss) (map-set queue_source queues k q);
+  gives = subst (λ (s : Source). Gives s (queue_source q) next) (sym (source_in own queues k d l)) h.gives;
+  names = λ row cause item e. named_in queues k q row cause item l (h.names row cause item e);
+}
