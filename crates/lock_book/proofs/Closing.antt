@@ -11,7 +11,7 @@ use Rattle.lock_book.specs.declared.view.Entry.{Entry}
 use Rattle.lock_book.specs.declared.view.Stage.TheVariants.{Idle, Holding}
 use Rattle.lock_book.specs.declared.view.View.{View}
 use Rattle.lock_book.specs.History.{last_of, calls_by, IsLegal, row_at}
-use Rattle.lock_book.specs.Ruled.{total, holders, Line, mine_at, seen_at, StageOk, Ruled, AllSeen}
+use Rattle.lock_book.specs.Ruled.{total, holders, mine_at, seen_at, StageOk, Ruled, AllSeen}
 use Rattle.lock_book.proofs.Histories.{calls_by-append, nil_of, front_nil}
 use Rattle.lock_book.proofs.Totals.{total_none, total_two}
 use Rattle.lock_book.proofs.Stages.{holders_none}
@@ -30,32 +30,32 @@ module _ {X N S C R : Type 0} (slot_name : X → N) (slot_state : X → S) (lega
     calls_rest i n =
         let k = r.each_seat id v at in
         let p = k.seen i in
-        let cut : calls_by n (r.lines i).log ≡ calls_by n (seen_at v i) ++ calls_by n p.0 = ap (calls_by n) p.1 ∙ calls_by-append n (seen_at v i) p.0 in
+        let cut : calls_by n (r.logs i) ≡ calls_by n (seen_at v i) ++ calls_by n p.0 = ap (calls_by n) p.1 ∙ calls_by-append n (seen_at v i) p.0 in
         dite (dec_le callers n)
         (λ hi. back_nil (calls_by n (seen_at v i)) (calls_by n p.0) (sym cut ∙ r.bounded i n hi))
         (λ lo.
         let l : n < length v.owns = omega arith in
         let z : v.from + n ≡ n = omega arith in
-        let same : calls_by n (seen_at v i) ≡ calls_by n (r.lines i).log = ap (λ (m : ℕ). calls_by m (seen_at v i)) (sym z) ∙ (sym (k.mine_seen n i l) ∙ (k.mine n i l ∙ ap (λ (m : ℕ). calls_by m (r.lines i).log) z)) in
+        let same : calls_by n (seen_at v i) ≡ calls_by n (r.logs i) = ap (λ (m : ℕ). calls_by m (seen_at v i)) (sym z) ∙ (sym (k.mine_seen n i l) ∙ (k.mine n i l ∙ ap (λ (m : ℕ). calls_by m (r.logs i)) z)) in
         nil_of (calls_by n (seen_at v i)) (calls_by n p.0) (sym cut ∙ sym same))
 
-    whole_seen : (i : ℕ) → seen_at v i ≡ (r.lines i).log
+    whole_seen : (i : ℕ) → seen_at v i ≡ r.logs i
     whole_seen i = let p = (r.each_seat id v at).seen i in sym (p.1 ∙ (ap (λ (m : List (Entry S C R)). seen_at v i ++ m) (of_nobody p.0 (calls_rest i)) ∙ append-nil (seen_at v i)))
 
     nobody_holds : (i : ℕ) → total (λ (u : View N S C R). holders i u.stage) s.views ≡ 0
-    nobody_holds i = total_none (λ (u : View N S C R). holders i u.stage) s.views (λ j u e. holders_none i u.stage (λ t is.
-        let ok : StageOk opens callers r.lines u (Holding i t) = subst (StageOk opens callers r.lines u) is (r.each_seat j u e).staged in
+    nobody_holds i = total_none (λ (u : View N S C R). holders i u.stage) s.views (λ j u e. holders_none i u.stage (λ is.
+        let ok : StageOk opens callers r.logs u (Holding i) = subst (StageOk opens callers r.logs u) is (r.each_seat j u e).staged in
         let one = ok.0 in
         dite (ℕ_discrete j id)
         (λ here. let same : u ≡ v = some-injective u v (sym e ∙ (ap (get_elem? s.views) here ∙ at)) in let g : u.stage ≡ v.stage = ap (λ (z : View N S C R). z.stage) same in absurd (cc))
         (λ apart. let two = total_two (λ (w : View N S C R). length w.owns) s.views id j v u at apart e in let sum = r.seats in absurd (omega arith))))
 
     pub ended_at : (i : ℕ) (o : N × S) → get_elem? opens i ≡ some o → (x : X) × (get_elem? s.homes i ≡ some (some x)) × (slot_name x ≡ o.0) × (slot_state x ≡ last_of o.1 (seen_at v i))
-    ended_at i o e = let h = (r.each_line i o e).at_home (nobody_holds i) in (h.0, h.1, h.2, h.3 ∙ ap (last_of o.1) (sym (whole_seen i)))
+    ended_at i o e = let h = (r.each_value i o e).at_home (nobody_holds i) in (h.0, h.1, h.2, h.3 ∙ ap (last_of o.1) (sym (whole_seen i)))
 
     pub ended : AllSeen legal opens callers v
     ended = record {
-      lawful = λ i o e. subst (IsLegal (legal o.0) o.1) (sym (whole_seen i)) (r.each_line i o e).lawful;
+      lawful = λ i o e. subst (IsLegal (legal o.0) o.1) (sym (whole_seen i)) (r.each_value i o e).lawful;
       mine = λ n i lt. let k = r.each_seat id v at in let z : v.from + n ≡ n = omega arith in k.mine_seen n i (omega arith) ∙ ap (λ (m : ℕ). calls_by m (seen_at v i)) z;
       no_others = λ i n hi. ap (calls_by n) (whole_seen i) ∙ r.bounded i n hi;
     }

@@ -8,13 +8,13 @@ use lib.ListN.{get_elem?}
 use Rattle.atomic_table.specs.Table.{State, Joins, opening}
 use Rattle.atomic_table.proofs.Lists.{at_set, at_map}
 use Rattle.lock_book.specs.declared.view.Entry.{Entry}
-use Rattle.lock_book.specs.declared.view.Stage.{Stage}
 use Rattle.lock_book.specs.declared.view.Stage.TheVariants.{Idle}
 use Rattle.lock_book.specs.declared.view.View.{View}
 use Rattle.lock_book.specs.History.{calls_by, calls_at, StartsWith, row_at, longer_rows}
-use Rattle.lock_book.specs.Ruled.{tickets, holders, HasTicket, Line, Stands, seen_at, informed, together, nobody, newcomers, StageOk, Knows, Ruled}
+use Rattle.lock_book.specs.Ruled.{holders, Stands, seen_at, informed, together, nobody, newcomers, StageOk, Knows, Ruled}
 use Rattle.lock_book.proofs.Histories.{starts_nil, longer_of, row_longer, calls_between}
 use Rattle.lock_book.proofs.Totals.{total_set, total_two}
+use Rattle.lock_book.proofs.Changes.{same_value}
 use Rattle.lock_book.proofs.Meets.{nobody_knows, informed_knows, joined_front, joined_back}
 
 module _ {X N S C R : Type 0} (slot_name : X → N) (slot_state : X → S) (legal : N → ℕ → S → C → R → S → Type 0) (opens : List (N × S)) (callers : ℕ) where
@@ -22,7 +22,7 @@ module _ {X N S C R : Type 0} (slot_name : X → N) (slot_state : X → S) (lega
   Rule = Ruled slot_name slot_state legal opens callers
 
   module _ (s : State X (View N S C R)) (r : Rule s) (id : ℕ) (v : View N S C R) (other : ℕ) (w both : View N S C R) (at : get_elem? s.views id ≡ some v) (apart : other ≢ id) (at' : get_elem? (set s.views id both) other ≡ some w)
-      (idle : v.stage ≡ Idle) (w_idle : w.stage ≡ Idle) (both_idle : both.stage ≡ Idle) (known : Knows opens callers r.lines both) (count : length both.owns ≡ length v.owns + length w.owns)
+      (idle : v.stage ≡ Idle) (w_idle : w.stage ≡ Idle) (both_idle : both.stage ≡ Idle) (known : Knows opens callers r.logs both) (count : length both.owns ≡ length v.owns + length w.owns)
       (of_both : (n : ℕ) → Stands n both → Stands n v ⊎ Stands n w) where
     abbrev joined : List (View N S C R)
     joined = set (set s.views id both) other nobody
@@ -41,51 +41,29 @@ module _ {X N S C R : Type 0} (slot_name : X → N) (slot_state : X → S) (lega
         (λ (t : (j ≢ other) × (get_elem? (set s.views id both) j ≡ some u)). ⊎_elim (λ (q : (j ≡ id) × (both ≡ u)). is_both q.0 q.1) (λ (q : (j ≢ id) × (get_elem? s.views j ≡ some u)). is_else q.0 t.0 q.1) (at_set s.views id j both u t.1))
         (at_set (set s.views id both) other j nobody u e)
 
-    no_tickets : (g : Stage) (j t : ℕ) → g ≡ Idle → HasTicket j t g → ⊥
-    no_tickets g j t e h = subst (HasTicket j t) e h
-
     not_spent : (n : ℕ) (u : View N S C R) → nobody ≡ u → Stands n u → ⊥
     not_spent n u e h = let g : Stands {N = N} {S = S} {C = C} {R = R} n nobody = subst (Stands n) (sym e) h in let a = g.0 in let b = g.1 in omega arith
 
     pub join_keeps : Rule record { words = s.words; homes = s.homes; views = joined }
     join_keeps = record {
-      lines = r.lines;
+      logs = r.logs;
       bounded = r.bounded;
-      few = r.few;
-      some_value = r.some_value;
       wide = r.wide;
-      each_line = λ j p e.
-          let k = r.each_line j p e in
-          let ft : View N S C R → ℕ = λ u. tickets j u.stage in
-          let fh : View N S C R → ℕ = λ u. holders j u.stage in
-          let a = total_set ft s.views id v both at in
-          let b = total_set ft (set s.views id both) other w nobody at' in
-          let c = total_set fh s.views id v both at in
-          let d = total_set fh (set s.views id both) other w nobody at' in
-          let tv : ft v ≡ 0 = ap (tickets j) idle in
-          let tw : ft w ≡ 0 = ap (tickets j) w_idle in
-          let tb : ft both ≡ 0 = ap (tickets j) both_idle in
-          let hv : fh v ≡ 0 = ap (holders j) idle in
-          let hw : fh w ≡ 0 = ap (holders j) w_idle in
-          let hb : fh both ≡ 0 = ap (holders j) both_idle in
-          let q = k.queue in
-          record { ticket = k.ticket; serving = k.serving; tally = k.tally; queue = omega arith; lawful = k.lawful; at_home = λ z. k.at_home (omega arith) };
+      each_value = λ j o e.
+          let f : View N S C R → ℕ = λ u. holders j u.stage in
+          let a = total_set f s.views id v both at in
+          let b = total_set f (set s.views id both) other w nobody at' in
+          let hv : f v ≡ 0 = ap (holders j) idle in
+          let hw : f w ≡ 0 = ap (holders j) w_idle in
+          let hb : f both ≡ 0 = ap (holders j) both_idle in
+          same_value slot_name slot_state legal s.words s.words s.homes s.homes s.views joined j o (r.logs j) refl refl (λ x h. h) (omega arith) (r.each_value j o e);
       seats =
           let f : View N S C R → ℕ = λ u. length u.owns in
           let a = total_set f s.views id v both at in
           let b = total_set f (set s.views id both) other w nobody at' in
           let e = r.seats in
           omega arith;
-      each_seat = λ j u e. elim (was j u e) [ is_spent q ↦ subst (Knows opens callers r.lines) q (nobody_knows opens callers r.lines) | is_both p q ↦ subst (Knows opens callers r.lines) q known | is_else p o q ↦ r.each_seat j u q ];
-      apart = λ a b x y ea eb j t hx hy. elim (was a x ea) [
-        | is_spent q ↦ absurd (no_tickets x.stage j t (ap (λ (z : View N S C R). z.stage) (sym q)) hx)
-        | is_both p q ↦ absurd (no_tickets x.stage j t (ap (λ (z : View N S C R). z.stage) (sym q) ∙ both_idle) hx)
-        | is_else p o q ↦ elim (was b y eb) [
-          | is_spent q' ↦ absurd (no_tickets y.stage j t (ap (λ (z : View N S C R). z.stage) (sym q')) hy)
-          | is_both p' q' ↦ absurd (no_tickets y.stage j t (ap (λ (z : View N S C R). z.stage) (sym q') ∙ both_idle) hy)
-          | is_else p' o' q' ↦ r.apart a b x y q q' j t hx hy
-        ]
-      ];
+      each_seat = λ j u e. elim (was j u e) [ is_spent q ↦ subst (Knows opens callers r.logs) q (nobody_knows opens callers r.logs) | is_both p q ↦ subst (Knows opens callers r.logs) q known | is_else p o q ↦ r.each_seat j u q ];
       numbers = λ a b x y ea eb n hx hy. elim (was a x ea) [
         | is_spent q ↦ absurd (not_spent n x q hx)
         | is_both p q ↦ elim (was b y eb) [
@@ -105,7 +83,7 @@ module _ {X N S C R : Type 0} (slot_name : X → N) (slot_state : X → S) (lega
   pub tells : (id : ℕ) (v : View N S C R) (other : ℕ) (w : View N S C R) → v.stage ≡ Idle → w.stage ≡ Idle → length w.owns ≡ 0 → Joins Rule id v other w (informed v w) nobody
   tells id v other w idle w_idle no_owner s r at apart at' =
       let was_w = ⊎_elim (λ (t : (other ≡ id) × (informed v w ≡ w)). absurd (apart t.0)) (λ (t : (other ≢ id) × (get_elem? s.views other ≡ some w)). t.1) (at_set s.views id other (informed v w) w at') in
-      join_keeps s r id v other w (informed v w) at apart at' idle w_idle idle (informed_knows opens callers r.lines v w (r.each_seat id v at) (r.each_seat other w was_w) idle) (omega arith) (λ n h. inl h)
+      join_keeps s r id v other w (informed v w) at apart at' idle w_idle idle (informed_knows opens callers r.logs v w (r.each_seat id v at) (r.each_seat other w was_w) idle) (omega arith) (λ n h. inl h)
 
   -- a seat takes in the seat of the callers that follow its own
   pub gathers : (id : ℕ) (v : View N S C R) (other : ℕ) (w : View N S C R) → v.stage ≡ Idle → w.stage ≡ Idle → 0 < length v.owns → w.from ≡ v.from + length v.owns
@@ -124,21 +102,21 @@ module _ {X N S C R : Type 0} (slot_name : X → N) (slot_state : X → S) (lega
       let m : ℕ = n - length v.owns in
       let e : length v.owns + m ≡ n = omega arith in
       let f : w.from + m ≡ v.from + n = omega arith in
-      subst (λ (z : ℕ × List (ℕ × Entry S C R)). Q z.0 z.1) (λ x. (f x, (sym (joined_back opens callers r.lines v.owns w.owns m) ∙ ap (row_at (v.owns ++ w.owns)) e) x)) (b m (omega arith)))
-      (λ lo. let l : n < length v.owns = omega arith in subst (Q (v.from + n)) (sym (joined_front opens callers r.lines v.owns w.owns n l)) (a n l)) in
-      let both_seen : (j : ℕ) → StartsWith (r.lines j).log (row_at (longer_rows v.seen w.seen) j) × StartsWith (row_at (longer_rows v.seen w.seen) j) (seen_at v j) × StartsWith (row_at (longer_rows v.seen w.seen) j) (seen_at w j) =
-      λ j. subst (λ (m : List (Entry S C R)). StartsWith (r.lines j).log m × StartsWith m (seen_at v j) × StartsWith m (seen_at w j)) (sym (row_longer v.seen w.seen j)) (longer_of (r.lines j).log (seen_at v j) (seen_at w j) (k.seen j) (h.seen j)) in
-      let known : Knows opens callers r.lines both = record {
+      subst (λ (z : ℕ × List (ℕ × Entry S C R)). Q z.0 z.1) (λ x. (f x, (sym (joined_back opens callers r.logs v.owns w.owns m) ∙ ap (row_at (v.owns ++ w.owns)) e) x)) (b m (omega arith)))
+      (λ lo. let l : n < length v.owns = omega arith in subst (Q (v.from + n)) (sym (joined_front opens callers r.logs v.owns w.owns n l)) (a n l)) in
+      let both_seen : (j : ℕ) → StartsWith (r.logs j) (row_at (longer_rows v.seen w.seen) j) × StartsWith (row_at (longer_rows v.seen w.seen) j) (seen_at v j) × StartsWith (row_at (longer_rows v.seen w.seen) j) (seen_at w j) =
+      λ j. subst (λ (m : List (Entry S C R)). StartsWith (r.logs j) m × StartsWith m (seen_at v j) × StartsWith m (seen_at w j)) (sym (row_longer v.seen w.seen j)) (longer_of (r.logs j) (seen_at v j) (seen_at w j) (k.seen j) (h.seen j)) in
+      let known : Knows opens callers r.logs both = record {
         opened = λ _. k.opened some_owner;
         counted = λ _. k.counted some_owner;
         below = λ _. dite (ℕ_discrete (length w.owns) 0) (λ z. let c = k.below some_owner in omega arith) (λ z. let c = h.below (omega arith) in omega arith);
         seen = λ j. (both_seen j).0;
-        told = λ j. starts_nil (r.lines j).log;
-        mine = λ n j lt. part n (λ x row. calls_at j row ≡ calls_by x (r.lines j).log) lt (λ m l. k.mine m j l) (λ m l. h.mine m j l);
+        told = λ j. starts_nil (r.logs j);
+        mine = λ n j lt. part n (λ x row. calls_at j row ≡ calls_by x (r.logs j)) lt (λ m l. k.mine m j l) (λ m l. h.mine m j l);
         mine_seen = λ n j lt. part n (λ x row. calls_at j row ≡ calls_by x (row_at (longer_rows v.seen w.seen) j)) lt
-            (λ m l. k.mine m j l ∙ sym (calls_between (v.from + m) (r.lines j).log (row_at (longer_rows v.seen w.seen) j) (seen_at v j) (both_seen j).0 (both_seen j).1 (sym (k.mine_seen m j l) ∙ k.mine m j l)))
-            (λ m l. h.mine m j l ∙ sym (calls_between (w.from + m) (r.lines j).log (row_at (longer_rows v.seen w.seen) j) (seen_at w j) (both_seen j).0 (both_seen j).2 (sym (h.mine_seen m j l) ∙ h.mine m j l)));
-        staged = subst (StageOk opens callers r.lines both) (sym idle) tt;
+            (λ m l. k.mine m j l ∙ sym (calls_between (v.from + m) (r.logs j) (row_at (longer_rows v.seen w.seen) j) (seen_at v j) (both_seen j).0 (both_seen j).1 (sym (k.mine_seen m j l) ∙ k.mine m j l)))
+            (λ m l. h.mine m j l ∙ sym (calls_between (w.from + m) (r.logs j) (row_at (longer_rows v.seen w.seen) j) (seen_at w j) (both_seen j).0 (both_seen j).2 (sym (h.mine_seen m j l) ∙ h.mine m j l)));
+        staged = subst (StageOk opens callers r.logs both) (sym idle) tt;
       } in
       join_keeps s r id v other w both at apart at' idle w_idle idle known len
       (λ n g. let lo = g.0 in let hi = g.1 in dite (dec_le (v.from + length v.owns) n) (λ up. inr (omega arith, omega arith)) (λ down. inl (lo, omega arith)))
@@ -161,11 +139,11 @@ module _ {X N S C R : Type 0} (slot_name : X → N) (slot_state : X → S) (lega
   words_length zero = refl
   words_length (suc n) = ap suc (words_length n)
 
-  -- the shelf as it is made: each value at home, no ticket drawn, no call made
-  pub opens_so : (slots : List X) → 0 < length opens → callers < 4294967296 → ((i : ℕ) (o : N × S) → get_elem? opens i ≡ some o → (x : X) × (get_elem? slots i ≡ some x) × (slot_name x ≡ o.0) × (slot_state x ≡ o.1))
-      → Rule (opening (replicate (3 * length opens) 0) slots (newcomers opens callers))
-  opens_so slots some_value few fits = let ws : List ℕ = replicate (3 * length opens) 0 in let n = newcomers {N = N} {S = S} {C = C} {R = R} opens callers in let len = empty_length callers in
-      let start : ℕ → Line S C R = λ i. record { drawn = 0; served = 0; log = [] } in
+  -- the shelf as it is made: each value at home, no call made
+  pub opens_so : (slots : List X) → ((i : ℕ) (o : N × S) → get_elem? opens i ≡ some o → (x : X) × (get_elem? slots i ≡ some x) × (slot_name x ≡ o.0) × (slot_state x ≡ o.1))
+      → Rule (opening (replicate (2 * length opens) 0) slots (newcomers opens callers))
+  opens_so slots fits = let n = newcomers {N = N} {S = S} {C = C} {R = R} opens callers in let len = empty_length callers in
+      let start : ℕ → List (Entry S C R) = λ i. [] in
       let seat : Knows opens callers start n = record {
         opened = λ _. refl;
         counted = λ _. refl;
@@ -176,22 +154,18 @@ module _ {X N S C R : Type 0} (slot_name : X → N) (slot_state : X → S) (lega
         mine_seen = λ k i lt. ap (calls_at i) (empty_rows callers k);
         staged = tt;
       } in record {
-        lines = start;
-        bounded = λ i m h. refl;
-        few = few;
-        some_value = some_value;
-        wide = words_length (3 * length opens);
-        each_line = λ i o e. let f = fits i o e in record {
-          ticket = zero_words (3 * length opens) (3 * i);
-          serving = zero_words (3 * length opens) (3 * i + 1);
-          tally = zero_words (3 * length opens) (3 * i + 2);
-          queue = refl;
+        logs = start;
+        wide = words_length (2 * length opens);
+        each_value = λ i o e. let f = fits i o e in record {
+          locked = zero_words (2 * length opens) (2 * i);
+          alone = omega arith;
+          tally = zero_words (2 * length opens) (2 * i + 1);
           lawful = tt;
           at_home = λ _. (f.0, at_map some slots i f.0 f.1, f.2, f.3);
         };
+        bounded = λ i m h. refl;
         seats = omega arith;
         each_seat = λ id v e. only id v e (Knows opens callers start) seat;
-        apart = λ a b x y ea eb i t hx hy. absurd (only a x ea (λ u. HasTicket i t u.stage → ⊥) (λ h. h) hx);
         numbers = λ a b x y ea eb m hx hy. alone a x ea ∙ sym (alone b y eb);
       }
     where

@@ -48,13 +48,13 @@ module _ {N S C R : Type 0} where
 
 module _ {X N S C R : Type 0} (slot_name : X → N) (slot_state : X → S) (legal : N → ℕ → S → C → R → S → Type 0) where
   pub opens_rule : {A : Type 0} (value_name : A → N) (value_state : A → S) (shelve : A → X) → ((x : A) → slot_name (shelve x) ≡ value_name x) → ((x : A) → slot_state (shelve x) ≡ value_state x)
-      → (opens : List (N × S)) (callers n : ℕ) (values : List A) (slots : List X) (words : List ℕ) → opens ≡ map (λ x. (value_name x, value_state x)) values → slots ≡ map shelve values → words ≡ replicate (3 * n) 0 → length values ≡ n → 0 < n
-      → callers < 4294967296 → Ruled slot_name slot_state legal opens callers (opening words slots (newcomers opens callers))
-  opens_rule value_name value_state shelve same_name same_state opens callers n values slots words is shelved zero_words len some_value few =
+      → (opens : List (N × S)) (callers n : ℕ) (values : List A) (slots : List X) (words : List ℕ) → opens ≡ map (λ x. (value_name x, value_state x)) values → slots ≡ map shelve values → words ≡ replicate (2 * n) 0 → length values ≡ n
+      → Ruled slot_name slot_state legal opens callers (opening words slots (newcomers opens callers))
+  opens_rule value_name value_state shelve same_name same_state opens callers n values slots words is shelved zero_words len =
       let count : length opens ≡ n = ap length is ∙ (map_length _ values ∙ len) in
-      let ws : replicate (3 * length opens) 0 ≡ words = ap (λ (k : ℕ). replicate (3 * k) 0) count ∙ sym zero_words in
+      let ws : replicate (2 * length opens) 0 ≡ words = ap (λ (k : ℕ). replicate (2 * k) 0) count ∙ sym zero_words in
       subst (λ (w : List ℕ). Ruled slot_name slot_state legal opens callers (opening w slots (newcomers opens callers))) ws
-      (opens_so slot_name slot_state legal opens callers slots (omega arith) few
+      (opens_so slot_name slot_state legal opens callers slots
       (λ i o e. let m = map_at (λ x. (value_name x, value_state x)) values i o (sym (ap (λ (l : List (N × S)). get_elem? l i) is) ∙ e) in
       (shelve m.0, ap (λ (l : List X). get_elem? l i) shelved ∙ at_map shelve values i m.0 m.1, same_name m.0 ∙ ap (λ (p : N × S). p.0) m.2, same_state m.0 ∙ ap (λ (p : N × S). p.1) m.2)))
 

@@ -6,7 +6,7 @@ use lib.ListN.{get_elem?}
 use Rattle.atomic_table.specs.Table.{State, Me, Step, rest}
 use Rattle.lock_book.specs.declared.view.Entry.{Entry}
 use Rattle.lock_book.specs.declared.view.Stage.{Stage}
-use Rattle.lock_book.specs.declared.view.Stage.TheVariants.{Idle, Waiting, Holding}
+use Rattle.lock_book.specs.declared.view.Stage.TheVariants.{Idle, Holding}
 use Rattle.lock_book.specs.declared.view.View.{View}
 use Rattle.lock_book.specs.History.{entry, last_of, calls_by, calls_at, StartsWith, IsLegal, row_at, put_row, longer_rows, first_row, other_rows}
 
@@ -15,29 +15,10 @@ abbrev pub total : {V : Type 0} → (V → ℕ) → List V → ℕ
 total f [] = 0
 total f (v ∷ vs) = f v + total f vs
 
--- 1 where a seat at this stage has a ticket for the value i, and else 0
-abbrev pub tickets : ℕ → Stage → ℕ
-tickets i Idle = 0
-tickets i (Waiting j t) = if j == i then 1 else 0
-tickets i (Holding j t) = if j == i then 1 else 0
-
--- 1 where a seat at this stage has the value i itself, and else 0
+-- 1 where a seat at this stage has the value i, and else 0
 abbrev pub holders : ℕ → Stage → ℕ
 holders i Idle = 0
-holders i (Waiting j t) = 0
-holders i (Holding j t) = if j == i then 1 else 0
-
--- a seat at this stage has the ticket t for the value i
-abbrev pub HasTicket : ℕ → ℕ → Stage → Type 0
-HasTicket i t Idle = ⊥
-HasTicket i t (Waiting j u) = (j ≡ i) × (u ≡ t)
-HasTicket i t (Holding j u) = (j ≡ i) × (u ≡ t)
-
--- of one value: the tickets drawn and served, and its history
-pub record Line (S C R : Type 0) : Type 0 where
-  pub drawn : ℕ
-  pub served : ℕ
-  pub log : List (Entry S C R)
+holders i (Holding j) = if j == i then 1 else 0
 
 module _ {N S C R : Type 0} where
   -- the seat stands for the caller n
@@ -100,75 +81,66 @@ module _ {N S C R : Type 0} where
   abbrev pub newcomers : List (N × S) → ℕ → (View N S C R)
   newcomers opens callers = record { opens = opens; callers = callers; from = 0; owns = replicate callers []; seen = []; told = []; stage = Idle }
 
-  module _ (opens : List (N × S)) (callers : ℕ) (lines : ℕ → Line S C R) where
-    -- what is true of a seat at a stage: its ticket is drawn and not passed on, and who has the value has seen its
-    -- whole history
+  module _ (opens : List (N × S)) (callers : ℕ) (logs : ℕ → List (Entry S C R)) where
+    -- what is true of a seat at a stage: who has a value is one caller, and has seen the value's whole history
     abbrev pub StageOk : (View N S C R) → Stage → Type 0
     StageOk v Idle = Unit {0}
-    StageOk v (Waiting i t) = (length v.owns ≡ 1) × (i < length opens) × ((lines i).served ≤ t) × (t < (lines i).drawn)
-    StageOk v (Holding i t) = (length v.owns ≡ 1) × (i < length opens) × (t ≡ (lines i).served) × (t < (lines i).drawn) × (seen_at v i ≡ (lines i).log)
+    StageOk v (Holding i) = (length v.owns ≡ 1) × (i < length opens) × (seen_at v i ≡ logs i)
 
     -- what is true of the view of a seat
     pub record Knows (v : (View N S C R)) : Type 0 where
       pub opened : 0 < length v.owns → v.opens ≡ opens
       pub counted : 0 < length v.owns → v.callers ≡ callers
       pub below : 0 < length v.owns → v.from + length v.owns ≤ callers
-      pub seen : (i : ℕ) → StartsWith (lines i).log (seen_at v i)
-      pub told : (i : ℕ) → StartsWith (lines i).log (told_at v i)
-      pub mine : (k i : ℕ) → k < length v.owns → mine_at v k i ≡ calls_by (v.from + k) (lines i).log
+      pub seen : (i : ℕ) → StartsWith (logs i) (seen_at v i)
+      pub told : (i : ℕ) → StartsWith (logs i) (told_at v i)
+      pub mine : (k i : ℕ) → k < length v.owns → mine_at v k i ≡ calls_by (v.from + k) (logs i)
       pub mine_seen : (k i : ℕ) → k < length v.owns → mine_at v k i ≡ calls_by (v.from + k) (seen_at v i)
       pub staged : StageOk v v.stage
 
   module _ {X : Type 0} (slot_name : X → N) (slot_state : X → S) (legal : N → ℕ → S → C → R → S → Type 0) where
-    -- what is true of the value i, which opened as o
-    pub record LineOk (callers : ℕ) (words : List ℕ) (homes : List (mathlib.Core.Option.Option X)) (views : List (View N S C R)) (i : ℕ) (o : N × S) (l : Line S C R) : Type 0 where
-      pub ticket : slice_index words (3 * i) ≡ l.drawn % 2 ^ 64
-      pub serving : slice_index words (3 * i + 1) ≡ l.served % 2 ^ 64
-      pub tally : slice_index words (3 * i + 2) ≡ length l.log % 2 ^ 64
-      pub queue : l.served + total (λ v. tickets i v.stage) views ≡ l.drawn
-      pub lawful : IsLegal (legal o.0) o.1 l.log
-      pub at_home : total (λ v. holders i v.stage) views ≡ 0 → (x : X) × (get_elem? homes i ≡ some (some x)) × (slot_name x ≡ o.0) × (slot_state x ≡ last_of o.1 l.log)
+    -- what is true of the value i, which opened as o and has this history: one seat has it where the first of its two
+    -- words is 1 and none where it is 0, and then it is at home with its last state
+    pub record ValueOk (words : List ℕ) (homes : List (mathlib.Core.Option.Option X)) (views : List (View N S C R)) (i : ℕ) (o : N × S) (log : List (Entry S C R)) : Type 0 where
+      pub locked : slice_index words (2 * i) ≡ total (λ v. holders i v.stage) views
+      pub alone : total (λ v. holders i v.stage) views ≤ 1
+      pub tally : slice_index words (2 * i + 1) ≡ length log % 2 ^ 64
+      pub lawful : IsLegal (legal o.0) o.1 log
+      pub at_home : total (λ v. holders i v.stage) views ≡ 0 → (x : X) × (get_elem? homes i ≡ some (some x)) × (slot_name x ≡ o.0) × (slot_state x ≡ last_of o.1 log)
 
-    -- Each value has one legal history. A value at home has its last state and its name, tickets are unique, and each
+    -- Each value has one legal history and at most one seat has it; at home it has its last state and its name. Each
     -- caller's entries are the calls that its seat made
     pub record Ruled (opens : List (N × S)) (callers : ℕ) (s : State X (View N S C R)) : Type 0 where
-      pub lines : ℕ → Line S C R
-      pub few : callers < 2 ^ 32
-      pub some_value : 0 < length opens
-      pub wide : length s.words ≡ 3 * length opens
-      pub each_line : (i : ℕ) (o : N × S) → get_elem? opens i ≡ some o → LineOk callers s.words s.homes s.views i o (lines i)
-      pub bounded : (i n : ℕ) → callers ≤ n → calls_by n (lines i).log ≡ []
+      pub logs : ℕ → List (Entry S C R)
+      pub wide : length s.words ≡ 2 * length opens
+      pub each_value : (i : ℕ) (o : N × S) → get_elem? opens i ≡ some o → ValueOk s.words s.homes s.views i o (logs i)
+      pub bounded : (i n : ℕ) → callers ≤ n → calls_by n (logs i) ≡ []
       pub seats : total (λ v. length v.owns) s.views ≡ callers
-      pub each_seat : (id : ℕ) (v : (View N S C R)) → get_elem? s.views id ≡ some v → Knows opens callers lines v
-      pub apart : (id other : ℕ) (v w : (View N S C R)) → get_elem? s.views id ≡ some v → get_elem? s.views other ≡ some w → (i t : ℕ) → HasTicket i t v.stage → HasTicket i t w.stage → id ≡ other
+      pub each_seat : (id : ℕ) (v : (View N S C R)) → get_elem? s.views id ≡ some v → Knows opens callers logs v
       pub numbers : (id other : ℕ) (v w : (View N S C R)) → get_elem? s.views id ≡ some v → get_elem? s.views other ≡ some w → (n : ℕ) → Stands n v → Stands n w → id ≡ other
 
-    -- a ticket was drawn, and the word found is its number
-    abbrev pub ticketed : Step X → Me X (View N S C R) → ℕ → Me X (View N S C R) → Type 0
-    ticketed st m r m' = (i : ℕ) → st.word ≡ 3 * i → (t : ℕ) × (r ≡ t % 2 ^ 64) × (m'.1 ≡ m.1) × (m'.0 ≡ at_stage m.0 (Waiting i t))
-
-    -- the seat's turn came: it has the value, and has seen its history so far
-    pub record Turned (m : Me X (View N S C R)) (i t : ℕ) (m' : Me X (View N S C R)) : Type 0 where
+    -- the seat has the value, and has seen its history so far
+    pub record Taken (m : Me X (View N S C R)) (i : ℕ) (m' : Me X (View N S C R)) : Type 0 where
       pub log : List (Entry S C R)
       pub slot : X
       pub took : m'.1 ≡ (i, slot) ∷ m.1
-      pub view : m'.0 ≡ seeing m.0 i log (Holding i t)
+      pub view : m'.0 ≡ seeing m.0 i log (Holding i)
       pub begins : StartsWith log (seen_at m.0 i)
       pub known : (o : N × S) → get_elem? m.0.opens i ≡ some o → IsLegal (legal o.0) o.1 log × (slot_name slot ≡ o.0) × (slot_state slot ≡ last_of o.1 log)
       pub mine : mine_at m.0 0 i ≡ calls_by m.0.from log
       pub bounded : (n : ℕ) → m.0.callers ≤ n → calls_by n log ≡ []
 
-    -- a load of the number served: where it is the seat's ticket its turn came, and else nothing changed
-    abbrev pub turned_to : Step X → Me X (View N S C R) → ℕ → Me X (View N S C R) → Type 0
-    turned_to st m r m' = (i t : ℕ) → m.0.stage ≡ Waiting i t → (r ≡ t % 2 ^ 64 → Turned m i t m') × (r ≢ t % 2 ^ 64 → m' ≡ m)
+    -- a try to take the value: where the word found is 0 the seat has it, and else nothing changed
+    abbrev pub tried : Step X → Me X (View N S C R) → ℕ → Me X (View N S C R) → Type 0
+    tried st m r m' = (i : ℕ) → st.word ≡ 2 * i → (r ≡ 0 → Taken m i m') × (r ≢ 0 → m' ≡ m)
 
     -- the call that the slot tells of stands in the history
     abbrev pub committed : (X → Option (C × R)) → Step X → Me X (View N S C R) → ℕ → Me X (View N S C R) → Type 0
-    committed made st m r m' = (i : ℕ) (x : X) (c : C) (y : R) → st.word ≡ 3 * i + 2 → m.1 ≡ (i, x) ∷ [] → made x ≡ Some (c, y) → (m'.1 ≡ m.1) × (m'.0 ≡ with_entry m.0 i (entry m.0.from c y (slot_state x)))
+    committed made st m r m' = (i : ℕ) (x : X) (c : C) (y : R) → st.word ≡ 2 * i + 1 → m.1 ≡ (i, x) ∷ [] → made x ≡ Some (c, y) → (m'.1 ≡ m.1) × (m'.0 ≡ with_entry m.0 i (entry m.0.from c y (slot_state x)))
 
-    -- the value went back, and the seat is in no queue
-    abbrev pub passed_on : Step X → Me X (View N S C R) → ℕ → Me X (View N S C R) → Type 0
-    passed_on st m r m' = (m'.1 ≡ rest m.1) × (m'.0 ≡ at_stage m.0 Idle)
+    -- the value went back, and the seat has none
+    abbrev pub given_back : Step X → Me X (View N S C R) → ℕ → Me X (View N S C R) → Type 0
+    given_back st m r m' = (m'.1 ≡ rest m.1) × (m'.0 ≡ at_stage m.0 Idle)
 
     -- what was seen and what was told are beginnings of one legal history, and the longer of the two is seen
     pub record Looks (v w : (View N S C R)) : Type 0 where
@@ -191,7 +163,7 @@ pub record AllSeen {N S C R : Type 0} (legal : N → ℕ → S → C → R → S
   pub no_others : (i n : ℕ) → callers ≤ n → calls_by n (seen_at v i) ≡ []
 
 module _ {N S C R : Type 0} where
-  -- the seat of one caller, which stands in no queue
+  -- the seat of one caller, which has no value
   pub record IsFree (v : View N S C R) : Type 0 where
     pub owns : length v.owns ≡ 1
     pub stage : v.stage ≡ Idle
@@ -210,8 +182,7 @@ module _ {N S C R : Type 0} where
 -- a number for each stage, 0 for none
 abbrev pub stage_number : Stage → ℕ
 stage_number Idle = 0
-stage_number (Waiting i t) = 1
-stage_number (Holding i t) = 2
+stage_number (Holding i) = 1
 
 -- the view of a pass, which has one
 abbrev pub view_of : {N S C R : Type 0} → List (View N S C R) → View N S C R

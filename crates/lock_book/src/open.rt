@@ -9,7 +9,7 @@ ghost use Rattle.lock_book.specs.Shown.{AreAll, callers_of, count_of, mine_of, o
 use crate::Kept;
 use crate::noted::Noted;
 use crate::shelf::{Pass, Shelf};
-use crate::table::{Board, Callers, Held, Opens, Place, Slot};
+use crate::table::{Board, Callers, Held, Opens, Place, Slot, WORDS};
 use atomic_table::{Refused, Table};
 use std::alloc::{AllocError, Global};
 
@@ -74,7 +74,7 @@ impl<T: Kept> Shelf<T> {
         }
         let opens: Noted<Opens<T>> = Noted::of(&values);
         let slots = shelved(alloc, values)?;
-        let words = zeros(alloc, 3 * count)?;
+        let words = zeros(alloc, WORDS * count)?;
         let about = (opens, callers);
         let (board, whole) = match Table::new(alloc, words.as_slice(), slots, &about) {
             Ok(made) => made,

@@ -1,7 +1,7 @@
 //! The shelf, its passes, and a call.
 //!
 //! A pass keeps its seat in a badge, which names no slot, so that it may go to another thread. Between two calls the
-//! seat stands for the pass's one caller and is in no queue.
+//! seat stands for the pass's one caller and has no value.
 
 ghost use Rattle.std.specs.Prelude.{◌≡◌, ℕ, ◌+◌, ◌*◌, ◌^◌, ◌<◌, ◌≤◌, [], ◌∷◌, length};
 ghost use mathlib.Core.Option.{some};
@@ -22,7 +22,7 @@ pub struct Shelf<T: Kept> {
     pub(crate) board: Board<T>,
     pub(crate) count: usize,
     pub(crate) callers: u32,
-    pub ghost sized: { (board.shared.table_id.words ≡ 3 * count) × (board.shared.table_id.slots ≡ count) × (length board.shared.key.0.value ≡ count) × (3 * count + 3 < 2 ^ 64) × (0 < count) },
+    pub ghost sized: { (board.shared.table_id.words ≡ 2 * count) × (board.shared.table_id.slots ≡ count) × (length board.shared.key.0.value ≡ count) × (2 * count + 2 < 2 ^ 64) × (0 < count) },
     pub ghost called_by: { board.shared.key.1 ≡ callers },
     pub ghost some_caller: { 0 < callers },
 }

@@ -1,52 +1,54 @@
-//! The moves of the lock, one by one: draw a ticket, wait for the turn, apply the call, commit it, pass the turn on.
+//! The moves of the lock, one by one: take the value, apply the call, commit it, give the value back.
 //! What is known between two of them is the stage of the seat and the value that it carries.
 
-ghost use Rattle.std.specs.Prelude.{◌≡◌, ℕ, ◌+◌, ◌*◌, ◌%◌, ◌^◌, ◌<◌, ◌≤◌, [], ◌∷◌, length, Some};
+ghost use Rattle.std.specs.Prelude.{◌≡◌, ℕ, ◌+◌, ◌*◌, ◌^◌, ◌<◌, ◌≤◌, true, false, [], ◌∷◌, length, Some};
 ghost use mathlib.Core.Option.{some};
 ghost use lib.ListN.{get_elem?};
-ghost use Rattle.lock_book.specs.declared.view.Stage.TheVariants.{Idle, Waiting, Holding};
-ghost use Rattle.lock_book.specs.Ruled.{at_stage, with_entry, seen_at, Turned};
+ghost use Rattle.lock_book.specs.declared.view.Stage.TheVariants.{Idle, Holding};
+ghost use Rattle.lock_book.specs.Ruled.{IsFree, at_stage, with_entry, seen_at, Taken};
 ghost use Rattle.lock_book.specs.History.{entry, last_of, made_of};
 
 use crate::Kept;
 use crate::noted::Noted;
-use crate::table::{Board, Commit, Held, Next, Place, Ticket, Turn};
+use crate::table::{Board, Commit, Give, Held, Place, Take, WORDS};
 use crossbeam_utils::Backoff;
 use std::sync::Wait;
 
-/// Draws a ticket for the value `at`.
-pub(crate) fn draw_ticket<T: Kept>(board: &Board<T>, seat: &mut Place<T>, at: usize) -> u64
+/// Whether the value `at` was free. The seat then has it.
+fn try_take<T: Kept>(board: &Board<T>, seat: &mut Place<T>, at: usize) -> bool
     requires own { seat.old.table_id ≡ board.now.shared.table_id }
-    requires word { (at < length board.now.shared.key.0.value) × (3 * at + 3 ≤ board.now.shared.table_id.words) }
-    requires fits { 3 * at + 3 < 2 ^ 64 }
-    requires idle { (seat.old.me.0.stage ≡ Idle) × (length seat.old.me.0.owns ≡ 1) }
+    requires place { at < length board.now.shared.key.0.value }
+    requires word { (WORDS * at + WORDS ≤ board.now.shared.table_id.words) × (WORDS * at + WORDS < 2 ^ 64) }
+    requires free { IsFree seat.old.me.0 }
     ensures own { seat.new.table_id ≡ seat.old.table_id }
-    ensures ticket { (t : ℕ) × (result ≡ t % 2 ^ 64) × (seat.new.me.1 ≡ seat.old.me.1) × (seat.new.me.0 ≡ at_stage seat.old.me.0 (Waiting at t)) }
+    ensures taken { result ≡ true → Taken (λ x. T.name x.value) (λ x. T.state x.value) T.legal seat.old.me at seat.new.me }
+    ensures not_free { result ≡ false → seat.new.me ≡ seat.old.me }
 {
-    board.shared.fetch_add::<Ticket>(seat, 3 * at, 1)
+    let word = WORDS * at;
+    let found = board.shared.compare_exchange::<Take>(seat, word, 0, 1);
+    found == 0
 }
 
-/// Waits until the ticket is served. The seat then has the value.
-pub(crate) fn wait_turn<T: Kept, R: Wait>(
-    rt: &R,
-    board: &Board<T>,
-    seat: &mut Place<T>,
-    at: usize,
-    ticket: u64,
-)
+/// Takes the value `at` at once where it is free, and else waits until the seat has it. A caller that waits reads the
+/// word, and tries again only where it found it free.
+pub(crate) fn acquire<T: Kept, R: Wait>(rt: &R, board: &Board<T>, seat: &mut Place<T>, at: usize)
     requires own { seat.old.table_id ≡ board.now.shared.table_id }
-    requires word { 3 * at + 3 ≤ board.now.shared.table_id.words }
-    requires fits { 3 * at + 3 < 2 ^ 64 }
-    requires waiting { (t : ℕ) × (ticket ≡ t % 2 ^ 64) × (seat.old.me.0.stage ≡ Waiting at t) }
+    requires place { at < length board.now.shared.key.0.value }
+    requires word { (WORDS * at + WORDS ≤ board.now.shared.table_id.words) × (WORDS * at + WORDS < 2 ^ 64) }
+    requires free { IsFree seat.old.me.0 }
     ensures own { seat.new.table_id ≡ seat.old.table_id }
-    ensures turn { (t : ℕ) × Turned (λ x. T.name x.value) (λ x. T.state x.value) T.legal seat.old.me at t seat.new.me }
+    ensures taken { Taken (λ x. T.name x.value) (λ x. T.state x.value) T.legal seat.old.me at seat.new.me }
 {
+    if try_take(board, seat, at) {
+        return;
+    }
     let backoff = Backoff::new();
     for _ in rt.forever() {
-        if board.shared.load::<Turn>(seat, 3 * at + 1) == ticket {
+        backoff.snooze();
+        let found = board.shared.peek(WORDS * at);
+        if found == 0 && try_take(board, seat, at) {
             return;
         }
-        backoff.snooze();
     }
     unreachable!()
 }
@@ -89,29 +91,27 @@ pub(crate) fn serve<T: Kept>(
 /// Adds the call to the history of the value that the seat has.
 pub(crate) fn commit_call<T: Kept>(board: &Board<T>, seat: &mut Place<T>, at: usize)
     requires own { seat.old.table_id ≡ board.now.shared.table_id }
-    requires word { 3 * at + 3 ≤ board.now.shared.table_id.words }
-    requires fits { 3 * at + 3 < 2 ^ 64 }
-    requires holding { (t : ℕ) × (seat.old.me.0.stage ≡ Holding at t) }
+    requires word { (WORDS * at + WORDS ≤ board.now.shared.table_id.words) × (WORDS * at + WORDS < 2 ^ 64) }
+    requires holding { seat.old.me.0.stage ≡ Holding at }
     requires held { (x : _) × (c : _) × (r : _) × (seat.old.me.1 ≡ (at, x) ∷ []) × (made_of T.call T.reply x.made ≡ Some (c, r))
         × ((o : _) → get_elem? seat.old.me.0.opens at ≡ some o → T.legal o.0 seat.old.me.0.from (last_of o.1 (seen_at seat.old.me.0 at)) c r (T.state x.value)) }
     ensures own { seat.new.table_id ≡ seat.old.table_id }
     ensures added { (x : _) (c : _) (r : _) → seat.old.me.1 ≡ (at, x) ∷ [] → made_of T.call T.reply x.made ≡ Some (c, r)
         → (seat.new.me.1 ≡ seat.old.me.1) × (seat.new.me.0 ≡ with_entry seat.old.me.0 at (entry seat.old.me.0.from c r (T.state x.value))) }
 {
-    board.shared.fetch_add::<Commit>(seat, 3 * at + 2, 1);
+    board.shared.fetch_add::<Commit>(seat, WORDS * at + 1, 1);
 }
 
-/// Gives the value back, and serves the next ticket.
-pub(crate) fn pass_on<T: Kept>(board: &Board<T>, seat: &mut Place<T>, at: usize)
+/// Gives the value back.
+pub(crate) fn release<T: Kept>(board: &Board<T>, seat: &mut Place<T>, at: usize)
     requires own { seat.old.table_id ≡ board.now.shared.table_id }
-    requires word { (3 * at + 3 ≤ board.now.shared.table_id.words) × (at < board.now.shared.table_id.slots) }
-    requires fits { 3 * at + 3 < 2 ^ 64 }
-    requires holding { (t : ℕ) × (seat.old.me.0.stage ≡ Holding at t) }
+    requires word { (WORDS * at + WORDS ≤ board.now.shared.table_id.words) × (WORDS * at + WORDS < 2 ^ 64) × (at < board.now.shared.table_id.slots) }
+    requires holding { seat.old.me.0.stage ≡ Holding at }
     requires held { (x : _) × (seat.old.me.1 ≡ (at, x) ∷ [])
         × ((o : _) → get_elem? seat.old.me.0.opens at ≡ some o → (T.name x.value ≡ o.0) × (T.state x.value ≡ last_of o.1 (seen_at seat.old.me.0 at))) }
     ensures own { seat.new.table_id ≡ seat.old.table_id }
     ensures free { (x : _) → seat.old.me.1 ≡ (at, x) ∷ [] → seat.new.me.1 ≡ [] }
     ensures view { seat.new.me.0 ≡ at_stage seat.old.me.0 Idle }
 {
-    board.shared.fetch_add::<Next>(seat, 3 * at + 1, 1);
+    board.shared.store::<Give>(seat, WORDS * at, 0);
 }

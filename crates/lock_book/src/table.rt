@@ -1,23 +1,21 @@
 //! The table of a shelf: its words, its slots and the steps on them.
 //!
-//! Of the value at place i, word 3 i is the number of tickets drawn, word 3 i + 1 the number served and word 3 i + 2
-//! the length of its history, each modulo 2^64; slot i has the value while nobody holds it. Who may change which, and
-//! when:
+//! Of the value at place i, word 2 i is 1 while a caller has the value and 0 while it is free, and word 2 i + 1 is the
+//! length of its history modulo 2^64; slot i has the value while it is free. Who may change which, and when:
 //!
-//! - tickets drawn: any caller, by a fetch-add of 1, to stand in the queue of the value (`Ticket`);
-//! - the slot: the caller whose ticket is the number served takes the value out, at the load that finds so (`Turn`),
-//!   and puts it back when it passes the turn on; in between only that caller reads or writes it;
-//! - length of the history: only the caller that holds the value, by a fetch-add of 1 after it applied its call
+//! - the lock's word from 0 to 1: any caller that has no value, by a compare-and-exchange, which takes the value out of
+//!   its slot (`Take`); where it finds 1 it changes nothing;
+//! - the value: only the caller that has it reads or writes it;
+//! - length of the history: only the caller that has the value, by a fetch-add of 1 after it applied its call
 //!   (`Commit`);
-//! - tickets served: only the caller that holds the value, by a fetch-add of 1, which also puts the value back
-//!   (`Next`).
+//! - the lock's word from 1 to 0: only the caller that has the value, by a store, which puts the value back (`Give`).
 //!
-//! A caller that waits for its turn loads the number served again and again and backs off in between (`Backoff`). A
-//! look (`Look`) is a load that changes nothing but what the caller knows. Passes are cut off and joined by `Callers`,
-//! and told what others have seen by `Note`. The rule is `Ruled` of specs/Ruled.
+//! Nobody stands in line: a caller that found 1 reads the word until it is 0, backs off in between (`Backoff`), and
+//! tries again. A look (`Look`) is a load that changes nothing but what the caller knows. Passes are cut off and joined
+//! by `Callers`, and told what others have seen by `Note`. The rule is `Ruled` of specs/Ruled.
 
 ghost use Rattle.lock_book.specs.History.{made_of};
-ghost use Rattle.lock_book.specs.Ruled.{Ruled, newcomers, ticketed, turned_to, committed, passed_on, looked, first_caller, other_callers, note, informed, together, nobody};
+ghost use Rattle.lock_book.specs.Ruled.{Ruled, newcomers, tried, committed, given_back, looked, first_caller, other_callers, note, informed, together, nobody};
 
 use crate::Kept;
 use crate::noted::Noted;
@@ -25,6 +23,9 @@ use crate::view::View;
 use atomic_table::{Join, Play, Seat, Split, Table, TableRule};
 use std::alloc::Global;
 use std::collections::LinkedList;
+
+/// How many words a value has.
+pub(crate) const WORDS: usize = 2;
 
 /// A locked value, with the input and the output of its last turn, which take no bytes.
 #[derive(Drop)]
@@ -59,18 +60,11 @@ impl<T: Kept> TableRule<Held<T>, Known<T>, About<T>> for Turns {
     ghost first = { λ k. newcomers k.0.value k.1 };
 }
 
-/// A ticket is drawn.
-pub struct Ticket;
+/// The value is taken, or was not free.
+pub struct Take;
 
-impl<T: Kept> Play<Held<T>, Known<T>> for Ticket {
-    ghost then = { ticketed (λ x. T.name x.value) (λ x. T.state x.value) T.legal };
-}
-
-/// The turn comes, or does not.
-pub struct Turn;
-
-impl<T: Kept> Play<Held<T>, Known<T>> for Turn {
-    ghost then = { turned_to (λ x. T.name x.value) (λ x. T.state x.value) T.legal };
+impl<T: Kept> Play<Held<T>, Known<T>> for Take {
+    ghost then = { tried (λ x. T.name x.value) (λ x. T.state x.value) T.legal };
 }
 
 /// A call goes into the history.
@@ -80,11 +74,11 @@ impl<T: Kept> Play<Held<T>, Known<T>> for Commit {
     ghost then = { committed (λ x. T.name x.value) (λ x. T.state x.value) T.legal (λ x. made_of T.call T.reply x.made) };
 }
 
-/// The value goes back, and the next ticket is served.
-pub struct Next;
+/// The value goes back.
+pub struct Give;
 
-impl<T: Kept> Play<Held<T>, Known<T>> for Next {
-    ghost then = { passed_on (λ x. T.name x.value) (λ x. T.state x.value) T.legal };
+impl<T: Kept> Play<Held<T>, Known<T>> for Give {
+    ghost then = { given_back (λ x. T.name x.value) (λ x. T.state x.value) T.legal };
 }
 
 /// What was seen and what was told of are put together.

@@ -10,14 +10,12 @@ pub struct Entry<S, C, R> {
     pub after: S,
 }
 
-/// Where a seat stands in a queue: the value's place and its ticket.
+/// Whether a seat has a value.
 pub enum Stage {
-    /// In no queue.
+    /// It has none.
     Idle,
-    /// With a ticket that was not served yet.
-    Waiting(u64, u64),
-    /// With the value.
-    Holding(u64, u64),
+    /// It has the value at this place.
+    Holding(u64),
 }
 
 /// What is known of a shelf by the callers that a seat stands for.
@@ -34,6 +32,6 @@ pub struct View<N, S, C, R> {
     pub seen: LinkedList<LinkedList<Entry<S, C, R>>>,
     /// Of each value, the history that the seat was told of.
     pub told: LinkedList<LinkedList<Entry<S, C, R>>>,
-    /// The place in a queue, of a seat of one caller.
+    /// Whether the seat has a value; only one of one caller may.
     pub stage: Stage,
 }
