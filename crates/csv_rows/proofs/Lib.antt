@@ -1,5 +1,12 @@
 pub mod AllRecords
+pub mod Compose
 pub mod Ends
 pub mod Filled
+pub mod Follows
 pub mod Groups
+pub mod Joined
+pub mod Machine
+pub mod Marks
+pub mod Parts
+pub mod Scans
 pub mod Stands

@@ -1,3 +1,6 @@
+pub mod Cuts
+pub mod Pieces
+pub mod Places
 pub mod Records
 pub mod RowEnds
 pub mod Store

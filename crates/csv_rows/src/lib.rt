@@ -1,20 +1,29 @@
 //! From the bytes of a source to a store of their records.
 //!
 //! [`read_all`] takes all bytes that a [`Source`](par_io::Source) has left; [`rows`] cuts them into
-//! records, as RFC 4180 has them, through the crate `csv`; [`RowStore`] keeps the records in a
-//! few lists of numbers, with no allocation for a record or a field. The store keeps that the places
-//! in its lists rise, so that each record and each field is a run of them.
+//! records, as RFC 4180 has them, through the crate `csv`, and [`rows_in_threads`] does so in several
+//! threads; [`RowStore`] keeps the records in a few lists of numbers, with no allocation for a record
+//! or a field.
+//!
+//! Threads share out the bytes: these are cut in front of line feeds that stand outside quotes, and
+//! each part is read into a piece of the store. No thread waits for another one but at its end.
 
 #![tactic(auto)]
 
+mod cut;
 mod input;
+mod piece;
+mod pieces;
+mod place;
+mod reading;
 mod records;
 mod row_ends;
+mod scan;
 mod store;
 #[cfg(test)]
 mod tests;
 
 pub use input::{MOST_BYTES, ReadAnswer, read_all};
 pub use par_model::read_integer;
-pub use records::{MOST_RECORDS, RowsAnswer, rows};
-pub use store::RowStore;
+pub use records::{MOST_RECORDS, RowsAnswer, rows, rows_in_threads};
+pub use store::{NearRows, Record, RowStore};

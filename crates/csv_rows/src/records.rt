@@ -1,13 +1,13 @@
-//! The records of bytes, as the crate `csv` reads them, put into a store.
+//! The records of bytes, read in the caller's thread or in several.
 
 ghost use Rattle.std.specs.Prelude.{◌≡◌, ◌<◌, ◌≤◌, [], IfOk, OnOk, length};
 ghost use Rattle.csv_rows.specs.Records.{records_of};
 ghost use Rattle.csv_rows.specs.declared.records.RowsAnswer.TheVariants as answer;
 
-use crate::row_ends::RowEnds;
-use crate::store::{RowStore, push_record};
-use csv::{ByteRecord, ErrorKind, ReaderBuilder};
+use crate::pieces::{read_one, read_pieces};
+use crate::store::RowStore;
 use std::alloc::Global;
+use std::thread::Threads;
 
 /// The most records that a store has: the header and 4,194,304 rows.
 pub const MOST_RECORDS: u64 = 4_194_305;
@@ -21,6 +21,9 @@ pub enum RowsAnswer {
     Memory,
 }
 
+/// The fewest bytes for which one more thread pays.
+const LEAST_BYTES: usize = 65_536;
+
 /// The records of bytes. The time is linear in the bytes. The memory is the bytes of the fields,
 /// four bytes for each field, and four for each record from the first one on whose width is not
 /// the header's, each at most twice over.
@@ -33,29 +36,28 @@ pub fn rows(alloc: Global, bytes: &[u8]) -> Result<RowStore, RowsAnswer>
     ensures no_header { result ≡ Err answer.NoHeader → records_of bytes.now ≡ [] }
     ensures too_many { result ≡ Err answer.TooManyRows → MOST_RECORDS < length (records_of bytes.now) }
 {
-    let mut rdr = ReaderBuilder::new()
-        .has_headers(false)
-        .flexible(true)
-        .from_reader(alloc, bytes);
-    let mut row = ByteRecord::new(alloc);
-    let mut text = Vec::new(alloc);
-    let mut ends = Vec::new(alloc);
-    let mut row_ends = RowEnds::new(alloc);
-    'records: for _n in 0..=MOST_RECORDS {
-        match rdr.read_byte_record(&mut row) {
-            Ok(true) => {
-                if push_record(&mut text, &mut ends, &mut row_ends, &row).is_err() {
-                    return Err(RowsAnswer::Memory);
-                }
-            }
-            Ok(false) if row_ends.is_empty() => return Err(RowsAnswer::NoHeader),
-            Ok(false) => return Ok(RowStore::of_lists(text, ends, row_ends)),
-            Err(error) => match error.kind() {
-                // A flexible reader takes records of any length.
-                ErrorKind::UnequalLengths { .. } => unreachable!(),
-                _ => return Err(RowsAnswer::Memory),
-            },
-        }
+    match read_one(alloc, bytes) {
+        Ok(pieces) => RowStore::of_pieces(pieces),
+        Err(why) => Err(why),
     }
-    Err(RowsAnswer::TooManyRows)
+}
+
+/// The same, read by at most this many threads, the caller's among them. The time is that of [`rows`], shared out among
+/// the threads, and one look at each byte more. A text below 65,536 bytes for each thread is read by fewer.
+pub fn rows_in_threads<R: Threads + Sync>(
+    rt: &R,
+    alloc: Global,
+    bytes: &[u8],
+    threads: usize,
+) -> Result<RowStore, RowsAnswer>
+    ensures records { IfOk result (λ store. store ≡ records_of bytes.now) }
+    ensures some { OnOk result (0 < length (records_of bytes.now)) }
+    ensures few { OnOk result (length (records_of bytes.now) ≤ MOST_RECORDS) }
+    ensures no_header { result ≡ Err answer.NoHeader → records_of bytes.now ≡ [] }
+    ensures too_many { result ≡ Err answer.TooManyRows → MOST_RECORDS < length (records_of bytes.now) }
+{
+    match read_pieces(rt, alloc, bytes, threads.min(bytes.len() / LEAST_BYTES)) {
+        Ok(pieces) => RowStore::of_pieces(pieces),
+        Err(why) => Err(why),
+    }
 }

@@ -1,54 +1,53 @@
-//! A store of records with no allocation for a record or a field.
+//! A store of records, in pieces that stand one after the other.
 //!
-//! Every field's bytes stand one after the other in one list; a second list has the place where each
-//! field ends among the bytes, and [`RowEnds`] the place where each record ends among the fields. In
-//! both the places rise, so a field is a run of bytes and a record a run of fields.
+//! A record is looked for among the pieces, of which there are at most as many as threads read them. Who goes through
+//! the records in turn keeps a [`NearRows`], which searches only where a piece ends.
 
-ghost use Rattle.std.specs.Prelude.{◌≡◌, ◌<◌, ◌≤◌, ◌∷◌, ◌++◌, ◌+◌, ℕ, List, [], IfOk, OnOk, drop, get_or, length, take};
-ghost use Rattle.csv.specs.Records.{cut_from, fields_of, prev, text_of};
+ghost use Rattle.std.specs.Prelude.{◌≡◌, ◌<◌, ◌≤◌, ◌+◌, [], IfErr, IfOk, IfSome, OnOk, get_or, length, slice_index_or, vec_len};
+ghost use Rattle.csv_rows.specs.Pieces.{IsPieceAt, joined};
 ghost use Rattle.csv_rows.specs.Records.{field_of, record_at};
-ghost use Rattle.csv_rows.specs.Store.{Covers, stored};
+ghost use Rattle.csv_rows.specs.declared.records.RowsAnswer.TheVariants as answer;
 
-use crate::records::MOST_RECORDS;
-use crate::row_ends::RowEnds;
-use csv::ByteRecord;
-use std::alloc::AllocError;
+use crate::piece::Piece;
+use crate::records::{MOST_RECORDS, RowsAnswer};
 use std::marker::Model;
 
 /// A list of records, each a list of fields. Record 0 is the header of the table and is always there; the rows of the
 /// table are the records from 1 on, of which there are at most 4,194,304. So a record's number is its row's.
 #[derive(Drop)]
 pub struct RowStore {
-    bytes: Vec<u8>,
-    ends: Vec<u32>,
-    row_ends: RowEnds,
+    pieces: Vec<Piece>,
+    last: u64,
 }
 
 impl Model for RowStore {
     ghost use Rattle.std.specs.Prelude.{ℕ, List};
-    ghost use Rattle.csv_rows.specs.Store.{IsStore, stored};
+    ghost use Rattle.csv_rows.specs.Pieces.{IsLast, joined};
 
     ghost Value = { List (List (List ℕ)) };
 
-    ghost view = { λ s. stored s.bytes.items s.ends.items s.row_ends };
+    ghost view = { λ s. joined s.pieces.items };
 
-    ghost invariant = { λ s. IsStore s.bytes.items s.ends.items s.row_ends };
+    ghost invariant = { λ s. IsLast (joined s.pieces.items) s.last };
 }
 
 impl RowStore {
-    /// The store of these lists.
-    pub(crate) fn of_lists(bytes: Vec<u8>, ends: Vec<u32>, row_ends: RowEnds) -> RowStore
-        requires fields { Covers ends.items (length bytes.items) }
-        requires rows { Covers row_ends (length ends.items) }
-        requires some { 0 < length row_ends }
-        requires few { length row_ends ≤ MOST_RECORDS }
-        ensures { result ≡ stored bytes.items ends.items row_ends }
+    /// The store of these pieces, if they have records and not too many.
+    pub(crate) fn of_pieces(pieces: Vec<Piece>) -> Result<RowStore, RowsAnswer>
+        ensures records { IfOk result (λ store. store ≡ joined pieces.items) }
+        ensures some { OnOk result (0 < length (joined pieces.items)) }
+        ensures few { OnOk result (length (joined pieces.items) ≤ MOST_RECORDS) }
+        ensures no_header { result ≡ Err answer.NoHeader → joined pieces.items ≡ [] }
+        ensures too_many { result ≡ Err answer.TooManyRows → MOST_RECORDS < length (joined pieces.items) }
     {
-        RowStore {
-            bytes,
-            ends,
-            row_ends,
+        let total = count_all(&pieces)?;
+        if total == 0 {
+            return Err(RowsAnswer::NoHeader);
         }
+        Ok(RowStore {
+            pieces,
+            last: total - 1,
+        })
     }
 
     /// How many rows there are beside the header, which is also the number of the last record.
@@ -56,121 +55,156 @@ impl RowStore {
         ensures rows { result + 1 ≡ length self.now }
         ensures few { result < MOST_RECORDS }
     {
-        self.row_ends.len() as u64 - 1
+        self.last
     }
 
-    /// How many fields a record has, the header being record 0. In constant time.
+    /// How many fields a record has, the header being record 0. The time is that of [`RowStore::find`].
     pub fn width(&self, row: u64) -> u32
         requires { row < length self.now }
         ensures { result ≡ length (record_at self.now row) }
     {
-        self.row_ends.width(row as usize)
+        self.find(row).width()
     }
 
-    /// A field of a record, the header being record 0. In constant time.
+    /// A field of a record, the header being record 0. The time is that of [`RowStore::find`].
     pub fn field(&self, row: u64, at: u32) -> &[u8]
         requires row { row < length self.now }
         requires place { at < length (record_at self.now row) }
         ensures { result.now ≡ field_of self.now row at }
     {
-        let first = self.row_ends.start(row as usize);
-        let (start, end) = span(&self.ends, first + at as usize);
-        &self.bytes.as_slice()[start as usize..end as usize]
+        self.find(row).field(at)
     }
-}
 
-/// Where the field at this place starts and ends.
-fn span(ends: &Vec<u32>, i: usize) -> (u32, u32)
-    requires { i < length ends.now.items }
-    ensures start { result.0 ≡ prev 0 ends.now.items i }
-    ensures end { result.1 ≡ get_or ends.now.items i 0 }
-{
-    let start = if i == 0 { 0 } else { ends[i - 1] };
-    (start, ends[i])
-}
-
-/// Adds a record to the lists of a store. After a refusal they are only dropped.
-pub(crate) fn push_record(
-    bytes: &mut Vec<u8>,
-    ends: &mut Vec<u32>,
-    row_ends: &mut RowEnds,
-    row: &ByteRecord,
-) -> Result<(), AllocError>
-    requires fields { Covers ends.old.items (length bytes.old.items) }
-    requires rows { Covers row_ends.old (length ends.old.items) }
-    ensures fields { OnOk result (Covers ends.new.items (length bytes.new.items)) }
-    ensures rows { OnOk result (Covers row_ends.new (length ends.new.items)) }
-    ensures stored { OnOk result (stored bytes.new.items ends.new.items row_ends.new ≡ stored bytes.old.items ends.old.items row_ends.old ++ fields_of row.now ∷ []) }
-    ensures count { OnOk result (length row_ends.new ≡ length row_ends.old + 1) }
-{
-    push_fields(bytes, ends, row)?;
-    row_ends.push(ends.len())
-}
-
-/// Adds the fields of a record: the bytes of all of them in one copy, and then their ends. The contracts of csv tie a
-/// field to a place of the record's text only while no field behind the first is empty. So from the first such field on
-/// each is copied by itself.
-fn push_fields(bytes: &mut Vec<u8>, ends: &mut Vec<u32>, row: &ByteRecord) -> Result<(), AllocError>
-    requires covers { Covers ends.old.items (length bytes.old.items) }
-    ensures covers { OnOk result (Covers ends.new.items (length bytes.new.items)) }
-    ensures fields { OnOk result (cut_from 0 ends.new.items bytes.new.items ≡ cut_from 0 ends.old.items bytes.old.items ++ fields_of row.now) }
-{
-    let from = bytes.len();
-    bytes.extend_from_slice(row.as_slice())?;
-    let (count, end) = push_ends(ends, bytes.as_slice(), from, row)?;
-    bytes.truncate(end);
-    'fields: for i in count..row.len() {
-        if let Some(field) = row.get(i) {
-            push_field(bytes, ends, field)?;
+    /// A record, the header being record 0. In constant time where one thread read the records, and otherwise in time
+    /// linear in how many threads did.
+    pub fn find(&self, row: u64) -> Record<'_>
+        requires { row < length self.now }
+        ensures { result ≡ record_at self.now row }
+    {
+        let (piece, first) = find_piece(&self.pieces, row);
+        Record {
+            piece: &self.pieces[piece],
+            row: row - first,
         }
     }
-    Ok(())
-}
 
-/// Adds the ends of the first fields of a record, whose text stands from this place on: those in front of an empty
-/// field that is not the first of all. Says how many they are, and where the last of them ends.
-fn push_ends(
-    ends: &mut Vec<u32>,
-    bytes: &[u8],
-    from: usize,
-    row: &ByteRecord,
-) -> Result<(usize, usize), AllocError>
-    requires covers { Covers ends.old.items from }
-    requires text { drop from bytes.now ≡ text_of row.now }
-    requires within { from ≤ length bytes.now }
-    ensures covers { IfOk result (λ r. Covers ends.new.items r.1) }
-    ensures within { IfOk result (λ r. r.1 ≤ length bytes.now) }
-    ensures fields { IfOk result (λ r. cut_from 0 ends.new.items bytes.now ≡ cut_from 0 ends.old.items bytes.now ++ take r.0 (fields_of row.now)) }
-{
-    let mut end = from;
-    'fields: for i in 0..row.len() {
-        match row.get(i) {
-            Some(field) if i == 0 || !field.is_empty() => {
-                end += field.len();
-                push_end(ends, end)?;
-            }
-            _ => return Ok((i, end)),
+    /// The records, of which those near this one are found in constant time.
+    pub fn near(&self, row: u64) -> NearRows<'_>
+        requires { row < length self.now }
+        ensures { result ≡ self.now }
+    {
+        let (piece, first) = find_piece(&self.pieces, row);
+        NearRows {
+            rows: self,
+            piece: &self.pieces[piece],
+            first,
         }
     }
-    Ok((row.len(), end))
 }
 
-/// Adds one field.
-fn push_field(bytes: &mut Vec<u8>, ends: &mut Vec<u32>, field: &[u8]) -> Result<(), AllocError>
-    requires covers { Covers ends.old.items (length bytes.old.items) }
-    ensures covers { OnOk result (Covers ends.new.items (length bytes.new.items)) }
-    ensures fields { OnOk result (cut_from 0 ends.new.items bytes.new.items ≡ cut_from 0 ends.old.items bytes.old.items ++ field.now ∷ []) }
-{
-    bytes.extend_from_slice(field)?;
-    push_end(ends, bytes.len())
+/// A record where it lies in its store: a list of fields.
+#[derive(Drop)]
+pub struct Record<'a> {
+    piece: &'a Piece,
+    row: u64,
 }
 
-/// Adds the end of one field.
-fn push_end(ends: &mut Vec<u32>, end: usize) -> Result<(), AllocError>
-    ensures { OnOk result (ends.new.items ≡ ends.old.items ++ end ∷ []) }
-{
-    if end > u32::MAX as usize || ends.push(end as u32).is_err() {
-        return Err(AllocError);
+impl<'a> Model for Record<'a> {
+    ghost use Rattle.std.specs.Prelude.{◌<◌, ℕ, List, length};
+    ghost use Rattle.csv_rows.specs.Records.{record_at};
+
+    ghost Value = { List (List ℕ) };
+
+    ghost view = { λ r. record_at r.piece.now r.row };
+
+    ghost invariant = { λ r. r.row < length r.piece.now };
+}
+
+impl<'a> Record<'a> {
+    /// How many fields it has. In constant time.
+    pub fn width(&self) -> u32
+        ensures { result ≡ length self.now }
+    {
+        self.piece.width(self.row)
     }
-    Ok(())
+
+    /// A field of it. In constant time.
+    pub fn field(&self, at: u32) -> &'a [u8]
+        requires { at < length self.now }
+        ensures { result.now ≡ get_or self.now at [] }
+    {
+        self.piece.field(self.row, at)
+    }
+}
+
+/// The records of a store, for a caller that goes through them in turn: those of one piece are found without a search.
+#[derive(Drop)]
+pub struct NearRows<'a> {
+    rows: &'a RowStore,
+    piece: &'a Piece,
+    first: u64,
+}
+
+impl<'a> Model for NearRows<'a> {
+    ghost use Rattle.std.specs.Prelude.{ℕ, List};
+    ghost use Rattle.csv_rows.specs.Pieces.{IsPieceAt};
+
+    ghost Value = { List (List (List ℕ)) };
+
+    ghost view = { λ n. n.rows.now };
+
+    ghost invariant = { λ n. IsPieceAt n.rows.now n.first n.piece.now };
+}
+
+impl<'a> NearRows<'a> {
+    /// A record, the header being record 0. In constant time where it stands in the piece, and otherwise in the time of
+    /// [`RowStore::find`].
+    pub fn find(&self, row: u64) -> Record<'a>
+        requires { row < length self.now }
+        ensures { result ≡ record_at self.now row }
+    {
+        if row < self.first || row - self.first > self.piece.last() {
+            return self.rows.find(row);
+        }
+        Record {
+            piece: self.piece,
+            row: row - self.first,
+        }
+    }
+}
+
+/// How many records the pieces have, unless they are too many.
+fn count_all(pieces: &Vec<Piece>) -> Result<u64, RowsAnswer>
+    ensures count { IfOk result (λ total. total ≡ length (joined pieces.now.items)) }
+    ensures few { IfOk result (λ total. total ≤ MOST_RECORDS) }
+    ensures too_many { IfErr result (λ why. (why ≡ answer.TooManyRows) × (MOST_RECORDS < length (joined pieces.now.items))) }
+{
+    let mut total = 0;
+    'pieces: for at in 0..pieces.len() {
+        let last = pieces[at].last();
+        if last >= MOST_RECORDS - total {
+            return Err(RowsAnswer::TooManyRows);
+        }
+        total += last + 1;
+    }
+    Ok(total)
+}
+
+/// The piece that has the record of this number, and the number of its first record.
+fn find_piece(pieces: &Vec<Piece>, row: u64) -> (usize, u64)
+    requires { row < length (joined pieces.now.items) }
+    ensures piece { result.0 < vec_len pieces.now }
+    ensures first { result.1 ≤ row }
+    ensures within { row < result.1 + length (slice_index_or pieces.now.items result.0 []) }
+    ensures is { IsPieceAt (joined pieces.now.items) result.1 (slice_index_or pieces.now.items result.0 []) }
+{
+    let mut first = 0;
+    'pieces: for at in 0..pieces.len() {
+        let last = pieces[at].last();
+        if row - first <= last {
+            return (at, first);
+        }
+        first += last + 1;
+    }
+    unreachable!()
 }

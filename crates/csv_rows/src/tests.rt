@@ -3,10 +3,12 @@
 ghost use Rattle.std.specs.Prelude.{◌≡◌, IfSome};
 ghost use Rattle.csv_rows.specs.Records.{records_of};
 
-use crate::{RowStore, read_all, read_integer, rows};
+use crate::pieces::read_pieces;
+use crate::{RowStore, RowsAnswer, read_all, read_integer, rows, rows_in_threads};
 use par_io::{MemSource, Source};
 use std::alloc::{AllocError, Global};
 use std::test::Fail;
+use std::thread::Threads;
 
 /// The records of what a source has left, if it can be read: the caller of CALLING.md.
 fn stored_records<S: Source>(alloc: Global, source: &mut S) -> Option<RowStore>
@@ -27,6 +29,32 @@ fn shown(alloc: Global, store: &RowStore) -> Result<Vec<u8>, AllocError> {
         text.extend_from_slice(b"/")?;
     }
     Ok(text)
+}
+
+/// The same of the records near the header.
+fn shown_near(alloc: Global, store: &RowStore) -> Result<Vec<u8>, AllocError> {
+    let mut text = Vec::new(alloc);
+    let last = store.count();
+    let near = store.near(0);
+    for row in 0..=last {
+        let record = near.find(row);
+        for at in 0..record.width() {
+            text.extend_from_slice(record.field(at))?;
+            text.extend_from_slice(b"|")?;
+        }
+        text.extend_from_slice(b"/")?;
+    }
+    Ok(text)
+}
+
+/// The records of a text that is read in so many parts.
+fn in_parts<R: Threads + Sync>(
+    rt: &R,
+    alloc: Global,
+    text: &[u8],
+    parts: usize,
+) -> Result<RowStore, RowsAnswer> {
+    RowStore::of_pieces(read_pieces(rt, alloc, text, parts)?)
 }
 
 /// Ragged rows, the first of them early, late and in the middle; quotes in odd places and quotes left open; bytes that
@@ -85,6 +113,72 @@ fn odd_text(rt: HostRuntime) -> Result<(), Fail> {
     }
     for text in [b"".as_slice(), b"\n\r\n", b"\xEF\xBB\xBF", b"\r\r"] {
         assert!(rt; rows(rt.alloc(), text).is_err(), "{text:?}");
+    }
+    Ok(())
+}
+
+/// Cuts at line feeds and around them: empty lines, carriage returns, byte order marks at the start and behind a cut,
+/// quotes in odd places, open, doubled and with line feeds between them.
+#[test]
+fn odd_cuts(rt: HostRuntime) -> Result<(), Fail> {
+    let texts: [&[u8]; 15] = [
+        b"a,b\n1,2\n3,4\n5,6\n",
+        b"a,b\n1,2\n3,4,5\n6",
+        b"a\r\n1\r\n2\r\n3\r\n",
+        b"a\n\n\n\n1\n\n2\n",
+        b"\n\n\n\n\na\n",
+        b"a\r1\r2\r3",
+        b"\xEF\xBB\xBFg\n\xEF\xBB\xBF5\n\xEF\xBB\xBF6\n\xEF\xBB\xBF\n",
+        b"\xEF\xBB\xBF\"g\nh\"\n\xEF\xBB\xBF\"5\n6\"\n",
+        b"\xEF\xBB\n\xEF\xBB\xBF\n",
+        b"a\n\"x\ny\nz\nw\n",
+        b"a\n\"x\ny\",\"z\n\"\"\nw\"\nv\n",
+        b"a\"b\n\"c\"d\ne\"\"f\n\"\"\"\n\"\n",
+        b"\"a\",\"b\"\n\"1\n\",\"\n2\"\n3,4\n",
+        b"v\n\"\r\n\"\r\n\"\n",
+        b"a,\"\n,\",b\n,\"\"\n\"\",\n",
+    ];
+    for text in texts {
+        for parts in 2..8 {
+            match (
+                in_parts(&rt, rt.alloc(), text, parts),
+                rows(rt.alloc(), text),
+            ) {
+                (Ok(store), Ok(whole)) => {
+                    let found = shown_near(rt.alloc(), &store)?;
+                    let want = shown(rt.alloc(), &whole)?;
+                    assert!(rt; found.as_slice() == want.as_slice(), "{text:?} in {parts}");
+                }
+                _ => assert!(rt; false, "{text:?} in {parts}"),
+            }
+        }
+    }
+    assert!(rt;
+        matches!(
+            in_parts(&rt, rt.alloc(), b"\n\n\n", 3),
+            Err(RowsAnswer::NoHeader)
+        )
+    );
+    Ok(())
+}
+
+/// A table that is long enough for threads is read in as many pieces as there are threads.
+#[test]
+fn long_table(rt: HostRuntime) -> Result<(), Fail> {
+    let mut text = Vec::new(rt.alloc());
+    for _row in 0..40_000 {
+        text.extend_from_slice(b"12,\"3\n4\"\n")?;
+    }
+    let pieces = read_pieces(&rt, rt.alloc(), text.as_slice(), 4);
+    assert!(rt; matches!(&pieces, Ok(pieces) if pieces.len() == 4));
+    match rows_in_threads(&rt, rt.alloc(), text.as_slice(), 4) {
+        Ok(store) => {
+            let last = store.count();
+            assert!(rt; last == 39_999 && store.width(last) == 2);
+            let record = store.find(last);
+            assert!(rt; record.width() == 2 && record.field(1) == b"3\n4".as_slice());
+        }
+        Err(why) => assert!(rt; false, "{why:?}"),
     }
     Ok(())
 }

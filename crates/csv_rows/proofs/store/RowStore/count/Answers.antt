@@ -1,9 +1,0 @@
-use Rattle.std.proofs.Common.{rules}
-use Rattle.csv_rows.proofs.Groups.{stored-length}
-use Rattle.csv_rows.proofs.store.RowStore.count.Goals as goal
-
-pub returns : goal.returns
-returns c =
-    let n = stored-length c.self.inside.bytes.items c.self.inside.ends.items c.self.inside.row_ends in
-    let some = c.self.invariant.some in
-    rw (← c.self.view_is, n) (search rules)

@@ -1,0 +1,175 @@
+//! A piece of a store: records with no allocation for a record or a field.
+//!
+//! Every field's bytes stand one after the other in one list; a second list has the place where each
+//! field ends among the bytes, and [`RowEnds`] the place where each record ends among the fields. In
+//! both the places rise, so a field is a run of bytes and a record a run of fields.
+
+ghost use Rattle.std.specs.Prelude.{◌≡◌, ◌<◌, ◌≤◌, ◌∷◌, ◌++◌, ◌+◌, ℕ, List, [], IfOk, OnOk, drop, get_or, length, take};
+ghost use Rattle.csv.specs.Records.{cut_from, fields_of, prev, text_of};
+ghost use Rattle.csv_rows.specs.Records.{field_of, record_at};
+ghost use Rattle.csv_rows.specs.Store.{Covers, stored};
+
+use crate::records::MOST_RECORDS;
+use crate::row_ends::RowEnds;
+use csv::ByteRecord;
+use std::alloc::AllocError;
+use std::marker::Model;
+
+/// A list of records, each a list of fields, of which there is at least one. They are numbered from 0 on.
+#[derive(Drop)]
+pub(crate) struct Piece {
+    bytes: Vec<u8>,
+    ends: Vec<u32>,
+    row_ends: RowEnds,
+}
+
+impl Model for Piece {
+    ghost use Rattle.std.specs.Prelude.{ℕ, List};
+    ghost use Rattle.csv_rows.specs.Store.{IsStore, stored};
+
+    ghost Value = { List (List (List ℕ)) };
+
+    ghost view = { λ s. stored s.bytes.items s.ends.items s.row_ends };
+
+    ghost invariant = { λ s. IsStore s.bytes.items s.ends.items s.row_ends };
+}
+
+impl Piece {
+    /// The piece of these lists.
+    pub(crate) fn of_lists(bytes: Vec<u8>, ends: Vec<u32>, row_ends: RowEnds) -> Piece
+        requires fields { Covers ends.items (length bytes.items) }
+        requires rows { Covers row_ends (length ends.items) }
+        requires some { 0 < length row_ends }
+        requires few { length row_ends ≤ MOST_RECORDS }
+        ensures { result ≡ stored bytes.items ends.items row_ends }
+    {
+        Piece {
+            bytes,
+            ends,
+            row_ends,
+        }
+    }
+
+    /// The number of the last record.
+    pub(crate) fn last(&self) -> u64
+        ensures last { result + 1 ≡ length self.now }
+        ensures few { result < MOST_RECORDS }
+    {
+        self.row_ends.len() as u64 - 1
+    }
+
+    /// How many fields a record has. In constant time.
+    pub(crate) fn width(&self, row: u64) -> u32
+        requires { row < length self.now }
+        ensures { result ≡ length (record_at self.now row) }
+    {
+        self.row_ends.width(row as usize)
+    }
+
+    /// A field of a record. In constant time.
+    pub(crate) fn field(&self, row: u64, at: u32) -> &[u8]
+        requires row { row < length self.now }
+        requires place { at < length (record_at self.now row) }
+        ensures { result.now ≡ field_of self.now row at }
+    {
+        let first = self.row_ends.start(row as usize);
+        let (start, end) = span(&self.ends, first + at as usize);
+        &self.bytes.as_slice()[start as usize..end as usize]
+    }
+}
+
+/// Where the field at this place starts and ends.
+fn span(ends: &Vec<u32>, i: usize) -> (u32, u32)
+    requires { i < length ends.now.items }
+    ensures start { result.0 ≡ prev 0 ends.now.items i }
+    ensures end { result.1 ≡ get_or ends.now.items i 0 }
+{
+    let start = if i == 0 { 0 } else { ends[i - 1] };
+    (start, ends[i])
+}
+
+/// Adds a record to the lists of a piece. After a refusal they are only dropped.
+pub(crate) fn push_record(
+    bytes: &mut Vec<u8>,
+    ends: &mut Vec<u32>,
+    row_ends: &mut RowEnds,
+    row: &ByteRecord,
+) -> Result<(), AllocError>
+    requires fields { Covers ends.old.items (length bytes.old.items) }
+    requires rows { Covers row_ends.old (length ends.old.items) }
+    ensures fields { OnOk result (Covers ends.new.items (length bytes.new.items)) }
+    ensures rows { OnOk result (Covers row_ends.new (length ends.new.items)) }
+    ensures stored { OnOk result (stored bytes.new.items ends.new.items row_ends.new ≡ stored bytes.old.items ends.old.items row_ends.old ++ fields_of row.now ∷ []) }
+    ensures count { OnOk result (length row_ends.new ≡ length row_ends.old + 1) }
+{
+    push_fields(bytes, ends, row)?;
+    row_ends.push(ends.len())
+}
+
+/// Adds the fields of a record: the bytes of all of them in one copy, and then their ends. The contracts of csv tie a
+/// field to a place of the record's text only while no field behind the first is empty. So from the first such field on
+/// each is copied by itself.
+fn push_fields(bytes: &mut Vec<u8>, ends: &mut Vec<u32>, row: &ByteRecord) -> Result<(), AllocError>
+    requires covers { Covers ends.old.items (length bytes.old.items) }
+    ensures covers { OnOk result (Covers ends.new.items (length bytes.new.items)) }
+    ensures fields { OnOk result (cut_from 0 ends.new.items bytes.new.items ≡ cut_from 0 ends.old.items bytes.old.items ++ fields_of row.now) }
+{
+    let from = bytes.len();
+    bytes.extend_from_slice(row.as_slice())?;
+    let (count, end) = push_ends(ends, bytes.as_slice(), from, row)?;
+    bytes.truncate(end);
+    'fields: for i in count..row.len() {
+        if let Some(field) = row.get(i) {
+            push_field(bytes, ends, field)?;
+        }
+    }
+    Ok(())
+}
+
+/// Adds the ends of the first fields of a record, whose text stands from this place on: those in front of an empty
+/// field that is not the first of all. Says how many they are, and where the last of them ends.
+fn push_ends(
+    ends: &mut Vec<u32>,
+    bytes: &[u8],
+    from: usize,
+    row: &ByteRecord,
+) -> Result<(usize, usize), AllocError>
+    requires covers { Covers ends.old.items from }
+    requires text { drop from bytes.now ≡ text_of row.now }
+    requires within { from ≤ length bytes.now }
+    ensures covers { IfOk result (λ r. Covers ends.new.items r.1) }
+    ensures within { IfOk result (λ r. r.1 ≤ length bytes.now) }
+    ensures fields { IfOk result (λ r. cut_from 0 ends.new.items bytes.now ≡ cut_from 0 ends.old.items bytes.now ++ take r.0 (fields_of row.now)) }
+{
+    let mut end = from;
+    'fields: for i in 0..row.len() {
+        match row.get(i) {
+            Some(field) if i == 0 || !field.is_empty() => {
+                end += field.len();
+                push_end(ends, end)?;
+            }
+            _ => return Ok((i, end)),
+        }
+    }
+    Ok((row.len(), end))
+}
+
+/// Adds one field.
+fn push_field(bytes: &mut Vec<u8>, ends: &mut Vec<u32>, field: &[u8]) -> Result<(), AllocError>
+    requires covers { Covers ends.old.items (length bytes.old.items) }
+    ensures covers { OnOk result (Covers ends.new.items (length bytes.new.items)) }
+    ensures fields { OnOk result (cut_from 0 ends.new.items bytes.new.items ≡ cut_from 0 ends.old.items bytes.old.items ++ field.now ∷ []) }
+{
+    bytes.extend_from_slice(field)?;
+    push_end(ends, bytes.len())
+}
+
+/// Adds the end of one field.
+fn push_end(ends: &mut Vec<u32>, end: usize) -> Result<(), AllocError>
+    ensures { OnOk result (ends.new.items ≡ ends.old.items ++ end ∷ []) }
+{
+    if end > u32::MAX as usize || ends.push(end as u32).is_err() {
+        return Err(AllocError);
+    }
+    Ok(())
+}

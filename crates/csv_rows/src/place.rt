@@ -1,0 +1,69 @@
+//! Where a scan for quotes stands in a text.
+//!
+//! A quote means one thing between quotes, another where a quoted text may begin, and a third in the middle of a field.
+//! Between two quotes only the last byte decides which of these the next one meets, so a scan looks at quotes and at the
+//! byte in front of each.
+
+ghost use Rattle.std.specs.Prelude.{◌≡◌};
+ghost use Rattle.csv_rows.specs.Places.{NoQuote, after_other, after_quote, place_after};
+
+use memchr::memchr;
+
+/// Between quotes, where a quote would begin such a text, or where it would be a byte as any other.
+#[derive(Clone, Copy, Drop, PartialEq, Eq)]
+pub(crate) enum Place {
+    Quoted,
+    Opens,
+    Inside,
+}
+
+/// Where a scan stands after these bytes, from a place before them.
+pub(crate) fn scanned(bytes: &[u8], start: Place) -> Place
+    ensures { result ≡ place_after start bytes.now }
+{
+    let mut place = start;
+    let mut at = 0;
+    'quotes: while let Some(count) = memchr(b'"', &bytes[at..]) {
+        place = past_quote(past_others(&bytes[at..at + count], place));
+        at += count + 1;
+    }
+    past_others(&bytes[at..], place)
+}
+
+/// After a quote.
+pub(crate) fn past_quote(place: Place) -> Place
+    ensures { result ≡ after_quote place }
+{
+    match place {
+        Place::Quoted => Place::Opens,
+        Place::Opens => Place::Quoted,
+        Place::Inside => Place::Inside,
+    }
+}
+
+/// After bytes of which none is a quote.
+pub(crate) fn past_others(bytes: &[u8], start: Place) -> Place
+    requires { NoQuote bytes.now }
+    ensures { result ≡ place_after start bytes.now }
+{
+    if bytes.is_empty() {
+        return start;
+    }
+    past_other(start, bytes[bytes.len() - 1])
+}
+
+/// After a byte that is no quote.
+fn past_other(start: Place, byte: u8) -> Place
+    ensures { result ≡ after_other start byte }
+{
+    match start {
+        Place::Quoted => Place::Quoted,
+        Place::Opens | Place::Inside => {
+            if byte == b',' || byte == b'\r' || byte == b'\n' {
+                Place::Opens
+            } else {
+                Place::Inside
+            }
+        }
+    }
+}
