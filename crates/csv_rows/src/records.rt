@@ -42,8 +42,9 @@ pub fn rows(alloc: Global, bytes: &[u8]) -> Result<RowStore, RowsAnswer>
     }
 }
 
-/// The same, read by at most this many threads, the caller's among them. The time is that of [`rows`], shared out among
-/// the threads, and one look at each byte more. A text below 65,536 bytes for each thread is read by fewer.
+/// The same, read by at most this many threads, the caller's among them. The work is that of [`rows`], shared out among
+/// the threads, and for each doubling of their number one more look at half of the bytes. Each thread has at least
+/// 65,536 bytes, so a short text is read by fewer.
 pub fn rows_in_threads<R: Threads + Sync>(
     rt: &R,
     alloc: Global,

@@ -15,8 +15,9 @@ ghost use Rattle.par_gather.specs.Ready.{AreRecordsOf, IsReady};
 ghost use Rattle.par_gather.specs.Stops.{Explains, IsEarly, IsExplained};
 ghost use Rattle.par_gather.specs.declared.stop.Stop.TheVariants as stop;
 
+use crate::reading::Reading;
 use crate::stop::Stop;
-use csv_rows::{RowStore, read_all, rows};
+use csv_rows::{RowStore, read_all};
 use par_io::Source;
 use par_model::BoundPlan;
 use plan_spec::Plan;
@@ -32,10 +33,11 @@ pub(crate) struct Ready {
 }
 
 /// Reads the words and the source. Where the words are no plan the source is not read.
-pub(crate) fn prepare<S: Source>(
+pub(crate) fn prepare<S: Source, W: Reading>(
     alloc: Global,
     words: &[String],
     source: &mut S,
+    reading: &W,
 ) -> Result<Ready, Stop>
     ensures ready { IfOk result (λ ready. IsReady (texts words.now) (S.left source.old) ready) }
     ensures why { IfErr result (λ why. IsExplained (plan_of (texts words.now)) (S.left source.old) why) }
@@ -45,13 +47,18 @@ pub(crate) fn prepare<S: Source>(
     ensures unread { IsNone (plan_of (texts words.now)) → source.new ≡ source.old }
 {
     let plan = Plan::of_words(alloc, words)?;
-    let rows = read_rows(alloc, &plan, source)?;
+    let rows = read_rows(alloc, &plan, source, reading)?;
     let bound = bind(alloc, &plan, &rows)?;
     Ok(Ready { plan, rows, bound })
 }
 
 /// Reads the source.
-fn read_rows<S: Source>(alloc: Global, plan: &Plan, source: &mut S) -> Result<RowStore, Stop>
+fn read_rows<S: Source, W: Reading>(
+    alloc: Global,
+    plan: &Plan,
+    source: &mut S,
+    reading: &W,
+) -> Result<RowStore, Stop>
     ensures records { IfOk result (λ rows. IfSome (S.left source.old) (λ bytes. AreRecordsOf rows bytes)) }
     ensures some { IfOk result (λ rows. (0 < length rows) × (length rows ≤ MOST_RECORDS)) }
     ensures why { IfErr result (λ why. IsExplained (Some plan.now.plan) (S.left source.old) why) }
@@ -59,7 +66,7 @@ fn read_rows<S: Source>(alloc: Global, plan: &Plan, source: &mut S) -> Result<Ro
     ensures early { IfErr result (λ why. IsEarly why) }
 {
     let bytes = read_all(alloc, source)?;
-    Ok(rows(alloc, bytes.as_slice())?)
+    Ok(reading.rows(alloc, bytes.as_slice(), plan.workers())?)
 }
 
 /// The plan over the columns of the records.

@@ -22,6 +22,7 @@ mod groups;
 mod input;
 mod names;
 mod output;
+mod reading;
 mod status;
 mod stop;
 
@@ -31,6 +32,7 @@ use input::prepare;
 use names::{stop_of_block, stop_of_gather};
 use output::write_table;
 use par_io::{Sink, Source};
+use reading::{Alone, InThreads};
 pub use status::{MISUSED, NO_MEMORY, READ_FAULT, REFUSED, TABLE, TOO_LARGE, WRITE_FAULT};
 use std::alloc::Global;
 use std::sync::Wait;
@@ -183,7 +185,7 @@ fn answer_alone<S: Source, O: Sink>(
     ensures unread { IsNone (plan_of (texts words.now)) → source.new ≡ source.old }
     ensures first { IfErr result (λ why. IfSome (S.left source.old) (λ bytes. IsFirstStop (plan_of (texts words.now)) why (outcome_over (plan_of (texts words.now)) bytes))) }
 {
-    let ready = prepare(alloc, words, source)?;
+    let ready = prepare(alloc, words, source, &Alone)?;
     match groups_of(alloc, &ready.rows, &ready.bound) {
         Ok(groups) => write_table(alloc, &ready, &groups, out),
         Err(answer) => Err(stop_of_block(alloc, &ready.plan, answer)),
@@ -214,7 +216,7 @@ fn answer_gathered<R: Threads + Wait + Sync, S: Source, O: Sink, G: Gate + Sync>
     ensures first { workers_of (texts words.now) ≡ Some 0 → IfErr result (λ why. IfSome (S.left source.old) (λ bytes.
         IsFirstStop (plan_of (texts words.now)) why (outcome_over (plan_of (texts words.now)) bytes))) }
 {
-    let ready = prepare(alloc, words, source)?;
+    let ready = prepare(alloc, words, source, &InThreads { rt })?;
     let gathered = match gather(
         rt,
         alloc,

@@ -16,7 +16,7 @@ ghost use Rattle.key_table.specs.Keys.{key_at, key_cmp};
 ghost use Rattle.csv_rows.specs.Records.{record_at};
 ghost use Rattle.par_model.specs.Plan.{Plan};
 ghost use Rattle.par_model.specs.Columns.{HasColumns};
-ghost use Rattle.partial_agg.specs.Blocks.{Explains, Stopped};
+ghost use Rattle.partial_agg.specs.Blocks.{ExplainsRow, Stopped};
 ghost use Rattle.partial_agg.specs.Groups.{AreGroups, added, with_rows};
 ghost use Rattle.partial_agg.specs.Listed.{listed};
 ghost use Rattle.partial_agg.specs.Values.{values_state};
@@ -27,7 +27,7 @@ use crate::groups::{Groups, SortedGroups};
 use crate::key::GroupKey;
 use crate::row::{RowBuffer, RowStatus, read_values};
 use crate::state::{add_values, combine, one_row};
-use csv_rows::RowStore;
+use csv_rows::{Record, RowStore};
 use key_table::KeyTable;
 use par_model::{AggState, BoundPlan, ITEM_CAUSE};
 use std::alloc::{AllocError, Global};
@@ -172,9 +172,12 @@ impl GroupMap {
         let last = rows.count();
         let first = BLOCK_ROWS * block + 1;
         let count = (last - first + 1).min(BLOCK_ROWS);
+        let near = rows.near(first);
+        let width = rows.width(0);
         let mut buffer = RowBuffer::new();
         for at in 0..count {
-            match self.add_read(&mut buffer, rows, first + at, plan) {
+            let number = first + at;
+            match self.add_read(&mut buffer, number, &near.find(number), width, plan) {
                 Ok(()) => {}
                 Err(answer) => return Err(answer),
             }
@@ -186,25 +189,25 @@ impl GroupMap {
     fn add_read(
         &mut self,
         buffer: &mut RowBuffer,
-        rows: &RowStore,
-        row: u64,
+        number: u64,
+        row: &Record<'_>,
+        width: u32,
         plan: &BoundPlan,
     ) -> Result<(), BlockAnswer>
-        requires row { row < length rows.now }
-        requires columns { HasColumns plan.now (header_width rows.now) }
-        ensures added { OnOk result (self.new ≡ with_rows plan.now self.old (record_at rows.now row ∷ [])) }
-        ensures accepted { OnOk result (IsAccepted plan.now (header_width rows.now) (record_at rows.now row)) }
-        ensures stopped { IfErr result (Explains plan.now rows.now row) }
+        requires { HasColumns plan.now width }
+        ensures added { OnOk result (self.new ≡ with_rows plan.now self.old (row.now ∷ [])) }
+        ensures accepted { OnOk result (IsAccepted plan.now width row.now) }
+        ensures stopped { IfErr result (ExplainsRow plan.now width row.now number) }
         ensures err { OnErr result (self.new ≡ self.old) }
     {
-        match buffer.read_key(rows, row, plan) {
+        match buffer.read_key(row, width, plan) {
             RowStatus::Refused(refusal) => Err(BlockAnswer::Row {
-                row,
+                row: number,
                 cause: refusal.cause,
                 item: refusal.item,
             }),
             RowStatus::LeftOut => Ok(()),
-            RowStatus::Kept => self.add_kept(buffer, rows, row, plan),
+            RowStatus::Kept => self.add_kept(buffer, number, row, width, plan),
         }
     }
 
@@ -213,24 +216,24 @@ impl GroupMap {
     fn add_kept(
         &mut self,
         buffer: &mut RowBuffer,
-        rows: &RowStore,
-        row: u64,
+        number: u64,
+        row: &Record<'_>,
+        width: u32,
         plan: &BoundPlan,
     ) -> Result<(), BlockAnswer>
-        requires row { row < length rows.now }
-        requires columns { HasColumns plan.now (header_width rows.now) }
-        requires kept { IsKeptBy plan.now (header_width rows.now) (record_at rows.now row) buffer.old.key }
-        ensures added { OnOk result (self.new ≡ with_rows plan.now self.old (record_at rows.now row ∷ [])) }
-        ensures accepted { OnOk result (IsAccepted plan.now (header_width rows.now) (record_at rows.now row)) }
-        ensures stopped { IfErr result (Explains plan.now rows.now row) }
+        requires columns { HasColumns plan.now width }
+        requires kept { IsKeptBy plan.now width row.now buffer.old.key }
+        ensures added { OnOk result (self.new ≡ with_rows plan.now self.old (row.now ∷ [])) }
+        ensures accepted { OnOk result (IsAccepted plan.now width row.now) }
+        ensures stopped { IfErr result (ExplainsRow plan.now width row.now number) }
         ensures err { OnErr result (self.new ≡ self.old) }
     {
         let known = self.keys.find(buffer.key.bytes());
         let items = plan.items();
-        match read_values(&mut buffer.values, rows, row, items) {
+        match read_values(&mut buffer.values, row, items) {
             Ok(()) => {}
             Err(item) => return Err(BlockAnswer::Row {
-                row,
+                row: number,
                 cause: ITEM_CAUSE,
                 item,
             }),

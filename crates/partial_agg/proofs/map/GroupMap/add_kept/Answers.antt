@@ -1,13 +1,11 @@
 use Rattle.std.proofs.Common.{◌≡◌, ◌∷◌, ◌∙◌, [], ap, sym, arith, List, ℕ, ℤ, Option, Some, None, reverse, length, map, take}
 use Rattle.std.specs.List.{position_from}
-use Rattle.csv_rows.specs.Records.{record_at}
 use Rattle.par_model.specs.Plan.{Plan}
 use Rattle.par_model.specs.Refuse.{is_unreadable}
 use Rattle.par_model.specs.declared.plan.Item.{Item}
 use Rattle.partial_agg.specs.Groups.{GroupsByKey, added, with_rows}
 use Rattle.partial_agg.specs.Values.{value_of, values_state}
 use Rattle.partial_agg.specs.Status.{IsKeptBy}
-use Rattle.partial_agg.specs.Rows.{header_width}
 use Rattle.par_model.specs.Key.{key_of}
 use Rattle.partial_agg.proofs.Blocks.{with_rows-kept}
 use Rattle.partial_agg.proofs.OneRow.{state_of_one}
@@ -43,12 +41,12 @@ returns-then-self-clause-added c =
     c.self.view_is (are_places keys count left c.self.inside.whole c.self.inside.sorted c.self.invariant)
     (place_whole keys count left c.self.inside.whole c.self.inside.sorted c.args.buffer.now.key c.in-Some.place c.self.invariant c.if-self.true (c.in-Some.ensures.found ∙ ap Some c.bytes.ensures.bytes))
     c.index_mut.ensures.value c.add_values.ensures
-    ∙ row_added c.args.plan.now (header_width c.args.rows.now) (record_at c.args.rows.now c.args.row) c.args.buffer.now.key c.items-items.result.now c.read_values.new.values c.args.self.now
+    ∙ row_added c.args.plan.now c.args.width c.args.row.now c.args.buffer.now.key c.items-items.result.now c.read_values.new.values c.args.self.now
     c.requires.kept c.items-items.ensures.items c.in-Ok.ensures.values c.in-Ok.ensures.readable
 
 pub returns-in-Ok-add_state-clause-added : goal.returns-in-Ok-add_state-clause-added
 returns-in-Ok-add_state-clause-added c =
     c.in-Ok-add_state.ensures.ok
     ∙ ap (λ (state : AggState). added c.args.self.now c.args.buffer.now.key state) c.one_row.ensures
-    ∙ row_added c.args.plan.now (header_width c.args.rows.now) (record_at c.args.rows.now c.args.row) c.args.buffer.now.key c.items-items.result.now c.read_values.new.values c.args.self.now
+    ∙ row_added c.args.plan.now c.args.width c.args.row.now c.args.buffer.now.key c.items-items.result.now c.read_values.new.values c.args.self.now
     c.requires.kept c.items-items.ensures.items c.in-Ok.ensures.values c.in-Ok.ensures.readable
