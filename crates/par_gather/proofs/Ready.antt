@@ -30,7 +30,7 @@ use Rattle.par_gather.specs.declared.input.Ready.{Ready}
 use Rattle.par_gather.specs.declared.stop.Stop.{Stop}
 use Rattle.par_gather.specs.declared.stop.Stop.TheVariants as stop
 use Rattle.par_gather.proofs.Inputs.{outcome-within}
-use Rattle.par_gather.proofs.Refusals.{refused_first, refused_in-has, refused_in-none}
+use Rattle.par_gather.proofs.Refusals.{refused_first, refused_in-has}
 
 -- ---- the records
 

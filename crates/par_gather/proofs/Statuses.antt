@@ -1,11 +1,10 @@
 -- The status and the line of a reason to have no table.
-use Rattle.std.proofs.Common.{◌≡◌, ℕ, List, refl, None, Some, Option, Contains, IfSome, ◌++◌, ◌∙◌, append_assoc, arith, decimal, codes, ap, subst, sym}
-use Rattle.std.specs.Prelude.{slice_get}
+use Rattle.std.proofs.Common.{◌≡◌, ℕ, List, refl, None, Some, Option, IfSome, ◌++◌, ◌∙◌, append_assoc, decimal, codes, ap, sym}
 use Rattle.par_model.specs.declared.refusal.Refusal.{Refusal}
 use Rattle.par_model.specs.Named.{NamedPlan}
 use Rattle.par_model.specs.Outcome.{Outcome}
 use Rattle.par_gather.specs.Answers.{IsOutcome, outcome_over, status_of}
-use Rattle.par_gather.specs.Lines.{IsLine, NamesFirst, NamesRow, line, outcome_text, refusal_text, refused_of, row_text}
+use Rattle.par_gather.specs.Lines.{IsLine, NamesFirst, NamesRow, line, outcome_text, refusal_text, row_text}
 use Rattle.par_gather.specs.Stops.{Explains, IsExplained, IsFirstStop, cause_text, stop_status, stop_text}
 use Rattle.par_gather.specs.declared.status.TheConstants.{REFUSED}
 use Rattle.par_gather.specs.declared.stop.Cause.{Cause}

@@ -1,5 +1,5 @@
 -- How the groups of a table were made.
-use Rattle.std.specs.Prelude.{◌≡◌, ℕ, List, Option, None, Some}
+use Rattle.std.specs.Prelude.{ℕ, List, Option, None, Some}
 use Rattle.csv_rows.specs.Records.{record_at, records_of}
 use Rattle.gather_run.specs.Used.{IsUsed}
 use Rattle.gather_run.specs.declared.Gathered.{Gathered}

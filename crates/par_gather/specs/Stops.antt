@@ -1,11 +1,11 @@
 -- What a reason to have no table says of the outcome.
-use Rattle.std.specs.Prelude.{◌≡◌, ◌⊎◌, ⊤, ℕ, List, Option, Some, Contains, slice_get, codes, decimal, ◌++◌, ◌∷◌, [], IsSomeAnd, string_bytes}
+use Rattle.std.specs.Prelude.{◌≡◌, ◌⊎◌, ⊤, ℕ, List, Option, Some, Contains, slice_get, codes, decimal, ◌++◌, [], IsSomeAnd, string_bytes}
 use Rattle.csv_rows.specs.declared.input.ReadAnswer.{ReadAnswer}
 use Rattle.csv_rows.specs.declared.input.ReadAnswer.TheVariants as reading
 use Rattle.csv_rows.specs.declared.records.RowsAnswer.{RowsAnswer}
 use Rattle.csv_rows.specs.declared.records.RowsAnswer.TheVariants as parsing
 use Rattle.par_model.specs.Named.{NamedPlan}
-use Rattle.par_model.specs.Outcome.{Outcome, NoColumn, NoHeader, Refused, Table, TooManyBytes, TooManyRows, Usage}
+use Rattle.par_model.specs.Outcome.{Outcome, NoColumn, NoHeader, Table, TooManyBytes, TooManyRows, Usage}
 use Rattle.par_model.specs.declared.refusal.Refusal.{Refusal}
 use Rattle.partial_agg.specs.declared.map.BlockAnswer.{BlockAnswer}
 use Rattle.partial_agg.specs.declared.map.BlockAnswer.TheVariants as answer

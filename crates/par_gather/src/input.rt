@@ -39,6 +39,7 @@ pub(crate) fn prepare<S: Source, W: Reading>(
     source: &mut S,
     reading: &W,
 ) -> Result<Ready, Stop>
+    requires { W.asks }
     ensures ready { IfOk result (λ ready. IsReady (texts words.now) (S.left source.old) ready) }
     ensures why { IfErr result (λ why. IsExplained (plan_of (texts words.now)) (S.left source.old) why) }
     ensures read_fault { IfErr result (λ why. why ≡ stop.ReadFault → Rose (S.faults source.old) (S.faults source.new)) }
@@ -59,6 +60,7 @@ fn read_rows<S: Source, W: Reading>(
     source: &mut S,
     reading: &W,
 ) -> Result<RowStore, Stop>
+    requires { W.asks }
     ensures records { IfOk result (λ rows. IfSome (S.left source.old) (λ bytes. AreRecordsOf rows bytes)) }
     ensures some { IfOk result (λ rows. (0 < length rows) × (length rows ≤ MOST_RECORDS)) }
     ensures why { IfErr result (λ why. IsExplained (Some plan.now.plan) (S.left source.old) why) }

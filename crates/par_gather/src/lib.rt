@@ -50,10 +50,10 @@ pub enum Ran {
 /// Answers the query that `words` name, over the bytes of `source`: writes its table to `out`, or a line to `err` that
 /// says why there is none, and returns the exit status. `words` are those after the program's name.
 ///
-/// The rows are shared out, by blocks of 256, among the caller's thread and as many workers as the words ask for; each
-/// passes the gate before each of its blocks, the caller's thread as participant 0. So far the plan `hash` runs as the
-/// plan `gather`, and `--area-pages` is read and checked alone. Of several refused rows the line may name any one,
-/// unless no workers are asked for.
+/// The bytes are cut into records by the caller's thread and as many workers as the words ask for, each a part of them.
+/// The rows are shared out, by blocks of 256, among the same number; each participant passes the gate before each of its
+/// blocks, the caller's thread as participant 0. So far the plan `hash` runs as the plan `gather`, and `--area-pages` is
+/// read and checked alone. Of several refused rows the line may name any one, unless no workers are asked for.
 ///
 /// Time is linear in the input, but for the look-up of each row's group and the order of the groups. Memory is the
 /// input, its records, about 700 bytes for each group, twice over while their list is made, and for each worker 82 KB

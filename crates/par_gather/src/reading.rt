@@ -1,6 +1,7 @@
 //! The two ways in which a query reads its records: in the caller's thread, or in all threads that it may have.
 
 ghost use Rattle.std.specs.Prelude.{◌≡◌, ◌<◌, ◌≤◌, [], IfOk, OnOk, length};
+ghost use Rattle.std.specs.Thread.{IsSync};
 ghost use Rattle.csv_rows.specs.Records.{records_of};
 ghost use Rattle.csv_rows.specs.declared.records.RowsAnswer.TheVariants as answer;
 ghost use Rattle.csv_rows.specs.declared.records.TheConstants.{MOST_RECORDS};
@@ -11,8 +12,12 @@ use std::thread::Threads;
 
 /// Reads the records of bytes.
 pub(crate) trait Reading {
+    /// What it needs.
+    ghost asks: { Type 0 };
+
     /// The records of bytes, read beside at most this many workers.
     fn rows(&self, alloc: Global, bytes: &[u8], workers: u32) -> Result<RowStore, RowsAnswer>
+        requires { asks }
         ensures records { IfOk result (λ store. store ≡ records_of bytes.now) }
         ensures some { OnOk result (0 < length (records_of bytes.now)) }
         ensures few { OnOk result (length (records_of bytes.now) ≤ MOST_RECORDS) }
@@ -25,6 +30,8 @@ pub(crate) trait Reading {
 pub(crate) struct Alone;
 
 impl Reading for Alone {
+    ghost asks = { Unit {0} };
+
     fn rows(&self, alloc: Global, bytes: &[u8], _workers: u32) -> Result<RowStore, RowsAnswer> {
         rows(alloc, bytes)
     }
@@ -37,6 +44,8 @@ pub(crate) struct InThreads<'a, R: Threads + Sync> {
 }
 
 impl<'a, R: Threads + Sync> Reading for InThreads<'a, R> {
+    ghost asks = { IsSync R.row };
+
     fn rows(&self, alloc: Global, bytes: &[u8], workers: u32) -> Result<RowStore, RowsAnswer> {
         rows_in_threads(self.rt, alloc, bytes, workers as usize + 1)
     }

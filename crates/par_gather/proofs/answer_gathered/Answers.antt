@@ -1,10 +1,10 @@
-use Rattle.std.proofs.Common.{rules, ◌≡◌, ◌∙◌, ℕ, List, Contains, IfSome, OnOk, [], take, sym}
+use Rattle.std.proofs.Common.{rules, ◌≡◌, ◌∙◌, ℕ, List, IfSome, [], take}
 use Rattle.std.specs.Io.KnownBytes.{Appends}
 use Rattle.par_gather.specs.Answers.{IsTableText, plan_of, texts}
 use Rattle.par_gather.specs.Grouping.{refused_in}
 use Rattle.par_gather.specs.Stops.{IsExplained}
 use Rattle.par_gather.specs.declared.stop.Stop.TheVariants as stop
-use Rattle.par_gather.proofs.Ready.{gather_explained, gather_first, made_written, no_workers, part_written, table_written, unwritten_explained}
+use Rattle.par_gather.proofs.Ready.{gather_explained, gather_first, no_workers, part_written, table_written, unwritten_explained}
 use Rattle.par_gather.proofs.Refusals.{refused_in-none}
 use Rattle.par_gather.proofs.answer_gathered.Goals as goal
 

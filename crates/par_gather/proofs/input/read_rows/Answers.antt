@@ -1,4 +1,4 @@
-use Rattle.std.proofs.Common.{◌≡◌, ◌≤◌, ◌∙◌, ℕ, List, Some, length, ap, arith}
+use Rattle.std.proofs.Common.{◌≡◌, ◌≤◌, Some, length, ap, arith}
 use Rattle.std.proofs.lemmas.Result.{err_from_is_err_and}
 use Rattle.csv_rows.specs.Records.{records_of}
 use Rattle.par_gather.proofs.Inputs.{Explains-parsing, explained, explained-reading, told}
