@@ -7,3 +7,4 @@ pub mod Sweeps
 pub mod Rounds
 pub mod Ends
 pub mod Opening
+pub mod Cells

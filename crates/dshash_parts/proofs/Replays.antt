@@ -1,5 +1,5 @@
--- Each key's calls are, in the one legal history of its partition, those of one cell, whatever stands between; the bound
--- on the number of keys holds after each turn, and sizes never fall.
+-- Each key's calls are, in the one legal history of its partition, those of one cell, whatever stands between; the
+-- bound on the number of keys holds after each turn, and sizes never fall.
 use Rattle.std.proofs.Common.{◌≡◌, ◌≢◌, ℕ, ◌≤◌, Bool, cond, List, [], ◌∷◌, ◌++◌, Option, Some, None, refl, sym, ap, ◌∙◌, subst, arith, ⊎_elim, nat_cmp}
 use mathlib.Core.Logic.{dite}
 use native.Mathlib.Decide.{dec_lt, dec_le}
@@ -24,7 +24,8 @@ module _ {S C R : Type 0} (step : Option S → C → Option S × R) where
   abbrev get : PartitionState S → List ℕ → Option S
   get s q = fin.get s.cells q
 
-  changed_here : (m : KeyMap S) (k : List ℕ) (next : Option S) (q : List ℕ) → q ≡ k → fin.get (changed m k next) q ≡ next
+  -- a map that was changed under a key, under that key and under others
+  pub changed_here : (m : KeyMap S) (k : List ℕ) (next : Option S) (q : List ℕ) → q ≡ k → fin.get (changed m k next) q ≡ next
   changed_here m k (Some v) q e = fin.get-insert nat_list_cmp_total m k v q ∙ ap (λ (b : Bool). cond b (Some v) (fin.get m q)) (same_key q k e)
   changed_here m k None q e = fin.get-remove nat_list_cmp_total m k q ∙ ap (λ (b : Bool). cond b None (fin.get m q)) (same_key q k e)
 

@@ -18,7 +18,7 @@ use Rattle.dshash_parts.specs.Rounds.{AreCaused, IsUnderway, Underway}
 use Rattle.dshash_parts.proofs.Sweeps.{trace_append, granted_append, given_append, asked_append}
 
 module _ {A : Type 0} where
-  among_front : (x : A) (xs ys : List A) → Among x xs → Among x (xs ++ ys)
+  pub among_front : (x : A) (xs ys : List A) → Among x xs → Among x (xs ++ ys)
   among_front x [] ys h = absurd h
   among_front x (z ∷ zs) ys h = ⊎_elim (λ (e : x ≡ z). inl e) (λ (r : Among x zs). inr (among_front x zs ys r)) h
 

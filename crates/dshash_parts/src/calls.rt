@@ -86,10 +86,10 @@ where
     O::Call: Send,
     O::Reply: Send,
 {
-    /// Makes a call of a key. It takes no memory. It may wait for the lock of the key's partition and, where that has to
-    /// grow, of each partition, one after another; and for those of the area, with none of the table's in hand. A call
-    /// of a key that is there costs one hash, one walk along a chain and one turn; a new key a second turn and a chunk
-    /// of the area; and doubling comes at most 13 times in the life of a table.
+    /// Makes a call of a key. It takes no memory. It may wait for the lock of the key's partition and, where that has
+    /// to grow, of each partition, one after another; and for those of the area, with none of the table's in hand. A
+    /// call of a key that is there costs one hash, one walk along a chain and one turn; a new key a second turn and a
+    /// chunk of the area; and doubling comes at most 13 times in the life of a table.
     pub fn call<R: Wait>(
         &self,
         rt: &R,

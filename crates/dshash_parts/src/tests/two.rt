@@ -1,5 +1,5 @@
-//! Two threads put and get keys of their own, while the table doubles under them; then it is closed, and all keys are in
-//! its partitions.
+//! Two threads put and get keys of their own, while the table doubles under them; then it is closed, and all keys are
+//! in its partitions.
 
 ghost use Rattle.std.specs.Prelude.{◌≡◌, ℕ, ◌+◌, ◌^◌, ◌<◌, ◌≤◌, IfOk};
 ghost use Rattle.lock_book.specs.Shown.{number_of};
