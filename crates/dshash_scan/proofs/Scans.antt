@@ -89,8 +89,7 @@ module _ {S C R : Type 0} (step : Option S → C → Option S × R) (n : ℕ) (s
           (λ (l : (k < length x.parts) × (get_elem? x.parts k ≡ some entries)).
           let low : k < number = subst (λ (z : ℕ). k < z) x.count l.0 in
           let ne : k ≢ number = (λ e. omega arith) in
-          let old = x.listings k entries l.1 in
-          (
+          let old = x.listings k entries l.1 in (
             there seen'' mine'' who (Some more) same turn k ne ((Lists, Listed (Some entries)) ∷ []) old.0,
             subst (λ (s : List (Entry (PartitionState S) (PartitionCalls C) (PartitionReplies S R))). ListsAll (last_of fresh s).cells entries) (sym (turn.others k ne).0) old.1,
           ))
