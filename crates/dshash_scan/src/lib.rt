@@ -1,5 +1,5 @@
-//! All entries of a shared hash table, partition after partition (dshash.c, dshash_seq_next): one lock at a time, so each
-//! partition's entries are those of one moment, and nothing is said of one moment for all.
+//! All entries of a shared hash table, partition after partition (dshash.c, dshash_seq_next): one lock at a time, so
+//! each partition's entries are those of one moment, and nothing is said of one moment for all.
 
 #![tactic(auto)]
 

@@ -1,4 +1,4 @@
-use Rattle.std.proofs.Common.{◌≡◌, ℕ, Option, Some, None, refl, ap, ◌∙◌}
+use Rattle.std.proofs.Common.{Some, None, refl, ap, ◌∙◌}
 use Rattle.std.proofs.lemmas.List.{map-append}
 use Rattle.dshash_core.specs.Listing.{pairs_of}
 use Rattle.dshash_scan.proofs.Scans.{scanned_none, scanned_more, once, once_more}
