@@ -1,0 +1,13 @@
+pub mod Words
+pub mod Names
+pub mod ChunkRequests
+pub mod RingRequests
+pub mod TocRequests
+pub mod BarrierRequests
+pub mod Chunks
+pub mod Rings
+pub mod Contents
+pub mod Barriers
+pub mod Lines
+pub mod Scripts
+pub mod Stops

@@ -1,0 +1,90 @@
+//! What a line is made of: words between single spaces, names, and numbers.
+
+ghost use Rattle.std.specs.Prelude.{◌≡◌, ◌<◌, ◌≤◌, ◌^◌, ℕ, IfSome, IfNone, length, map, option_map, take};
+ghost use Rattle.par_shell.specs.Words.{behind_word, first_word, name_in, number_in, words_of};
+
+/// The byte between two words.
+const SPACE: u8 = b' ';
+
+/// The most words that a command has.
+const MOST_WORDS: usize = 5;
+
+/// The longest name, in bytes.
+const LONGEST_NAME: usize = 64;
+
+/// The most digits of a number.
+const MOST_DIGITS: usize = 20;
+
+/// The words of a line, as long as there are not too many for a command.
+#[derive(Clone, Copy)]
+pub(crate) struct Words<'a> {
+    words: [&'a [u8]; MOST_WORDS],
+    count: usize,
+}
+
+impl<'a> Words<'a> {
+    /// Cuts a line at its spaces.
+    pub(crate) fn of(line: &'a [u8]) -> Option<Words<'a>>
+        ensures words { IfSome result (λ w. map (λ word. word.now) (take w.count w.words) ≡ words_of line.now) }
+        ensures count { IfSome result (λ w. w.count ≤ MOST_WORDS) }
+        ensures none { IfNone result (MOST_WORDS < length (words_of line.now)) }
+    {
+        let mut words: [&'a [u8]; MOST_WORDS] = [&[], &[], &[], &[], &[]];
+        let mut count = 0;
+        'words: for word in line.split(|byte| *byte == SPACE) {
+            if count == MOST_WORDS {
+                return None;
+            }
+            words[count] = word;
+            count += 1;
+        }
+        Some(Words { words, count })
+    }
+
+    /// The words, in order.
+    pub(crate) fn as_slice(&self) -> &[&'a [u8]]
+        requires { self.now.count ≤ MOST_WORDS }
+        ensures { result.now ≡ take self.now.count self.now.words }
+    {
+        &self.words[..self.count]
+    }
+}
+
+/// What stands before the first space, and what stands behind it, if there is one.
+pub(crate) fn cut(text: &[u8]) -> (&[u8], Option<&[u8]>)
+    ensures first { result.0.now ≡ first_word text.now }
+    ensures behind { option_map (λ rest. rest.now) result.1 ≡ behind_word text.now }
+{
+    match text.iter().position(|byte| *byte == SPACE) {
+        Some(at) => (&text[..at], Some(&text[at + 1..])),
+        None => (text, None),
+    }
+}
+
+/// The word as a name: one to 64 bytes.
+pub(crate) fn name(word: &[u8]) -> Option<&[u8]>
+    ensures { option_map (λ name. name.now) result ≡ name_in word.now }
+{
+    (!word.is_empty() && word.len() <= LONGEST_NAME).then_some(word)
+}
+
+/// The word as a number: one to twenty digits, with a value from `least` to `most`.
+pub(crate) fn number(word: &[u8], least: u64, most: u64) -> Option<u64>
+    ensures value { result ≡ number_in least most word.now }
+    ensures within { IfSome result (λ n. (least ≤ n) × (n ≤ most)) }
+{
+    if word.is_empty() || word.len() > MOST_DIGITS {
+        return None;
+    }
+    let mut value: u128 = 0;
+    'digits: for digit in word {
+        if !digit.is_ascii_digit() || value > u128::from(most) {
+            return None;
+        }
+        value = value * 10 + u128::from(*digit - b'0');
+    }
+    if value < u128::from(least) || value > u128::from(most) {
+        return None;
+    }
+    Some(value as u64)
+}
