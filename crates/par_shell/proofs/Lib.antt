@@ -1,0 +1,6 @@
+pub mod Named
+pub mod Placed
+pub mod ChunkLaws
+pub mod Numbers
+pub mod Filled
+pub mod Apart

@@ -1,6 +1,6 @@
 -- The commands over chunks: what each is answered, and what it does. This page stands beside the table "Chunks" of
 -- docs/SHELL.md.
-use Rattle.std.specs.Prelude.{◌≡◌, ◌≢◌, ℕ, ◌+◌, ◌/◌, ◌<◌, ◌≤◌, ◌++◌, List, codes, decimal, Option, Some, None}
+use Rattle.std.specs.Prelude.{◌≡◌, ◌≢◌, ◌⊎◌, ℕ, ◌+◌, ◌/◌, ◌<◌, ◌≤◌, ◌++◌, List, codes, decimal, Option, Some, None}
 use Rattle.std.specs.BTreeMap.{BTreeMap, get_by}
 use Rattle.std.specs.FinMap as fin
 use Rattle.std.specs.Global.{Vec}
@@ -82,21 +82,39 @@ module _ (h h' : Heap) (c c' : Chunks) where
   Frees name Stranger = SameArea × ((chunk : Chunk) × (chunk_of c name ≡ Some chunk) × IsHandedBack h.area h.pass h'.pass chunk.at chunk.bytes × Stays c.named c'.named)
   Frees name answer = ⊥
 
+-- the chunk is as it was
+abbrev pub IsSame : Chunk → Chunk → Type 0
+IsSame chunk new = (new.at ≡ chunk.at) × (new.bytes ≡ chunk.bytes) × (new.part ≡ chunk.part)
+
+-- a chunk becomes `new`, where its n-th word gets a value; it may have no such word
+abbrev pub StoresWord : Chunk → Chunk → ℕ → ℕ → ChunkAnswer → Type 0
+StoresWord chunk new n value Range = (chunk.bytes / 8 ≤ n) × IsSame chunk new
+StoresWord chunk new n value Done = (n < chunk.bytes / 8) × with_word chunk n value new
+StoresWord chunk new n value answer = ⊥
+
+-- a chunk stays as it is, where its n-th word is read; it may have no such word
+abbrev pub LoadsWord : Chunk → Chunk → ℕ → ChunkAnswer → Type 0
+LoadsWord chunk new n Range = (chunk.bytes / 8 ≤ n) × IsSame chunk new
+LoadsWord chunk new n (Value value) = (n < chunk.bytes / 8) × (word_at chunk.part.words (chunk.at + n) ≡ Some value) × IsSame chunk new
+LoadsWord chunk new n answer = ⊥
+
 -- chunks c become c'
 module _ (c c' : Chunks) where
+  -- the chunk of this name becomes another by a step, and no other changes
+  abbrev pub At : List ℕ → (Chunk → Chunk → Type 0) → Type 0
+  At name Step = (chunk new : Chunk) × (chunk_of c name ≡ Some chunk) × Puts c.named c'.named name (Some new) × Step chunk new
+
+  -- nothing has the name, and nothing changes
+  abbrev pub IsNoName : List ℕ → ChunkAnswer → Type 0
+  IsNoName name answer = IsFree c.named name × (answer ≡ NoName) × Stays c.named c'.named
+
   -- `store NAME N VALUE`
   abbrev pub Stores : List ℕ → ℕ → ℕ → ChunkAnswer → Type 0
-  Stores name n value NoName = IsFree c.named name × Stays c.named c'.named
-  Stores name n value Range = ((chunk : Chunk) × (chunk_of c name ≡ Some chunk) × (chunk.bytes / 8 ≤ n)) × Stays c.named c'.named
-  Stores name n value Done = (chunk new : Chunk) × (chunk_of c name ≡ Some chunk) × (n < chunk.bytes / 8) × with_word chunk n value new × Puts c.named c'.named name (Some new)
-  Stores name n value answer = ⊥
+  Stores name n value answer = IsNoName name answer ⊎ At name (λ chunk new. StoresWord chunk new n value answer)
 
   -- `load NAME N`
   abbrev pub Loads : List ℕ → ℕ → ChunkAnswer → Type 0
-  Loads name n NoName = IsFree c.named name × Stays c.named c'.named
-  Loads name n Range = ((chunk : Chunk) × (chunk_of c name ≡ Some chunk) × (chunk.bytes / 8 ≤ n)) × Stays c.named c'.named
-  Loads name n (Value value) = ((chunk : Chunk) × (chunk_of c name ≡ Some chunk) × (n < chunk.bytes / 8) × (word_at chunk.part.words (chunk.at + n) ≡ Some value)) × Stays c.named c'.named
-  Loads name n answer = ⊥
+  Loads name n answer = IsNoName name answer ⊎ At name (λ chunk new. LoadsWord chunk new n answer)
 
 -- what a request is answered, and what it does
 abbrev pub Answers : ChunkRequest → Heap → Heap → Chunks → Chunks → ChunkAnswer → Type 0

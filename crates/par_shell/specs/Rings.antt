@@ -8,7 +8,7 @@ use Rattle.dsa_area.specs.Requests.{IsGranted, IsRefused}
 use Rattle.mq_handle.specs.Messages.{left_of}
 use Rattle.mq_handle.specs.ReceiveAnswers.{Gives}
 use Rattle.mq_handle.specs.SendAnswers.{Answers as SendAnswers}
-use Rattle.mq_handle.specs.Sends.{Continues}
+use Rattle.mq_handle.specs.Sends.{Continues, StaysOpen}
 use Rattle.mq_handle.specs.Told.{ReceiveFound, SendFound}
 use Rattle.mq_handle.specs.declared.answers.ReceiveAnswer.{ReceiveAnswer}
 use Rattle.mq_handle.specs.declared.answers.ReceiveAnswer.TheVariants as receive
@@ -56,6 +56,10 @@ abbrev pub IsTorn : Option (List ℕ) → List ℕ → Type 0
 IsTorn None put = left_of put ≡ []
 IsTorn (Some text) put = (left_of put ≢ []) × Continues put text
 
+-- the text that is kept where so many words of its frame are stored
+abbrev pub torn_by : ℕ → List ℕ → Option (List ℕ)
+torn_by words text = if words == 0 then None else Some text
+
 -- both ends are those of one ring of the region, and the shell knows which was detached
 pub record IsQueue (region : TableId) (q : Queue) : Type 0 where
   pub sender : q.sender.region ≡ region
@@ -90,7 +94,7 @@ module _ (s t : QueueState) where
   Sends text flush (answer.TooLong len) = Tries text flush (send.TooLong len) × (t ≡ s)
   Sends text flush answer.Detached = Tries text flush send.Detached × (s.receiver.gone ≡ true) × (t.torn ≡ s.torn)
   Sends text flush answer.Sent = Tries text flush send.Sent × (s.receiver.gone ≡ false) × (t.torn ≡ None)
-  Sends text flush (answer.Stored words) = Tries text flush (send.WouldBlock words) × (s.receiver.gone ≡ false) × (t.torn ≡ (if words == 0 then None else Some text))
+  Sends text flush (answer.Stored words) = Tries text flush (send.WouldBlock words) × (s.receiver.gone ≡ false) × (t.torn ≡ torn_by words text)
   Sends text flush other = ⊥
 
   -- one try to receive, by the steps of the queue; it finds what the sender has set and published
@@ -117,6 +121,28 @@ module _ (s t : QueueState) where
   pub record ReceiverLeaves : Type 0 where
     pub first : s.receiver.gone ≡ false → t ≡ record s { receiver = receiver_leaves s.receiver }
     pub again : s.receiver.gone ≡ true → t ≡ s
+
+-- what a try to send makes of a ring: the sender's end alone changes, and what holds of both ends is told
+pub record IsSendTry (region : TableId) (q q' : Queue) (text : List ℕ) (flush : Bool) (answer : SendAnswer) : Type 0 where
+  pub here : (q'.sender.region ≡ region) × (q'.receiver.region ≡ region)
+  pub other : q'.receiver.end ≡ q.receiver.end
+  pub flags : (q'.sends ≡ q.sends) × (q'.receives ≡ q.receives)
+  pub torn : q'.torn ≡ q.torn
+  pub stays : StaysOpen q.sender.end q'.sender.end
+  pub tries : SendAnswers q.sender.end q'.sender.end text flush answer
+  pub found : SendFound (Some q.receiver.end) q.sender.end q'.sender.end answer
+  pub ends : AreEnds q'.sender.end q'.receiver.end
+
+-- what a try to receive makes of a ring: the receiver's end alone changes, and what holds of both ends is told
+pub record IsReceiveTry (region : TableId) (q q' : Queue) (answer : ReceiveAnswer) : Type 0 where
+  pub here : (q'.sender.region ≡ region) × (q'.receiver.region ≡ region)
+  pub other : q'.sender.end ≡ q.sender.end
+  pub flags : (q'.sends ≡ q.sends) × (q'.receives ≡ q.receives)
+  pub torn : q'.torn ≡ q.torn
+  pub stays : q'.receiver.end.gone ≡ false
+  pub tries : Gives q.receiver.end q'.receiver.end q'.receiver.message answer
+  pub found : ReceiveFound (Some q.sender.end) q.receiver.end q'.receiver.end answer
+  pub ends : AreEnds q'.sender.end q'.receiver.end
 
 -- a new ring in a chunk at this word: nothing was put or taken, and both counts begin at `from`
 pub record IsNew (at words from max : ℕ) (q : Queue) : Type 0 where

@@ -154,7 +154,7 @@ impl Barriers {
         requires barriers { AreBarriers self.old }
         requires allowed { IsAllowed (request_of command) }
         ensures barriers { OnOk result (AreBarriers self.new) }
-        ensures answer { IfOk result (λ line. IsAnswered self.old self.new (request_of command) line.items) }
+        ensures answer { IfOk result (λ line. IsAnswered self.old self.new (request_of command.entry) line.items) }
     {
         let answer = match command {
             BarrierCommand::New { name, callers } => self.make(alloc, name, callers)?,

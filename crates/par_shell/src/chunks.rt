@@ -5,7 +5,7 @@
 
 ghost use Rattle.std.specs.Prelude.{◌≡◌, ◌≢◌, ◌<◌, ◌≤◌, ◌^◌, ℕ, List, IfOk, OnOk, Some, None, is_some, option_map};
 ghost use Rattle.atomic_table.specs.Seated.{TableId};
-ghost use Rattle.par_shell.specs.Chunks.{Allocates, AreChunks, Frees, IsAnswered, IsHeap, Loads, Stores, chunk_of, name_beside, text_of};
+ghost use Rattle.par_shell.specs.Chunks.{Allocates, AreChunks, Frees, IsAnswered, IsHeap, Loads, LoadsWord, Stores, StoresWord, chunk_of, name_beside, text_of};
 ghost use Rattle.par_shell.specs.ChunkRequests.{IsAllowed, request_of};
 ghost use Rattle.par_shell.specs.Names.{IsFree, Puts};
 
@@ -174,7 +174,7 @@ impl Chunks {
         requires allowed { IsAllowed (request_of command) }
         ensures heap { OnOk result (IsHeap r.now heap.new) }
         ensures chunks { OnOk result (AreChunks r.now self.new) }
-        ensures answer { IfOk result (λ line. IsAnswered (request_of command) heap.old heap.new self.old self.new line.items) }
+        ensures answer { IfOk result (λ line. IsAnswered (request_of command.entry) heap.old heap.new self.old self.new line.items) }
     {
         let answer = match command {
             ChunkCommand::Alloc { name, bytes } => self.alloc(rt, alloc, r, heap, name, bytes)?,
@@ -251,14 +251,10 @@ impl Chunks {
         ensures chunks { AreChunks r.now self.new }
         ensures answer { Stores self.old self.new name.now word value result }
     {
-        let Some(chunk) = self.named.get_mut(name) else {
-            return ChunkAnswer::NoName;
-        };
-        if word >= chunk.bytes / 8 {
-            return ChunkAnswer::Range;
+        match self.named.get_mut(name) {
+            Some(chunk) => store_word(r, chunk, word, value),
+            None => ChunkAnswer::NoName,
         }
-        chunk.store(r, word, value);
-        ChunkAnswer::Done
     }
 
     /// The value of a word of the chunk.
@@ -267,15 +263,35 @@ impl Chunks {
         ensures chunks { AreChunks r.now self.new }
         ensures answer { Loads self.old self.new name.now word result }
     {
-        let Some(chunk) = self.named.get_mut(name) else {
-            return ChunkAnswer::NoName;
-        };
-        if word >= chunk.bytes / 8 {
-            return ChunkAnswer::Range;
+        match self.named.get_mut(name) {
+            Some(chunk) => load_word(r, chunk, word),
+            None => ChunkAnswer::NoName,
         }
-        let value = chunk.load(r, word);
-        ChunkAnswer::Value { value }
     }
+}
+
+/// Changes the n-th word of a chunk, where it has that word.
+fn store_word(r: &Region, chunk: &mut Chunk, n: u64, value: u64) -> ChunkAnswer
+    requires { chunk.old.part.region ≡ r.now }
+    ensures { StoresWord chunk.old chunk.new n value result }
+{
+    if n >= chunk.bytes / 8 {
+        return ChunkAnswer::Range;
+    }
+    chunk.store(r, n, value);
+    ChunkAnswer::Done
+}
+
+/// The value of the n-th word of a chunk, where it has that word.
+fn load_word(r: &Region, chunk: &mut Chunk, n: u64) -> ChunkAnswer
+    requires { chunk.old.part.region ≡ r.now }
+    ensures { LoadsWord chunk.old chunk.new n result }
+{
+    if n >= chunk.bytes / 8 {
+        return ChunkAnswer::Range;
+    }
+    let value = chunk.load(r, n);
+    ChunkAnswer::Value { value }
 }
 
 /// Two chunks of a region that have words begin at different words. They are used up.

@@ -119,7 +119,7 @@ impl Contents {
         requires allowed { IsAllowed (request_of command) }
         ensures contents { OnOk result (IsContents r.now self.new) }
         ensures chunks { OnOk result (AreChunks r.now chunks.new) }
-        ensures answer { IfOk result (λ line. IsAnswered (request_of command) self.old self.new chunks.old chunks.new line.items) }
+        ensures answer { IfOk result (λ line. IsAnswered (request_of command.entry) self.old self.new chunks.old chunks.new line.items) }
     {
         let answer = match command {
             TocCommand::Alloc { name, bytes } => self.alloc(alloc, r, chunks, name, bytes)?,

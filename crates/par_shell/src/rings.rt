@@ -9,7 +9,7 @@ ghost use Rattle.atomic_table.specs.Seated.{TableId};
 ghost use Rattle.par_shell.specs.Chunks.{IsHeap};
 ghost use Rattle.par_shell.specs.Names.{IsFree};
 ghost use Rattle.par_shell.specs.RingRequests.{IsAllowed, request_of};
-ghost use Rattle.par_shell.specs.Rings.{AreRings, At, IsAnswered, IsNoName, IsQueue, Makes, ReceiverLeaves, Receives, SenderLeaves, Sends, state_of, text_of};
+ghost use Rattle.par_shell.specs.Rings.{AreRings, At, IsAnswered, IsNoName, IsQueue, IsReceiveTry, IsSendTry, Makes, MaySend, ReceiverLeaves, Receives, SenderLeaves, Sends, state_of, text_of, torn_by};
 ghost use Rattle.par_shell.specs.declared.rings.RingAnswer.{RingAnswer};
 ghost use Rattle.par_shell.specs.declared.rings.RingAnswer.TheVariants as answer;
 
@@ -136,7 +136,7 @@ impl Rings {
         requires allowed { IsAllowed (request_of command) }
         ensures heap { OnOk result (IsHeap r.now heap.new) }
         ensures rings { OnOk result (AreRings r.now self.new) }
-        ensures answer { IfOk result (λ line. IsAnswered heap.old heap.new self.old self.new (request_of command) line.items) }
+        ensures answer { IfOk result (λ line. IsAnswered heap.old heap.new self.old self.new (request_of command.entry) line.items) }
     {
         let answer = match command {
             RingCommand::Receive { name } => return self.receive(alloc, r, name),
@@ -225,10 +225,7 @@ impl Rings {
         ensures answer { IfOk result (λ line. (answer : RingAnswer) × (message : List ℕ) × (line.items ≡ text_of answer message) × (IsNoName self.old self.new name.now answer ⊎ At self.old self.new name.now (λ s t. Receives s t answer message))) }
     {
         match self.named.get_mut(name) {
-            Some(queue) => {
-                let answer = queue.receive(r);
-                answer.text(alloc, queue.receiver.message())
-            }
+            Some(queue) => queue.receive_line(alloc, r),
             None => RingAnswer::NoName.text(alloc, &[]),
         }
     }
@@ -239,12 +236,10 @@ impl Rings {
         ensures rings { AreRings r.now self.new }
         ensures answer { IsNoName self.old self.new name.now result ⊎ ((result ≡ answer.Done) × At self.old self.new name.now SenderLeaves) }
     {
-        let Some(queue) = self.named.get_mut(name) else {
-            return RingAnswer::NoName;
-        };
-        queue.sender.detach(r);
-        queue.sends = false;
-        RingAnswer::Done
+        match self.named.get_mut(name) {
+            Some(queue) => queue.detach_sender(r),
+            None => RingAnswer::NoName,
+        }
     }
 
     /// The receiver goes.
@@ -253,12 +248,10 @@ impl Rings {
         ensures rings { AreRings r.now self.new }
         ensures answer { IsNoName self.old self.new name.now result ⊎ ((result ≡ answer.Done) × At self.old self.new name.now ReceiverLeaves) }
     {
-        let Some(queue) = self.named.get_mut(name) else {
-            return RingAnswer::NoName;
-        };
-        queue.receiver.detach(r);
-        queue.receives = false;
-        RingAnswer::Done
+        match self.named.get_mut(name) {
+            Some(queue) => queue.detach_receiver(r),
+            None => RingAnswer::NoName,
+        }
     }
 }
 
@@ -274,7 +267,7 @@ impl Queue {
         }
     }
 
-    /// One try to send a text.
+    /// One try to send a text, answered.
     fn send(
         &mut self,
         alloc: Global,
@@ -292,18 +285,13 @@ impl Queue {
         if self.is_pending(text) {
             return Ok(RingAnswer::Pending);
         }
-        meet(&mut self.sender, &mut self.receiver, r);
-        let answer = self.sender.try_send(r, text, flush);
-        meet(&mut self.sender, &mut self.receiver, r);
-        match answer {
+        match self.try_send(r, text, flush) {
             SendAnswer::Sent => {
                 self.torn = None;
                 Ok(RingAnswer::Sent)
             }
             SendAnswer::WouldBlock { stored } => {
-                if stored > 0 && self.torn.is_none() {
-                    self.torn = Some(Vec::from_slice(alloc, text)?);
-                }
+                self.keep(alloc, text, stored)?;
                 Ok(RingAnswer::Stored { words: stored })
             }
             SendAnswer::Detached => Ok(RingAnswer::Detached),
@@ -311,7 +299,44 @@ impl Queue {
         }
     }
 
-    /// One try to receive a message.
+    /// One try to send a text, before and after which the two ends meet.
+    fn try_send(&mut self, r: &Region, text: &[u8], flush: bool) -> SendAnswer
+        requires queue { IsQueue r.now self.old }
+        requires may { MaySend (state_of self.old) text.now }
+        ensures { IsSendTry r.now self.old self.new text.now flush result }
+    {
+        meet(&mut self.sender, &mut self.receiver, r);
+        let answer = self.sender.try_send(r, text, flush);
+        meet(&mut self.sender, &mut self.receiver, r);
+        answer
+    }
+
+    /// Keeps the text of which so many words are stored, if any are.
+    fn keep(&mut self, alloc: Global, text: &[u8], stored: u64) -> Result<(), AllocError>
+        requires free { ((state_of self.old).torn ≡ None) ⊎ ((state_of self.old).torn ≡ Some text.now) }
+        ensures ends { (self.new.sender ≡ self.old.sender) × (self.new.receiver ≡ self.old.receiver) }
+        ensures flags { (self.new.sends ≡ self.old.sends) × (self.new.receives ≡ self.old.receives) }
+        ensures torn { OnOk result ((state_of self.new).torn ≡ torn_by stored text.now) }
+    {
+        if stored == 0 {
+            self.torn = None;
+        } else if self.torn.is_none() {
+            self.torn = Some(Vec::from_slice(alloc, text)?);
+        }
+        Ok(())
+    }
+
+    /// One try to receive a message, answered by a line.
+    fn receive_line(&mut self, alloc: Global, r: &Region) -> Result<Vec<u8>, AllocError>
+        requires queue { IsQueue r.now self.old }
+        ensures queue { IsQueue r.now self.new }
+        ensures answer { IfOk result (λ line. (answer : RingAnswer) × (message : List ℕ) × (line.items ≡ text_of answer message) × Receives (state_of self.old) (state_of self.new) answer message) }
+    {
+        let answer = self.receive(r);
+        answer.text(alloc, self.receiver.message())
+    }
+
+    /// One try to receive a message, answered.
     fn receive(&mut self, r: &Region) -> RingAnswer
         requires queue { IsQueue r.now self.old }
         ensures queue { IsQueue r.now self.new }
@@ -320,13 +345,46 @@ impl Queue {
         if !self.receives {
             return RingAnswer::Closed;
         }
-        meet(&mut self.sender, &mut self.receiver, r);
-        let answer = self.receiver.try_receive(r);
-        meet(&mut self.sender, &mut self.receiver, r);
-        match answer {
+        match self.try_receive(r) {
             ReceiveAnswer::Message => RingAnswer::Got,
             ReceiveAnswer::WouldBlock => RingAnswer::Again,
             ReceiveAnswer::Detached => RingAnswer::Detached,
         }
+    }
+
+    /// One try to receive a message, before and after which the two ends meet.
+    fn try_receive(&mut self, r: &Region) -> ReceiveAnswer
+        requires queue { IsQueue r.now self.old }
+        requires is_open { self.old.receiver.end.gone ≡ false }
+        ensures { IsReceiveTry r.now self.old self.new result }
+    {
+        meet(&mut self.sender, &mut self.receiver, r);
+        let answer = self.receiver.try_receive(r);
+        meet(&mut self.sender, &mut self.receiver, r);
+        answer
+    }
+
+    /// The sender goes.
+    fn detach_sender(&mut self, r: &Region) -> RingAnswer
+        requires queue { IsQueue r.now self.old }
+        ensures queue { IsQueue r.now self.new }
+        ensures done { result ≡ answer.Done }
+        ensures leaves { SenderLeaves (state_of self.old) (state_of self.new) }
+    {
+        self.sender.detach(r);
+        self.sends = false;
+        RingAnswer::Done
+    }
+
+    /// The receiver goes.
+    fn detach_receiver(&mut self, r: &Region) -> RingAnswer
+        requires queue { IsQueue r.now self.old }
+        ensures queue { IsQueue r.now self.new }
+        ensures done { result ≡ answer.Done }
+        ensures leaves { ReceiverLeaves (state_of self.old) (state_of self.new) }
+    {
+        self.receiver.detach(r);
+        self.receives = false;
+        RingAnswer::Done
     }
 }
