@@ -4,3 +4,5 @@ pub mod ChunkLaws
 pub mod Numbers
 pub mod Filled
 pub mod Apart
+pub mod Pieces
+pub mod RunLaws

@@ -6,8 +6,10 @@ use Rattle.region_words.specs.Parts.{Owned}
 use Rattle.region_words.specs.declared.chunk.Chunk.{Chunk}
 use Rattle.shm_toc.specs.Answers.{IsFull}
 use Rattle.shm_toc.specs.Requests.{empty_table, with_chunk, with_entry}
-use Rattle.shm_toc.specs.Table.{Table, free_bytes_of, place_of, rounded, table_of}
+use Rattle.shm_toc.specs.Table.{Table, free_bytes_of, low_of, place_of, rounded, table_of}
+use Rattle.shm_toc.specs.declared.table.TocAnswer.{TocAnswer}
 use Rattle.shm_toc.specs.declared.table.TocAnswer.TheVariants as toc
+use Rattle.word_map.specs.WordMap.{WordMap}
 use Rattle.par_shell.specs.Chunks.{chunk_of}
 use Rattle.par_shell.specs.Names.{IsFree, Puts, Stays}
 use Rattle.par_shell.specs.TocRequests.{TocRequest, Alloc, Insert, Find, Freeze, Attach}
@@ -21,11 +23,18 @@ pub record TocState : Type 0 where
   pub table : Table
   pub frozen : Bool
 
+-- the state of a table in these words that grows, and of one that is frozen
+abbrev pub growing_in : WordMap → TocState
+growing_in words = record { table = table_of words; frozen = false }
+
+abbrev pub frozen_in : WordMap → TocState
+frozen_in words = record { table = table_of words; frozen = true }
+
 -- the state that a shell's tokens show: the table in the words that its one token has
 abbrev pub state_by : Option Owned → Option Owned → Option TocState
-state_by (Some words) frozen = Some (record { table = table_of words.words; frozen = false })
-state_by None (Some words) = Some (record { table = table_of words.words; frozen = true })
-state_by None None = None
+state_by (Some toc) None = Some (growing_in toc.words)
+state_by None (Some toc) = Some (frozen_in toc.words)
+state_by other frozen = None
 
 abbrev pub state_of : Contents → Option TocState
 state_of t = state_by t.growing t.frozen
@@ -36,9 +45,18 @@ pub record IsContents (region : TableId) (t : Contents) : Type 0 where
   pub frozen : IfSome t.frozen (λ toc. toc.region ≡ region)
   pub one : IsSome (state_of t)
 
+-- it goes from one state to another by a step
+abbrev pub Goes : Contents → Contents → (TocState → TocState → Type 0) → Type 0
+Goes t t' Step = (before after : TocState) × (state_of t ≡ Some before) × (state_of t' ≡ Some after) × Step before after
+
 -- the table as it opens: 1,024 bytes, and the magic number 7
 abbrev pub opening : TocState
 opening = record { table = empty_table 7 1024; frozen = false }
+
+-- the answer that a refusal of the table stands for
+abbrev pub refusal_of : TocAnswer → ContentsAnswer
+refusal_of (toc.TocFull wanted free) = answer.Full wanted free
+refusal_of (toc.KeyThere at) = answer.KeyThere
 
 -- the line of a place that was found: with the name of the chunk that begins there, where one does
 abbrev pub IsFound : Chunks → ℕ → List ℕ → Type 0
@@ -74,7 +92,7 @@ module _ (s s' : TocState) (c c' : Chunks) where
   abbrev pub Allocates : List ℕ → ℕ → ContentsAnswer → Type 0
   Allocates name bytes answer.Frozen = (s.frozen ≡ true) × Same
   Allocates name bytes answer.Named = (s.frozen ≡ false) × (chunk_of c name ≢ None) × Same
-  Allocates name bytes (answer.Granted size) = (s.frozen ≡ false) × IsFree c.named name × (size ≡ rounded bytes) × Becomes (with_chunk s.table bytes) × ((chunk : Chunk) × (chunk.bytes ≡ size) × Puts c.named c'.named name (Some chunk))
+  Allocates name bytes (answer.Granted size) = (s.frozen ≡ false) × IsFree c.named name × (size ≡ rounded bytes) × Becomes (with_chunk s.table bytes) × ((chunk : Chunk) × (chunk.bytes ≡ size) × (chunk.at ≡ low_of s'.table) × Puts c.named c'.named name (Some chunk))
   Allocates name bytes (answer.Full wanted free) = (s.frozen ≡ false) × IsFree c.named name × IsFull s.table (rounded bytes) (toc.TocFull wanted free) × Same
   Allocates name bytes other = ⊥
 
@@ -117,10 +135,6 @@ Answers (Attach magic) s s' c c' answer = Attaches s s' c c' magic answer
 
 -- the line that a request is answered
 pub record IsAnswered (request : TocRequest) (t t' : Contents) (c c' : Chunks) (line : List ℕ) : Type 0 where
-  pub before : TocState
-  pub after : TocState
-  pub was : state_of t ≡ Some before
-  pub is : state_of t' ≡ Some after
   pub answer : ContentsAnswer
   pub text : IsText c' answer line
-  pub does : Answers request before after c c' answer
+  pub does : Goes t t' (λ before after. Answers request before after c c' answer)

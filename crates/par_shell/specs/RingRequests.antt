@@ -1,6 +1,5 @@
 -- Which lines are a command over rings.
-use Rattle.std.specs.Prelude.{◌≡◌, ℕ, ◌≤◌, ◌^◌, Bool, true, false, List, [], ◌∷◌, ◌&&◌, Option, Some, None, bytes_eq, codes, if◌then◌else◌, option_and_then, option_map, unwrap_or}
-use Rattle.std.specs.Int.{is_power_of_two}
+use Rattle.std.specs.Prelude.{◌≡◌, ℕ, zero, suc, ◌≤◌, ◌^◌, ◌==◌, ◌||◌, Bool, true, false, List, [], ◌∷◌, ◌&&◌, Option, Some, None, bytes_eq, codes, if◌then◌else◌, option_and_then, option_map, unwrap_or}
 use Rattle.par_shell.specs.Words.{behind_word, first_word, name_in, number_in, word_in}
 use Rattle.par_shell.specs.declared.command.RingCommand.{RingCommand}
 use Rattle.par_shell.specs.declared.command.RingCommand.TheVariants as code
@@ -26,9 +25,14 @@ abbrev pub IsAllowed : RingRequest → Type 0
 IsAllowed (Ring name words from max) = ((e : ℕ) × (words ≡ 2 ^ e) × (e ≤ 20)) × (max ≤ 1048576)
 IsAllowed request = Unit {0}
 
+-- whether a number is a power of two with an exponent below this one
+unfoldable pub is_power_below : ℕ → ℕ → Bool
+is_power_below zero n = false
+is_power_below (suc e) n = (n == 2 ^ e) || is_power_below e n
+
 -- a power of two up to 1,048,576
 abbrev pub ring_size_in : List ℕ → Option ℕ
-ring_size_in word = option_and_then (λ n. if is_power_of_two n then Some n else None) (number_in 1 1048576 word)
+ring_size_in word = option_and_then (λ n. if is_power_below 21 n then Some n else None) (number_in 1 1048576 word)
 
 -- the request with a text that stands behind `send` or `post`
 abbrev pub send_behind : Bool → Option (List ℕ) → Option RingRequest

@@ -73,16 +73,16 @@ pub record IsQueue (region : TableId) (q : Queue) : Type 0 where
 abbrev pub AreRings : TableId → Rings → Type 0
 AreRings region rings = (name : List ℕ) (q : Queue) → under rings.named name ≡ Some q → IsQueue region q
 
+-- the sender was not detached, and no part of another text is stored
+pub record MaySend (s : QueueState) (text : List ℕ) : Type 0 where
+  pub is_open : s.sender.gone ≡ false
+  pub free : (s.torn ≡ None) ⊎ (s.torn ≡ Some text)
+
 -- a state s of a ring becomes t
 module _ (s t : QueueState) where
-  -- it was not detached, and no part of another text is stored
-  pub record MaySend (text : List ℕ) : Type 0 where
-    pub is_open : s.sender.gone ≡ false
-    pub free : (s.torn ≡ None) ⊎ (s.torn ≡ Some text)
-
   -- one try to send a text, by the steps of the queue; it finds what the receiver has set and given back
   pub record Tries (text : List ℕ) (flush : Bool) (answer : SendAnswer) : Type 0 where
-    pub may : MaySend text
+    pub may : MaySend s text
     pub tries : SendAnswers s.sender t.sender text flush answer
     pub found : SendFound (Some s.receiver) s.sender t.sender answer
     pub other : t.receiver ≡ s.receiver

@@ -43,26 +43,29 @@ pages_in words = None
 abbrev pub ReadsCount : Option (List ℕ) → Option (List ℕ) → ℕ → Type 0
 ReadsCount old new count = (bytes : List ℕ) × Consumes old new bytes × (length bytes ≡ count)
 
--- a script was answered to its end, in a shell of so many pages that opened: this is the text of the answers, and this the
--- last shell
-pub record IsRun (pages : ℕ) (script text : List ℕ) (last : Shell) : Type 0 where
-  pub first : Shell
-  pub opens : IsShell first × Opens pages first
+-- the lines of a script are answered from a shell on, and this is the text of the answers, and this the last shell
+pub record Answers (first : Shell) (script text : List ℕ) (last : Shell) : Type 0 where
   pub answers : List (List ℕ)
   pub runs : Runs first (lines_of script) answers last
   pub text_is : text ≡ written answers
 
 -- a text begins what the answers to the first lines of a script are
-pub record IsPart (pages : ℕ) (script text : List ℕ) : Type 0 where
+pub record AnswersPart (first : Shell) (script text : List ℕ) : Type 0 where
   pub lines : List (List ℕ)
   pub rest : List (List ℕ)
   pub first_lines : lines_of script ≡ lines ++ rest
-  pub first : Shell
-  pub opens : IsShell first × Opens pages first
   pub answers : List (List ℕ)
   pub last : Shell
   pub runs : Runs first lines answers last
   pub begins : (n : ℕ) × (text ≡ take n (written answers))
+
+-- a script was answered to its end, in a shell of so many pages that opened
+abbrev pub IsRun : ℕ → List ℕ → List ℕ → Shell → Type 0
+IsRun pages script text last = (first : Shell) × IsShell first × Opens pages first × Answers first script text last
+
+-- a part of a script was answered, in a shell of so many pages that opened
+abbrev pub IsPart : ℕ → List ℕ → List ℕ → Type 0
+IsPart pages script text = (first : Shell) × IsShell first × Opens pages first × AnswersPart first script text
 
 -- every status there is
 abbrev pub statuses : List ℕ

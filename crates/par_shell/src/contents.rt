@@ -4,8 +4,9 @@
 //! of the area, and the shell goes on to own it: what is frozen are the words of the table.
 
 ghost use Rattle.std.specs.Prelude.{◌≡◌, ◌≤◌, ℕ, IfOk, OnOk, Some};
+ghost use Rattle.atomic_table.specs.Seated.{TableId};
 ghost use Rattle.par_shell.specs.Chunks.{AreChunks};
-ghost use Rattle.par_shell.specs.Contents.{Allocates, Attaches, Finds, Freezes, Inserts, IsAnswered, IsContents, IsFound, IsText, TocState, opening, state_of};
+ghost use Rattle.par_shell.specs.Contents.{Allocates, Attaches, Finds, Freezes, Goes, Inserts, IsAnswered, IsContents, IsFound, IsText, frozen_in, growing_in, opening, refusal_of, state_of};
 ghost use Rattle.par_shell.specs.TocRequests.{IsAllowed, request_of};
 ghost use Rattle.par_shell.specs.declared.chunks.Chunks.{Chunks};
 ghost use Rattle.word_map.specs.WordMap.{HasJust};
@@ -60,8 +61,8 @@ pub(crate) enum ContentsAnswer {
 
 impl ContentsAnswer {
     /// The line of the answer. Of a place it says the name of the chunk that begins there, if one does.
-    fn text(self, alloc: Global, chunks: &Chunks, r: &Region) -> Result<Vec<u8>, AllocError>
-        requires { AreChunks r.now chunks.now }
+    fn text(self, alloc: Global, chunks: &Chunks) -> Result<Vec<u8>, AllocError>
+        requires { (region : TableId) × AreChunks region chunks.now }
         ensures { IfOk result (λ line. IsText chunks.now self line.items) }
     {
         match self {
@@ -74,18 +75,17 @@ impl ContentsAnswer {
             ContentsAnswer::Full { wanted, free } => with_numbers(alloc, "tocfull ", wanted, free),
             ContentsAnswer::KeyThere => plain(alloc, "keythere"),
             ContentsAnswer::None => plain(alloc, "none"),
-            ContentsAnswer::Found { place } => found(alloc, chunks, r, place),
+            ContentsAnswer::Found { place } => found(alloc, chunks, place),
             ContentsAnswer::WrongMagic { found } => with_number(alloc, "wrongmagic ", found),
         }
     }
 }
 
 /// The line of a place that was found.
-fn found(alloc: Global, chunks: &Chunks, r: &Region, place: u64) -> Result<Vec<u8>, AllocError>
-    requires { AreChunks r.now chunks.now }
+fn found(alloc: Global, chunks: &Chunks, place: u64) -> Result<Vec<u8>, AllocError>
+    requires { (region : TableId) × AreChunks region chunks.now }
     ensures { IfOk result (λ line. IsFound chunks.now place line.items) }
 {
-    let _ = r;
     match chunks.name_at(place) {
         Some(name) => with_bytes(alloc, "found ", name),
         None => plain(alloc, "found"),
@@ -128,7 +128,7 @@ impl Contents {
             TocCommand::Freeze => self.freeze(r),
             TocCommand::Attach { magic } => self.attach(r, magic),
         };
-        answer.text(alloc, chunks, r)
+        answer.text(alloc, chunks)
     }
 
     /// A chunk of the table under a new name.
@@ -145,21 +145,11 @@ impl Contents {
         requires some { (1 ≤ bytes) × (bytes ≤ 1073741824) }
         ensures contents { OnOk result (IsContents r.now self.new) }
         ensures chunks { OnOk result (AreChunks r.now chunks.new) }
-        ensures answer { IfOk result (λ answer. (s t : TocState) × (state_of self.old ≡ Some s) × (state_of self.new ≡ Some t) × Allocates s t chunks.old chunks.new name.now bytes answer) }
+        ensures answer { IfOk result (λ answer. Goes self.old self.new (λ s t. Allocates s t chunks.old chunks.new name.now bytes answer)) }
     {
-        let Some(toc) = &mut self.growing else {
-            return Ok(ContentsAnswer::Frozen);
-        };
-        if chunks.has(name) {
-            return Ok(ContentsAnswer::Named);
-        }
-        match toc.allocate(r, bytes) {
-            Ok(chunk) => {
-                let bytes = chunk.bytes;
-                chunks.enter(alloc, r, name, chunk)?;
-                Ok(ContentsAnswer::Granted { bytes })
-            }
-            Err(refusal) => Ok(refused(refusal)),
+        match &mut self.growing {
+            Some(toc) => allocate(alloc, r, toc, chunks, name, bytes),
+            None => Ok(ContentsAnswer::Frozen),
         }
     }
 
@@ -167,17 +157,11 @@ impl Contents {
     fn insert(&mut self, r: &Region, chunks: &Chunks, key: u64, name: &[u8]) -> ContentsAnswer
         requires contents { IsContents r.now self.old }
         ensures contents { IsContents r.now self.new }
-        ensures answer { (s t : TocState) × (state_of self.old ≡ Some s) × (state_of self.new ≡ Some t) × Inserts s t chunks.now chunks.now key name.now result }
+        ensures answer { Goes self.old self.new (λ s t. Inserts s t chunks.now chunks.now key name.now result) }
     {
-        let Some(toc) = &mut self.growing else {
-            return ContentsAnswer::Frozen;
-        };
-        let Some(place) = chunks.place_of(name) else {
-            return ContentsAnswer::NoName;
-        };
-        match toc.insert(r, key, RelPtr::of(place)) {
-            Ok(()) => ContentsAnswer::Done,
-            Err(refusal) => refused(refusal),
+        match &mut self.growing {
+            Some(toc) => insert(r, toc, chunks, key, name),
+            None => ContentsAnswer::Frozen,
         }
     }
 
@@ -185,16 +169,11 @@ impl Contents {
     fn find(&mut self, r: &Region, key: u64) -> ContentsAnswer
         requires contents { IsContents r.now self.old }
         ensures contents { IsContents r.now self.new }
-        ensures answer { (s t : TocState) × (state_of self.old ≡ Some s) × (state_of self.new ≡ Some t) × ((c : Chunks) → Finds s t c c key result) }
+        ensures answer { (c : Chunks) → Goes self.old self.new (λ s t. Finds s t c c key result) }
     {
-        let Some(toc) = &mut self.frozen else {
-            return ContentsAnswer::NotFrozen;
-        };
-        match toc.lookup(r, key) {
-            Some(place) => ContentsAnswer::Found {
-                place: place.word(),
-            },
-            None => ContentsAnswer::None,
+        match &mut self.frozen {
+            Some(toc) => find(r, toc, key),
+            None => ContentsAnswer::NotFrozen,
         }
     }
 
@@ -202,7 +181,7 @@ impl Contents {
     fn freeze(&mut self, r: &Region) -> ContentsAnswer
         requires contents { IsContents r.now self.old }
         ensures contents { IsContents r.now self.new }
-        ensures answer { (s t : TocState) × (state_of self.old ≡ Some s) × (state_of self.new ≡ Some t) × ((c : Chunks) → Freezes s t c c result) }
+        ensures answer { (c : Chunks) → Goes self.old self.new (λ s t. Freezes s t c c result) }
     {
         match self.growing.take() {
             Some(toc) => {
@@ -217,21 +196,90 @@ impl Contents {
     fn attach(&mut self, r: &Region, magic: u64) -> ContentsAnswer
         requires contents { IsContents r.now self.old }
         ensures contents { IsContents r.now self.new }
-        ensures answer { (s t : TocState) × (state_of self.old ≡ Some s) × (state_of self.new ≡ Some t) × ((c : Chunks) → Attaches s t c c magic result) }
+        ensures answer { (c : Chunks) → Goes self.old self.new (λ s t. Attaches s t c c magic result) }
     {
-        let Some(toc) = &mut self.frozen else {
-            return ContentsAnswer::NotFrozen;
-        };
-        let share = toc.share(r);
-        match FrozenToc::attach(share, r, magic) {
-            Ok(_share) => ContentsAnswer::Done,
-            Err(wrong) => ContentsAnswer::WrongMagic { found: wrong.found },
+        match &mut self.frozen {
+            Some(toc) => attach(r, toc, magic),
+            None => ContentsAnswer::NotFrozen,
         }
     }
 }
 
+/// A chunk of a table that grows, under a new name.
+fn allocate(
+    alloc: Global,
+    r: &Region,
+    toc: &mut Toc,
+    chunks: &mut Chunks,
+    name: &[u8],
+    bytes: u64,
+) -> Result<ContentsAnswer, AllocError>
+    requires here { toc.old.region ≡ r.now }
+    requires chunks { AreChunks r.now chunks.old }
+    requires some { (1 ≤ bytes) × (bytes ≤ 1073741824) }
+    ensures here { toc.new.region ≡ r.now }
+    ensures chunks { OnOk result (AreChunks r.now chunks.new) }
+    ensures answer { IfOk result (λ answer. Allocates (growing_in toc.old.words) (growing_in toc.new.words) chunks.old chunks.new name.now bytes answer) }
+{
+    if chunks.has(name) {
+        return Ok(ContentsAnswer::Named);
+    }
+    match toc.allocate(r, bytes) {
+        Ok(chunk) => {
+            let bytes = chunk.bytes;
+            chunks.enter(alloc, r, name, chunk)?;
+            Ok(ContentsAnswer::Granted { bytes })
+        }
+        Err(refusal) => Ok(refused(refusal)),
+    }
+}
+
+/// An entry in a table that grows.
+fn insert(r: &Region, toc: &mut Toc, chunks: &Chunks, key: u64, name: &[u8]) -> ContentsAnswer
+    requires here { toc.old.region ≡ r.now }
+    ensures here { toc.new.region ≡ r.now }
+    ensures answer { Inserts (growing_in toc.old.words) (growing_in toc.new.words) chunks.now chunks.now key name.now result }
+{
+    let Some(place) = chunks.place_of(name) else {
+        return ContentsAnswer::NoName;
+    };
+    match toc.insert(r, key, RelPtr::of(place)) {
+        Ok(()) => ContentsAnswer::Done,
+        Err(refusal) => refused(refusal),
+    }
+}
+
+/// The place beside a key of a frozen table.
+fn find(r: &Region, toc: &mut FrozenToc, key: u64) -> ContentsAnswer
+    requires here { toc.old.region ≡ r.now }
+    ensures same { toc.new ≡ toc.old }
+    ensures answer { (c : Chunks) → Finds (frozen_in toc.old.words) (frozen_in toc.new.words) c c key result }
+{
+    match toc.lookup(r, key) {
+        Some(place) => ContentsAnswer::Found {
+            place: place.word(),
+        },
+        None => ContentsAnswer::None,
+    }
+}
+
+/// Whether a share of a frozen table is attached to by a magic number.
+fn attach(r: &Region, toc: &mut FrozenToc, magic: u64) -> ContentsAnswer
+    requires here { toc.old.region ≡ r.now }
+    ensures same { toc.new ≡ toc.old }
+    ensures answer { (c : Chunks) → Attaches (frozen_in toc.old.words) (frozen_in toc.new.words) c c magic result }
+{
+    let share = toc.share(r);
+    match FrozenToc::attach(share, r, magic) {
+        Ok(_share) => ContentsAnswer::Done,
+        Err(wrong) => ContentsAnswer::WrongMagic { found: wrong.found },
+    }
+}
+
 /// The answer to what the table refused.
-fn refused(refusal: TocAnswer) -> ContentsAnswer {
+fn refused(refusal: TocAnswer) -> ContentsAnswer
+    ensures { result ≡ refusal_of refusal }
+{
     match refusal {
         TocAnswer::TocFull { wanted, free } => ContentsAnswer::Full { wanted, free },
         TocAnswer::KeyThere { at: _ } => ContentsAnswer::KeyThere,

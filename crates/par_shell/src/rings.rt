@@ -4,12 +4,12 @@
 //! has published or set by then. Where a part of a frame is stored, its text is kept, since only that text may be
 //! sent next.
 
-ghost use Rattle.std.specs.Prelude.{◌≡◌, ◌≢◌, ◌⊎◌, ◌≤◌, ◌^◌, ℕ, List, IfOk, OnOk, Some, None, true, false};
+ghost use Rattle.std.specs.Prelude.{◌≡◌, ◌≢◌, ◌⊎◌, ◌+◌, ◌*◌, ◌≤◌, ◌^◌, ℕ, List, IfOk, OnOk, Some, None, true, false};
 ghost use Rattle.atomic_table.specs.Seated.{TableId};
 ghost use Rattle.par_shell.specs.Chunks.{IsHeap};
-ghost use Rattle.par_shell.specs.Names.{IsFree};
+ghost use Rattle.par_shell.specs.Names.{IsFree, Puts};
 ghost use Rattle.par_shell.specs.RingRequests.{IsAllowed, request_of};
-ghost use Rattle.par_shell.specs.Rings.{AreRings, At, IsAnswered, IsNoName, IsQueue, IsReceiveTry, IsSendTry, Makes, MaySend, ReceiverLeaves, Receives, SenderLeaves, Sends, state_of, text_of, torn_by};
+ghost use Rattle.par_shell.specs.Rings.{AreRings, At, IsAnswered, IsNew, IsNoName, IsQueue, IsReceiveTry, IsSendTry, Makes, MaySend, ReceiverLeaves, Receives, SenderLeaves, Sends, state_of, text_of, torn_by};
 ghost use Rattle.par_shell.specs.declared.rings.RingAnswer.{RingAnswer};
 ghost use Rattle.par_shell.specs.declared.rings.RingAnswer.TheVariants as answer;
 
@@ -19,7 +19,7 @@ use crate::heap::Heap;
 use dsa_area::NoSpace;
 use mq_handle::{ReceiveAnswer, Receiver, SendAnswer, Sender, attach, meet};
 use mq_ring::Ring;
-use region_words::Region;
+use region_words::{Chunk, Region};
 use std::alloc::{AllocError, Global};
 use std::collections::BTreeMap;
 use std::sync::Wait;
@@ -176,25 +176,22 @@ impl Rings {
         if self.named.contains_key(name) {
             return Ok(RingAnswer::Named);
         }
-        let chunk = match heap.alloc(rt, r, 8 * (words + CONTROL_WORDS)) {
-            Ok(chunk) => chunk,
-            Err(NoSpace { pages, largest }) => {
-                return Ok(RingAnswer::NoSpace { pages, largest });
+        match heap.alloc(rt, r, 8 * (words + CONTROL_WORDS)) {
+            Ok(chunk) => {
+                let queue = Queue::new(alloc, r, chunk, words, from, max)?;
+                self.put(Vec::from_slice(alloc, name)?, queue)?;
+                Ok(RingAnswer::Done)
             }
-        };
-        let (tx, rx) = Ring::create(r, chunk, words, from, max);
-        let Ok((sender, receiver)) = attach(alloc, tx, rx) else {
-            return Err(AllocError);
-        };
-        let queue = Queue {
-            sender,
-            receiver,
-            sends: true,
-            receives: true,
-            torn: None,
-        };
-        match self.named.insert(Vec::from_slice(alloc, name)?, queue) {
-            Ok(_) => Ok(RingAnswer::Done),
+            Err(NoSpace { pages, largest }) => Ok(RingAnswer::NoSpace { pages, largest }),
+        }
+    }
+
+    /// Puts a ring under its name.
+    fn put(&mut self, key: Vec<u8>, queue: Queue) -> Result<(), AllocError>
+        ensures { OnOk result (Puts self.old.named self.new.named key.items (Some queue)) }
+    {
+        match self.named.insert(key, queue) {
+            Ok(_) => Ok(()),
             Err(_) => Err(AllocError),
         }
     }
@@ -256,6 +253,35 @@ impl Rings {
 }
 
 impl Queue {
+    /// The two ends of a new ring in a chunk.
+    fn new(
+        alloc: Global,
+        r: &Region,
+        chunk: Chunk,
+        words: u64,
+        from: u64,
+        max: u32,
+    ) -> Result<Queue, AllocError>
+        requires here { chunk.part.region ≡ r.now }
+        requires power { (e : ℕ) × (words ≡ 2 ^ e) × (e ≤ 20) }
+        requires room { 8 * (words + 3) ≤ chunk.bytes }
+        requires max { max ≤ 1048576 }
+        ensures queue { IfOk result (IsQueue r.now) }
+        ensures fresh { IfOk result (IsNew chunk.at words from max) }
+    {
+        let (tx, rx) = Ring::create(r, chunk, words, from, max);
+        let Ok((sender, receiver)) = attach(alloc, tx, rx) else {
+            return Err(AllocError);
+        };
+        Ok(Queue {
+            sender,
+            receiver,
+            sends: true,
+            receives: true,
+            torn: None,
+        })
+    }
+
     /// Whether a part of another text is stored.
     fn is_pending(&self, text: &[u8]) -> bool
         ensures pending { result ≡ true → (other : List ℕ) × ((state_of self.now).torn ≡ Some other) × (other ≢ text.now) }

@@ -3,12 +3,13 @@
 //! The words come first, then the reading, and then each line in turn. Answers are gathered and written by the piece; so
 //! `out` has received a prefix of them at any moment, and all of them at the end.
 
-ghost use Rattle.std.specs.Prelude.{◌≡◌, ◌≢◌, ◌⊎◌, ◌≤◌, ◌++◌, ◌∷◌, [], ℕ, List, Contains, IfSome, IsNone, None, OnOk, Some, length};
+ghost use Rattle.std.specs.Prelude.{◌≡◌, ◌≢◌, ◌⊎◌, ◌<◌, ◌≤◌, ◌++◌, ◌∷◌, [], ℕ, List, Contains, Err, IfErr, IfNone, IfOk, IfSome, IsNone, None, OnErr, OnOk, Some, length, take};
 ghost use Rattle.std.specs.Io.KnownBytes.{Appends};
 ghost use Rattle.par_io.specs.Faults.{Rose};
 ghost use Rattle.par_shell.specs.Lines.{IsShell};
-ghost use Rattle.par_shell.specs.Scripts.{IsPart, IsRun, IsSaid, ReadsCount, line_of, pages_in, statuses, texts};
+ghost use Rattle.par_shell.specs.Scripts.{Answers, AnswersPart, IsPart, IsRun, IsSaid, ReadsCount, line_of, lines_of, pages_in, statuses, texts};
 ghost use Rattle.par_shell.specs.declared.shell.Shell.{Shell};
+ghost use Rattle.par_shell.specs.declared.stop.Stop.TheVariants as stop;
 ghost use Rattle.par_shell.specs.declared.status.TheConstants.{MISUSED, NO_MEMORY, READ_FAULT, TOO_LARGE, WRITE_FAULT};
 
 use crate::script::read_script;
@@ -93,7 +94,18 @@ fn answer_script<R: Wait, S: Source, O: Sink>(
     words: &[String],
     source: &mut S,
     out: &mut O,
-) -> Result<Shell, Stop> {
+) -> Result<Shell, Stop>
+    ensures usage { result ≡ Err stop.Usage → IsNone (pages_in (texts words.now)) }
+    ensures no_pages { IsNone (pages_in (texts words.now)) → (result ≡ Err stop.Usage) × (source.new ≡ source.old) }
+    ensures answered { IfOk result (λ last. IfSome (S.left source.old) (λ script. IfSome (pages_in (texts words.now)) (λ pages.
+        (text : List ℕ) × IsShell last × IsRun pages script text last × Appends (O.taken out.old) (O.taken out.new) text))) }
+    ensures part { ((result ≡ Err stop.WriteFault) ⊎ (result ≡ Err stop.Memory)) → (out.new ≡ out.old) ⊎ IfSome (S.left source.old) (λ script. IfSome (pages_in (texts words.now)) (λ pages.
+        (text : List ℕ) × IsPart pages script text × Appends (O.taken out.old) (O.taken out.new) text)) }
+    ensures nothing { ((result ≡ Err stop.Usage) ⊎ ((result ≡ Err stop.ReadFault) ⊎ (result ≡ Err stop.TooLong))) → out.new ≡ out.old }
+    ensures read_fault { result ≡ Err stop.ReadFault → Rose (S.faults source.old) (S.faults source.new) }
+    ensures write_fault { result ≡ Err stop.WriteFault → Rose (O.faults out.old) (O.faults out.new) }
+    ensures too_long { result ≡ Err stop.TooLong → ReadsCount (S.left source.old) (S.left source.new) 1048577 }
+{
     let Some(pages) = pages(words) else {
         return Err(Stop::Usage);
     };
@@ -125,21 +137,38 @@ fn answer_lines<R: Wait, O: Sink>(
     shell: &mut Shell,
     script: &[u8],
     out: &mut O,
-) -> Result<(), Stop> {
-    if script.is_empty() {
-        return Ok(());
-    }
-    let lines = script.strip_suffix(b"\n").unwrap_or(script);
+) -> Result<(), Stop>
+    requires shell { IsShell shell.old }
+    ensures answered { OnOk result ((text : List ℕ) × Answers shell.old script.now text shell.new × Appends (O.taken out.old) (O.taken out.new) text) }
+    ensures shell { OnOk result (IsShell shell.new) }
+    ensures part { OnErr result ((text : List ℕ) × AnswersPart shell.old script.now text × Appends (O.taken out.old) (O.taken out.new) text) }
+    ensures why { IfErr result (λ why. (why ≡ stop.WriteFault) ⊎ (why ≡ stop.Memory)) }
+    ensures write_fault { result ≡ Err stop.WriteFault → Rose (O.faults out.old) (O.faults out.new) }
+{
     let mut answers = Vec::new(alloc);
-    'lines: for line in lines.split(|byte| *byte == b'\n') {
+    let mut left = script;
+    'lines: while let Some((line, rest)) = next_line(left) {
         let answer = shell.line(rt, alloc, line)?;
         push_line(&mut answers, answer.as_slice())?;
-        if answers.len() >= PIECE {
-            write(out, answers.as_slice())?;
-            answers.clear();
-        }
+        write_full(out, &mut answers)?;
+        left = rest;
     }
     write(out, answers.as_slice())
+}
+
+/// The first line of a script, and what stands behind it.
+fn next_line(script: &[u8]) -> Option<(&[u8], &[u8])>
+    ensures none { IfNone result (script.now ≡ []) }
+    ensures line { IfSome result (λ r. lines_of script.now ≡ r.0.now ∷ lines_of r.1.now) }
+    ensures shorter { IfSome result (λ r. length r.1.now < length script.now) }
+{
+    if script.is_empty() {
+        return None;
+    }
+    match script.iter().position(|byte| *byte == b'\n') {
+        Some(at) => Some((&script[..at], &script[at + 1..])),
+        None => Some((script, &[])),
+    }
 }
 
 /// Puts an answer and a line feed behind the others.
@@ -151,8 +180,28 @@ fn push_line(answers: &mut Vec<u8>, answer: &[u8]) -> Result<(), AllocError>
     Ok(())
 }
 
+/// Writes the answers that are gathered, where they fill a piece.
+fn write_full<O: Sink>(out: &mut O, answers: &mut Vec<u8>) -> Result<(), Stop>
+    ensures whole { OnOk result (((answers.new.items ≡ answers.old.items) × (out.new ≡ out.old)) ⊎ ((answers.new.items ≡ []) × Appends (O.taken out.old) (O.taken out.new) answers.old.items)) }
+    ensures prefix { OnErr result ((n : ℕ) × Appends (O.taken out.old) (O.taken out.new) (take n answers.old.items)) }
+    ensures fault { IfErr result (λ why. (why ≡ stop.WriteFault) × Rose (O.faults out.old) (O.faults out.new)) }
+    ensures faults { O.faults out.old ≤ O.faults out.new }
+{
+    if answers.len() < PIECE {
+        return Ok(());
+    }
+    write(out, answers.as_slice())?;
+    answers.clear();
+    Ok(())
+}
+
 /// Writes answers.
-fn write<O: Sink>(out: &mut O, answers: &[u8]) -> Result<(), Stop> {
+fn write<O: Sink>(out: &mut O, answers: &[u8]) -> Result<(), Stop>
+    ensures whole { OnOk result (Appends (O.taken out.old) (O.taken out.new) answers.now) }
+    ensures prefix { OnErr result ((n : ℕ) × Appends (O.taken out.old) (O.taken out.new) (take n answers.now)) }
+    ensures fault { IfErr result (λ why. (why ≡ stop.WriteFault) × Rose (O.faults out.old) (O.faults out.new)) }
+    ensures faults { O.faults out.old ≤ O.faults out.new }
+{
     match write_whole(out, answers) {
         Ok(()) => Ok(()),
         Err(_) => Err(Stop::WriteFault),
