@@ -133,7 +133,7 @@ impl Barrier {
 }
 
 impl BarrierPass {
-    ghost use Rattle.lock_book.specs.History.{StartsWith};
+    ghost use Rattle.lock_book.specs.History.{StartsWith, longer};
     ghost use Rattle.par_barrier.specs.Shown.{Belongs, history_of, number_of, own_of};
 
     /// The caller's number, from 0 on.
@@ -149,6 +149,7 @@ impl BarrierPass {
         ensures own { Belongs barrier.now self.new × Belongs barrier.now other.new }
         ensures numbers { (number_of self.new ≡ number_of self.old) × (number_of other.new ≡ number_of other.old) }
         ensures alike { history_of self.new ≡ history_of other.new }
+        ensures longer { history_of self.new ≡ longer (history_of self.old) (history_of other.old) }
         ensures begins { StartsWith (history_of self.new) (history_of self.old) × StartsWith (history_of self.new) (history_of other.old) }
         ensures mine { (own_of self.new ≡ own_of self.old) × (own_of other.new ≡ own_of other.old) }
     {
