@@ -1,5 +1,5 @@
 -- What a change at one name of an ordered map leaves under each name.
-use Rattle.std.proofs.Common.{◌≡◌, ◌≢◌, ◌∙◌, ◌⊎◌, inl, inr, ℕ, Bool, true, false, List, Option, None, Some, refl, ap, sym, subst}
+use Rattle.std.proofs.Common.{◌≡◌, ◌≢◌, ◌∙◌, ◌⊎◌, inl, inr, ℕ, Bool, true, false, List, Option, None, Some, is_some, refl, ap, sym, subst}
 use Rattle.std.proofs.lemmas.Bool.{cases_Bool}
 use Rattle.std.specs.BTreeMap.{BTreeMap, IsUnchanged, UpdatesBy, get_by, is_at}
 use Rattle.std.specs.Cmp.{eq_by_cmp_equiv}
@@ -68,6 +68,15 @@ module _ {X : Type 0} where
   -- no change
   pub stays : (m n : BTreeMap (Vec ℕ) X) → IsUnchanged m n → Stays m n
   stays m n e name = ap (lookup (is_at (name_cmp name))) e
+
+  -- the same map
+  pub same : (m n : BTreeMap (Vec ℕ) X) → n ≡ m → Stays m n
+  same m n e name = ap (λ (o : BTreeMap (Vec ℕ) X). under o name) e
+
+  -- nothing was found
+  pub not-there : (o : Option X) (found : Bool) → found ≡ is_some o → found ≡ false → o ≡ None
+  not-there None found e f = refl
+  not-there (Some x) found e f = cc
 
   -- what was there is put there again
   pub puts_again : (m n : BTreeMap (Vec ℕ) X) (name : List ℕ) → Puts m n name (under m name) → Stays m n

@@ -3,11 +3,15 @@
 //! The shell holds the passes of all callers of each barrier. After each command the caller's pass meets all others, so
 //! that each has seen all that was done.
 
-ghost use Rattle.std.specs.Prelude.{◌≡◌, ◌⊎◌, ◌<◌, ◌≤◌, ℕ, List, IfOk, OnOk, Some, true, false};
+ghost use Rattle.std.specs.Prelude.{◌≡◌, ◌⊎◌, ◌<◌, ◌≤◌, ℕ, List, All, IfOk, OnOk, Some, length, true, false};
+ghost use Rattle.std.specs.List.{AllZip};
+ghost use Rattle.lock_book.specs.History.{last_of};
 ghost use Rattle.par_barrier.specs.Legal.{BarrierLegal};
-ghost use Rattle.par_barrier.specs.Shown.{Belongs, Called, arrival_reply, callers_of, detach_reply, number_of, refusal_reply};
+ghost use Rattle.par_barrier.specs.Parties.{nobody};
+ghost use Rattle.par_barrier.specs.Shown.{AreAll, Belongs, Called, History, arrival_reply, callers_of, detach_reply, history_of, number_of, refusal_reply};
 ghost use Rattle.par_shell.specs.BarrierRequests.{IsAllowed, call_of, request_of};
-ghost use Rattle.par_shell.specs.Barriers.{AreBarriers, IsAnswered, IsCalled, IsParty, Makes, answer_of, text_of};
+ghost use Rattle.par_shell.specs.Barriers.{AreBarriers, HasSeen, IsAnswered, IsCalled, IsParty, Makes, answer_of, text_of};
+ghost use Rattle.par_shell.specs.Meetings.{IsAlike, IsBehind, IsCalledAmong, Meets};
 ghost use Rattle.par_shell.specs.Names.{IsFree, Stays};
 ghost use Rattle.par_barrier.specs.declared.history.BarrierReply.{BarrierReply};
 ghost use Rattle.par_barrier.specs.declared.history.BarrierState.{BarrierState};
@@ -156,11 +160,15 @@ impl Barriers {
         ensures barriers { OnOk result (AreBarriers self.new) }
         ensures answer { IfOk result (λ line. IsAnswered self.old self.new (request_of command.entry) line.items) }
     {
-        let answer = match command {
-            BarrierCommand::New { name, callers } => self.make(alloc, name, callers)?,
-            BarrierCommand::Call { name, caller, call } => self.call(rt, name, caller, call),
-        };
-        answer.text(alloc)
+        match command {
+            BarrierCommand::New { name, callers } => {
+                let answer = self.make(alloc, name, callers)?;
+                answer.text(alloc)
+            }
+            BarrierCommand::Call { name, caller, call } => {
+                self.call(rt, name, caller, call).text(alloc)
+            }
+        }
     }
 
     /// What a caller of the barrier of this name does.
@@ -205,15 +213,49 @@ impl Party {
         if caller >= self.passes.len() as u64 {
             return PartyAnswer::Range;
         }
-        let (before, rest) = self.passes.split_at_mut(caller as usize);
-        let Some((pass, after)) = rest.split_first_mut() else {
-            unreachable!()
-        };
-        let answer = call_by(rt, &self.barrier, pass, call);
-        meet_all(&self.barrier, pass, before);
-        meet_all(&self.barrier, pass, after);
-        answer
+        let passes = self.passes.as_mut_slice();
+        call_among(rt, &self.barrier, passes, caller as usize, call)
     }
+}
+
+/// The call of one of the passes of all callers; then all others meet it.
+fn call_among<R: Wait>(
+    rt: &R,
+    barrier: &Barrier,
+    passes: &mut [BarrierPass],
+    caller: usize,
+    call: PartyCall,
+) -> PartyAnswer
+    requires all { AreAll barrier.now passes.old }
+    requires alike { (seen : History) × HasSeen passes.old seen }
+    requires inside { caller < length passes.old }
+    ensures { (seen then : History) × (r : BarrierReply) × HasSeen passes.old seen × AreAll barrier.now passes.new × HasSeen passes.new then × BarrierLegal caller (last_of nobody seen) (call_of call) r (last_of nobody then) × (result ≡ answer_of r) }
+{
+    let (before, rest) = passes.split_at_mut(caller);
+    let Some((pass, after)) = rest.split_first_mut() else {
+        unreachable!()
+    };
+    call_and_meet(rt, barrier, pass, before, after, call)
+}
+
+/// The call of a pass; then the others meet it.
+fn call_and_meet<R: Wait>(
+    rt: &R,
+    barrier: &Barrier,
+    pass: &mut BarrierPass,
+    before: &mut [BarrierPass],
+    after: &mut [BarrierPass],
+    call: PartyCall,
+) -> PartyAnswer
+    requires own { Belongs barrier.now pass.old }
+    requires before { All (λ p. IsAlike barrier.now (history_of pass.old) p) before.old }
+    requires after { All (λ p. IsAlike barrier.now (history_of pass.old) p) after.old }
+    ensures { (then : BarrierPass) × (r : BarrierReply) × (result ≡ answer_of r) × IsCalledAmong barrier.now pass.old then pass.new before.old before.new after.old after.new (call_of call) r }
+{
+    let answer = call_by(rt, barrier, pass, call);
+    meet_all(barrier, pass, before);
+    meet_all(barrier, pass, after);
+    answer
 }
 
 /// The call of one pass.
@@ -247,9 +289,14 @@ fn call_by<R: Wait>(
     }
 }
 
-/// The pass meets each of the others.
-fn meet_all(barrier: &Barrier, pass: &mut BarrierPass, others: &mut [BarrierPass]) {
-    for other in others.iter_mut() {
+/// Others, which have seen a beginning of what the pass has seen, meet it.
+fn meet_all(barrier: &Barrier, pass: &mut BarrierPass, others: &mut [BarrierPass])
+    requires own { Belongs barrier.now pass.old }
+    requires others { All (λ p. IsBehind barrier.now (history_of pass.old) p) others.old }
+    ensures own { Meets barrier.now (history_of pass.old) pass.old pass.new }
+    ensures others { AllZip (Meets barrier.now (history_of pass.old)) others.old others.new }
+{
+    'others: for other in others.iter_mut() {
         pass.meet(barrier, other);
     }
 }

@@ -176,13 +176,20 @@ impl Chunks {
         ensures chunks { OnOk result (AreChunks r.now self.new) }
         ensures answer { IfOk result (λ line. IsAnswered (request_of command.entry) heap.old heap.new self.old self.new line.items) }
     {
-        let answer = match command {
-            ChunkCommand::Alloc { name, bytes } => self.alloc(rt, alloc, r, heap, name, bytes)?,
-            ChunkCommand::Free { name } => self.free(rt, r, heap, name)?,
-            ChunkCommand::Store { name, word, value } => self.store(r, name, word, value),
-            ChunkCommand::Load { name, word } => self.load(r, name, word),
-        };
-        answer.text(alloc)
+        match command {
+            ChunkCommand::Alloc { name, bytes } => {
+                let answer = self.alloc(rt, alloc, r, heap, name, bytes)?;
+                answer.text(alloc)
+            }
+            ChunkCommand::Free { name } => {
+                let answer = self.free(rt, r, heap, name)?;
+                answer.text(alloc)
+            }
+            ChunkCommand::Store { name, word, value } => {
+                self.store(r, name, word, value).text(alloc)
+            }
+            ChunkCommand::Load { name, word } => self.load(r, name, word).text(alloc),
+        }
     }
 
     /// A chunk of the area under a new name.

@@ -121,14 +121,18 @@ impl Contents {
         ensures chunks { OnOk result (AreChunks r.now chunks.new) }
         ensures answer { IfOk result (λ line. IsAnswered (request_of command.entry) self.old self.new chunks.old chunks.new line.items) }
     {
-        let answer = match command {
-            TocCommand::Alloc { name, bytes } => self.alloc(alloc, r, chunks, name, bytes)?,
-            TocCommand::Insert { key, name } => self.insert(r, chunks, key, name),
-            TocCommand::Find { key } => self.find(r, key),
-            TocCommand::Freeze => self.freeze(r),
-            TocCommand::Attach { magic } => self.attach(r, magic),
-        };
-        answer.text(alloc, chunks)
+        match command {
+            TocCommand::Alloc { name, bytes } => {
+                let answer = self.alloc(alloc, r, chunks, name, bytes)?;
+                answer.text(alloc, chunks)
+            }
+            TocCommand::Insert { key, name } => {
+                self.insert(r, chunks, key, name).text(alloc, chunks)
+            }
+            TocCommand::Find { key } => self.find(r, key).text(alloc, chunks),
+            TocCommand::Freeze => self.freeze(r).text(alloc, chunks),
+            TocCommand::Attach { magic } => self.attach(r, magic).text(alloc, chunks),
+        }
     }
 
     /// A chunk of the table under a new name.

@@ -138,19 +138,24 @@ impl Rings {
         ensures rings { OnOk result (AreRings r.now self.new) }
         ensures answer { IfOk result (λ line. IsAnswered heap.old heap.new self.old self.new (request_of command.entry) line.items) }
     {
-        let answer = match command {
-            RingCommand::Receive { name } => return self.receive(alloc, r, name),
+        match command {
+            RingCommand::Receive { name } => self.receive(alloc, r, name),
             RingCommand::Ring {
                 name,
                 words,
                 from,
                 max,
-            } => self.ring(rt, alloc, r, heap, name, words, from, max)?,
-            RingCommand::Send { name, text, flush } => self.send(alloc, r, name, text, flush)?,
-            RingCommand::DetachSender { name } => self.detach_sender(r, name),
-            RingCommand::DetachReceiver { name } => self.detach_receiver(r, name),
-        };
-        answer.text(alloc, &[])
+            } => {
+                let answer = self.ring(rt, alloc, r, heap, name, words, from, max)?;
+                answer.text(alloc, &[])
+            }
+            RingCommand::Send { name, text, flush } => {
+                let answer = self.send(alloc, r, name, text, flush)?;
+                answer.text(alloc, &[])
+            }
+            RingCommand::DetachSender { name } => self.detach_sender(r, name).text(alloc, &[]),
+            RingCommand::DetachReceiver { name } => self.detach_receiver(r, name).text(alloc, &[]),
+        }
     }
 
     /// A ring of so many cells under a new name, in a chunk of the area.

@@ -16,7 +16,7 @@ use crate::script::read_script;
 use crate::shell::Shell;
 use crate::status::ANSWERED;
 use crate::stop::Stop;
-use crate::words::number;
+use crate::words::{number, place_of};
 use par_io::{Sink, Source, write_whole};
 use std::alloc::{AllocError, Global};
 use std::sync::Wait;
@@ -165,7 +165,7 @@ fn next_line(script: &[u8]) -> Option<(&[u8], &[u8])>
     if script.is_empty() {
         return None;
     }
-    match script.iter().position(|byte| *byte == b'\n') {
+    match place_of(script, b'\n') {
         Some(at) => Some((&script[..at], &script[at + 1..])),
         None => Some((script, &[])),
     }

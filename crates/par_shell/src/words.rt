@@ -1,6 +1,6 @@
 //! What a line is made of: words between single spaces, names, and numbers.
 
-ghost use Rattle.std.specs.Prelude.{◌≡◌, ◌<◌, ◌≤◌, ◌^◌, ℕ, IfSome, IfNone, length, map, option_map, take};
+ghost use Rattle.std.specs.Prelude.{◌≡◌, ◌==◌, ◌<◌, ◌≤◌, ◌^◌, ℕ, IfSome, IfNone, length, map, option_map, position, take};
 ghost use Rattle.par_shell.specs.Words.{behind_word, first_word, name_in, number_in, words_of};
 
 /// The byte between two words.
@@ -55,10 +55,17 @@ pub(crate) fn cut(text: &[u8]) -> (&[u8], Option<&[u8]>)
     ensures first { result.0.now ≡ first_word text.now }
     ensures behind { option_map (λ rest. rest.now) result.1 ≡ behind_word text.now }
 {
-    match text.iter().position(|byte| *byte == SPACE) {
+    match place_of(text, SPACE) {
         Some(at) => (&text[..at], Some(&text[at + 1..])),
         None => (text, None),
     }
+}
+
+/// The place of the first such byte.
+pub(crate) fn place_of(text: &[u8], byte: u8) -> Option<usize>
+    ensures { result ≡ position (λ b. b == byte) text.now }
+{
+    text.iter().position(|b| *b == byte)
 }
 
 /// The word as a name: one to 64 bytes.
@@ -76,14 +83,19 @@ pub(crate) fn number(word: &[u8], least: u64, most: u64) -> Option<u64>
     if word.is_empty() || word.len() > MOST_DIGITS {
         return None;
     }
+    let limit = u128::from(most);
     let mut value: u128 = 0;
     'digits: for digit in word {
-        if !digit.is_ascii_digit() || value > u128::from(most) {
+        if !digit.is_ascii_digit() {
             return None;
         }
-        value = value * 10 + u128::from(*digit - b'0');
+        if value > limit {
+            return None;
+        }
+        let unit = u128::from(*digit - b'0');
+        value = value * 10 + unit;
     }
-    if value < u128::from(least) || value > u128::from(most) {
+    if value < u128::from(least) || value > limit {
         return None;
     }
     Some(value as u64)

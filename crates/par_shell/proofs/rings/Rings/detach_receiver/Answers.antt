@@ -1,5 +1,5 @@
 use Rattle.std.proofs.Common.{Some, inr, rules, sym}
-use Rattle.par_shell.proofs.Named.{all_after, all_stays, puts, stays}
+use Rattle.par_shell.proofs.Named.{all_after, all_stays, puts, same}
 use Rattle.par_shell.specs.Rings.{IsQueue}
 use Rattle.par_shell.proofs.rings.Rings.detach_receiver.Goals as goal
 
@@ -20,4 +20,4 @@ returns-in-Some-clause-answer c =
     inr (c.detach_receiver.ensures.done, (c.in-Some.queue.now, new, sym c.in-Some.ensures.value, put, c.detach_receiver.ensures.leaves))
 
 pub returns-in-None-clause-rings : goal.returns-in-None-clause-rings
-returns-in-None-clause-rings c = all_stays (λ _ q. IsQueue c.args.r.now q) c.args.self.now.named c.get_mut.follows.lender-at-none (stays c.args.self.now.named c.get_mut.follows.lender-at-none c.get_mut.follows.holds-at-none) c.requires.rings
+returns-in-None-clause-rings c = all_stays (λ _ q. IsQueue c.args.r.now q) c.args.self.now.named c.get_mut.follows.lender-at-none (same c.args.self.now.named c.get_mut.follows.lender-at-none c.get_mut.follows.holds-at-none) c.requires.rings

@@ -1,6 +1,6 @@
 use Rattle.std.proofs.Common.{ℕ, List, Some, inr, rules, sym}
 use Rattle.std.proofs.lemmas.Result.{IfOk-weaker, on_ok_weaker}
-use Rattle.par_shell.proofs.Named.{all_after, all_stays, puts, stays}
+use Rattle.par_shell.proofs.Named.{all_after, all_stays, puts, same}
 use Rattle.par_shell.specs.Rings.{IsNoName, IsQueue, At, Receives, Sends, text_of}
 use Rattle.par_shell.specs.declared.rings.RingAnswer.{RingAnswer}
 use Rattle.par_shell.proofs.rings.Rings.send.Goals as goal
@@ -22,4 +22,4 @@ returns-in-Some-clause-answer c =
     IfOk-weaker c.send.result _ _ (λ answer does. inr (c.in-Some.queue.now, new, sym c.in-Some.ensures.value, put, does)) c.send.ensures.answer
 
 pub returns-in-None-clause-rings : goal.returns-in-None-clause-rings
-returns-in-None-clause-rings c = all_stays (λ _ q. IsQueue c.args.r.now q) c.args.self.now.named c.get_mut.follows.lender-at-none (stays c.args.self.now.named c.get_mut.follows.lender-at-none c.get_mut.follows.holds-at-none) c.requires.rings
+returns-in-None-clause-rings c = all_stays (λ _ q. IsQueue c.args.r.now q) c.args.self.now.named c.get_mut.follows.lender-at-none (same c.args.self.now.named c.get_mut.follows.lender-at-none c.get_mut.follows.holds-at-none) c.requires.rings

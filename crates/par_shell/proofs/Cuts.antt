@@ -1,0 +1,68 @@
+-- Where a text is cut at the first byte that passes a test.
+use Rattle.std.proofs.Common.{◌≡◌, ◌∙◌, ◌⊎◌, inl, inr, ℕ, suc, ◌+◌, ◌<◌, ◌≤◌, Bool, true, false, not, cond, List, [], ◌∷◌, length, take, drop, Option, None, Some, nat_lt, refl, ap, sym, subst, arith}
+use Rattle.std.proofs.lemmas.Bool.{cases_Bool}
+use Rattle.std.proofs.lemmas.Bool.Decides.{nat_tests}
+use Rattle.std.proofs.lemmas.List.Elements.{All-cons, All-nil}
+use Rattle.std.specs.List.{All, after_first, before_first, list_any, position, position_or_len}
+use Rattle.std.specs.Prelude.{◌||◌, if◌then◌else◌}
+use Rattle.par_shell.specs.Words.{behind_word, first_word, is_space}
+
+module _ {X : Type 0} (p : X → Bool) where
+  -- a byte passes, or none does
+  IsCut : List X → Type 0
+  IsCut xs = ((position_or_len p xs < length xs) × (list_any p xs ≡ true)) ⊎ ((position_or_len p xs ≡ length xs) × (list_any p xs ≡ false) × All (λ x. p x ≡ false) xs)
+
+  cut-here : (x : X) (xs : List X) (b : Bool) → p x ≡ b → IsCut xs → IsCut (x ∷ xs)
+  cut-here x xs true e rest = inl (rw e (omega arith), rw e refl)
+  cut-here x xs false e (inl r) = inl (rw e (omega (arith, r.0)), rw e r.1)
+  cut-here x xs false e (inr r) = inr (rw e (omega (arith, r.0)), rw e r.1, All-cons (λ y. p y ≡ false) x xs e r.2)
+
+  cuts : (xs : List X) → IsCut xs
+  cuts [] = inr (refl, refl, All-nil (λ x. p x ≡ false))
+  cuts (x ∷ xs) = cut-here x xs (p x) refl (cuts xs)
+
+  -- what a place that was found is
+  pub found-at : (xs : List X) (at : ℕ) → Some at ≡ position p xs → (at ≡ position_or_len p xs) × (position_or_len p xs < length xs) × (list_any p xs ≡ true)
+  found-at xs at e = by (cuts xs)
+    where
+      by : IsCut xs → (at ≡ position_or_len p xs) × (position_or_len p xs < length xs) × (list_any p xs ≡ true)
+      by (inl r) =
+          let lt : nat_lt (position_or_len p xs) (length xs) ≡ true = let l = r.0 in grind (arith, nat_tests) in
+          let is : Some at ≡ Some (position_or_len p xs) = e ∙ ap (λ (b : Bool). cond b (Some (position_or_len p xs)) None) lt in
+          let same : at ≡ position_or_len p xs = cc in
+          (same, r.0, r.1)
+      by (inr r) =
+          let ge : nat_lt (position_or_len p xs) (length xs) ≡ false = let l = r.0 in grind (arith, nat_tests) in
+          let no : Some at ≡ None = e ∙ ap (λ (b : Bool). cond b (Some (position_or_len p xs)) None) ge in
+          absurd (cc)
+
+  -- what it means that there is none
+  pub not-found : (xs : List X) → None ≡ position p xs → (position_or_len p xs ≡ length xs) × (list_any p xs ≡ false) × All (λ x. p x ≡ false) xs
+  not-found xs e = by (cuts xs)
+    where
+      by : IsCut xs → (position_or_len p xs ≡ length xs) × (list_any p xs ≡ false) × All (λ x. p x ≡ false) xs
+      by (inl r) =
+          let lt : nat_lt (position_or_len p xs) (length xs) ≡ true = let l = r.0 in grind (arith, nat_tests) in
+          let no : None ≡ Some (position_or_len p xs) = e ∙ ap (λ (b : Bool). cond b (Some (position_or_len p xs)) None) lt in
+          absurd (cc)
+      by (inr r) = r
+
+take-all : (xs : List ℕ) → take (length xs) xs ≡ xs
+take-all [] = refl
+take-all (x ∷ xs) = ap (λ (l : List ℕ). x ∷ l) (take-all xs)
+
+-- a text with a space
+pub cut-first : (text : List ℕ) (at : ℕ) → Some at ≡ position is_space text → take at text ≡ first_word text
+cut-first text at e = ap (λ (n : ℕ). take n text) (found-at is_space text at e).0
+
+pub cut-behind : (text : List ℕ) (at : ℕ) → Some at ≡ position is_space text → Some (drop (at + 1) text) ≡ behind_word text
+cut-behind text at e =
+    let f = found-at is_space text at e in
+    ap (λ (n : ℕ). Some (drop (n + 1) text)) f.0 ∙ sym (ap (λ (b : Bool). if b then Some (after_first is_space text) else None) f.2)
+
+-- one without
+pub whole-first : (text : List ℕ) → None ≡ position is_space text → text ≡ first_word text
+whole-first text e = sym (ap (λ (n : ℕ). take n text) (not-found is_space text e).0 ∙ take-all text)
+
+pub whole-behind : (text : List ℕ) → None ≡ position is_space text → None ≡ behind_word text
+whole-behind text e = sym (ap (λ (b : Bool). if b then Some (after_first is_space text) else None) (not-found is_space text e).1)
