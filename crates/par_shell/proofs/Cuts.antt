@@ -1,15 +1,17 @@
 -- Where a text is cut at the first byte that passes a test.
-use Rattle.std.proofs.Common.{◌≡◌, ◌∙◌, ◌⊎◌, inl, inr, ℕ, suc, ◌+◌, ◌<◌, ◌≤◌, Bool, true, false, not, cond, List, [], ◌∷◌, length, take, drop, Option, None, Some, nat_lt, refl, ap, sym, subst, arith}
+use Rattle.std.proofs.Common.{◌≡◌, ◌∙◌, ◌⊎◌, inl, inr, ℕ, suc, ◌+◌, ◌-◌, ◌<◌, ◌≤◌, Bool, true, false, not, cond, List, [], ◌∷◌, ◌++◌, map, set, length, length-drop, take, drop, Option, None, Some, nat_lt, refl, ap, sym, subst, arith}
 use Rattle.std.proofs.lemmas.Bool.{cases_Bool}
 use Rattle.std.proofs.lemmas.Bool.Decides.{nat_tests}
 use Rattle.std.proofs.lemmas.List.Elements.{All-cons, All-nil}
 use Rattle.std.specs.List.{All, after_first, before_first, list_any, position, position_or_len}
 use Rattle.std.specs.Prelude.{◌||◌, if◌then◌else◌}
+use Rattle.std.proofs.Math.Seq.{take-suc-set}
+use Rattle.std.proofs.lemmas.List.{map-append}
 use Rattle.par_shell.specs.Words.{behind_word, first_word, is_space}
 
 module _ {X : Type 0} (p : X → Bool) where
   -- a byte passes, or none does
-  IsCut : List X → Type 0
+  abbrev IsCut : List X → Type 0
   IsCut xs = ((position_or_len p xs < length xs) × (list_any p xs ≡ true)) ⊎ ((position_or_len p xs ≡ length xs) × (list_any p xs ≡ false) × All (λ x. p x ≡ false) xs)
 
   cut-here : (x : X) (xs : List X) (b : Bool) → p x ≡ b → IsCut xs → IsCut (x ∷ xs)
@@ -51,14 +53,18 @@ take-all : (xs : List ℕ) → take (length xs) xs ≡ xs
 take-all [] = refl
 take-all (x ∷ xs) = ap (λ (l : List ℕ). x ∷ l) (take-all xs)
 
+-- the rest of a list, as it is cut off by a range
+pub take-rest : (n : ℕ) (xs : List ℕ) → take (length xs - n) (drop n xs) ≡ drop n xs
+take-rest n xs = ap (λ (k : ℕ). take k (drop n xs)) (sym (length-drop n xs)) ∙ take-all (drop n xs)
+
 -- a text with a space
 pub cut-first : (text : List ℕ) (at : ℕ) → Some at ≡ position is_space text → take at text ≡ first_word text
 cut-first text at e = ap (λ (n : ℕ). take n text) (found-at is_space text at e).0
 
-pub cut-behind : (text : List ℕ) (at : ℕ) → Some at ≡ position is_space text → Some (drop (at + 1) text) ≡ behind_word text
+pub cut-behind : (text : List ℕ) (at : ℕ) → Some at ≡ position is_space text → Some (take (length text - (at + 1)) (drop (at + 1) text)) ≡ behind_word text
 cut-behind text at e =
     let f = found-at is_space text at e in
-    ap (λ (n : ℕ). Some (drop (n + 1) text)) f.0 ∙ sym (ap (λ (b : Bool). if b then Some (after_first is_space text) else None) f.2)
+    ap (λ (l : List ℕ). Some l) (take-rest (at + 1) text) ∙ (ap (λ (n : ℕ). Some (drop (n + 1) text)) f.0 ∙ sym (ap (λ (b : Bool). if b then Some (after_first is_space text) else None) f.2))
 
 -- one without
 pub whole-first : (text : List ℕ) → None ≡ position is_space text → text ≡ first_word text
@@ -66,3 +72,9 @@ whole-first text e = sym (ap (λ (n : ℕ). take n text) (not-found is_space tex
 
 pub whole-behind : (text : List ℕ) → None ≡ position is_space text → None ≡ behind_word text
 whole-behind text e = sym (ap (λ (b : Bool). if b then Some (after_first is_space text) else None) (not-found is_space text e).1)
+
+-- one more word of a line
+pub words-more : {A B : Type 0} (f : A → B) (ws ys : List A) (n : ℕ) (x : A) → n < length ws → map f (take n ws) ≡ map f ys → map f (take (n + 1) (set ws n x)) ≡ map f (ys ++ x ∷ [])
+words-more f ws ys n x lt e =
+    let next : n + 1 ≡ suc n = omega arith in
+    ap (λ (k : ℕ). map f (take k (set ws n x))) next ∙ (ap (map f) (take-suc-set ws n x lt) ∙ (map-append f (take n ws) (x ∷ []) ∙ (ap (λ l. l ++ f x ∷ []) e ∙ sym (map-append f ys (x ∷ [])))))

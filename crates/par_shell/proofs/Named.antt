@@ -1,5 +1,5 @@
 -- What a change at one name of an ordered map leaves under each name.
-use Rattle.std.proofs.Common.{◌≡◌, ◌≢◌, ◌∙◌, ◌⊎◌, inl, inr, ℕ, Bool, true, false, List, Option, None, Some, is_some, refl, ap, sym, subst}
+use Rattle.std.proofs.Common.{◌≡◌, ◌≢◌, ◌∙◌, ◌⊎◌, inl, inr, ℕ, Bool, true, false, List, Option, None, Some, IfNone, IfSome, OnSome, is_some, option_map, refl, ap, sym, subst}
 use Rattle.std.proofs.lemmas.Bool.{cases_Bool}
 use Rattle.std.specs.BTreeMap.{BTreeMap, IsUnchanged, UpdatesBy, get_by, is_at}
 use Rattle.std.specs.Cmp.{eq_by_cmp_equiv}
@@ -110,3 +110,20 @@ module _ {X : Type 0} where
   -- the same where nothing changed
   pub all_stays : (P : List ℕ → X → Type 0) (m n : BTreeMap (Vec ℕ) X) → Stays m n → ((other : List ℕ) (y : X) → under m other ≡ Some y → P other y) → (other : List ℕ) (y : X) → under n other ≡ Some y → P other y
   all_stays P m n s all other y e = all other y (sym (s other) ∙ e)
+
+  -- what was taken from under a name
+  pub taken-none : (o : Option (Vec ℕ × X)) (name : List ℕ) (m n : BTreeMap (Vec ℕ) X) → option_map (λ p. p.1) o ≡ under m name → IfNone o (IsUnchanged m n) → IfNone o (IsFree m name × Stays m n)
+  taken-none None name m n e u = (sym e, stays m n u)
+  taken-none (Some p) name m n e u = tt
+
+  pub taken-key : (o : Option (Vec ℕ × X)) (name : List ℕ) → IfSome o (λ p. name_cmp name p.0 ≡ Equal) → IfSome o (λ p. p.0.items ≡ name)
+  taken-key None name h = tt
+  taken-key (Some p) name h = same_name name p.0 h
+
+  pub taken-value : (o : Option (Vec ℕ × X)) (name : List ℕ) (m : BTreeMap (Vec ℕ) X) → option_map (λ p. p.1) o ≡ under m name → IfSome o (λ p. under m name ≡ Some p.1)
+  taken-value None name m e = tt
+  taken-value (Some p) name m e = sym e
+
+  pub taken-rest : (o : Option (Vec ℕ × X)) (name : List ℕ) (m n : BTreeMap (Vec ℕ) X) → UpdatesBy vec_cmp (name_cmp name) m n None → OnSome o (Puts m n name None)
+  taken-rest None name m n h = tt
+  taken-rest (Some p) name m n h = puts name m n None h

@@ -214,3 +214,7 @@ among b xs xs' ys ys' p mid new call r n seen all alike at is =
       still-alike b (xs ++ p ∷ ys) (xs' ++ new ∷ ys') seen all alike n p mid here is.own is.number call r is.called zip,
       legal b (xs ++ p ∷ ys) (xs' ++ new ∷ ys') seen all alike n p mid here is.own is.number call r is.called zip,
     )
+
+-- two meetings, one after the other
+pub meets-twice : (b : Barrier) (h : History) (p q s : BarrierPass) → Meets b h p q → Meets b (history_of q) q s → Meets b h p s
+meets-twice b h p q s m n = record { own = n.own; number = n.number ∙ m.number; history = n.history ∙ m.history; mine = n.mine ∙ m.mine }

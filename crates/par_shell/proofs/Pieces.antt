@@ -1,7 +1,8 @@
 -- The lines of a script, one after another.
-use Rattle.std.proofs.Common.{◌≡◌, ◌≢◌, ◌∙◌, ℕ, ◌<◌, ◌==◌, ◌+◌, Bool, true, false, List, [], ◌∷◌, length, take, drop, refl, ap, sym, arith}
+use Rattle.std.proofs.Common.{◌≡◌, ◌≢◌, ◌∙◌, ℕ, ◌<◌, ◌==◌, ◌+◌, ◌-◌, Bool, true, false, List, [], ◌∷◌, length, length-drop, take, drop, None, Some, refl, ap, sym, arith}
 use Rattle.std.proofs.lemmas.List.Splits.{length-slice_split, slice_split_first, slice_split_none}
-use Rattle.std.specs.List.{All, after_first, before_first, count_by, position_or_len, slice_split}
+use Rattle.std.specs.List.{All, after_first, before_first, position, position_or_len, slice_split}
+use Rattle.par_shell.proofs.Cuts.{found-at, not-found, take-rest}
 use Rattle.par_shell.specs.Scripts.{lines_of, without_empty_last}
 
 -- a line feed
@@ -33,3 +34,18 @@ line-before-feed script lt =
 -- one without is its last line
 pub last-line : (script : List ℕ) → All (λ byte. is_feed byte ≡ false) script → script ≢ [] → lines_of script ≡ script ∷ []
 last-line script none some = ap without_empty_last (slice_split_none is_feed script none) ∙ keeps-last script some
+
+-- a line feed was found
+pub next-at : (script : List ℕ) (at : ℕ) → Some at ≡ position is_feed script → lines_of script ≡ take at script ∷ lines_of (take (length script - (at + 1)) (drop (at + 1) script))
+next-at script at e =
+    let f = found-at is_feed script at e in
+    line-before-feed script f.1 ∙ (ap (λ (n : ℕ). take n script ∷ lines_of (drop (n + 1) script)) (sym f.0) ∙ ap (λ (l : List ℕ). take at script ∷ lines_of l) (sym (take-rest (at + 1) script)))
+
+pub shorter-at : (script : List ℕ) (at : ℕ) → Some at ≡ position is_feed script → length (take (length script - (at + 1)) (drop (at + 1) script)) < length script
+shorter-at script at e =
+    let f = found-at is_feed script at e in
+    omega (arith, ap length (take-rest (at + 1) script), length-drop (at + 1) script, f.0, f.1)
+
+-- none was found
+pub next-last : (script : List ℕ) → None ≡ position is_feed script → script ≢ [] → lines_of script ≡ script ∷ lines_of []
+next-last script e some = last-line script (not-found is_feed script e).2 some

@@ -3,11 +3,11 @@
 //! Each name stands for a chunk, which the shell owns from the `alloc` to the `free`. Beside the names stands where
 //! each chunk begins, so that a place is found without a walk over the names.
 
-ghost use Rattle.std.specs.Prelude.{◌≡◌, ◌≢◌, ◌<◌, ◌≤◌, ◌^◌, ℕ, List, IfOk, OnOk, Some, None, is_some, option_map};
+ghost use Rattle.std.specs.Prelude.{◌≡◌, ◌≢◌, ◌<◌, ◌≤◌, ◌^◌, ℕ, List, IfNone, IfOk, IfSome, OnOk, OnSome, Some, None, is_some, option_map};
 ghost use Rattle.atomic_table.specs.Seated.{TableId};
 ghost use Rattle.par_shell.specs.Chunks.{Allocates, AreChunks, Frees, IsAnswered, IsHeap, Loads, LoadsWord, Stores, StoresWord, chunk_of, name_beside, text_of};
 ghost use Rattle.par_shell.specs.ChunkRequests.{IsAllowed, request_of};
-ghost use Rattle.par_shell.specs.Names.{IsFree, Puts};
+ghost use Rattle.par_shell.specs.Names.{IsFree, Puts, Stays};
 
 use crate::answers::{plain, with_number, with_numbers};
 use crate::command::ChunkCommand;
@@ -236,7 +236,7 @@ impl Chunks {
         ensures chunks { OnOk result (AreChunks r.now self.new) }
         ensures answer { IfOk result (λ answer. Frees heap.old heap.new self.old self.new name.now answer) }
     {
-        let Some((key, chunk)) = self.named.remove_entry(name) else {
+        let Some((key, chunk)) = self.take(name) else {
             return Ok(ChunkAnswer::NoName);
         };
         let place = chunk.at.word();
@@ -250,6 +250,17 @@ impl Chunks {
                 Ok(ChunkAnswer::Stranger)
             }
         }
+    }
+
+    /// Takes a chunk from under its name, with the key that it stood under.
+    fn take(&mut self, name: &[u8]) -> Option<(Vec<u8>, Chunk)>
+        ensures none { IfNone result (IsFree self.old.named name.now × Stays self.old.named self.new.named) }
+        ensures key { IfSome result (λ taken. taken.0.items ≡ name.now) }
+        ensures chunk { IfSome result (λ taken. chunk_of self.old name.now ≡ Some taken.1) }
+        ensures rest { OnSome result (Puts self.old.named self.new.named name.now None) }
+        ensures places { self.new.places ≡ self.old.places }
+    {
+        self.named.remove_entry(name)
     }
 
     /// Changes a word of the chunk.

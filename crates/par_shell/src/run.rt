@@ -122,12 +122,24 @@ fn pages(words: &[String]) -> Option<u32>
 {
     match words {
         [] => Some(USUAL_PAGES),
-        [option, pages] if option.as_str() == "--pages" && pages.len() <= MOST_DIGITS => {
-            let pages = number(pages.as_bytes(), 0, MOST_PAGES)?;
-            Some(pages as u32)
-        }
+        [option, pages] => pages_by(option.as_str(), pages.as_str()),
         _ => None,
     }
+}
+
+/// How many pages the two words ask for.
+fn pages_by(option: &str, pages: &str) -> Option<u32>
+    ensures pages { result ≡ pages_in (option.now ∷ pages.now ∷ []) }
+    ensures few { IfSome result (λ pages. pages ≤ 4096) }
+{
+    if option != "--pages" {
+        return None;
+    }
+    if pages.len() > MOST_DIGITS {
+        return None;
+    }
+    let pages = number(pages.as_bytes(), 0, MOST_PAGES)?;
+    Some(pages as u32)
 }
 
 /// Answers each line, and writes all answers.

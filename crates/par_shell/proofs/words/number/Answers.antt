@@ -6,9 +6,9 @@ pub returns-then-not-is_ascii_digit-clause-value : goal.returns-then-not-is_asci
 returns-then-not-is_ascii_digit-clause-value c =
     sym (none-at-other c.args.least c.args.most c.args.word.now c.digits.digit-index c.digits-test.true (sym c.is_ascii_digit.ensures.value ∙ c.if-not-is_ascii_digit.true))
 
-pub returns-then-value-gt-limit-clause-value : goal.returns-then-value-gt-limit-clause-value
-returns-then-value-gt-limit-clause-value c =
-    sym (none-at-large c.args.least c.args.most c.args.word.now c.digits.digit-index c.digits.value c.digits-test.true c.digits.invariant.value (omega (arith, c.from-limit.ensures, c.if-value-gt-limit.true)))
+pub returns-then-value-limit-clause-value : goal.returns-then-value-limit-clause-value
+returns-then-value-limit-clause-value c =
+    sym (none-at-large c.args.least c.args.most c.args.word.now c.digits.digit-index c.digits.value c.digits-test.true c.digits.invariant.value (omega (arith, c.from-limit.ensures, c.if-value-limit.true)))
 
 pub digits-preserved : goal.digits-preserved
 digits-preserved c =

@@ -1,4 +1,6 @@
-use Rattle.std.proofs.Common.{◌∙◌, ℕ, List, Some, BTreeMap, Vec, ap, subst}
+use Rattle.std.proofs.Common.{◌∙◌, ℕ, List, Some, ap, subst}
+use Rattle.std.specs.BTreeMap.{BTreeMap}
+use Rattle.std.specs.Global.{Vec}
 use Rattle.region_words.specs.declared.chunk.Chunk.{Chunk}
 use Rattle.par_shell.proofs.ChunkLaws.{entered}
 use Rattle.par_shell.proofs.Placed.{Sets, sets}

@@ -1,0 +1,43 @@
+-- Lists of words that are no command.
+use Rattle.std.proofs.Common.{◌≡◌, ◌≢◌, ◌∙◌, ◌⊎◌, inl, inr, ℕ, zero, suc, ◌==◌, ◌<◌, ◌≤◌, ◌^◌, Bool, true, false, List, [], ◌∷◌, length, Option, None, Some, refl, ap, sym, subst, arith}
+use Rattle.std.proofs.lemmas.Bool.{cases_eq}
+use Rattle.std.proofs.lemmas.Bool.Decides.{nat_tests}
+use Rattle.std.specs.Prelude.{◌||◌}
+use Rattle.par_shell.specs.ChunkRequests as chunks
+use Rattle.par_shell.specs.BarrierRequests as barriers
+use Rattle.par_shell.specs.Lines.{request_by}
+use Rattle.par_shell.specs.RingRequests as rings
+use Rattle.par_shell.specs.RingRequests.{is_power_below}
+use Rattle.par_shell.specs.TocRequests as toc
+
+-- more than five words
+pub too-many : (l : List (List ℕ)) → 5 < length l → request_by l ≡ None
+too-many [] lt = absurd (omega (arith, lt))
+too-many (a ∷ []) lt = absurd (omega (arith, lt))
+too-many (a ∷ b ∷ []) lt = absurd (omega (arith, lt))
+too-many (a ∷ b ∷ c ∷ []) lt = absurd (omega (arith, lt))
+too-many (a ∷ b ∷ c ∷ d ∷ []) lt = absurd (omega (arith, lt))
+too-many (a ∷ b ∷ c ∷ d ∷ e ∷ []) lt = absurd (omega (arith, lt))
+too-many (a ∷ b ∷ c ∷ d ∷ e ∷ f ∷ l) lt = refl
+
+or-true : (b : Bool) → (b || true) ≡ true
+or-true true = refl
+or-true false = refl
+
+-- a power of two with an exponent below a bound
+pub is-power : (bound n e : ℕ) → e < bound → n ≡ 2 ^ e → is_power_below bound n ≡ true
+unfolding is_power_below
+is-power zero n e lt is = absurd (omega (arith, lt))
+is-power (suc b) n e lt is = by (cases_eq e b)
+  where
+    by : (e ≡ b) ⊎ (e ≡ b → ⊥) → (n == 2 ^ b) || is_power_below b n ≡ true
+    by (inl same) = let here : n ≡ 2 ^ b = is ∙ ap (λ (k : ℕ). 2 ^ k) same in let test : (n == 2 ^ b) ≡ true = grind (arith, nat_tests) in rw test refl
+    by (inr other) = rw (is-power b n e (omega (arith, lt, other)) is) (or-true (n == 2 ^ b))
+
+pub no-power : (bound n : ℕ) → ((e : ℕ) → e < bound → n ≢ 2 ^ e) → is_power_below bound n ≡ false
+unfolding is_power_below
+no-power zero n no = refl
+no-power (suc b) n no =
+    let here : n ≢ 2 ^ b = no b (omega arith) in
+    let test : (n == 2 ^ b) ≡ false = grind (arith, nat_tests) in
+    rw (test, no-power b n (λ e lt. no e (omega (arith, lt)))) refl
