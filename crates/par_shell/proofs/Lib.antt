@@ -6,6 +6,7 @@ pub mod Filled
 pub mod Apart
 pub mod Pieces
 pub mod RunLaws
+pub mod StopLaws
 pub mod CommandLaws
 pub mod Cuts
 pub mod ContentLaws

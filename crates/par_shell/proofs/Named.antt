@@ -127,3 +127,8 @@ module _ {X : Type 0} where
   pub taken-rest : (o : Option (Vec ℕ × X)) (name : List ℕ) (m n : BTreeMap (Vec ℕ) X) → UpdatesBy vec_cmp (name_cmp name) m n None → OnSome o (Puts m n name None)
   taken-rest None name m n h = tt
   taken-rest (Some p) name m n h = puts name m n None h
+
+-- what a look-up tells of what it found
+pub found-by : {X A : Type 0} (f : X → A) (o : Option X) (a : A) → Some a ≡ option_map f o → (x : X) × (o ≡ Some x) × (f x ≡ a)
+found-by f None a e = absurd (cc)
+found-by f (Some x) a e = (x, refl, cc)

@@ -49,3 +49,8 @@ shorter-at script at e =
 -- none was found
 pub next-last : (script : List ℕ) → None ≡ position is_feed script → script ≢ [] → lines_of script ≡ script ∷ lines_of []
 next-last script e some = last-line script (not-found is_feed script e).2 some
+
+-- a script with something in it
+pub some-left : (script : List ℕ) (empty : Bool) → empty ≡ (length script == 0) → empty ≡ false → script ≢ []
+some-left [] empty e f z = cc
+some-left (x ∷ xs) empty e f z = cc

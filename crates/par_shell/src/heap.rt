@@ -1,12 +1,15 @@
 //! The area that the shell's chunks and rings come from, with its one pass.
 
-ghost use Rattle.std.specs.Prelude.{◌≡◌, ◌≤◌, ◌^◌, IfErr, IfOk};
+ghost use Rattle.std.specs.Prelude.{◌≡◌, ◌*◌, ◌≤◌, ◌^◌, IfErr, IfOk};
 ghost use Rattle.dsa_area.specs.Requests.{IsGranted, IsHandedBack, IsRefused, IsTakenBack};
+ghost use Rattle.dsa_area.specs.Shown.{IsFresh, pages_of};
 ghost use Rattle.dsa_area.specs.Sizes.{chunk_size};
+ghost use Rattle.free_pages.specs.Area.{area_size};
 ghost use Rattle.par_shell.specs.Chunks.{IsHeap};
 
 use dsa_area::{Area, AreaPass, NoSpace, Stranger};
 use region_words::{Chunk, Region};
+use std::alloc::{AllocError, Global};
 use std::sync::Wait;
 
 /// The area, and the pass of its one caller.
@@ -17,6 +20,27 @@ pub(crate) struct Heap {
 }
 
 impl Heap {
+    /// An area of so many pages in a chunk, with one caller.
+    pub(crate) fn new(
+        alloc: Global,
+        r: &Region,
+        chunk: Chunk,
+        pages: u32,
+    ) -> Result<Heap, AllocError>
+        requires here { chunk.part.region ≡ r.now }
+        requires size { chunk.bytes ≡ 8 * area_size pages }
+        requires few { pages ≤ 65536 }
+        ensures heap { IfOk result (IsHeap r.now) }
+        ensures pages { IfOk result (λ heap. pages_of heap.area ≡ pages) }
+        ensures fresh { IfOk result (λ heap. IsFresh heap.pass) }
+    {
+        let (area, mut passes) = Area::new(alloc, r, chunk, pages, 1)?;
+        let Some(pass) = passes.pop() else {
+            unreachable!()
+        };
+        Ok(Heap { area, pass })
+    }
+
     /// A chunk of at least so many bytes.
     pub(crate) fn alloc<R: Wait>(
         &mut self,

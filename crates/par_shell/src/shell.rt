@@ -10,7 +10,7 @@ use crate::command::{Command, read_line};
 use crate::contents::{Contents, TOC_WORDS};
 use crate::heap::Heap;
 use crate::rings::Rings;
-use dsa_area::{Area, area_words};
+use dsa_area::area_words;
 use region_words::Region;
 use std::alloc::{AllocError, Global};
 use std::sync::Wait;
@@ -29,6 +29,7 @@ pub struct Shell {
 impl Shell {
     /// A shell with an area of so many pages, in which nothing has a name. It takes memory for the region, 4,160 bytes
     /// a page, and for the locks of the area.
+    #[tactic(auto, using(word_map::proofs::Maps::answers, std::proofs::lemmas::Bool::Decides::nat_tests))]
     pub fn new(alloc: Global, pages: u32) -> Result<Shell, AllocError>
         requires few { pages ≤ 4096 }
         ensures shell { IfOk result (λ s. IsShell s) }
@@ -37,14 +38,11 @@ impl Shell {
         let words = area_words(pages);
         let (region, mut part) = Region::new(alloc, (TOC_WORDS + words) as usize)?;
         let chunk = part.split_chunk(&region, TOC_WORDS, words);
-        let (area, mut passes) = Area::new(alloc, &region, chunk, pages, 1)?;
-        let Some(pass) = passes.pop() else {
-            unreachable!()
-        };
+        let heap = Heap::new(alloc, &region, chunk, pages)?;
         let contents = Contents::new(&region, part);
         Ok(Shell {
             region,
-            heap: Heap { area, pass },
+            heap,
             chunks: Chunks::new(alloc),
             rings: Rings::new(alloc),
             contents,

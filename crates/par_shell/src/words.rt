@@ -31,12 +31,15 @@ impl<'a> Words<'a> {
     {
         let mut words: [&'a [u8]; MOST_WORDS] = [&[], &[], &[], &[], &[]];
         let mut count = 0;
-        'words: for word in line.split(|byte| *byte == SPACE) {
+        let mut left = Some(line);
+        'words: while let Some(text) = left {
             if count == MOST_WORDS {
                 return None;
             }
+            let (word, behind) = cut(text);
             words[count] = word;
             count += 1;
+            left = behind;
         }
         Some(Words { words, count })
     }

@@ -1,11 +1,14 @@
-use Rattle.std.proofs.Common.{◌≡◌, ◌≤◌, length, map, take}
+use Rattle.std.proofs.Common.{◌≡◌, ◌≤◌, ◌++◌, length, map, option_map, take}
+use Rattle.par_shell.proofs.Cuts.{pieces, room}
+use Rattle.par_shell.specs.Words.{words_of}
 use Rattle.par_shell.proofs.words.Words.of.Given as goal
 
 abbrev pub invariant-words : goal.invariant-words
 invariant-words l = record {
-  can_next : (goal.iterator-words).can_next l.word-iterator;
-  is_finite : (goal.iterator-words).is_finite l.word-iterator;
-  count : l.count ≡ length l.yielded;
   few : l.count ≤ 5;
-  words : map (λ word. word.now) (take l.count l.words) ≡ map (λ word. word.now) l.yielded;
+  long : length l.words ≡ 5;
+  words : map (λ word. word.now) (take l.count l.words) ++ pieces (option_map (λ text. text.now) l.left) ≡ words_of l.fn.line;
 }
+
+abbrev pub decreases-words : goal.decreases-words
+decreases-words l = room (option_map (λ text. text.now) l.left)
