@@ -1,6 +1,6 @@
 -- What a call of one pass, after which it meets all others, makes of the passes of a barrier.
 use Rattle.std.proofs.Common.{◌≡◌, ◌≢◌, ◌∙◌, ◌⊎◌, inl, inr, ℕ, zero, suc, ◌+◌, ◌<◌, ◌≤◌, List, [], ◌∷◌, ◌++◌, length, take, drop, get_or, set, length-drop, refl, ap, sym, subst, arith}
-use Rattle.std.proofs.lemmas.Bool.{cases_eq}
+use Rattle.std.proofs.lemmas.Bool.{cases_lt}
 use Rattle.std.specs.List.{All, AllZip}
 use mathlib.Core.Option.{Option, some, none}
 use lib.ListN.{get_elem?}
@@ -75,7 +75,7 @@ calls-of b p n h is number history =
 
 module _ (b : Barrier) (xs ys : List BarrierPass) (seen : History) (all : AreAll b xs) (alike : HasSeen xs seen) (n : ℕ) (p q : BarrierPass) (here : get_elem? xs n ≡ some p) (is : Belongs b q) (number : number_of q ≡ number_of p)
     (call : BarrierCall) (r : BarrierReply) (called : Called p q call r) (zip : AllZip (Goes b (number_of p) (history_of q)) xs ys) where
-  whole : History
+  abbrev whole : History
   whole = called.before ++ entry (number_of p) call r called.after ∷ []
 
   known : calls_by (number_of p) seen ≡ own_of p
@@ -205,7 +205,6 @@ pub among : (b : Barrier) (xs xs' ys ys' : List BarrierPass) (p mid new : Barrie
     → AreAll b (xs' ++ new ∷ ys') × HasSeen (xs' ++ new ∷ ys') (history_of mid) × BarrierLegal n (last_of nobody seen) call r (last_of nobody (history_of mid))
 among b xs xs' ys ys' p mid new call r n seen all alike at is =
     let here : get_elem? (xs ++ p ∷ ys) n ≡ some p = subst (λ (k : ℕ). get_elem? (xs ++ p ∷ ys) k ≡ some p) at (get-middle xs p ys) in
-    let R = Goes b (number_of p) (history_of mid) in
     let own : Goes b (number_of p) (history_of mid) p new = record { own = is.pass.own; number = is.pass.number ∙ is.number; history = is.pass.history; mine = λ ne. absurd (ne refl) } in
     let weaker = zip-weaker (Meets b (history_of mid)) (Goes b (number_of p) (history_of mid)) (goes-other b (number_of p) (history_of mid)) in
     let zip = zip-middle (Goes b (number_of p) (history_of mid)) xs xs' p new ys ys' (weaker xs xs' is.those_before) own (weaker ys ys' is.those_after) in
@@ -218,3 +217,11 @@ among b xs xs' ys ys' p mid new call r n seen all alike at is =
 -- two meetings, one after the other
 pub meets-twice : (b : Barrier) (h : History) (p q s : BarrierPass) → Meets b h p q → Meets b (history_of q) q s → Meets b h p s
 meets-twice b h p q s m n = record { own = n.own; number = n.number ∙ m.number; history = n.history ∙ m.history; mine = n.mine ∙ m.mine }
+
+-- after a call of a party, in range or not
+pub still-party : (old new : Party) (caller : ℕ) → (s : BarrierState) × IsParty old s → (callers_of old.barrier ≤ caller → new ≡ old) → (caller < callers_of old.barrier → (t : BarrierState) × IsParty new t) → (t : BarrierState) × IsParty new t
+still-party old new caller is out called = by (cases_lt caller (callers_of old.barrier))
+  where
+    by : (caller < callers_of old.barrier) ⊎ (callers_of old.barrier ≤ caller) → (t : BarrierState) × IsParty new t
+    by (inl lt) = called lt
+    by (inr le) = subst (λ (p : Party). (t : BarrierState) × IsParty p t) (sym (out le)) is

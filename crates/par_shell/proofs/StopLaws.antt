@@ -85,3 +85,8 @@ is-status w n e = subst (Contains statuses) (sym e) (by w)
     by WriteFault = search rules
     by Memory = search rules
     by TooLong = search rules
+
+-- what holds of a value that is there
+pub if-some : {A : Type 0} (o : Option A) (P Q : A → Type 0) → ((x : A) → P x → Q x) → IfSome o P → IfSome o Q
+if-some None P Q f h = tt
+if-some (Some x) P Q f h = f x h

@@ -12,7 +12,7 @@ ghost use Rattle.par_barrier.specs.Shown.{AreAll, Belongs, Called, History, arri
 ghost use Rattle.par_shell.specs.BarrierRequests.{IsAllowed, call_of, request_of};
 ghost use Rattle.par_shell.specs.Barriers.{AreBarriers, HasSeen, IsAnswered, IsCalled, IsParty, Makes, answer_of, text_of};
 ghost use Rattle.par_shell.specs.Meetings.{IsAlike, IsBehind, IsCalledAmong, Meets};
-ghost use Rattle.par_shell.specs.Names.{IsFree, Stays};
+ghost use Rattle.par_shell.specs.Names.{IsFree, Puts, Stays};
 ghost use Rattle.par_barrier.specs.declared.history.BarrierReply.{BarrierReply};
 ghost use Rattle.par_barrier.specs.declared.history.BarrierState.{BarrierState};
 ghost use Rattle.par_shell.specs.declared.barriers.PartyAnswer.TheVariants as answer;
@@ -193,16 +193,33 @@ impl Barriers {
         if self.named.contains_key(name) {
             return Ok(PartyAnswer::Named);
         }
-        let (barrier, passes) = Barrier::new(alloc, callers)?;
-        let party = Party { barrier, passes };
-        match self.named.insert(Vec::from_slice(alloc, name)?, party) {
-            Ok(_) => Ok(PartyAnswer::Done),
+        let party = Party::new(alloc, callers)?;
+        self.put(Vec::from_slice(alloc, name)?, party)?;
+        Ok(PartyAnswer::Done)
+    }
+
+    /// Puts a barrier under its name.
+    fn put(&mut self, key: Vec<u8>, party: Party) -> Result<(), AllocError>
+        ensures { OnOk result (Puts self.old.named self.new.named key.items (Some party)) }
+    {
+        match self.named.insert(key, party) {
+            Ok(_) => Ok(()),
             Err(_) => Err(AllocError),
         }
     }
 }
 
 impl Party {
+    /// A barrier that nobody takes part in, with the passes of its callers.
+    fn new(alloc: Global, callers: u32) -> Result<Party, AllocError>
+        requires some { 1 ≤ callers }
+        ensures callers { IfOk result (λ party. callers_of party.barrier ≡ callers) }
+        ensures party { IfOk result (λ party. IsParty party nobody) }
+    {
+        let (barrier, passes) = Barrier::new(alloc, callers)?;
+        Ok(Party { barrier, passes })
+    }
+
     /// What a caller does, and then all passes meet its pass.
     fn answer<R: Wait>(&mut self, rt: &R, caller: u64, call: PartyCall) -> PartyAnswer
         requires party { (s : BarrierState) × IsParty self.old s }
