@@ -1,4 +1,4 @@
-use Rattle.std.proofs.Common.{List, ℕ, Some, inl, subst}
+use Rattle.std.proofs.Common.{◌≡◌, List, ℕ, Some, inl, subst}
 use Rattle.std.proofs.lemmas.Result.{IfOk-weaker}
 use Rattle.std.specs.Global.{Vec}
 use Rattle.par_shell.proofs.Named.{found-by}

@@ -9,7 +9,7 @@ pub returns-in_ok-answer-in-Ring-clause-answer : goal.returns-in_ok-answer-in-Ri
 returns-in_ok-answer-in-Ring-clause-answer g c =
     let a = c.in_ok-answer-in-Ring.answer in
     let does = subst (λ (k : RingCommand). Answers c.args.heap.now c.ring.new.heap c.args.self.now c.ring.new.self (request_of k) a []) (sym c.in-Ring.is) c.in_ok-answer-in-Ring.ensures.answer in
-    IfOk-weaker c.text-in-Ring.result _ _ (λ line text. record { answer = a; message = []; text = text; does = does }) c.text-in-Ring.ensures
+    IfOk-weaker c.text.result _ _ (λ line text. record { answer = a; message = []; text = text; does = does }) c.text.ensures
 
 pub returns-in_ok-answer-in-Send-clause-answer : goal.returns-in_ok-answer-in-Send-clause-answer
 returns-in_ok-answer-in-Send-clause-answer g c =

@@ -15,6 +15,6 @@ words-preserved c =
     let so_far = subst (λ (o : Option (Bor (List ℕ))). map (λ word. word.now) (take c.words.count c.words.words) ++ pieces (option_map (λ text. text.now) o) ≡ words_of c.args.line.now) c.in-Some.is inv.words in
     record {
       few = omega (arith, inv.few, c.if-count-eq-MOST_WORDS.false);
-      long = length-set c.words.words c.words.count c.cut-word.result.0 ∙ inv.long;
-      words = words-next (λ (word : Bor (List ℕ)). word.now) c.words.words c.words.count c.cut-word.result.0 c.in-Some.text.now c.args.line.now (option_map (λ text. text.now) c.cut-word.result.1) (omega (arith, inv.few, inv.long, c.if-count-eq-MOST_WORDS.false)) c.cut-word.ensures.first c.cut-word.ensures.behind so_far;
+      long = length-set c.words.words c.words.count c.cut.result.0 ∙ inv.long;
+      words = words-next (λ (word : Bor (List ℕ)). word.now) c.words.words c.words.count c.cut.result.0 c.in-Some.text.now c.args.line.now (option_map (λ text. text.now) c.cut.result.1) (omega (arith, inv.few, inv.long, c.if-count-eq-MOST_WORDS.false)) c.cut.ensures.first c.cut.ensures.behind so_far;
     }
