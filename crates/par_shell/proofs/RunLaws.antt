@@ -1,10 +1,10 @@
 -- How a script is answered, line after line.
-use Rattle.std.proofs.Common.{◌≡◌, ◌∙◌, ◌⊎◌, inl, inr, ℕ, suc, ◌+◌, ◌≤◌, List, [], ◌∷◌, ◌++◌, Option, Some, None, length, take, append_assoc, refl, ap, sym, subst, arith}
+use Rattle.std.proofs.Common.{◌≡◌, ◌∙◌, ◌⊎◌, inl, inr, ℕ, suc, ◌+◌, ◌≤◌, List, [], ◌∷◌, ◌++◌, Option, Some, None, IfSome, OnErr, Result, Ok, Err, length, take, append_assoc, refl, ap, sym, subst, arith}
 use Rattle.std.proofs.KnownBytes.{Appends-trans}
 use Rattle.std.specs.Io.KnownBytes.{Appends}
 use Rattle.par_io.specs.Faults.{Rose}
-use Rattle.par_shell.specs.Lines.{IsAnswered, IsShell}
-use Rattle.par_shell.specs.Scripts.{Answers, AnswersPart, Runs, lines_of, written}
+use Rattle.par_shell.specs.Lines.{IsAnswered, IsShell, Opens}
+use Rattle.par_shell.specs.Scripts.{Answers, AnswersPart, IsPart, IsRun, Runs, lines_of, written}
 use Rattle.par_shell.specs.declared.shell.Shell.{Shell}
 
 -- so far these lines were answered, and of the text of the answers a front was written and the rest is gathered
@@ -115,3 +115,31 @@ halts first script shell left old now gathered s = stops first script shell left
 -- a count that rose since a later moment rose since an earlier one
 pub rose-since : (before now then : ℕ) → before ≤ now → Rose now then → Rose before then
 rose-since before now then le rose = omega (arith, le, rose)
+
+-- ---- one side of a result
+pub on-err : {A E : Type 0} (r : Result A E) (P : Type 0) → P → OnErr r P
+on-err (Ok a) P p = tt
+on-err (Err e) P p = p
+
+pub err-weaker : {A E : Type 0} (r : Result A E) (P Q : Type 0) → (P → Q) → OnErr r P → OnErr r Q
+err-weaker (Ok a) P Q f h = tt
+err-weaker (Err e) P Q f h = f h
+
+-- ---- from the bytes that a source had
+-- a part was answered
+pub part-of : (left : Option (List ℕ)) (asked : Option ℕ) (pages : ℕ) (items slice : List ℕ) (first : Shell) (old new : Option (List ℕ)) → IfSome left (λ bytes. items ≡ bytes) → Some pages ≡ asked → slice ≡ items → IsShell first → Opens pages first
+    → (text : List ℕ) × AnswersPart first slice text × Appends old new text → IfSome left (λ script. IfSome asked (λ n. (text : List ℕ) × IsPart n script text × Appends old new text))
+part-of None asked pages items slice first old new whole e same is opens p = tt
+part-of (Some bytes) None pages items slice first old new whole e same is opens p = absurd (cc)
+part-of (Some bytes) (Some n) pages items slice first old new whole e same is opens p =
+    let is_n : pages ≡ n = cc in
+    (p.0, (first, is, subst (λ (k : ℕ). Opens k first) is_n opens, subst (λ (l : List ℕ). AnswersPart first l p.0) (same ∙ whole) p.1), p.2)
+
+-- all was answered
+pub run-of : (left : Option (List ℕ)) (asked : Option ℕ) (pages : ℕ) (items slice : List ℕ) (first last : Shell) (old new : Option (List ℕ)) → IfSome left (λ bytes. items ≡ bytes) → Some pages ≡ asked → slice ≡ items → IsShell first → Opens pages first
+    → IsShell last → (text : List ℕ) × Answers first slice text last × Appends old new text → IfSome left (λ script. IfSome asked (λ n. (text : List ℕ) × IsShell last × IsRun n script text last × Appends old new text))
+run-of None asked pages items slice first last old new whole e same is opens ends_so p = tt
+run-of (Some bytes) None pages items slice first last old new whole e same is opens ends_so p = absurd (cc)
+run-of (Some bytes) (Some n) pages items slice first last old new whole e same is opens ends_so p =
+    let is_n : pages ≡ n = cc in
+    (p.0, ends_so, (first, is, subst (λ (k : ℕ). Opens k first) is_n opens, subst (λ (l : List ℕ). Answers first l p.0 last) (same ∙ whole) p.1), p.2)

@@ -165,7 +165,8 @@ fn answer_lines<R: Wait, O: Sink>(
         write_full(out, &mut answers)?;
         left = rest;
     }
-    write(out, answers.as_slice())
+    let gathered = answers.as_slice();
+    write(out, gathered)
 }
 
 /// The first line of a script, and what stands behind it.

@@ -12,8 +12,8 @@ meet_all-requires-clause-others g c =
     let called = c.call_by-answer.ensures.called in
     behind-call c.args.barrier.now c.args.pass.now c.call_by-answer.new.pass (call_of c.args.call) called.0 c.args.before.now called.1 c.requires.before
 
-pub meet_all-2-requires-clause-others : goal.meet_all-2-requires-clause-others
-meet_all-2-requires-clause-others g c =
+pub meet_all-requires-2-clause-others : goal.meet_all-requires-2-clause-others
+meet_all-requires-2-clause-others g c =
     let called = c.call_by-answer.ensures.called in
     let behind = behind-call c.args.barrier.now c.args.pass.now c.call_by-answer.new.pass (call_of c.args.call) called.0 c.args.after.now called.1 c.requires.after in
     subst (λ (h : History). All (IsBehind c.args.barrier.now h) c.args.after.now) (sym c.meet_all.ensures.own.history) behind

@@ -6,14 +6,14 @@ use Rattle.par_shell.specs.Barriers.{IsParty}
 use Rattle.par_shell.specs.Names.{Puts, under}
 use Rattle.par_shell.proofs.barriers.Barriers.make.Goals as goal
 
-pub returns-in_ok-put-clause-barriers : goal.returns-in_ok-put-clause-barriers
-returns-in_ok-put-clause-barriers c =
+pub returns-clause-barriers : goal.returns-clause-barriers
+returns-clause-barriers c =
     let party = c.in_ok-party.party in
     let put = subst (λ (l : List ℕ). Puts c.args.self.now.named c.put.new.self.named l (Some party)) c.in_ok-from_slice.ensures.items c.in_ok-put.ensures in
     all_after (λ _ p. (s : BarrierState) × IsParty p s) c.args.self.now.named c.put.new.self.named c.args.name.now party put c.requires.barriers (nobody, c.in_ok-party.ensures.party)
 
-pub returns-in_ok-put-clause-answer : goal.returns-in_ok-put-clause-answer
-returns-in_ok-put-clause-answer c =
+pub returns-clause-answer : goal.returns-clause-answer
+returns-clause-answer c =
     let party = c.in_ok-party.party in
     let put = subst (λ (l : List ℕ). Puts c.args.self.now.named c.put.new.self.named l (Some party)) c.in_ok-from_slice.ensures.items c.in_ok-put.ensures in
     (
