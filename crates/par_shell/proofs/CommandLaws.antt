@@ -54,27 +54,3 @@ size-in word n e is power few =
 pub no-size : (word : List ℕ) (n : ℕ) → Some n ≡ number_in 1 1048576 word → ((e : ℕ) → e ≤ 20 → n ≢ 2 ^ e) → None ≡ rings.ring_size_in word
 no-size word n is other =
     sym (ap (option_and_then (λ m. if is_power_below 21 m then Some m else None)) (sym is) ∙ ap (λ (b : Bool). if b then Some n else None) (no-power 21 n (λ e lt. other e (omega (arith, lt)))))
-
--- ---- no command over rings has so many words
-abbrev pub IsLeft : ℕ → Type 0
-IsLeft n = (n < 2) ⊎ ((n ≡ 4) ⊎ (6 ≤ n))
-
-out-of : (n : ℕ) → (n ≡ 2) ⊎ ((n ≡ 3) ⊎ (n ≡ 5)) → IsLeft n → ⊥
-out-of n (inl a) (inl b) = omega (arith, a, b)
-out-of n (inl a) (inr (inl b)) = omega (arith, a, b)
-out-of n (inl a) (inr (inr b)) = omega (arith, a, b)
-out-of n (inr (inl a)) (inl b) = omega (arith, a, b)
-out-of n (inr (inl a)) (inr (inl b)) = omega (arith, a, b)
-out-of n (inr (inl a)) (inr (inr b)) = omega (arith, a, b)
-out-of n (inr (inr a)) (inl b) = omega (arith, a, b)
-out-of n (inr (inr a)) (inr (inl b)) = omega (arith, a, b)
-out-of n (inr (inr a)) (inr (inr b)) = omega (arith, a, b)
-
-pub no-ring : (l : List (List ℕ)) (n : ℕ) → n ≡ length l → IsLeft n → None ≡ rings.request_in l
-no-ring [] n e h = refl
-no-ring (a ∷ []) n e h = refl
-no-ring (a ∷ b ∷ []) n e h = absurd (out-of n (inl e) h)
-no-ring (a ∷ b ∷ c ∷ []) n e h = absurd (out-of n (inr (inl e)) h)
-no-ring (a ∷ b ∷ c ∷ d ∷ []) n e h = refl
-no-ring (a ∷ b ∷ c ∷ d ∷ f ∷ []) n e h = absurd (out-of n (inr (inr e)) h)
-no-ring (a ∷ b ∷ c ∷ d ∷ f ∷ g ∷ l) n e h = refl

@@ -225,3 +225,24 @@ still-party old new caller is out called = by (cases_lt caller (callers_of old.b
     by : (caller < callers_of old.barrier) ⊎ (callers_of old.barrier ≤ caller) → (t : BarrierState) × IsParty new t
     by (inl lt) = called lt
     by (inr le) = subst (λ (p : Party). (t : BarrierState) × IsParty p t) (sym (out le)) is
+
+-- ---- the items of a vector whose slice was written
+drop-whole : {X : Type 0} (n : ℕ) (xs : List X) → length xs ≤ n → drop n xs ≡ []
+drop-whole zero [] le = refl
+drop-whole zero (x ∷ xs) le = absurd (omega (arith, le))
+drop-whole (suc n) [] le = refl
+drop-whole (suc n) (x ∷ xs) le = drop-whole n xs (omega (arith, le))
+
+append-nil : {X : Type 0} (xs : List X) → xs ++ [] ≡ xs
+append-nil [] = refl
+append-nil {X} (x ∷ xs) = ap (λ (l : List X). x ∷ l) (append-nil xs)
+
+take-whole : {X : Type 0} (xs : List X) → take (length xs) xs ≡ xs
+take-whole [] = refl
+take-whole {X} (x ∷ xs) = ap (λ (l : List X). x ∷ l) (take-whole xs)
+
+pub items-after : {X : Type 0} (old new : List X) (len : ℕ) → length new ≡ length old → len ≡ length old → take len (new ++ drop (length new) old) ≡ new
+items-after {X} old new len long is =
+    let none = drop-whole (length new) old (omega (arith, long)) in
+    let whole : new ++ drop (length new) old ≡ new = ap (λ (l : List X). new ++ l) none ∙ append-nil new in
+    ap (take len) whole ∙ (ap (λ (k : ℕ). take k new) (is ∙ sym long) ∙ take-whole new)

@@ -2,7 +2,6 @@
 use Rattle.std.proofs.Common.{◌≡◌, ◌∙◌, ◌⊎◌, inl, inr, ℕ, suc, ◌+◌, ◌≤◌, List, [], ◌∷◌, ◌++◌, Option, Some, None, IfSome, OnErr, Result, Ok, Err, length, take, append_assoc, refl, ap, sym, subst, arith}
 use Rattle.std.proofs.KnownBytes.{Appends-trans}
 use Rattle.std.specs.Io.KnownBytes.{Appends}
-use Rattle.par_io.specs.Faults.{Rose}
 use Rattle.par_shell.specs.Lines.{IsAnswered, IsShell, Opens}
 use Rattle.par_shell.specs.Scripts.{Answers, AnswersPart, IsPart, IsRun, Runs, lines_of, written}
 use Rattle.par_shell.specs.declared.shell.Shell.{Shell}
@@ -112,9 +111,6 @@ stops first script shell left old now then gathered n s a = (
 pub halts : (first : Shell) (script : List ℕ) (shell : Shell) (left : List ℕ) (old now : Option (List ℕ)) (gathered : List ℕ) → SoFar first script shell left old now gathered → (text : List ℕ) × AnswersPart first script text × Appends old now text
 halts first script shell left old now gathered s = stops first script shell left old now now gathered 0 s (appends-none now)
 
--- a count that rose since a later moment rose since an earlier one
-pub rose-since : (before now then : ℕ) → before ≤ now → Rose now then → Rose before then
-rose-since before now then le rose = omega (arith, le, rose)
 
 -- ---- one side of a result
 pub on-err : {A E : Type 0} (r : Result A E) (P : Type 0) → P → OnErr r P

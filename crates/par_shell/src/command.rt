@@ -245,6 +245,7 @@ fn ring_command<'a>(words: &[&'a [u8]]) -> Option<RingCommand<'a>>
     match words {
         [verb, ring] => receive_command(verb, ring),
         [verb, ring, end] => detach_command(verb, ring, end),
+        [_, _, _, _] => None,
         [verb, ring, words, from, max] => make_ring(verb, ring, words, from, max),
         _ => None,
     }

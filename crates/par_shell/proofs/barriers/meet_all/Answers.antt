@@ -1,5 +1,6 @@
-use Rattle.std.proofs.Common.{◌<◌, length, refl, arith}
+use Rattle.std.proofs.Common.{◌<◌, length, get_or, ap, refl, arith}
 use Rattle.par_barrier.specs.Shown.{history_of}
+use Rattle.par_barrier.specs.declared.barrier.BarrierPass.{BarrierPass}
 use Rattle.par_shell.specs.Meetings.{IsBehind, Meets}
 use Rattle.par_shell.proofs.PartyLaws.{all-next, meets-none, meets-one, zip-next}
 use Rattle.par_shell.proofs.barriers.meet_all.Goals as goal
@@ -10,8 +11,11 @@ others-init c = record { pass = meets-none c.args.barrier.now c.args.pass.now c.
 pub meet-requires : goal.meet-requires
 meet-requires c =
     let inv = c.others.invariant in
-    let lt : c.others.other-index < length c.others.others = omega (arith, c.others-test.true, c.others.auto.others) in
-    let behind = all-next (IsBehind c.args.barrier.now (history_of c.args.pass.now)) c.args.others.now c.others.others c.others.other-index c.other-item.result c.requires.others lt c.other-item.is inv.rest in
+    let ys = c.others.others in
+    let i = c.others.other-index in
+    let lt : i < length ys = omega (arith, c.others-test.true, c.others.auto.others) in
+    let is = ap (λ (d : BarrierPass). get_or ys i d) c.other-item.is in
+    let behind = all-next (IsBehind c.args.barrier.now (history_of c.args.pass.now)) c.args.others.now ys i (get_or ys i c.other-item.result) c.requires.others lt is inv.rest in
     record { own = (inv.pass.own, behind.own) }
 
 pub others-preserved : goal.others-preserved
@@ -22,10 +26,11 @@ others-preserved c =
     let xs = c.args.others.now in
     let ys = c.others.others in
     let i = c.others.other-index in
-    let x = c.other-item.result in
+    let x = get_or ys i c.other-item.result in
     let met = c.meet.ensures in
     let lt : i < length ys = omega (arith, c.others-test.true, c.others.auto.others) in
-    let behind = all-next (IsBehind b seen) xs ys i x c.requires.others lt c.other-item.is inv.rest in
+    let is = ap (λ (d : BarrierPass). get_or ys i d) c.other-item.is in
+    let behind = all-next (IsBehind b seen) xs ys i x c.requires.others lt is inv.rest in
     let one = meets-one b seen c.args.pass.now c.others.pass c.meet.new.self x c.meet.new.other inv.pass behind met.own met.numbers met.alike met.longer met.mine in
-    let next = zip-next (Meets b seen) xs ys i x c.meet.new.other lt c.other-item.is inv.rest inv.met one.1 in
+    let next = zip-next (Meets b seen) xs ys i x c.meet.new.other lt is inv.rest inv.met one.1 in
     record { pass = one.0; met = next.0; rest = next.1 }

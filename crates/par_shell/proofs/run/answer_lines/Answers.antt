@@ -19,7 +19,7 @@ lines-preserved g c =
     let first = c.args.shell.now in
     let script = c.args.script.now in
     let old = g.O.Sink.taken c.args.out.now in
-    let next = c.line.new.shell in
+    let next = c.line.new.self in
     let step = goes-on first script _ next _ c.in-Some.rest.now _ _ _ c.in-Some.line.now c.in_ok-answer.answer.items inv.so_far c.in-Some.ensures.line c.in_ok-answer.ensures.answer in
     let pushed = c.in_ok-push_line.ensures ∙ ap (λ (l : List ℕ). c.lines.answers.items ++ (l ++ 10 ∷ [])) c.as_slice.ensures.value in
     let gathered = subst (λ (l : List ℕ). SoFar first script next c.in-Some.rest.now old (g.O.Sink.taken c.lines.out) l) (sym pushed) step in
@@ -41,7 +41,7 @@ returns-in_err-write_full-clause-part g c =
     let first = c.args.shell.now in
     let script = c.args.script.now in
     let old = g.O.Sink.taken c.args.out.now in
-    let next = c.line.new.shell in
+    let next = c.line.new.self in
     let step = goes-on first script _ next _ c.in-Some.rest.now _ _ _ c.in-Some.line.now c.in_ok-answer.answer.items inv.so_far c.in-Some.ensures.line c.in_ok-answer.ensures.answer in
     let pushed = c.in_ok-push_line.ensures ∙ ap (λ (l : List ℕ). c.lines.answers.items ++ (l ++ 10 ∷ [])) c.as_slice.ensures.value in
     let gathered = subst (λ (l : List ℕ). SoFar first script next c.in-Some.rest.now old (g.O.Sink.taken c.lines.out) l) (sym pushed) step in
@@ -53,7 +53,7 @@ returns-clause-answered g c =
     let inv = c.lines.invariant in
     let now = g.O.Sink.taken c.lines.out in
     let then = g.O.Sink.taken c.write.new.out in
-    IfOk-weaker c.write.result _ _ (λ _ a. ends c.args.shell.now c.args.script.now _ _ _ _ then _ inv.so_far (search rules) (subst (λ (l : List ℕ). Appends now then l) c.as_slice-gathered.ensures.value a)) c.write.ensures.whole
+    IfOk-weaker c.write.result _ _ (λ _ a. ends c.args.shell.now c.args.script.now _ _ _ _ then _ inv.so_far c.in_default.ensures.none (subst (λ (l : List ℕ). Appends now then l) c.as_slice-gathered.ensures.value a)) c.write.ensures.whole
 
 pub returns-clause-part : goal.returns-clause-part
 returns-clause-part g c =
