@@ -110,9 +110,9 @@ forgotten region c c' name chunk a was p s = record {
         let n = a.noted other y (old other y e) in
         let m = a.noted name chunk was in
         let apart : y.at ≢ chunk.at = λ q. (
-            let f : Some n.0 ≡ Some m.0 = sym n.1 ∙ (ap (λ (k : ℕ). name_beside c.places k) q ∙ m.1) in
-            let g : n.0 ≡ m.0 = cc in
-            differs other y e (sym n.2 ∙ (ap (λ (v : Vec ℕ). v.items) g ∙ m.2))) in
+        let f : Some n.0 ≡ Some m.0 = sym n.1 ∙ (ap (λ (k : ℕ). name_beside c.places k) q ∙ m.1) in
+        let g : n.0 ≡ m.0 = cc in
+        differs other y e (sym n.2 ∙ (ap (λ (v : Vec ℕ). v.items) g ∙ m.2))) in
         (n.0, s.others y.at apart ∙ n.1, n.2)
 
     right : (place : ℕ) (k : Vec ℕ) → name_beside c'.places place ≡ Some k → (y : Chunk) × (chunk_of c' k.items ≡ Some y) × (y.at ≡ place)
@@ -120,9 +120,9 @@ forgotten region c c' name chunk a was p s = record {
         let away : place ≢ chunk.at = λ q. (let f : Some k ≡ None = sym e ∙ (ap (λ (l : ℕ). name_beside c'.places l) q ∙ s.there) in absurd (cc)) in
         let r = a.right place k (sym (s.others place away) ∙ e) in
         let still : k.items ≢ name = λ q. (
-            let found : chunk_of c name ≡ Some r.0 = subst (λ (l : List ℕ). chunk_of c l ≡ Some r.0) q r.1 in
-            let is_it : chunk ≡ r.0 = cc in
-            away (sym (ap (λ (y : Chunk). y.at) is_it ∙ r.2))) in
+        let found : chunk_of c name ≡ Some r.0 = subst (λ (l : List ℕ). chunk_of c l ≡ Some r.0) q r.1 in
+        let is_it : chunk ≡ r.0 = cc in
+        away (sym (ap (λ (y : Chunk). y.at) is_it ∙ r.2))) in
         (r.0, p.others k.items still ∙ r.1, r.2)
 
 -- a step of a chunk at a name leaves where it is

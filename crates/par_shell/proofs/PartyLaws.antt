@@ -151,8 +151,7 @@ all-next P (u ∷ xs) (v ∷ ys) (suc i) x all lt is same = all-next P xs ys i x
 pub meets-one : (b : Barrier) (seen : History) (old mid new x y : BarrierPass) → Meets b seen old mid → IsBehind b seen x → Belongs b new × Belongs b y → (number_of new ≡ number_of mid) × (number_of y ≡ number_of x)
     → history_of new ≡ history_of y → history_of new ≡ longer (history_of mid) (history_of x) → (own_of new ≡ own_of mid) × (own_of y ≡ own_of x) → Meets b seen old new × Meets b seen x y
 meets-one b seen old mid new x y m behind own numbers alike is mine =
-    let same : history_of new ≡ seen = is ∙ (ap (λ (h : History). longer h (history_of x)) m.history ∙ longer_front seen (history_of x) behind.begins) in
-    (
+    let same : history_of new ≡ seen = is ∙ (ap (λ (h : History). longer h (history_of x)) m.history ∙ longer_front seen (history_of x) behind.begins) in (
       record { own = own.0; number = numbers.0 ∙ m.number; history = same; mine = mine.0 ∙ m.mine },
       record { own = own.1; number = numbers.1; history = sym alike ∙ same; mine = mine.1 },
     )
@@ -207,8 +206,7 @@ among b xs xs' ys ys' p mid new call r n seen all alike at is =
     let here : get_elem? (xs ++ p ∷ ys) n ≡ some p = subst (λ (k : ℕ). get_elem? (xs ++ p ∷ ys) k ≡ some p) at (get-middle xs p ys) in
     let own : Goes b (number_of p) (history_of mid) p new = record { own = is.pass.own; number = is.pass.number ∙ is.number; history = is.pass.history; mine = λ ne. absurd (ne refl) } in
     let weaker = zip-weaker (Meets b (history_of mid)) (Goes b (number_of p) (history_of mid)) (goes-other b (number_of p) (history_of mid)) in
-    let zip = zip-middle (Goes b (number_of p) (history_of mid)) xs xs' p new ys ys' (weaker xs xs' is.those_before) own (weaker ys ys' is.those_after) in
-    (
+    let zip = zip-middle (Goes b (number_of p) (history_of mid)) xs xs' p new ys ys' (weaker xs xs' is.those_before) own (weaker ys ys' is.those_after) in (
       still-all b (xs ++ p ∷ ys) (xs' ++ new ∷ ys') seen all alike n p mid here is.own is.number call r is.called zip,
       still-alike b (xs ++ p ∷ ys) (xs' ++ new ∷ ys') seen all alike n p mid here is.own is.number call r is.called zip,
       legal b (xs ++ p ∷ ys) (xs' ++ new ∷ ys') seen all alike n p mid here is.own is.number call r is.called zip,

@@ -111,7 +111,6 @@ stops first script shell left old now then gathered n s a = (
 pub halts : (first : Shell) (script : List ℕ) (shell : Shell) (left : List ℕ) (old now : Option (List ℕ)) (gathered : List ℕ) → SoFar first script shell left old now gathered → (text : List ℕ) × AnswersPart first script text × Appends old now text
 halts first script shell left old now gathered s = stops first script shell left old now now gathered 0 s (appends-none now)
 
-
 -- ---- one side of a result
 pub on-err : {A E : Type 0} (r : Result A E) (P : Type 0) → P → OnErr r P
 on-err (Ok a) P p = tt

@@ -23,8 +23,7 @@ returns g c =
     let called = c.call_by-answer.ensures.called in
     let mid = c.call_by-answer.new.pass in
     let met = c.meet_all.ensures in
-    let met_too = c.meet_all-2.ensures in
-    (
+    let met_too = c.meet_all-2.ensures in (
       mid,
       called.0,
       called.2,

@@ -7,8 +7,7 @@ use Rattle.par_shell.proofs.contents.allocate.Goals as goal
 
 pub returns-in_ok-enter-in-Ok-clause-answer : goal.returns-in_ok-enter-in-Ok-clause-answer
 returns-in_ok-enter-in-Ok-clause-answer c =
-    let state = λ (t : Table). (let s : TocState = record { table = t; frozen = false } in s) in
-    (
+    let state = λ (t : Table). (let s : TocState = record { table = t; frozen = false } in s) in (
       refl,
       not-there (chunk_of c.args.chunks.now c.args.name.now) c.has.result c.has.ensures c.if-has.false,
       c.in-Ok.ensures.chunk.1,

@@ -11,8 +11,7 @@ pub returns-in-Ok-clause-answer : goal.returns-in-Ok-clause-answer
 returns-in-Ok-clause-answer c =
     let state = λ (t : Table). (let s : TocState = record { table = t; frozen = false } in s) in
     let found = found-by (λ (chunk : Chunk). chunk.at) (chunk_of c.args.chunks.now c.args.name.now) c.in-Some.place c.in-Some.ensures in
-    let entry = λ (p : ℕ). with_entry (table_of c.args.toc.now.words) (record { key = c.args.key; place = p }) in
-    (
+    let entry = λ (p : ℕ). with_entry (table_of c.args.toc.now.words) (record { key = c.args.key; place = p }) in (
       refl,
       c.in-Ok.ensures.fresh,
       (found.0, found.1, ap state (c.in-Ok.ensures.entered ∙ ap entry (c.of.ensures ∙ sym found.2))),

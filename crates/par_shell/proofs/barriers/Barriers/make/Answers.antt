@@ -15,8 +15,7 @@ returns-clause-barriers c =
 pub returns-clause-answer : goal.returns-clause-answer
 returns-clause-answer c =
     let party = c.in_ok-party.party in
-    let put = subst (λ (l : List ℕ). Puts c.args.self.now.named c.put.new.self.named l (Some party)) c.in_ok-from_slice.ensures.items c.in_ok-put.ensures in
-    (
+    let put = subst (λ (l : List ℕ). Puts c.args.self.now.named c.put.new.self.named l (Some party)) c.in_ok-from_slice.ensures.items c.in_ok-put.ensures in (
       not-there (under c.args.self.now.named c.args.name.now) c.contains_key.result c.contains_key.ensures c.if-contains_key.false,
       (party, c.in_ok-party.ensures.callers, c.in_ok-party.ensures.party, put),
     )

@@ -17,8 +17,7 @@ returns-in_ok-put-in-Ok-clause-rings g c =
 pub returns-in_ok-put-in-Ok-clause-answer : goal.returns-in_ok-put-in-Ok-clause-answer
 returns-in_ok-put-in-Ok-clause-answer g c =
     let queue = c.in_ok-queue-in-Ok.queue in
-    let put = subst (λ (l : List ℕ). Puts c.args.self.now.named c.put.new.self.named l (Some queue)) c.in_ok-from_slice-in-Ok.ensures.items c.in_ok-put-in-Ok.ensures in
-    (
+    let put = subst (λ (l : List ℕ). Puts c.args.self.now.named c.put.new.self.named l (Some queue)) c.in_ok-from_slice-in-Ok.ensures.items c.in_ok-put-in-Ok.ensures in (
       not-there (under c.args.self.now.named c.args.name.now) c.contains_key.result c.contains_key.ensures c.if-contains_key.false,
       c.in-Ok.ensures.area,
       (c.in-Ok.chunk.at, queue, c.in-Ok.ensures.granted, c.in_ok-queue-in-Ok.ensures.fresh, put),
