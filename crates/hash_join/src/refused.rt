@@ -1,0 +1,35 @@
+//! Which rows are refused. All rows are tested before any is joined.
+
+use csv_rows::RowStore;
+use par_model::{KEY_CAUSE, WIDTH_CAUSE};
+
+/// The most bytes of a row's field in the column.
+pub const LONGEST_KEY: usize = 248;
+
+/// A refused row, with its cause.
+#[derive(Debug, Clone, Copy, PartialEq, Eq)]
+pub(crate) struct Refused {
+    pub row: u64,
+    pub cause: u8,
+}
+
+/// Why a row is refused, if it is.
+fn cause_of(rows: &RowStore, column: u32, row: u64) -> Option<u8> {
+    if rows.width(row) != rows.width(0) {
+        return Some(WIDTH_CAUSE);
+    }
+    if rows.field(row, column).len() > LONGEST_KEY {
+        return Some(KEY_CAUSE);
+    }
+    None
+}
+
+/// The first row of a table that is refused, if one is.
+pub(crate) fn first_refused(rows: &RowStore, column: u32) -> Option<Refused> {
+    for row in 1..rows.count() + 1 {
+        if let Some(cause) = cause_of(rows, column, row) {
+            return Some(Refused { row, cause });
+        }
+    }
+    None
+}

@@ -1,0 +1,63 @@
+//! The shared table of the left rows, in an area of its own.
+
+use crate::last_row::LastRow;
+use dsa_area::{Area, AreaPass, area_words};
+use dshash_parts::{DsPass, Dshash};
+use region_words::Region;
+use std::alloc::{AllocError, Global};
+use std::sync::Wait;
+
+/// The pages of the area.
+pub(crate) const PAGES: u32 = 2048;
+
+/// The words of a packed key.
+pub(crate) const KEY_WORDS: u32 = 32;
+
+/// A table, with the area of its items. Threads share it by reference.
+#[derive(Drop)]
+pub(crate) struct Store {
+    pub(crate) region: Region,
+    pub(crate) area: Area,
+    pub(crate) table: Dshash<LastRow>,
+}
+
+/// The passes of all callers, in order of their numbers.
+#[derive(Drop)]
+pub(crate) struct Passes {
+    pub(crate) areas: Vec<AreaPass>,
+    pub(crate) tables: Vec<DsPass<LastRow>>,
+}
+
+/// An area of its own region, and the passes of so many callers.
+fn open_area(
+    alloc: Global,
+    callers: u32,
+) -> Result<(Region, Area, Vec<AreaPass>), AllocError> {
+    let words = area_words(PAGES);
+    let (region, mut part) = Region::new(alloc, words as usize + 1)?;
+    let chunk = part.split_chunk(&region, 1, words);
+    let (area, passes) = Area::new(alloc, &region, chunk, PAGES, callers)?;
+    Ok((region, area, passes))
+}
+
+/// An empty table for so many callers. Its area was just opened and has room for its slices, so a refusal is want of
+/// memory.
+pub(crate) fn open_store<R: Wait>(
+    rt: &R,
+    alloc: Global,
+    callers: u32,
+) -> Result<(Store, Passes), AllocError> {
+    let (region, area, mut areas) = open_area(alloc, callers)?;
+    let pass = &mut areas[0];
+    match Dshash::new(rt, alloc, &region, &area, pass, KEY_WORDS, callers) {
+        Ok((table, tables)) => {
+            let store = Store {
+                region,
+                area,
+                table,
+            };
+            Ok((store, Passes { areas, tables }))
+        }
+        Err(_) => Err(AllocError),
+    }
+}
