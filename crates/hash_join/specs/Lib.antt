@@ -1,1 +1,11 @@
+pub mod Answers
 pub mod Chains
+pub mod Filled
+pub mod Found
+pub mod Gathered
+pub mod Home
+pub mod Join
+pub mod Law
+pub mod Pairing
+pub mod Stores
+pub mod Used

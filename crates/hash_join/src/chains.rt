@@ -1,5 +1,10 @@
 //! The left rows of each key, as a chain: the last row of the key, and for each row the one before it.
 
+ghost use Rattle.std.specs.Prelude.{◌≡◌, ◌<◌, ◌+◌, ◌++◌, ◌∷◌, ℕ, ◌^◌, List, [], All, IfOk, OnOk, length, replicate};
+ghost use Rattle.gather_law.specs.Tuples.{Table};
+ghost use Rattle.hash_join.specs.Chains.{HasChain, before_in};
+ghost use Rattle.hash_join.specs.Gathered.{AddsRow, HasChains, HasLinks, HasPlaces, HasRoom};
+
 use key_table::KeyTable;
 use std::alloc::{AllocError, Global};
 
@@ -23,7 +28,11 @@ pub(crate) struct Chains {
 
 impl Chains {
     /// No chains, of rows up to this number.
-    pub(crate) fn new(alloc: Global, last: u64) -> Result<Chains, AllocError> {
+    pub(crate) fn new(alloc: Global, last: u64) -> Result<Chains, AllocError>
+        requires few { last < 2 ^ 63 }
+        ensures keys { IfOk result (λ c. (c.keys ≡ []) × (c.lasts.items ≡ [])) }
+        ensures befores { IfOk result (λ c. c.befores.items ≡ replicate (last + 1) 0) }
+    {
         Ok(Chains {
             keys: KeyTable::new(alloc),
             lasts: Vec::new(alloc),
@@ -32,7 +41,11 @@ impl Chains {
     }
 
     /// Sets the row before each of these.
-    pub(crate) fn link_all(&mut self, links: &[Link]) {
+    pub(crate) fn link_all(&mut self, links: &[Link])
+        requires rows { All (λ l. HasRoom self.old l.row) links.now }
+        ensures linked { HasLinks links.now self.old.befores.items self.new.befores.items }
+        ensures same { (self.new.keys ≡ self.old.keys) × (self.new.lasts ≡ self.old.lasts) }
+    {
         for link in links {
             self.befores[link.row as usize] = link.before;
         }
@@ -44,7 +57,13 @@ impl Chains {
         alloc: Global,
         key: &[u8],
         last: u64,
-    ) -> Result<(), AllocError> {
+    ) -> Result<(), AllocError>
+        requires places { HasPlaces self.old }
+        ensures places { OnOk result (HasPlaces self.new) }
+        ensures keys { OnOk result (self.new.keys ≡ self.old.keys ++ key.now ∷ []) }
+        ensures lasts { OnOk result (self.new.lasts.items ≡ self.old.lasts.items ++ last ∷ []) }
+        ensures befores { self.new.befores ≡ self.old.befores }
+    {
         self.lasts.push(last)?;
         self.keys.push(alloc, key)
     }
@@ -55,27 +74,40 @@ impl Chains {
         alloc: Global,
         key: &[u8],
         row: u64,
-    ) -> Result<(), AllocError> {
+    ) -> Result<(), AllocError>
+        requires places { HasPlaces self.old }
+        requires room { HasRoom self.old row }
+        ensures places { OnOk result (HasPlaces self.new) }
+        ensures room { length self.new.befores.items ≡ length self.old.befores.items }
+        ensures added { OnOk result (AddsRow key.now row self.old self.new) }
+    {
         match self.keys.find(key) {
             Some(place) => {
                 self.befores[row as usize] = self.lasts[place];
                 self.lasts[place] = row;
                 Ok(())
             }
-            None => self.add_key(alloc, key, row),
+            None => {
+                self.befores[row as usize] = 0;
+                self.add_key(alloc, key, row)
+            }
         }
     }
 
     /// The last row of a key, or 0 where it has none.
-    pub(crate) fn last(&self, key: &[u8]) -> u64 {
+    pub(crate) fn last(&self, key: &[u8]) -> u64
+        ensures { (records : Table) (column : ℕ) (rows : List ℕ) → HasChains records column rows self.now → HasChain (before_in self.now.befores.items) records column rows key.now result }
+    {
         match self.keys.find(key) {
-            Some(place) => self.lasts[place],
+            Some(place) => self.lasts.get(place).copied().unwrap_or(0),
             None => 0,
         }
     }
 
     /// The row before this one, or 0.
-    pub(crate) fn before(&self, row: u64) -> u64 {
-        self.befores[row as usize]
+    pub(crate) fn before(&self, row: u64) -> u64
+        ensures { result ≡ before_in self.now.befores.items row }
+    {
+        self.befores.get(row as usize).copied().unwrap_or(0)
     }
 }

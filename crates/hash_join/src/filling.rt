@@ -1,6 +1,13 @@
 //! What each participant of the first round does: it draws blocks of the left table and puts their rows into the shared
 //! table, each under its key.
 
+ghost use Rattle.std.specs.Prelude.{◌≡◌, ◌<◌, ◌+◌, ◌*◌, ◌++◌, ◌∷◌, ℕ, [], List, OnOk, false, length};
+ghost use Rattle.scan_claim.specs.Shown.{Belongs, blocks_of, draws_of};
+ghost use Rattle.gather_law.specs.Tuples.{AreBlocks};
+ghost use Rattle.hash_join.specs.Filled.{block_numbers};
+ghost use Rattle.hash_join.specs.Join.{AllAccepted, IsAccepted, IsRow, width_of};
+ghost use Rattle.hash_join.specs.Stores.{DidDraw, DidPut, HasFilled, Holds, IsNew, IsSame, IsStore};
+
 use crate::chains::Link;
 use crate::last_row::LastRow;
 use crate::store::Store;
@@ -35,7 +42,17 @@ fn put_row<R: Wait>(
     column: u32,
     filler: &mut Filler,
     row: u64,
-) -> Result<(), AllocError> {
+) -> Result<(), AllocError>
+    requires store { IsStore store.now }
+    requires own { Holds store.now filler.old }
+    requires row { IsRow rows.now row }
+    requires accepted { IsAccepted rows.now column row }
+    requires column { column < width_of rows.now }
+    ensures own { Holds store.now filler.new }
+    ensures same { IsSame filler.old filler.new }
+    ensures claim { filler.new.claim ≡ filler.old.claim }
+    ensures put { OnOk result ((list : List ℕ) → DidPut rows.now column list filler.old → DidPut rows.now column (list ++ row ∷ []) filler.new) }
+{
     let field = rows.field(row, column);
     if field.is_empty() {
         return Ok(());
@@ -67,7 +84,17 @@ fn put_block<R: Wait>(
     column: u32,
     filler: &mut Filler,
     block: u64,
-) -> Result<(), AllocError> {
+) -> Result<(), AllocError>
+    requires store { IsStore store.now }
+    requires own { Holds store.now filler.old }
+    requires block { BLOCK_ROWS * block + 1 < length rows.now }
+    requires accepted { AllAccepted rows.now column }
+    requires column { column < width_of rows.now }
+    ensures own { Holds store.now filler.new }
+    ensures same { IsSame filler.old filler.new }
+    ensures claim { filler.new.claim ≡ filler.old.claim }
+    ensures put { OnOk result ((list : List ℕ) → DidPut rows.now column list filler.old → DidPut rows.now column (list ++ block_numbers rows.now block) filler.new) }
+{
     let first = BLOCK_ROWS * block + 1;
     let count = (rows.count() - first + 1).min(BLOCK_ROWS);
     for at in 0..count {
@@ -84,7 +111,19 @@ fn put_blocks<R: Wait>(
     column: u32,
     claims: &Claims,
     filler: &mut Filler,
-) -> Result<(), AllocError> {
+) -> Result<(), AllocError>
+    requires store { IsStore store.now }
+    requires own { Holds store.now filler.old }
+    requires seat { Belongs claims.now filler.old.claim }
+    requires blocks { AreBlocks rows.now (blocks_of claims.now) }
+    requires accepted { AllAccepted rows.now column }
+    requires column { column < width_of rows.now }
+    requires drawn { DidDraw rows.now column filler.old }
+    ensures own { Holds store.now filler.new }
+    ensures seat { Belongs claims.now filler.new.claim }
+    ensures same { IsSame filler.old filler.new }
+    ensures filled { OnOk result (HasFilled rows.now column claims.now filler.new) }
+{
     for _ in rt.forever() {
         let Some(block) = filler.claim.claim(claims) else {
             return Ok(());
@@ -102,6 +141,18 @@ pub(crate) fn fill<R: Wait>(
     column: u32,
     claims: &Claims,
     filler: &mut Filler,
-) {
+)
+    requires store { IsStore store.now }
+    requires own { Holds store.now filler.old }
+    requires seat { Belongs claims.now filler.old.claim }
+    requires blocks { AreBlocks rows.now (blocks_of claims.now) }
+    requires accepted { AllAccepted rows.now column }
+    requires column { column < width_of rows.now }
+    requires new { IsNew filler.old }
+    ensures own { Holds store.now filler.new }
+    ensures seat { Belongs claims.now filler.new.claim }
+    ensures same { IsSame filler.old filler.new }
+    ensures filled { filler.new.lacks_memory ≡ false → HasFilled rows.now column claims.now filler.new }
+{
     filler.lacks_memory = put_blocks(rt, store, rows, column, claims, filler).is_err();
 }

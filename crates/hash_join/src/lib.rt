@@ -9,6 +9,11 @@
 
 #![tactic(auto)]
 
+ghost use Rattle.std.specs.Prelude.{◌≡◌, ◌<◌, ◌≤◌, IfErr, IfOk, OnOk, length};
+ghost use Rattle.hash_join.specs.Answers.{IsCause, most_pairs};
+ghost use Rattle.hash_join.specs.Join.{AllAccepted, pairs_of, width_of};
+ghost use Rattle.hash_join.specs.Used.{IsUsed};
+
 use csv_rows::RowStore;
 use dsa_area::AreaPass;
 use dshash_parts::ClosedTable;
@@ -23,6 +28,7 @@ use std::thread::Threads;
 mod chains;
 mod filling;
 mod gathering;
+mod laws;
 mod last_row;
 mod pairing;
 mod pairs;
@@ -33,6 +39,7 @@ mod tests;
 
 pub use chains::Link;
 pub use last_row::LastRow;
+pub use laws::{cells_are_chains, pairs_are_join};
 pub use pairing::MOST_PAIRS;
 pub use pairs::{Pair, Pairs};
 pub use refused::LONGEST_KEY;
@@ -76,7 +83,16 @@ pub fn join<R: Threads + Wait + Sync>(
     left_column: u32,
     right_column: u32,
     workers: u32,
-) -> Result<Joined, JoinAnswer> {
+) -> Result<Joined, JoinAnswer>
+    requires left_column { left_column < width_of left.now }
+    requires right_column { right_column < width_of right.now }
+    requires workers { workers ≤ 64 }
+    ensures accepted { OnOk result (AllAccepted left.now left_column × AllAccepted right.now right_column) }
+    ensures pairs { IfOk result (λ j. j.pairs ≡ pairs_of left.now right.now left_column right_column) }
+    ensures few { IfOk result (λ j. length j.pairs ≤ most_pairs) }
+    ensures cause { IfErr result (λ why. IsCause left.now right.now left_column right_column why) }
+    ensures used { IfOk result (λ j. IsUsed left.now left_column workers j) }
+{
     if let Some(refused) = first_refused(left, left_column) {
         return Err(JoinAnswer::Row {
             right: false,

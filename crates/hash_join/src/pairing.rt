@@ -1,5 +1,18 @@
 //! The second round: the participants draw blocks of the right table, and follow the chain of each row's key.
 
+ghost use Rattle.std.specs.Prelude.{◌≡◌, ◌<◌, ◌≤◌, ◌+◌, ◌*◌, ◌++◌, ℕ, List, [], All, OnOk, IfErr, IfOk, None, length, map};
+ghost use Rattle.std.specs.List.{flat_map};
+ghost use Rattle.std.specs.List.Sorted.{IsPermutation};
+ghost use Rattle.scan_claim.specs.Shown.{Belongs, blocks_of, draws_of, number_of};
+ghost use Rattle.gather_law.specs.Tuples.{AreBlocks, Table};
+ghost use Rattle.hash_join.specs.Answers.{most_pairs};
+ghost use Rattle.hash_join.specs.Chains.{IsChain, before_in};
+ghost use Rattle.hash_join.specs.Filled.{block_numbers};
+ghost use Rattle.hash_join.specs.Found.{Found, HasNone, found_in};
+ghost use Rattle.hash_join.specs.Gathered.{ChainsAll};
+ghost use Rattle.hash_join.specs.Join.{AllAccepted, pairs_of, width_of};
+ghost use Rattle.hash_join.specs.Pairing.{IsNewFinder, IsReason, StopsAdding, err_of, pairs_with};
+
 use crate::chains::Chains;
 use crate::gathering::count_blocks;
 use crate::pairs::{Pair, Pairs};
@@ -34,7 +47,12 @@ fn follow(
     last: u64,
     right: u64,
     pairs: &mut Vec<Pair>,
-) -> Result<(), NoPairs> {
+) -> Result<(), NoPairs>
+    requires few { length pairs.old.items ≤ most_pairs }
+    ensures few { length pairs.new.items ≤ most_pairs }
+    ensures added { OnOk result ((chain : List ℕ) → IsChain (before_in chains.now.befores.items) last chain → pairs.new.items ≡ pairs.old.items ++ pairs_with right chain) }
+    ensures stopped { IfErr result (λ why. (chain : List ℕ) → IsChain (before_in chains.now.befores.items) last chain → StopsAdding (length pairs.old.items + length chain) why) }
+{
     let mut left = last;
     while left != 0 {
         if pairs.len() >= MOST_PAIRS {
@@ -55,7 +73,16 @@ fn find_block(
     column: u32,
     block: u64,
     pairs: &mut Vec<Pair>,
-) -> Result<(), NoPairs> {
+) -> Result<(), NoPairs>
+    requires block { BLOCK_ROWS * block + 1 < length rows.now }
+    requires accepted { AllAccepted rows.now column }
+    requires column { column < width_of rows.now }
+    requires few { length pairs.old.items ≤ most_pairs }
+    ensures few { length pairs.new.items ≤ most_pairs }
+    ensures added { OnOk result ((left : Table) (c : ℕ) → ChainsAll left c chains.now → IsPermutation (pairs.old.items ++ found_in left rows.now c column (block_numbers rows.now block)) pairs.new.items) }
+    ensures stopped { IfErr result (λ why. (left : Table) (c : ℕ) → ChainsAll left c chains.now
+        → StopsAdding (length pairs.old.items + length (found_in left rows.now c column (block_numbers rows.now block))) why) }
+{
     let first = BLOCK_ROWS * block + 1;
     let count = (rows.count() - first + 1).min(BLOCK_ROWS);
     for at in 0..count {
@@ -75,7 +102,16 @@ fn find_blocks<R: Wait>(
     column: u32,
     claims: &Claims,
     finder: &mut Finder,
-) -> Result<(), NoPairs> {
+) -> Result<(), NoPairs>
+    requires seat { Belongs claims.now finder.old.claim }
+    requires blocks { AreBlocks rows.now (blocks_of claims.now) }
+    requires accepted { AllAccepted rows.now column }
+    requires column { column < width_of rows.now }
+    requires new { IsNewFinder finder.old }
+    ensures seat { Belongs claims.now finder.new.claim × (number_of finder.new.claim ≡ number_of finder.old.claim) }
+    ensures few { length finder.new.pairs.items ≤ most_pairs }
+    ensures found { (left : Table) (c : ℕ) → ChainsAll left c chains.now → Found left rows.now c column claims.now (draws_of finder.new.claim) finder.new.pairs.items (err_of result) }
+{
     for _ in rt.forever() {
         let Some(block) = finder.claim.claim(claims) else {
             return Ok(());
@@ -93,12 +129,24 @@ fn find<R: Wait>(
     column: u32,
     claims: &Claims,
     finder: &mut Finder,
-) {
+)
+    requires seat { Belongs claims.now finder.old.claim }
+    requires blocks { AreBlocks rows.now (blocks_of claims.now) }
+    requires accepted { AllAccepted rows.now column }
+    requires column { column < width_of rows.now }
+    requires new { IsNewFinder finder.old }
+    ensures seat { Belongs claims.now finder.new.claim × (number_of finder.new.claim ≡ number_of finder.old.claim) }
+    ensures few { length finder.new.pairs.items ≤ most_pairs }
+    ensures found { (left : Table) (c : ℕ) → ChainsAll left c chains.now → Found left rows.now c column claims.now (draws_of finder.new.claim) finder.new.pairs.items finder.new.stopped }
+{
     finder.stopped = find_blocks(rt, chains, rows, column, claims, finder).err();
 }
 
 /// The participants, each with its seat.
-fn finders(alloc: Global, seats: Vec<ClaimSeat>) -> Result<Vec<Finder>, AllocError> {
+fn finders(alloc: Global, seats: Vec<ClaimSeat>) -> Result<Vec<Finder>, AllocError>
+    ensures seats { IfOk result (λ v. map (λ (f : Finder). f.claim) v.items ≡ seats.items) }
+    ensures new { IfOk result (λ v. All (λ (f : Finder). (f.pairs.items ≡ []) × (f.stopped ≡ None)) v.items) }
+{
     let mut finders = Vec::with_capacity(alloc, seats.len())?;
     for claim in seats {
         finders.push(Finder {
@@ -111,7 +159,13 @@ fn finders(alloc: Global, seats: Vec<ClaimSeat>) -> Result<Vec<Finder>, AllocErr
 }
 
 /// The pairs of all participants, one after the other.
-fn collect(alloc: Global, finders: &Vec<Finder>) -> Result<Vec<Pair>, NoPairs> {
+fn collect(alloc: Global, finders: &Vec<Finder>) -> Result<Vec<Pair>, NoPairs>
+    requires few { All (λ (f : Finder). length f.pairs.items ≤ most_pairs) finders.now.items }
+    ensures all { IfOk result (λ v. v.items ≡ flat_map (λ (f : Finder). f.pairs.items) finders.now.items) }
+    ensures whole { OnOk result (All (λ (f : Finder). f.stopped ≡ None) finders.now.items) }
+    ensures few { IfOk result (λ v. length v.items ≤ most_pairs) }
+    ensures none { IfErr result (λ why. IsReason finders.now.items why) }
+{
     let mut all = Vec::new(alloc);
     for finder in finders {
         if let Some(why) = finder.stopped {
@@ -135,7 +189,14 @@ pub(crate) fn find_pairs<R: Threads + Wait + Sync>(
     rows: &RowStore,
     column: u32,
     callers: u32,
-) -> Result<Pairs, NoPairs> {
+) -> Result<Pairs, NoPairs>
+    requires callers { 1 ≤ callers }
+    requires accepted { AllAccepted rows.now column }
+    requires column { column < width_of rows.now }
+    ensures pairs { IfOk result (λ pairs. (left : Table) (c : ℕ) → ChainsAll left c chains.now → pairs ≡ pairs_of left rows.now c column) }
+    ensures few { IfOk result (λ pairs. length pairs ≤ most_pairs) }
+    ensures none { IfErr result (λ why. (left : Table) (c : ℕ) → ChainsAll left c chains.now → HasNone left rows.now c column why) }
+{
     let Ok((claims, seats)) = Claims::new(alloc, count_blocks(rows), callers) else {
         return Err(NoPairs::Memory);
     };

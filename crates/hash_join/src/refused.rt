@@ -1,5 +1,8 @@
 //! Which rows are refused. All rows are tested before any is joined.
 
+ghost use Rattle.std.specs.Prelude.{◌≡◌, ◌<◌, IfSome, IfNone, length};
+ghost use Rattle.hash_join.specs.Join.{AllAccepted, IsAccepted, IsFirstRefused, IsRefused, IsRow, width_of};
+
 use csv_rows::RowStore;
 use par_model::{KEY_CAUSE, WIDTH_CAUSE};
 
@@ -14,7 +17,12 @@ pub(crate) struct Refused {
 }
 
 /// Why a row is refused, if it is.
-fn cause_of(rows: &RowStore, column: u32, row: u64) -> Option<u8> {
+fn cause_of(rows: &RowStore, column: u32, row: u64) -> Option<u8>
+    requires row { IsRow rows.now row }
+    requires column { column < width_of rows.now }
+    ensures refused { IfSome result (λ cause. IsRefused rows.now column row cause) }
+    ensures accepted { IfNone result (IsAccepted rows.now column row) }
+{
     if rows.width(row) != rows.width(0) {
         return Some(WIDTH_CAUSE);
     }
@@ -25,7 +33,11 @@ fn cause_of(rows: &RowStore, column: u32, row: u64) -> Option<u8> {
 }
 
 /// The first row of a table that is refused, if one is.
-pub(crate) fn first_refused(rows: &RowStore, column: u32) -> Option<Refused> {
+pub(crate) fn first_refused(rows: &RowStore, column: u32) -> Option<Refused>
+    requires column { column < width_of rows.now }
+    ensures refused { IfSome result (λ r. IsFirstRefused rows.now column r.row r.cause) }
+    ensures accepted { IfNone result (AllAccepted rows.now column) }
+{
     for row in 1..rows.count() + 1 {
         if let Some(cause) = cause_of(rows, column, row) {
             return Some(Refused { row, cause });

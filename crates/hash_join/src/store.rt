@@ -1,5 +1,13 @@
 //! The shared table of the left rows, in an area of its own.
 
+ghost use Rattle.std.specs.Prelude.{◌≡◌, ◌≤◌, ◌^◌, ℕ, [], IfOk};
+ghost use mathlib.Core.Option.{some};
+ghost use lib.ListN.{get_elem?};
+ghost use Rattle.lock_book.specs.Shown.{mine_of};
+ghost use Rattle.dsa_area.specs.Shown.{AreAll as AreAllOfArea, IsArea, callers_of as area_callers};
+ghost use Rattle.dshash_parts.specs.Tables.{AreAll, callers_of};
+ghost use Rattle.hash_join.specs.Stores.{IsStore};
+
 use crate::last_row::LastRow;
 use dsa_area::{Area, AreaPass, area_words};
 use dshash_parts::{DsPass, Dshash};
@@ -29,10 +37,16 @@ pub(crate) struct Passes {
 }
 
 /// An area of its own region, and the passes of so many callers.
+#[tactic(auto, using(word_map::proofs::Maps::answers, std::proofs::lemmas::Bool::Decides::nat_tests))]
 fn open_area(
     alloc: Global,
     callers: u32,
-) -> Result<(Region, Area, Vec<AreaPass>), AllocError> {
+) -> Result<(Region, Area, Vec<AreaPass>), AllocError>
+    requires callers { 1 ≤ callers }
+    ensures area { IfOk result (λ a. IsArea a.0 a.1) }
+    ensures callers { IfOk result (λ a. area_callers a.1 ≡ callers) }
+    ensures passes { IfOk result (λ a. AreAllOfArea a.1 a.2.items) }
+{
     let words = area_words(PAGES);
     let (region, mut part) = Region::new(alloc, words as usize + 1)?;
     let chunk = part.split_chunk(&region, 1, words);
@@ -46,7 +60,14 @@ pub(crate) fn open_store<R: Wait>(
     rt: &R,
     alloc: Global,
     callers: u32,
-) -> Result<(Store, Passes), AllocError> {
+) -> Result<(Store, Passes), AllocError>
+    requires callers { 1 ≤ callers }
+    ensures store { IfOk result (λ s. IsStore s.0) }
+    ensures callers { IfOk result (λ s. (area_callers s.0.area ≡ callers) × (callers_of s.0.table ≡ callers)) }
+    ensures areas { IfOk result (λ s. AreAllOfArea s.0.area s.1.areas.items) }
+    ensures tables { IfOk result (λ s. AreAll s.0.table s.1.tables.items) }
+    ensures new { IfOk result (λ s. (n : ℕ) (p : _) → get_elem? s.1.tables.items n ≡ some p → (number : ℕ) → mine_of p number ≡ []) }
+{
     let (region, area, mut areas) = open_area(alloc, callers)?;
     let pass = &mut areas[0];
     match Dshash::new(rt, alloc, &region, &area, pass, KEY_WORDS, callers) {
