@@ -1,0 +1,12 @@
+pub mod Adding
+pub mod Anys
+pub mod Chained
+pub mod Exchange
+pub mod Filters
+pub mod Following
+pub mod Joining
+pub mod Keys
+pub mod Ordered
+pub mod Putting
+pub mod Rising
+pub mod Traced

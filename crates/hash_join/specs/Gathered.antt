@@ -46,10 +46,13 @@ abbrev pub AddsRow : List ℕ → ℕ → Chains → Chains → Type 0
 AddsRow key row c d = ((place : ℕ) × Extends key row place c d) ⊎ Begins key row c d
 
 -- the chain of each key has those of some rows that have the key; a key at no place has none
-pub record HasChains (records : Table) (column : ℕ) (rows : List ℕ) (c : Chains) : Type 0 where
-  pub once : (p q : ℕ) (key : List ℕ) → slice_get c.keys p ≡ Some key → slice_get c.keys q ≡ Some key → p ≡ q
-  pub chains : (p : ℕ) (key : List ℕ) → slice_get c.keys p ≡ Some key → HasChain (before_in c.befores.items) records column rows key (get_or c.lasts.items p 0)
-  pub absent : (key : List ℕ) → ((p : ℕ) → slice_get c.keys p ≡ Some key → ⊥) → HasChain (before_in c.befores.items) records column rows key 0
+pub record AreChains (records : Table) (column : ℕ) (rows : List ℕ) (keys : List (List ℕ)) (lasts befores : List ℕ) : Type 0 where
+  pub once : (p q : ℕ) (key : List ℕ) → slice_get keys p ≡ Some key → slice_get keys q ≡ Some key → p ≡ q
+  pub chains : (p : ℕ) (key : List ℕ) → slice_get keys p ≡ Some key → HasChain (before_in befores) records column rows key (get_or lasts p 0)
+  pub absent : (key : List ℕ) → ((p : ℕ) → slice_get keys p ≡ Some key → ⊥) → HasChain (before_in befores) records column rows key 0
+
+abbrev pub HasChains : Table → ℕ → List ℕ → Chains → Type 0
+HasChains records column rows c = AreChains records column rows c.keys c.lasts.items c.befores.items
 
 -- the entries of all partitions, one after the other, as these histories leave them
 pub record ListsEach (history : ℕ → List RowEntry) (entries : List (List ℕ × ℕ)) : Type 0 where

@@ -1,0 +1,14 @@
+use Rattle.std.proofs.Common.{◌≤◌, ◌++◌, ℕ, length, take}
+use Rattle.std.specs.List.Sorted.{IsPermutation}
+use Rattle.gather_law.specs.Tuples.{Table}
+use Rattle.hash_join.specs.Answers.{most_pairs}
+use Rattle.hash_join.specs.Filled.{block_numbers}
+use Rattle.hash_join.specs.Found.{found_in}
+use Rattle.hash_join.specs.Gathered.{ChainsAll}
+use Rattle.hash_join.proofs.pairing.find_block.Given as goal
+
+abbrev pub invariant-loop-at : goal.invariant-loop-at
+invariant-loop-at l = record {
+  few : length l.pairs.items ≤ most_pairs;
+  added : (left : Table) (c : ℕ) → ChainsAll left c l.chains → IsPermutation (l.initial.pairs.items ++ found_in left l.rows c l.column (take l.at (block_numbers l.rows l.block))) l.pairs.items;
+}

@@ -1,0 +1,19 @@
+use Rattle.std.proofs.Common.{◌≡◌, ◌≤◌, ℕ, length}
+use Rattle.std.specs.List.Sorted.{IsPermutation}
+use Rattle.scan_claim.specs.Shown.{Belongs, draws_of, number_of}
+use Rattle.gather_law.specs.Tuples.{Table}
+use Rattle.hash_join.specs.Answers.{most_pairs}
+use Rattle.hash_join.specs.Filled.{numbers_of_blocks}
+use Rattle.hash_join.specs.Found.{found_in}
+use Rattle.hash_join.specs.Gathered.{ChainsAll}
+use Rattle.hash_join.proofs.pairing.find_blocks.Given as goal
+
+abbrev pub invariant-loop : goal.invariant-loop
+invariant-loop g l = record {
+  can_next : (goal.iterator-loop g).can_next l.iterator';
+  finite : (goal.iterator-loop g).is_finite l.iterator';
+  seat : Belongs l.claims l.finder.claim;
+  number : number_of l.finder.claim ≡ number_of l.initial.finder.claim;
+  few : length l.finder.pairs.items ≤ most_pairs;
+  found : (left : Table) (c : ℕ) → ChainsAll left c l.chains → IsPermutation (found_in left l.rows c l.column (numbers_of_blocks l.rows (draws_of l.finder.claim))) l.finder.pairs.items;
+}
