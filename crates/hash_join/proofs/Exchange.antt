@@ -29,7 +29,7 @@ pub flat_map-same : {X A : Type 0} (f g : X → List A) → ((x : X) → f x ≡
 flat_map-same f g e [] = refl
 flat_map-same {X} {A} f g e (x ∷ xs) = ap (λ (l : List A). l ++ flat_map f xs) (e x) ∙ ap (λ (l : List A). g x ++ l) (flat_map-same f g e xs)
 
-flat_map-none : {X A : Type 0} (xs : List X) → flat_map {X} {A} (λ x. []) xs ≡ []
+flat_map-none : {X A : Type 0} (xs : List X) → flat_map {X = X} {A = A} (λ x. []) xs ≡ []
 flat_map-none [] = refl
 flat_map-none (x ∷ xs) = flat_map-none xs
 
@@ -63,7 +63,7 @@ module _ {A B C : Type 0} (p : A → B → Bool) (f : A → B → C) where
       by false e = e
 
   pub exchange : (xs : List A) (ys : List B) → IsPermutation (flat_map (with_second xs) ys) (flat_map (with_first ys) xs)
-  exchange [] ys = subst (λ l. IsPermutation l []) (sym (flat_map-none {B} {C} ys)) (IsPermutation-refl [])
+  exchange [] ys = subst (λ l. IsPermutation l []) (sym (flat_map-none {X = B} {A = C} ys)) (IsPermutation-refl [])
   exchange (x ∷ xs) ys =
       let apart = flat_map-same (with_second (x ∷ xs)) (λ y. one x y ++ with_second xs y) (one_more x xs) ys in
       let two = both (one x) (with_second xs) ys in

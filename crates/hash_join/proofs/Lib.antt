@@ -3,10 +3,14 @@ pub mod Anys
 pub mod Chained
 pub mod Exchange
 pub mod Filters
+pub mod Finding
 pub mod Following
 pub mod Joining
 pub mod Keys
+pub mod Numbers
 pub mod Ordered
 pub mod Putting
+pub mod Results
 pub mod Rising
 pub mod Traced
+pub mod Whole

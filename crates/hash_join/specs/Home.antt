@@ -41,22 +41,19 @@ pub record AreFilled (records : Table) (column : ℕ) (s : Store) (c : Claims) (
   pub count : length gs ≡ length fs
   pub each : (n : ℕ) (f g : Filler) → get_elem? fs n ≡ some f → get_elem? gs n ≡ some g → Became records column s c f g
 
--- a participant's pass of the table of left rows; g are the meanings of the locked partitions' members
+-- g are the meanings of the locked partitions' members
 module _ {g : Ghosts (Numbered LastRow ℕ ℕ ℕ) TableId (TableAsk LastRow ℕ ℕ ℕ) (TableAnswer LastRow ℕ ℕ ℕ) PartitionName (PartitionState ℕ) (PartitionCalls ℕ) (PartitionReplies ℕ ℕ)} where
-  abbrev pub RowPass : Type 0
-  RowPass = Pass (Numbered LastRow ℕ ℕ ℕ) TableId (TableAsk LastRow ℕ ℕ ℕ) (TableAnswer LastRow ℕ ℕ ℕ) PartitionName (PartitionState ℕ) (PartitionCalls ℕ) (PartitionReplies ℕ ℕ) g
-
   -- Each of the others has met the leader: the leader has seen all that it has seen; its own calls and its number stay
-  pub record HaveMet (s : Store) (leader : RowPass) (before after : List RowPass) : Type 0 where
+  pub record HaveMet (s : Store) (leader : Pass (Numbered LastRow ℕ ℕ ℕ) TableId (TableAsk LastRow ℕ ℕ ℕ) (TableAnswer LastRow ℕ ℕ ℕ) PartitionName (PartitionState ℕ) (PartitionCalls ℕ) (PartitionReplies ℕ ℕ) g) (before after : List (Pass (Numbered LastRow ℕ ℕ ℕ) TableId (TableAsk LastRow ℕ ℕ ℕ) (TableAnswer LastRow ℕ ℕ ℕ) PartitionName (PartitionState ℕ) (PartitionCalls ℕ) (PartitionReplies ℕ ℕ) g)) : Type 0 where
     pub count : length after ≡ length before
-    pub own : (n : ℕ) (p : RowPass) → get_elem? after n ≡ some p → table.Belongs s.table p
-    pub seen : (n i : ℕ) (p : RowPass) → get_elem? before n ≡ some p → StartsWith (seen_of leader i) (seen_of p i)
-    pub same : (n : ℕ) (p q : RowPass) → get_elem? before n ≡ some p → get_elem? after n ≡ some q → (number_of q ≡ number_of p) × ((i : ℕ) → mine_of q i ≡ mine_of p i)
+    pub own : (n : ℕ) (p : Pass (Numbered LastRow ℕ ℕ ℕ) TableId (TableAsk LastRow ℕ ℕ ℕ) (TableAnswer LastRow ℕ ℕ ℕ) PartitionName (PartitionState ℕ) (PartitionCalls ℕ) (PartitionReplies ℕ ℕ) g) → get_elem? after n ≡ some p → table.Belongs s.table p
+    pub seen : (n i : ℕ) (p : Pass (Numbered LastRow ℕ ℕ ℕ) TableId (TableAsk LastRow ℕ ℕ ℕ) (TableAnswer LastRow ℕ ℕ ℕ) PartitionName (PartitionState ℕ) (PartitionCalls ℕ) (PartitionReplies ℕ ℕ) g) → get_elem? before n ≡ some p → StartsWith (seen_of leader i) (seen_of p i)
+    pub same : (n : ℕ) (p q : Pass (Numbered LastRow ℕ ℕ ℕ) TableId (TableAsk LastRow ℕ ℕ ℕ) (TableAnswer LastRow ℕ ℕ ℕ) PartitionName (PartitionState ℕ) (PartitionCalls ℕ) (PartitionReplies ℕ ℕ) g) → get_elem? before n ≡ some p → get_elem? after n ≡ some q → (number_of q ≡ number_of p) × ((i : ℕ) → mine_of q i ≡ mine_of p i)
 
   -- The table of these passes was closed, with this history of each partition. The calls of each caller that were made
   -- are those of its pass; what its pass shows is there; no other has an entry; and these are the entries at the end
-  pub record IsClosed (passes : List RowPass) (history : ℕ → List RowEntry) (entries : List (List ℕ × ℕ)) : Type 0 where
-    pub made : (n i : ℕ) (p : RowPass) → get_elem? passes n ≡ some p → done_in (calls_by n (history i)) ≡ done_in (mine_of p i)
-    pub kept : (n i : ℕ) (p : RowPass) → get_elem? passes n ≡ some p → StartsWith (calls_by n (history i)) (mine_of p i)
+  pub record IsClosed (passes : List (Pass (Numbered LastRow ℕ ℕ ℕ) TableId (TableAsk LastRow ℕ ℕ ℕ) (TableAnswer LastRow ℕ ℕ ℕ) PartitionName (PartitionState ℕ) (PartitionCalls ℕ) (PartitionReplies ℕ ℕ) g)) (history : ℕ → List RowEntry) (entries : List (List ℕ × ℕ)) : Type 0 where
+    pub made : (n i : ℕ) (p : Pass (Numbered LastRow ℕ ℕ ℕ) TableId (TableAsk LastRow ℕ ℕ ℕ) (TableAnswer LastRow ℕ ℕ ℕ) PartitionName (PartitionState ℕ) (PartitionCalls ℕ) (PartitionReplies ℕ ℕ) g) → get_elem? passes n ≡ some p → done_in (calls_by n (history i)) ≡ done_in (mine_of p i)
+    pub kept : (n i : ℕ) (p : Pass (Numbered LastRow ℕ ℕ ℕ) TableId (TableAsk LastRow ℕ ℕ ℕ) (TableAnswer LastRow ℕ ℕ ℕ) PartitionName (PartitionState ℕ) (PartitionCalls ℕ) (PartitionReplies ℕ ℕ) g) → get_elem? passes n ≡ some p → StartsWith (calls_by n (history i)) (mine_of p i)
     pub no_others : (n i : ℕ) → i < 128 → length passes ≤ n → calls_by n (history i) ≡ []
-    pub entries : ListsEach history entries
+    pub listed : ListsEach history entries

@@ -1,9 +1,13 @@
 -- How the pairs of chains are added up.
-use Rattle.std.specs.Prelude.{◌≡◌, ◌<◌, ◌⊎◌, ℕ, List, [], Any, Option, Some, None, Result, Ok, Err, length, map}
+use Rattle.std.specs.Prelude.{◌≡◌, ◌<◌, ◌⊎◌, ℕ, List, [], All, Any, Some, None, length, map}
 use Rattle.std.specs.List.{flat_map}
-use Rattle.scan_claim.specs.Shown.{draws_of}
+use Rattle.scan_claim.specs.Shown.{Belongs, draws_of, number_of}
+use Rattle.scan_claim.specs.declared.claims.Claims.{Claims}
+use Rattle.gather_law.specs.Tuples.{Table}
 use Rattle.hash_join.specs.Answers.{most_pairs}
+use Rattle.hash_join.specs.Found.{Found}
 use Rattle.hash_join.specs.declared.pairing.Finder.{Finder}
+use Rattle.hash_join.specs.declared.pairing.Finding.{Finding}
 use Rattle.hash_join.specs.declared.pairing.NoPairs.{NoPairs}
 use Rattle.hash_join.specs.declared.pairing.NoPairs.TheVariants.{TooMany, Memory}
 use Rattle.hash_join.specs.declared.pairs.Pair.{Pair}
@@ -17,18 +21,23 @@ abbrev pub StopsAdding : ℕ → NoPairs → Type 0
 StopsAdding count TooMany = most_pairs < count
 StopsAdding count Memory = Unit {0}
 
--- the error of a result, if it is one
-abbrev pub err_of : {T E : Type 0} → Result T E → Option E
-err_of (Ok value) = None
-err_of (Err why) = Some why
-
--- a participant that has done nothing yet
-pub record IsNewFinder (f : Finder) : Type 0 where
+-- a participant with a seat, which has done nothing yet
+pub record IsNewFinder (c : Claims) (f : Finder) : Type 0 where
+  pub seat : Belongs c f.claim
   pub draws : draws_of f.claim ≡ []
-  pub pairs : f.pairs.items ≡ []
-  pub stopped : f.stopped ≡ None
+  pub pairs : f.finding.pairs.items ≡ []
+
+-- its seat has the same number as before
+pub record IsSameSeat (c : Claims) (f g : Finder) : Type 0 where
+  pub seat : Belongs c g.claim
+  pub number : number_of g.claim ≡ number_of f.claim
+
+-- what a participant found, or why it stopped early
+abbrev pub FinderFound : Table → Table → ℕ → ℕ → Claims → Finder → Type 0
+FinderFound left right left_column right_column c f = Found left right left_column right_column c (draws_of f.claim) f.finding.pairs.items f.finding.stopped
 
 -- why the participants have no list of pairs: one of them stopped, or they have too many together
-abbrev pub IsReason : List Finder → NoPairs → Type 0
-IsReason finders TooMany = Any (λ (f : Finder). f.stopped ≡ Some TooMany) finders ⊎ (most_pairs < length (flat_map (λ (f : Finder). f.pairs.items) finders))
-IsReason finders Memory = Unit {0}
+abbrev pub IsReason : List Finding → NoPairs → Type 0
+IsReason findings TooMany = Any (λ (f : Finding). f.stopped ≡ Some TooMany) findings
+    ⊎ (All (λ (f : Finding). f.stopped ≡ None) findings × (most_pairs < length (flat_map (λ (f : Finding). f.pairs.items) findings)))
+IsReason findings Memory = Unit {0}

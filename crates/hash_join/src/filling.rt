@@ -70,10 +70,15 @@ fn put_row<R: Wait>(
         &row,
     );
     match put {
-        Ok(before) => filler.links.push(Link { row, before })?,
-        Err(_) => filler.spilled.push(row)?,
+        Ok(before) => match filler.links.push(Link { row, before }) {
+            Ok(()) => Ok(()),
+            Err(_) => Err(AllocError),
+        },
+        Err(_) => match filler.spilled.push(row) {
+            Ok(()) => Ok(()),
+            Err(_) => Err(AllocError),
+        },
     }
-    Ok(())
 }
 
 /// Puts the rows of a block into the table.
@@ -95,10 +100,14 @@ fn put_block<R: Wait>(
     ensures claim { filler.new.claim ≡ filler.old.claim }
     ensures put { OnOk result ((list : List ℕ) → DidPut rows.now column list filler.old → DidPut rows.now column (list ++ block_numbers rows.now block) filler.new) }
 {
+    let last = rows.count();
     let first = BLOCK_ROWS * block + 1;
-    let count = (rows.count() - first + 1).min(BLOCK_ROWS);
+    let count = (last - first + 1).min(BLOCK_ROWS);
     for at in 0..count {
-        put_row(rt, store, rows, column, filler, first + at)?;
+        match put_row(rt, store, rows, column, filler, first + at) {
+            Ok(()) => {}
+            Err(lack) => return Err(lack),
+        }
     }
     Ok(())
 }
@@ -128,7 +137,10 @@ fn put_blocks<R: Wait>(
         let Some(block) = filler.claim.claim(claims) else {
             return Ok(());
         };
-        put_block(rt, store, rows, column, filler, block)?;
+        match put_block(rt, store, rows, column, filler, block) {
+            Ok(()) => {}
+            Err(lack) => return Err(lack),
+        }
     }
     unreachable!()
 }

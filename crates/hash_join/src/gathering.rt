@@ -15,7 +15,7 @@ ghost use Rattle.gather_law.specs.Tuples.{AreBlocks};
 ghost use Rattle.hash_join.specs.Chains.{last_step};
 ghost use Rattle.hash_join.specs.Filled.{done_in};
 ghost use Rattle.hash_join.specs.Gathered.{ChainsAll, IsCovered, ListsEach};
-ghost use Rattle.hash_join.specs.Home.{AreFilled, AreHome, AreNew, HaveMet, IsClosed};
+ghost use Rattle.hash_join.specs.Home.{AreFilled, AreNew, HaveMet, IsClosed};
 ghost use Rattle.hash_join.specs.Join.{AllAccepted, width_of};
 ghost use Rattle.hash_join.specs.Stores.{IsStore};
 ghost use Rattle.hash_join.specs.Used.{IsShared};
@@ -186,11 +186,15 @@ fn list_all<R: Wait>(
 {
     let mut all = Vec::new(alloc);
     for partition in 0..128 {
-        for entry in store
+        match store
             .table
-            .list_one(rt, alloc, &store.region, pass, partition)?
+            .list_one(rt, alloc, &store.region, pass, partition)
         {
-            all.push(entry)?;
+            Ok(mut entries) => match all.append(&mut entries) {
+                Ok(()) => {}
+                Err(lack) => return Err(lack),
+            },
+            Err(lack) => return Err(lack),
         }
     }
     Ok(all)

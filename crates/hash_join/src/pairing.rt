@@ -1,17 +1,17 @@
 //! The second round: the participants draw blocks of the right table, and follow the chain of each row's key.
 
-ghost use Rattle.std.specs.Prelude.{◌≡◌, ◌<◌, ◌≤◌, ◌+◌, ◌*◌, ◌++◌, ℕ, List, [], All, OnOk, IfErr, IfOk, None, length, map};
-ghost use Rattle.std.specs.List.{flat_map};
+ghost use Rattle.std.specs.Prelude.{◌≡◌, ◌<◌, ◌≤◌, ◌+◌, ◌*◌, ◌++◌, ℕ, List, [], All, Any, OnOk, IfErr, IfNone, IfOk, IfSome, None, Some, length, map};
+ghost use Rattle.std.specs.List.{AllZip, flat_map};
 ghost use Rattle.std.specs.List.Sorted.{IsPermutation};
 ghost use Rattle.scan_claim.specs.Shown.{Belongs, blocks_of, draws_of, number_of};
 ghost use Rattle.gather_law.specs.Tuples.{AreBlocks, Table};
 ghost use Rattle.hash_join.specs.Answers.{most_pairs};
 ghost use Rattle.hash_join.specs.Chains.{IsChain, before_in};
 ghost use Rattle.hash_join.specs.Filled.{block_numbers};
-ghost use Rattle.hash_join.specs.Found.{Found, HasNone, found_in};
+ghost use Rattle.hash_join.specs.Found.{HasFound, HasNone, Stops, found_in, found_of};
 ghost use Rattle.hash_join.specs.Gathered.{ChainsAll};
-ghost use Rattle.hash_join.specs.Join.{AllAccepted, pairs_of, width_of};
-ghost use Rattle.hash_join.specs.Pairing.{IsNewFinder, IsReason, StopsAdding, err_of, pairs_with};
+ghost use Rattle.hash_join.specs.Join.{AllAccepted, IsRow, pairs_of, width_of};
+ghost use Rattle.hash_join.specs.Pairing.{FinderFound, IsNewFinder, IsReason, IsSameSeat, StopsAdding, pairs_with};
 
 use crate::chains::Chains;
 use crate::gathering::count_blocks;
@@ -33,12 +33,18 @@ pub(crate) enum NoPairs {
     Memory,
 }
 
-/// A participant: its seat, the pairs of the rows of its blocks, and why it stopped early, if it did.
+/// The pairs of the rows of a participant's blocks, and why it stopped early, if it did.
 #[derive(Drop)]
-struct Finder {
-    claim: ClaimSeat,
+pub(crate) struct Finding {
     pairs: Vec<Pair>,
     stopped: Option<NoPairs>,
+}
+
+/// A participant: its seat, and what it found.
+#[derive(Drop)]
+pub(crate) struct Finder {
+    claim: ClaimSeat,
+    finding: Finding,
 }
 
 /// Adds the pairs of a right row with the rows of a chain.
@@ -66,6 +72,30 @@ fn follow(
     Ok(())
 }
 
+/// Adds the pairs of a row.
+fn find_row(
+    chains: &Chains,
+    rows: &RowStore,
+    column: u32,
+    row: u64,
+    pairs: &mut Vec<Pair>,
+) -> Result<(), NoPairs>
+    requires row { IsRow rows.now row }
+    requires accepted { AllAccepted rows.now column }
+    requires column { column < width_of rows.now }
+    requires few { length pairs.old.items ≤ most_pairs }
+    ensures few { length pairs.new.items ≤ most_pairs }
+    ensures added { OnOk result ((left : Table) (c : ℕ) → ChainsAll left c chains.now → IsPermutation (pairs.old.items ++ found_of left rows.now c column row) pairs.new.items) }
+    ensures stopped { IfErr result (λ why. (left : Table) (c : ℕ) → ChainsAll left c chains.now
+        → StopsAdding (length pairs.old.items + length (found_of left rows.now c column row)) why) }
+{
+    let field = rows.field(row, column);
+    if field.is_empty() {
+        return Ok(());
+    }
+    follow(chains, chains.last(field), row, pairs)
+}
+
 /// Adds the pairs of the rows of a block.
 fn find_block(
     chains: &Chains,
@@ -83,12 +113,13 @@ fn find_block(
     ensures stopped { IfErr result (λ why. (left : Table) (c : ℕ) → ChainsAll left c chains.now
         → StopsAdding (length pairs.old.items + length (found_in left rows.now c column (block_numbers rows.now block))) why) }
 {
+    let last = rows.count();
     let first = BLOCK_ROWS * block + 1;
-    let count = (rows.count() - first + 1).min(BLOCK_ROWS);
+    let count = (last - first + 1).min(BLOCK_ROWS);
     for at in 0..count {
-        let field = rows.field(first + at, column);
-        if !field.is_empty() {
-            follow(chains, chains.last(field), first + at, pairs)?;
+        match find_row(chains, rows, column, first + at, pairs) {
+            Ok(()) => {}
+            Err(why) => return Err(why),
         }
     }
     Ok(())
@@ -101,22 +132,27 @@ fn find_blocks<R: Wait>(
     rows: &RowStore,
     column: u32,
     claims: &Claims,
-    finder: &mut Finder,
+    claim: &mut ClaimSeat,
+    pairs: &mut Vec<Pair>,
 ) -> Result<(), NoPairs>
-    requires seat { Belongs claims.now finder.old.claim }
+    requires seat { Belongs claims.now claim.old }
     requires blocks { AreBlocks rows.now (blocks_of claims.now) }
     requires accepted { AllAccepted rows.now column }
     requires column { column < width_of rows.now }
-    requires new { IsNewFinder finder.old }
-    ensures seat { Belongs claims.now finder.new.claim × (number_of finder.new.claim ≡ number_of finder.old.claim) }
-    ensures few { length finder.new.pairs.items ≤ most_pairs }
-    ensures found { (left : Table) (c : ℕ) → ChainsAll left c chains.now → Found left rows.now c column claims.now (draws_of finder.new.claim) finder.new.pairs.items (err_of result) }
+    requires new { (draws_of claim.old ≡ []) × (pairs.old.items ≡ []) }
+    ensures seat { Belongs claims.now claim.new × (number_of claim.new ≡ number_of claim.old) }
+    ensures few { length pairs.new.items ≤ most_pairs }
+    ensures found { OnOk result ((left : Table) (c : ℕ) → ChainsAll left c chains.now → HasFound left rows.now c column claims.now (draws_of claim.new) pairs.new.items) }
+    ensures stopped { IfErr result (λ why. (left : Table) (c : ℕ) → ChainsAll left c chains.now → Stops left rows.now c column (draws_of claim.new) why) }
 {
     for _ in rt.forever() {
-        let Some(block) = finder.claim.claim(claims) else {
+        let Some(block) = claim.claim(claims) else {
             return Ok(());
         };
-        find_block(chains, rows, column, block, &mut finder.pairs)?;
+        match find_block(chains, rows, column, block, pairs) {
+            Ok(()) => {}
+            Err(why) => return Err(why),
+        }
     }
     unreachable!()
 }
@@ -130,58 +166,126 @@ fn find<R: Wait>(
     claims: &Claims,
     finder: &mut Finder,
 )
-    requires seat { Belongs claims.now finder.old.claim }
     requires blocks { AreBlocks rows.now (blocks_of claims.now) }
     requires accepted { AllAccepted rows.now column }
     requires column { column < width_of rows.now }
-    requires new { IsNewFinder finder.old }
+    requires new { IsNewFinder claims.now finder.old }
     ensures seat { Belongs claims.now finder.new.claim × (number_of finder.new.claim ≡ number_of finder.old.claim) }
-    ensures few { length finder.new.pairs.items ≤ most_pairs }
-    ensures found { (left : Table) (c : ℕ) → ChainsAll left c chains.now → Found left rows.now c column claims.now (draws_of finder.new.claim) finder.new.pairs.items finder.new.stopped }
+    ensures few { length finder.new.finding.pairs.items ≤ most_pairs }
+    ensures found { (left : Table) (c : ℕ) → ChainsAll left c chains.now → FinderFound left rows.now c column claims.now finder.new }
 {
-    finder.stopped = find_blocks(rt, chains, rows, column, claims, finder).err();
+    let found = find_blocks(
+        rt,
+        chains,
+        rows,
+        column,
+        claims,
+        &mut finder.claim,
+        &mut finder.finding.pairs,
+    );
+    finder.finding.stopped = match found {
+        Ok(()) => None,
+        Err(why) => Some(why),
+    };
 }
 
 /// The participants, each with its seat.
 fn finders(alloc: Global, seats: Vec<ClaimSeat>) -> Result<Vec<Finder>, AllocError>
     ensures seats { IfOk result (λ v. map (λ (f : Finder). f.claim) v.items ≡ seats.items) }
-    ensures new { IfOk result (λ v. All (λ (f : Finder). (f.pairs.items ≡ []) × (f.stopped ≡ None)) v.items) }
+    ensures new { IfOk result (λ v. All (λ (f : Finder). f.finding.pairs.items ≡ []) v.items) }
 {
     let mut finders = Vec::with_capacity(alloc, seats.len())?;
     for claim in seats {
         finders.push(Finder {
             claim,
-            pairs: Vec::new(alloc),
-            stopped: None,
+            finding: Finding {
+                pairs: Vec::new(alloc),
+                stopped: None,
+            },
         })?;
     }
     Ok(finders)
 }
 
-/// The pairs of all participants, one after the other.
-fn collect(alloc: Global, finders: &Vec<Finder>) -> Result<Vec<Pair>, NoPairs>
-    requires few { All (λ (f : Finder). length f.pairs.items ≤ most_pairs) finders.now.items }
-    ensures all { IfOk result (λ v. v.items ≡ flat_map (λ (f : Finder). f.pairs.items) finders.now.items) }
-    ensures whole { OnOk result (All (λ (f : Finder). f.stopped ≡ None) finders.now.items) }
-    ensures few { IfOk result (λ v. length v.items ≤ most_pairs) }
-    ensures none { IfErr result (λ why. IsReason finders.now.items why) }
+/// All participants add the pairs of the blocks that they draw.
+fn find_all<R: Threads + Wait + Sync>(
+    rt: &R,
+    chains: &Chains,
+    rows: &RowStore,
+    column: u32,
+    claims: &Claims,
+    finders: &mut Vec<Finder>,
+)
+    requires blocks { AreBlocks rows.now (blocks_of claims.now) }
+    requires accepted { AllAccepted rows.now column }
+    requires column { column < width_of rows.now }
+    requires new { All (IsNewFinder claims.now) finders.old.items }
+    ensures seats { AllZip (IsSameSeat claims.now) finders.old.items finders.new.items }
+    ensures few { All (λ (f : Finder). length f.finding.pairs.items ≤ most_pairs) finders.new.items }
+    ensures found { All (λ (f : Finder). (left : Table) (c : ℕ) → ChainsAll left c chains.now → FinderFound left rows.now c column claims.now f) finders.new.items }
 {
-    let mut all = Vec::new(alloc);
+    let threads = finders.len().max(1);
+    for_each_mut(rt, finders.as_mut_slice(), threads, &|_, finder| {
+        find(rt, chains, rows, column, claims, finder)
+    });
+}
+
+/// The participants' seats, and what they found.
+fn take_apart(
+    alloc: Global,
+    finders: Vec<Finder>,
+) -> Result<(Vec<ClaimSeat>, Vec<Finding>), AllocError>
+    ensures seats { IfOk result (λ p. p.0.items ≡ map (λ (f : Finder). f.claim) finders.items) }
+    ensures findings { IfOk result (λ p. p.1.items ≡ map (λ (f : Finder). f.finding) finders.items) }
+{
+    let mut seats = Vec::new(alloc);
+    let mut findings = Vec::new(alloc);
     for finder in finders {
-        if let Some(why) = finder.stopped {
-            return Err(why);
-        }
-        if finder.pairs.len() > MOST_PAIRS - all.len() {
+        let Finder { claim, finding } = finder;
+        seats.push(claim)?;
+        findings.push(finding)?;
+    }
+    Ok((seats, findings))
+}
+
+/// The pairs of all participants, one after the other.
+fn collect(alloc: Global, findings: &Vec<Finding>) -> Result<Vec<Pair>, NoPairs>
+    requires few { All (λ (f : Finding). length f.pairs.items ≤ most_pairs) findings.now.items }
+    ensures all { IfOk result (λ v. v.items ≡ flat_map (λ (f : Finding). f.pairs.items) findings.now.items) }
+    ensures whole { OnOk result (All (λ (f : Finding). f.stopped ≡ None) findings.now.items) }
+    ensures few { IfOk result (λ v. length v.items ≤ most_pairs) }
+    ensures none { IfErr result (λ why. IsReason findings.now.items why) }
+{
+    if let Some(why) = first_stop(findings) {
+        return Err(why);
+    }
+    let mut all = Vec::new(alloc);
+    for finding in findings {
+        if finding.pairs.len() > MOST_PAIRS - all.len() {
             return Err(NoPairs::TooMany);
         }
-        if all.extend_from_slice(finder.pairs.as_slice()).is_err() {
+        if all.extend_from_slice(finding.pairs.as_slice()).is_err() {
             return Err(NoPairs::Memory);
         }
     }
     Ok(all)
 }
 
-/// The second round, with so many participants: the pairs in order.
+/// Why the first participant that stopped early did so.
+fn first_stop(findings: &Vec<Finding>) -> Option<NoPairs>
+    ensures some { IfSome result (λ why. Any (λ (f : Finding). f.stopped ≡ Some why) findings.now.items) }
+    ensures none { IfNone result (All (λ (f : Finding). f.stopped ≡ None) findings.now.items) }
+{
+    for finding in findings {
+        if let Some(why) = finding.stopped {
+            return Some(why);
+        }
+    }
+    None
+}
+
+/// The second round, with so many participants: the pairs in order. That the seats come home tells that each block was
+/// drawn once.
 pub(crate) fn find_pairs<R: Threads + Wait + Sync>(
     rt: &R,
     alloc: Global,
@@ -203,10 +307,16 @@ pub(crate) fn find_pairs<R: Threads + Wait + Sync>(
     let Ok(mut finders) = finders(alloc, seats) else {
         return Err(NoPairs::Memory);
     };
-    for_each_mut(rt, &mut finders, callers as usize, &|_, finder| {
-        find(rt, chains, rows, column, &claims, finder)
-    });
-    let mut all = collect(alloc, &finders)?;
-    all.sort_unstable();
-    Ok(Pairs::of(all))
+    find_all(rt, chains, rows, column, &claims, &mut finders);
+    let Ok((seats, findings)) = take_apart(alloc, finders) else {
+        return Err(NoPairs::Memory);
+    };
+    let _drawn = claims.close(seats);
+    match collect(alloc, &findings) {
+        Ok(mut all) => {
+            all.sort_unstable();
+            Ok(Pairs::of(all))
+        }
+        Err(why) => Err(why),
+    }
 }

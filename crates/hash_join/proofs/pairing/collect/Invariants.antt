@@ -1,12 +1,8 @@
-use Rattle.std.proofs.Common.{◌≡◌, ◌≤◌, All, None, length, take}
+use Rattle.std.proofs.Common.{◌≡◌, ◌≤◌, length, take}
 use Rattle.std.specs.List.{flat_map}
 use Rattle.hash_join.specs.Answers.{most_pairs}
-use Rattle.hash_join.specs.declared.pairing.Finder.{Finder}
+use Rattle.hash_join.specs.declared.pairing.Finding.{Finding}
 use Rattle.hash_join.proofs.pairing.collect.Given as goal
 
-abbrev pub invariant-loop-finder : goal.invariant-loop-finder
-invariant-loop-finder l = record {
-  all : l.all.items ≡ flat_map (λ (f : Finder). f.pairs.items) (take l.finder-index l.finders.items);
-  whole : All (λ (f : Finder). f.stopped ≡ None) (take l.finder-index l.finders.items);
-  few : length l.all.items ≤ most_pairs;
-}
+abbrev pub invariant-loop-finding : goal.invariant-loop-finding
+invariant-loop-finding l = (l.all.items ≡ flat_map (λ (f : Finding). f.pairs.items) (take l.finding-index l.findings.items)) × (length l.all.items ≤ most_pairs)

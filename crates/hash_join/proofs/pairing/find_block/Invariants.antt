@@ -8,7 +8,6 @@ use Rattle.hash_join.specs.Gathered.{ChainsAll}
 use Rattle.hash_join.proofs.pairing.find_block.Given as goal
 
 abbrev pub invariant-loop-at : goal.invariant-loop-at
-invariant-loop-at l = record {
-  few : length l.pairs.items ≤ most_pairs;
-  added : (left : Table) (c : ℕ) → ChainsAll left c l.chains → IsPermutation (l.initial.pairs.items ++ found_in left l.rows c l.column (take l.at (block_numbers l.rows l.block))) l.pairs.items;
-}
+invariant-loop-at l =
+    (length l.pairs.items ≤ most_pairs)
+    × ((left : Table) (c : ℕ) → ChainsAll left c l.chains → IsPermutation (l.initial.pairs.items ++ found_in left l.rows c l.column (take l.at (block_numbers l.rows l.block))) l.pairs.items)

@@ -12,8 +12,8 @@ abbrev pub invariant-loop : goal.invariant-loop
 invariant-loop g l = record {
   can_next : (goal.iterator-loop g).can_next l.iterator';
   finite : (goal.iterator-loop g).is_finite l.iterator';
-  seat : Belongs l.claims l.finder.claim;
-  number : number_of l.finder.claim ≡ number_of l.initial.finder.claim;
-  few : length l.finder.pairs.items ≤ most_pairs;
-  found : (left : Table) (c : ℕ) → ChainsAll left c l.chains → IsPermutation (found_in left l.rows c l.column (numbers_of_blocks l.rows (draws_of l.finder.claim))) l.finder.pairs.items;
+  seat : Belongs l.claims l.claim;
+  number : number_of l.claim ≡ number_of l.initial.claim;
+  few : length l.pairs.items ≤ most_pairs;
+  found : (left : Table) (c : ℕ) → ChainsAll left c l.chains → IsPermutation (found_in left l.rows c l.column (numbers_of_blocks l.rows (draws_of l.claim))) l.pairs.items;
 }
