@@ -9,8 +9,8 @@ use Rattle.gather_law.specs.Tuples.{Table}
 use Rattle.par_model.specs.Record.{is_null}
 use Rattle.hash_join.specs.Answers.{most_pairs}
 use Rattle.hash_join.specs.Chains.{HasChain, IsChain, before_in}
-use Rattle.hash_join.specs.Filled.{block_numbers}
-use Rattle.hash_join.specs.Found.{found_in, found_of}
+use Rattle.hash_join.specs.Filled.{block_numbers, numbers_of_blocks}
+use Rattle.hash_join.specs.Found.{Stops, found_in, found_of}
 use Rattle.hash_join.specs.Gathered.{ChainsAll}
 use Rattle.hash_join.specs.Pairing.{StopsAdding, pairs_with}
 use Rattle.hash_join.specs.declared.chains.Chains.{Chains}
@@ -77,3 +77,12 @@ module _ (left right : Table) (left_column right_column : ℕ) where
       with_count [] = refl
       with_count (x ∷ xs) = ap suc (with_count xs)
   row_stops c old r last all some h Memory more = tt
+
+  -- a participant that stops at a block has too many with the blocks that it drew
+  pub block_stops : (mid : List Pair) (xs ys draws : List ℕ) (why : NoPairs) → numbers_of_blocks right draws ≡ xs ++ ys → IsPermutation (found xs) mid → StopsAdding (length mid + length (found ys)) why
+      → Stops left right left_column right_column draws why
+  block_stops mid xs ys draws TooMany e p more =
+      let before : length mid ≡ length (found xs) = length_permutation (found xs) mid p in
+      let whole : length (found (numbers_of_blocks right draws)) ≡ length (found xs) + length (found ys) = ap (λ (l : List ℕ). length (found l)) e ∙ ap (λ (l : List Pair). length l) (found-append xs ys) ∙ length-append (found xs) (found ys) in
+      omega (arith, more, before, whole)
+  block_stops mid xs ys draws Memory e p more = tt

@@ -12,5 +12,6 @@ pub mod Ordered
 pub mod Putting
 pub mod Results
 pub mod Rising
+pub mod Seen
 pub mod Traced
 pub mod Whole

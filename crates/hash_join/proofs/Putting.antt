@@ -3,8 +3,8 @@ use Rattle.std.proofs.Common.{◌≡◌, ◌<◌, ◌≤◌, ◌+◌, ◌==◌, 
 use Rattle.std.specs.List.{flat_map}
 use Rattle.std.specs.List.Sorted.{IsPermutation}
 use Rattle.std.proofs.lemmas.List.Concat.{flat_map-append}
-use Rattle.std.proofs.lemmas.List.Elements.{All-push, All-weaker, filter-append}
-use Rattle.std.proofs.lemmas.List.Sorted.{IsPermutation-append_left, IsPermutation-middle, IsPermutation-sym, IsPermutation-to_front, IsPermutation-trans}
+use Rattle.std.proofs.lemmas.List.Elements.{All-nil, All-push, All-weaker, filter-append}
+use Rattle.std.proofs.lemmas.List.Sorted.{IsPermutation-append_left, IsPermutation-middle, IsPermutation-refl, IsPermutation-sym, IsPermutation-to_front, IsPermutation-trans}
 use Rattle.csv_rows.specs.Records.{field_of}
 use Rattle.dsa_area.specs.Shown.{pages_mine}
 use Rattle.dsa_area.specs.declared.area.Area.{Area}
@@ -20,7 +20,7 @@ use Rattle.dshash_parts.specs.declared.histories.PartitionReplies.TheVariants.{L
 use Rattle.gather_law.specs.Tuples.{Table}
 use Rattle.par_model.specs.Record.{is_null}
 use Rattle.hash_join.specs.Chains.{last_step}
-use Rattle.hash_join.specs.Filled.{HasPut, IsMissing, PageEntry, RowEntry, WasMissed, calls_at, done_in, done_of, key_of, keyed, lacks, partition_at}
+use Rattle.hash_join.specs.Filled.{HasPut, IsMissing, PageEntry, RowEntry, WasMissed, calls_at, done_in, done_of, key_of, keyed, lacks, numbers_of_blocks, partition_at}
 use Rattle.hash_join.specs.declared.chains.Link.{Link}
 use Rattle.hash_join.proofs.Anys.{any_cases, any_head, any_left, any_none, any_right, any_tail}
 use Rattle.hash_join.proofs.Filters.{filter-not_one, filter-one}
@@ -171,3 +171,13 @@ module _ (records : Table) (column row : ℕ) where
           missed = All-push (WasMissed records column w.mine) spilled row (All-weaker (WasMissed records column v.mine) (WasMissed records column w.mine) still_missed spilled h.missed) here;
           few = omega (arith, h.few, all_lacks last_step a n v w es t, one_more, length-append spilled (row ∷ []));
         }
+
+-- ---- at the beginning
+
+pub new_draw : (records : Table) (column : ℕ) (draws : List ℕ) (calls : ℕ → List RowEntry) (at_pages : List PageEntry) (links : List Link) (spilled : List ℕ) → draws ≡ [] → ((k : ℕ) → calls k ≡ []) → links ≡ [] → spilled ≡ []
+    → HasPut records column (numbers_of_blocks records draws) calls at_pages links spilled
+new_draw records column draws calls at_pages links spilled no_draws no_calls no_links no_spilled =
+    subst (λ (ds : List ℕ). HasPut records column (numbers_of_blocks records ds) calls at_pages links spilled) (sym no_draws)
+    (subst (λ (ls : List Link). HasPut records column [] calls at_pages ls spilled) (sym no_links)
+    (subst (λ (ss : List ℕ). HasPut records column [] calls at_pages [] ss) (sym no_spilled)
+    (record { all = IsPermutation-refl []; done = λ k low. ap done_in (no_calls k); missed = All-nil (WasMissed records column calls); few = omega arith })))

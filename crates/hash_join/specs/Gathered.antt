@@ -1,5 +1,5 @@
 -- The chains of all left rows.
-use Rattle.std.specs.Prelude.{◌≡◌, ◌<◌, ◌⊎◌, ◌++◌, ℕ, List, [], ◌∷◌, Contains, Some, get_or, length, map, replicate, set, slice_get}
+use Rattle.std.specs.Prelude.{◌≡◌, ◌≢◌, ◌<◌, ◌⊎◌, ◌++◌, ℕ, List, [], ◌∷◌, All, Contains, Some, get_or, length, map, replicate, set, slice_get}
 use Rattle.std.specs.List.{flat_map}
 use Rattle.std.specs.List.Sorted.{IsPermutation}
 use Rattle.csv_rows.specs.Records.{field_of}
@@ -44,6 +44,11 @@ pub record Begins (key : List ℕ) (row : ℕ) (c d : Chains) : Type 0 where
 
 abbrev pub AddsRow : List ℕ → ℕ → Chains → Chains → Type 0
 AddsRow key row c d = ((place : ℕ) × Extends key row place c d) ⊎ Begins key row c d
+
+-- each of the second list is none of the first nor an earlier one
+abbrev pub AreApart : List ℕ → List ℕ → Type 0
+AreApart known [] = Unit {0}
+AreApart known (x ∷ xs) = All (λ r. r ≢ x) known × AreApart (known ++ x ∷ []) xs
 
 -- the chain of each key has those of some rows that have the key; a key at no place has none
 pub record AreChains (records : Table) (column : ℕ) (rows : List ℕ) (keys : List (List ℕ)) (lasts befores : List ℕ) : Type 0 where

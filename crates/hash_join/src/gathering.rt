@@ -1,9 +1,10 @@
 //! The first round: the participants put the left rows into the shared table, and the leader makes the chains of it.
 
-ghost use Rattle.std.specs.Prelude.{◌≡◌, ◌<◌, ◌≤◌, ◌+◌, ◌^◌, ℕ, [], All, IfOk, OnOk, false, length, map};
+ghost use Rattle.std.specs.Prelude.{◌≡◌, ◌<◌, ◌≤◌, ◌+◌, ◌^◌, ◌++◌, ℕ, List, [], All, IfOk, OnOk, false, length, map};
 ghost use Rattle.std.specs.List.{flat_map};
 ghost use mathlib.Core.Option.{some};
 ghost use lib.ListN.{get_elem?};
+ghost use Rattle.csv_rows.specs.Records.{field_of};
 ghost use Rattle.lock_book.specs.History.{StartsWith};
 ghost use Rattle.lock_book.specs.Shown.{mine_of, number_of, seen_of};
 ghost use Rattle.dsa_area.specs.Shown as area;
@@ -14,9 +15,9 @@ ghost use Rattle.scan_claim.specs.Shown.{AreSeats, blocks_of, draws_of, callers_
 ghost use Rattle.gather_law.specs.Tuples.{AreBlocks};
 ghost use Rattle.hash_join.specs.Chains.{last_step};
 ghost use Rattle.hash_join.specs.Filled.{done_in};
-ghost use Rattle.hash_join.specs.Gathered.{ChainsAll, IsCovered, ListsEach};
+ghost use Rattle.hash_join.specs.Gathered.{AreApart, ChainsAll, HasChains, HasLinks, HasPlaces, HasRoom, IsCovered, ListsEach};
 ghost use Rattle.hash_join.specs.Home.{AreFilled, AreNew, HaveMet, IsClosed};
-ghost use Rattle.hash_join.specs.Join.{AllAccepted, width_of};
+ghost use Rattle.hash_join.specs.Join.{AllAccepted, IsRow, width_of};
 ghost use Rattle.hash_join.specs.Stores.{IsStore};
 ghost use Rattle.hash_join.specs.Used.{IsShared};
 
@@ -223,6 +224,71 @@ fn close_table<R: Wait>(
     })
 }
 
+/// Sets the rows before those of several lists.
+fn link_rows(chains: &mut Chains, links: &Vec<Vec<Link>>)
+    requires rows { All (λ (l : Link). HasRoom chains.old l.row) (flat_map (λ v. v.items) links.now.items) }
+    ensures linked { HasLinks (flat_map (λ v. v.items) links.now.items) chains.old.befores.items chains.new.befores.items }
+    ensures room { length chains.new.befores.items ≡ length chains.old.befores.items }
+    ensures same { (chains.new.keys ≡ chains.old.keys) × (chains.new.lasts ≡ chains.old.lasts) }
+{
+    for list in links {
+        chains.link_all(list.as_slice());
+    }
+}
+
+/// Adds the chain of each entry of the table.
+fn add_entries(
+    chains: &mut Chains,
+    alloc: Global,
+    rows: &RowStore,
+    column: u32,
+    entries: &Vec<Entry<LastRow>>,
+) -> Result<(), AllocError>
+    requires column { column < width_of rows.now }
+    requires accepted { AllAccepted rows.now column }
+    requires rows { All (λ (e : List ℕ × ℕ). IsRow rows.now e.1) (entries_of entries.now.items) }
+    requires empty { (chains.old.keys ≡ []) × (chains.old.lasts.items ≡ []) }
+    ensures places { OnOk result (HasPlaces chains.new) }
+    ensures keys { OnOk result (chains.new.keys ≡ map (λ (e : List ℕ × ℕ). field_of rows.now e.1 column) (entries_of entries.now.items)) }
+    ensures lasts { OnOk result (chains.new.lasts.items ≡ map (λ (e : List ℕ × ℕ). e.1) (entries_of entries.now.items)) }
+    ensures befores { chains.new.befores ≡ chains.old.befores }
+{
+    for entry in entries {
+        let last = entry.state;
+        match chains.add_key(alloc, rows.field(last, column), last) {
+            Ok(()) => {}
+            Err(lack) => return Err(lack),
+        }
+    }
+    Ok(())
+}
+
+/// Adds rows for which the table found no space, each to the chain of its key.
+fn add_rows(
+    chains: &mut Chains,
+    alloc: Global,
+    rows: &RowStore,
+    column: u32,
+    list: &[u64],
+) -> Result<(), AllocError>
+    requires column { column < width_of rows.now }
+    requires accepted { AllAccepted rows.now column }
+    requires rows { All (IsRow rows.now) list.now }
+    requires places { HasPlaces chains.old }
+    requires room { length chains.old.befores.items ≡ length rows.now }
+    ensures places { OnOk result (HasPlaces chains.new) }
+    ensures room { length chains.new.befores.items ≡ length chains.old.befores.items }
+    ensures added { OnOk result ((known : List ℕ) → AreApart known list.now → HasChains rows.now column known chains.old → HasChains rows.now column (known ++ list.now) chains.new) }
+{
+    for row in list {
+        match chains.add_row(alloc, rows.field(*row, column), *row) {
+            Ok(()) => {}
+            Err(lack) => return Err(lack),
+        }
+    }
+    Ok(())
+}
+
 /// The chains of all rows: those of the table, and then the rows that it did not take.
 fn chain_all(
     alloc: Global,
@@ -238,16 +304,12 @@ fn chain_all(
     ensures { IfOk result (λ c. ChainsAll rows.now column c) }
 {
     let mut chains = Chains::new(alloc, rows.count())?;
-    for list in links {
-        chains.link_all(list.as_slice());
-    }
-    for entry in entries {
-        let last = entry.state;
-        chains.add_key(alloc, rows.field(last, column), last)?;
-    }
+    link_rows(&mut chains, links);
+    add_entries(&mut chains, alloc, rows, column, entries)?;
     for list in spilled {
-        for row in list {
-            chains.add_row(alloc, rows.field(*row, column), *row)?;
+        match add_rows(&mut chains, alloc, rows, column, list.as_slice()) {
+            Ok(()) => {}
+            Err(lack) => return Err(lack),
         }
     }
     Ok(chains)
