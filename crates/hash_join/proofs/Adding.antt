@@ -63,14 +63,14 @@ module _ (records : Table) (column : ℕ) where
 -- ---- places
 
 get_below : {X : Type 0} (xs : List X) (p : ℕ) (x : X) → slice_get xs p ≡ Some x → p < length xs
-get_below [] p x e = cc
+get_below [] p x e = absurd (cc)
 get_below (y ∷ ys) zero x e = omega arith
 get_below (y ∷ ys) (suc p) x e = omega (arith, get_below ys p x e)
 
 -- what stands at a place of a list with one more
 pub get_pushed : {X : Type 0} (xs : List X) (y : X) (p : ℕ) (x : X) → slice_get (xs ++ y ∷ []) p ≡ Some x → (slice_get xs p ≡ Some x) ⊎ ((p ≡ length xs) × (y ≡ x))
 get_pushed [] y zero x e = inr (refl, (let same : y ≡ x = cc in same))
-get_pushed [] y (suc p) x e = cc
+get_pushed [] y (suc p) x e = absurd (cc)
 get_pushed (z ∷ zs) y zero x e = inl e
 get_pushed (z ∷ zs) y (suc p) x e = by (get_pushed zs y p x e)
   where
@@ -79,7 +79,7 @@ get_pushed (z ∷ zs) y (suc p) x e = by (get_pushed zs y p x e)
     by (inr h) = inr (ap suc h.0, h.1)
 
 pub get_kept : {X : Type 0} (xs : List X) (y : X) (p : ℕ) (x : X) → slice_get xs p ≡ Some x → slice_get (xs ++ y ∷ []) p ≡ Some x
-get_kept [] y p x e = cc
+get_kept [] y p x e = absurd (cc)
 get_kept (z ∷ zs) y zero x e = e
 get_kept (z ∷ zs) y (suc p) x e = get_kept zs y p x e
 

@@ -10,17 +10,17 @@ use Rattle.hash_join.specs.Gathered.{AreApart}
 
 -- ---- counts
 
-abbrev one : ℕ → ℕ → ℕ
+abbrev pub one : ℕ → ℕ → ℕ
 one v y = cond {A = ℕ} (y == v) 1 0
 
 -- how often a number stands in a list
 abbrev pub many : ℕ → List ℕ → ℕ
 many v xs = sum_by (one v) xs
 
-itself : (v : ℕ) → one v v ≡ 1
+pub itself : (v : ℕ) → one v v ≡ 1
 itself v = let t : (v == v) ≡ true = grind arith in ap (λ b. cond {A = ℕ} b 1 0) t
 
-many_front : (v x : ℕ) (xs : List ℕ) → many v (x ∷ xs) ≡ one v x + many v xs
+pub many_front : (v x : ℕ) (xs : List ℕ) → many v (x ∷ xs) ≡ one v x + many v xs
 many_front v x xs = sum_by-append (one v) (x ∷ []) xs
 
 -- a number that does not stand in a list is none of its elements

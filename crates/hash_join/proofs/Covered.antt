@@ -24,17 +24,17 @@ linked-append (x ∷ xs) ys befores = linked-append xs ys (set befores x.row x.b
 
 -- what stands at a place of a mapped list
 get_map : {X Y : Type 0} (f : X → Y) (xs : List X) (p : ℕ) (y : Y) → slice_get (map f xs) p ≡ Some y → (x : X) × (slice_get xs p ≡ Some x) × (f x ≡ y)
-get_map f [] p y e = cc
+get_map f [] p y e = absurd (cc)
 get_map f (x ∷ xs) zero y e = (x, refl, (let same : f x ≡ y = cc in same))
 get_map f (x ∷ xs) (suc p) y e = get_map f xs p y e
 
 map_get : {X Y : Type 0} (f : X → Y) (xs : List X) (p : ℕ) (x : X) → slice_get xs p ≡ Some x → slice_get (map f xs) p ≡ Some (f x)
-map_get f [] p x e = cc
+map_get f [] p x e = absurd (cc)
 map_get f (z ∷ zs) zero x e = (let same : z ≡ x = cc in ap (λ y. Some (f y)) same)
 map_get f (z ∷ zs) (suc p) x e = map_get f zs p x e
 
 or_map : {X : Type 0} (f : X → ℕ) (xs : List X) (p : ℕ) (x : X) → slice_get xs p ≡ Some x → get_or (map f xs) p 0 ≡ f x
-or_map f [] p x e = cc
+or_map f [] p x e = absurd (cc)
 or_map f (z ∷ zs) zero x e = (let same : z ≡ x = cc in ap f same)
 or_map f (z ∷ zs) (suc p) x e = or_map f zs p x e
 

@@ -4,6 +4,7 @@ pub mod Apart
 pub mod Chained
 pub mod Collecting
 pub mod Covered
+pub mod Covering
 pub mod Exchange
 pub mod Filters
 pub mod Finding
@@ -11,6 +12,7 @@ pub mod Flats
 pub mod Following
 pub mod Joining
 pub mod Keys
+pub mod Linking
 pub mod Numbers
 pub mod Ordered
 pub mod Parts

@@ -66,15 +66,15 @@ module _ {S C R A : Type 0} (f : Entry S C R → List A) where
       by true t = absurd (there (e.by == e.by) (let s : (e.by == e.by) ≡ true = grind arith in s) (h e.by (let le : callers ≤ e.by = grind (arith, t) in le)))
         where
           there : (b : Bool) → b ≡ true → cond {A = List (Entry S C R)} b (e ∷ calls_by e.by es) (calls_by e.by es) ≡ [] → ⊥
-          there true s k = cc
-          there false s k = cc
+          there true s k = absurd (cc)
+          there false s k = absurd (cc)
       by false t = grind (arith, t)
 
   rest_callers : (callers : ℕ) (e : Entry S C R) (es : List (Entry S C R)) → ((n : ℕ) → callers ≤ n → calls_by n (e ∷ es) ≡ []) → (n : ℕ) → callers ≤ n → calls_by n es ≡ []
   rest_callers callers e es h n le = by (e.by == n) (h n le)
     where
       by : (b : Bool) → cond {A = List (Entry S C R)} b (e ∷ calls_by n es) (calls_by n es) ≡ [] → calls_by n es ≡ []
-      by true k = cc
+      by true k = absurd (cc)
       by false k = k
 
   pub parts : (callers : ℕ) (es : List (Entry S C R)) → ((n : ℕ) → callers ≤ n → calls_by n es ≡ []) → IsPermutation (flat_map f es) (flat_map (by_caller es) (below callers))

@@ -51,7 +51,7 @@ IsCalled key row e = IsMissing key row e.0 e.1
 
 turn_there : (key : List ℕ) (row k : ℕ) (call : PartitionCalls ℕ) (reply : PartitionReplies ℕ ℕ) (es : List (Event ℕ ℕ ℕ)) → Among (Turn k call reply) es → IsMissing key row call reply → Any (IsCalled key row) (turns_at k es)
 turn_there key row k call reply [] h m = absurd h
-turn_there key row k call reply (Asked request ∷ es) (inl e) m = let no : Turn k call reply ≡ Asked request = e in cc
+turn_there key row k call reply (Asked request ∷ es) (inl e) m = let no : Turn k call reply ≡ Asked request = e in absurd (cc)
 turn_there key row k call reply (Asked request ∷ es) (inr r) m = turn_there key row k call reply es r m
 turn_there key row k call reply (Turn number c t ∷ es) (inl e) m =
     let one : Turn k call reply ≡ Turn number c t = e in

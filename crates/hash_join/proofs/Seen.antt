@@ -19,8 +19,8 @@ module _ {S C R : Type 0} where
   none_left (x ∷ xs) h = absurd (there (x.by == x.by) (let t : (x.by == x.by) ≡ true = grind arith in t) (h x.by))
     where
       there : (b : Bool) → b ≡ true → cond {A = List (Entry S C R)} b (x ∷ calls_by x.by xs) (calls_by x.by xs) ≡ [] → ⊥
-      there true t e = cc
-      there false t e = cc
+      there true t e = absurd (cc)
+      there false t e = absurd (cc)
 
   long_none : (xs : List (Entry S C R)) → length xs ≡ 0 → xs ≡ []
   long_none [] h = refl

@@ -18,7 +18,8 @@ use Rattle.dsa_area.specs.declared.area.Area.{Area}
 use Rattle.dsa_area.specs.declared.area.AreaPass.{AreaPass}
 use Rattle.dshash_core.specs.Chains.{Among}
 use Rattle.dshash_parts.specs.Promises.{HadToGrow, IsCause, IsMade, IsRefused, LackedItem}
-use Rattle.dshash_parts.specs.States.{PartitionState}
+use Rattle.dshash_parts.specs.Legal.{PartitionLegal}
+use Rattle.dshash_parts.specs.States.{PartitionState, fresh}
 use Rattle.dshash_parts.specs.Traces.{AreGifts, Asked, Event, Gave, Got, Makes, Missed, NoneMade, Request, Requested, Sight, Trace, Turn}
 use Rattle.dshash_parts.specs.declared.histories.PartitionCalls.{PartitionCalls}
 use Rattle.dshash_parts.specs.declared.histories.PartitionCalls.TheVariants.{Call, Looks, Moves, Lists}
@@ -72,11 +73,11 @@ module _ (step : Option ℕ → ℕ → Option ℕ × ℕ) (a : Area) (n : ℕ) 
   one_grew k v w (Turn number call reply) h =
       dite {P = number ≡ k} (ℕ_discrete number k)
       (λ same.
-          let g = own_grows _ _ n (v.seen number) (v.mine number) (w.seen number) (w.mine number) ((call, reply) ∷ []) h.0.here in
+          let g = own_grows (λ _. PartitionLegal step number) fresh n (v.seen number) (v.mine number) (w.seen number) (w.mine number) ((call, reply) ∷ []) h.0.here in
           let is : turns_at k (Turn number call reply ∷ []) ≡ (call, reply) ∷ [] = ap (λ b. cond {A = List (PartitionCalls ℕ × PartitionReplies ℕ ℕ)} b ((call, reply) ∷ []) []) (let t : (number == k) ≡ true = grind (arith, same) in t) in
           record { more = g.0; grows = subst (λ j. w.mine j ≡ v.mine j ++ g.0) same g.1; are = g.2 ∙ sym is })
       (λ ne.
-          let g = own_grows _ _ n (v.seen k) (v.mine k) (w.seen k) (w.mine k) [] (h.0.others k (λ e. ne (sym e))) in
+          let g = own_grows (λ _. PartitionLegal step k) fresh n (v.seen k) (v.mine k) (w.seen k) (w.mine k) [] (h.0.others k (λ e. ne (sym e))) in
           let is : turns_at k (Turn number call reply ∷ []) ≡ [] = ap (λ b. cond {A = List (PartitionCalls ℕ × PartitionReplies ℕ ℕ)} b ((call, reply) ∷ []) []) (let t : (number == k) ≡ false = grind (arith, ne) in t) in
           record { more = g.0; grows = g.1; are = g.2 ∙ sym is })
   one_grew k v w (Asked request) h = record { more = []; grows = ap (λ (f : ℕ → List RowEntry). f k) h.3 ∙ sym (append-nil (v.mine k)); are = refl }
@@ -197,11 +198,11 @@ pub none_done : (k : ℕ) (es : List (Event ℕ ℕ ℕ)) → NoneMade es → do
 none_done k [] h = refl
 none_done k (Asked request ∷ es) h = none_done k es h
 none_done k (Turn number call (Made reply unused freed) ∷ es) h = absurd h
-none_done k (Turn number call LacksItem ∷ es) h = skip k number call LacksItem es (not_made call LacksItem (λ b u f e. cc)) (none_done k es h)
-none_done k (Turn number call (HasToGrow size back) ∷ es) h = skip k number call (HasToGrow size back) es (not_made call (HasToGrow size back) (λ b u f e. cc)) (none_done k es h)
-none_done k (Turn number call (HasSize size) ∷ es) h = skip k number call (HasSize size) es (not_made call (HasSize size) (λ b u f e. cc)) (none_done k es h)
-none_done k (Turn number call Moved ∷ es) h = skip k number call Moved es (not_made call Moved (λ b u f e. cc)) (none_done k es h)
-none_done k (Turn number call (Listed entries) ∷ es) h = skip k number call (Listed entries) es (not_made call (Listed entries) (λ b u f e. cc)) (none_done k es h)
+none_done k (Turn number call LacksItem ∷ es) h = skip k number call LacksItem es (not_made call LacksItem (λ b u f e. absurd (cc))) (none_done k es h)
+none_done k (Turn number call (HasToGrow size back) ∷ es) h = skip k number call (HasToGrow size back) es (not_made call (HasToGrow size back) (λ b u f e. absurd (cc))) (none_done k es h)
+none_done k (Turn number call (HasSize size) ∷ es) h = skip k number call (HasSize size) es (not_made call (HasSize size) (λ b u f e. absurd (cc))) (none_done k es h)
+none_done k (Turn number call Moved ∷ es) h = skip k number call Moved es (not_made call Moved (λ b u f e. absurd (cc))) (none_done k es h)
+none_done k (Turn number call (Listed entries) ∷ es) h = skip k number call (Listed entries) es (not_made call (Listed entries) (λ b u f e. absurd (cc))) (none_done k es h)
 
 gifts_done : (k : ℕ) (es : List (Event ℕ ℕ ℕ)) → AreGifts es → turns_at k es ≡ []
 gifts_done k [] h = refl
