@@ -5,6 +5,7 @@ pub mod Chained
 pub mod Collecting
 pub mod Covered
 pub mod Covering
+pub mod Entries
 pub mod Exchange
 pub mod Filters
 pub mod Finding
