@@ -1,5 +1,5 @@
 -- How the pairs of chains are added up.
-use Rattle.std.specs.Prelude.{◌≡◌, ◌<◌, ◌⊎◌, ℕ, List, [], All, Any, Some, None, length, map}
+use Rattle.std.specs.Prelude.{◌≡◌, ◌<◌, ◌⊎◌, ℕ, List, [], All, Any, Some, None, length, map, slice_index_or}
 use Rattle.std.specs.List.{flat_map}
 use Rattle.scan_claim.specs.Shown.{Belongs, draws_of, number_of}
 use Rattle.scan_claim.specs.declared.claims.Claims.{Claims}
@@ -31,6 +31,11 @@ pub record IsNewFinder (c : Claims) (f : Finder) : Type 0 where
 pub record IsSameSeat (c : Claims) (f g : Finder) : Type 0 where
   pub seat : Belongs c g.claim
   pub number : number_of g.claim ≡ number_of f.claim
+
+-- so it is with each of them, in order
+pub record AreSameSeats (c : Claims) (fs gs : List Finder) : Type 0 where
+  pub count : length gs ≡ length fs
+  pub each : (k : ℕ) (d : Finder) → k < length fs → IsSameSeat c (slice_index_or fs k d) (slice_index_or gs k d)
 
 -- what a participant found, or why it stopped early
 abbrev pub FinderFound : Table → Table → ℕ → ℕ → Claims → Finder → Type 0

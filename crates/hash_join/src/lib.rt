@@ -1,11 +1,11 @@
-//! The join of two tables on a column of each, in the manner of nodeHashjoin.c with a shared hash table: participants put
-//! the left rows into the table, and then look up the right rows.
+//! The join of two tables on a column of each, in the manner of nodeHashjoin.c with a shared hash table: participants
+//! put the left rows into the table, and then look up the right rows.
 //!
-//! A row is known by its number. The table has, under each key, the last row that came with it; a call puts in a row and
-//! is told the row before, which is the row's link. So the links make a chain of all rows of a key, whoever put them in
-//! (`specs/Law.antt`). Rows for which the table finds no space stay with their participant, and the leader adds them to
-//! the chains afterwards. Then nothing is written any more, and the participants follow the chains of the right rows'
-//! keys. The pairs are sorted at last, so they are in order whoever found them.
+//! A row is known by its number. The table has, under each key, the last row that came with it; a call puts in a row
+//! and is told the row before, which is the row's link. So the links make a chain of all rows of a key, whoever put
+//! them in (`specs/Law.antt`). Rows for which the table finds no space stay with their participant, and the leader adds
+//! them to the chains afterwards. Then nothing is written any more, and the participants follow the chains of the right
+//! rows' keys. The pairs are sorted at last, so they are in order whoever found them.
 
 #![tactic(auto)]
 
@@ -69,9 +69,9 @@ pub struct Joined {
     pub areas: Vec<AreaPass>,
 }
 
-/// Joins two tables on a column of each: the pairs of rows whose fields there have the same bytes and are not empty. All
-/// rows are tested first, those of the left table before those of the right one. The caller's thread and so many workers
-/// take part; fewer threads may start, also none.
+/// Joins two tables on a column of each: the pairs of rows whose fields there have the same bytes and are not empty.
+/// All rows are tested first, those of the left table before those of the right one. The caller's thread and so many
+/// workers take part; fewer threads may start, also none.
 ///
 /// It takes the time of the rows and of the pairs, and of sorting the pairs. Memory is 8.6 MB for the table, 24 bytes a
 /// row of the left table with the bytes of its key, and 32 bytes a pair.

@@ -1,7 +1,7 @@
 //! The second round: the participants draw blocks of the right table, and follow the chain of each row's key.
 
 ghost use Rattle.std.specs.Prelude.{◌≡◌, ◌<◌, ◌≤◌, ◌+◌, ◌*◌, ◌++◌, ℕ, List, [], All, Any, OnOk, IfErr, IfNone, IfOk, IfSome, None, Some, length, map};
-ghost use Rattle.std.specs.List.{AllZip, flat_map};
+ghost use Rattle.std.specs.List.{flat_map};
 ghost use Rattle.std.specs.List.Sorted.{IsPermutation};
 ghost use Rattle.scan_claim.specs.Shown.{Belongs, blocks_of, draws_of, number_of};
 ghost use Rattle.gather_law.specs.Tuples.{AreBlocks, Table};
@@ -11,7 +11,7 @@ ghost use Rattle.hash_join.specs.Filled.{block_numbers};
 ghost use Rattle.hash_join.specs.Found.{HasFound, HasNone, Stops, found_in, found_of};
 ghost use Rattle.hash_join.specs.Gathered.{ChainsAll};
 ghost use Rattle.hash_join.specs.Join.{AllAccepted, IsRow, pairs_of, width_of};
-ghost use Rattle.hash_join.specs.Pairing.{FinderFound, IsNewFinder, IsReason, IsSameSeat, StopsAdding, pairs_with};
+ghost use Rattle.hash_join.specs.Pairing.{AreSameSeats, FinderFound, IsNewFinder, IsReason, StopsAdding, pairs_with};
 
 use crate::chains::Chains;
 use crate::gathering::count_blocks;
@@ -109,7 +109,8 @@ fn find_block(
     requires column { column < width_of rows.now }
     requires few { length pairs.old.items ≤ most_pairs }
     ensures few { length pairs.new.items ≤ most_pairs }
-    ensures added { OnOk result ((left : Table) (c : ℕ) → ChainsAll left c chains.now → IsPermutation (pairs.old.items ++ found_in left rows.now c column (block_numbers rows.now block)) pairs.new.items) }
+    ensures added { OnOk result ((left : Table) (c : ℕ) → ChainsAll left c chains.now
+        → IsPermutation (pairs.old.items ++ found_in left rows.now c column (block_numbers rows.now block)) pairs.new.items) }
     ensures stopped { IfErr result (λ why. (left : Table) (c : ℕ) → ChainsAll left c chains.now
         → StopsAdding (length pairs.old.items + length (found_in left rows.now c column (block_numbers rows.now block))) why) }
 {
@@ -220,7 +221,7 @@ fn find_all<R: Threads + Wait + Sync>(
     requires accepted { AllAccepted rows.now column }
     requires column { column < width_of rows.now }
     requires new { All (IsNewFinder claims.now) finders.old.items }
-    ensures seats { AllZip (IsSameSeat claims.now) finders.old.items finders.new.items }
+    ensures seats { AreSameSeats claims.now finders.old.items finders.new.items }
     ensures few { All (λ (f : Finder). length f.finding.pairs.items ≤ most_pairs) finders.new.items }
     ensures found { All (λ (f : Finder). (left : Table) (c : ℕ) → ChainsAll left c chains.now → FinderFound left rows.now c column claims.now f) finders.new.items }
 {
