@@ -47,7 +47,7 @@ module _ {Y : Type 0} where
       flat_map-append f (below n) (n ∷ []) ∙ ap (λ (l : List Y). l ++ (f n ++ [])) (flat_below f g n (λ k l. h k (omega (arith, l)))) ∙ ap (λ (l : List Y). flat_map g (below n) ++ (l ++ [])) (h n (omega arith))
       ∙ sym (flat_map-append g (below n) (n ∷ []))
 
-filter-map : {A B : Type 0} (p : B → Bool) (f : A → B) (xs : List A) → filter p (map f xs) ≡ map f (filter (λ x. p (f x)) xs)
+pub filter-map : {A B : Type 0} (p : B → Bool) (f : A → B) (xs : List A) → filter p (map f xs) ≡ map f (filter (λ x. p (f x)) xs)
 filter-map p f [] = refl
 filter-map {A = A} {B = B} p f (x ∷ xs) = by (p (f x)) (filter-map p f xs)
   where
@@ -55,7 +55,7 @@ filter-map {A = A} {B = B} p f (x ∷ xs) = by (p (f x)) (filter-map p f xs)
     by true e = ap (λ (l : List B). f x ∷ l) e
     by false e = e
 
-map-map : {A B C : Type 0} (f : A → B) (g : B → C) (xs : List A) → map g (map f xs) ≡ map (λ x. g (f x)) xs
+pub map-map : {A B C : Type 0} (f : A → B) (g : B → C) (xs : List A) → map g (map f xs) ≡ map (λ x. g (f x)) xs
 map-map f g [] = refl
 map-map {C = C} f g (x ∷ xs) = ap (λ (l : List C). g (f x) ∷ l) (map-map f g xs)
 

@@ -2,6 +2,7 @@ pub mod Adding
 pub mod Anys
 pub mod Apart
 pub mod Chained
+pub mod Chaining
 pub mod Collecting
 pub mod Covered
 pub mod Covering
