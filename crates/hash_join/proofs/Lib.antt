@@ -15,6 +15,7 @@ pub mod Following
 pub mod Joining
 pub mod Keys
 pub mod Linking
+pub mod Listing
 pub mod Numbers
 pub mod Ordered
 pub mod Parts
