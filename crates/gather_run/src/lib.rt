@@ -103,8 +103,8 @@ pub fn gather<G: Gate + Sync, R: Threads + Wait + Sync>(
     if let Some(why) = first_verdict(&finished.workers) {
         return Err(why);
     }
-    match groups.into_groups() {
-        Ok(groups) => Ok(Gathered { groups, finished }),
-        Err(_) => Err(GatherAnswer::Memory),
-    }
+    Ok(Gathered {
+        groups: groups.into_groups(),
+        finished,
+    })
 }

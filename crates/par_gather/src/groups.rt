@@ -8,7 +8,7 @@ ghost use Rattle.par_gather.specs.Grouping.{ListsGroups, NamesRefused, refused_i
 use csv_rows::RowStore;
 use par_model::BoundPlan;
 use partial_agg::{BLOCK_ROWS, BlockAnswer, GroupMap, Groups};
-use std::alloc::{AllocError, Global};
+use std::alloc::Global;
 
 /// The groups of all rows, in the order of their keys. The blocks go one after the other, so a refused row that stops
 /// it is the first of all.
@@ -29,8 +29,5 @@ pub(crate) fn groups_of(
             Err(answer) => return Err(answer),
         }
     }
-    match groups.into_groups() {
-        Ok(groups) => Ok(groups),
-        Err(AllocError) => Err(BlockAnswer::Memory),
-    }
+    Ok(groups.into_groups())
 }

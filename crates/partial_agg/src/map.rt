@@ -23,7 +23,7 @@ ghost use Rattle.partial_agg.specs.Values.{values_state};
 ghost use Rattle.partial_agg.specs.Status.{IsKeptBy};
 ghost use Rattle.partial_agg.specs.Rows.{IsAccepted, block_rows, header_width};
 
-use crate::groups::{Groups, SortedGroups};
+use crate::groups::Groups;
 use crate::key::GroupKey;
 use crate::row::{RowBuffer, RowStatus, read_values};
 use crate::state::{add_values, combine, one_row};
@@ -125,7 +125,7 @@ impl GroupMap {
     }
 
     /// The groups in the order of their keys, where they lie. Takes no memory and copies no group.
-    pub fn into_sorted(self) -> SortedGroups
+    pub fn into_groups(self) -> Groups
         ensures { result ≡ listed self }
     {
         let GroupMap {
@@ -137,15 +137,7 @@ impl GroupMap {
         } = self;
         put_in_order(&keys, &mut left, sorted);
         left.reverse();
-        SortedGroups::of_parts(keys, states, left)
-    }
-
-    /// The groups as a list in the order of their keys. The map is used up, also where memory is wanting.
-    pub fn into_groups(self) -> Result<Groups, AllocError>
-        ensures { IfOk result (λ groups. groups ≡ listed self) }
-    {
-        let alloc = self.alloc;
-        self.into_sorted().into_groups(alloc)
+        Groups::of_parts(keys, states, left)
     }
 
     /// Adds the rows of a block in order, but for those that the filter leaves out. A refused row stops it, the first

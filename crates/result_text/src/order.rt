@@ -43,9 +43,7 @@ fn as_they_are<'a>(alloc: Global, groups: &'a Groups) -> Result<Vec<GroupRef<'a>
 {
     let mut refs = Vec::with_capacity(alloc, groups.len())?;
     for at in 0..groups.len() {
-        let group = groups.get(at);
-        let key = group.key.bytes();
-        let state = &group.state;
+        let (key, state) = groups.lent(at);
         refs.push(GroupRef { key, state })?;
     }
     Ok(refs)

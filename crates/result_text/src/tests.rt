@@ -30,7 +30,7 @@ fn answer(
     requires few { length store.now ≤ 2 ^ 32 }
     ensures { IfOk result (λ text. IsAnswer plan.now.plan (record_at store.now 0 ∷ drop 1 store.now) text.items) }
 {
-    let groups = map.into_groups()?;
+    let groups = map.into_groups();
     text_of(alloc, plan, bound, &groups)
 }
 

@@ -30,8 +30,8 @@ returns-in-Some-first_verdict-clause-row g c =
     (worker_row p.plan c.args.rows.now (blocks_of p.shared.claims) r.draws ws c.in-Some-first_verdict.why r.workers
     (subst (λ (l : List (Returned WorkerEnd)). AreVerdict l (Some c.in-Some-first_verdict.why)) c.deref.ensures.value c.in-Some-first_verdict.ensures))
 
-pub returns-in-Ok-into_groups-clause-groups : goal.returns-in-Ok-into_groups-clause-groups
-returns-in-Ok-into_groups-clause-groups g c =
+pub returns-clause-groups : goal.returns-clause-groups
+returns-clause-groups g c =
     let r = c.in-Ok-run.ensures.ran in
     let p = c.in-Ok.context in
     let leader = c.run.new.lead in
@@ -44,12 +44,12 @@ returns-in-Ok-into_groups-clause-groups g c =
     let verdict : AreVerdict ws c.first_verdict.result = subst (λ (l : List (Returned WorkerEnd)). AreVerdict l c.first_verdict.result) c.deref.ensures.value c.first_verdict.ensures in
     let well : AreVerdict ws None = subst (AreVerdict ws) c.in_default-first_verdict.is verdict in
     let all = all_gathered p.plan records blocks r.own r.draws ws leader.groups (lists_of c.in-Ok-run.finished.drawn) r.drawn.0 are c.count_blocks.ensures.short r.lists r.drawn.1 r.workers well led in
-    subst (λ (q : Plan). AreAllGroups q records c.in-Ok-into_groups.groups) c.in-Ok.ensures.plan
+    subst (λ (q : Plan). AreAllGroups q records c.into_groups.result) c.in-Ok.ensures.plan
     (record {
       accepted = all.0;
       whole = leader.groups;
       are = all.1;
-      in_order = c.in-Ok-into_groups.ensures ∙ ap listed c.into_groups-groups.ensures.0;
+      in_order = c.into_groups.ensures ∙ ap listed c.into_groups-groups.ensures.0;
     })
 
 pub returns-in-Some-clause-first : goal.returns-in-Some-clause-first
@@ -70,8 +70,8 @@ returns-in-Some-first_verdict-clause-first g c none =
     (worker_first p.plan c.args.rows.now (blocks_of p.shared.claims) ws c.in-Some-first_verdict.why (r.asked ∙ c.in-Ok.ensures.asked ∙ none)
     (subst (λ (l : List (Returned WorkerEnd)). AreVerdict l (Some c.in-Some-first_verdict.why)) c.deref.ensures.value c.in-Some-first_verdict.ensures))
 
-pub returns-in-Ok-into_groups-clause-used : goal.returns-in-Ok-into_groups-clause-used
-returns-in-Ok-into_groups-clause-used g c =
+pub returns-clause-used : goal.returns-clause-used
+returns-clause-used g c =
     let r = c.in-Ok-run.ensures.ran in
     let p = c.in-Ok.context in
     let leader = c.run.new.lead in

@@ -28,16 +28,16 @@ loop-block-preserved c =
     }
 
 -- the blocks are all the rows
-abbrev all : (c : goal.In-Ok-into_groups) → take (256 * c.loop-block.block) (drop 1 c.args.rows.now) ≡ drop 1 c.args.rows.now
+abbrev all : (c : goal.After-into_groups) → take (256 * c.loop-block.block) (drop 1 c.args.rows.now) ≡ drop 1 c.args.rows.now
 all c =
     let ends = div_ceil_times c.count.result 256 (omega arith) in
     take_all _ _ (omega (arith, ends.0, c.count.ensures.rows, c.div_ceil-block-end.ensures, c.loop-block-test.false, length-drop 1 c.args.rows.now))
 
-pub returns-in-Ok-into_groups-clause-groups : goal.returns-in-Ok-into_groups-clause-groups
-returns-in-Ok-into_groups-clause-groups c =
+pub returns-clause-groups : goal.returns-clause-groups
+returns-clause-groups c =
     let P : List (List (List ℕ)) → Type 0 = λ l. AreGroups c.args.plan.now l c.loop-block.groups in
-    (c.loop-block.groups, subst P (all c) c.loop-block.invariant.groups, c.in-Ok-into_groups.ensures)
+    (c.loop-block.groups, subst P (all c) c.loop-block.invariant.groups, c.into_groups.ensures)
 
-pub returns-in-Ok-into_groups-clause-none_refused : goal.returns-in-Ok-into_groups-clause-none_refused
-returns-in-Ok-into_groups-clause-none_refused c =
+pub returns-clause-none_refused : goal.returns-clause-none_refused
+returns-clause-none_refused c =
     refused_in-none c.args.plan.now c.args.rows.now (All-same (IsAccepted c.args.plan.now (header_width c.args.rows.now)) _ _ (sym (all c)) c.loop-block.invariant.accepted)

@@ -1,7 +1,8 @@
-use Rattle.std.proofs.Common.{◌≡◌, ◌∙◌, ◌<◌, ◌≤◌, ◌+◌, ◌++◌, ◌∷◌, [], ap, sym, subst, arith, length, ℕ, List, map, take, get_or}
+use Rattle.std.proofs.Common.{◌≡◌, ◌∙◌, ◌<◌, ◌≤◌, ◌+◌, ◌++◌, ◌∷◌, [], refl, ap, sym, subst, arith, length, ℕ, List, map, take, get_or}
 use Rattle.std.proofs.lemmas.List.{map-append, take_more}
 use Rattle.std.proofs.lemmas.List.Elements.{All-more}
 use Rattle.std.proofs.lemmas.Option.{get_or_from_slice_get}
+use Rattle.partial_agg.specs.Listed.{group}
 use Rattle.partial_agg.specs.declared.groups.Group.{Group}
 use Rattle.result_text.specs.Order.{group_of}
 use Rattle.result_text.proofs.order.as_they_are.Goals as goal
@@ -15,11 +16,11 @@ group-more so_far groups at group key lt there key_is is =
 
 pub loop-at-preserved : goal.loop-at-preserved
 loop-at-preserved c =
-    let group = c.get-group.result.now in
     let groups = c.args.groups.now in
+    let next = group (c.lent.result.0.now, c.lent.result.1.now) in
     let lt : c.loop-at.at < length groups = omega (arith, c.loop-at-test.true, c.len-at-end.ensures) in
-    let there = get_or_from_slice_get groups c.loop-at.at group group c.get-group.ensures in
+    let there = get_or_from_slice_get groups c.loop-at.at next next c.lent.ensures.group in
     record {
-      same = ap (map group_of) c.in_ok-push.ensures.items ∙ map-append group_of c.loop-at.refs.items _ ∙ group-more _ groups c.loop-at.at group _ lt there c.bytes-key.ensures.bytes c.loop-at.invariant.same;
-      short = All-more (λ (g : Group). length g.key ≤ 248) groups c.loop-at.at group lt c.loop-at.invariant.short (subst (λ (g : Group). length g.key ≤ 248) (sym there) c.bytes-key.ensures.fits);
+      same = ap (map group_of) c.in_ok-push.ensures.items ∙ map-append group_of c.loop-at.refs.items _ ∙ group-more _ groups c.loop-at.at next c.lent.result.0.now lt there refl c.loop-at.invariant.same;
+      short = All-more (λ (g : Group). length g.key ≤ 248) groups c.loop-at.at next lt c.loop-at.invariant.short (subst (λ (g : Group). length g.key ≤ 248) (sym there) c.lent.ensures.fits);
     }

@@ -6,5 +6,5 @@ use Rattle.result_text.proofs.tests.answer.Goals as goal
 pub text_of-requires-clause-printable : goal.text_of-requires-clause-printable
 text_of-requires-clause-printable c =
     let rows = drop 1 c.args.store.now in
-    subst (ArePrintable c.args.bound.now) (sym c.in_ok-groups.ensures)
+    subst (ArePrintable c.args.bound.now) (sym c.into_groups-groups.ensures)
     (printable-listed c.args.bound.now rows c.args.map (omega (arith, length-drop 1 c.args.store.now, c.requires.few)) c.requires.groups)

@@ -3,7 +3,7 @@ use Rattle.std.proofs.lemmas.Option.{get_or_from_slice_get, slice_get-get_or, sl
 use Rattle.std.specs.List.{slice_get}
 use Rattle.partial_agg.specs.declared.groups.Group.{Group}
 use Rattle.partial_agg.proofs.Placed.{length-listed_at, listed-get}
-use Rattle.partial_agg.proofs.groups.SortedGroups.get.Goals as goal
+use Rattle.partial_agg.proofs.groups.Groups.lent.Goals as goal
 
 pub returns-clause-group : goal.returns-clause-group
 returns-clause-group c =

@@ -2,7 +2,7 @@ use Rattle.std.proofs.Common.{◌∙◌, ap, sym, subst, length, reverse}
 use Rattle.partial_agg.specs.Listed.{listed_at}
 use Rattle.partial_agg.specs.Placed.{AreListed}
 use Rattle.partial_agg.proofs.Grouped.{are_listed, grouped_ordered, listed_in_order}
-use Rattle.partial_agg.proofs.map.GroupMap.into_sorted.Goals as goal
+use Rattle.partial_agg.proofs.map.GroupMap.into_groups.Goals as goal
 
 pub of_parts-requires : goal.of_parts-requires
 of_parts-requires c =
