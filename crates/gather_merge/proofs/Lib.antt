@@ -1,0 +1,17 @@
+pub mod Anys
+pub mod Causes
+pub mod Comparing
+pub mod Drawn
+pub mod Ends
+pub mod Falling
+pub mod Asked
+pub mod Law
+pub mod Refilling
+pub mod Led
+pub mod Merging
+pub mod Numbers
+pub mod Ordered
+pub mod Sent
+pub mod Streams
+pub mod Taking
+pub mod Together

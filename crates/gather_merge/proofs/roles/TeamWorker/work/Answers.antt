@@ -1,0 +1,18 @@
+use Rattle.std.proofs.Common.{subst, sym}
+use Rattle.par_model.specs.Columns.{HasColumns}
+use Rattle.par_model.specs.Plan.{Plan}
+use Rattle.partial_agg.specs.Rows.{header_width}
+use Rattle.scan_claim.specs.Shown.{blocks_of}
+use Rattle.parallel_ctx.specs.Accounts.{account_in}
+use Rattle.scan_claim.specs.Shown.{draws_of}
+use Rattle.gather_merge.specs.Ended.{DidWork}
+use Rattle.gather_merge.proofs.roles.TeamWorker.work.Goals as goal
+
+pub work-requires-clause-columns : goal.work-requires-clause-columns
+work-requires-clause-columns g c =
+    subst (λ (p : Plan). HasColumns p (header_width c.args.self.now.rows.now)) (sym (c.plan_in-plan.ensures.plan c.requires.0 c.requires.1.seats.plan_is)) c.requires.2.0
+
+pub returns-clause-did : goal.returns-clause-did
+returns-clause-did g c plan has =
+    subst (λ (p : Plan). DidWork p c.args.self.now.rows.now (blocks_of c.args.shared.now.claims) (account_in (draws_of c.work.new.claim) c.work.new.errors.end c.work.new.tuples.end) c.work.result)
+    (c.plan_in-plan.ensures.plan plan has) c.work.ensures.ended

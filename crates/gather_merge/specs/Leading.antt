@@ -1,0 +1,82 @@
+-- What a leader has merged so far, and why it may have given up.
+use Rattle.std.specs.Prelude.{◌≡◌, ◌<◌, ◌⊎◌, ℕ, List, [], ◌∷◌, All, IsTrue, Option, Some, None, length, map, true}
+use Rattle.gather_law.specs.Tuples.{Table}
+use Rattle.par_model.specs.Plan.{Plan}
+use Rattle.parallel_ctx.specs.Accounts.{Heard}
+use Rattle.parallel_ctx.specs.declared.tokens.LeaderEnds.{LeaderEnds}
+use Rattle.partial_agg.specs.Rows.{header_width}
+use Rattle.partial_agg.specs.declared.map.BlockAnswer.{BlockAnswer}
+use Rattle.partial_agg.specs.declared.map.BlockAnswer.TheVariants as block
+use Rattle.scan_claim.specs.Drawing.{is_spent}
+use Rattle.worker_run.specs.Ended.{IsRefused}
+use Rattle.gather_merge.specs.Answers.{IsFirst}
+use Rattle.gather_merge.specs.Hearing.{NamedBy, notices_of, rows_heard, streams, Source}
+use Rattle.gather_merge.specs.Heads.{AreFalling}
+use Rattle.gather_merge.specs.Merging.{IsCovered, IsMerging, Refilled}
+use Rattle.gather_merge.specs.Order.{row_cmp}
+use Rattle.gather_merge.specs.Streams.{IsMerge, IsStream}
+use Rattle.gather_merge.specs.declared.MergeAnswer.{MergeAnswer}
+use Rattle.gather_merge.specs.declared.MergeAnswer.TheVariants.{Row, Memory}
+use Rattle.gather_merge.specs.declared.heads.Head.{Head}
+
+-- ---- the steps of a merge
+
+-- a source was asked for its next row
+abbrev pub Refills : Plan → Table → ℕ → List Source → List Source → List Head → List Head → List LeaderEnds → Option MergeAnswer → Type 0
+Refills plan records from sources sources' heads heads' queues None = Refilled (row_cmp plan records) from sources sources' heads heads'
+Refills plan records from sources sources' heads heads' queues (Some (Row row cause)) = NamedBy (map notices_of queues) row cause
+Refills plan records from sources sources' heads heads' queues (Some Memory) = Unit {0}
+
+-- of each source the next row is a head, and nothing is in order yet
+pub record IsFilled (plan : Plan) (records : Table) (sources : List Source) (order : List ℕ) (heads : List Head) : Type 0 where
+  pub merging : IsMerging (row_cmp plan records) sources order heads
+  pub covered : (at : ℕ) → at < length sources → IsCovered sources heads at
+  pub falling : AreFalling plan records heads
+
+-- what came of filling the heads
+abbrev pub Fills : Plan → Table → List Source → List Head → List LeaderEnds → Option MergeAnswer → Type 0
+Fills plan records sources heads queues None = IsFilled plan records sources [] heads
+Fills plan records sources heads queues (Some (Row row cause)) = NamedBy (map notices_of queues) row cause
+Fills plan records sources heads queues (Some Memory) = Unit {0}
+
+-- all rows of all sources are merged
+pub record IsDrained (plan : Plan) (records : Table) (sources : List Source) (order : List ℕ) : Type 0 where
+  pub merge : IsMerge (row_cmp plan records) (streams sources) order
+  pub over : All (λ (s : Source). s.over ≡ true) sources
+
+-- what came of merging
+abbrev pub Drains : Plan → Table → List Source → List ℕ → List LeaderEnds → Option MergeAnswer → Type 0
+Drains plan records sources order queues None = IsDrained plan records sources order
+Drains plan records sources order queues (Some (Row row cause)) = NamedBy (map notices_of queues) row cause
+Drains plan records sources order queues (Some Memory) = Unit {0}
+
+-- ---- the leader
+
+-- why a block was not taken, as an answer
+abbrev pub Answers : BlockAnswer → MergeAnswer → Type 0
+Answers (block.Row row cause item) answer = answer ≡ Row row cause
+Answers block.Memory answer = answer ≡ Memory
+
+-- it has led to the end: there are no more blocks, and no more messages on the tuple queues
+pub record HasLed (plan : Plan) (records : Table) (blocks : ℕ) (draws : List ℕ) (heard : List Heard) (order : List ℕ) : Type 0 where
+  pub own : List ℕ
+  pub stream : IsStream plan (header_width records) records draws own
+  pub merge : IsMerge (row_cmp plan records) (own ∷ map rows_heard heard) order
+  pub spent : IsTrue (is_spent blocks draws)
+  pub over : All (λ (h : Heard). h.tuples_over ≡ true) heard
+
+-- it met a refused row, the first where it is alone
+pub record MetRow (plan : Plan) (records : Table) (alone : Type 0) (row cause : ℕ) : Type 0 where
+  pub item : ℕ
+  pub refused : IsRefused plan records row cause item
+  pub first : alone → IsFirst plan records row
+
+-- it met a refused row, or a message named one
+abbrev pub NamesRow : Plan → Table → List Heard → ℕ → ℕ → Type 0
+NamesRow plan records heard row cause = MetRow plan records (heard ≡ []) row cause ⊎ NamedBy (map (λ (h : Heard). h.errors) heard) row cause
+
+-- what it did: it led to the end, or knows of a refused row, or had no memory
+abbrev pub Led : Plan → Table → ℕ → List ℕ → List Heard → List ℕ → Option MergeAnswer → Type 0
+Led plan records blocks draws heard order None = HasLed plan records blocks draws heard order
+Led plan records blocks draws heard order (Some (Row row cause)) = NamesRow plan records heard row cause
+Led plan records blocks draws heard order (Some Memory) = Unit {0}

@@ -1,0 +1,12 @@
+pub mod Order
+pub mod Streams
+pub mod Law
+pub mod Answers
+pub mod Drawn
+pub mod Sent
+pub mod Ended
+pub mod Heads
+pub mod Hearing
+pub mod Merging
+pub mod Leading
+pub mod Used

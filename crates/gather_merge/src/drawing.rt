@@ -1,0 +1,152 @@
+//! What each participant does at first: it draws blocks until there are no more, keeps the numbers of their rows, and
+//! puts these in order. Rows are compared where they lie, so nothing of them is copied.
+
+ghost use Rattle.std.specs.Prelude.{◌≡◌, ◌<◌, ◌+◌, ◌*◌, ◌++◌, OnOk, IfErr, All, length};
+ghost use Rattle.std.specs.List.Sorted.{IsPermutation, IsSorted};
+ghost use Rattle.csv_rows.specs.Records.{record_at};
+ghost use Rattle.par_model.specs.Columns.{HasColumns};
+ghost use Rattle.par_model.specs.Record.{field_of};
+ghost use Rattle.partial_agg.specs.Rows.{IsAccepted, block_rows, header_width};
+ghost use Rattle.scan_claim.specs.Shown.{Belongs, blocks_of, draws_of, number_of};
+ghost use Rattle.gather_law.specs.Tuples.{AreBlocks};
+ghost use Rattle.gather_merge.specs.Drawn.{Draws, Drew, HasDrawn, Stops};
+ghost use Rattle.gather_merge.specs.Order.{row_cmp};
+ghost use Rattle.gather_merge.specs.Streams.{block_numbers};
+
+use csv_rows::RowStore;
+use par_model::{BoundPlan, Refusal};
+use partial_agg::{BLOCK_ROWS, BlockAnswer, refusal};
+use scan_claim::{ClaimSeat, Claims};
+use std::cmp::Ordering;
+use std::sync::Wait;
+use worker_run::Gate;
+
+/// A field of a record, and nothing where it is not there.
+fn field_or_none(rows: &RowStore, row: u64, column: u32) -> &[u8]
+    ensures { result.now ≡ field_of (record_at rows.now row) column }
+{
+    if row <= rows.count() && column < rows.width(row) {
+        rows.field(row, column)
+    } else {
+        &[]
+    }
+}
+
+/// How two rows compare: by the plan's columns in turn, and then by their numbers. A number of no row is that of one
+/// with no fields. No memory is taken; the time is that of the columns up to the first that differs.
+pub(crate) fn compare(rows: &RowStore, plan: &BoundPlan, a: u64, b: u64) -> Ordering
+    ensures { result ≡ row_cmp plan.now rows.now a b }
+{
+    for column in plan.group_columns() {
+        let columns = field_or_none(rows, a, *column).cmp(field_or_none(rows, b, *column));
+        if columns.is_ne() {
+            return columns;
+        }
+    }
+    a.cmp(&b)
+}
+
+/// Puts numbers in the order of their rows.
+pub(crate) fn sort_rows(rows: &RowStore, plan: &BoundPlan, list: &mut Vec<u64>)
+    ensures permutation { IsPermutation list.old.items list.new.items }
+    ensures sorted { IsSorted (row_cmp plan.now rows.now) list.new.items }
+{
+    list.sort_unstable_by(|a, b| compare(rows, plan, *a, *b));
+}
+
+/// Puts the numbers of a block's rows behind the others. A refused row stops it, the first of the block.
+fn take_block(
+    rows: &RowStore,
+    plan: &BoundPlan,
+    block: u64,
+    list: &mut Vec<u64>,
+) -> Result<(), BlockAnswer>
+    requires block { BLOCK_ROWS * block + 1 < length rows.now }
+    requires columns { HasColumns plan.now (header_width rows.now) }
+    ensures taken { OnOk result (list.new.items ≡ list.old.items ++ block_numbers rows.now block) }
+    ensures accepted { OnOk result (All (IsAccepted plan.now (header_width rows.now)) (block_rows rows.now block)) }
+    ensures stopped { IfErr result (λ why. Stops plan.now rows.now block why) }
+{
+    let last = rows.count();
+    let first = BLOCK_ROWS * block + 1;
+    let count = (last - first + 1).min(BLOCK_ROWS);
+    for at in 0..count {
+        if let Some(Refusal { cause, item }) = refusal(rows, first + at, plan) {
+            return Err(BlockAnswer::Row {
+                row: first + at,
+                cause,
+                item,
+            });
+        }
+        if list.push(first + at).is_err() {
+            return Err(BlockAnswer::Memory);
+        }
+    }
+    Ok(())
+}
+
+/// What came of one block.
+pub(crate) enum Step {
+    /// The numbers of its rows were taken.
+    Next,
+    /// There are no more blocks.
+    NoMore,
+    /// It was not taken, for this reason.
+    Stopped(BlockAnswer),
+}
+
+/// Draws a block and takes the numbers of its rows.
+fn draw_block<G: Gate>(
+    number: u32,
+    plan: &BoundPlan,
+    rows: &RowStore,
+    gate: &G,
+    claims: &Claims,
+    claim: &mut ClaimSeat,
+    list: &mut Vec<u64>,
+) -> Step
+    requires seat { Belongs claims.now claim.old }
+    requires blocks { AreBlocks rows.now (blocks_of claims.now) }
+    requires columns { HasColumns plan.now (header_width rows.now) }
+    requires drawn { HasDrawn plan.now rows.now claims.now claim.old list.old.items }
+    ensures seat { Belongs claims.now claim.new × (number_of claim.new ≡ number_of claim.old) }
+    ensures step { Draws plan.now rows.now claims.now claim.new list.new.items result }
+{
+    let Some(block) = claim.claim(claims) else {
+        return Step::NoMore;
+    };
+    gate.pass(number, block);
+    match take_block(rows, plan, block, list) {
+        Ok(()) => Step::Next,
+        Err(why) => Step::Stopped(why),
+    }
+}
+
+/// Draws blocks until there are no more, and takes the numbers of their rows. It answers why it stopped, if it did not
+/// get to the end.
+pub(crate) fn draw_all<G: Gate, R: Wait>(
+    rt: &R,
+    number: u32,
+    plan: &BoundPlan,
+    rows: &RowStore,
+    gate: &G,
+    claims: &Claims,
+    claim: &mut ClaimSeat,
+    list: &mut Vec<u64>,
+) -> Option<BlockAnswer>
+    requires seat { Belongs claims.now claim.old }
+    requires blocks { AreBlocks rows.now (blocks_of claims.now) }
+    requires columns { HasColumns plan.now (header_width rows.now) }
+    requires drawn { HasDrawn plan.now rows.now claims.now claim.old list.old.items }
+    ensures seat { Belongs claims.now claim.new × (number_of claim.new ≡ number_of claim.old) }
+    ensures drawn { Drew plan.now rows.now claims.now claim.new list.new.items result }
+{
+    for _ in rt.forever() {
+        match draw_block(number, plan, rows, gate, claims, claim, list) {
+            Step::Next => {}
+            Step::NoMore => return None,
+            Step::Stopped(why) => return Some(why),
+        }
+    }
+    unreachable!()
+}

@@ -1,0 +1,14 @@
+//! The laws of merging, as plain facts about lists.
+
+ghost use Rattle.gather_merge.specs.Law.{MergesAll, OneOrder};
+
+/// Where each block was drawn once, the merge of the participants' sorted streams is an order of all rows, whoever drew
+/// which block. A law: it does nothing when it runs.
+pub fn merges_all()
+    ensures { MergesAll }
+{}
+
+/// There is one order of the rows only. A law: it does nothing when it runs.
+pub fn one_order()
+    ensures { OneOrder }
+{}

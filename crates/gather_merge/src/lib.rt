@@ -1,0 +1,125 @@
+//! The rows of a table in order, by sorted workers, in the manner of nodeGatherMerge.c: each participant sorts the rows
+//! of the blocks that it draws, and the leader merges the workers' streams with its own.
+//!
+//! Rows are known by their numbers, and compare by their columns and then by these numbers, so no two are alike and
+//! there is one order of all rows (`IsOrder`), whoever drew which block. That a merge of sorted streams is this order
+//! is a fact about plain lists (`merges_all`); here it is shown that a run is one of those that the fact speaks of. A
+//! worker that ended early has left rows out, so the answer is then a refused row or want of memory, and no order.
+
+#![tactic(auto)]
+
+ghost use Rattle.std.specs.Prelude.{◌≡◌, ◌≤◌, ◌^◌, IfErr, IfOk, OnOk, All, drop, length};
+ghost use Rattle.csv_rows.specs.declared.records.TheConstants.{MOST_RECORDS};
+ghost use Rattle.par_model.specs.Columns.{HasColumns};
+ghost use Rattle.partial_agg.specs.Rows.{IsAccepted, header_width};
+ghost use Rattle.gather_law.specs.Tuples.{AreBlocks};
+ghost use Rattle.gather_merge.specs.Answers.{IsCause, IsFirstCause, OrdersRows};
+ghost use Rattle.gather_merge.specs.Order.{IsOrder};
+ghost use Rattle.gather_merge.specs.Used.{IsUsed};
+
+use csv_rows::RowStore;
+use par_model::BoundPlan;
+use parallel_ctx::{Context, Finished};
+use partial_agg::BLOCK_ROWS;
+use roles::{Leader, Team};
+use std::alloc::Global;
+use std::sync::Wait;
+use std::thread::Threads;
+use verdicts::first_verdict;
+use worker_run::{Gate, WorkerEnd};
+
+mod drawing;
+mod heads;
+mod hearing;
+mod laws;
+mod leading;
+mod order;
+mod roles;
+mod sending;
+#[cfg(test)]
+mod tests;
+mod verdicts;
+mod working;
+
+pub use laws::{merges_all, one_order};
+pub use order::Order;
+
+/// Why there is no order.
+#[derive(Debug, Clone, Copy, PartialEq, Eq)]
+pub enum MergeAnswer {
+    /// This row is refused, for this cause: [`par_model::WIDTH_CAUSE`] or [`par_model::KEY_CAUSE`].
+    Row { row: u64, cause: u8 },
+    /// There was no memory.
+    Memory,
+}
+
+/// How many blocks the rows make. Tells too that there are few.
+fn count_blocks(rows: &RowStore) -> u64
+    ensures blocks { AreBlocks rows.now result }
+    ensures few { result ≤ 2 ^ 32 }
+    ensures short { length rows.now ≤ MOST_RECORDS }
+{
+    rows.count().div_ceil(BLOCK_ROWS)
+}
+
+/// What a merge comes to.
+#[derive(Drop)]
+pub struct Merged {
+    /// The numbers of all rows, in order.
+    pub order: Order,
+    /// What the participants brought home.
+    pub finished: Finished<WorkerEnd>,
+}
+
+/// Puts the rows in the order of the plan's columns, as bytes, and of their numbers. It runs in the caller's thread, as
+/// participant 0, with so many workers beside it; each participant passes the gate before each of its blocks. Of several
+/// refused rows any may be named, unless there are no workers. A refused row that the leader met or read goes before a
+/// worker's want of memory; on either, and on want of memory of its own, the leader leaves its queues at once, which
+/// stops the workers. Fewer workers than asked for may start, also none.
+///
+/// The blocks of 256 rows and their sorting are shared out. Each row of a worker is one message; taking the messages off
+/// and merging them is the leader's work, with at most 7 comparisons of rows for each row. Memory is 82 KB for each
+/// worker, and 8 bytes a row for the participants' lists, 8 more for the order.
+pub fn merge<G: Gate + Sync, R: Threads + Wait + Sync>(
+    rt: &R,
+    alloc: Global,
+    rows: &RowStore,
+    plan: &BoundPlan,
+    workers: u32,
+    gate: &G,
+) -> Result<Merged, MergeAnswer>
+    requires plan { OrdersRows plan.now }
+    requires columns { HasColumns plan.now (header_width rows.now) }
+    requires workers { workers ≤ 64 }
+    ensures accepted { OnOk result (All (IsAccepted plan.now (header_width rows.now)) (drop 1 rows.now)) }
+    ensures order { IfOk result (λ m. IsOrder plan.now rows.now m.order) }
+    ensures row { IfErr result (λ why. IsCause plan.now rows.now why) }
+    ensures first { workers ≡ 0 → IfErr result (λ why. IsFirstCause plan.now rows.now why) }
+    ensures used { IfOk result (λ m. IsUsed plan.now rows.now workers m.finished) }
+{
+    let Ok(context) = Context::build(alloc, plan, workers, count_blocks(rows)) else {
+        return Err(MergeAnswer::Memory);
+    };
+    let team = Team { alloc, rows, gate };
+    let mut leader = Leader {
+        alloc,
+        rows,
+        gate,
+        order: Vec::new(alloc),
+        failure: None,
+    };
+    let Ok(finished) = context.run(rt, alloc, &team, &mut leader) else {
+        return Err(MergeAnswer::Memory);
+    };
+    let (list, failure) = leader.into_order();
+    if let Some(why) = failure {
+        return Err(why);
+    }
+    if let Some(why) = first_verdict(&finished.workers) {
+        return Err(why);
+    }
+    Ok(Merged {
+        order: Order::of(list),
+        finished,
+    })
+}

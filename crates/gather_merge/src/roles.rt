@@ -1,0 +1,138 @@
+//! Who takes part in a merge: the workers, who run `work`, and the leader, who runs `lead_all`.
+
+ghost use Rattle.std.specs.Prelude.{◌≡◌};
+
+use crate::MergeAnswer;
+use crate::leading::lead_all;
+use crate::working::work;
+use csv_rows::RowStore;
+use parallel_ctx::{Lead, LeaderEnds, Seats, Shared, Worker, WorkerEnds};
+use plan_spec::plan_in;
+use std::alloc::Global;
+use std::sync::Wait;
+use worker_run::{Gate, WorkerEnd};
+
+/// The workers of a merge: each takes its list to memory of `alloc` and passes the gate.
+pub(crate) struct Team<'a, G: Gate + Sync> {
+    pub(crate) alloc: Global,
+    pub(crate) rows: &'a RowStore,
+    pub(crate) gate: &'a G,
+}
+
+impl<'a, G: Gate + Sync> Drop for Team<'a, G> {
+    fn drop(self) {
+        let Team {
+            alloc: _,
+            rows: _,
+            gate: _,
+        } = self;
+    }
+}
+
+impl<'a, G: Gate + Sync> Worker for Team<'a, G> {
+    ghost use Rattle.par_model.specs.Columns.{HasColumns};
+    ghost use Rattle.partial_agg.specs.Rows.{header_width};
+    ghost use Rattle.gather_law.specs.Tuples.{AreBlocks};
+    ghost use Rattle.gather_merge.specs.Ended.{DidWork};
+
+    type End = WorkerEnd;
+
+    ghost asks = { λ team plan blocks. HasColumns plan (header_width team.rows.now) × AreBlocks team.rows.now blocks };
+
+    ghost did = { λ team plan blocks account end. DidWork plan team.rows.now blocks account end };
+
+    fn work<R: Wait + Sync>(
+        &self,
+        rt: &R,
+        shared: &Shared,
+        seats: &mut Seats,
+        ends: &mut WorkerEnds,
+    ) -> WorkerEnd {
+        let plan = plan_in(&mut seats.toc, &shared.region);
+        work(
+            rt,
+            self.alloc,
+            &shared.region,
+            seats.number,
+            &plan,
+            &shared.claims,
+            &mut seats.claim,
+            self.rows,
+            &mut ends.errors,
+            &mut ends.tuples,
+            self.gate,
+        )
+    }
+}
+
+/// The leader of a merge, with the order as far as it has come. `failure` says why there is none.
+pub(crate) struct Leader<'a, G: Gate> {
+    pub(crate) alloc: Global,
+    pub(crate) rows: &'a RowStore,
+    pub(crate) gate: &'a G,
+    pub(crate) order: Vec<u64>,
+    pub(crate) failure: Option<MergeAnswer>,
+}
+
+impl<'a, G: Gate> Drop for Leader<'a, G> {
+    fn drop(self) {
+        let Leader {
+            alloc: _,
+            rows: _,
+            gate: _,
+            order,
+            failure: _,
+        } = self;
+        drop(order);
+    }
+}
+
+impl<'a, G: Gate> Lead for Leader<'a, G> {
+    ghost use Rattle.std.specs.Prelude.{◌≡◌, []};
+    ghost use Rattle.par_model.specs.Columns.{HasColumns};
+    ghost use Rattle.partial_agg.specs.Rows.{header_width};
+    ghost use Rattle.gather_law.specs.Tuples.{AreBlocks};
+    ghost use Rattle.gather_merge.specs.Leading.{Led};
+
+    ghost asks = { λ leader plan blocks. HasColumns plan (header_width leader.rows.now) × AreBlocks leader.rows.now blocks × (leader.order.items ≡ []) };
+
+    ghost led = { λ leader plan blocks draws heard new. Led plan leader.rows.now blocks draws heard new.order.items new.failure };
+
+    fn lead<R: Wait + Sync>(
+        &mut self,
+        rt: &R,
+        shared: &Shared,
+        seats: &mut Seats,
+        queues: &mut [LeaderEnds],
+    ) {
+        let plan = plan_in(&mut seats.toc, &shared.region);
+        self.failure = lead_all(
+            rt,
+            self.alloc,
+            &shared.region,
+            &plan,
+            self.rows,
+            self.gate,
+            &shared.claims,
+            &mut seats.claim,
+            queues,
+            &mut self.order,
+        );
+    }
+}
+
+impl<'a, G: Gate> Leader<'a, G> {
+    /// The order, and why there is none, if so.
+    pub(crate) fn into_order(self) -> (Vec<u64>, Option<MergeAnswer>)
+        ensures { (result.0 ≡ self.entry.order) × (result.1 ≡ self.entry.failure) }
+    {
+        let Leader {
+            alloc: _,
+            rows: _,
+            gate: _,
+            order,
+            failure,
+        } = self;
+        (order, failure)
+    }
+}

@@ -1,0 +1,166 @@
+//! A worker of a merge: it draws blocks, puts their rows in order, and sends the rows' numbers. On its error queue it
+//! sends a single notice: `X` as its last act, when all its rows are sent, or `E` with the row that is refused. So
+//! whoever reads `X` knows that the messages before it are all rows of the worker's blocks, in order.
+
+ghost use Rattle.std.specs.Prelude.{◌≡◌, ◌⊎◌, [], ◌∷◌, false, true};
+ghost use Rattle.par_model.specs.Columns.{HasColumns};
+ghost use Rattle.partial_agg.specs.Rows.{header_width};
+ghost use Rattle.scan_claim.specs.Shown.{Belongs, blocks_of, draws_of, number_of};
+ghost use Rattle.gather_law.specs.Tuples.{AreBlocks};
+ghost use Rattle.error_queue.specs.Message.{IsMessage, encoding};
+ghost use Rattle.error_queue.specs.declared.ErrorMessage.{ErrorMessage};
+ghost use Rattle.worker_run.specs.Ended.{sends_of};
+ghost use Rattle.worker_run.specs.Sent.{FoundGone, HasSent, IsFreshQueue, IsReady};
+ghost use Rattle.worker_run.specs.Steps.{GivesUp, KeepsQueues};
+ghost use Rattle.worker_run.specs.declared.WorkerEnd.{WorkerEnd};
+ghost use Rattle.gather_merge.specs.Ended.{Finishes, HasEnded};
+
+use crate::drawing::{draw_all, sort_rows};
+use crate::sending::{send_notice, send_rows};
+use csv_rows::RowStore;
+use error_queue::ErrorMessage;
+use mq_handle::Sender;
+use par_model::BoundPlan;
+use partial_agg::BlockAnswer;
+use region_words::Region;
+use scan_claim::{ClaimSeat, Claims};
+use std::alloc::Global;
+use std::sync::Wait;
+use worker_run::{Gate, WorkerEnd};
+
+/// Names a refused row by an `E`.
+fn refuse<R: Wait>(
+    rt: &R,
+    r: &Region,
+    errors: &mut Sender,
+    row: u64,
+    cause: u8,
+    item: u32,
+) -> WorkerEnd
+    requires here { errors.old.region ≡ r.now }
+    requires ready { IsReady 14 errors.old.end }
+    ensures end { result ≡ WorkerEnd.Refused row cause item }
+    ensures fits { IsMessage (ErrorMessage.Row row cause item) }
+    ensures kept { errors.new ≡ record errors.old { end = errors.new.end } }
+    ensures sent { HasSent errors.old.end errors.new.end (encoding (ErrorMessage.Row row cause item) ∷ []) ⊎ FoundGone errors.old.end errors.new.end [] }
+{
+    let _told = send_notice(rt, r, errors, &ErrorMessage::Row { row, cause, item });
+    WorkerEnd::Refused { row, cause, item }
+}
+
+/// Names the refused row that stopped a block, if it was one.
+fn give_up<R: Wait>(rt: &R, r: &Region, errors: &mut Sender, why: BlockAnswer) -> WorkerEnd
+    requires here { errors.old.region ≡ r.now }
+    requires ready { IsReady 14 errors.old.end }
+    ensures kept { errors.new ≡ record errors.old { end = errors.new.end } }
+    ensures ring { errors.new.end.ring ≡ errors.old.end.ring }
+    ensures stays { errors.new.end.gone ≡ false }
+    ensures end { GivesUp errors.old.end errors.new.end why result }
+{
+    match why {
+        BlockAnswer::Row { row, cause, item } => refuse(rt, r, errors, row, cause, item),
+        BlockAnswer::Memory => WorkerEnd::NoMemory,
+    }
+}
+
+/// Sends all rows, and then says by an `X` that the work is done.
+fn finish<R: Wait>(
+    rt: &R,
+    r: &Region,
+    errors: &mut Sender,
+    tuples: &mut Sender,
+    list: &[u64],
+) -> WorkerEnd
+    requires errors_here { errors.old.region ≡ r.now }
+    requires errors_ready { IsReady 14 errors.old.end }
+    requires here { tuples.old.region ≡ r.now }
+    requires ready { IsReady 8 tuples.old.end }
+    ensures errors_kept { errors.new ≡ record errors.old { end = errors.new.end } }
+    ensures tuples_kept { tuples.new ≡ record tuples.old { end = tuples.new.end } }
+    ensures queues { KeepsQueues errors.old.end tuples.old.end errors.new.end tuples.new.end }
+    ensures end { Finishes list.now errors.old.end tuples.old.end errors.new.end tuples.new.end result }
+{
+    if !send_rows(rt, r, tuples, list) {
+        return WorkerEnd::Stopped;
+    }
+    tuples.flush(r);
+    if !send_notice(rt, r, errors, &ErrorMessage::End) {
+        return WorkerEnd::Stopped;
+    }
+    WorkerEnd::Finished
+}
+
+/// Draws blocks until there are no more, puts their rows in order, and sends them.
+fn work_rows<G: Gate, R: Wait>(
+    rt: &R,
+    alloc: Global,
+    r: &Region,
+    number: u32,
+    plan: &BoundPlan,
+    claims: &Claims,
+    claim: &mut ClaimSeat,
+    rows: &RowStore,
+    errors: &mut Sender,
+    tuples: &mut Sender,
+    gate: &G,
+) -> WorkerEnd
+    requires seat { Belongs claims.now claim.old }
+    requires fresh { draws_of claim.old ≡ [] }
+    requires blocks { AreBlocks rows.now (blocks_of claims.now) }
+    requires columns { HasColumns plan.now (header_width rows.now) }
+    requires errors_here { errors.old.region ≡ r.now }
+    requires here { tuples.old.region ≡ r.now }
+    requires errors_fresh { IsFreshQueue 14 errors.old.end }
+    requires tuples_fresh { IsFreshQueue 8 tuples.old.end }
+    ensures seat { Belongs claims.now claim.new × (number_of claim.new ≡ number_of claim.old) }
+    ensures errors_kept { errors.new ≡ record errors.old { end = errors.new.end } }
+    ensures tuples_kept { tuples.new ≡ record tuples.old { end = tuples.new.end } }
+    ensures queues { KeepsQueues errors.old.end tuples.old.end errors.new.end tuples.new.end }
+    ensures ended { HasEnded plan.now rows.now (blocks_of claims.now) (draws_of claim.new) (sends_of errors.new.end tuples.new.end) result }
+{
+    let mut list = Vec::new(alloc);
+    if let Some(why) = draw_all(rt, number, plan, rows, gate, claims, claim, &mut list) {
+        return give_up(rt, r, errors, why);
+    }
+    sort_rows(rows, plan, &mut list);
+    finish(rt, r, errors, tuples, &list)
+}
+
+/// Draws blocks until there are no more, puts their rows in order, and sends them. It passes the gate before each block,
+/// as participant `number`. Both ends are detached afterwards, the tuple queue's first. It waits where a queue is full,
+/// until the receiver takes something or is gone.
+pub(crate) fn work<G: Gate, R: Wait>(
+    rt: &R,
+    alloc: Global,
+    r: &Region,
+    number: u32,
+    plan: &BoundPlan,
+    claims: &Claims,
+    claim: &mut ClaimSeat,
+    rows: &RowStore,
+    errors: &mut Sender,
+    tuples: &mut Sender,
+    gate: &G,
+) -> WorkerEnd
+    requires seat { Belongs claims.now claim.old }
+    requires fresh { draws_of claim.old ≡ [] }
+    requires blocks { AreBlocks rows.now (blocks_of claims.now) }
+    requires columns { HasColumns plan.now (header_width rows.now) }
+    requires errors_here { errors.old.region ≡ r.now }
+    requires here { tuples.old.region ≡ r.now }
+    requires errors_fresh { IsFreshQueue 14 errors.old.end }
+    requires tuples_fresh { IsFreshQueue 8 tuples.old.end }
+    ensures seat { Belongs claims.now claim.new × (number_of claim.new ≡ number_of claim.old) }
+    ensures errors_kept { errors.new ≡ record errors.old { end = errors.new.end } }
+    ensures tuples_kept { tuples.new ≡ record tuples.old { end = tuples.new.end } }
+    ensures errors { (errors.new.end.ring ≡ errors.old.end.ring) × (errors.new.end.gone ≡ true) }
+    ensures tuples { (tuples.new.end.ring ≡ tuples.old.end.ring) × (tuples.new.end.gone ≡ true) }
+    ensures ended { HasEnded plan.now rows.now (blocks_of claims.now) (draws_of claim.new) (sends_of errors.new.end tuples.new.end) result }
+{
+    let end = work_rows(
+        rt, alloc, r, number, plan, claims, claim, rows, errors, tuples, gate,
+    );
+    tuples.detach(r);
+    errors.detach(r);
+    end
+}
