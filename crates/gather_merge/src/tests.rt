@@ -4,6 +4,7 @@ ghost use Rattle.std.specs.Prelude.{◌≤◌, IfOk};
 ghost use Rattle.par_model.specs.Columns.{HasColumns};
 ghost use Rattle.partial_agg.specs.Rows.{header_width};
 ghost use Rattle.gather_merge.specs.Answers.{OrdersRows};
+ghost use Rattle.gather_merge.specs.Order.{IsOrder};
 
 mod meeting;
 
@@ -61,7 +62,7 @@ fn ordered_by(
     Ok((store, plan))
 }
 
-/// A merge that has an order.
+/// A merge that has an order, which is that of the rows.
 fn merged<G: Gate + Sync, R: Threads + Wait + Sync>(
     rt: &R,
     alloc: Global,
@@ -73,6 +74,7 @@ fn merged<G: Gate + Sync, R: Threads + Wait + Sync>(
     requires plan { OrdersRows plan.now }
     requires columns { HasColumns plan.now (header_width store.now) }
     requires workers { workers ≤ 64 }
+    ensures order { IfOk result (λ merged. IsOrder plan.now store.now merged.order) }
 {
     match merge(rt, alloc, store, plan, workers, gate) {
         Ok(merged) => Ok(merged),
