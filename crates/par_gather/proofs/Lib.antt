@@ -2,5 +2,5 @@ pub mod Inputs
 pub mod Pieces
 pub mod Refusals
 pub mod Statuses
-mod Merged
+mod Ordering
 mod Ready

@@ -16,7 +16,7 @@ ghost use Rattle.plan_spec.specs.Query.{query_of};
 ghost use Rattle.par_gather.specs.Answers.{IsOutcome, IsTableText, outcome_over, plan_of, status_of, statuses, texts, workers_of};
 ghost use Rattle.par_gather.specs.Forms.{merge_usage_text, usage_text};
 ghost use Rattle.par_gather.specs.Lines.{IsLine, IsSaid, NamesFirst, line};
-ghost use Rattle.par_gather.specs.Ordered.{IsMergeRun, IsMergedBy, IsOrderText, merge_plan_of, merge_workers_of};
+ghost use Rattle.par_gather.specs.Ordered.{IsMergeRun, IsOrderText, merge_plan_of, merge_workers_of};
 ghost use Rattle.par_gather.specs.Ran.{IsMadeBy, IsRun};
 ghost use Rattle.par_gather.specs.Stops.{IsExplained, IsFirstStop};
 ghost use Rattle.par_gather.specs.declared.stop.Stop.TheVariants as stop;
@@ -24,6 +24,7 @@ ghost use Rattle.par_gather.specs.declared.stop.Stop.TheVariants as stop;
 mod form;
 mod groups;
 mod input;
+mod merging;
 mod names;
 mod output;
 mod reading;
@@ -32,12 +33,13 @@ mod status;
 mod stop;
 
 use form::Form;
-use gather_merge::{Merged, merge};
+use gather_merge::Merged;
 use gather_run::{Gathered, gather};
 use groups::groups_of;
 use input::prepare;
-use names::{stop_of_block, stop_of_gather, stop_of_merge};
-use output::{write_rows, write_table};
+use merging::answer_merged;
+use names::{stop_of_block, stop_of_gather};
+use output::write_table;
 use par_io::{Sink, Source};
 use plan_spec::is_merge;
 use reading::{Alone, InThreads};
@@ -160,16 +162,14 @@ pub fn pargather<R: Threads + Wait + Sync, S: Source, O: Sink, E: Sink, G: Gate 
     ensures merge_ran { is_merge (texts words.now) ≡ true → result ≡ TABLE → IfSome (S.left source.old) (λ bytes.
         (text : List ℕ) × IsMergeRun (merge_of (texts words.now)) bytes text ran.new × Appends (O.taken out.old) (O.taken out.new) text) }
 {
+    *ran = None;
     if is_merge(words) {
         match answer_merged(rt, alloc, words, source, out, gate) {
             Ok(merged) => {
                 *ran = Some(Ran::Merge(merged));
                 TABLE
             }
-            Err(stop) => {
-                *ran = None;
-                stop.end(Form::Merge, err)
-            }
+            Err(stop) => stop.end(Form::Merge, err),
         }
     } else {
         match answer_gathered(rt, alloc, words, source, out, gate) {
@@ -177,10 +177,7 @@ pub fn pargather<R: Threads + Wait + Sync, S: Source, O: Sink, E: Sink, G: Gate 
                 *ran = Some(Ran::Gather(gathered));
                 TABLE
             }
-            Err(stop) => {
-                *ran = None;
-                stop.end(Form::Plan, err)
-            }
+            Err(stop) => stop.end(Form::Plan, err),
         }
     }
 }
@@ -297,46 +294,6 @@ fn answer_gathered<R: Threads + Wait + Sync, S: Source, O: Sink, G: Gate + Sync>
     };
     write_table(alloc, &ready, &gathered.groups, out)?;
     Ok(gathered)
-}
-
-/// Reads the words and the source, and writes the rows in order, with as many workers as the words ask for.
-fn answer_merged<R: Threads + Wait + Sync, S: Source, O: Sink, G: Gate + Sync>(
-    rt: &R,
-    alloc: Global,
-    words: &[String],
-    source: &mut S,
-    out: &mut O,
-    gate: &G,
-) -> Result<Merged, Stop>
-    ensures rows { OnOk result (IfSome (S.left source.old) (λ bytes.
-        (text : List ℕ) × IsOrderText (merge_plan_of (texts words.now)) bytes text × Appends (O.taken out.old) (O.taken out.new) text)) }
-    ensures merged { IfOk result (λ merged. IfSome (S.left source.old) (λ bytes.
-        (text : List ℕ) × IsMergedBy (merge_of (texts words.now)) bytes text merged × Appends (O.taken out.old) (O.taken out.new) text)) }
-    ensures part { IfErr result (λ why. why ≡ stop.WriteFault → IfSome (S.left source.old) (λ bytes.
-        (text : List ℕ) × IsOrderText (merge_plan_of (texts words.now)) bytes text × (n : ℕ) × Appends (O.taken out.old) (O.taken out.new) (take n text))) }
-    ensures nothing { IfErr result (λ why. (why ≢ stop.WriteFault) → out.new ≡ out.old) }
-    ensures why { IfErr result (λ why. IsExplained (merge_plan_of (texts words.now)) (S.left source.old) why) }
-    ensures read_fault { IfErr result (λ why. why ≡ stop.ReadFault → Rose (S.faults source.old) (S.faults source.new)) }
-    ensures write_fault { IfErr result (λ why. why ≡ stop.WriteFault → Rose (O.faults out.old) (O.faults out.new)) }
-    ensures no_plan { IsNone (merge_plan_of (texts words.now)) → (result ≡ Err stop.Usage) ⊎ (result ≡ Err stop.Memory) }
-    ensures unread { IsNone (merge_plan_of (texts words.now)) → source.new ≡ source.old }
-    ensures first { merge_workers_of (texts words.now) ≡ Some 0 → IfErr result (λ why. IfSome (S.left source.old) (λ bytes.
-        IsFirstStop (merge_plan_of (texts words.now)) why (outcome_over (merge_plan_of (texts words.now)) bytes))) }
-{
-    let ready = prepare(alloc, Form::Merge, words, source, &InThreads { rt })?;
-    let merged = match merge(
-        rt,
-        alloc,
-        &ready.rows,
-        &ready.bound,
-        ready.plan.workers(),
-        gate,
-    ) {
-        Ok(merged) => merged,
-        Err(answer) => return Err(stop_of_merge(alloc, &ready.plan, answer)),
-    };
-    write_rows(alloc, &ready, &merged.order, out)?;
-    Ok(merged)
 }
 
 #[cfg(test)]

@@ -1,18 +1,14 @@
-//! The writing of a table, and of rows in order.
+//! The writing of a table.
 
-ghost use Rattle.std.specs.Prelude.{◌≡◌, ◌≢◌, ◌⊎◌, ℕ, List, IfErr, OnErr, OnOk, take};
+ghost use Rattle.std.specs.Prelude.{◌≡◌, ◌≢◌, ◌⊎◌, ℕ, List, IfErr, OnOk, take};
 ghost use Rattle.std.specs.Io.KnownBytes.{Appends};
-ghost use Rattle.gather_merge.specs.Order.{IsOrder, ordered};
 ghost use Rattle.par_io.specs.Faults.{Rose};
-ghost use Rattle.par_model.specs.Table as model;
 ghost use Rattle.par_gather.specs.Grouping.{ListsGroups};
 ghost use Rattle.par_gather.specs.Ready.{IsBound, IsGroupsText};
 ghost use Rattle.par_gather.specs.declared.stop.Stop.TheVariants as stop;
 
 use crate::input::Ready;
-use crate::rows::ordered_text;
 use crate::stop::Stop;
-use gather_merge::Order;
 use par_io::{Sink, write_whole};
 use partial_agg::Groups;
 use result_text::text_of;
@@ -34,28 +30,6 @@ pub(crate) fn write_table<O: Sink>(
     ensures why { IfErr result (λ why. (why ≡ stop.WriteFault) ⊎ (why ≡ stop.Memory)) }
 {
     let text = text_of(alloc, &ready.plan, &ready.bound, groups)?;
-    match write_whole(out, text.as_slice()) {
-        Ok(()) => Ok(()),
-        Err(_) => Err(Stop::WriteFault),
-    }
-}
-
-/// Makes the text of the rows in this order, and writes it.
-pub(crate) fn write_rows<O: Sink>(
-    alloc: Global,
-    ready: &Ready,
-    order: &Order,
-    out: &mut O,
-) -> Result<(), Stop>
-    requires bound { IsBound ready.now }
-    requires order { IsOrder ready.now.bound ready.now.rows order.now }
-    ensures rows { OnOk result (Appends (O.taken out.old) (O.taken out.new) (model.table_text (ordered ready.now.rows order.now))) }
-    ensures part { IfErr result (λ why. why ≡ stop.WriteFault → (n : ℕ) × Appends (O.taken out.old) (O.taken out.new) (take n (model.table_text (ordered ready.now.rows order.now)))) }
-    ensures nothing { IfErr result (λ why. (why ≢ stop.WriteFault) → out.new ≡ out.old) }
-    ensures write_fault { IfErr result (λ why. why ≡ stop.WriteFault → Rose (O.faults out.old) (O.faults out.new)) }
-    ensures why { IfErr result (λ why. (why ≡ stop.WriteFault) ⊎ (why ≡ stop.Memory)) }
-{
-    let text = ordered_text(alloc, &ready.rows, order)?;
     match write_whole(out, text.as_slice()) {
         Ok(()) => Ok(()),
         Err(_) => Err(Stop::WriteFault),

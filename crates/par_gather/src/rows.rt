@@ -1,22 +1,51 @@
-//! The text of rows in order: the header and then the rows, as the crate `csv` writes them.
+//! The writing of rows in order: the header and then the rows, as the crate `csv` writes them.
 //!
 //! A row's fields are lent by the store for as long as its line is written, in one list whose memory serves for all
 //! rows.
 
-ghost use Rattle.std.specs.Prelude.{◌≡◌, ◌<◌, ◌++◌, All, IfOk, OnOk, length, map};
+ghost use Rattle.std.specs.Prelude.{◌≡◌, ◌≢◌, ◌⊎◌, ◌<◌, ◌++◌, ℕ, All, IfErr, IfOk, OnOk, length, map, take};
+ghost use Rattle.std.specs.Io.KnownBytes.{Appends};
 ghost use Rattle.csv.specs.Writing.{default_writer, row_text};
 ghost use Rattle.csv_rows.specs.Records.{record_at};
-ghost use Rattle.gather_merge.specs.Order.{ordered};
+ghost use Rattle.gather_merge.specs.Order.{IsOrder, ordered};
+ghost use Rattle.par_io.specs.Faults.{Rose};
 ghost use Rattle.par_model.specs.Table.{table_text};
 ghost use Rattle.result_text.specs.Written.{IsBetween, written};
+ghost use Rattle.par_gather.specs.Ready.{IsBound};
+ghost use Rattle.par_gather.specs.declared.stop.Stop.TheVariants as stop;
 
+use crate::input::Ready;
+use crate::stop::Stop;
 use csv::{Writer, WriterBuilder};
 use csv_rows::RowStore;
 use gather_merge::Order;
+use par_io::{Sink, write_whole};
 use std::alloc::{AllocError, Global};
 
+/// Makes the text of the rows in this order, and writes it.
+pub(crate) fn write_rows<O: Sink>(
+    alloc: Global,
+    ready: &Ready,
+    order: &Order,
+    out: &mut O,
+) -> Result<(), Stop>
+    requires bound { IsBound ready.now }
+    requires order { IsOrder ready.now.bound ready.now.rows order.now }
+    ensures rows { OnOk result (Appends (O.taken out.old) (O.taken out.new) (table_text (ordered ready.now.rows order.now))) }
+    ensures part { IfErr result (λ why. why ≡ stop.WriteFault → (n : ℕ) × Appends (O.taken out.old) (O.taken out.new) (take n (table_text (ordered ready.now.rows order.now)))) }
+    ensures nothing { IfErr result (λ why. (why ≢ stop.WriteFault) → out.new ≡ out.old) }
+    ensures write_fault { IfErr result (λ why. why ≡ stop.WriteFault → Rose (O.faults out.old) (O.faults out.new)) }
+    ensures why { IfErr result (λ why. (why ≡ stop.WriteFault) ⊎ (why ≡ stop.Memory)) }
+{
+    let text = ordered_text(alloc, &ready.rows, order)?;
+    match write_whole(out, text.as_slice()) {
+        Ok(()) => Ok(()),
+        Err(_) => Err(Stop::WriteFault),
+    }
+}
+
 /// The text of the header and of the rows whose numbers are listed, in this order.
-pub(crate) fn ordered_text(
+fn ordered_text(
     alloc: Global,
     rows: &RowStore,
     order: &Order,
@@ -76,10 +105,10 @@ fn lend_fields<'a>(
     requires { row < length rows.now }
     ensures { OnOk result (map (λ field. field.now) fields.new.items ≡ record_at rows.entry.now row) }
 {
-    let record = rows.find(row);
+    let lent = rows.find(row);
     fields.clear();
-    for at in 0..record.width() {
-        if fields.push(record.field(at)).is_err() {
+    for at in 0..lent.width() {
+        if fields.push(lent.field(at)).is_err() {
             return Err(AllocError);
         }
     }

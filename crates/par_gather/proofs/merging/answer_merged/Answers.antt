@@ -8,10 +8,10 @@ use Rattle.par_gather.specs.Grouping.{refused_in}
 use Rattle.par_gather.specs.Ordered.{IsOrderText}
 use Rattle.par_gather.specs.Stops.{IsExplained}
 use Rattle.par_gather.specs.declared.stop.Stop.TheVariants as stop
-use Rattle.par_gather.proofs.Merged.{merge_explained, merge_first, merged_written, orders_rows, rows_part, rows_written}
+use Rattle.par_gather.proofs.Ordering.{merge_explained, merge_first, merged_written, orders_rows, rows_part, rows_written}
 use Rattle.par_gather.proofs.Ready.{no_workers, unwritten_explained}
 use Rattle.par_gather.proofs.Refusals.{refused_in-none}
-use Rattle.par_gather.proofs.answer_merged.Goals as goal
+use Rattle.par_gather.proofs.merging.answer_merged.Goals as goal
 
 pub merge-requires-clause-plan : goal.merge-requires-clause-plan
 merge-requires-clause-plan g c =
