@@ -33,11 +33,11 @@ fn find_row(rows: &RowStore, row: u64) -> Option<Record<'_>>
 }
 
 /// A field of a record, and nothing where it is not there.
-fn field_or_none<'a>(record: &Option<Record<'a>>, column: u32) -> &'a [u8]
-    ensures { result.now ≡ field_of (unwrap_or record.entry.now []) column }
+fn field_or_none<'a>(row: &Option<Record<'a>>, column: u32) -> &'a [u8]
+    ensures { result.now ≡ field_of (unwrap_or row.entry.now []) column }
 {
-    match record {
-        Some(lent) if column < lent.width() => lent.field(column),
+    match row {
+        Some(row) if column < row.width() => row.field(column),
         _ => &[],
     }
 }

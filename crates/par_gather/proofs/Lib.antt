@@ -4,3 +4,4 @@ pub mod Refusals
 pub mod Statuses
 mod Ordering
 mod Ready
+mod RowLines

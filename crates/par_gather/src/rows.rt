@@ -3,7 +3,7 @@
 //! A row's fields are lent by the store for as long as its line is written, in one list whose memory serves for all
 //! rows.
 
-ghost use Rattle.std.specs.Prelude.{◌≡◌, ◌≢◌, ◌⊎◌, ◌<◌, ◌++◌, ℕ, All, IfErr, IfOk, OnOk, length, map, take};
+ghost use Rattle.std.specs.Prelude.{◌≡◌, ◌≢◌, ◌⊎◌, ◌<◌, ◌++◌, [], ℕ, All, IfErr, IfOk, OnOk, length, map, take};
 ghost use Rattle.std.specs.Io.KnownBytes.{Appends};
 ghost use Rattle.csv.specs.Writing.{default_writer, row_text};
 ghost use Rattle.csv_rows.specs.Records.{record_at};
@@ -45,19 +45,30 @@ pub(crate) fn write_rows<O: Sink>(
 }
 
 /// The text of the header and of the rows whose numbers are listed, in this order.
-fn ordered_text(
-    alloc: Global,
-    rows: &RowStore,
-    order: &Order,
-) -> Result<Vec<u8>, AllocError>
+fn ordered_text(alloc: Global, rows: &RowStore, order: &Order) -> Result<Vec<u8>, AllocError>
     requires header { 0 < length rows.now }
     requires rows { All (λ row. row < length rows.now) order.now }
     ensures { IfOk result (λ text. text.items ≡ table_text (ordered rows.now order.now)) }
 {
-    let mut writer = WriterBuilder::new().from_writer(Vec::new(alloc));
+    let mut writer = new_writer(alloc);
     let mut fields = Vec::new(alloc);
     write_row(&mut writer, &mut fields, rows, 0)?;
     write_each(&mut writer, &mut fields, rows, order)?;
+    into_text(writer)
+}
+
+/// No lines yet.
+fn new_writer(alloc: Global) -> Writer<Vec<u8>>
+    ensures empty { written result ≡ [] }
+    ensures between { IsBetween result }
+{
+    WriterBuilder::new().from_writer(Vec::new(alloc))
+}
+
+/// The text of the lines.
+fn into_text(writer: Writer<Vec<u8>>) -> Result<Vec<u8>, AllocError>
+    ensures { IfOk result (λ text. text.items ≡ written writer) }
+{
     writer.into_inner().map_err(|_| AllocError)
 }
 
@@ -91,9 +102,16 @@ fn write_row<'a>(
     ensures between { OnOk result (IsBetween writer.new) }
 {
     lend_fields(fields, rows, row)?;
-    writer
-        .write_fields(fields.as_slice())
-        .map_err(|_| AllocError)
+    write_line(writer, fields)
+}
+
+/// The line of some fields. Over memory nothing but want of memory can fail, since all lines have as many fields.
+fn write_line(writer: &mut Writer<Vec<u8>>, fields: &[&[u8]]) -> Result<(), AllocError>
+    requires between { IsBetween writer.old }
+    ensures text { OnOk result (written writer.new ≡ written writer.old ++ row_text default_writer (map (λ field. field.now) fields.entry.now)) }
+    ensures between { OnOk result (IsBetween writer.new) }
+{
+    writer.write_fields(fields).map_err(|_| AllocError)
 }
 
 /// Lists the fields of a record, in place of those that were listed.
@@ -108,9 +126,7 @@ fn lend_fields<'a>(
     let lent = rows.find(row);
     fields.clear();
     for at in 0..lent.width() {
-        if fields.push(lent.field(at)).is_err() {
-            return Err(AllocError);
-        }
+        fields.push(lent.field(at))?;
     }
     Ok(())
 }
