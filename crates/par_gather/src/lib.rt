@@ -61,13 +61,14 @@ pub enum Ran {
 
 /// Answers the query that `words` name, over the bytes of `source`: writes its table to `out`, or a line to `err` that
 /// says why there is none, and returns the exit status. `words` are those after the program's name. Words that begin
-/// with `merge` are to be `merge COLUMNS N`; their query puts the rows in the order of these columns, with N workers, and
-/// writes the header and then the rows.
+/// with `merge` are to be `merge COLUMNS N`; their query puts the rows in the order of these columns, with N workers,
+/// and writes the header and then the rows.
 ///
 /// The bytes are cut into records by the caller's thread and as many workers as the words ask for, each a part of them.
-/// The rows are shared out, by blocks of 256, among the same number; each participant passes the gate before each of its
-/// blocks, the caller's thread as participant 0. So far the plan `hash` runs as the plan `gather`, and `--area-pages` is
-/// read and checked alone. Of several refused rows the line may name any one, unless no workers are asked for.
+/// The rows are shared out, by blocks of 256, among the same number; each participant passes the gate before each of
+/// its blocks, the caller's thread as participant 0. So far the plan `hash` runs as the plan `gather`, and
+/// `--area-pages` is read and checked alone. Of several refused rows the line may name any one, unless no workers are
+/// asked for.
 ///
 /// Time is linear in the input, but for the look-up of each row's group and the order of the groups, or of the rows.
 /// Memory is the input, its records, about 700 bytes for each group, twice over while their list is made, and for each
@@ -122,7 +123,8 @@ pub fn pargather<R: Threads + Wait + Sync, S: Source, O: Sink, E: Sink, G: Gate 
 
     // Without workers the row that it names is the first that is refused.
     ensures first { is_merge (texts words.now) ≡ false → workers_of (texts words.now) ≡ Some 0 → result ≡ REFUSED → IfSome (S.left source.old) (λ bytes.
-        (said : List ℕ) × NamesFirst (plan_of (texts words.now)) (outcome_over (plan_of (texts words.now)) bytes) said × IsSaid (E.taken err.old) (E.taken err.new) (E.faults err.old) (E.faults err.new) said) }
+        (said : List ℕ) × NamesFirst (plan_of (texts words.now)) (outcome_over (plan_of (texts words.now)) bytes) said
+        × IsSaid (E.taken err.old) (E.taken err.new) (E.faults err.old) (E.faults err.new) said) }
 
     // Beside a table `ran` says how its groups were made.
     ensures ran { is_merge (texts words.now) ≡ false → result ≡ TABLE → IfSome (S.left source.old) (λ bytes.
@@ -156,7 +158,8 @@ pub fn pargather<R: Threads + Wait + Sync, S: Source, O: Sink, E: Sink, G: Gate 
 
     // Without workers the row that it names is the first that is refused.
     ensures merge_first { is_merge (texts words.now) ≡ true → merge_workers_of (texts words.now) ≡ Some 0 → result ≡ REFUSED → IfSome (S.left source.old) (λ bytes.
-        (said : List ℕ) × NamesFirst (merge_plan_of (texts words.now)) (outcome_over (merge_plan_of (texts words.now)) bytes) said × IsSaid (E.taken err.old) (E.taken err.new) (E.faults err.old) (E.faults err.new) said) }
+        (said : List ℕ) × NamesFirst (merge_plan_of (texts words.now)) (outcome_over (merge_plan_of (texts words.now)) bytes) said
+        × IsSaid (E.taken err.old) (E.taken err.new) (E.faults err.old) (E.faults err.new) said) }
 
     // Beside rows `ran` says how they were put in order.
     ensures merge_ran { is_merge (texts words.now) ≡ true → result ≡ TABLE → IfSome (S.left source.old) (λ bytes.
@@ -222,7 +225,8 @@ pub fn aggregate_alone<S: Source, O: Sink, E: Sink>(
 
     // The row that it names is the first that is refused.
     ensures first { result ≡ REFUSED → IfSome (S.left source.old) (λ bytes.
-        (said : List ℕ) × NamesFirst (plan_of (texts words.now)) (outcome_over (plan_of (texts words.now)) bytes) said × IsSaid (E.taken err.old) (E.taken err.new) (E.faults err.old) (E.faults err.new) said) }
+        (said : List ℕ) × NamesFirst (plan_of (texts words.now)) (outcome_over (plan_of (texts words.now)) bytes) said
+        × IsSaid (E.taken err.old) (E.taken err.new) (E.faults err.old) (E.faults err.new) said) }
 {
     match answer_alone(alloc, words, source, out) {
         Ok(()) => TABLE,
