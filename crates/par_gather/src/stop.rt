@@ -113,7 +113,7 @@ impl Stop {
         ensures { result.0.now ++ (result.1.now ++ result.2.now) ≡ text_of form self.now }
     {
         match self {
-            Stop::Usage => (form.usage(), "", ""),
+            Stop::Usage => ("", "", form.usage()),
             Stop::ReadFault => ("read fault", "", ""),
             Stop::TooManyBytes => ("more than 67108864 bytes", "", ""),
             Stop::NoHeader => ("no header", "", ""),
