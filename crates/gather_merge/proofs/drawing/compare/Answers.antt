@@ -1,7 +1,6 @@
 use Rattle.std.proofs.Common.{◌≡◌, ◌<◌, ◌≤◌, ◌∙◌, ℕ, List, length, get_or, ap, ap₂, subst, sym}
 use Rattle.std.specs.Cmp.Lexicographic.{slice_cmp}
 use Rattle.std.specs.Ordering.{is_ne, nat_cmp}
-use Rattle.par_model.specs.Record.{field_of}
 use Rattle.gather_merge.proofs.Comparing.{by_column, same_columns, told_apart}
 use Rattle.gather_merge.proofs.drawing.compare.Goals as goal
 
@@ -11,8 +10,7 @@ returns-then-is_ne c =
     let i = c.loop-column.column-index in
     let same = c.loop-column.invariant.columns in
     let column_is : c.cmp-columns.result ≡ by_column records c.args.a c.args.b (get_or c.args.plan.now.groups i 0) =
-    c.cmp-columns.ensures ∙ ap₂ (slice_cmp nat_cmp) (c.field_or_none.ensures ∙ ap (λ (row : List (List ℕ)). field_of row _) c.find_row.ensures)
-    (c.field_or_none-in-loop-column.ensures ∙ ap (λ (row : List (List ℕ)). field_of row _) c.find_row-2.ensures) ∙ ap (λ (items : List ℕ). by_column records c.args.a c.args.b (get_or items i 0)) same in
+    c.cmp-columns.ensures ∙ ap₂ (slice_cmp nat_cmp) c.field_or_none.ensures c.field_or_none-in-loop-column.ensures ∙ ap (λ (items : List ℕ). by_column records c.args.a c.args.b (get_or items i 0)) same in
     column_is ∙ told_apart c.args.plan.now records c.args.a c.args.b i (subst (λ (l : List ℕ). i < length l) same c.loop-column-test.true) (ap is_ne (sym column_is) ∙ sym c.is_ne.ensures ∙ c.if-is_ne.true)
     c.loop-column.invariant.so_far
 
