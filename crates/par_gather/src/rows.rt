@@ -102,7 +102,7 @@ fn write_row<'a>(
     ensures between { OnOk result (IsBetween writer.new) }
 {
     lend_fields(fields, rows, row)?;
-    write_line(writer, fields)
+    write_line(writer, fields.as_slice())
 }
 
 /// The line of some fields. Over memory nothing but want of memory can fail, since all lines have as many fields.
