@@ -1,0 +1,9 @@
+pub mod Events
+pub mod Replays
+pub mod Uses
+pub mod Sizes
+pub mod Grows
+pub mod Sweeps
+pub mod Rounds
+pub mod Ends
+pub mod Opening

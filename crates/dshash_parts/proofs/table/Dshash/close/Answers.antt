@@ -1,0 +1,17 @@
+use Rattle.std.proofs.Common.{◌≡◌, ℕ, ◌≤◌, sym, ap, subst, ◌∙◌, arith}
+use lib.ListN.{get_elem?}
+use Rattle.dshash_parts.proofs.table.Dshash.close.Goals as goal
+
+pub returns-clause-left : goal.returns-clause-left
+returns-clause-left g c = c.close.ensures.left ∙ c.requires.table.1.count
+
+pub returns-clause-parts : goal.returns-clause-parts
+returns-clause-parts g c = λ region t. record {
+  few = subst (λ (n : ℕ). n ≤ 128) (sym (c.close.ensures.left ∙ t.count)) (omega arith);
+  parts = λ i low. ap (λ l. get_elem? l i) c.close.ensures.opens ∙ t.parts i low;
+}
+
+pub returns-clause-ended : goal.returns-clause-ended
+returns-clause-ended g c =
+    let e = c.close.ensures.ended in
+    record { lawful = λ i low. e.lawful i _ (c.requires.table.1.parts i low); begins = e.begins; mine = e.mine; no_others = e.no_others }

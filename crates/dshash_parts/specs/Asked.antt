@@ -1,0 +1,72 @@
+-- A locked partition: which call an ask stands for, which reply an answer stands for, and the chunks that go in and
+-- come out.
+use Rattle.std.specs.Prelude.{◌≡◌, ℕ, ◌/◌, ◌≤◌, Bool, List, length, Option, Some, None, Result, Ok, Err, is_some, IfSome}
+use Rattle.region_words.specs.declared.chunk.Chunk.{Chunk}
+use Rattle.dshash_core.specs.Key.{hash_of}
+use Rattle.dshash_core.specs.Cells.{PartitionView, buckets_of, partition_of}
+use Rattle.dshash_core.specs.Outcome.{HandsOut}
+use Rattle.dshash_core.specs.Listing.{pairs_of}
+use Rattle.dshash_core.specs.declared.outcome.CoreOut.{CoreOut}
+use Rattle.dshash_core.specs.declared.outcome.CoreOut.TheVariants.{Done, NeedItem, TooFull}
+use Rattle.dshash_parts.specs.States.{PartitionState}
+use Rattle.dshash_parts.specs.declared.asks.TableAsk.{TableAsk}
+use Rattle.dshash_parts.specs.declared.asks.TableAsk.TheVariants.{Make, Look, Grow, List as ListAll}
+use Rattle.dshash_parts.specs.declared.asks.TableAnswer.{TableAnswer}
+use Rattle.dshash_parts.specs.declared.asks.TableAnswer.TheVariants.{Came, Size, LeftOver, Entries}
+use Rattle.dshash_parts.specs.declared.histories.PartitionName.{PartitionName}
+use Rattle.dshash_parts.specs.declared.histories.PartitionCalls.{PartitionCalls}
+use Rattle.dshash_parts.specs.declared.histories.PartitionCalls.TheVariants.{Call, Looks, Moves, Lists}
+use Rattle.dshash_parts.specs.declared.histories.PartitionReplies.{PartitionReplies}
+use Rattle.dshash_parts.specs.declared.histories.PartitionReplies.TheVariants.{Made, LacksItem, HasToGrow, HasSize, Moved, Listed}
+
+-- the name of the partition of this number
+abbrev pub name_of : {S : Type 0} → ℕ → PartitionView S → PartitionName
+name_of number p = record { region = p.region; number = number; key_words = p.key_words; item_bytes = p.item_bytes }
+
+-- its state
+abbrev pub state_of : {S : Type 0} → PartitionView S → PartitionState S
+state_of p = record { size = p.size; cells = p.cells }
+
+-- the reply of a listing: the entries, if they were told
+abbrev pub listed_of : {S R V E : Type 0} → (V → List (List ℕ × S)) → Result V E → PartitionReplies S R
+listed_of pairs (Ok entries) = Listed (Some (pairs entries))
+listed_of pairs (Err e) = Listed None
+
+-- S, C and R are the states, calls and replies of the object O
+module _ {O S C R : Type 0} where
+  -- the call of an ask
+  abbrev pub call_of : TableAsk O S C R → PartitionCalls C
+  call_of (Make hash key call spare) = Call key call (is_some spare)
+  call_of Look = Looks
+  call_of (Grow size slice) = Moves size
+  call_of (ListAll alloc) = Lists
+
+  -- the reply of what became of a call
+  abbrev pub outcome_of : CoreOut O S C R → PartitionReplies S R
+  outcome_of (Done reply unused freed) = Made reply (is_some unused) (is_some freed)
+  outcome_of NeedItem = LacksItem
+  outcome_of (TooFull size spare) = HasToGrow size (is_some spare)
+
+  -- the reply of an answer
+  abbrev pub reply_of : TableAnswer O S C R → PartitionReplies S R
+  reply_of (Came out) = outcome_of out
+  reply_of (Size size) = HasSize size
+  reply_of (LeftOver slice) = Moved
+  reply_of (Entries entries) = listed_of (λ v. pairs_of v.items) entries
+
+  -- a key has the table's length, comes with its hash and belongs to the partition of this number, and a spare item has
+  -- the items' bytes; a move is to a size from 8 to 20, on a slice with as many words as that has buckets
+  abbrev pub AskFits : PartitionName → TableAsk O S C R → Type 0
+  AskFits n (Make hash key call spare) = (length key ≡ n.key_words) × (hash ≡ hash_of key) × (partition_of (hash_of key) ≡ n.number) × IfSome spare (λ c. (c.part.region ≡ n.region) × (c.bytes ≡ n.item_bytes))
+  AskFits n Look = Unit {0}
+  AskFits n (Grow size slice) = (8 ≤ size) × (size ≤ 20) × (slice.part.region ≡ n.region) × (buckets_of size ≤ slice.bytes / 8)
+  AskFits n (ListAll alloc) = Unit {0}
+
+  -- what is handed out are the spare itself or an item; a slice that is left over is of this region; a size is from 7
+  -- to 20
+  abbrev pub AnswerFits : PartitionName → TableAsk O S C R → TableAnswer O S C R → Type 0
+  AnswerFits n (Make hash key call spare) (Came out) = HandsOut n.region n.item_bytes spare out
+  AnswerFits n Look (Size size) = (7 ≤ size) × (size ≤ 20)
+  AnswerFits n (Grow size slice) (LeftOver left) = left.part.region ≡ n.region
+  AnswerFits n (ListAll alloc) (Entries entries) = Unit {0}
+  AnswerFits n ask answer = ⊥

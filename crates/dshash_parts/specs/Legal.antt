@@ -1,0 +1,36 @@
+-- What a turn at a partition may reply, and what it does to the state.
+use Rattle.std.specs.Prelude.{◌≡◌, ℕ, List, Option, Some, None}
+use Rattle.std.specs.FinMap as fin
+use Rattle.dshash_core.specs.Key.{hash_of}
+use Rattle.dshash_core.specs.Cells.{IsRoomy, partition_of}
+use Rattle.dshash_core.specs.Outcome.{IsDone, IsNeedItem, IsTooFull, ListsAll, IsMoved}
+use Rattle.dshash_parts.specs.States.{PartitionState}
+use Rattle.dshash_parts.specs.declared.histories.PartitionCalls.{PartitionCalls}
+use Rattle.dshash_parts.specs.declared.histories.PartitionCalls.TheVariants.{Call, Looks, Moves, Lists}
+use Rattle.dshash_parts.specs.declared.histories.PartitionReplies.{PartitionReplies}
+use Rattle.dshash_parts.specs.declared.histories.PartitionReplies.TheVariants.{Made, LacksItem, HasToGrow, HasSize, Moved, Listed}
+
+module _ {S C R : Type 0} (step : Option S → C → Option S × R) where
+  -- the reply of each turn, and the state after it: only a call that was made changes the map, only a move the size
+  abbrev pub IsTurn : PartitionState S → PartitionCalls C → PartitionReplies S R → PartitionState S → Type 0
+  IsTurn before (Call key call spare) (Made reply unused freed) after = (after.size ≡ before.size) × IsDone step before.size before.cells key call spare reply unused freed after.cells
+  IsTurn before (Call key call spare) LacksItem after = (after.size ≡ before.size) × IsNeedItem step before.size before.cells key call spare after.cells
+  IsTurn before (Call key call spare) (HasToGrow size back) after = (after.size ≡ before.size) × IsTooFull step before.size before.cells key call spare size back after.cells
+  IsTurn before Looks (HasSize size) after = (size ≡ before.size) × (after ≡ before)
+  IsTurn before (Moves to) Moved after = IsMoved before.size before.cells to after.size after.cells
+  IsTurn before Lists (Listed (Some entries)) after = ListsAll before.cells entries × (after ≡ before)
+  IsTurn before Lists (Listed None) after = after ≡ before
+  IsTurn before call reply after = ⊥
+
+  -- a key that is called belongs to the partition of this number
+  abbrev pub IsOurs : ℕ → PartitionCalls C → Type 0
+  IsOurs number (Call key call spare) = partition_of (hash_of key) ≡ number
+  IsOurs number Looks = Unit {0}
+  IsOurs number (Moves to) = Unit {0}
+  IsOurs number Lists = Unit {0}
+
+  -- A turn at the partition of this number. After it the bound on the number of keys holds
+  pub record PartitionLegal (number : ℕ) (before : PartitionState S) (call : PartitionCalls C) (reply : PartitionReplies S R) (after : PartitionState S) : Type 0 where
+    pub is : IsTurn before call reply after
+    pub ours : IsOurs number call
+    pub roomy : IsRoomy after.size (fin.len after.cells)

@@ -1,0 +1,11 @@
+pub mod States
+pub mod Asked
+pub mod Legal
+pub mod Tables
+pub mod Ending
+pub mod Traces
+pub mod Replays
+pub mod Opening
+pub mod Promises
+pub mod Sweeps
+pub mod Rounds

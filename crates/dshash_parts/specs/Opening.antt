@@ -1,0 +1,35 @@
+-- How a table is made: the slices of its partitions, what was asked of the area for them, and how the partitions open.
+use Rattle.std.specs.Prelude.{◌≡◌, ℕ, zero, suc, ◌+◌, ◌<◌, ◌≤◌, List, [], ◌∷◌, ◌++◌, replicate}
+use Rattle.atomic_table.specs.Seated.{TableId}
+use Rattle.region_words.specs.declared.chunk.Chunk.{Chunk}
+use Rattle.dsa_area.specs.declared.area.Area.{Area}
+use Rattle.dsa_area.specs.declared.area.AreaPass.{AreaPass}
+use Rattle.dshash_parts.specs.States.{PartitionState, fresh}
+use Rattle.dshash_parts.specs.Traces.{Request, Got, Missed, Gave, Requested}
+use Rattle.dshash_parts.specs.declared.histories.PartitionName.{PartitionName}
+use Rattle.dshash_parts.specs.declared.open.DsNew.{DsNew}
+use Rattle.dshash_parts.specs.declared.open.DsNew.TheVariants.{NoSpace, Memory}
+
+-- the pass p of the area became q by these requests, in order, and no others
+abbrev pub Asks : Area → AreaPass → AreaPass → List Request → Type 0
+Asks a p q [] = q ≡ p
+Asks a p q (r ∷ rs) = (u : AreaPass) × Requested a p u r × Asks a u q rs
+
+-- slices of this region, each of a word or more
+abbrev pub AreSlices : TableId → List Chunk → Type 0
+AreSlices region [] = Unit {0}
+AreSlices region (c ∷ cs) = (c.part.region ≡ region) × (8 ≤ c.bytes) × AreSlices region cs
+
+-- so many slices were granted, one was refused, and they went back
+abbrev pub refused_after : ℕ → ℕ → ℕ → List Request
+refused_after n pages largest = replicate n (Got 8) ++ Missed 8 pages largest ∷ replicate n Gave
+
+-- there is no table, as a slice was refused, or there was no memory
+abbrev pub IsNoTable : Area → AreaPass → AreaPass → DsNew → Type 0
+IsNoTable a p q (NoSpace pages largest) = (n : ℕ) × (n < 128) × Asks a p q (refused_after n pages largest)
+IsNoTable a p q Memory = Unit {0}
+
+-- the names of so many partitions from this number on, each with the state of a new one
+abbrev pub opens_from : {S : Type 0} → TableId → ℕ → ℕ → ℕ → ℕ → List (PartitionName × PartitionState S)
+opens_from region key_words item_bytes number zero = []
+opens_from region key_words item_bytes number (suc n) = (record { region = region; number = number; key_words = key_words; item_bytes = item_bytes }, fresh) ∷ opens_from region key_words item_bytes (number + 1) n

@@ -1,0 +1,32 @@
+//! What a locked partition is asked, and what it answers.
+
+use crate::key::Key;
+use dshash_core::{CellObject, CoreOut, Entry};
+use region_words::Chunk;
+use std::alloc::{AllocError, Global};
+
+/// A turn at a partition.
+#[derive(Drop)]
+pub enum TableAsk<O: CellObject> {
+    /// A call of a key, whose hash goes with it, with a spare item or without.
+    Make(u32, Key, O::Call, Option<Chunk>),
+    /// A look at the size.
+    Look,
+    /// A move to this size, on this slice.
+    Grow(u32, Chunk),
+    /// A listing, with memory for the entries.
+    List(Global),
+}
+
+/// What a partition answers.
+#[derive(Drop)]
+pub enum TableAnswer<O: CellObject> {
+    /// What became of the call.
+    Came(CoreOut<O>),
+    /// The size.
+    Size(u32),
+    /// The slice that is left over: the former one, or the new one where the partition has that size already.
+    LeftOver(Chunk),
+    /// The entries.
+    Entries(Result<Vec<Entry<O>>, AllocError>),
+}

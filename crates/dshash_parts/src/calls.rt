@@ -1,0 +1,145 @@
+//! A call of a key: turns at its partition, and between them what it lacks.
+//!
+//! Where a turn says that the call lacks an item, one is got from the area, and the call is tried again with it. Where
+//! the partition has to grow first, all partitions of its size or less do, and the call is tried again. No lock is held
+//! in between, so others' turns may come there; the call itself is one turn, the last.
+
+ghost use Rattle.std.specs.Prelude.{◌≡◌, ℕ, ◌<◌, ◌≤◌, List, length, is_some, IfNone, IfSome, IfOk, IfErr, MatchResult};
+ghost use Rattle.std.specs.FinMap as fin;
+ghost use Rattle.lock_book.specs.Shown.{number_of, seen_of, mine_of};
+ghost use Rattle.dsa_area.specs.Shown.{Belongs as AreaBelongs, IsArea, number_of as area_number};
+ghost use Rattle.dshash_core.specs.Key.{hash_of};
+ghost use Rattle.dshash_core.specs.Cells.{IsRoomy, partition_of};
+ghost use Rattle.dshash_parts.specs.Tables.{IsTable, key_words_of, item_of, map_at, size_at, Belongs};
+ghost use Rattle.dshash_parts.specs.Traces.{sight_of};
+ghost use Rattle.dshash_parts.specs.Replays.{IsOneCell};
+ghost use Rattle.dshash_parts.specs.Promises.{CallMade, CallRefused, IsLastCall};
+ghost use Rattle.dshash_parts.specs.Sweeps.{Swept, SweptAndGave, GaveBack};
+
+use crate::growing::grow_all;
+use crate::requests::{ask, give};
+use crate::table::{DsPass, Dshash};
+use crate::turns::try_at;
+use dsa_area::{Area, AreaPass, NoSpace};
+use dshash_core::{CellObject, CoreOut, hash_key, partition_of_hash};
+use region_words::{Chunk, Region};
+use std::sync::Wait;
+
+/// Gives a chunk to the area, where there is one.
+fn give_back<R: Wait>(rt: &R, area: &Area, r: &Region, apass: &mut AreaPass, chunk: Option<Chunk>)
+    requires area { IsArea r.now area.now }
+    requires own { AreaBelongs area.now apass.old }
+    requires here { IfSome chunk (λ c. c.part.region ≡ r.now) }
+    ensures own { AreaBelongs area.now apass.new }
+    ensures caller { area_number apass.new ≡ area_number apass.old }
+    ensures gave { GaveBack area.now apass.old apass.new (is_some chunk) }
+{
+    if let Some(chunk) = chunk {
+        give(rt, area, r, apass, chunk);
+    }
+}
+
+/// All partitions of a smaller size move to this one. Where there is no slice for one of them, the spare goes back.
+fn double<R: Wait, O: CellObject + Send>(
+    rt: &R,
+    table: &Dshash<O>,
+    r: &Region,
+    area: &Area,
+    pass: &mut DsPass<O>,
+    apass: &mut AreaPass,
+    size: u32,
+    spare: Option<Chunk>,
+) -> Result<Option<Chunk>, NoSpace>
+where
+    O::State: Send,
+    O::Call: Send,
+    O::Reply: Send,
+    requires table { IsTable r.now table.now }
+    requires own { Belongs table.now pass.old }
+    requires area { IsArea r.now area.now }
+    requires area_own { AreaBelongs area.now apass.old }
+    requires size { (8 ≤ size) × (size ≤ 20) }
+    requires spare { IfSome spare (λ c. c.part.region ≡ r.now) }
+    ensures own { Belongs table.now pass.new }
+    ensures caller { number_of pass.new ≡ number_of pass.old }
+    ensures area_own { AreaBelongs area.now apass.new }
+    ensures area_caller { area_number apass.new ≡ area_number apass.old }
+    ensures grows { (k : ℕ) → k < 128 → size_at (seen_of pass.old) k ≤ size_at (seen_of pass.new) k }
+    ensures large { IfOk result (λ _. (k : ℕ) → k < 128 → size ≤ size_at (seen_of pass.new) k) }
+    ensures spare { IfOk result (λ kept. kept ≡ spare) }
+    ensures swept { IfOk result (λ _. Swept O.stepped area.now (number_of pass.old) size 128 (sight_of pass.old apass.old) (sight_of pass.new apass.new)) }
+    ensures refused { IfErr result (λ lack.
+        SweptAndGave O.stepped area.now (number_of pass.old) size lack.pages lack.largest (is_some spare) (sight_of pass.old apass.old) (sight_of pass.new apass.new)) }
+{
+    match grow_all(rt, table, r, area, pass, apass, size) {
+        Ok(()) => Ok(spare),
+        Err(lack) => {
+            give_back(rt, area, r, apass, spare);
+            Err(lack)
+        }
+    }
+}
+
+impl<O: CellObject + Send> Dshash<O>
+where
+    O::State: Send,
+    O::Call: Send,
+    O::Reply: Send,
+{
+    /// Makes a call of a key. It takes no memory. It may wait for the lock of the key's partition and, where that has to
+    /// grow, of each partition, one after another; and for those of the area, with none of the table's in hand. A call
+    /// of a key that is there costs one hash, one walk along a chain and one turn; a new key a second turn and a chunk
+    /// of the area; and doubling comes at most 13 times in the life of a table.
+    pub fn call<R: Wait>(
+        &self,
+        rt: &R,
+        r: &Region,
+        area: &Area,
+        pass: &mut DsPass<O>,
+        apass: &mut AreaPass,
+        key: &[u64],
+        call: &O::Call,
+    ) -> Result<O::Reply, NoSpace>
+        requires table { IsTable r.now self.now }
+        requires own { Belongs self.now pass.old }
+        requires area { IsArea r.now area.now }
+        requires area_own { AreaBelongs area.now apass.old }
+        requires key { length key.now ≡ key_words_of self.now }
+        ensures own { Belongs self.now pass.new }
+        ensures caller { number_of pass.new ≡ number_of pass.old }
+        ensures area_own { AreaBelongs area.now apass.new }
+        ensures area_caller { area_number apass.new ≡ area_number apass.old }
+        ensures made { IfOk result (CallMade O.stepped self.now area.now pass.old apass.old pass.new apass.new key.now call.now) }
+        ensures refused { IfErr result (λ lack. CallRefused O.stepped self.now area.now pass.old apass.old pass.new apass.new key.now call.now lack.pages lack.largest) }
+        ensures last { IfOk result (λ reply. IsLastCall (number_of pass.old) key.now call.now reply (seen_of pass.new (partition_of (hash_of key.now)))) }
+        ensures cells { (k : List ℕ) → IsOneCell O.stepped (seen_of pass.new) k }
+        ensures roomy { (k : ℕ) → k < 128 → IsRoomy (size_at (seen_of pass.new) k) (fin.len (map_at (seen_of pass.new) k)) }
+    {
+        let hash = hash_key(key);
+        let number = partition_of_hash(hash);
+        let mut spare = None;
+        'turns: loop {
+            match try_at(rt, self, r, pass, number, hash, key, call, spare) {
+                CoreOut::Done {
+                    reply,
+                    unused,
+                    freed,
+                } => {
+                    give_back(rt, area, r, apass, unused);
+                    give_back(rt, area, r, apass, freed);
+                    return Ok(reply);
+                }
+                CoreOut::NeedItem => match ask(rt, area, r, apass, self.item_bytes) {
+                    Ok(item) => spare = Some(item),
+                    Err(lack) => return Err(lack),
+                },
+                CoreOut::TooFull { size, spare: kept } => {
+                    match double(rt, self, r, area, pass, apass, size + 1, kept) {
+                        Ok(kept) => spare = kept,
+                        Err(lack) => return Err(lack),
+                    }
+                }
+            }
+        }
+    }
+}

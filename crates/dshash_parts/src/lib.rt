@@ -1,0 +1,37 @@
+//! The shared hash table (dshash.c): 128 partitions, each behind a lock of its own, with items and bucket slices from a
+//! shared area.
+//!
+//! A key belongs to the partition of its hash's top 7 bits. A call is made under that partition's lock. Where it lacks an
+//! item, or the partition has to grow first, it gives up the lock, gets what is lacking from the area, and begins again;
+//! each turn at a lock is an event of its own in the history of that partition (`specs/Legal.antt`). So the calls of a
+//! key are, in one history, those of one cell, while partitions move between any two of them (`laws`).
+//!
+//! `numbered` is the locked value, `turns` one event at it, `requests` one request to the area; `growing` and `calls` put
+//! these together. `open`, `close` and `listing` are how a table begins and ends, and how its entries are told.
+
+#![tactic(auto)]
+
+mod asks;
+mod calls;
+mod close;
+mod growing;
+mod histories;
+mod key;
+mod laws;
+mod listing;
+mod numbered;
+mod open;
+mod requests;
+mod table;
+#[cfg(test)]
+mod tests;
+mod turns;
+
+pub use asks::{TableAnswer, TableAsk};
+pub use close::ClosedTable;
+pub use histories::{PartitionCalls, PartitionName, PartitionReplies, PartitionStates};
+pub use key::{Key, MOST_KEY_WORDS};
+pub use laws::{keys_are_cells, sizes_grow, stays_roomy};
+pub use numbered::Numbered;
+pub use open::DsNew;
+pub use table::{DsPass, Dshash};

@@ -1,0 +1,88 @@
+//! A partition behind a lock.
+
+ghost use Rattle.std.specs.Prelude.{◌≡◌, ◌/◌, ◌≤◌};
+ghost use Rattle.std.specs.FinMap as fin;
+ghost use Rattle.dshash_core.specs.Cells.{IsRoomy, buckets_of};
+ghost use Rattle.dshash_core.specs.Outcome.{IsMoved};
+ghost use Rattle.dshash_parts.specs.Asked.{name_of, state_of, call_of, reply_of, AskFits, AnswerFits};
+ghost use Rattle.dshash_parts.specs.Legal.{PartitionLegal};
+
+use crate::asks::{TableAnswer, TableAsk};
+use crate::histories::{PartitionCalls, PartitionName, PartitionReplies, PartitionStates};
+use dshash_core::{CellObject, Partition};
+use dshash_resize::move_partition;
+use lock_book::Kept;
+use region_words::{Chunk, Region};
+
+/// The partition of this number.
+#[derive(Drop)]
+pub struct Numbered<O: CellObject> {
+    pub number: u32,
+    pub partition: Partition<O>,
+}
+
+impl<O: CellObject + Send> Kept for Numbered<O>
+where
+    O::State: Send,
+    O::Call: Send,
+    O::Reply: Send,
+{
+    type Env = Region;
+
+    type In = TableAsk<O>;
+
+    type Out = TableAnswer<O>;
+
+    type Name = PartitionName;
+
+    type State = PartitionStates<O>;
+
+    type Call = PartitionCalls<O::Call>;
+
+    type Reply = PartitionReplies<O::State, O::Reply>;
+
+    ghost name = { λ v. name_of v.number v.partition };
+
+    ghost state = { λ v. state_of v.partition };
+
+    ghost call = { call_of };
+
+    ghost reply = { reply_of };
+
+    ghost env_fits = { λ n r. r ≡ n.region };
+
+    ghost in_fits = { λ n _ ask. AskFits n ask };
+
+    ghost out_fits = { AnswerFits };
+
+    ghost legal = { λ n _ before call reply after. PartitionLegal O.stepped n.number before call reply after };
+
+    fn apply(&mut self, r: &Region, ask: TableAsk<O>) -> TableAnswer<O> {
+        let partition = &mut self.partition;
+        match ask {
+            TableAsk::Make(hash, key, call, spare) => {
+                TableAnswer::Came(partition.try_call_with_hash(r, hash, key.words(), &call, spare))
+            }
+            TableAsk::Look => TableAnswer::Size(partition.size()),
+            TableAsk::Grow(size, slice) => TableAnswer::LeftOver(grow(partition, r, size, slice)),
+            TableAsk::List(alloc) => TableAnswer::Entries(partition.list(alloc, r)),
+        }
+    }
+}
+
+/// Moves a partition to a size, where it has a smaller one. The slice that is left over.
+fn grow<O: CellObject>(partition: &mut Partition<O>, r: &Region, size: u32, slice: Chunk) -> Chunk
+    requires here { (partition.old.region ≡ r.now) × (slice.part.region ≡ r.now) }
+    requires size { size ≤ 20 }
+    requires room { buckets_of size ≤ slice.bytes / 8 }
+    ensures moved { IsMoved partition.old.size partition.old.cells size partition.new.size partition.new.cells }
+    ensures same { partition.new ≡ record partition.old { slice = partition.new.slice; words = partition.new.words; size = partition.new.size } }
+    ensures roomy { IsRoomy partition.new.size (fin.len partition.new.cells) }
+    ensures here { result.part.region ≡ r.now }
+{
+    if partition.size() < size {
+        move_partition(partition, r, size, slice)
+    } else {
+        slice
+    }
+}

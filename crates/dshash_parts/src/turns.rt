@@ -1,0 +1,118 @@
+//! The turns that a call of the table takes, each one event of one partition.
+
+ghost use Rattle.std.specs.Prelude.{◌≡◌, ℕ, ◌/◌, ◌<◌, ◌≤◌, length, is_some, IfSome};
+ghost use Rattle.lock_book.specs.Shown.{number_of, seen_of, mine_of};
+ghost use Rattle.dsa_area.specs.Sizes.{chunk_size};
+ghost use Rattle.dshash_core.specs.Key.{hash_of};
+ghost use Rattle.dshash_core.specs.Cells.{buckets_of, partition_of};
+ghost use Rattle.dshash_core.specs.Outcome.{HandsOut};
+ghost use Rattle.dshash_parts.specs.Asked.{outcome_of};
+ghost use Rattle.dshash_parts.specs.Tables.{IsTable, Turned, size_at, Belongs};
+ghost use Rattle.dshash_parts.specs.declared.histories.PartitionCalls.TheVariants.{Call, Looks, Moves};
+ghost use Rattle.dshash_parts.specs.declared.histories.PartitionReplies.TheVariants.{HasSize, Moved};
+
+use crate::asks::{TableAnswer, TableAsk};
+use crate::key::Key;
+use crate::table::{DsPass, Dshash};
+use dshash_core::{CellObject, CoreOut};
+use region_words::{Chunk, Region};
+use std::sync::Wait;
+
+/// A call of a key, at its partition.
+pub(crate) fn try_at<R: Wait, O: CellObject + Send>(
+    rt: &R,
+    table: &Dshash<O>,
+    r: &Region,
+    pass: &mut DsPass<O>,
+    number: u32,
+    hash: u32,
+    key: &[u64],
+    call: &O::Call,
+    spare: Option<Chunk>,
+) -> CoreOut<O>
+where
+    O::State: Send,
+    O::Call: Send,
+    O::Reply: Send,
+    requires table { IsTable r.now table.now }
+    requires own { Belongs table.now pass.old }
+    requires number { number < 128 }
+    requires hash { (hash ≡ hash_of key.now) × (partition_of hash ≡ number) }
+    requires key { length key.now ≡ table.now.key_words }
+    requires spare { IfSome spare (λ c. (c.part.region ≡ r.now) × (c.bytes ≡ chunk_size table.now.item_bytes)) }
+    ensures own { Belongs table.now pass.new }
+    ensures caller { number_of pass.new ≡ number_of pass.old }
+    ensures grows { (k : ℕ) → k < 128 → size_at (seen_of pass.old) k ≤ size_at (seen_of pass.new) k }
+    ensures event { Turned O.stepped pass.old pass.new number (Call key.now call.now (is_some spare)) (outcome_of result) }
+    ensures handed { HandsOut r.now (chunk_size table.now.item_bytes) spare result }
+{
+    let ask = TableAsk::Make(hash, Key::of(key), *call, spare);
+    match table.shelf.call(rt, r, pass, number as usize, ask) {
+        TableAnswer::Came(out) => out,
+        _ => unreachable!(),
+    }
+}
+
+/// The size of a partition.
+pub(crate) fn look_at<R: Wait, O: CellObject + Send>(
+    rt: &R,
+    table: &Dshash<O>,
+    r: &Region,
+    pass: &mut DsPass<O>,
+    number: u32,
+) -> u32
+where
+    O::State: Send,
+    O::Call: Send,
+    O::Reply: Send,
+    requires table { IsTable r.now table.now }
+    requires own { Belongs table.now pass.old }
+    requires number { number < 128 }
+    ensures own { Belongs table.now pass.new }
+    ensures caller { number_of pass.new ≡ number_of pass.old }
+    ensures grows { (k : ℕ) → k < 128 → size_at (seen_of pass.old) k ≤ size_at (seen_of pass.new) k }
+    ensures event { Turned O.stepped pass.old pass.new number Looks (HasSize result) }
+    ensures told { size_at (seen_of pass.new) number ≡ result }
+    ensures size { (7 ≤ result) × (result ≤ 20) }
+{
+    match table
+        .shelf
+        .call(rt, r, pass, number as usize, TableAsk::Look)
+    {
+        TableAnswer::Size(size) => size,
+        _ => unreachable!(),
+    }
+}
+
+/// A partition moves to a larger slice. The slice that is left over.
+pub(crate) fn grow_at<R: Wait, O: CellObject + Send>(
+    rt: &R,
+    table: &Dshash<O>,
+    r: &Region,
+    pass: &mut DsPass<O>,
+    number: u32,
+    size: u32,
+    slice: Chunk,
+) -> Chunk
+where
+    O::State: Send,
+    O::Call: Send,
+    O::Reply: Send,
+    requires table { IsTable r.now table.now }
+    requires own { Belongs table.now pass.old }
+    requires number { number < 128 }
+    requires size { (8 ≤ size) × (size ≤ 20) }
+    requires slice { (slice.part.region ≡ r.now) × (buckets_of size ≤ slice.bytes / 8) }
+    ensures own { Belongs table.now pass.new }
+    ensures caller { number_of pass.new ≡ number_of pass.old }
+    ensures grows { (k : ℕ) → k < 128 → size_at (seen_of pass.old) k ≤ size_at (seen_of pass.new) k }
+    ensures event { Turned O.stepped pass.old pass.new number (Moves size) Moved }
+    ensures grown { size ≤ size_at (seen_of pass.new) number }
+    ensures here { result.part.region ≡ r.now }
+{
+    let ask = TableAsk::Grow(size, slice);
+    match table.shelf.call(rt, r, pass, number as usize, ask) {
+        TableAnswer::LeftOver(left) => left,
+        _ => unreachable!(),
+    }
+}
