@@ -16,9 +16,8 @@ All are whole runs of a program: the least wall time with many calls, less the l
 threads together. Each program runs once before any runs a second time, so that what else the machine does falls on all
 alike: trust the ratios of one run, not its nanoseconds. The program and its peers have to print the same line.
 
-ns         wall time a call, of all threads' calls together
-processor  user and system time a call
-to ours    our wall time over this one's: above 1 the peer is faster
+ns         wall time a call, of all threads' calls together; and our time over the peer's, above 1 where the peer is faster
+processor  the same of user and system time, which a thread that waits awake spends too
 
 The program is crates/object_load/out/object_load, as `.ci/run` or `rt run` leaves it, or the path in OBJECT_LOAD. The
 peers (objects.rs, by rustc) lie in BENCH_DIR, or /tmp/lembokuj-bench.
@@ -67,9 +66,9 @@ class Program:
 
 
 def loads(kinds):
-    listed = [Load("lock", threads, 2_000_000 // threads, 1, 8) for threads in SEVERAL + [8, 64]]
-    listed += [Load("area", threads, 1_000_000 // threads, 1, size) for size in (24, 600) for threads in SEVERAL]
-    listed += [Load("queue", 2, 2_000_000 if size == 8 else 200_000, 1, size) for size in (8, 1000)]
+    listed = [Load("lock", threads, 4_000_000 // threads, 1, 8) for threads in SEVERAL + [8, 64]]
+    listed += [Load("area", threads, 2_000_000 // threads, 1, size) for size in (24, 600) for threads in SEVERAL]
+    listed += [Load("queue", 2, 2_000_000 if size == 8 else 300_000, 1, size) for size in (8, 1000)]
     listed += [Load("puts", threads, 1_000_000 // threads, 1, size) for size in (1_000, 1_000_000) for threads in SEVERAL]
     listed += [Load("gets", threads, 1_000_000 // threads, 1, size) for size in (1_000, 1_000_000) for threads in SEVERAL]
     return [load for load in listed if load.kind in kinds]
@@ -120,11 +119,13 @@ def measured(load, times):
 
 
 def show(load, results):
-    ours = results["ours"]["ns"]
     print(load.name)
     for name, each in results.items():
-        ratio = "" if name == "ours" or not each["ns"] else f"{ours / each['ns']:8.2f}"
-        print(f"    {name:22} {each['ns']:9.1f} ns {each['processor']:9.1f} processor {ratio}", flush=True)
+        columns = []
+        for part in ("ns", "processor"):
+            ours = "" if name == "ours" or not each[part] else f"{results['ours'][part] / each[part]:.2f}"
+            columns.append(f"{each[part]:9.1f} {part} {ours:>6}")
+        print(f"    {name:22}{'   '.join(columns)}", flush=True)
 
 
 def main():
@@ -137,7 +138,7 @@ def main():
         sys.exit(f"no program at {OURS}: build it by .ci/run, or name it in OBJECT_LOAD")
     os.makedirs(FOLDER, exist_ok=True)
     subprocess.run(["rustc", "-O", "-o", PEERS, f"{HERE}/objects.rs"], check=True)
-    print(f"{os.cpu_count()} processors, load {os.getloadavg()[0]:.1f}; last column: our time over the peer's")
+    print(f"{os.cpu_count()} processors, load {os.getloadavg()[0]:.1f}")
     saved = {}
     for load in loads(asked.kinds.split(",")):
         saved[load.name] = measured(load, asked.times)

@@ -1,7 +1,9 @@
 //! A number behind a lock of `lock_book`, to which all threads add 1.
 
-ghost use Rattle.std.specs.Prelude.{◌≡◌, ℕ, ◌*◌, ◌%◌, ◌^◌, ◌<◌, ◌≤◌, [], IfOk};
-ghost use Rattle.lock_book.specs.Shown.{Belongs, count_of, mine_of, number_of};
+ghost use Rattle.std.specs.Prelude.{◌≡◌, ℕ, ◌*◌, ◌%◌, ◌^◌, ◌<◌, ◌≤◌, [], ◌∷◌, IfOk};
+ghost use mathlib.Core.Option.{some};
+ghost use lib.ListN.{get_elem?};
+ghost use Rattle.lock_book.specs.Shown.{AreAll, Belongs, callers_of, count_of, mine_of, number_of, opens_of};
 ghost use Rattle.book_uses.specs.Counting.{total_of};
 
 use book_uses::Counter;
@@ -30,6 +32,21 @@ fn adds<R: Wait>(
     pass
 }
 
+/// Ends a shelf of one number whose callers made so many calls each, and gives the number.
+fn value_of(shelf: Shelf<Counter>, passes: Vec<Pass<Counter>>, calls: u64) -> u64
+    requires one { (count_of shelf ≡ 1) × (opens_of shelf ≡ (tt, 0) ∷ []) }
+    requires all { AreAll shelf passes.items }
+    requires each { (n : ℕ) (p : _) → get_elem? passes.items n ≡ some p → total_of (mine_of p 0) ≡ calls }
+    ensures { result ≡ (callers_of shelf * calls) % 2 ^ 64 }
+{
+    let _ = calls;
+    let mut closed = shelf.close(passes);
+    let Some(counter) = closed.take_last() else {
+        unreachable!()
+    };
+    counter.value
+}
+
 /// Has so many threads add 1 so many times each to a number that was 0, and gives the number.
 pub fn lock_load<R: Threads + Wait + Sync>(
     rt: &R,
@@ -44,17 +61,13 @@ pub fn lock_load<R: Threads + Wait + Sync>(
     values.push(Counter { value: 0 })?;
     let (shelf, passes) = Shelf::new(alloc, values, threads)?;
     let shared = &shelf;
-    let passes = map_vec(
+    let done = map_vec(
         rt,
         passes,
         &|pass: Pass<Counter>| -> Pass<Counter>
             requires { Belongs shared.now pass × (mine_of pass 0 ≡ []) }
-            ensures { Belongs shared.now result × (number_of result ≡ number_of pass) × (total_of (mine_of result 0) ≡ calls) }
+            ensures { Belongs shared.entry.now result × (number_of result ≡ number_of pass) × (total_of (mine_of result 0) ≡ calls) }
         { adds(rt, shared, pass, calls) },
     )?;
-    let mut closed = shelf.close(passes);
-    let Some(counter) = closed.take_last() else {
-        unreachable!()
-    };
-    Ok(counter.value)
+    Ok(value_of(shelf, done, calls))
 }

@@ -49,7 +49,8 @@ fn paired(
     ensures own { IfOk result (λ both. AreBoth table.now area.now both.items) }
     ensures count { IfOk result (λ both. length both.items ≡ length passes.items) }
 {
-    let _ = (table, area);
+    let _ = table;
+    let _ = area;
     let mut both = Vec::new(alloc);
     while let Some(pass) = passes.pop() {
         let Some(apass) = apasses.pop() else {

@@ -1,6 +1,6 @@
 use Rattle.std.proofs.Common.{◌∙◌, ap, arith, refl}
 use Rattle.book_uses.specs.Counting.{total_of}
-use Rattle.book_uses.proofs.Sums.{total-append}
+use Rattle.object_load.proofs.Sums.{total-append}
 use Rattle.object_load.proofs.lock.adds.Goals as goal
 
 pub loop-init : goal.loop-init

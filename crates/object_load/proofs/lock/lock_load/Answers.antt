@@ -1,4 +1,7 @@
+use Rattle.std.proofs.Common.{◌∙◌, ◌≡◌, ℕ, length, sym, subst, arith}
+use mathlib.Core.Option.{some}
 use Rattle.atomic_table.proofs.Lists.{at_index}
+use Rattle.object_load.proofs.Popped.{read_at}
 use Rattle.object_load.proofs.lock.lock_load.Goals as goal
 
 pub map_vec-requires-after_bounds : goal.map_vec-requires-after_bounds
