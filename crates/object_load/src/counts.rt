@@ -1,16 +1,10 @@
 //! What the threads counted, added up.
 
-ghost use Rattle.std.specs.Prelude.{ℕ, ◌≤◌, ◌*◌, ◌^◌, ◌<◌, length, slice_index};
-
-/// The sum of these counts, each at most `most`.
-pub fn sum_of(counts: &[u64], most: u64) -> u64
-    requires each { (i : ℕ) → i < length counts.now → slice_index counts.now i ≤ most }
-    requires few { length counts.now * most < 2 ^ 64 }
-    ensures { result ≤ length counts.now * most }
-{
-    let mut sum = 0;
-    for i in 0..counts.len() {
-        sum += counts[i];
+/// The sum of these counts, or 2^64 - 1 where it would be more.
+pub fn sum_of(counts: &[u64]) -> u64 {
+    let mut sum = 0u64;
+    for count in counts {
+        sum = sum.saturating_add(*count);
     }
     sum
 }

@@ -61,7 +61,7 @@ fn line<R: Threads + Wait + Sync>(rt: &R, alloc: Global, load: Load) -> Result<S
         calls,
         size,
     } = load;
-    let all = u64::from(threads) * calls;
+    let all = u64::from(threads).saturating_mul(calls);
     match kind {
         Kind::Lock => {
             let value = lock_load(rt, alloc, threads, calls)?;

@@ -1,6 +1,6 @@
 //! A hash table of `dshash_parts`, in an area of its own, whose keys all threads put, delete and get.
 
-ghost use Rattle.std.specs.Prelude.{◌≡◌, ℕ, ◌+◌, ◌*◌, ◌^◌, ◌<◌, ◌≤◌, length, IfOk};
+ghost use Rattle.std.specs.Prelude.{◌≡◌, ℕ, ◌+◌, ◌^◌, ◌<◌, ◌≤◌, length, IfOk};
 ghost use mathlib.Core.Option.{some};
 ghost use lib.ListN.{get_elem?};
 ghost use Rattle.dsa_area.specs.Shown.{Belongs as AreaBelongs, IsArea};
@@ -264,7 +264,6 @@ pub fn puts_load<R: Threads + Wait + Sync>(
     requires threads_few { threads ≤ 64 }
     requires calls_few { calls ≤ 2 ^ 32 }
     requires keys_few { keys ≤ 1000000 }
-    ensures { IfOk result (λ n. n ≤ threads * calls) }
 {
     let (region, area, table, _first, passes) = table_for(rt, alloc, keys, threads)?;
     let here = &region;
@@ -276,10 +275,9 @@ pub fn puts_load<R: Threads + Wait + Sync>(
         passes,
         &|own: Passes| -> u64
             requires { IsTable here.now shared.now × (key_words_of shared.now ≡ 1) × IsArea here.now shared_area.now × HasBoth shared.now shared_area.now own × (calls ≤ 2 ^ 32) }
-            ensures { result ≤ calls }
         { puts(rt, shared, here, shared_area, own, calls, most) },
     )?;
-    Ok(sum_of(new.as_slice(), calls))
+    Ok(sum_of(new.as_slice()))
 }
 
 /// Puts `keys` keys into a table, and has so many threads get one of them so many times each. Says how many were found.
@@ -295,7 +293,6 @@ pub fn gets_load<R: Threads + Wait + Sync>(
     requires calls_few { calls ≤ 2 ^ 32 }
     requires keys_some { 1 ≤ keys }
     requires keys_few { keys ≤ 1000000 }
-    ensures { IfOk result (λ n. n ≤ threads * calls) }
 {
     let (region, area, table, mut first, passes) = table_for(rt, alloc, keys, threads)?;
     fill(rt, &table, &region, &area, &mut first, keys);
@@ -307,8 +304,7 @@ pub fn gets_load<R: Threads + Wait + Sync>(
         passes,
         &|own: Passes| -> u64
             requires { IsTable here.now shared.now × (key_words_of shared.now ≡ 1) × IsArea here.now shared_area.now × HasBoth shared.now shared_area.now own × (1 ≤ keys) }
-            ensures { result ≤ calls }
         { gets(rt, shared, here, shared_area, own, calls, keys) },
     )?;
-    Ok(sum_of(found.as_slice(), calls))
+    Ok(sum_of(found.as_slice()))
 }

@@ -1,11 +1,5 @@
-use Rattle.std.proofs.Common.{◌≡◌}
-use Rattle.lock_book.specs.Shown.{Belongs, mine_of, number_of}
-use Rattle.book_uses.specs.Counting.{total_of}
+use Rattle.lock_book.specs.Shown.{Belongs}
 use Rattle.object_load.proofs.lock.adds.Given as goal
 
 abbrev pub invariant-loop : goal.invariant-loop
-invariant-loop g l = record {
-  own : Belongs l.shelf l.pass;
-  number : number_of l.pass ≡ number_of l.fn.pass;
-  added : total_of (mine_of l.pass 0) ≡ l.counter;
-}
+invariant-loop g l = Belongs l.shelf l.pass
