@@ -27,6 +27,9 @@ pub struct Passes {
 /// An odd number whose multiples are spread over all words.
 const SPREAD: u64 = 0x9E37_79B9_7F4A_7C15;
 
+/// How many keys are a caller's own: those from its number times as many on.
+const KEYS_EACH: u64 = 4_294_967_296;
+
 /// Pages enough for so many items, for the bucket slices, and for the old ones beside the new while the table grows.
 fn pages_for(keys: u64) -> u32
     requires { keys ≤ 1000000 }
@@ -131,14 +134,14 @@ fn replies<R: Wait>(
     }
 }
 
-/// Puts a key that is not there. Where so many are there already that stand before it, the first of these goes.
+/// Puts the caller's next key, its `at`-th. Where `most` of its keys stand before that one, the first of them goes. Says
+/// whether the one was there and the other was not.
 fn put_next<R: Wait>(
     rt: &R,
     table: &Dshash<Number>,
     r: &Region,
     area: &Area,
     passes: &mut Passes,
-    from: u64,
     at: u64,
     most: u64,
 ) -> bool
@@ -146,10 +149,10 @@ fn put_next<R: Wait>(
     requires keys { key_words_of table.now ≡ 1 }
     requires area { IsArea r.now area.now }
     requires own { HasBoth table.now area.now passes.old }
-    requires few { from + at < 2 ^ 64 }
+    requires few { at < 2 ^ 32 }
     ensures own { HasBoth table.now area.now passes.new }
 {
-    let key = from + at;
+    let key = u64::from(passes.area.number()) * KEYS_EACH + at;
     if most <= at {
         let old = key - most;
         if !replies(
@@ -185,10 +188,9 @@ fn puts<R: Wait>(
     requires few { calls ≤ 2 ^ 32 }
     ensures { result ≤ calls }
 {
-    let from = u64::from(passes.area.number()) * 4_294_967_296;
     let mut new = 0;
     for at in 0..calls {
-        if put_next(rt, table, r, area, &mut passes, from, at, most) {
+        if put_next(rt, table, r, area, &mut passes, at, most) {
             new += 1;
         }
     }
