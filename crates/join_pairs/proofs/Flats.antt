@@ -1,0 +1,25 @@
+-- Lists of lists that are gone through one after the other.
+use Rattle.std.proofs.Common.{◌≡◌, ◌<◌, ◌≤◌, ◌+◌, ◌++◌, ℕ, zero, suc, List, [], ◌∷◌, All, length, take, drop, get_or, refl, ap, sym, subst, ◌∙◌, arith}
+use Rattle.std.specs.List.{flat_map}
+use Rattle.gather_law.proofs.Gathering.{All-apart}
+use Rattle.join_pairs.specs.Gathered.{linked}
+use Rattle.join_pairs.specs.declared.chains.Link.{Link}
+use Rattle.join_pairs.proofs.Covered.{linked-append}
+
+-- what is left at a place begins with what stands there
+pub drop_at : {X : Type 0} (xs : List X) (i : ℕ) (x : X) → i < length xs → x ≡ get_or xs i x → drop i xs ≡ x ∷ drop (i + 1) xs
+drop_at [] i x h e = absurd (omega (arith, h))
+drop_at (y ∷ ys) zero x h e = ap (λ z. z ∷ ys) (sym e)
+drop_at {X} (y ∷ ys) (suc i) x h e = drop_at ys i x (omega (arith, h)) e ∙ ap (λ (n : ℕ). x ∷ drop n (y ∷ ys)) (let s : suc (i + 1) ≡ suc i + 1 = omega arith in s)
+
+module _ {X : Type 0} (f : X → List Link) where
+  -- the links of one more list are set
+  pub links_step : (xs : List X) (i : ℕ) (x : X) (cur next whole : List ℕ) → i < length xs → x ≡ get_or xs i x → next ≡ linked (f x) cur → linked (flat_map f (drop i xs)) cur ≡ whole → linked (flat_map f (drop (i + 1) xs)) next ≡ whole
+  links_step xs i x cur next whole h e n inv =
+      ap (linked (flat_map f (drop (i + 1) xs))) n ∙ sym (linked-append (f x) (flat_map f (drop (i + 1) xs)) cur) ∙ ap (λ (l : List X). linked (flat_map f l) cur) (sym (drop_at xs i x h e)) ∙ inv
+
+-- what holds of all elements of all lists holds of those of each
+pub flat_all : {X Y : Type 0} (P : Y → Type 0) (f : X → List Y) (xs : List X) (i : ℕ) (x : X) → i < length xs → x ≡ get_or xs i x → All P (flat_map f xs) → All P (f x)
+flat_all P f [] i x h e a = absurd (omega (arith, h))
+flat_all P f (y ∷ ys) zero x h e a = subst (λ z. All P (f z)) (sym e) (All-apart P (f y) (flat_map f ys) a).0
+flat_all P f (y ∷ ys) (suc i) x h e a = flat_all P f ys i x (omega (arith, h)) e (All-apart P (f y) (flat_map f ys) a).1
