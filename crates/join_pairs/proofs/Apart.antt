@@ -66,7 +66,7 @@ many_none v (suc n) h =
     omega (arith, sum_by-append (one v) (below n) (n ∷ []), many_front v n [], many_none v n (omega (arith, h)), t)
 
 -- each number below n stands once at most
-many_below : (v n : ℕ) → many v (below n) ≤ 1
+pub many_below : (v n : ℕ) → many v (below n) ≤ 1
 many_below v zero = omega arith
 many_below v (suc n) = by (n == v) refl
   where

@@ -10,7 +10,7 @@ use Rattle.join_pairs.proofs.Covered.{linked-append}
 pub drop_at : {X : Type 0} (xs : List X) (i : ℕ) (x : X) → i < length xs → x ≡ get_or xs i x → drop i xs ≡ x ∷ drop (i + 1) xs
 drop_at [] i x h e = absurd (omega (arith, h))
 drop_at (y ∷ ys) zero x h e = ap (λ z. z ∷ ys) (sym e)
-drop_at {X} (y ∷ ys) (suc i) x h e = drop_at ys i x (omega (arith, h)) e ∙ ap (λ (n : ℕ). x ∷ drop n (y ∷ ys)) (let s : suc (i + 1) ≡ suc i + 1 = omega arith in s)
+drop_at {X = X} (y ∷ ys) (suc i) x h e = drop_at ys i x (omega (arith, h)) e ∙ ap (λ (n : ℕ). x ∷ drop n (y ∷ ys)) (let s : suc (i + 1) ≡ suc i + 1 = omega arith in s)
 
 module _ {X : Type 0} (f : X → List Link) where
   -- the links of one more list are set

@@ -70,7 +70,7 @@ block_of xs b = take 256 (drop (256 * b + 1) xs)
 
 pub cut_below : {X : Type 0} (xs : List X) (n : ℕ) → flat_map (block_of xs) (below n) ≡ take (256 * n) (drop 1 xs)
 cut_below xs zero = refl
-cut_below {X} xs (suc n) =
+cut_below {X = X} xs (suc n) =
     let from : drop (256 * n) (drop 1 xs) ≡ drop (256 * n + 1) xs = drop-drop (256 * n) 1 xs ∙ ap (λ (m : ℕ). drop m xs) (omega arith) in
     let next : 256 * n + 256 ≡ 256 * suc n = omega arith in
     flat_map-append (block_of xs) (below n) (n ∷ []) ∙ ap (λ (l : List X). l ++ (block_of xs n ++ [])) (cut_below xs n)

@@ -91,7 +91,7 @@ up_drop (x ∷ xs) u = u.1
 
 all_filter : {X : Type 0} (P : X → Type 0) (p : X → Bool) (xs : List X) → AllByRecursion P xs → AllByRecursion P (filter p xs)
 all_filter P p [] h = tt
-all_filter {X} P p (x ∷ xs) h = by (p x) (all_filter P p xs h.1)
+all_filter {X = X} P p (x ∷ xs) h = by (p x) (all_filter P p xs h.1)
   where
     by : (b : Bool) → AllByRecursion P (filter p xs) → AllByRecursion P (cond {A = List X} b (x ∷ filter p xs) (filter p xs))
     by true rest = (h.0, rest)

@@ -10,10 +10,11 @@
 #![tactic(auto)]
 
 mod blocks;
+mod chaining;
 mod chains;
 mod last_row;
 mod laws;
-mod linking;
+
 mod pairing;
 mod pairs;
 mod refused;
@@ -22,7 +23,7 @@ pub use blocks::count_blocks;
 pub use chains::{Chains, Link};
 pub use last_row::LastRow;
 pub use laws::{cells_are_chains, pairs_are_join};
-pub use linking::chain_all;
+pub use chaining::chain_all;
 pub use pairing::{MOST_PAIRS, NoPairs, find_pairs};
 pub use pairs::{Pair, Pairs};
 pub use refused::{LONGEST_KEY, Refused, first_refused};
