@@ -30,9 +30,9 @@ module _ (records : Table) (column : ℕ) where
   -- a chain of another key stays
   other_key : (befores rows key : List ℕ) (row b last : ℕ) → All (λ r. r ≢ row) rows → field_of records row column ≢ key → HasChain (before_in befores) records column rows key last
       → HasChain (before_in (set befores row b)) records column (rows ++ row ∷ []) key last
-  other_key befores rows key row b last away no h =
+  other_key befores rows key row b last away differ h =
       let kept : rows_with records column key (rows ++ row ∷ []) ≡ rows_with records column key rows =
-      filter-append (has key) rows (row ∷ []) ∙ ap (λ (l : List ℕ). rows_with records column key rows ++ l) (filter-not_one (has key) row (other_bytes (field_of records row column) key no)) ∙ append-nil (rows_with records column key rows) in
+      filter-append (has key) rows (row ∷ []) ∙ ap (λ (l : List ℕ). rows_with records column key rows ++ l) (filter-not_one (has key) row (other_bytes (field_of records row column) key differ)) ∙ append-nil (rows_with records column key rows) in
       record {
         chain = h.chain;
         is = chain_apart befores row b last h.chain (All-permutation (λ r. r ≢ row) (rows_with records column key rows) h.chain h.same (All-filter (has key) (λ r. r ≢ row) rows away)) h.is;

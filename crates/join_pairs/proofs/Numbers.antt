@@ -16,7 +16,7 @@ pub length-below : (n : ℕ) → length (below n) ≡ n
 length-below zero = refl
 length-below (suc n) = length-append (below n) (n ∷ []) ∙ omega (arith, length-below n)
 
-at_below : (n k : ℕ) → k < n → get_or (below n) k 0 ≡ k
+pub at_below : (n k : ℕ) → k < n → get_or (below n) k 0 ≡ k
 at_below zero k h = absurd (omega (arith, h))
 at_below (suc n) k h = by (at_below n k) (cases_lt k n)
   where

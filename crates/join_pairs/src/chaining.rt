@@ -1,6 +1,6 @@
 //! The chains of all left rows: those that the table has, and then the rows that it did not take.
 
-ghost use Rattle.std.specs.Prelude.{◌≡◌, ◌++◌, ℕ, List, [], All, IfOk, OnOk, length, map};
+ghost use Rattle.std.specs.Prelude.{◌≡◌, ◌<◌, ◌++◌, ℕ, List, [], All, IfOk, OnOk, length, map};
 ghost use Rattle.std.specs.List.{flat_map};
 ghost use Rattle.csv_rows.specs.Records.{field_of};
 ghost use Rattle.dshash_core.specs.Listing.{pairs_of as entries_of};
