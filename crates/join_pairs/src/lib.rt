@@ -18,6 +18,8 @@ mod laws;
 mod pairing;
 mod pairs;
 mod refused;
+#[cfg(test)]
+mod tests;
 
 pub use blocks::count_blocks;
 pub use chains::{Chains, Link};
