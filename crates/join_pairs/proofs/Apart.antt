@@ -2,7 +2,7 @@
 use Rattle.std.proofs.Common.{◌≡◌, ◌≢◌, ◌<◌, ◌≤◌, ◌+◌, ◌==◌, ◌++◌, ℕ, zero, suc, Bool, true, false, cond, List, [], ◌∷◌, All, drop, filter, length, take, get_or, refl, ap, sym, subst, ◌∙◌, arith, append_assoc, append-nil}
 use Rattle.std.specs.List.{sum_by}
 use Rattle.std.specs.List.Sorted.{IsPermutation}
-use Rattle.std.proofs.lemmas.List.Elements.{All-append, All-cons, All-nil}
+use Rattle.std.proofs.lemmas.List.Elements.{All-cons, All-nil}
 use Rattle.std.proofs.lemmas.List.Sorted.{IsPermutation-refl, sum_by-IsPermutation, sum_by_pushed}
 use Rattle.std.proofs.lemmas.List.Sums.{sum_by-append}
 use Rattle.scan_claim.specs.Drawing.{below}
@@ -98,4 +98,4 @@ many_filter v p (x ∷ xs) = by (p x) (many_filter v p xs)
 pub apart_rows : (n : ℕ) (p : ℕ → Bool) (rows : List ℕ) → IsPermutation (filter p (drop 1 (below n))) rows → AreApart [] rows
 apart_rows n p rows h =
     apart_once [] rows (λ v. let same = sum_by-IsPermutation (one v) (filter p (drop 1 (below n))) rows h in
-      omega (arith, same, many_filter v p (drop 1 (below n)), many_drop v (below n) (many_below v n)))
+    omega (arith, same, many_filter v p (drop 1 (below n)), many_drop v (below n) (many_below v n)))

@@ -1,6 +1,5 @@
 -- The chains that the table's entries and the links make.
-use Rattle.std.proofs.Common.{◌≡◌, ◌≢◌, ◌<◌, ◌≤◌, ◌+◌, ◌-◌, ◌++◌, ℕ, not, zero, suc, Bool, true, false, List, [], ◌∷◌, All, Contains, Some, filter, get_or, length, map, replicate, set, slice_get, take, drop, refl, ap, sym, subst, ◌∙◌, arith, append-nil, append_assoc, length-drop}
-use Rattle.std.specs.List.{flat_map}
+use Rattle.std.proofs.Common.{◌≡◌, ◌<◌, ◌+◌, ◌-◌, ◌++◌, ℕ, not, zero, suc, false, List, [], ◌∷◌, All, Contains, Some, get_or, length, map, replicate, set, slice_get, drop, refl, ap, sym, subst, ◌∙◌, arith, length-drop}
 use Rattle.std.specs.List.Sorted.{IsPermutation}
 use Rattle.std.specs.Str.{bytes_eq}
 use Rattle.std.proofs.lemmas.List.{get_or-drop, get_or_default}

@@ -1,10 +1,10 @@
 -- The participants of the second round, by the seats that they hold.
-use Rattle.std.proofs.Common.{◌≡◌, ◌<◌, ◌≤◌, ◌+◌, ◌*◌, ◌++◌, ◌⊎◌, inl, inr, ℕ, zero, suc, IsTrue, Any, List, [], ◌∷◌, All, Option, Some, None, length, map, get_or, slice_index_or, refl, ap, sym, subst, ◌∙◌, arith}
+use Rattle.std.proofs.Common.{◌≡◌, ◌<◌, ◌≤◌, ◌+◌, ◌*◌, ◌++◌, ◌⊎◌, inl, inr, ℕ, zero, suc, Any, List, [], ◌∷◌, All, Option, Some, None, length, map, slice_index_or, refl, ap, sym, subst, ◌∙◌, arith}
 use Rattle.std.specs.List.{AllByRecursion, flat_map}
 use Rattle.std.specs.List.Sorted.{IsPermutation, IsSorted}
 use mathlib.Core.Option.{some}
 use lib.ListN.{get_elem?}
-use Rattle.scan_claim.specs.Drawing.{IsDrawn, is_spent}
+use Rattle.scan_claim.specs.Drawing.{IsDrawn}
 use Rattle.scan_claim.specs.Shown.{AreSeats, Belongs, blocks_of, draws_of, number_of}
 use Rattle.scan_claim.specs.declared.claims.ClaimSeat.{ClaimSeat}
 use Rattle.scan_claim.specs.declared.claims.Claims.{Claims}

@@ -6,7 +6,7 @@ ghost use Rattle.join_pairs.specs.Gathered.{ChainsAll};
 ghost use Rattle.join_pairs.specs.Join.{AllAccepted, keyed, numbers_of, pairs_of, width_of};
 
 use crate::{
-    Chains, LastRow, LONGEST_KEY, NoPairs, Pairs, Refused, cells_are_chains, chain_all,
+    Chains, LONGEST_KEY, LastRow, NoPairs, Pairs, Refused, cells_are_chains, chain_all,
     count_blocks, find_pairs, first_refused, pairs_are_join,
 };
 use csv_rows::{RowStore, rows};
@@ -39,7 +39,14 @@ fn chains_alone(alloc: Global, rows: &RowStore, column: u32) -> Result<Chains, A
 {
     let mut spilled = Vec::new(alloc);
     spilled.push(keyed_rows(alloc, rows, column)?)?;
-    chain_all(alloc, rows, column, &Vec::new(alloc), &Vec::new(alloc), &spilled)
+    chain_all(
+        alloc,
+        rows,
+        column,
+        &Vec::new(alloc),
+        &Vec::new(alloc),
+        &spilled,
+    )
 }
 
 /// The pairs of two tables, without a shared one.

@@ -1,5 +1,4 @@
-use Rattle.std.proofs.Common.{◌≡◌, ◌<◌, ℕ, List, get_or, length, subst, sym, arith}
-use Rattle.csv_rows.specs.Records.{record_at}
+use Rattle.std.proofs.Common.{◌≡◌, ◌<◌, ℕ, List, get_or, length, subst, sym}
 use Rattle.join_pairs.specs.Join.{IsRow}
 use Rattle.join_pairs.proofs.Flats.{image_at}
 use Rattle.join_pairs.proofs.chaining.add_entries.Goals as goal

@@ -1,4 +1,4 @@
-use Rattle.std.proofs.Common.{◌≡◌, ◌<◌, ◌+◌, ◌++◌, [], ℕ, List, All, get_or, length, map, take, replicate, ap, subst, sym, ◌∙◌, arith, append-nil, append_assoc, Vec, Global}
+use Rattle.std.proofs.Common.{◌≡◌, ◌<◌, ◌+◌, ◌++◌, ℕ, List, All, get_or, length, map, take, replicate, ap, subst, sym, ◌∙◌, append-nil, append_assoc, Vec, Global}
 use Rattle.std.specs.List.{flat_map}
 use Rattle.std.proofs.Math.ListN.{get_or-map}
 use Rattle.std.proofs.lemmas.List.{length-map, length-replicate}
@@ -56,9 +56,9 @@ loop-list-init c =
       c.in_ok-add_entries.ensures.places,
       ap (λ (l : List ℕ). length l) befores ∙ length-linked links (replicate (length rows) 0) ∙ length-replicate (length rows) 0,
       subst (λ (l : List ℕ). AreChains rows column l made.keys made.lasts.items made.befores.items) (sym (append-nil numbers))
-      (subst (λ (ks : List (List ℕ)). AreChains rows column numbers ks made.lasts.items made.befores.items) (sym c.in_ok-add_entries.ensures.keys)
-      (subst (λ (ls : List ℕ). AreChains rows column numbers fields ls made.befores.items) (sym c.in_ok-add_entries.ensures.lasts)
-      (subst (λ (bs : List ℕ). AreChains rows column numbers fields lasts bs) (sym befores) lists))),
+          (subst (λ (ks : List (List ℕ)). AreChains rows column numbers ks made.lasts.items made.befores.items) (sym c.in_ok-add_entries.ensures.keys)
+          (subst (λ (ls : List ℕ). AreChains rows column numbers fields ls made.befores.items) (sym c.in_ok-add_entries.ensures.lasts)
+          (subst (λ (bs : List ℕ). AreChains rows column numbers fields lasts bs) (sym befores) lists))),
     )
 
 pub add_rows-requires-clause-rows : goal.add_rows-requires-clause-rows
@@ -95,5 +95,5 @@ loop-list-preserved c =
       c.in-Ok.ensures.places,
       c.add_rows.ensures.room ∙ c.loop-list.invariant.1,
       subst (λ (l : List ℕ). HasChains rows column l made)
-      (append_assoc numbers (flat_map rows_of (take i lists)) list.items ∙ ap (λ (l : List ℕ). numbers ++ l) (sym (flat_more rows_of lists i list low at))) chains,
+          (append_assoc numbers (flat_map rows_of (take i lists)) list.items ∙ ap (λ (l : List ℕ). numbers ++ l) (sym (flat_more rows_of lists i list low at))) chains,
     )

@@ -33,7 +33,7 @@ loop-list-preserved c =
     let next = c.link_all.new.self.befores.items in
     let set = c.link_all.ensures.linked ∙ ap (λ (l : List Link). linked l cur) c.as_slice.ensures.value in (
       links_step links_of c.args.links.now.items i list cur next (linked (flat_map links_of c.args.links.now.items) c.args.chains.now.befores.items)
-      (subst (λ (l : List (Vec Link Global)). i < length l) value c.loop-list-test.true) (subst (λ (l : List (Vec Link Global)). list ≡ get_or l i list) value c.list-item.is) set c.loop-list.invariant.0,
+          (subst (λ (l : List (Vec Link Global)). i < length l) value c.loop-list-test.true) (subst (λ (l : List (Vec Link Global)). list ≡ get_or l i list) value c.list-item.is) set c.loop-list.invariant.0,
       ap (λ (l : List ℕ). length l) set ∙ length-linked list.items cur ∙ c.loop-list.invariant.1,
       c.link_all.ensures.same.0 ∙ c.loop-list.invariant.2,
       c.link_all.ensures.same.1 ∙ c.loop-list.invariant.3,

@@ -1,12 +1,11 @@
-use Rattle.std.proofs.Common.{◌≡◌, ◌<◌, ◌≤◌, ℕ, List, All, None, length, map, refl, ap, sym, subst, ◌∙◌, arith}
+use Rattle.std.proofs.Common.{◌≡◌, ◌≤◌, List, All, None, length, ap, sym, subst, ◌∙◌, arith}
 use Rattle.std.specs.List.{flat_map}
 use Rattle.std.specs.List.Sorted.{IsPermutation}
 use Rattle.std.proofs.lemmas.List.Elements.{All-map}
 use Rattle.scan_claim.specs.Shown.{AreSeats, blocks_of, lists_of}
-use Rattle.scan_claim.specs.declared.claims.ClaimSeat.{ClaimSeat}
 use Rattle.gather_law.specs.Tuples.{AreBlocks}
 use Rattle.join_pairs.specs.Join.{most_pairs}
-use Rattle.join_pairs.specs.Pairing.{FinderFound, IsReason}
+use Rattle.join_pairs.specs.Pairing.{IsReason}
 use Rattle.join_pairs.specs.declared.pairing.Finder.{Finder}
 use Rattle.join_pairs.specs.declared.pairing.Finding.{Finding}
 use Rattle.join_pairs.specs.declared.pairs.Pair.{Pair}
