@@ -75,6 +75,28 @@ fn pair_up(
     areas.into_iter().zip(tables).zip(seats).collect(alloc)
 }
 
+/// Participants with these tokens, which have done nothing yet.
+fn begin(
+    alloc: Global,
+    tokens: Vec<((AreaPass, DsPass<LastRow>), ClaimSeat)>,
+) -> Result<Vec<Filler>, AllocError>
+    ensures tokens { IfOk result (λ v. map (λ (f : Filler). ((f.area, f.table), f.claim)) v.items ≡ tokens.items) }
+    ensures new { IfOk result (λ v. All (λ (f : Filler). (f.links.items ≡ []) × (f.spilled.items ≡ [])) v.items) }
+{
+    let mut fillers = Vec::with_capacity(alloc, tokens.len())?;
+    for ((area, table), claim) in tokens {
+        fillers.push(Filler {
+            area,
+            table,
+            claim,
+            links: Vec::new(alloc),
+            spilled: Vec::new(alloc),
+            lacks_memory: false,
+        })?;
+    }
+    Ok(fillers)
+}
+
 /// The participants, each with its tokens.
 fn fillers(
     alloc: Global,
@@ -89,17 +111,7 @@ fn fillers(
     ensures new { IfOk result (λ v. All (λ (f : Filler). (f.links.items ≡ []) × (f.spilled.items ≡ [])) v.items) }
 {
     let tokens = pair_up(alloc, passes, seats)?;
-    let mut fillers = Vec::with_capacity(alloc, tokens.len())?;
-    for ((area, table), claim) in tokens {
-        fillers.push(Filler {
-            area,
-            table,
-            claim,
-            links: Vec::new(alloc),
-            spilled: Vec::new(alloc),
-            lacks_memory: false,
-        })?;
-    }
+    let fillers = begin(alloc, tokens)?;
     Ok(fillers)
 }
 
