@@ -2,7 +2,7 @@
 use Rattle.std.proofs.Common.{◌≡◌, ◌≢◌, ◌<◌, ◌≤◌, ◌+◌, ◌++◌, ◌⊎◌, ⊎_elim, inl, inr, ℕ, zero, suc, List, [], ◌∷◌, All, Option, Some, drop, get_or, length, map, set, take, refl, ap, sym, subst, ◌∙◌, arith, add-one, append_assoc, append-nil}
 use Rattle.std.specs.List.{AllZip}
 use Rattle.std.proofs.lemmas.Bool.{cases_lt}
-use Rattle.std.proofs.lemmas.List.{get_or-drop}
+use Rattle.std.proofs.lemmas.List.{drop_all, get_or-drop, take_all}
 use Rattle.std.proofs.lemmas.List.Concat.{flat_map-append}
 use mathlib.Core.Option.{some, some-injective}
 use lib.ListN.{get_elem?}
@@ -44,7 +44,7 @@ zip_weaker P Q f [] (y ∷ ys) h = absurd h
 zip_weaker P Q f (x ∷ xs) [] h = absurd h
 zip_weaker P Q f (x ∷ xs) (y ∷ ys) h = (f x y h.0, zip_weaker P Q f xs ys h.1)
 
-zip_long : {A B : Type 0} (P : A → B → Type 0) (xs : List A) (ys : List B) → AllZip P xs ys → length xs ≡ length ys
+pub zip_long : {A B : Type 0} (P : A → B → Type 0) (xs : List A) (ys : List B) → AllZip P xs ys → length xs ≡ length ys
 zip_long P [] [] h = refl
 zip_long P [] (y ∷ ys) h = absurd h
 zip_long P (x ∷ xs) [] h = absurd h
@@ -56,34 +56,33 @@ zip_at P (z ∷ zs) [] n x h e = absurd h
 zip_at P (z ∷ zs) (y ∷ ys) zero x h e = (y, refl, subst (λ w. P w y) (some-injective z x e) h.0)
 zip_at P (z ∷ zs) (y ∷ ys) (suc n) x h e = zip_at P zs ys n x h.1 e
 
--- one more pair at the front of what is left: the lists so far are those before it, and it
-step_at : {A : Type 0} (P Q : A → A → Type 0) (up : (x y : A) → P x y → Q x y) (init others : List A) (i : ℕ) (x y : A) → i < length init → x ≡ get_or others i x → Q x y → AllZip P (take i init) (take i others) → drop i others ≡ drop i init
+-- one more pair: x, which stood at a place, became y
+step_at : {A : Type 0} (P Q : A → A → Type 0) (up : (x y : A) → P x y → Q x y) (init others : List A) (i : ℕ) (d y : A) → i < length init → Q (get_or others i d) y → AllZip P (take i init) (take i others) → drop i others ≡ drop i init
     → AllZip Q (take (suc i) init) (take (suc i) (set others i y)) × (drop (suc i) (set others i y) ≡ drop (suc i) init)
-step_at P Q up [] others i x y l is q h e = absurd (omega (arith, l))
-step_at P Q up (a ∷ us) [] zero x y l is q h e = absurd (cc)
-step_at P Q up (a ∷ us) (b ∷ bs) zero x y l is q h e =
-    let same : x ≡ a = (let first : b ≡ a = cc in is ∙ first) in
+step_at P Q up [] others i d y l q h e = absurd (omega (arith, l))
+step_at P Q up (a ∷ us) [] zero d y l q h e = absurd (cc)
+step_at P Q up (a ∷ us) (b ∷ bs) zero d y l q h e =
+    let same : b ≡ a = cc in
     let rest : bs ≡ us = cc in
     ((subst (λ z. Q z y) same q, tt), rest)
-step_at P Q up (a ∷ us) [] (suc i) x y l is q h e = absurd h
-step_at P Q up (a ∷ us) (b ∷ bs) (suc i) x y l is q h e =
-    let r = step_at P Q up us bs i x y (omega (arith, l)) is q h.1 e in
+step_at P Q up (a ∷ us) [] (suc i) d y l q h e = absurd h
+step_at P Q up (a ∷ us) (b ∷ bs) (suc i) d y l q h e =
+    let r = step_at P Q up us bs i d y (omega (arith, l)) q h.1 e in
     ((up a b h.0, r.0), r.1)
 
-pub one_met : {A : Type 0} (P Q : A → A → Type 0) (up : (x y : A) → P x y → Q x y) (init others next : List A) (i : ℕ) (x y : A) → i < length init → x ≡ get_or others i x → Q x y → next ≡ set others i y → AllZip P (take i init) (take i others) → drop i others ≡ drop i init
-    → AllZip Q (take (i + 1) init) (take (i + 1) next) × (drop (i + 1) next ≡ drop (i + 1) init)
-one_met P Q up init others next i x y l is q n h e =
-    let r = step_at P Q up init others i x y l is q h e in
-    subst (λ z. AllZip Q (take (i + 1) init) (take (i + 1) z) × (drop (i + 1) z ≡ drop (i + 1) init)) (sym n)
-    (subst (λ k. AllZip Q (take k init) (take k (set others i y)) × (drop k (set others i y) ≡ drop k init)) (let s : suc i ≡ i + 1 = omega arith in s) r)
+pub one_met : {A : Type 0} (P Q : A → A → Type 0) (up : (x y : A) → P x y → Q x y) (init others : List A) (i : ℕ) (d y : A) → i < length init → Q (get_or others i d) y → AllZip P (take i init) (take i others) → drop i others ≡ drop i init
+    → AllZip Q (take (i + 1) init) (take (i + 1) (set others i y)) × (drop (i + 1) (set others i y) ≡ drop (i + 1) init)
+one_met P Q up init others i d y l q h e =
+    let next : suc i ≡ i + 1 = omega arith in
+    subst (λ k. AllZip Q (take k init) (take k (set others i y)) × (drop k (set others i y) ≡ drop k init)) next (step_at P Q up init others i d y l q h e)
 
 -- what holds of all elements holds of one that was not reached yet
-pub one_left : {A : Type 0} (P : A → Type 0) (init others : List A) (i : ℕ) (x : A) → i < length init → x ≡ get_or others i x → drop i others ≡ drop i init → All P init → P x
-one_left P init others i x l is e all =
+pub one_left : {A : Type 0} (P : A → Type 0) (init others : List A) (i : ℕ) (d : A) → i < length init → drop i others ≡ drop i init → All P init → P (get_or others i d)
+one_left P init others i d l e all =
     let here : i + 0 ≡ i = omega arith in
-    let first : get_or others i x ≡ get_or (drop i others) 0 x = sym (get_or-drop i others 0 x ∙ ap (λ (k : ℕ). get_or others k x) here) in
-    let second : get_or (drop i init) 0 x ≡ get_or init i x = get_or-drop i init 0 x ∙ ap (λ (k : ℕ). get_or init k x) here in
-    subst P (sym (is ∙ (first ∙ (ap (λ l. get_or l 0 x) e ∙ second)))) (all i x l)
+    let first : get_or others i d ≡ get_or (drop i others) 0 d = sym (get_or-drop i others 0 d ∙ ap (λ (k : ℕ). get_or others k d) here) in
+    let second : get_or (drop i init) 0 d ≡ get_or init i d = get_or-drop i init 0 d ∙ ap (λ (k : ℕ). get_or init k d) here in
+    subst P (sym (first ∙ (ap (λ l. get_or l 0 d) e ∙ second))) (all i d l)
 
 -- all pairs
 pub all_met : {A : Type 0} (P : A → A → Type 0) (init others : List A) (i : ℕ) → length init ≤ i → length others ≤ i → AllZip P (take i init) (take i others) → AllZip P init others
@@ -93,6 +92,14 @@ all_met P [] (y ∷ ys) (suc i) l k h = absurd h
 all_met P (x ∷ xs) ys zero l k h = absurd (omega (arith, l))
 all_met P (x ∷ xs) [] (suc i) l k h = absurd h
 all_met P (x ∷ xs) (y ∷ ys) (suc i) l k h = (h.0, all_met P xs ys i (omega (arith, l)) (omega (arith, k)) h.1)
+
+-- a list whose first element and whose others were lent out apart
+pub joined_again : {A : Type 0} (items : List A) (l : A) (rest : List A) (x : A) (ys : List A) (n : ℕ) → items ≡ l ∷ rest → length rest ≡ length ys → n ≡ length items → take n (x ∷ (ys ++ drop (suc (length ys)) items)) ≡ x ∷ ys
+joined_again {A} items l rest x ys n cut long size =
+    let nothing : drop (suc (length ys)) items ≡ [] = ap (drop (suc (length ys))) cut ∙ drop_all (length ys) rest (omega (arith, long)) in
+    let whole : x ∷ (ys ++ drop (suc (length ys)) items) ≡ x ∷ ys = ap (λ (z : List A). x ∷ (ys ++ z)) nothing ∙ ap (λ (z : List A). x ∷ z) (append-nil ys) in
+    let all : length items ≡ suc (length rest) = ap (λ (z : List A). length z) cut in
+    ap (take n) whole ∙ take_all n (x ∷ ys) (omega (arith, long, size, all))
 
 -- ---- histories
 
@@ -119,9 +126,9 @@ module _ (n k : ℕ) (s m s' m' : List RowEntry) where
   OnceHere = DidHere [] ⊎ ((told : Option (List (List ℕ × ℕ))) × DidHere ((Lists, Listed told) ∷ []))
 
   none_made : (es : List (PartitionCalls ℕ × PartitionReplies ℕ ℕ)) → done_by es ≡ [] → DidHere es → done_in m' ≡ done_in m
-  none_made es no x =
+  none_made es nothing x =
       let g = own_grows (λ _. PartitionLegal last_step k) fresh n s m s' m' es x in
-      ap done_in g.1 ∙ (done_apart m g.0 ∙ (ap (λ l. done_in m ++ l) (done_map g.0 ∙ (ap done_by g.2 ∙ no)) ∙ append-nil (done_in m)))
+      ap done_in g.1 ∙ (done_apart m g.0 ∙ (ap (λ l. done_in m ++ l) (done_map g.0 ∙ (ap done_by g.2 ∙ nothing)) ∙ append-nil (done_in m)))
     where
       done_apart : (xs ys : List RowEntry) → done_in (xs ++ ys) ≡ done_in xs ++ done_in ys
       done_apart xs ys = flat_map-append _ xs ys

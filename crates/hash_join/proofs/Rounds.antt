@@ -52,8 +52,8 @@ areas_kept a (q ∷ qs) p all own first = record { count = all.count; each = eac
     numbers (suc k) x e = all.numbers (suc k) x e
 
 pub first_pass : (a : Area) (ps : List AreaPass) (p : AreaPass) → area.AreAll a ps → 1 ≤ area.callers_of a → p ≡ get_or ps 0 p → area.Belongs a p × (area.number_of p ≡ 0)
-first_pass a [] p all some is = absurd (let none : 0 ≡ area.callers_of a = all.count in omega (arith, none, some))
-first_pass a (q ∷ qs) p all some is = subst (λ (z : AreaPass). area.Belongs a z × (area.number_of z ≡ 0)) (sym is) (all.each 0 q refl, all.numbers 0 q refl)
+first_pass a [] p all low is = absurd (let none : 0 ≡ area.callers_of a = all.count in omega (arith, none, low))
+first_pass a (q ∷ qs) p all low is = subst (λ (z : AreaPass). area.Belongs a z × (area.number_of z ≡ 0)) (sym is) (all.each 0 q refl, all.numbers 0 q refl)
 
 -- ---- tokens that were put together
 

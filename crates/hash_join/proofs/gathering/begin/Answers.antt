@@ -10,7 +10,7 @@ loop-area-preserved c =
     let inv = c.loop-area.invariant in
     let push = c.in_ok-push.ensures.items in
     record {
-      tokens = ap (map (λ (f : Filler). ((f.area, f.table), f.claim))) push ∙ (map-append (λ (f : Filler). ((f.area, f.table), f.claim)) was _ ∙ ap (λ l. l ++ _) inv.tokens);
+      tokens = ap (map (λ (f : Filler). ((f.area, f.table), f.claim))) push ∙ (map-append (λ (f : Filler). ((f.area, f.table), f.claim)) was _ ∙ ap (λ l. l ++ ((c.in-Some.area, c.in-Some.table), c.in-Some.claim) ∷ []) inv.tokens);
       new = subst (All (λ (f : Filler). (f.links.items ≡ []) × (f.spilled.items ≡ []))) (sym push)
           (All-push (λ (f : Filler). (f.links.items ≡ []) × (f.spilled.items ≡ [])) was _ inv.new (c.new.ensures.items, c.new-in-loop-area.ensures.items));
     }
