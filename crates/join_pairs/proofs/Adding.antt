@@ -1,5 +1,5 @@
 -- A row is added to the chain of its key.
-use Rattle.std.proofs.Common.{◌≡◌, ◌≢◌, ◌<◌, ◌++◌, ◌⊎◌, ◌==◌, inl, inr, Bool, true, false, filter, ℕ, zero, suc, List, [], ◌∷◌, All, Contains, Some, get_or, length, set, slice_get, refl, ap, sym, subst, ◌∙◌, arith, append-nil, get_or-set_other, get_or-set_same, length-append}
+use Rattle.std.proofs.Common.{◌≡◌, ◌≢◌, ◌<◌, ◌++◌, ◌⊎◌, ◌==◌, inl, inr, Bool, true, false, ℕ, zero, suc, List, [], ◌∷◌, All, Some, get_or, length, set, slice_get, refl, ap, sym, subst, ◌∙◌, arith, append-nil, get_or-set_other, get_or-set_same}
 use Rattle.std.specs.List.Sorted.{IsPermutation}
 use Rattle.std.specs.Str.{bytes_eq}
 use Rattle.std.proofs.lemmas.List.Elements.{All-filter, All-head, All-tail, filter-append}
@@ -7,7 +7,7 @@ use Rattle.std.proofs.lemmas.List.Sorted.{All-permutation, IsPermutation-cons, I
 use Rattle.csv_rows.specs.Records.{field_of}
 use Rattle.gather_law.specs.Tuples.{Table}
 use Rattle.join_pairs.specs.Chains.{HasChain, IsChain, before_in, rows_with}
-use Rattle.join_pairs.specs.Gathered.{AddsRow, AreChains, Begins, Extends, HasChains, HasPlaces, HasRoom}
+use Rattle.join_pairs.specs.Gathered.{AddsRow, AreChains, HasChains, HasPlaces, HasRoom}
 use Rattle.join_pairs.specs.declared.chains.Chains.{Chains}
 use Rattle.join_pairs.proofs.Filters.{filter-not_one, filter-one}
 use Rattle.join_pairs.proofs.Keys.{bytes_same, other_bytes}
@@ -30,9 +30,9 @@ module _ (records : Table) (column : ℕ) where
   -- a chain of another key stays
   other_key : (befores rows key : List ℕ) (row b last : ℕ) → All (λ r. r ≢ row) rows → field_of records row column ≢ key → HasChain (before_in befores) records column rows key last
       → HasChain (before_in (set befores row b)) records column (rows ++ row ∷ []) key last
-  other_key befores rows key row b last away no h =
+  other_key befores rows key row b last away differ h =
       let kept : rows_with records column key (rows ++ row ∷ []) ≡ rows_with records column key rows =
-      filter-append (has key) rows (row ∷ []) ∙ ap (λ (l : List ℕ). rows_with records column key rows ++ l) (filter-not_one (has key) row (other_bytes (field_of records row column) key no)) ∙ append-nil (rows_with records column key rows) in
+      filter-append (has key) rows (row ∷ []) ∙ ap (λ (l : List ℕ). rows_with records column key rows ++ l) (filter-not_one (has key) row (other_bytes (field_of records row column) key differ)) ∙ append-nil (rows_with records column key rows) in
       record {
         chain = h.chain;
         is = chain_apart befores row b last h.chain (All-permutation (λ r. r ≢ row) (rows_with records column key rows) h.chain h.same (All-filter (has key) (λ r. r ≢ row) rows away)) h.is;
@@ -54,7 +54,7 @@ module _ (records : Table) (column : ℕ) where
           refl,
           some,
           subst (λ n. IsChain (before_in (set befores row last)) n h.chain) (sym next)
-          (chain_apart befores row last last h.chain (All-permutation (λ r. r ≢ row) (rows_with records column key rows) h.chain h.same (All-filter (has key) (λ r. r ≢ row) rows away)) h.is),
+              (chain_apart befores row last last h.chain (All-permutation (λ r. r ≢ row) (rows_with records column key rows) h.chain h.same (All-filter (has key) (λ r. r ≢ row) rows away)) h.is),
         );
         same = subst (λ l. IsPermutation l (row ∷ h.chain)) (sym kept)
             (IsPermutation-trans (rows_with records column key rows ++ row ∷ []) (row ∷ rows_with records column key rows) (row ∷ h.chain) front behind);

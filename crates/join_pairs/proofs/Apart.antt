@@ -2,8 +2,8 @@
 use Rattle.std.proofs.Common.{◌≡◌, ◌≢◌, ◌<◌, ◌≤◌, ◌+◌, ◌==◌, ◌++◌, ℕ, zero, suc, Bool, true, false, cond, List, [], ◌∷◌, All, drop, filter, length, take, get_or, refl, ap, sym, subst, ◌∙◌, arith, append_assoc, append-nil}
 use Rattle.std.specs.List.{sum_by}
 use Rattle.std.specs.List.Sorted.{IsPermutation}
-use Rattle.std.proofs.lemmas.List.Elements.{All-append, All-cons, All-nil}
-use Rattle.std.proofs.lemmas.List.Sorted.{sum_by-IsPermutation}
+use Rattle.std.proofs.lemmas.List.Elements.{All-cons, All-nil}
+use Rattle.std.proofs.lemmas.List.Sorted.{IsPermutation-refl, sum_by-IsPermutation, sum_by_pushed}
 use Rattle.std.proofs.lemmas.List.Sums.{sum_by-append}
 use Rattle.scan_claim.specs.Drawing.{below}
 use Rattle.join_pairs.specs.Gathered.{AreApart}
@@ -21,7 +21,7 @@ pub itself : (v : ℕ) → one v v ≡ 1
 itself v = let t : (v == v) ≡ true = grind arith in ap (λ b. cond {A = ℕ} b 1 0) t
 
 pub many_front : (v x : ℕ) (xs : List ℕ) → many v (x ∷ xs) ≡ one v x + many v xs
-many_front v x xs = sum_by-append (one v) (x ∷ []) xs
+many_front v x xs = sum_by_pushed (one v) x xs (x ∷ xs) (IsPermutation-refl (x ∷ xs))
 
 -- a number that does not stand in a list is none of its elements
 away_from : (v : ℕ) (xs : List ℕ) → many v xs ≡ 0 → All (λ r. r ≢ v) xs
@@ -66,21 +66,21 @@ many_none v (suc n) h =
     omega (arith, sum_by-append (one v) (below n) (n ∷ []), many_front v n [], many_none v n (omega (arith, h)), t)
 
 -- each number below n stands once at most
-many_below : (v n : ℕ) → many v (below n) ≤ 1
+pub many_below : (v n : ℕ) → many v (below n) ≤ 1
 many_below v zero = omega arith
-many_below v (suc n) = by (n == v) refl
+many_below v (suc n) = by (n == v) refl (many_below v n)
   where
     whole : many v (below n ++ n ∷ []) ≡ many v (below n) + many v (n ∷ [])
     whole = sum_by-append (one v) (below n) (n ∷ [])
 
-    by : (b : Bool) → (n == v) ≡ b → many v (below n ++ n ∷ []) ≤ 1
-    by true e =
+    by : (b : Bool) → (n == v) ≡ b → many v (below n) ≤ 1 → many v (below n ++ n ∷ []) ≤ 1
+    by true e h =
         let same : n ≡ v = grind (arith, e) in
         let t : one v n ≡ 1 = ap (λ b. cond {A = ℕ} b 1 0) e in
         omega (arith, whole, many_front v n [], t, many_none v n (omega (arith, same)))
-    by false e =
+    by false e h =
         let t : one v n ≡ 0 = ap (λ b. cond {A = ℕ} b 1 0) e in
-        omega (arith, whole, many_front v n [], t, many_below v n)
+        omega (arith, whole, many_front v n [], t, h)
 
 pub many_drop : (v : ℕ) (xs : List ℕ) → many v xs ≤ 1 → many v (drop 1 xs) ≤ 1
 many_drop v [] h = h
@@ -98,4 +98,4 @@ many_filter v p (x ∷ xs) = by (p x) (many_filter v p xs)
 pub apart_rows : (n : ℕ) (p : ℕ → Bool) (rows : List ℕ) → IsPermutation (filter p (drop 1 (below n))) rows → AreApart [] rows
 apart_rows n p rows h =
     apart_once [] rows (λ v. let same = sum_by-IsPermutation (one v) (filter p (drop 1 (below n))) rows h in
-      omega (arith, same, many_filter v p (drop 1 (below n)), many_drop v (below n) (many_below v n)))
+    omega (arith, same, many_filter v p (drop 1 (below n)), many_drop v (below n) (many_below v n)))

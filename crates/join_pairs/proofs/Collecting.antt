@@ -1,7 +1,8 @@
 -- Lists that are put together one after the other.
-use Rattle.std.proofs.Common.{◌≡◌, ◌<◌, ◌≤◌, ◌+◌, ◌++◌, ◌⊎◌, inl, inr, ℕ, List, [], ◌∷◌, All, Any, Some, None, length, take, drop, get_or, refl, ap, sym, subst, ◌∙◌, arith, append-nil, length-append}
+use Rattle.std.proofs.Common.{◌≡◌, ◌<◌, ◌≤◌, ◌+◌, ◌++◌, inl, inr, ℕ, List, [], ◌∷◌, All, Any, Some, None, length, take, drop, get_or, ap, sym, subst, ◌∙◌, arith, append-nil, length-append}
 use Rattle.std.specs.List.{flat_map}
 use Rattle.std.proofs.lemmas.List.{take-append-drop, take_more}
+use Rattle.std.proofs.lemmas.List.Elements.{All-push}
 use Rattle.std.proofs.lemmas.List.Concat.{flat_map-append}
 use Rattle.join_pairs.specs.Join.{most_pairs}
 use Rattle.join_pairs.specs.Pairing.{IsReason}
@@ -35,3 +36,7 @@ many_reason fs i f all h e is more none =
     let part = flat_part pairs fs (i + 1) in
     let known : length all ≡ length (flat_map pairs (take i fs)) = ap (λ (l : List Pair). length l) is in
     inr (none, omega (arith, more, next, part, known))
+
+-- what holds of the first elements and of the next
+pub all_more : {X : Type 0} (P : X → Type 0) (xs : List X) (i : ℕ) (x : X) → i < length xs → x ≡ get_or xs i x → All P (take i xs) → P x → All P (take (i + 1) xs)
+all_more P xs i x h e a p = subst (All P) (sym (take_more xs i x h ∙ ap (λ y. take i xs ++ y ∷ []) (sym e))) (All-push P (take i xs) x a p)

@@ -1,18 +1,22 @@
 -- The chains that the table's entries and the links make.
-use Rattle.std.proofs.Common.{◌≡◌, ◌≢◌, ◌<◌, ◌≤◌, ◌+◌, ◌++◌, ℕ, zero, suc, Bool, true, false, List, [], ◌∷◌, All, Contains, Some, filter, get_or, length, map, replicate, set, slice_get, take, drop, refl, ap, sym, subst, ◌∙◌, arith, append-nil, append_assoc}
-use Rattle.std.specs.List.{flat_map}
+use Rattle.std.proofs.Common.{◌≡◌, ◌<◌, ◌+◌, ◌-◌, ◌++◌, ℕ, not, zero, suc, false, List, [], ◌∷◌, All, Contains, Some, get_or, length, map, replicate, set, slice_get, drop, refl, ap, sym, subst, ◌∙◌, arith, length-drop}
 use Rattle.std.specs.List.Sorted.{IsPermutation}
 use Rattle.std.specs.Str.{bytes_eq}
-use Rattle.std.proofs.lemmas.List.Concat.{flat_map-append}
-use Rattle.std.proofs.lemmas.List.Elements.{All-cons, All-contains_itself, All-map, All-nil, All-tail, All-weaker}
-use Rattle.std.proofs.lemmas.List.Sorted.{IsPermutation-refl}
+use Rattle.std.proofs.lemmas.List.{get_or-drop, get_or_default}
+use Rattle.std.proofs.lemmas.List.Elements.{All-contains_itself, All-filter, All-map, All-weaker}
+use Rattle.std.proofs.lemmas.List.Sorted.{All-permutation, IsPermutation-refl}
 use Rattle.csv_rows.specs.Records.{field_of}
 use Rattle.gather_law.specs.Tuples.{Table}
+use Rattle.par_model.specs.Record.{is_null}
+use Rattle.scan_claim.specs.Drawing.{below}
 use Rattle.join_pairs.specs.Chains.{HasChain, before_in, rows_with}
-use Rattle.join_pairs.specs.Gathered.{AreChains, IsCovered, linked}
+use Rattle.join_pairs.specs.Gathered.{AreApart, AreChains, IsCovered, linked}
+use Rattle.join_pairs.specs.Join.{IsRow, keyed, numbers_of}
 use Rattle.join_pairs.specs.declared.chains.Link.{Link}
 use Rattle.join_pairs.proofs.Filters.{filter-none}
+use Rattle.join_pairs.proofs.Apart.{apart_rest, apart_rows}
 use Rattle.join_pairs.proofs.Keys.{other_bytes}
+use Rattle.join_pairs.proofs.Numbers.{at_below, length-below}
 
 -- ---- links
 
@@ -76,3 +80,24 @@ covered_chains records column entries links spilled c = record {
     no_rows key none =
         filter-none (λ row. bytes_eq (field_of records row column) key) rows
         (All-map (λ row. bytes_eq (field_of records row column) key ≡ false) (λ (l : Link). l.row) links (All-weaker (Contains links) (λ (l : Link). bytes_eq (field_of records l.row column) key ≡ false) (other key none) links (All-contains_itself links)))
+
+-- ---- the rows of the links, and those that were spilled
+
+number_is_row : (records : Table) → All (IsRow records) (numbers_of records)
+number_is_row records = λ k d low.
+    let n = length records in
+    let long : length (drop 1 (below n)) ≡ n - 1 = length-drop 1 (below n) ∙ ap (λ m. m - 1) (length-below n) in
+    let within : 1 + k < n = omega (arith, low, long) in
+    let is : get_or (drop 1 (below n)) k d ≡ 1 + k = get_or-drop 1 (below n) k d ∙ get_or_default (below n) (1 + k) d 0 (omega (arith, within, length-below n)) ∙ at_below n (1 + k) within in
+    subst (IsRow records) (sym is) (omega arith, within)
+
+-- they are rows of the table
+pub covered_rows : (records : Table) (column : ℕ) (entries : List (List ℕ × ℕ)) (links : List Link) (spilled : List ℕ) → IsCovered records column entries links spilled → All (IsRow records) (map (λ (l : Link). l.row) links ++ spilled)
+covered_rows records column entries links spilled c =
+    let there = λ (row : ℕ). not (is_null (field_of records row column)) in
+    All-permutation (IsRow records) (keyed records column (numbers_of records)) (map (λ (l : Link). l.row) links ++ spilled) c.all (All-filter there (IsRow records) (numbers_of records) (number_is_row records))
+
+-- each of them is apart from all before it
+pub covered_apart : (records : Table) (column : ℕ) (entries : List (List ℕ × ℕ)) (links : List Link) (spilled : List ℕ) → IsCovered records column entries links spilled → AreApart (map (λ (l : Link). l.row) links) spilled
+covered_apart records column entries links spilled c =
+    apart_rest [] (map (λ (l : Link). l.row) links) spilled (apart_rows (length records) (λ row. not (is_null (field_of records row column))) (map (λ (l : Link). l.row) links ++ spilled) c.all)

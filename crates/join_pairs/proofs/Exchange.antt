@@ -6,14 +6,14 @@ use Rattle.std.proofs.lemmas.List.Sorted.{IsPermutation-append_comm, IsPermutati
 
 -- ---- what two functions give of each element
 
-module _ {X A : Type 0} (g h : X → List A) where
-  -- a part moves to the front of what follows
-  between : (a b c : List A) → IsPermutation (a ++ (b ++ c)) (b ++ (a ++ c))
-  between a b c =
-      subst (λ l. IsPermutation l (b ++ (a ++ c))) (append_assoc a b c)
-      (subst (λ l. IsPermutation ((a ++ b) ++ c) l) (append_assoc b a c)
-      (IsPermutation-append_left c (a ++ b) (b ++ a) (IsPermutation-append_comm a b)))
+-- a part moves to the front of what follows
+pub between : {A : Type 0} (a b c : List A) → IsPermutation (a ++ (b ++ c)) (b ++ (a ++ c))
+between a b c =
+    subst (λ l. IsPermutation l (b ++ (a ++ c))) (append_assoc a b c)
+    (subst (λ l. IsPermutation ((a ++ b) ++ c) l) (append_assoc b a c)
+    (IsPermutation-append_left c (a ++ b) (b ++ a) (IsPermutation-append_comm a b)))
 
+module _ {X A : Type 0} (g h : X → List A) where
   pub both : (xs : List X) → IsPermutation (flat_map (λ x. g x ++ h x) xs) (flat_map g xs ++ flat_map h xs)
   both [] = IsPermutation-refl []
   both (x ∷ xs) =
@@ -27,7 +27,7 @@ module _ {X A : Type 0} (g h : X → List A) where
 
 pub flat_map-same : {X A : Type 0} (f g : X → List A) → ((x : X) → f x ≡ g x) → (xs : List X) → flat_map f xs ≡ flat_map g xs
 flat_map-same f g e [] = refl
-flat_map-same {X} {A} f g e (x ∷ xs) = ap (λ (l : List A). l ++ flat_map f xs) (e x) ∙ ap (λ (l : List A). g x ++ l) (flat_map-same f g e xs)
+flat_map-same {X = X} {A = A} f g e (x ∷ xs) = ap (λ (l : List A). l ++ flat_map f xs) (e x) ∙ ap (λ (l : List A). g x ++ l) (flat_map-same f g e xs)
 
 flat_map-none : {X A : Type 0} (xs : List X) → flat_map {X = X} {A = A} (λ x. []) xs ≡ []
 flat_map-none [] = refl

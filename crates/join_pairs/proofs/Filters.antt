@@ -1,9 +1,8 @@
 -- Facts about filtered lists.
-use Rattle.std.proofs.Common.{◌≡◌, ◌++◌, Bool, true, false, cond, filter, ℕ, List, [], ◌∷◌, All, map, refl, ap, sym, subst, ◌∙◌}
+use Rattle.std.proofs.Common.{◌≡◌, ◌++◌, Bool, true, false, cond, filter, List, [], ◌∷◌, All, refl, ap, subst, ◌∙◌}
 use Rattle.std.specs.List.{flat_map}
 use Rattle.std.specs.List.Sorted.{IsPermutation}
 use Rattle.std.proofs.lemmas.List.Elements.{All-head, All-tail}
-use Rattle.std.proofs.lemmas.List.Sorted.{IsPermutation-refl}
 use Rattle.gather_law.proofs.Permute.{flat_map-permutation}
 
 module _ {X : Type 0} (p : X → Bool) where

@@ -1,15 +1,13 @@
 -- A participant of the second round adds the pairs of one more row, and of one more block.
-use Rattle.std.proofs.Common.{◌≡◌, ◌<◌, ◌≤◌, ◌+◌, ◌*◌, ◌-◌, ◌++◌, ◌⊎◌, Bool, true, false, ℕ, suc, List, [], ◌∷◌, length, take, min, refl, ap, sym, subst, ◌∙◌, arith, append_assoc, append-nil, length-append}
-use Rattle.std.specs.List.{flat_map}
+use Rattle.std.proofs.Common.{◌≡◌, ◌+◌, ◌++◌, true, false, ℕ, suc, List, [], ◌∷◌, length, refl, ap, sym, subst, ◌∙◌, arith, append_assoc, append-nil, length-append}
 use Rattle.std.specs.List.Sorted.{IsPermutation}
 use Rattle.std.proofs.lemmas.List.Concat.{flat_map-append}
-use Rattle.std.proofs.lemmas.List.Sorted.{IsPermutation-append_left, IsPermutation-append_right, IsPermutation-refl, IsPermutation-sym, IsPermutation-trans, length_permutation}
+use Rattle.std.proofs.lemmas.List.Sorted.{IsPermutation-append_left, IsPermutation-append_right, IsPermutation-refl, IsPermutation-trans, length_permutation}
 use Rattle.csv_rows.specs.Records.{field_of}
 use Rattle.gather_law.specs.Tuples.{Table}
 use Rattle.par_model.specs.Record.{is_null}
-use Rattle.join_pairs.specs.Join.{most_pairs}
-use Rattle.join_pairs.specs.Chains.{HasChain, IsChain, before_in}
-use Rattle.join_pairs.specs.Blocks.{block_numbers, numbers_of_blocks}
+use Rattle.join_pairs.specs.Chains.{HasChain, before_in}
+use Rattle.join_pairs.specs.Blocks.{numbers_of_blocks}
 use Rattle.join_pairs.specs.Found.{Stops, found_in, found_of}
 use Rattle.join_pairs.specs.Gathered.{ChainsAll}
 use Rattle.join_pairs.specs.Pairing.{StopsAdding, pairs_with}
@@ -18,7 +16,6 @@ use Rattle.join_pairs.specs.declared.pairing.NoPairs.{NoPairs}
 use Rattle.join_pairs.specs.declared.pairing.NoPairs.TheVariants.{TooMany, Memory}
 use Rattle.join_pairs.specs.declared.pairs.Pair.{Pair}
 use Rattle.join_pairs.proofs.Keys.{chain_found, none_found}
-use Rattle.join_pairs.proofs.Numbers.{numbers_end, numbers_next}
 
 module _ (left right : Table) (left_column right_column : ℕ) where
   abbrev found : List ℕ → List Pair

@@ -1,10 +1,8 @@
 -- A chain that is followed, on its way.
-use Rattle.std.proofs.Common.{◌≡◌, ◌≢◌, ◌<◌, ◌≤◌, ◌+◌, ◌++◌, ℕ, suc, List, [], ◌∷◌, map, length, refl, ap, sym, subst, ◌∙◌, arith, append_assoc, append-nil, length-append}
+use Rattle.std.proofs.Common.{◌≡◌, ◌≢◌, ◌<◌, ◌≤◌, ◌+◌, ◌++◌, ℕ, suc, List, [], ◌∷◌, length, refl, ap, sym, ◌∙◌, arith, append_assoc, append-nil, length-append}
 use Rattle.join_pairs.specs.Join.{most_pairs}
 use Rattle.join_pairs.specs.Chains.{IsChain}
-use Rattle.join_pairs.specs.Pairing.{StopsAdding, pairs_with}
-use Rattle.join_pairs.specs.declared.pairing.NoPairs.{NoPairs}
-use Rattle.join_pairs.specs.declared.pairing.NoPairs.TheVariants.{TooMany, Memory}
+use Rattle.join_pairs.specs.Pairing.{pairs_with}
 use Rattle.join_pairs.specs.declared.pairs.Pair.{Pair}
 
 -- of a chain some rows were followed and their pairs were added, and the others follow from `left` on

@@ -1,12 +1,12 @@
 -- The law: the pairs of all right rows, put in order, are the pairs of the two tables.
-use Rattle.std.proofs.Common.{◌≡◌, ℕ, Bool, List, length, refl, ap, sym, subst, ◌∙◌}
+use Rattle.std.proofs.Common.{◌≡◌, ℕ, List, length, sym}
 use Rattle.std.specs.List.{flat_map}
-use Rattle.std.specs.List.Sorted.{IsPermutation, IsSorted}
+use Rattle.std.specs.List.Sorted.{IsPermutation}
 use Rattle.std.proofs.lemmas.List.Sorted.{IsPermutation-sym, IsPermutation-trans, length_permutation}
 use Rattle.scan_claim.specs.Drawing.{below}
 use Rattle.gather_law.specs.Tuples.{Table}
 use Rattle.gather_law.proofs.Permute.{flat_map-permutation}
-use Rattle.join_pairs.specs.Found.{found_in, found_of}
+use Rattle.join_pairs.specs.Found.{found_of}
 use Rattle.join_pairs.specs.Join.{is_pair, numbers_of, pairs_of}
 use Rattle.join_pairs.specs.Law.{PairsAreJoin, pair_cmp}
 use Rattle.join_pairs.specs.declared.pairs.Pair.{Pair}

@@ -1,10 +1,9 @@
 -- The rows with a key, and the pairs of a right row.
-use Rattle.std.proofs.Common.{◌≡◌, ◌≢◌, ◌<◌, ◌++◌, ◌&&◌, not, Bool, true, false, filter, ℕ, List, [], ◌∷◌, All, length, map, refl, ap, sym, subst, ◌∙◌, arith}
-use Rattle.std.specs.List.{flat_map}
+use Rattle.std.proofs.Common.{◌≡◌, ◌≢◌, ◌&&◌, not, Bool, true, false, ℕ, List, [], map, refl, ap, sym, subst, ◌∙◌}
 use Rattle.std.specs.List.Sorted.{IsPermutation}
 use Rattle.std.specs.Str.{bytes_eq}
-use Rattle.std.proofs.lemmas.List.Elements.{filter_agree, filter-append}
-use Rattle.std.proofs.lemmas.List.Sorted.{IsPermutation-map, IsPermutation-sym, IsPermutation-trans}
+use Rattle.std.proofs.lemmas.List.Elements.{filter_agree}
+use Rattle.std.proofs.lemmas.List.Sorted.{IsPermutation-map, IsPermutation-trans}
 use Rattle.std.proofs.lemmas.Slice.Eq.{bytes_eq-Decides}
 use Rattle.csv_rows.specs.Records.{field_of}
 use Rattle.gather_law.specs.Tuples.{Table}
@@ -13,7 +12,6 @@ use Rattle.join_pairs.specs.Chains.{HasChain, rows_with}
 use Rattle.join_pairs.specs.Join.{is_pair, keyed, numbers_of}
 use Rattle.join_pairs.specs.Found.{found_of}
 use Rattle.join_pairs.specs.Pairing.{pairs_with}
-use Rattle.join_pairs.specs.declared.pairs.Pair.{Pair}
 use Rattle.join_pairs.proofs.Filters.{filter-never, filter-permutation, filter-within}
 
 pub same_bytes : (xs ys : List ℕ) → bytes_eq xs ys ≡ true → xs ≡ ys

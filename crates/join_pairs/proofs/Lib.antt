@@ -16,4 +16,5 @@ pub mod Numbers
 pub mod Ordered
 pub mod Results
 pub mod Rising
+pub mod Seats
 pub mod Whole

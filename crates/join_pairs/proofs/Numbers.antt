@@ -1,5 +1,5 @@
 -- The numbers of the rows of blocks: in a block one after the other, and in all blocks each once.
-use Rattle.std.proofs.Common.{◌≡◌, ◌<◌, ◌≤◌, ◌+◌, ◌*◌, ◌-◌, ◌++◌, ◌⊎◌, inl, inr, ℕ, zero, suc, List, [], ◌∷◌, length, take, drop, get_or, min, refl, ap, sym, subst, ◌∙◌, arith, append-nil, append_assoc, length-append, length-drop, length-take}
+use Rattle.std.proofs.Common.{◌≡◌, ◌<◌, ◌≤◌, ◌+◌, ◌*◌, ◌-◌, ◌++◌, ◌⊎◌, inl, inr, ℕ, zero, suc, List, [], ◌∷◌, length, take, drop, get_or, min, refl, ap, sym, subst, ◌∙◌, arith, append-nil, length-append, length-drop, length-take}
 use Rattle.std.specs.List.{flat_map}
 use Rattle.std.specs.List.Sorted.{IsPermutation}
 use Rattle.std.proofs.lemmas.Bool.{cases_lt}
@@ -16,7 +16,7 @@ pub length-below : (n : ℕ) → length (below n) ≡ n
 length-below zero = refl
 length-below (suc n) = length-append (below n) (n ∷ []) ∙ omega (arith, length-below n)
 
-at_below : (n k : ℕ) → k < n → get_or (below n) k 0 ≡ k
+pub at_below : (n k : ℕ) → k < n → get_or (below n) k 0 ≡ k
 at_below zero k h = absurd (omega (arith, h))
 at_below (suc n) k h = by (at_below n k) (cases_lt k n)
   where
@@ -70,7 +70,7 @@ block_of xs b = take 256 (drop (256 * b + 1) xs)
 
 pub cut_below : {X : Type 0} (xs : List X) (n : ℕ) → flat_map (block_of xs) (below n) ≡ take (256 * n) (drop 1 xs)
 cut_below xs zero = refl
-cut_below {X} xs (suc n) =
+cut_below {X = X} xs (suc n) =
     let from : drop (256 * n) (drop 1 xs) ≡ drop (256 * n + 1) xs = drop-drop (256 * n) 1 xs ∙ ap (λ (m : ℕ). drop m xs) (omega arith) in
     let next : 256 * n + 256 ≡ 256 * suc n = omega arith in
     flat_map-append (block_of xs) (below n) (n ∷ []) ∙ ap (λ (l : List X). l ++ (block_of xs n ++ [])) (cut_below xs n)

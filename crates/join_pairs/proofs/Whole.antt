@@ -1,5 +1,5 @@
 -- What the participants of the second round found, together.
-use Rattle.std.proofs.Common.{◌≡◌, ◌<◌, ◌≤◌, ◌+◌, ◌*◌, ◌-◌, ◌++◌, ◌⊎◌, inl, inr, ℕ, zero, suc, IsTrue, List, [], ◌∷◌, Any, Option, Some, None, length, take, drop, map, refl, ap, sym, subst, ◌∙◌, arith, length-append}
+use Rattle.std.proofs.Common.{◌≡◌, ◌<◌, ◌≤◌, ◌+◌, ◌*◌, ◌-◌, ◌++◌, ◌⊎◌, inl, inr, ℕ, IsTrue, List, [], ◌∷◌, Any, Option, Some, None, length, take, drop, map, ap, sym, subst, ◌∙◌, arith, length-append}
 use Rattle.std.specs.List.{AllByRecursion, flat_map}
 use Rattle.std.specs.List.Sorted.{IsPermutation, IsSorted}
 use Rattle.std.proofs.lemmas.List.{take-append-drop}
@@ -17,7 +17,7 @@ use Rattle.join_pairs.specs.Blocks.{block_numbers, numbers_of_blocks}
 use Rattle.join_pairs.specs.Found.{Found, found_in, found_of}
 use Rattle.join_pairs.specs.Law.{pair_cmp}
 use Rattle.join_pairs.specs.declared.pairing.NoPairs.{NoPairs}
-use Rattle.join_pairs.specs.declared.pairing.NoPairs.TheVariants.{TooMany, Memory}
+use Rattle.join_pairs.specs.declared.pairing.NoPairs.TheVariants.{TooMany}
 use Rattle.join_pairs.specs.declared.pairs.Pair.{Pair}
 use Rattle.join_pairs.proofs.Anys.{any_cases, any_none}
 use Rattle.join_pairs.proofs.Joining.{joins, same_count}

@@ -1,9 +1,9 @@
 -- The pairs that a participant of the second round found.
-use Rattle.std.specs.Prelude.{◌≡◌, ◌<◌, ◌≤◌, ℕ, IsTrue, List, Option, Some, None, filter, length, map}
+use Rattle.std.specs.Prelude.{◌<◌, ℕ, IsTrue, List, Option, Some, None, filter, length, map}
 use Rattle.std.specs.List.{flat_map}
 use Rattle.std.specs.List.Sorted.{IsPermutation}
 use Rattle.scan_claim.specs.Drawing.{is_spent}
-use Rattle.scan_claim.specs.Shown.{blocks_of, draws_of}
+use Rattle.scan_claim.specs.Shown.{blocks_of}
 use Rattle.scan_claim.specs.declared.claims.Claims.{Claims}
 use Rattle.gather_law.specs.Tuples.{Table}
 use Rattle.join_pairs.specs.Join.{is_pair, most_pairs, numbers_of, pairs_of}

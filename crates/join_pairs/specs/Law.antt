@@ -1,12 +1,12 @@
 -- The two laws of a join, as facts about plain lists: whatever rows the participants put in and in which order, the links
 -- make a chain of each key; and the pairs of all right rows' chains, in whatever order, are the pairs of the tables.
-use Rattle.std.specs.Prelude.{◌≡◌, ◌≢◌, ◌<◌, ℕ, List, [], ◌∷◌, All, Option, None, map}
+use Rattle.std.specs.Prelude.{◌≡◌, ◌≢◌, ℕ, List, [], ◌∷◌, All, Option, None}
 use Rattle.std.specs.List.{flat_map}
 use Rattle.std.specs.List.Sorted.{IsPermutation, IsSorted}
 use Rattle.std.specs.Ordering.{nat_cmp, ordering_then}
 use Rattle.std.specs.declared.cmp.Ordering.{Ordering}
 use Rattle.gather_law.specs.Tuples.{Table}
-use Rattle.join_pairs.specs.Chains.{HasChain, IsChain, IsRun, number_in}
+use Rattle.join_pairs.specs.Chains.{IsChain, IsRun, number_in}
 use Rattle.join_pairs.specs.Join.{numbers_of, pairs_of}
 use Rattle.join_pairs.specs.Found.{found_of}
 use Rattle.join_pairs.specs.declared.pairs.Pair.{Pair}

@@ -52,12 +52,7 @@ impl Chains {
     }
 
     /// A new key has the chain that ends with this row.
-    pub(crate) fn add_key(
-        &mut self,
-        alloc: Global,
-        key: &[u8],
-        last: u64,
-    ) -> Result<(), AllocError>
+    pub(crate) fn add_key(&mut self, alloc: Global, key: &[u8], last: u64) -> Result<(), AllocError>
         requires places { HasPlaces self.old }
         ensures places { OnOk result (HasPlaces self.new) }
         ensures keys { OnOk result (self.new.keys ≡ self.old.keys ++ key.now ∷ []) }
@@ -69,12 +64,7 @@ impl Chains {
     }
 
     /// A row goes to the end of the chain of its key.
-    pub(crate) fn add_row(
-        &mut self,
-        alloc: Global,
-        key: &[u8],
-        row: u64,
-    ) -> Result<(), AllocError>
+    pub(crate) fn add_row(&mut self, alloc: Global, key: &[u8], row: u64) -> Result<(), AllocError>
         requires places { HasPlaces self.old }
         requires room { HasRoom self.old row }
         ensures places { OnOk result (HasPlaces self.new) }
@@ -96,7 +86,8 @@ impl Chains {
 
     /// The last row of a key, or 0 where it has none.
     pub(crate) fn last(&self, key: &[u8]) -> u64
-        ensures { (records : Table) (column : ℕ) (rows : List ℕ) → HasChains records column rows self.now → HasChain (before_in self.now.befores.items) records column rows key.now result }
+        ensures { (records : Table) (column : ℕ) (rows : List ℕ) → HasChains records column rows self.now
+            → HasChain (before_in self.now.befores.items) records column rows key.now result }
     {
         match self.keys.find(key) {
             Some(place) => self.lasts.get(place).copied().unwrap_or(0),

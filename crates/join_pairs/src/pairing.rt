@@ -12,8 +12,8 @@ ghost use Rattle.join_pairs.specs.Found.{HasFound, HasNone, Stops, found_in, fou
 ghost use Rattle.join_pairs.specs.Gathered.{ChainsAll};
 ghost use Rattle.join_pairs.specs.Pairing.{AreSameSeats, FinderFound, IsNewFinder, IsReason, StopsAdding, pairs_with};
 
-use crate::chains::Chains;
 use crate::blocks::count_blocks;
+use crate::chains::Chains;
 use crate::pairs::{Pair, Pairs};
 use csv_rows::RowStore;
 use partial_agg::BLOCK_ROWS;
@@ -47,16 +47,13 @@ pub(crate) struct Finder {
 }
 
 /// Adds the pairs of a right row with the rows of a chain.
-fn follow(
-    chains: &Chains,
-    last: u64,
-    right: u64,
-    pairs: &mut Vec<Pair>,
-) -> Result<(), NoPairs>
+fn follow(chains: &Chains, last: u64, right: u64, pairs: &mut Vec<Pair>) -> Result<(), NoPairs>
     requires few { length pairs.old.items ≤ most_pairs }
     ensures few { length pairs.new.items ≤ most_pairs }
-    ensures added { OnOk result ((chain : List ℕ) → IsChain (before_in chains.now.befores.items) last chain → pairs.new.items ≡ pairs.old.items ++ pairs_with right chain) }
-    ensures stopped { IfErr result (λ why. (chain : List ℕ) → IsChain (before_in chains.now.befores.items) last chain → StopsAdding (length pairs.old.items + length chain) why) }
+    ensures added { OnOk result ((chain : List ℕ) → IsChain (before_in chains.now.befores.items) last chain
+        → pairs.new.items ≡ pairs.old.items ++ pairs_with right chain) }
+    ensures stopped { IfErr result (λ why. (chain : List ℕ) → IsChain (before_in chains.now.befores.items) last chain
+        → StopsAdding (length pairs.old.items + length chain) why) }
 {
     let mut left = last;
     while left != 0 {
@@ -84,7 +81,8 @@ fn find_row(
     requires column { column < width_of rows.now }
     requires few { length pairs.old.items ≤ most_pairs }
     ensures few { length pairs.new.items ≤ most_pairs }
-    ensures added { OnOk result ((left : Table) (c : ℕ) → ChainsAll left c chains.now → IsPermutation (pairs.old.items ++ found_of left rows.now c column row) pairs.new.items) }
+    ensures added { OnOk result ((left : Table) (c : ℕ) → ChainsAll left c chains.now
+        → IsPermutation (pairs.old.items ++ found_of left rows.now c column row) pairs.new.items) }
     ensures stopped { IfErr result (λ why. (left : Table) (c : ℕ) → ChainsAll left c chains.now
         → StopsAdding (length pairs.old.items + length (found_of left rows.now c column row)) why) }
 {
@@ -109,9 +107,11 @@ fn find_block(
     requires few { length pairs.old.items ≤ most_pairs }
     ensures few { length pairs.new.items ≤ most_pairs }
     ensures added { OnOk result ((left : Table) (c : ℕ) → ChainsAll left c chains.now
-        → IsPermutation (pairs.old.items ++ found_in left rows.now c column (block_numbers rows.now block)) pairs.new.items) }
+        → IsPermutation (pairs.old.items ++ found_in left rows.now c column (block_numbers rows.now block))
+        pairs.new.items) }
     ensures stopped { IfErr result (λ why. (left : Table) (c : ℕ) → ChainsAll left c chains.now
-        → StopsAdding (length pairs.old.items + length (found_in left rows.now c column (block_numbers rows.now block))) why) }
+        → StopsAdding (length pairs.old.items
+        + length (found_in left rows.now c column (block_numbers rows.now block))) why) }
 {
     let last = rows.count();
     let first = BLOCK_ROWS * block + 1;
@@ -142,8 +142,10 @@ fn find_blocks<R: Wait>(
     requires new { (draws_of claim.old ≡ []) × (pairs.old.items ≡ []) }
     ensures seat { Belongs claims.now claim.new × (number_of claim.new ≡ number_of claim.old) }
     ensures few { length pairs.new.items ≤ most_pairs }
-    ensures found { OnOk result ((left : Table) (c : ℕ) → ChainsAll left c chains.now → HasFound left rows.now c column claims.now (draws_of claim.new) pairs.new.items) }
-    ensures stopped { IfErr result (λ why. (left : Table) (c : ℕ) → ChainsAll left c chains.now → Stops left rows.now c column (draws_of claim.new) why) }
+    ensures found { OnOk result ((left : Table) (c : ℕ) → ChainsAll left c chains.now
+        → HasFound left rows.now c column claims.now (draws_of claim.new) pairs.new.items) }
+    ensures stopped { IfErr result (λ why. (left : Table) (c : ℕ) → ChainsAll left c chains.now
+        → Stops left rows.now c column (draws_of claim.new) why) }
 {
     for _ in rt.forever() {
         let Some(block) = claim.claim(claims) else {
@@ -172,7 +174,8 @@ fn find<R: Wait>(
     requires new { IsNewFinder claims.now finder.old }
     ensures seat { Belongs claims.now finder.new.claim × (number_of finder.new.claim ≡ number_of finder.old.claim) }
     ensures few { length finder.new.finding.pairs.items ≤ most_pairs }
-    ensures found { (left : Table) (c : ℕ) → ChainsAll left c chains.now → FinderFound left rows.now c column claims.now finder.new }
+    ensures found { (left : Table) (c : ℕ) → ChainsAll left c chains.now
+        → FinderFound left rows.now c column claims.now finder.new }
 {
     let found = find_blocks(
         rt,
@@ -222,12 +225,16 @@ fn find_all<R: Threads + Wait + Sync>(
     requires new { All (IsNewFinder claims.now) finders.old.items }
     ensures seats { AreSameSeats claims.now finders.old.items finders.new.items }
     ensures few { All (λ (f : Finder). length f.finding.pairs.items ≤ most_pairs) finders.new.items }
-    ensures found { All (λ (f : Finder). (left : Table) (c : ℕ) → ChainsAll left c chains.now → FinderFound left rows.now c column claims.now f) finders.new.items }
+    ensures found { All (λ (f : Finder). (left : Table) (c : ℕ) → ChainsAll left c chains.now
+        → FinderFound left rows.now c column claims.now f) finders.new.items }
 {
     let threads = finders.len().max(1);
-    for_each_mut(rt, finders.as_mut_slice(), threads, &|_, finder| {
-        find(rt, chains, rows, column, claims, finder)
-    });
+    for_each_mut(
+        rt,
+        finders.as_mut_slice(),
+        threads,
+        &|_, finder| { find(rt, chains, rows, column, claims, finder) },
+    );
 }
 
 /// The participants' seats, and what they found.
@@ -297,9 +304,11 @@ pub fn find_pairs<R: Threads + Wait + Sync>(
     requires callers { 1 ≤ callers }
     requires accepted { AllAccepted rows.now column }
     requires column { column < width_of rows.now }
-    ensures pairs { IfOk result (λ pairs. (left : Table) (c : ℕ) → ChainsAll left c chains.now → pairs ≡ pairs_of left rows.now c column) }
+    ensures pairs { IfOk result (λ pairs. (left : Table) (c : ℕ) → ChainsAll left c chains.now
+        → pairs ≡ pairs_of left rows.now c column) }
     ensures few { IfOk result (λ pairs. length pairs ≤ most_pairs) }
-    ensures none { IfErr result (λ why. (left : Table) (c : ℕ) → ChainsAll left c chains.now → HasNone left rows.now c column why) }
+    ensures none { IfErr result (λ why. (left : Table) (c : ℕ) → ChainsAll left c chains.now
+        → HasNone left rows.now c column why) }
 {
     let Ok((claims, seats)) = Claims::new(alloc, count_blocks(rows), callers) else {
         return Err(NoPairs::Memory);

@@ -19,7 +19,7 @@ loop-at-preserved c =
     let more : take (at + 1) numbers ≡ take at numbers ++ row ∷ [] = numbers_next c.args.rows.now c.args.block at row small refl there in (
       c.in-Ok.ensures.few,
       λ left k all. subst (λ (l : List ℕ). IsPermutation (c.args.pairs.now.items ++ found_in left c.args.rows.now k c.args.column l) c.find_row.new.pairs.items) (sym more)
-      (more_rows left c.args.rows.now k c.args.column c.args.pairs.now.items c.loop-at.pairs.items c.find_row.new.pairs.items (take at numbers) row (c.loop-at.invariant.1 left k all) (c.in-Ok.ensures.added left k all)),
+          (more_rows left c.args.rows.now k c.args.column c.args.pairs.now.items c.loop-at.pairs.items c.find_row.new.pairs.items (take at numbers) row (c.loop-at.invariant.1 left k all) (c.in-Ok.ensures.added left k all)),
     )
 
 pub returns-in-Err-clause-stopped : goal.returns-in-Err-clause-stopped

@@ -1,4 +1,4 @@
-use Rattle.std.proofs.Common.{◌≡◌, [], All, map, take}
+use Rattle.std.proofs.Common.{◌≡◌, [], All, map}
 use Rattle.join_pairs.specs.declared.pairing.Finder.{Finder}
 use Rattle.join_pairs.proofs.pairing.finders.Given as goal
 

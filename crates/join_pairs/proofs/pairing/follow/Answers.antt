@@ -1,5 +1,4 @@
-use Rattle.std.proofs.Common.{◌≡◌, ◌≢◌, ◌<◌, ◌≤◌, ◌+◌, ◌++◌, [], ◌∷◌, ℕ, List, length, arith, ap, sym, subst, ◌∙◌, length-append}
-use Rattle.join_pairs.specs.Join.{most_pairs}
+use Rattle.std.proofs.Common.{◌≡◌, ◌≢◌, ◌+◌, ◌++◌, [], ◌∷◌, ℕ, List, length, arith, ap, sym, subst, ◌∙◌, length-append}
 use Rattle.join_pairs.specs.Chains.{before_in}
 use Rattle.join_pairs.specs.declared.pairs.Pair.{Pair}
 use Rattle.join_pairs.proofs.Following.{IsPart, follow_end, follow_next}
@@ -15,7 +14,7 @@ loop-left-preserved c =
     let next = follow_next b c.args.right c.args.pairs.now.items c.args.last c.loop-left.left c.loop-left.pairs.items some c.loop-left.invariant.1 in (
       omega (arith, long, c.if-len-ge-MOST_PAIRS.false, c.len.ensures),
       λ chain h. subst (λ (n : ℕ). IsPart b c.args.right c.args.pairs.now.items n c.push.new.self.items chain) (sym c.before-left.ensures)
-      (subst (λ (l : List Pair). IsPart b c.args.right c.args.pairs.now.items (b c.loop-left.left) l chain) (sym pushed) (next chain h)),
+          (subst (λ (l : List Pair). IsPart b c.args.right c.args.pairs.now.items (b c.loop-left.left) l chain) (sym pushed) (next chain h)),
     )
 
 pub returns-clause-added : goal.returns-clause-added

@@ -1,6 +1,6 @@
 //! The chains of all left rows: those that the table has, and then the rows that it did not take.
 
-ghost use Rattle.std.specs.Prelude.{◌≡◌, ◌++◌, ℕ, List, [], All, IfOk, OnOk, length, map};
+ghost use Rattle.std.specs.Prelude.{◌≡◌, ◌<◌, ◌++◌, ℕ, List, [], All, IfOk, OnOk, length, map};
 ghost use Rattle.std.specs.List.{flat_map};
 ghost use Rattle.csv_rows.specs.Records.{field_of};
 ghost use Rattle.dshash_core.specs.Listing.{pairs_of as entries_of};
@@ -16,7 +16,8 @@ use std::alloc::{AllocError, Global};
 /// Sets the rows before those of several lists.
 fn link_rows(chains: &mut Chains, links: &Vec<Vec<Link>>)
     requires rows { All (λ (l : Link). HasRoom chains.old l.row) (flat_map (λ v. v.items) links.now.items) }
-    ensures linked { HasLinks (flat_map (λ v. v.items) links.now.items) chains.old.befores.items chains.new.befores.items }
+    ensures linked { HasLinks (flat_map (λ v. v.items) links.now.items) chains.old.befores.items
+        chains.new.befores.items }
     ensures room { length chains.new.befores.items ≡ length chains.old.befores.items }
     ensures same { (chains.new.keys ≡ chains.old.keys) × (chains.new.lasts ≡ chains.old.lasts) }
 {
@@ -38,8 +39,10 @@ fn add_entries(
     requires rows { All (λ (e : List ℕ × ℕ). IsRow rows.now e.1) (entries_of entries.now.items) }
     requires empty { (chains.old.keys ≡ []) × (chains.old.lasts.items ≡ []) }
     ensures places { OnOk result (HasPlaces chains.new) }
-    ensures keys { OnOk result (chains.new.keys ≡ map (λ (e : List ℕ × ℕ). field_of rows.now e.1 column) (entries_of entries.now.items)) }
-    ensures lasts { OnOk result (chains.new.lasts.items ≡ map (λ (e : List ℕ × ℕ). e.1) (entries_of entries.now.items)) }
+    ensures keys { OnOk result (chains.new.keys
+        ≡ map (λ (e : List ℕ × ℕ). field_of rows.now e.1 column) (entries_of entries.now.items)) }
+    ensures lasts { OnOk result (chains.new.lasts.items
+        ≡ map (λ (e : List ℕ × ℕ). e.1) (entries_of entries.now.items)) }
     ensures befores { chains.new.befores ≡ chains.old.befores }
 {
     for entry in entries {
@@ -67,7 +70,8 @@ fn add_rows(
     requires room { length chains.old.befores.items ≡ length rows.now }
     ensures places { OnOk result (HasPlaces chains.new) }
     ensures room { length chains.new.befores.items ≡ length chains.old.befores.items }
-    ensures added { OnOk result ((known : List ℕ) → AreApart known list.now → HasChains rows.now column known chains.old → HasChains rows.now column (known ++ list.now) chains.new) }
+    ensures added { OnOk result ((known : List ℕ) → AreApart known list.now
+        → HasChains rows.now column known chains.old → HasChains rows.now column (known ++ list.now) chains.new) }
 {
     for row in list {
         match chains.add_row(alloc, rows.field(*row, column), *row) {
@@ -89,7 +93,8 @@ pub fn chain_all(
 ) -> Result<Chains, AllocError>
     requires column { column < width_of rows.now }
     requires accepted { AllAccepted rows.now column }
-    requires covered { IsCovered rows.now column (entries_of entries.now.items) (flat_map (λ v. v.items) links.now.items) (flat_map (λ v. v.items) spilled.now.items) }
+    requires covered { IsCovered rows.now column (entries_of entries.now.items)
+        (flat_map (λ v. v.items) links.now.items) (flat_map (λ v. v.items) spilled.now.items) }
     ensures { IfOk result (λ c. ChainsAll rows.now column c) }
 {
     let mut chains = Chains::new(alloc, rows.count())?;

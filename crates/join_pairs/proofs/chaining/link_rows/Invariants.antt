@@ -1,7 +1,7 @@
 use Rattle.std.proofs.Common.{◌≡◌, drop, length}
 use Rattle.std.specs.List.{flat_map}
 use Rattle.join_pairs.specs.Gathered.{linked}
-use Rattle.join_pairs.proofs.linking.link_rows.Given as goal
+use Rattle.join_pairs.proofs.chaining.link_rows.Given as goal
 
 abbrev pub invariant-loop-list : goal.invariant-loop-list
 invariant-loop-list l =

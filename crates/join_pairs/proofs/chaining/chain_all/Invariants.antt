@@ -2,7 +2,7 @@ use Rattle.std.proofs.Common.{◌≡◌, ◌++◌, length, map, take}
 use Rattle.std.specs.List.{flat_map}
 use Rattle.join_pairs.specs.Gathered.{HasChains, HasPlaces}
 use Rattle.join_pairs.specs.declared.chains.Link.{Link}
-use Rattle.join_pairs.proofs.linking.chain_all.Given as goal
+use Rattle.join_pairs.proofs.chaining.chain_all.Given as goal
 
 abbrev pub invariant-loop-list : goal.invariant-loop-list
 invariant-loop-list l =

@@ -1,6 +1,6 @@
 use Rattle.std.proofs.Common.{◌≡◌, ◌++◌, ℕ, List, length, take}
 use Rattle.join_pairs.specs.Gathered.{AreApart, HasChains, HasPlaces}
-use Rattle.join_pairs.proofs.linking.add_rows.Given as goal
+use Rattle.join_pairs.proofs.chaining.add_rows.Given as goal
 
 abbrev pub invariant-loop-row : goal.invariant-loop-row
 invariant-loop-row l =

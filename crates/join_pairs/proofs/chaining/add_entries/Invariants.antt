@@ -2,7 +2,7 @@ use Rattle.std.proofs.Common.{◌≡◌, ℕ, List, map, take}
 use Rattle.csv_rows.specs.Records.{field_of}
 use Rattle.dshash_core.specs.Listing.{pairs_of}
 use Rattle.join_pairs.specs.Gathered.{HasPlaces}
-use Rattle.join_pairs.proofs.linking.add_entries.Given as goal
+use Rattle.join_pairs.proofs.chaining.add_entries.Given as goal
 
 abbrev pub invariant-loop-entry : goal.invariant-loop-entry
 invariant-loop-entry l =
