@@ -107,8 +107,8 @@ module _ (records : Table) (column : ℕ) (history : ℕ → List RowEntry) (ps 
       by false e =
           other_bytes (field_of records l.row column) (field_of records last column)
           (λ same. let keys : key_of records column l.row ≡ key = ap (λ (f : List ℕ). packed_key f) same ∙ h.1 in
-            let yes : same_key key l ≡ true = ap (λ (k : List ℕ). eq_by_cmp (slice_cmp nat_cmp) key k) keys ∙ itself key in
-            let no : true ≡ false = sym yes ∙ e in absurd (cc))
+          let yes : same_key key l ≡ true = ap (λ (k : List ℕ). eq_by_cmp (slice_cmp nat_cmp) key k) keys ∙ itself key in
+          let no : true ≡ false = sym yes ∙ e in absurd (cc))
 
   pub record IsEntry (key : List ℕ) (last : ℕ) : Type 0 where
     pub here : HasKey key last

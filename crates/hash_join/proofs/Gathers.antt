@@ -102,7 +102,7 @@ module _ (records : Table) (column : ℕ) where
     pub links_are_once : AreOnce links
     links_are_once =
         once_links links (λ v.
-          let test = λ (row : ℕ). not (is_null (field_of records row column)) in
-          let same = sum_by-IsPermutation (one v) (keyed records column (numbers_of records)) (rows_of links ++ spilled) all in
-          let parts = sum_by-append (one v) (rows_of links) spilled in
-          omega (arith, same, parts, many_filter v test (numbers_of records), many_drop v (below (length records)) (many_below v (length records))))
+        let test = λ (row : ℕ). not (is_null (field_of records row column)) in
+        let same = sum_by-IsPermutation (one v) (keyed records column (numbers_of records)) (rows_of links ++ spilled) all in
+        let parts = sum_by-append (one v) (rows_of links) spilled in
+        omega (arith, same, parts, many_filter v test (numbers_of records), many_drop v (below (length records)) (many_below v (length records))))

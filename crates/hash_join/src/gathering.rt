@@ -98,11 +98,7 @@ fn begin(
 }
 
 /// The participants, each with its tokens.
-fn fillers(
-    alloc: Global,
-    passes: Passes,
-    seats: Vec<ClaimSeat>,
-) -> Result<Vec<Filler>, AllocError>
+fn fillers(alloc: Global, passes: Passes, seats: Vec<ClaimSeat>) -> Result<Vec<Filler>, AllocError>
     requires tables { length passes.tables.items ≡ length passes.areas.items }
     requires seats { length seats.items ≡ length passes.areas.items }
     ensures areas { IfOk result (λ v. map (λ (f : Filler). f.area) v.items ≡ passes.areas.items) }
@@ -156,9 +152,12 @@ fn fill_all<R: Threads + Wait + Sync>(
     ensures filled { AreFilled rows.now column store.now claims.now fillers.old.items fillers.new.items }
 {
     let threads = fillers.len().max(1);
-    for_each_mut(rt, fillers.as_mut_slice(), threads, &|_, filler| {
-        fill(rt, store, rows, column, claims, filler)
-    });
+    for_each_mut(
+        rt,
+        fillers.as_mut_slice(),
+        threads,
+        &|_, filler| { fill(rt, store, rows, column, claims, filler) },
+    );
 }
 
 /// Takes the participants' tokens and lists apart. None may lack memory.

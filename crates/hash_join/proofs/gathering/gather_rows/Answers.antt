@@ -1,4 +1,3 @@
-use Rattle.std.proofs.Common.{◌≡◌, subst}
 use Rattle.hash_join.specs.Home.{IsHome}
 use Rattle.hash_join.proofs.Rounds.{all_filled, still_all}
 use Rattle.hash_join.proofs.gathering.gather_rows.Goals as goal
@@ -9,16 +8,15 @@ end_round-requires-clause-home g c =
     let rows = c.args.rows.now in
     let gs = c.fill_all.new.fillers.items in
     let h = c.in_ok-home.ensures in
-    let filled = c.fill_all.ensures.filled in
-    let stores : r.store ≡ c.in_ok-store.store = cc (c.in_ok-store.store-is) in
-    let claims : r.claims ≡ c.in_ok-store.claims = cc (c.in_ok-store.claims-is) in
-    let home : IsHome rows c.args.column r.store r.claims gs c.in_ok-home.home = record {
-      all = still_all r.store r.claims r.fillers.items c.in_ok-store.ensures.all rows c.args.column gs filled;
-      filled = all_filled r.store r.claims r.fillers.items c.in_ok-store.ensures.all rows c.args.column gs filled h.whole;
-      areas = h.areas;
-      tables = h.tables;
-      claims = h.claims;
-      links = h.links;
-      spilled = h.spilled;
-    } in
-    (gs, subst (λ x. IsHome rows c.args.column x c.in_ok-store.claims gs c.in_ok-home.home) stores (subst (λ x. IsHome rows c.args.column r.store x gs c.in_ok-home.home) claims home))
+    let filled = c.fill_all.ensures.filled in (
+      gs,
+      record {
+        all = still_all r.store r.claims r.fillers.items c.in_ok-store.ensures.all rows c.args.column gs filled;
+        filled = all_filled r.store r.claims r.fillers.items c.in_ok-store.ensures.all rows c.args.column gs filled h.whole;
+        areas = h.areas;
+        tables = h.tables;
+        claims = h.claims;
+        links = h.links;
+        spilled = h.spilled;
+      },
+    )

@@ -17,9 +17,9 @@ loop-other-preserved c =
     let e = c.meet.ensures in
     let low : c.loop-other.other-index < length c.args.others.now = omega arith in
     let pairs = one_met (HasMet s c.loop-other.leader) (HasMet s c.meet.new.one)
-        (λ p q h. record { own = h.own; number = h.number; mine = h.mine; seen = λ i. starts_trans (seen_of c.meet.new.one i) (seen_of c.loop-other.leader i) (seen_of p i) (e.this.begins i) (h.seen i) })
-        c.args.others.now c.loop-other.others c.loop-other.other-index c.other-item.result c.meet.new.other low
-        (record { own = e.other; number = e.other_caller; mine = λ i. e.that.same_mine i; seen = λ i. e.this.begins_other i }) inv.met inv.rest in
+    (λ p q h. record { own = h.own; number = h.number; mine = h.mine; seen = λ i. starts_trans (seen_of c.meet.new.one i) (seen_of c.loop-other.leader i) (seen_of p i) (e.this.begins i) (h.seen i) })
+    c.args.others.now c.loop-other.others c.loop-other.other-index c.other-item.result c.meet.new.other low
+    (record { own = e.other; number = e.other_caller; mine = λ i. e.that.same_mine i; seen = λ i. e.this.begins_other i }) inv.met inv.rest in
     record {
       own = e.own;
       caller = e.caller ∙ inv.caller;
