@@ -1,13 +1,12 @@
 -- Rows in order: what the words that ask for them, a merge and its answers say of the outcome.
-use Rattle.std.proofs.Common.{◌≡◌, ◌<◌, ◌≤◌, ◌+◌, ◌-◌, ◌⊎◌, ◌∙◌, ◌++◌, inl, inr, take, ℕ, zero, suc, Bool, true, false, List, [], ◌∷◌, if◌then◌else◌, length, drop, map, refl, ap, arith, subst, sym, None, Some, Option, All, IfSome}
+use Rattle.std.proofs.Common.{◌≡◌, ◌<◌, ◌+◌, ◌-◌, ◌∙◌, inl, inr, take, ℕ, zero, suc, Bool, true, false, List, [], ◌∷◌, if◌then◌else◌, length, refl, ap, arith, subst, sym, None, Some, Option, All, IfSome}
 use Rattle.std.proofs.lemmas.List.{length-map}
 use Rattle.std.proofs.lemmas.List.Elements.{All-drop, All-nil, All-push, All-weaker}
 use Rattle.std.proofs.lemmas.List.Sorted.{All-permutation}
 use Rattle.std.proofs.lemmas.List.Splits.{length-slice_split}
-use Rattle.std.specs.Prelude.{◌==◌, ◌&&◌, not}
-use Rattle.std.specs.List.{list_any}
+use Rattle.std.specs.Prelude.{◌==◌, ◌&&◌, slice_index_or}
 use Rattle.std.specs.Io.KnownBytes.{Appends}
-use Rattle.csv_rows.specs.Records.{record_at, records_of}
+use Rattle.csv_rows.specs.Records.{record_at}
 use Rattle.gather_merge.specs.Answers.{IsCause, IsFirstCause, OrdersRows}
 use Rattle.gather_merge.specs.Order.{IsOrder, numbers_of, ordered}
 use Rattle.gather_merge.specs.Used.{IsUsed}
@@ -28,7 +27,7 @@ use Rattle.scan_claim.specs.Drawing.{below}
 use Rattle.par_gather.specs.Answers.{bound_over, outcome_over}
 use Rattle.par_gather.specs.Forms.{plan_in}
 use Rattle.par_gather.specs.Grouping.{refused_in}
-use Rattle.par_gather.specs.Ordered.{IsInOrder, IsMergedBy, IsMergedFor, IsOrderOver, IsOrderText}
+use Rattle.par_gather.specs.Ordered.{IsInOrder, IsMergedBy, IsOrderOver, IsOrderText}
 use Rattle.par_gather.specs.Ready.{IsReady}
 use Rattle.par_gather.specs.Stops.{IsExplained, IsFirstStop, RestatesMerge}
 use Rattle.par_gather.specs.declared.input.Ready.{Ready}
@@ -73,8 +72,10 @@ orders_by header names some = record {
 pub orders_rows : (words : List (List ℕ)) (query : Query) (header : List (List ℕ)) (bound : Plan) → merge_of words ≡ Some query → bound ≡ bound_plan header query.plan → OrdersRows bound
 unfolding merge_of
 orders_rows words query header bound e is =
-    let parts = has_parts (row_count ∷ []) _ _ query (if-some _ _ query e) in
-    let some = some_names _ parts.0 parts.1 in
+    let columns = slice_index_or words 1 [] in
+    let n = slice_index_or words 2 [] in
+    let parts = has_parts (row_count ∷ []) (names_in columns) (number_in 64 n) query (if-some (is_merge words && (length words == 3)) (merge_query columns n) query e) in
+    let some = some_names columns parts.0 parts.1 in
     let same : bound ≡ bound_plan header (record { groups = parts.0; items = row_count ∷ []; hash = false; filter = None }) = is ∙ ap (bound_plan header) parts.2 in
     subst OrdersRows (sym same) (orders_by header parts.0 some)
 
@@ -82,7 +83,7 @@ orders_rows words query header bound e is =
 
 below_all : (n : ℕ) → All (λ row. row < n) (below n)
 below_all zero = All-nil (λ row. row < 0)
-below_all (suc n) = All-push (λ row. row < suc n) (below n) n (All-weaker (λ row. row < n) (λ row. row < suc n) (below n) (λ row h. omega (arith, h)) (below_all n)) (omega arith)
+below_all (suc n) = All-push (λ row. row < suc n) (below n) n (All-weaker (λ row. row < n) (λ row. row < suc n) (λ row h. omega (arith, h)) (below n) (below_all n)) (omega arith)
 
 pub order_within : (plan : Plan) (records : List (List (List ℕ))) (rows : List ℕ) → IsOrder plan records rows → All (λ row. row < length records) rows
 order_within plan records rows o =

@@ -1,10 +1,14 @@
 -- The two forms of a command line: options that name a plan, and `merge COLUMNS N`, which asks for rows in order.
-use Rattle.std.specs.Prelude.{ℕ, List, Option, codes, option_map}
+use Rattle.std.specs.Prelude.{ℕ, List, Option, codes, if◌then◌else◌, option_map}
 use Rattle.par_model.specs.Named.{NamedPlan}
-use Rattle.plan_spec.specs.Merging.{merge_of}
+use Rattle.plan_spec.specs.Merging.{is_merge, merge_of}
 use Rattle.plan_spec.specs.Query.{Query, query_of}
 use Rattle.par_gather.specs.declared.form.Form.{Form}
 use Rattle.par_gather.specs.declared.form.Form.TheVariants.{Plan, Merge}
+
+-- the form that words are to have, by the first of them
+abbrev pub form_of : List (List ℕ) → Form
+form_of words = if is_merge words then Merge else Plan
 
 -- the query of words in a form, if they are one
 abbrev pub asked : Form → List (List ℕ) → Option Query

@@ -1,6 +1,7 @@
 pub mod Answers
 pub mod Forms
 pub mod Grouping
+pub mod Held
 pub mod Lines
 pub mod Ordered
 pub mod Ran

@@ -1,7 +1,10 @@
 //! The forms of a command line.
 
 ghost use Rattle.std.specs.Prelude.{◌≡◌};
-ghost use Rattle.par_gather.specs.Forms.{usage_in};
+ghost use Rattle.par_gather.specs.Answers.{texts};
+ghost use Rattle.par_gather.specs.Forms.{form_of, usage_in};
+
+use plan_spec::is_merge;
 
 /// What the words of a command line are to be.
 #[derive(Debug, Clone, Copy, PartialEq, Eq)]
@@ -23,5 +26,16 @@ impl Form {
             }
             Form::Merge => "usage: pargather merge COLUMNS N",
         }
+    }
+}
+
+/// The form that words are to have, by the first of them.
+pub(crate) fn form_of(words: &[String]) -> Form
+    ensures { result ≡ form_of (texts words.now) }
+{
+    if is_merge(words) {
+        Form::Merge
+    } else {
+        Form::Plan
     }
 }

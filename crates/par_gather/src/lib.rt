@@ -11,28 +11,31 @@ ghost use Rattle.std.specs.Prelude.{◌≡◌, ◌≢◌, ◌⊎◌, ℕ, List, 
 ghost use Rattle.std.specs.Io.KnownBytes.{Appends};
 ghost use Rattle.par_io.specs.Faults.{Rose};
 ghost use Rattle.par_model.specs.Outcome.{Outcome};
-ghost use Rattle.plan_spec.specs.Merging.{is_merge, merge_of};
+ghost use Rattle.plan_spec.specs.Merging.{merge_of};
 ghost use Rattle.plan_spec.specs.Query.{query_of};
 ghost use Rattle.par_gather.specs.Answers.{IsOutcome, IsTableText, outcome_over, plan_of, status_of, statuses, texts, workers_of};
-ghost use Rattle.par_gather.specs.Forms.{merge_usage_text, usage_text};
+ghost use Rattle.par_gather.specs.Forms.{form_of, merge_usage_text, usage_text};
 ghost use Rattle.par_gather.specs.Lines.{IsLine, IsSaid, NamesFirst, line};
 ghost use Rattle.par_gather.specs.Ordered.{IsMergeRun, IsOrderText, merge_plan_of, merge_workers_of};
 ghost use Rattle.par_gather.specs.Ran.{IsMadeBy, IsRun};
 ghost use Rattle.par_gather.specs.Stops.{IsExplained, IsFirstStop};
+ghost use Rattle.par_gather.specs.declared.form.Form.TheVariants as form;
 ghost use Rattle.par_gather.specs.declared.stop.Stop.TheVariants as stop;
 
 mod form;
 mod groups;
+mod held;
 mod input;
 mod merging;
 mod names;
 mod output;
 mod reading;
+mod record;
 mod rows;
 mod status;
 mod stop;
 
-use form::Form;
+use form::{Form, form_of};
 use gather_merge::Merged;
 use gather_run::{Gathered, gather};
 use groups::groups_of;
@@ -41,7 +44,6 @@ use merging::answer_merged;
 use names::{stop_of_block, stop_of_gather};
 use output::write_table;
 use par_io::{Sink, Source};
-use plan_spec::is_merge;
 use reading::{Alone, InThreads};
 pub use status::{MISUSED, NO_MEMORY, READ_FAULT, REFUSED, TABLE, TOO_LARGE, WRITE_FAULT};
 use std::alloc::Global;
@@ -98,90 +100,89 @@ pub fn pargather<R: Threads + Wait + Sync, S: Source, O: Sink, E: Sink, G: Gate 
     // ---- Words that don't begin with `merge`
 
     // A status that tells of no fault is that of the outcome.
-    ensures outcome { is_merge (texts words.now) ≡ false → IfSome (S.left source.old) (λ bytes. (result ≢ READ_FAULT) → (result ≢ WRITE_FAULT) → (result ≢ NO_MEMORY)
+    ensures outcome { form_of (texts words.now) ≡ form.Plan → IfSome (S.left source.old) (λ bytes. (result ≢ READ_FAULT) → (result ≢ WRITE_FAULT) → (result ≢ NO_MEMORY)
         → result ≡ status_of (outcome_over (plan_of (texts words.now)) bytes)) }
 
     // `out` receives the table, or a prefix of it where a write failed.
-    ensures table { is_merge (texts words.now) ≡ false → result ≡ TABLE → IfSome (S.left source.old) (λ bytes.
+    ensures table { form_of (texts words.now) ≡ form.Plan → result ≡ TABLE → IfSome (S.left source.old) (λ bytes.
         (text : List ℕ) × IsTableText (plan_of (texts words.now)) bytes text × Appends (O.taken out.old) (O.taken out.new) text) }
-    ensures part { is_merge (texts words.now) ≡ false → result ≡ WRITE_FAULT → IfSome (S.left source.old) (λ bytes.
+    ensures part { form_of (texts words.now) ≡ form.Plan → result ≡ WRITE_FAULT → IfSome (S.left source.old) (λ bytes.
         (text : List ℕ) × IsTableText (plan_of (texts words.now)) bytes text × (n : ℕ) × Appends (O.taken out.old) (O.taken out.new) (take n text)) }
 
     // Without a fault the status is the outcome's, or want of memory.
-    ensures complete { is_merge (texts words.now) ≡ false → ¬ Rose (S.faults source.old) (S.faults source.new) → ¬ Rose (O.faults out.old) (O.faults out.new)
+    ensures complete { form_of (texts words.now) ≡ form.Plan → ¬ Rose (S.faults source.old) (S.faults source.new) → ¬ Rose (O.faults out.old) (O.faults out.new)
         → IfSome (S.left source.old) (λ bytes. (result ≡ NO_MEMORY) ⊎ (result ≡ status_of (outcome_over (plan_of (texts words.now)) bytes))) }
 
     // Words that are no plan are answered before anything is read.
-    ensures no_plan { is_merge (texts words.now) ≡ false → IsNone (plan_of (texts words.now)) → (result ≡ MISUSED) ⊎ (result ≡ NO_MEMORY) }
-    ensures unread { is_merge (texts words.now) ≡ false → IsNone (plan_of (texts words.now)) → source.new ≡ source.old }
+    ensures no_plan { form_of (texts words.now) ≡ form.Plan → IsNone (plan_of (texts words.now)) → (result ≡ MISUSED) ⊎ (result ≡ NO_MEMORY) }
+    ensures unread { form_of (texts words.now) ≡ form.Plan → IsNone (plan_of (texts words.now)) → source.new ≡ source.old }
 
     // `err` receives the line of the status, or a prefix of it where a write of it failed.
-    ensures line { is_merge (texts words.now) ≡ false → (result ≢ TABLE) → (o : Outcome) × IsOutcome (plan_of (texts words.now)) (S.left source.old) o
+    ensures line { form_of (texts words.now) ≡ form.Plan → (result ≢ TABLE) → (o : Outcome) × IsOutcome (plan_of (texts words.now)) (S.left source.old) o
         × (said : List ℕ) × IsLine usage_text (plan_of (texts words.now)) result o said × IsSaid (E.taken err.old) (E.taken err.new) (E.faults err.old) (E.faults err.new) said }
-    ensures usage { is_merge (texts words.now) ≡ false → IsNone (plan_of (texts words.now)) → result ≡ MISUSED
+    ensures usage { form_of (texts words.now) ≡ form.Plan → IsNone (plan_of (texts words.now)) → result ≡ MISUSED
         → IsSaid (E.taken err.old) (E.taken err.new) (E.faults err.old) (E.faults err.new) (line usage_text) }
 
     // Without workers the row that it names is the first that is refused.
-    ensures first { is_merge (texts words.now) ≡ false → workers_of (texts words.now) ≡ Some 0 → result ≡ REFUSED → IfSome (S.left source.old) (λ bytes.
+    ensures first { form_of (texts words.now) ≡ form.Plan → workers_of (texts words.now) ≡ Some 0 → result ≡ REFUSED → IfSome (S.left source.old) (λ bytes.
         (said : List ℕ) × NamesFirst (plan_of (texts words.now)) (outcome_over (plan_of (texts words.now)) bytes) said
         × IsSaid (E.taken err.old) (E.taken err.new) (E.faults err.old) (E.faults err.new) said) }
 
     // Beside a table `ran` says how its groups were made.
-    ensures ran { is_merge (texts words.now) ≡ false → result ≡ TABLE → IfSome (S.left source.old) (λ bytes.
+    ensures ran { form_of (texts words.now) ≡ form.Plan → result ≡ TABLE → IfSome (S.left source.old) (λ bytes.
         (text : List ℕ) × IsRun (query_of (texts words.now)) bytes text ran.new × Appends (O.taken out.old) (O.taken out.new) text) }
 
     // ---- Words that begin with `merge`
 
     // The status is that of the outcome of their plan.
-    ensures merge_outcome { is_merge (texts words.now) ≡ true → IfSome (S.left source.old) (λ bytes. (result ≢ READ_FAULT) → (result ≢ WRITE_FAULT) → (result ≢ NO_MEMORY)
+    ensures merge_outcome { form_of (texts words.now) ≡ form.Merge → IfSome (S.left source.old) (λ bytes. (result ≢ READ_FAULT) → (result ≢ WRITE_FAULT) → (result ≢ NO_MEMORY)
         → result ≡ status_of (outcome_over (merge_plan_of (texts words.now)) bytes)) }
 
     // `out` receives the header and the rows in order, or a prefix of that where a write failed.
-    ensures merge_rows { is_merge (texts words.now) ≡ true → result ≡ TABLE → IfSome (S.left source.old) (λ bytes.
+    ensures merge_rows { form_of (texts words.now) ≡ form.Merge → result ≡ TABLE → IfSome (S.left source.old) (λ bytes.
         (text : List ℕ) × IsOrderText (merge_plan_of (texts words.now)) bytes text × Appends (O.taken out.old) (O.taken out.new) text) }
-    ensures merge_part { is_merge (texts words.now) ≡ true → result ≡ WRITE_FAULT → IfSome (S.left source.old) (λ bytes.
+    ensures merge_part { form_of (texts words.now) ≡ form.Merge → result ≡ WRITE_FAULT → IfSome (S.left source.old) (λ bytes.
         (text : List ℕ) × IsOrderText (merge_plan_of (texts words.now)) bytes text × (n : ℕ) × Appends (O.taken out.old) (O.taken out.new) (take n text)) }
 
     // Without a fault the status is the outcome's, or want of memory.
-    ensures merge_complete { is_merge (texts words.now) ≡ true → ¬ Rose (S.faults source.old) (S.faults source.new) → ¬ Rose (O.faults out.old) (O.faults out.new)
+    ensures merge_complete { form_of (texts words.now) ≡ form.Merge → ¬ Rose (S.faults source.old) (S.faults source.new) → ¬ Rose (O.faults out.old) (O.faults out.new)
         → IfSome (S.left source.old) (λ bytes. (result ≡ NO_MEMORY) ⊎ (result ≡ status_of (outcome_over (merge_plan_of (texts words.now)) bytes))) }
 
     // Words that are not `merge COLUMNS N` are answered before anything is read.
-    ensures merge_no_plan { is_merge (texts words.now) ≡ true → IsNone (merge_plan_of (texts words.now)) → (result ≡ MISUSED) ⊎ (result ≡ NO_MEMORY) }
-    ensures merge_unread { is_merge (texts words.now) ≡ true → IsNone (merge_plan_of (texts words.now)) → source.new ≡ source.old }
+    ensures merge_no_plan { form_of (texts words.now) ≡ form.Merge → IsNone (merge_plan_of (texts words.now)) → (result ≡ MISUSED) ⊎ (result ≡ NO_MEMORY) }
+    ensures merge_unread { form_of (texts words.now) ≡ form.Merge → IsNone (merge_plan_of (texts words.now)) → source.new ≡ source.old }
 
     // `err` receives the line of the status, or a prefix of it where a write of it failed.
-    ensures merge_line { is_merge (texts words.now) ≡ true → (result ≢ TABLE) → (o : Outcome) × IsOutcome (merge_plan_of (texts words.now)) (S.left source.old) o
+    ensures merge_line { form_of (texts words.now) ≡ form.Merge → (result ≢ TABLE) → (o : Outcome) × IsOutcome (merge_plan_of (texts words.now)) (S.left source.old) o
         × (said : List ℕ) × IsLine merge_usage_text (merge_plan_of (texts words.now)) result o said × IsSaid (E.taken err.old) (E.taken err.new) (E.faults err.old) (E.faults err.new) said }
-    ensures merge_usage { is_merge (texts words.now) ≡ true → IsNone (merge_plan_of (texts words.now)) → result ≡ MISUSED
+    ensures merge_usage { form_of (texts words.now) ≡ form.Merge → IsNone (merge_plan_of (texts words.now)) → result ≡ MISUSED
         → IsSaid (E.taken err.old) (E.taken err.new) (E.faults err.old) (E.faults err.new) (line merge_usage_text) }
 
     // Without workers the row that it names is the first that is refused.
-    ensures merge_first { is_merge (texts words.now) ≡ true → merge_workers_of (texts words.now) ≡ Some 0 → result ≡ REFUSED → IfSome (S.left source.old) (λ bytes.
+    ensures merge_first { form_of (texts words.now) ≡ form.Merge → merge_workers_of (texts words.now) ≡ Some 0 → result ≡ REFUSED → IfSome (S.left source.old) (λ bytes.
         (said : List ℕ) × NamesFirst (merge_plan_of (texts words.now)) (outcome_over (merge_plan_of (texts words.now)) bytes) said
         × IsSaid (E.taken err.old) (E.taken err.new) (E.faults err.old) (E.faults err.new) said) }
 
     // Beside rows `ran` says how they were put in order.
-    ensures merge_ran { is_merge (texts words.now) ≡ true → result ≡ TABLE → IfSome (S.left source.old) (λ bytes.
+    ensures merge_ran { form_of (texts words.now) ≡ form.Merge → result ≡ TABLE → IfSome (S.left source.old) (λ bytes.
         (text : List ℕ) × IsMergeRun (merge_of (texts words.now)) bytes text ran.new × Appends (O.taken out.old) (O.taken out.new) text) }
 {
     *ran = None;
-    if is_merge(words) {
-        match answer_merged(rt, alloc, words, source, out, gate) {
-            Ok(merged) => {
-                *ran = Some(Ran::Merge(merged));
-                TABLE
-            }
-            Err(stop) => stop.end(Form::Merge, err),
-        }
-    } else {
-        match answer_gathered(rt, alloc, words, source, out, gate) {
+    match form_of(words) {
+        Form::Plan => match answer_gathered(rt, alloc, words, source, out, gate) {
             Ok(gathered) => {
                 *ran = Some(Ran::Gather(gathered));
                 TABLE
             }
             Err(stop) => stop.end(Form::Plan, err),
-        }
+        },
+        Form::Merge => match answer_merged(rt, alloc, words, source, out, gate) {
+            Ok(merged) => {
+                *ran = Some(Ran::Merge(merged));
+                TABLE
+            }
+            Err(stop) => stop.end(Form::Merge, err),
+        },
     }
 }
 
@@ -215,6 +216,7 @@ pub fn aggregate_alone<S: Source, O: Sink, E: Sink>(
     // Words that are no plan are answered before anything is read.
     ensures no_plan { IsNone (plan_of (texts words.now)) → (result ≡ MISUSED) ⊎ (result ≡ NO_MEMORY) }
     ensures unread { IsNone (plan_of (texts words.now)) → source.new ≡ source.old }
+    ensures no_merge { form_of (texts words.now) ≡ form.Merge → IsNone (plan_of (texts words.now)) }
 
     // `err` receives the line of the status, or a prefix of it where a write of it failed, and beside a table nothing.
     ensures line { (result ≢ TABLE) → (o : Outcome) × IsOutcome (plan_of (texts words.now)) (S.left source.old) o

@@ -52,7 +52,12 @@ pub(crate) fn stop_of_merge(alloc: Global, plan: &Plan, answer: MergeAnswer) -> 
 {
     match answer {
         MergeAnswer::Memory => Stop::Memory,
-        MergeAnswer::Row { row, cause } => stop_of_row(alloc, plan, row, Refusal { cause, item: 0 }),
+        MergeAnswer::Row { row, cause } => stop_of_row(
+            alloc,
+            plan,
+            row,
+            Refusal { cause, item: 0 },
+        ),
     }
 }
 

@@ -1,6 +1,7 @@
 use Rattle.std.proofs.Common.{◌≡◌, ◌∙◌, ℕ, ap, arith, inl, inr, subst, sym}
 use Rattle.std.proofs.lemmas.Option.{IfSome_then}
 use Rattle.par_gather.proofs.Statuses.{line_first, line_outcome}
+use Rattle.par_gather.proofs.Strays.{merge_no_plan}
 use Rattle.par_gather.specs.Answers.{plan_of, texts}
 use Rattle.par_gather.specs.Forms.{usage_text}
 use Rattle.par_gather.specs.Lines.{IsLine, IsSaid, line}
@@ -30,3 +31,9 @@ returns-in-Err-clause-usage g c = λ none is.
       | inl usage ↦ let why : c.in-Err.stop ≡ stop.Usage = cc usage in subst Said why c.end.ensures.said
       | inr memory ↦ let why : c.in-Err.stop ≡ stop.Memory = cc memory in let five : stop_status c.in-Err.stop ≡ 5 = ap stop_status why in absurd (omega (arith, two, five))
     ]
+
+pub returns-in-Ok-clause-no_merge : goal.returns-in-Ok-clause-no_merge
+returns-in-Ok-clause-no_merge g c = merge_no_plan (texts c.args.words.now)
+
+pub returns-in-Err-clause-no_merge : goal.returns-in-Err-clause-no_merge
+returns-in-Err-clause-no_merge g c = merge_no_plan (texts c.args.words.now)

@@ -16,17 +16,35 @@ const PAIRS: &str = "g,v\nb,1\na,2\nb,0\na,1\n";
 #[test]
 fn answers_worked_rows(rt: HostRuntime) -> Result<(), Fail> {
     let runs = [
-        (Run::of("merge g 2", PAIRS), 0, "g,v\na,2\na,1\nb,1\nb,0\n", ""),
-        (Run::of("merge v,g 0", PAIRS), 0, "g,v\nb,0\na,1\nb,1\na,2\n", ""),
+        (
+            Run::of("merge g 2", PAIRS),
+            0,
+            "g,v\na,2\na,1\nb,1\nb,0\n",
+            "",
+        ),
+        (
+            Run::of("merge v,g 0", PAIRS),
+            0,
+            "g,v\nb,0\na,1\nb,1\na,2\n",
+            "",
+        ),
         // Quotes, a comma and an end of line in fields; bytes are compared, and a front comes before what is longer.
         (
-            Run::of("merge g 1", "g,v\r\n\"b\nc\",1\r\nb,\"2,0\"\r\n\"\",\"a\"\"b\"\r\nB,3\r\n"),
+            Run::of(
+                "merge g 1",
+                "g,v\r\n\"b\nc\",1\r\nb,\"2,0\"\r\n\"\",\"a\"\"b\"\r\nB,3\r\n",
+            ),
             0,
             "g,v\n,\"a\"\"b\"\nB,3\nb,\"2,0\"\n\"b\nc\",1\n",
             "",
         ),
         (Run::of("merge g 3", "g,v\n"), 0, "g,v\n", ""),
-        (Run::of("merge w 1", PAIRS), 2, "", "pargather: no column w\n"),
+        (
+            Run::of("merge w 1", PAIRS),
+            2,
+            "",
+            "pargather: no column w\n",
+        ),
         (Run::of("merge g 1", ""), 2, "", "pargather: no header\n"),
         (Run::of("merge g", PAIRS), 2, "", MERGE_USAGE),
         (Run::of("merge", PAIRS), 2, "", MERGE_USAGE),
@@ -140,7 +158,10 @@ fn all_are_at_work_at_once(rt: HostRuntime) -> Result<(), Fail> {
     let gate = Meeting::of_three();
     let text = lines(alloc, "g\n", "a\n", 768)?;
     let (written, ran) = in_order(&rt, alloc, "merge g 2", text, &gate)?;
-    assert_eq!(rt; written.as_slice(), lines(alloc, "g\n", "a\n", 768)?.as_slice());
+    assert_eq!(rt;
+        written.as_slice(),
+        lines(alloc, "g\n", "a\n", 768)?.as_slice()
+    );
     assert!(rt; !gate.was_late());
     let Some(Ran::Merge(merged)) = &ran else {
         return Err(Fail::new("nothing is said of the run"));

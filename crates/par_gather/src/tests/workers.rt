@@ -57,7 +57,12 @@ impl Gate for Meeting {
 }
 
 /// A line that stands so many times, behind a header.
-pub(super) fn lines(alloc: Global, header: &str, line: &str, count: u32) -> Result<Vec<u8>, AllocError> {
+pub(super) fn lines(
+    alloc: Global,
+    header: &str,
+    line: &str,
+    count: u32,
+) -> Result<Vec<u8>, AllocError> {
     let mut text = Vec::from_slice(alloc, header.as_bytes())?;
     for _ in 0..count {
         text.extend_from_slice(line.as_bytes())?;

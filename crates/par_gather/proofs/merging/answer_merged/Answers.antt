@@ -1,6 +1,7 @@
-use Rattle.std.proofs.Common.{rules, ◌≡◌, ◌∙◌, ℕ, List, IfSome, [], take}
+use Rattle.std.proofs.Common.{rules, ◌≡◌, ◌∙◌, ℕ, List, IfSome, [], subst, take}
 use Rattle.std.specs.Io.KnownBytes.{Appends}
 use Rattle.csv_rows.specs.Records.{record_at}
+use Rattle.gather_merge.specs.Used.{IsUsed}
 use Rattle.plan_spec.specs.Merging.{merge_of}
 use Rattle.par_gather.specs.Answers.{texts}
 use Rattle.par_gather.specs.Forms.{plan_in}
@@ -14,7 +15,7 @@ use Rattle.par_gather.proofs.Refusals.{refused_in-none}
 use Rattle.par_gather.proofs.merging.answer_merged.Goals as goal
 
 pub merge-requires-clause-plan : goal.merge-requires-clause-plan
-merge-requires-clause-plan g c =
+merge-requires-clause-plan g c κs within =
     let ready = c.in_ok-ready.ready in
     orders_rows (texts c.args.words.now) ready.plan (record_at ready.rows 0) ready.bound c.in_ok-ready.ensures.ready.query c.in_ok-ready.ensures.ready.bound.is
 
@@ -58,5 +59,7 @@ returns-clause-rows g c =
 
 pub returns-clause-merged : goal.returns-clause-merged
 returns-clause-merged g c =
-    merged_written (merge_of (texts c.args.words.now)) (g.S.Source.left c.args.source.now) c.in_ok-ready.ready c.in-Ok.merged (g.O.Sink.taken c.args.out.now) (g.O.Sink.taken c.write_rows.new.out) c.in_ok-ready.ensures.ready
-    c.in-Ok.ensures.used c.in-Ok.ensures.order c.in_ok-write_rows.ensures.rows
+    let ready = c.in_ok-ready.ready in
+    let Used : ℕ → Type 0 = λ workers. IsUsed ready.bound ready.rows workers c.in-Ok.merged.finished in
+    merged_written (merge_of (texts c.args.words.now)) (g.S.Source.left c.args.source.now) ready c.in-Ok.merged (g.O.Sink.taken c.args.out.now) (g.O.Sink.taken c.write_rows.new.out) c.in_ok-ready.ensures.ready
+    (subst Used c.workers.ensures.value c.in-Ok.ensures.used) c.in-Ok.ensures.order c.in_ok-write_rows.ensures.rows
