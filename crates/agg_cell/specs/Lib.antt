@@ -1,0 +1,3 @@
+pub mod Words
+pub mod ReadBack
+pub mod Cell
