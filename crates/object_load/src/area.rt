@@ -1,0 +1,106 @@
+//! A shared area, of which all threads take chunks and give them back.
+
+ghost use Rattle.std.specs.Prelude.{◌≡◌, ◌<◌, ◌≤◌, IfOk};
+ghost use Rattle.dsa_area.specs.Shown.{AreAll, Belongs, IsArea, callers_of};
+
+use crate::counts::sum_of;
+use dsa_area::{Area, AreaPass, area_words};
+use region_words::Region;
+use std::alloc::{AllocError, Global};
+use std::sync::Wait;
+use std::thread::{Threads, map_vec};
+
+/// The pages of the area whose chunks are timed: 16 MiB.
+const PAGES: u32 = 4096;
+
+/// A region with an area of so many pages behind its first word, and a pass for each caller.
+#[tactic(auto, using(word_map::proofs::Maps::answers, std::proofs::lemmas::Bool::Decides::nat_tests))]
+pub fn area_for(
+    alloc: Global,
+    pages: u32,
+    callers: u32,
+) -> Result<(Region, Area, Vec<AreaPass>), AllocError>
+    requires few { pages ≤ 65536 }
+    requires callers { 1 ≤ callers }
+    ensures area { IfOk result (λ a. IsArea a.0 a.1) }
+    ensures callers { IfOk result (λ a. callers_of a.1 ≡ callers) }
+    ensures passes { IfOk result (λ a. AreAll a.1 a.2.items) }
+{
+    let words = area_words(pages);
+    let (region, mut part) = Region::new(alloc, words as usize + 1)?;
+    let chunk = part.split_chunk(&region, 1, words);
+    let (area, passes) = Area::new(alloc, &region, chunk, pages, callers)?;
+    Ok((region, area, passes))
+}
+
+/// Takes a chunk, writes its first word and gives it back. Says whether the area gave it and took it.
+fn take_and_give<R: Wait>(
+    rt: &R,
+    area: &Area,
+    r: &Region,
+    pass: &mut AreaPass,
+    bytes: u64,
+    number: u64,
+) -> bool
+    requires area { IsArea r.now area.now }
+    requires own { Belongs area.now pass.old }
+    requires some { 8 ≤ bytes }
+    requires few { bytes ≤ 1000000 }
+    ensures own { Belongs area.now pass.new }
+{
+    let Ok(mut chunk) = area.alloc(rt, r, pass, bytes) else {
+        return false;
+    };
+    chunk.store(r, 0, number);
+    area.free(rt, r, pass, chunk).is_ok()
+}
+
+/// The same so many times. Says how often the area gave the chunk and took it.
+fn pairs<R: Wait>(
+    rt: &R,
+    area: &Area,
+    r: &Region,
+    mut pass: AreaPass,
+    bytes: u64,
+    calls: u64,
+) -> u64
+    requires area { IsArea r.now area.now }
+    requires own { Belongs area.now pass }
+    requires some { 8 ≤ bytes }
+    requires few { bytes ≤ 1000000 }
+    ensures { result ≤ calls }
+{
+    let mut good = 0;
+    for number in 0..calls {
+        if take_and_give(rt, area, r, &mut pass, bytes, number) {
+            good += 1;
+        }
+    }
+    good
+}
+
+/// Has so many threads take and give back so many chunks each, of so many bytes. Says how often the area gave one and
+/// took it.
+pub fn area_load<R: Threads + Wait + Sync>(
+    rt: &R,
+    alloc: Global,
+    threads: u32,
+    calls: u64,
+    bytes: u64,
+) -> Result<u64, AllocError>
+    requires some { 1 ≤ threads }
+    requires bytes { 8 ≤ bytes }
+    requires bytes_few { bytes ≤ 1000000 }
+{
+    let (region, area, passes) = area_for(alloc, PAGES, threads)?;
+    let here = &region;
+    let shared = &area;
+    let good = map_vec(
+        rt,
+        passes,
+        &|pass: AreaPass| -> u64
+            requires { IsArea here.now shared.now × Belongs shared.now pass × (8 ≤ bytes) × (bytes ≤ 1000000) }
+        { pairs(rt, shared, here, pass, bytes, calls) },
+    )?;
+    Ok(sum_of(good.as_slice()))
+}
