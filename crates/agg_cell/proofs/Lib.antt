@@ -1,1 +1,6 @@
 pub mod Written
+pub mod Runs
+pub mod Combining
+pub mod Permuted
+pub mod Orders
+pub mod Rows

@@ -8,10 +8,12 @@
 #![tactic(auto)]
 
 mod cell;
+mod laws;
 mod words;
 
 #[cfg(test)]
 mod tests;
 
 pub use cell::AggObject;
+pub use laws::{any_order, cells_combine, groups_combine, parts_combine};
 pub use words::STATE_WORDS;

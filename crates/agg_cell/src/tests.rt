@@ -1,5 +1,7 @@
 //! What no clause says: the layout as it is written out by hand, and the table's size of an item with such a cell.
 
+mod table;
+
 use crate::{AggObject, STATE_WORDS};
 use dshash_core::{CellObject, item_bytes};
 use par_model::{AggState, NO_VALUES, SlotState};
