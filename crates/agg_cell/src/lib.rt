@@ -9,10 +9,9 @@
 
 mod cell;
 mod laws;
-mod words;
-
 #[cfg(test)]
 mod tests;
+mod words;
 
 pub use cell::AggObject;
 pub use laws::{any_order, cells_combine, groups_combine, parts_combine};

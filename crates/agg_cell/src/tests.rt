@@ -1,5 +1,7 @@
 //! What no clause says: the layout as it is written out by hand, and the table's size of an item with such a cell.
 
+ghost use Rattle.std.specs.Prelude.{◌≡◌, length};
+
 mod table;
 
 use crate::{AggObject, STATE_WORDS};
@@ -48,14 +50,16 @@ fn words_of_a_state(rt: HostRuntime) -> Result<(), Fail> {
     Ok(())
 }
 
-/// Calls of one key, as the table makes them: a cell made and one added to, each time through the words.
+/// Two calls of one key, as the table makes them: a cell is made and added to, each time through its words.
 fn called<O: CellObject>(words: &mut [u64], first: &O::Call, second: &O::Call) -> Option<O::State>
     requires { length words.old ≡ O.VALUE_WORDS }
 {
-    let (state, _reply) = O::step(None, first);
-    O::encode(&state?, words);
-    let (state, _reply) = O::step(Some(&O::decode(words)), second);
-    O::encode(&state?, words);
+    let nothing: Option<O::State> = None;
+    let (made, _reply) = O::step(nothing.as_ref(), first);
+    O::encode(&made?, words);
+    let before = O::decode(words);
+    let (added, _reply) = O::step(Some(&before), second);
+    O::encode(&added?, words);
     Some(O::decode(words))
 }
 
@@ -64,7 +68,15 @@ fn a_cell_is_the_state_of_all_that_was_called(rt: HostRuntime) -> Result<(), Fai
     let mut words = [0u64; STATE_WORDS];
     let state = called::<AggObject>(&mut words, &one_row(), &two_rows()).ok_or("no cell")?;
     assert_eq!(rt; state.rows, 3);
-    assert!(rt; state.slots[0] == SlotState { count: 3, sum: i128::from(i64::MIN) + 6, least: i64::MIN, greatest: 7 });
+    assert!(rt;
+        state.slots[0]
+            == SlotState {
+                count: 3,
+                sum: i128::from(i64::MIN) + 6,
+                least: i64::MIN,
+                greatest: 7
+            }
+    );
     assert!(rt; state.slots[7] == two_rows().slots[7]);
     assert!(rt; state.slots[1] == NO_VALUES);
     Ok(())
