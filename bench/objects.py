@@ -1,30 +1,17 @@
 #!/usr/bin/env python3
 """Times calls of the shared objects by several threads beside the same loads in plain Rust, each kind on its own.
 
-usage: objects.py [--kinds lock,area,queue,puts,gets] [--times 5] [--save FILE.json]
+usage: objects.py [--kinds lock,area,window,queue,puts,gets] [--times 5] [--calls PERCENT] [--save FILE.json]
 
-lock   a call adds 1 to a number behind a lock of lock_book; beside a Mutex
-area   a call allocates 24 or 600 bytes of an area of 4,096 pages, writes a word and frees them; beside the system's
-       allocator, and jemalloc (Debian's libjemalloc2, preloaded) where it is installed
-queue  a call is a message of 8 or 1,000 bytes from one thread to another over a ring of 64 KiB; beside a sync_channel of
-       vectors and a plain ring of as many bytes
-puts   a call puts a new key into a hash table (Dshash) and, once the table has 1,000 or 1,000,000 keys, deletes the oldest
-       before; beside a HashMap behind one mutex and 128 of them, each behind its own
-gets   a call gets a present key of 1,000 or 1,000,000; beside the same
-
-All are whole runs of a program: the least wall time with many calls, less the least with few, by the number of calls of all
-threads together. Each program runs once before any runs a second time, so that what else the machine does falls on all
-alike: trust the ratios of one run, not its nanoseconds. The program and its peers have to print the same line.
-
-ns         wall time a call, of all threads' calls together; and our time over the peer's, above 1 where the peer is faster
-processor  the same of user and system time, which a thread that waits awake spends too
-
-The program is crates/object_load/out/object_load, as `.ci/run` or `rt run` leaves it, or the path in OBJECT_LOAD. The
-peers (objects.rs, by rustc) lie in BENCH_DIR, or /tmp/lembokuj-bench.
+The loads, their peers and what the columns mean are in docs/PERFORMANCE.md, "The shared objects by themselves". `--calls 1`
+makes a hundredth of the calls, which shows that all runs and measures nothing. The program is
+crates/object_load/out/object_load, or the path in OBJECT_LOAD; the peers (objects.rs, by rustc) lie in BENCH_DIR, or
+/tmp/lembokuj-bench.
 """
 import argparse
 import json
 import os
+import shutil
 import subprocess
 import sys
 import time
@@ -49,7 +36,7 @@ class Load:
 
     @property
     def name(self):
-        unit = {"lock": "", "area": f", {self.size:,} bytes", "queue": f", {self.size:,} bytes"}.get(self.kind, f", {self.size:,} keys")
+        unit = "" if self.kind == "lock" else f", {self.size:,} {'keys' if self.kind in ('puts', 'gets') else 'bytes'}"
         return f"{self.kind}{unit}, {self.threads} thread{'s' if self.threads > 1 else ''}"
 
     @property
@@ -65,21 +52,31 @@ class Program:
     preload: str = ""
 
 
-def loads(kinds):
+KINDS = ["lock", "area", "window", "queue", "puts", "gets"]
+
+
+def loads(kinds, percent):
     listed = [Load("lock", threads, 4_000_000 // threads, 1, 8) for threads in SEVERAL + [8, 64]]
-    listed += [Load("area", threads, 2_000_000 // threads, 1, size) for size in (24, 600) for threads in SEVERAL]
+    listed += [Load(kind, threads, 2_000_000 // threads, 1, size) for kind in ("area", "window") for size in (24, 600) for threads in SEVERAL]
     listed += [Load("queue", 2, 2_000_000 if size == 8 else 300_000, 1, size) for size in (8, 1000)]
     listed += [Load("puts", threads, 1_000_000 // threads, 1, size) for size in (1_000, 1_000_000) for threads in SEVERAL]
     listed += [Load("gets", threads, 1_000_000 // threads, 1, size) for size in (1_000, 1_000_000) for threads in SEVERAL]
+    for load in listed:
+        load.many = max(load.many * percent // 100, 2)
     return [load for load in listed if load.kind in kinds]
 
 
 def programs(kind):
+    allocators = [("system's allocator", "system", "")] + ([("jemalloc", "system", JEMALLOC)] if os.path.exists(JEMALLOC) else [])
+    maps = [("HashMap, 1 mutex", "one", ""), ("HashMap, 128 mutexes", "many", "")]
     peers = {
         "lock": [("Mutex", "mutex", "")],
-        "area": [("system's allocator", "system", "")] + ([("jemalloc", "system", JEMALLOC)] if os.path.exists(JEMALLOC) else []),
+        "area": allocators,
+        "window": allocators,
         "queue": [("sync_channel", "channel", ""), ("plain ring", "ring", "")],
-    }.get(kind, [("HashMap, 1 mutex", "one", ""), ("HashMap, 128 mutexes", "many", "")])
+        "puts": maps,
+        "gets": maps,
+    }[kind]
     return [Program("ours", [OURS])] + [Program(name, [PEERS, form], preload) for name, form, preload in peers]
 
 
@@ -128,19 +125,34 @@ def show(load, results):
         print(f"    {name:22}{'   '.join(columns)}", flush=True)
 
 
+def build_peers():
+    """Builds objects.rs, or says what is missing for it."""
+    if not shutil.which("rustc"):
+        sys.exit("no rustc on the path: it builds the peers (bench/objects.rs); Debian has it in the package rustc")
+    os.makedirs(FOLDER, exist_ok=True)
+    if subprocess.run(["rustc", "--edition", "2021", "-O", "-o", PEERS, f"{HERE}/objects.rs"]).returncode:
+        sys.exit(f"rustc did not build {HERE}/objects.rs")
+
+
 def main():
     words = argparse.ArgumentParser(usage=__doc__.split("usage: ")[1].split("\n")[0])
-    words.add_argument("--kinds", default="lock,area,queue,puts,gets")
+    words.add_argument("--kinds", default=",".join(KINDS))
     words.add_argument("--times", type=int, default=5)
+    words.add_argument("--calls", type=int, default=100)
     words.add_argument("--save")
     asked = words.parse_args()
-    if not os.path.exists(OURS):
-        sys.exit(f"no program at {OURS}: build it by .ci/run, or name it in OBJECT_LOAD")
-    os.makedirs(FOLDER, exist_ok=True)
-    subprocess.run(["rustc", "-O", "-o", PEERS, f"{HERE}/objects.rs"], check=True)
-    print(f"{os.cpu_count()} processors, load {os.getloadavg()[0]:.1f}")
+    kinds = asked.kinds.split(",")
+    unknown = [kind for kind in kinds if kind not in KINDS]
+    if unknown or asked.times < 1 or asked.calls < 1:
+        words.error(f"no such kind: {', '.join(unknown)}" if unknown else "--times and --calls are at least 1")
+    if not os.access(OURS, os.X_OK):
+        sys.exit(f"no program at {OURS}: `rt run` in crates/object_load or .ci/run builds it; OBJECT_LOAD names another place")
+    build_peers()
+    print(f"{os.cpu_count()} processors, load {os.getloadavg()[0]:.1f}, {asked.times} runs each, {asked.calls} % of the calls")
+    if not os.path.exists(JEMALLOC):
+        print(f"without jemalloc: {JEMALLOC} is not there (Debian's libjemalloc2)")
     saved = {}
-    for load in loads(asked.kinds.split(",")):
+    for load in loads(kinds, asked.calls):
         saved[load.name] = measured(load, asked.times)
         show(load, saved[load.name])
     print(f"load at the end {os.getloadavg()[0]:.1f}")

@@ -1,9 +1,8 @@
 //! The loads of the program `object_load`, made with what plain Rust has: `objects FORM KIND THREADS CALLS SIZE` makes
 //! one shared object, lets so many threads make so many calls each, and prints the line that `object_load` prints.
 //!
-//! lock: `mutex`, a `Mutex<u64>`. area: `system`, the system's allocator, or one that is preloaded. queue: `channel`, a
-//! `sync_channel` of vectors, and `ring`, a ring of 64 KiB for one sender and one receiver. puts, gets: `one`, a
-//! `HashMap` behind one mutex, and `many`, 128 of them, each behind its own.
+//! The forms are `mutex` of the lock, `system` of area and window (the system's allocator, or one that is preloaded),
+//! `channel` and `ring` of the queue, `one` and `many` of puts and gets. docs/PERFORMANCE.md says what each load is.
 use std::alloc::{alloc, dealloc, Layout};
 use std::cell::UnsafeCell;
 use std::collections::HashMap;
@@ -14,6 +13,7 @@ use std::sync::Mutex;
 use std::thread;
 
 const RING_BYTES: usize = 65536;
+const WINDOW: usize = 100;
 const SPREAD: u64 = 0x9E37_79B9_7F4A_7C15;
 
 /// Runs the work in so many threads, each with its number, and adds up what they counted.
@@ -52,6 +52,26 @@ fn area(threads: u64, calls: u64, size: u64) -> u64 {
             }
         }
         good
+    })
+}
+
+/// A hundred chunks are live at once: each call allocates one, writes its first word, and frees the one that was allocated
+/// a hundred calls before.
+fn window(threads: u64, calls: u64, size: u64) -> u64 {
+    let layout = Layout::from_size_align(size as usize, 8).unwrap();
+    let take = |number: u64| unsafe {
+        let at = black_box(alloc(layout)) as *mut u64;
+        assert!(!at.is_null());
+        *at = number;
+        at
+    };
+    in_threads(threads, |_| {
+        let mut held: Vec<*mut u64> = (0..WINDOW).map(|number| take(number as u64)).collect();
+        for number in 0..calls {
+            let old = std::mem::replace(&mut held[number as usize % WINDOW], take(number));
+            unsafe { dealloc(black_box(old as *mut u8), layout) }
+        }
+        calls
     })
 }
 
@@ -236,6 +256,7 @@ fn main() {
     let told = match (words[0].as_str(), words[1].as_str()) {
         ("mutex", "lock") => format!("{all} calls, value {}", lock(threads, calls)),
         ("system", "area") => format!("{all} pairs of {size} bytes, {} good", area(threads, calls, size)),
+        ("system", "window") => format!("{all} pairs of {size} bytes, {} good", window(threads, calls, size)),
         ("channel", "queue") => format!("{calls} messages of {size} bytes, {} came", channel(calls, size)),
         ("ring", "queue") => format!("{calls} messages of {size} bytes, {} came", ring(calls, size)),
         ("one" | "many", "puts") => format!("{all} puts on {size} keys, {} new", puts(parts, threads, calls, size)),

@@ -1,6 +1,6 @@
--- What holds of each element of a list, and one that is taken off its end or put there.
-use Rattle.std.proofs.Common.{◌≡◌, ℕ, ◌+◌, List, [], ◌∷◌, ◌++◌, length, length-append, refl, sym, ap, ◌∙◌, subst, ⊎_elim}
-use mathlib.Core.Option.{some}
+-- What holds of each element of a list, and one that is taken off its end, put there, or read.
+use Rattle.std.proofs.Common.{◌≡◌, ℕ, zero, suc, ◌+◌, ◌<◌, List, [], ◌∷◌, ◌++◌, length, length-append, get_or, refl, sym, ap, ◌∙◌, subst, ⊎_elim, arith}
+use mathlib.Core.Option.{some, some-injective, some-ne-none}
 use lib.ListN.{get_elem?}
 use Rattle.atomic_table.proofs.Lists.{at_last, at_longer, at_snoc}
 
@@ -18,3 +18,9 @@ module _ {A : Type 0} where
 
   pub one_more : (all front : List A) (last : A) → all ≡ front ++ last ∷ [] → length all ≡ length front + 1
   one_more all front last e = ap length e ∙ length-append front (last ∷ [])
+
+  -- what stands at a place is read there
+  pub read_at : (l : List A) (i : ℕ) (a : A) → get_elem? l i ≡ some a → (i < length l) × (a ≡ get_or l i a)
+  read_at [] i a e = absurd (some-ne-none a (sym e))
+  read_at (x ∷ xs) zero a e = (omega arith, sym (some-injective x a e))
+  read_at (x ∷ xs) (suc i) a e = let r = read_at xs i a e in (omega (arith, r.0), r.1)

@@ -3,12 +3,13 @@
 //! It is what `bench/objects.py` times: it takes no time itself, and prints one line that no schedule changes, with
 //! what it was asked and how many of the calls went as they have to.
 //!
-//! `words` reads what is asked; `lock`, `area`, `queue` and `table` are the loads, a file a kind of object; `number` is
-//! what the table keeps under a key, and `counts` adds up what the threads counted.
+//! `words` reads what is asked; `lock`, `area`, `queue` and `table` are the loads, a file a kind of object; `counter` is
+//! what stands behind the lock, `number` what the table keeps under a key, and `counts` adds up what the threads counted.
 
 #![tactic(auto)]
 
 mod area;
+mod counter;
 mod counts;
 mod lock;
 mod number;
@@ -18,7 +19,7 @@ mod table;
 mod tests;
 mod words;
 
-use crate::area::area_load;
+use crate::area::{area_load, window_load};
 use crate::lock::lock_load;
 use crate::queue::queue_load;
 use crate::table::{gets_load, puts_load};
@@ -34,9 +35,9 @@ use std::thread::Threads;
 const WRONG_WORDS: u8 = 2;
 
 /// How the program is called.
-const USAGE: &str = "usage: object_load lock|area|queue|puts|gets THREADS CALLS [SIZE]
-each of 1 to 64 THREADS makes CALLS calls, up to 2^32; SIZE is 8 to 1000000: the bytes of a chunk (area) or of a message
-(queue, which takes 2 threads), or the keys of the table (puts, gets)";
+const USAGE: &str = "usage: object_load lock|area|window|queue|puts|gets THREADS CALLS [SIZE]
+each of 1 to 64 THREADS makes CALLS calls, up to 2^32; SIZE is 8 to 1000000: the bytes of a chunk (area, window) or of a
+message (queue, which takes 2 threads), or the keys of the table (puts, gets)";
 
 /// The words after the program's name. Where one is no UTF-8 there are none.
 fn given_words(rt: &HostRuntime) -> io::Result<Vec<String>> {
@@ -70,6 +71,10 @@ fn line<R: Threads + Wait + Sync>(rt: &R, alloc: Global, load: Load) -> Result<S
         Kind::Area => {
             let good = area_load(rt, alloc, threads, calls, size)?;
             format!(in alloc; "area: {threads} threads, {all} pairs of {size} bytes, {good} good")
+        }
+        Kind::Window => {
+            let good = window_load(rt, alloc, threads, calls, size)?;
+            format!(in alloc; "window: {threads} threads, {all} pairs of {size} bytes, {good} good")
         }
         Kind::Queue => {
             let came = queue_load(rt, alloc, calls, size)?;

@@ -1,6 +1,6 @@
 //! Each load run small.
 
-use crate::area::area_load;
+use crate::area::{area_load, window_load};
 use crate::lock::lock_load;
 use crate::queue::queue_load;
 use crate::table::{gets_load, puts_load};
@@ -13,6 +13,7 @@ fn each_call_goes_as_it_has_to(rt: HostRuntime) -> Result<(), Fail> {
     assert_eq!(rt; lock_load(&rt, rt.alloc(), 4, 500)?, 2000);
     assert_eq!(rt; area_load(&rt, rt.alloc(), 2, 500, 24)?, 1000);
     assert_eq!(rt; area_load(&rt, rt.alloc(), 2, 50, 10000)?, 100);
+    assert_eq!(rt; window_load(&rt, rt.alloc(), 2, 500, 600)?, 1000);
     assert_eq!(rt; queue_load(&rt, rt.alloc(), 1000, 8)?, 1000);
     assert_eq!(rt; queue_load(&rt, rt.alloc(), 200, 1000)?, 200);
     assert_eq!(rt; puts_load(&rt, rt.alloc(), 2, 500, 100)?, 1000);
@@ -34,6 +35,7 @@ fn is_load(alloc: Global, line: &str) -> Result<bool, AllocError> {
 fn wrong_words_are_told_from_a_load(rt: HostRuntime) -> Result<(), Fail> {
     for line in [
         "lock 2 1000",
+        "window 4 1000 24",
         "queue 2 10 1000",
         "puts 64 4294967296 1000000",
     ] {

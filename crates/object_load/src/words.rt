@@ -9,6 +9,8 @@ pub enum Kind {
     Lock,
     /// Each call allocates a chunk, writes a word of it and frees it.
     Area,
+    /// Each call allocates a chunk, writes a word of it and frees the one that was allocated a hundred calls before.
+    Window,
     /// Each call sends a message, or receives it.
     Queue,
     /// Each call puts a new key; with more keys than the table is to have, the thread's oldest goes first.
@@ -36,6 +38,7 @@ fn kind_of(word: &str) -> Option<Kind> {
     match word {
         "lock" => Some(Kind::Lock),
         "area" => Some(Kind::Area),
+        "window" => Some(Kind::Window),
         "queue" => Some(Kind::Queue),
         "puts" => Some(Kind::Puts),
         "gets" => Some(Kind::Gets),
