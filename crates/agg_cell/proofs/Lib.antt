@@ -4,3 +4,4 @@ pub mod Combining
 pub mod Permuted
 pub mod Orders
 pub mod Rows
+pub mod Callers

@@ -1,6 +1,6 @@
 -- The aggregates of a key in parts of the rows combine to those of all rows.
 use Rattle.std.proofs.Common.{◌≡◌, ◌<◌, ◌≤◌, ◌+◌, ◌-◌, ◌^◌, ◌++◌, ◌∙◌, ◌==◌, ◌&&◌, ℕ, zero, suc, Bool, true, false, List, [], ◌∷◌, Option, Some, None, All, length, map, filter, replicate, get_or, not, if◌then◌else◌, cond, ap, sym, refl, subst, arith, append_assoc, append-nil, length-append, bytes_eq}
-use Rattle.std.specs.List.{AllByRecursion, cons_option, filter_map, sum_by}
+use Rattle.std.specs.List.{AllByRecursion, cons_option, sum_by}
 use Rattle.std.proofs.lemmas.List.Elements.{All-append, All-cons, All-from_recursion, All-head, All-nil, All-tail}
 use Rattle.std.proofs.lemmas.List.Sums.{sum_by-cons}
 use Rattle.std.proofs.lemmas.List.{length-map}
@@ -13,12 +13,12 @@ use Rattle.par_model.specs.declared.plan.Item.{Item}
 use Rattle.par_model.specs.declared.plan.ItemKind.{ItemKind}
 use Rattle.par_model.specs.declared.plan.ItemKind.TheVariants as kind
 use Rattle.par_model.specs.declared.state.AggState.{AggState}
-use Rattle.partial_agg.specs.Groups.{group_of, joined}
+use Rattle.partial_agg.specs.Groups.{group_of}
 use Rattle.partial_agg.specs.Laws.{IsSettled, both}
 use Rattle.partial_agg.specs.Rows.{IsAccepted}
 use Rattle.partial_agg.proofs.Adding.{both-none, both-some, groups_add}
 use Rattle.partial_agg.proofs.Combining.{settles}
-use Rattle.agg_cell.specs.Called.{CountsFit, GroupsCombine, all_combined, all_rows, count_at, groups_in}
+use Rattle.agg_cell.specs.Called.{GroupsCombine, all_rows, count_at, groups_in}
 use Rattle.agg_cell.proofs.Orders.{any_order}
 use Rattle.agg_cell.proofs.Runs.{more, more-none}
 

@@ -1,5 +1,5 @@
 -- What the writes of a state leave in its words.
-use Rattle.std.proofs.Common.{◌≡◌, ◌<◌, ◌+◌, ◌-◌, ◌*◌, ◌++◌, ◌∙◌, ℕ, List, [], ◌∷◌, length, map, take, set, get_or, ap, sym, refl, arith, rules, append-nil, length-append}
+use Rattle.std.proofs.Common.{◌≡◌, ◌<◌, ◌+◌, ◌*◌, ◌++◌, ◌∙◌, ℕ, List, [], ◌∷◌, length, map, take, set, get_or, ap, sym, refl, arith, rules, append-nil, length-append}
 use Rattle.std.specs.List.{concat}
 use Rattle.std.proofs.lemmas.List.{map-append, places, take_all, take_more, take_more_set}
 use Rattle.std.proofs.lemmas.List.Folds.{concat-append}

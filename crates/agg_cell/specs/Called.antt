@@ -1,10 +1,11 @@
 -- What stands under a key of a table after its calls: the called states, all combined.
-use Rattle.std.specs.Prelude.{◌≡◌, ◌<◌, ◌≤◌, ◌^◌, ◌++◌, ℕ, List, [], ◌∷◌, All, Option, Some, None, fold, length, map, slice_index_or, sum_by}
+use Rattle.std.specs.Prelude.{◌≡◌, ◌<◌, ◌≤◌, ◌^◌, ◌++◌, ℕ, zero, suc, List, [], ◌∷◌, All, Option, Some, None, fold, length, map, slice_index_or, sum_by}
 use Rattle.std.specs.FinMap as fin
 use Rattle.std.specs.List.{filter_map, flat_map}
 use Rattle.std.specs.List.Sorted.{IsPermutation}
 use Rattle.lock_book.specs.declared.view.Entry.{Entry}
-use Rattle.lock_book.specs.History.{IsLegal, last_of}
+use Rattle.lock_book.specs.History.{IsLegal, calls_by, last_of}
+use Rattle.lock_book.specs.Told.{Histories}
 use Rattle.par_model.specs.Aggregate.{no_values}
 use Rattle.par_model.specs.Plan.{Plan}
 use Rattle.par_model.specs.declared.state.AggState.{AggState}
@@ -12,9 +13,12 @@ use Rattle.partial_agg.specs.Groups.{group_of}
 use Rattle.partial_agg.specs.Laws.{IsSettled, both}
 use Rattle.partial_agg.specs.Rows.{IsAccepted}
 use Rattle.partial_agg.specs.State.{combined}
+use Rattle.dshash_core.specs.Cells.{partition_of}
+use Rattle.dshash_core.specs.Key.{hash_of}
 use Rattle.dshash_parts.specs.Legal.{PartitionLegal}
 use Rattle.dshash_parts.specs.Replays.{calls_of_key}
 use Rattle.dshash_parts.specs.States.{PartitionState, fresh}
+use Rattle.dshash_parts.specs.Tables.{map_at}
 use Rattle.dshash_parts.specs.declared.histories.PartitionCalls.{PartitionCalls}
 use Rattle.dshash_parts.specs.declared.histories.PartitionReplies.{PartitionReplies}
 use Rattle.agg_cell.specs.Cell.{stepped}
@@ -31,6 +35,17 @@ History = List (Entry (PartitionState AggState) (PartitionCalls AggState) (Parti
 -- the states with which a key was called there, in order, where the call was made
 abbrev pub called : List ℕ → History → List AggState
 called key es = map (λ made. made.0) (calls_of_key key es)
+
+-- what a pass of the table has seen of the partitions
+abbrev pub Seen : Type 0
+Seen = Histories (PartitionState AggState) (PartitionCalls AggState) (PartitionReplies AggState (Unit {0}))
+
+-- what stands under a key after all that a pass has seen, and with what it has seen the key called
+abbrev pub stands : Seen → List ℕ → Option AggState
+stands seen key = fin.get (map_at seen (partition_of (hash_of key))) key
+
+abbrev pub called_in : Seen → List ℕ → List AggState
+called_in seen key = called key (seen (partition_of (hash_of key)))
 
 -- In each legal history of a partition, what stands under a key at last is all that it was called with
 abbrev pub CellsCombine : Type 0
@@ -64,3 +79,12 @@ groups_in plan parts key = filter_map (λ rows. group_of plan rows key) parts
 abbrev pub GroupsCombine : Type 0
 GroupsCombine = (plan : Plan) (width : ℕ) (parts : List (List (List (List ℕ)))) (key : List ℕ) (states : List AggState) → length plan.items ≤ 8 → All (IsAccepted plan width) (all_rows parts) → length (all_rows parts) < 2 ^ 64
     → IsPermutation (groups_in plan parts key) states → all_combined states ≡ group_of plan (all_rows parts) key
+
+-- with what the callers below a number have called a key: each caller's calls in order, one caller behind the other
+abbrev pub called_below : ℕ → List ℕ → History → List AggState
+called_below zero key es = []
+called_below (suc n) key es = called_below n key es ++ called key (calls_by n es)
+
+-- What a key was called with are the calls of all callers, each once
+abbrev pub CallersMakeAll : Type 0
+CallersMakeAll = (callers : ℕ) (key : List ℕ) (es : History) → ((n : ℕ) → callers ≤ n → calls_by n es ≡ []) → IsPermutation (called_below callers key es) (called key es)

@@ -1,6 +1,6 @@
 //! What stands under a key after its calls. Each function does nothing and promises a law.
 
-ghost use Rattle.agg_cell.specs.Called.{AnyOrder, CellsCombine, GroupsCombine, PartsCombine};
+ghost use Rattle.agg_cell.specs.Called.{AnyOrder, CallersMakeAll, CellsCombine, GroupsCombine, PartsCombine};
 
 /// In each legal history of a partition, what stands under a key at last is all that it was called with, combined.
 pub fn cells_combine()
@@ -20,4 +20,9 @@ pub fn parts_combine()
 /// The aggregates of a key in parts of the rows, each called once and in whatever order, combine to those of all rows.
 pub fn groups_combine()
     ensures { GroupsCombine }
+{}
+
+/// What a key was called with are the calls of all callers, each once.
+pub fn callers_make_all()
+    ensures { CallersMakeAll }
 {}

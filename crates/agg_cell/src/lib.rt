@@ -14,5 +14,5 @@ mod tests;
 mod words;
 
 pub use cell::AggObject;
-pub use laws::{any_order, cells_combine, groups_combine, parts_combine};
+pub use laws::{any_order, callers_make_all, cells_combine, groups_combine, parts_combine};
 pub use words::STATE_WORDS;

@@ -1,13 +1,15 @@
 //! A table of groups: what is called under a key twice stands there once, combined.
 
-ghost use Rattle.std.specs.Prelude.{◌≡◌, ◌≤◌, IfOk};
-ghost use Rattle.lock_book.specs.Shown.{number_of};
+ghost use Rattle.std.specs.Prelude.{◌≡◌, ◌≤◌, ◌++◌, ◌∷◌, [], ℕ, List, IfOk, OnOk, length};
+ghost use Rattle.lock_book.specs.Shown.{seen_of};
 ghost use Rattle.dsa_area.specs.Shown.{AreAll as AreAllOfArea, Belongs as AreaBelongs, IsArea, callers_of as area_callers};
 ghost use Rattle.dshash_parts.specs.Tables.{Belongs, IsTable, key_words_of};
+ghost use Rattle.par_model.specs.declared.state.AggState.{AggState};
+ghost use Rattle.agg_cell.specs.Called.{all_combined, called_in, stands};
 
 use super::{one_row, two_rows};
 use crate::AggObject;
-use dsa_area::{Area, AreaPass, area_words};
+use dsa_area::{Area, AreaPass, NoSpace, area_words};
 use dshash_core::Entry;
 use dshash_parts::{DsPass, Dshash};
 use par_model::AggState;
@@ -57,6 +59,31 @@ fn table_for_one<R: Wait>(
     Ok((region, area, table, apass, pass))
 }
 
+/// Calls a key with a state. What stands under each key then, as far as the pass has seen, is all that it was called
+/// with; of a call that had room, this state is the last.
+fn add<R: Wait>(
+    rt: &R,
+    table: &Dshash<AggObject>,
+    r: &Region,
+    area: &Area,
+    pass: &mut DsPass<AggObject>,
+    apass: &mut AreaPass,
+    key: &[u64],
+    state: &AggState,
+) -> Result<(), NoSpace>
+    requires table { IsTable r.now table.now }
+    requires key { length key.now ≡ key_words_of table.now }
+    requires own { Belongs table.now pass.old }
+    requires area { IsArea r.now area.now }
+    requires area_own { AreaBelongs area.now apass.old }
+    ensures own { Belongs table.now pass.new }
+    ensures area_own { AreaBelongs area.now apass.new }
+    ensures all { (k : List ℕ) → stands (seen_of pass.new) k ≡ all_combined (called_in (seen_of pass.new) k) }
+    ensures last { OnOk result ((before : List AggState) × (called_in (seen_of pass.new) key.now ≡ before ++ state.now ∷ [])) }
+{
+    table.call(rt, r, area, pass, apass, key, state)
+}
+
 /// Calls the keys from 0 on, so many of them, with a state. Says how many calls had room.
 fn call_all<R: Wait>(
     rt: &R,
@@ -79,7 +106,7 @@ fn call_all<R: Wait>(
 {
     let mut made = 0;
     for key in 0..keys {
-        if table.call(rt, r, area, pass, apass, &[key], state).is_ok() {
+        if add(rt, table, r, area, pass, apass, &[key], state).is_ok() {
             made += 1;
         }
     }

@@ -1,11 +1,7 @@
-use Rattle.std.proofs.Common.{◌≡◌, ◌<◌, ◌∙◌, ◌∷◌, ◌-◌, ◌^◌, length, set, ap, arith, get_or, subst, ℕ, List, Fits, w64, rules}
+use Rattle.std.proofs.Common.{◌≡◌, ◌∙◌, ◌∷◌, ◌-◌, length, set, ap, arith, get_or, subst, ℕ, List, Fits, w64, rules}
 use Rattle.std.proofs.lemmas.List.{places}
-use Rattle.std.specs.List.{concat}
-use Rattle.std.proofs.Common.{map}
-use Rattle.agg_cell.specs.Words.{slot_words}
 use Rattle.agg_cell.proofs.Written.{length-slots_words, written_whole}
 use Rattle.agg_cell.proofs.words.write_state.Goals as goal
-use borrow.Rule.Slice.PartMut.{put_mid}
 
 pub returns-clause-words : goal.returns-clause-words
 returns-clause-words c =
