@@ -51,6 +51,15 @@ called_in seen key = called key (seen (partition_of (hash_of key)))
 abbrev pub CellsCombine : Type 0
 CellsCombine = (number : ℕ) (key : List ℕ) (es : History) → IsLegal (λ _. PartitionLegal stepped number) fresh es → fin.get (last_of fresh es).cells key ≡ all_combined (called key es)
 
+-- with what the callers below a number have called a key: each caller's calls in order, one caller behind the other
+abbrev pub called_below : ℕ → List ℕ → History → List AggState
+called_below zero key es = []
+called_below (suc n) key es = called_below n key es ++ called key (calls_by n es)
+
+-- What a key was called with are the calls of all callers, each once
+abbrev pub CallersMakeAll : Type 0
+CallersMakeAll = (callers : ℕ) (key : List ℕ) (es : History) → ((n : ℕ) → callers ≤ n → calls_by n es ≡ []) → IsPermutation (called_below callers key es) (called key es)
+
 -- how many values a slot of a state has
 abbrev pub count_at : ℕ → AggState → ℕ
 count_at i state = (slice_index_or state.slots i no_values).count
@@ -79,12 +88,3 @@ groups_in plan parts key = filter_map (λ rows. group_of plan rows key) parts
 abbrev pub GroupsCombine : Type 0
 GroupsCombine = (plan : Plan) (width : ℕ) (parts : List (List (List (List ℕ)))) (key : List ℕ) (states : List AggState) → length plan.items ≤ 8 → All (IsAccepted plan width) (all_rows parts) → length (all_rows parts) < 2 ^ 64
     → IsPermutation (groups_in plan parts key) states → all_combined states ≡ group_of plan (all_rows parts) key
-
--- with what the callers below a number have called a key: each caller's calls in order, one caller behind the other
-abbrev pub called_below : ℕ → List ℕ → History → List AggState
-called_below zero key es = []
-called_below (suc n) key es = called_below n key es ++ called key (calls_by n es)
-
--- What a key was called with are the calls of all callers, each once
-abbrev pub CallersMakeAll : Type 0
-CallersMakeAll = (callers : ℕ) (key : List ℕ) (es : History) → ((n : ℕ) → callers ≤ n → calls_by n es ≡ []) → IsPermutation (called_below callers key es) (called key es)
