@@ -120,8 +120,9 @@ def show(load, results):
     for name, each in results.items():
         columns = []
         for part in ("ns", "processor"):
-            ours = "" if name == "ours" or not each[part] else f"{results['ours'][part] / each[part]:.2f}"
-            columns.append(f"{each[part]:9.1f} {part} {ours:>6}")
+            ours = results["ours"][part]
+            ratio = f"{ours / each[part]:.2f}" if name != "ours" and ours and each[part] else ""
+            columns.append(f"{each[part]:9.1f} {part} {ratio:>6}")
         print(f"    {name:22}{'   '.join(columns)}", flush=True)
 
 
