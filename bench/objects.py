@@ -19,7 +19,7 @@ from dataclasses import dataclass
 
 HERE = os.path.dirname(os.path.abspath(__file__))
 FOLDER = os.environ.get("BENCH_DIR", "/tmp/lembokuj-bench")
-OURS = os.environ.get("OBJECT_LOAD", f"{HERE}/../crates/object_load/out/object_load")
+OURS = os.environ.get("OBJECT_LOAD", os.path.normpath(f"{HERE}/../crates/object_load/out/object_load"))
 PEERS = f"{FOLDER}/objects"
 JEMALLOC = "/usr/lib/x86_64-linux-gnu/libjemalloc.so.2"
 SEVERAL = [1, 2, 4]
