@@ -25,7 +25,7 @@ slots_count i (a ∷ slots) [] = omega arith
 slots_count zero (a ∷ slots) (b ∷ others) = omega arith
 slots_count (suc i) (a ∷ slots) (b ∷ others) = slots_count i slots others
 
-count-combined : (i : ℕ) (a b : AggState) → count_at i (combined a b) ≤ count_at i a + count_at i b
+pub count-combined : (i : ℕ) (a b : AggState) → count_at i (combined a b) ≤ count_at i a + count_at i b
 count-combined i a b = slots_count i a.slots b.slots
 
 count-both : (i : ℕ) (a b : Option AggState) → count_in i (both a b) ≤ count_in i a + count_in i b
@@ -39,7 +39,7 @@ count-gathered i (state ∷ states) = omega (arith, count-both i (Some state) (g
 
 -- ---- associative
 
-three_fit : (as' bs cs : List SlotState) → ((i : ℕ) → (get_or as' i no_values).count + (get_or bs i no_values).count + (get_or cs i no_values).count < 2 ^ 64) → ThreeFit as' bs cs
+pub three_fit : (as' bs cs : List SlotState) → ((i : ℕ) → (get_or as' i no_values).count + (get_or bs i no_values).count + (get_or cs i no_values).count < 2 ^ 64) → ThreeFit as' bs cs
 three_fit [] bs cs h = tt
 three_fit (a ∷ as') [] cs h = tt
 three_fit (a ∷ as') (b ∷ bs) [] h = tt

@@ -5,3 +5,4 @@ pub mod Permuted
 pub mod Orders
 pub mod Rows
 pub mod Callers
+pub mod AtOnce

@@ -2,6 +2,7 @@
 use Rattle.std.specs.Prelude.{◌≡◌, ◌<◌, ◌≤◌, ◌^◌, ◌++◌, ℕ, zero, suc, List, [], ◌∷◌, All, Option, Some, None, fold, length, map, slice_index_or, sum_by}
 use Rattle.std.specs.FinMap as fin
 use Rattle.std.specs.List.{filter_map, flat_map}
+use Rattle.std.specs.Option.{option_to_list}
 use Rattle.std.specs.List.Sorted.{IsPermutation}
 use Rattle.lock_book.specs.declared.view.Entry.{Entry}
 use Rattle.lock_book.specs.History.{IsLegal, calls_by, last_of}
@@ -9,7 +10,7 @@ use Rattle.lock_book.specs.Told.{Histories}
 use Rattle.par_model.specs.Aggregate.{no_values}
 use Rattle.par_model.specs.Plan.{Plan}
 use Rattle.par_model.specs.declared.state.AggState.{AggState}
-use Rattle.partial_agg.specs.Groups.{group_of}
+use Rattle.partial_agg.specs.Groups.{GroupsByKey, added, group_of}
 use Rattle.partial_agg.specs.Laws.{IsSettled, both}
 use Rattle.partial_agg.specs.Rows.{IsAccepted}
 use Rattle.partial_agg.specs.State.{combined}
@@ -88,3 +89,12 @@ groups_in plan parts key = filter_map (λ rows. group_of plan rows key) parts
 abbrev pub GroupsCombine : Type 0
 GroupsCombine = (plan : Plan) (width : ℕ) (parts : List (List (List (List ℕ)))) (key : List ℕ) (states : List AggState) → length plan.items ≤ 8 → All (IsAccepted plan width) (all_rows parts) → length (all_rows parts) < 2 ^ 64
     → IsPermutation (groups_in plan parts key) states → all_combined states ≡ group_of plan (all_rows parts) key
+
+-- the map after these states were added under a key, one after another
+abbrev pub with_states : GroupsByKey → List ℕ → List AggState → GroupsByKey
+with_states groups key states = fold (λ so_far state. added so_far key state) groups states
+
+-- The combined state of some states, added once under a key, gives the map that these give: so an entry of a table
+-- stands for all that its key was called with
+abbrev pub AddsAtOnce : Type 0
+AddsAtOnce = (groups : GroupsByKey) (key : List ℕ) (states : List AggState) (state : AggState) → all_combined states ≡ Some state → CountsFit (option_to_list (fin.get groups key) ++ states) → added groups key state ≡ with_states groups key states

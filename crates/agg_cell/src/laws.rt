@@ -1,6 +1,6 @@
 //! What stands under a key after its calls. Each function does nothing and promises a law.
 
-ghost use Rattle.agg_cell.specs.Called.{AnyOrder, CallersMakeAll, CellsCombine, GroupsCombine, PartsCombine};
+ghost use Rattle.agg_cell.specs.Called.{AddsAtOnce, AnyOrder, CallersMakeAll, CellsCombine, GroupsCombine, PartsCombine};
 
 /// In each legal history of a partition, what stands under a key at last is all that it was called with, combined.
 pub fn cells_combine()
@@ -25,4 +25,9 @@ pub fn groups_combine()
 /// What a key was called with are the calls of all callers, each once.
 pub fn callers_make_all()
     ensures { CallersMakeAll }
+{}
+
+/// What an entry of a table adds to a map of groups is all that its key was called with, one state after another.
+pub fn adds_at_once()
+    ensures { AddsAtOnce }
 {}

@@ -14,5 +14,7 @@ mod tests;
 mod words;
 
 pub use cell::AggObject;
-pub use laws::{any_order, callers_make_all, cells_combine, groups_combine, parts_combine};
+pub use laws::{
+    adds_at_once, any_order, callers_make_all, cells_combine, groups_combine, parts_combine,
+};
 pub use words::STATE_WORDS;
