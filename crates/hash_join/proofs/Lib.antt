@@ -1,8 +1,12 @@
-mod Chaining
-mod Covering
-mod Entries
-mod Listing
-mod Parts
-mod Putting
-mod Seen
-mod Traced
+pub mod Entered
+pub mod Covering
+pub mod Covers
+pub mod Flattened
+pub mod Homes
+pub mod Gathers
+pub mod Entries
+pub mod Listing
+pub mod Parts
+pub mod Putting
+pub mod Seen
+pub mod Traced

@@ -22,7 +22,7 @@ use Rattle.gather_law.specs.Tuples.{Table}
 use Rattle.join_pairs.specs.Chains.{last_step}
 use Rattle.hash_join.specs.Filled.{RowEntry, calls_at, done_in, key_of, partition_at}
 use Rattle.join_pairs.specs.declared.chains.Link.{Link}
-use Rattle.hash_join.proofs.Chaining.{length-map, passed, some_calls}
+use Rattle.hash_join.proofs.Entered.{length-map, passed, some_calls}
 use Rattle.hash_join.proofs.Covering.{all_done, filter-map, links}
 use Rattle.hash_join.proofs.Entries.{KeysOnce}
 use Rattle.join_pairs.proofs.Filters.{filter-permutation}
@@ -70,11 +70,11 @@ module _ (records : Table) (column : ℕ) (history : ℕ → List RowEntry) (ps 
 -- ---- keys of several lists
 
 -- no key of the second list is one of the first
-abbrev KeysApart : List (List ℕ × ℕ) → List (List ℕ × ℕ) → Type 0
+abbrev pub KeysApart : List (List ℕ × ℕ) → List (List ℕ × ℕ) → Type 0
 KeysApart [] fs = Unit {0}
 KeysApart (e ∷ es) fs = AllByRecursion (λ (f : List ℕ × ℕ). f.0 ≢ e.0) fs × KeysApart es fs
 
-all_both : {X : Type 0} (P : X → Type 0) (xs ys : List X) → AllByRecursion P xs → AllByRecursion P ys → AllByRecursion P (xs ++ ys)
+pub all_both : {X : Type 0} (P : X → Type 0) (xs ys : List X) → AllByRecursion P xs → AllByRecursion P ys → AllByRecursion P (xs ++ ys)
 all_both P [] ys h k = k
 all_both P (x ∷ xs) ys h k = (h.0, all_both P xs ys h.1 k)
 
@@ -82,7 +82,7 @@ pub keys_together : (es fs : List (List ℕ × ℕ)) → KeysOnce es → KeysOnc
 keys_together [] fs h k a = k
 keys_together (e ∷ es) fs h k a = (all_both (λ (f : List ℕ × ℕ). f.0 ≢ e.0) es fs h.0 a.0, keys_together es fs h.1 k a.1)
 
-member_at : {X : Type 0} (P : X → Type 0) (xs : List X) (k : ℕ) (x : X) → slice_get xs k ≡ Some x → AllByRecursion P xs → P x
+pub member_at : {X : Type 0} (P : X → Type 0) (xs : List X) (k : ℕ) (x : X) → slice_get xs k ≡ Some x → AllByRecursion P xs → P x
 member_at P [] k x e h = absurd (cc)
 member_at P (y ∷ ys) zero x e h = let same : y ≡ x = cc in subst P same h.0
 member_at P (y ∷ ys) (suc k) x e h = member_at P ys k x e h.1

@@ -12,7 +12,7 @@ use Rattle.dshash_core.specs.Cells.{partition_of}
 use Rattle.dshash_core.specs.Chains.{Among}
 use Rattle.dshash_core.specs.Key.{hash_of}
 use Rattle.dshash_parts.specs.Promises.{IsCause, IsMade, IsRefused}
-use Rattle.dshash_parts.specs.Traces.{Asked, Event, Gave, Got, Missed, Request, Sight, Trace, Turn}
+use Rattle.dshash_parts.specs.Traces.{Asked, Event, Gave, Got, Missed, Request, Sight, Trace, Turn, turns_at}
 use Rattle.dshash_parts.specs.declared.histories.PartitionCalls.{PartitionCalls}
 use Rattle.dshash_parts.specs.declared.histories.PartitionCalls.TheVariants.{Call}
 use Rattle.dshash_parts.specs.declared.histories.PartitionReplies.{PartitionReplies}
@@ -26,7 +26,7 @@ use Rattle.join_pairs.specs.Blocks.{numbers_of_blocks}
 use Rattle.join_pairs.specs.declared.chains.Link.{Link}
 use Rattle.join_pairs.proofs.Anys.{any_cases, any_head, any_left, any_none, any_right, any_tail}
 use Rattle.join_pairs.proofs.Filters.{filter-not_one, filter-one}
-use Rattle.hash_join.proofs.Traced.{all_grew, all_lacks, done_by, done_map, made_done, misses, misses_among, none_done, turns_append, turns_at}
+use Rattle.hash_join.proofs.Traced.{all_grew, all_lacks, done_by, done_map, made_done, misses, misses_among, none_done, turns_append}
 
 -- ---- lists
 

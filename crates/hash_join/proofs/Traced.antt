@@ -20,7 +20,8 @@ use Rattle.dshash_core.specs.Chains.{Among}
 use Rattle.dshash_parts.specs.Promises.{HadToGrow, IsCause, IsMade, IsRefused, LackedItem}
 use Rattle.dshash_parts.specs.Legal.{PartitionLegal}
 use Rattle.dshash_parts.specs.States.{PartitionState, fresh}
-use Rattle.dshash_parts.specs.Traces.{AreGifts, Asked, Event, Gave, Got, Makes, Missed, NoneMade, Request, Requested, Sight, Trace, Turn}
+use Rattle.dshash_parts.specs.Traces.{AreGifts, Asked, Event, Gave, Got, Makes, Missed, NoneMade, Request, Requested, Sight, Trace, Turn, turns_at}
+use Rattle.dshash_parts.proofs.Uses.{did_turns}
 use Rattle.dshash_parts.specs.declared.histories.PartitionCalls.{PartitionCalls}
 use Rattle.dshash_parts.specs.declared.histories.PartitionCalls.TheVariants.{Call, Looks, Moves, Lists}
 use Rattle.dshash_parts.specs.declared.histories.PartitionReplies.{PartitionReplies}
@@ -49,12 +50,6 @@ pub done_map : (es : List RowEntry) → done_in es ≡ done_by (map (λ (e : Row
 done_map [] = refl
 done_map (e ∷ es) = ap (λ (l : List (List ℕ × Link)). done_of e.call e.reply ++ l) (done_map es)
 
--- the turns at a partition among some events
-abbrev pub turns_at : ℕ → List (Event ℕ ℕ ℕ) → List (PartitionCalls ℕ × PartitionReplies ℕ ℕ)
-turns_at k [] = []
-turns_at k (Turn number call reply ∷ es) = cond {A = List (PartitionCalls ℕ × PartitionReplies ℕ ℕ)} (number == k) ((call, reply) ∷ turns_at k es) (turns_at k es)
-turns_at k (Asked request ∷ es) = turns_at k es
-
 -- how many requests were refused among some events
 abbrev pub misses : List (Event ℕ ℕ ℕ) → ℕ
 misses [] = 0
@@ -68,44 +63,10 @@ pub record Grew (k : ℕ) (mine mine' : List RowEntry) (es : List (Event ℕ ℕ
   pub are : map (λ (e : RowEntry). (e.call, e.reply)) more ≡ turns_at k es
 
 module _ (step : Option ℕ → ℕ → Option ℕ × ℕ) (a : Area) (n : ℕ) where
-  -- of one event
-  one_grew : (k : ℕ) (v w : Sight ℕ ℕ ℕ) (e : Event ℕ ℕ ℕ) → Makes step a n v w e → Grew k (v.mine k) (w.mine k) (e ∷ [])
-  one_grew k v w (Turn number call reply) h =
-      dite {P = number ≡ k} (ℕ_discrete number k)
-      (λ same.
-          let g = own_grows (λ _. PartitionLegal step number) fresh n (v.seen number) (v.mine number) (w.seen number) (w.mine number) ((call, reply) ∷ []) h.0.here in
-          let is : turns_at k (Turn number call reply ∷ []) ≡ (call, reply) ∷ [] = ap (λ b. cond {A = List (PartitionCalls ℕ × PartitionReplies ℕ ℕ)} b ((call, reply) ∷ []) []) (let t : (number == k) ≡ true = grind (arith, same) in t) in
-          record { more = g.0; grows = subst (λ j. w.mine j ≡ v.mine j ++ g.0) same g.1; are = g.2 ∙ sym is })
-      (λ ne.
-          let g = own_grows (λ _. PartitionLegal step k) fresh n (v.seen k) (v.mine k) (w.seen k) (w.mine k) [] (h.0.others k (λ e. ne (sym e))) in
-          let is : turns_at k (Turn number call reply ∷ []) ≡ [] = ap (λ b. cond {A = List (PartitionCalls ℕ × PartitionReplies ℕ ℕ)} b ((call, reply) ∷ []) []) (let t : (number == k) ≡ false = grind (arith, ne) in t) in
-          record { more = g.0; grows = g.1; are = g.2 ∙ sym is })
-  one_grew k v w (Asked request) h = record { more = []; grows = ap (λ (f : ℕ → List RowEntry). f k) h.3 ∙ sym (append-nil (v.mine k)); are = refl }
-
-  turns_front : (k : ℕ) (e : Event ℕ ℕ ℕ) (es : List (Event ℕ ℕ ℕ)) → turns_at k (e ∷ es) ≡ turns_at k (e ∷ []) ++ turns_at k es
-  turns_front k (Turn number call reply) es = by (number == k)
-    where
-      by : (b : Bool) → cond {A = List (PartitionCalls ℕ × PartitionReplies ℕ ℕ)} b ((call, reply) ∷ turns_at k es) (turns_at k es)
-          ≡ cond {A = List (PartitionCalls ℕ × PartitionReplies ℕ ℕ)} b ((call, reply) ∷ []) [] ++ turns_at k es
-      by true = refl
-      by false = refl
-  turns_front k (Asked request) es = refl
-
-  map_both : (xs ys : List RowEntry) → map (λ (e : RowEntry). (e.call, e.reply)) (xs ++ ys) ≡ map (λ (e : RowEntry). (e.call, e.reply)) xs ++ map (λ (e : RowEntry). (e.call, e.reply)) ys
-  map_both [] ys = refl
-  map_both (x ∷ xs) ys = ap (λ (l : List (PartitionCalls ℕ × PartitionReplies ℕ ℕ)). (x.call, x.reply) ∷ l) (map_both xs ys)
-
   pub all_grew : (k : ℕ) (v w : Sight ℕ ℕ ℕ) (es : List (Event ℕ ℕ ℕ)) → Trace step a n v w es → Grew k (v.mine k) (w.mine k) es
-  all_grew k v w [] t = record { more = []; grows = ap (λ (s : Sight ℕ ℕ ℕ). s.mine k) t ∙ sym (append-nil (v.mine k)); are = refl }
-  all_grew k v w (e ∷ es) t =
-      let first = one_grew k v t.0 e t.1 in
-      let rest = all_grew k t.0 w es t.2 in
-      record {
-        more = first.more ++ rest.more;
-        grows = rest.grows ∙ ap (λ (l : List RowEntry). l ++ rest.more) first.grows ∙ append_assoc (v.mine k) first.more rest.more;
-        are = map_both first.more rest.more ∙ ap (λ (l : List (PartitionCalls ℕ × PartitionReplies ℕ ℕ)). l ++ map (λ (e : RowEntry). (e.call, e.reply)) rest.more) first.are
-            ∙ ap (λ (l : List (PartitionCalls ℕ × PartitionReplies ℕ ℕ)). turns_at k (e ∷ []) ++ l) rest.are ∙ sym (turns_front k e es);
-      }
+  all_grew k v w es t =
+      let g = own_grows (λ _. PartitionLegal step k) fresh n (v.seen k) (v.mine k) (w.seen k) (w.mine k) (turns_at k es) (did_turns step a n k v w es t) in
+      record { more = g.0; grows = g.1; are = g.2 }
 
   -- ---- refused requests
 

@@ -1,23 +1,19 @@
 //! The first round: the participants put the left rows into the shared table, and the leader makes the chains of it.
 
-ghost use Rattle.std.specs.Prelude.{◌≡◌, ◌<◌, ◌≤◌, ◌+◌, ◌^◌, ◌++◌, ℕ, List, [], All, IfOk, OnOk, false, length, map};
-ghost use mathlib.Core.Option.{some};
-ghost use lib.ListN.{get_elem?};
-ghost use Rattle.lock_book.specs.History.{StartsWith};
-ghost use Rattle.lock_book.specs.Shown.{mine_of, number_of, seen_of};
-ghost use Rattle.dsa_area.specs.Shown as area;
+ghost use Rattle.std.specs.Prelude.{◌≡◌, ◌<◌, ◌≤◌, ℕ, List, All, IfOk, OnOk, [], false, length, map};
+ghost use Rattle.std.specs.List.{AllZip, zip};
+ghost use Rattle.lock_book.specs.Shown.{mine_of, number_of};
 ghost use Rattle.dshash_core.specs.Listing.{pairs_of as entries_of};
-ghost use Rattle.dshash_parts.specs.Ending.{Ended, whole_of};
-ghost use Rattle.dshash_parts.specs.Tables.{AreAll, Belongs, callers_of};
-ghost use Rattle.scan_claim.specs.Shown.{AreSeats, blocks_of, draws_of, callers_of as seats_of};
+ghost use Rattle.dshash_parts.specs.Ending.{whole_of};
+ghost use Rattle.dshash_parts.specs.Tables.{AreAll, Belongs};
+ghost use Rattle.scan_claim.specs.Shown.{blocks_of};
 ghost use Rattle.gather_law.specs.Tuples.{AreBlocks};
-ghost use Rattle.join_pairs.specs.Chains.{last_step};
-ghost use Rattle.hash_join.specs.Filled.{done_in};
+ghost use Rattle.rel_pointer.specs.Bytes.{AllBytes};
+ghost use Rattle.csv_rows.specs.Records.{field_of};
 ghost use Rattle.join_pairs.specs.Gathered.{ChainsAll};
-ghost use Rattle.hash_join.specs.Listed.{ListsEach};
-ghost use Rattle.hash_join.specs.Home.{AreFilled, AreNew, HaveMet, IsClosed};
-ghost use Rattle.join_pairs.specs.Join.{AllAccepted, width_of};
-ghost use Rattle.hash_join.specs.Stores.{IsStore};
+ghost use Rattle.join_pairs.specs.Join.{AllAccepted, IsRow, width_of};
+ghost use Rattle.hash_join.specs.Home.{AreFilled, AreFillers, AreNew, HasMet, IsClosed, IsHome};
+ghost use Rattle.hash_join.specs.Stores.{IsNew, IsStore};
 ghost use Rattle.hash_join.specs.Used.{IsShared};
 
 use crate::filling::{Filler, fill};
@@ -26,6 +22,7 @@ use csv_rows::RowStore;
 use dsa_area::AreaPass;
 use dshash_core::Entry;
 use dshash_parts::{ClosedTable, DsPass};
+use dshash_scan::list_all;
 use join_pairs::{Chains, LastRow, Link, chain_all, count_blocks};
 use scan_claim::{ClaimSeat, Claims, Drawn};
 use std::alloc::{AllocError, Global};
@@ -39,6 +36,14 @@ pub(crate) struct Gathered {
     pub(crate) drawn: Drawn,
     pub(crate) table: ClosedTable<LastRow>,
     pub(crate) areas: Vec<AreaPass>,
+}
+
+/// A round that has not begun.
+#[derive(Drop)]
+struct Round {
+    store: Store,
+    claims: Claims,
+    fillers: Vec<Filler>,
 }
 
 /// What the participants brought home, in order of their numbers.
@@ -58,6 +63,18 @@ struct Listed {
     entries: Vec<Entry<LastRow>>,
 }
 
+/// The tokens of each participant together.
+fn pair_up(
+    alloc: Global,
+    passes: Passes,
+    seats: Vec<ClaimSeat>,
+) -> Result<Vec<((AreaPass, DsPass<LastRow>), ClaimSeat)>, AllocError>
+    ensures { IfOk result (λ v. v.items ≡ zip (zip passes.areas.items passes.tables.items) seats.items) }
+{
+    let Passes { areas, tables } = passes;
+    areas.into_iter().zip(tables).zip(seats).collect(alloc)
+}
+
 /// The participants, each with its tokens.
 fn fillers(
     alloc: Global,
@@ -71,9 +88,9 @@ fn fillers(
     ensures seats { IfOk result (λ v. map (λ (f : Filler). f.claim) v.items ≡ seats.items) }
     ensures new { IfOk result (λ v. All (λ (f : Filler). (f.links.items ≡ []) × (f.spilled.items ≡ [])) v.items) }
 {
-    let Passes { areas, tables } = passes;
-    let mut fillers = Vec::with_capacity(alloc, areas.len())?;
-    for ((area, table), claim) in areas.into_iter().zip(tables).zip(seats) {
+    let tokens = pair_up(alloc, passes, seats)?;
+    let mut fillers = Vec::with_capacity(alloc, tokens.len())?;
+    for ((area, table), claim) in tokens {
         fillers.push(Filler {
             area,
             table,
@@ -84,6 +101,52 @@ fn fillers(
         })?;
     }
     Ok(fillers)
+}
+
+/// A table for so many participants, and each with its tokens.
+fn open_round<R: Wait>(
+    rt: &R,
+    alloc: Global,
+    rows: &RowStore,
+    callers: u32,
+) -> Result<Round, AllocError>
+    requires callers { 1 ≤ callers }
+    ensures store { IfOk result (λ r. IsStore r.store) }
+    ensures blocks { IfOk result (λ r. AreBlocks rows.now (blocks_of r.claims)) }
+    ensures all { IfOk result (λ r. AreFillers r.store r.claims r.fillers.items) }
+    ensures count { IfOk result (λ r. length r.fillers.items ≡ callers) }
+    ensures new { IfOk result (λ r. AreNew r.store r.claims r.fillers.items) }
+{
+    let (store, passes) = open_store(rt, alloc, callers)?;
+    let (claims, seats) = Claims::new(alloc, count_blocks(rows), callers)?;
+    let fillers = fillers(alloc, passes, seats)?;
+    Ok(Round {
+        store,
+        claims,
+        fillers,
+    })
+}
+
+/// All participants put in the rows of the blocks that they draw.
+fn fill_all<R: Threads + Wait + Sync>(
+    rt: &R,
+    store: &Store,
+    rows: &RowStore,
+    column: u32,
+    claims: &Claims,
+    fillers: &mut Vec<Filler>,
+)
+    requires store { IsStore store.now }
+    requires blocks { AreBlocks rows.now (blocks_of claims.now) }
+    requires accepted { AllAccepted rows.now column }
+    requires column { column < width_of rows.now }
+    requires new { AreNew store.now claims.now fillers.old.items }
+    ensures filled { AreFilled rows.now column store.now claims.now fillers.old.items fillers.new.items }
+{
+    let threads = fillers.len().max(1);
+    for_each_mut(rt, fillers.as_mut_slice(), threads, &|_, filler| {
+        fill(rt, store, rows, column, claims, filler)
+    });
 }
 
 /// Takes the participants' tokens and lists apart. None may lack memory.
@@ -123,71 +186,18 @@ fn bring_home(alloc: Global, fillers: Vec<Filler>) -> Result<Home, AllocError>
     Ok(home)
 }
 
-/// All participants put in the rows of the blocks that they draw.
-fn fill_all<R: Threads + Wait + Sync>(
-    rt: &R,
-    store: &Store,
-    rows: &RowStore,
-    column: u32,
-    claims: &Claims,
-    fillers: &mut Vec<Filler>,
-)
-    requires store { IsStore store.now }
-    requires blocks { AreBlocks rows.now (blocks_of claims.now) }
-    requires accepted { AllAccepted rows.now column }
-    requires column { column < width_of rows.now }
-    requires new { AreNew store.now claims.now fillers.old.items }
-    ensures filled { AreFilled rows.now column store.now claims.now fillers.old.items fillers.new.items }
-{
-    let threads = fillers.len().max(1);
-    for_each_mut(rt, fillers.as_mut_slice(), threads, &|_, filler| {
-        fill(rt, store, rows, column, claims, filler)
-    });
-}
-
 /// One pass sees what all others have seen.
 fn meet_others(store: &Store, leader: &mut DsPass<LastRow>, others: &mut [DsPass<LastRow>])
     requires own { Belongs store.now.table leader.old }
     requires others { All (Belongs store.now.table) others.old }
-    ensures own { Belongs store.now.table leader.new × (number_of leader.new ≡ number_of leader.old) }
+    ensures own { Belongs store.now.table leader.new }
+    ensures caller { number_of leader.new ≡ number_of leader.old }
     ensures mine { (i : ℕ) → mine_of leader.new i ≡ mine_of leader.old i }
-    ensures met { HaveMet store.now leader.new others.old others.new }
+    ensures met { AllZip (HasMet store.now leader.new) others.old others.new }
 {
     for other in others.iter_mut() {
         store.table.meet(leader, other);
     }
-}
-
-/// The entries of all partitions, one partition after the other, each as it was at one event. In no stated order
-/// otherwise.
-fn list_all<R: Wait>(
-    rt: &R,
-    alloc: Global,
-    store: &Store,
-    pass: &mut DsPass<LastRow>,
-) -> Result<Vec<Entry<LastRow>>, AllocError>
-    requires store { IsStore store.now }
-    requires own { Belongs store.now.table pass.old }
-    ensures own { Belongs store.now.table pass.new × (number_of pass.new ≡ number_of pass.old) }
-    ensures seen { (i : ℕ) → StartsWith (seen_of pass.new i) (seen_of pass.old i) }
-    ensures calls { (i : ℕ) → done_in (mine_of pass.new i) ≡ done_in (mine_of pass.old i) }
-    ensures mine { (i : ℕ) → StartsWith (mine_of pass.new i) (mine_of pass.old i) }
-    ensures lists { IfOk result (λ v. ListsEach (seen_of pass.new) (entries_of v.items)) }
-{
-    let mut all = Vec::new(alloc);
-    for partition in 0..128 {
-        match store
-            .table
-            .list_one(rt, alloc, &store.region, pass, partition)
-        {
-            Ok(mut entries) => match all.append(&mut entries) {
-                Ok(()) => {}
-                Err(lack) => return Err(lack),
-            },
-            Err(lack) => return Err(lack),
-        }
-    }
-    Ok(all)
 }
 
 /// Ends the table, after all its entries were listed by one who had seen all of it.
@@ -206,10 +216,48 @@ fn close_table<R: Wait>(
         unreachable!()
     };
     meet_others(&store, leader, others);
-    let entries = list_all(rt, alloc, &store, leader)?;
+    let entries = list_all(rt, alloc, &store.table, &store.region, leader)?;
     Ok(Listed {
         table: store.table.close(tables),
         entries,
+    })
+}
+
+/// What the participants brought home comes to.
+fn end_round<R: Wait>(
+    rt: &R,
+    alloc: Global,
+    rows: &RowStore,
+    column: u32,
+    store: Store,
+    claims: Claims,
+    home: Home,
+) -> Result<Gathered, AllocError>
+    requires store { IsStore store }
+    requires blocks { AreBlocks rows.now (blocks_of claims) }
+    requires column { column < width_of rows.now }
+    requires accepted { AllAccepted rows.now column }
+    requires bytes { (row : ℕ) → IsRow rows.now row → AllBytes (field_of rows.now row column) }
+    requires home { (fillers : List Filler) × IsHome rows.now column store claims fillers home }
+    requires some { 0 < length home.areas.items }
+    ensures chains { IfOk result (λ g. ChainsAll rows.now column g.chains) }
+    ensures shared { IfOk result (λ g. IsShared rows.now column (length home.areas.items) g.drawn (whole_of g.table) g.areas.items) }
+{
+    let Home {
+        areas,
+        tables,
+        claims: seats,
+        links,
+        spilled,
+    } = home;
+    let drawn = claims.close(seats);
+    let Listed { table, entries } = close_table(rt, alloc, store, tables)?;
+    let chains = chain_all(alloc, rows, column, &entries, &links, &spilled)?;
+    Ok(Gathered {
+        chains,
+        drawn,
+        table,
+        areas,
     })
 }
 
@@ -224,27 +272,16 @@ pub(crate) fn gather_rows<R: Threads + Wait + Sync>(
     requires callers { 1 ≤ callers }
     requires column { column < width_of rows.now }
     requires accepted { AllAccepted rows.now column }
+    requires bytes { (row : ℕ) → IsRow rows.now row → AllBytes (field_of rows.now row column) }
     ensures chains { IfOk result (λ g. ChainsAll rows.now column g.chains) }
     ensures shared { IfOk result (λ g. IsShared rows.now column callers g.drawn (whole_of g.table) g.areas.items) }
 {
-    let (store, passes) = open_store(rt, alloc, callers)?;
-    let (claims, seats) = Claims::new(alloc, count_blocks(rows), callers)?;
-    let mut fillers = fillers(alloc, passes, seats)?;
+    let Round {
+        store,
+        claims,
+        mut fillers,
+    } = open_round(rt, alloc, rows, callers)?;
     fill_all(rt, &store, rows, column, &claims, &mut fillers);
-    let Home {
-        areas,
-        tables,
-        claims: seats,
-        links,
-        spilled,
-    } = bring_home(alloc, fillers)?;
-    let drawn = claims.close(seats);
-    let Listed { table, entries } = close_table(rt, alloc, store, tables)?;
-    let chains = chain_all(alloc, rows, column, &entries, &links, &spilled)?;
-    Ok(Gathered {
-        chains,
-        drawn,
-        table,
-        areas,
-    })
+    let home = bring_home(alloc, fillers)?;
+    end_round(rt, alloc, rows, column, store, claims, home)
 }

@@ -58,7 +58,7 @@ fn check<R: Threads + Wait + Sync>(
     columns: (u32, u32),
     pairs: &[(u64, u64)],
 ) -> Result<(), Fail> {
-    for workers in [2, 0] {
+    for workers in [0, 3] {
         match joined(rt, alloc, left, right, columns, workers)? {
             Ok(joined) => {
                 if !has_pairs(&joined, pairs) {
@@ -96,6 +96,32 @@ fn quoted_fields(rt: HostRuntime) -> Result<(), Fail> {
         (0, 1),
         &[(1, 1), (3, 2), (4, 2)],
     )
+}
+
+#[test]
+fn any_number_of_workers(rt: HostRuntime) -> Result<(), Fail> {
+    let left = b"k,a\nx,1\ny,2\n,3\nx,4\nz,5\ny,6\nx,7\n";
+    let right = b"k,b\ny,1\nx,2\nw,3\n,4\nx,5\n";
+    let pairs = [
+        (1, 2),
+        (1, 5),
+        (2, 1),
+        (4, 2),
+        (4, 5),
+        (6, 1),
+        (7, 2),
+        (7, 5),
+    ];
+    for workers in [0, 1, 3, 64] {
+        match joined(&rt, rt.alloc(), left, right, (0, 0), workers)? {
+            Ok(joined) => {
+                assert!(rt; has_pairs(&joined, &pairs));
+                assert_eq!(rt; joined.areas.len(), workers as usize + 1);
+            }
+            Err(_) => return Err(Fail::new("no pairs")),
+        }
+    }
+    Ok(())
 }
 
 /// So many rows with the same field, under a header.

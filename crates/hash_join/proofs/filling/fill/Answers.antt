@@ -4,7 +4,7 @@ use Rattle.dsa_area.specs.Shown.{pages_mine}
 use Rattle.hash_join.proofs.Putting.{new_draw}
 use Rattle.hash_join.proofs.filling.fill.Goals as goal
 
-pub put_blocks-requires-drawn : goal.put_blocks-requires-drawn
-put_blocks-requires-drawn g c =
+pub put_blocks-requires-clause-drawn : goal.put_blocks-requires-clause-drawn
+put_blocks-requires-clause-drawn g c =
     let f = c.args.filler.now in
     new_draw c.args.rows.now c.args.column (draws_of f.claim) (mine_of f.table) (pages_mine f.area) f.links.items f.spilled.items c.requires.new.draws c.requires.new.calls c.requires.new.links c.requires.new.spilled

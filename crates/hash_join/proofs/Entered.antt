@@ -39,16 +39,16 @@ members_agree : {X : Type 0} (p q : X → Bool) (xs : List X) → AllByRecursion
 members_agree p q [] h = refl
 members_agree {X = X} p q (x ∷ xs) h = ap (λ b. cond {A = List X} b (x ∷ filter p xs) (filter p xs)) h.0 ∙ ap (λ (l : List X). cond {A = List X} (q x) (x ∷ l) l) (members_agree p q xs h.1)
 
-members_map : {X : Type 0} (P Q : X → Type 0) → ((x : X) → P x → Q x) → (xs : List X) → AllByRecursion P xs → AllByRecursion Q xs
+pub members_map : {X : Type 0} (P Q : X → Type 0) → ((x : X) → P x → Q x) → (xs : List X) → AllByRecursion P xs → AllByRecursion Q xs
 members_map P Q f [] h = tt
 members_map P Q f (x ∷ xs) h = (f x h.0, members_map P Q f xs h.1)
 
-members_both : {X : Type 0} (P Q R : X → Type 0) → ((x : X) → P x → Q x → R x) → (xs : List X) → AllByRecursion P xs → AllByRecursion Q xs → AllByRecursion R xs
+pub members_both : {X : Type 0} (P Q R : X → Type 0) → ((x : X) → P x → Q x → R x) → (xs : List X) → AllByRecursion P xs → AllByRecursion Q xs → AllByRecursion R xs
 members_both P Q R f [] h k = tt
 members_both P Q R f (x ∷ xs) h k = (f x h.0 k.0, members_both P Q R f xs h.1 k.1)
 
 -- of the members that pass a test
-passed : {X Y : Type 0} (P : X → Type 0) (Q : Y → Type 0) (p : X → Bool) (f : X → Y) → ((x : X) → P x → p x ≡ true → Q (f x)) → (xs : List X) → AllByRecursion P xs → All Q (map f (filter p xs))
+pub passed : {X Y : Type 0} (P : X → Type 0) (Q : Y → Type 0) (p : X → Bool) (f : X → Y) → ((x : X) → P x → p x ≡ true → Q (f x)) → (xs : List X) → AllByRecursion P xs → All Q (map f (filter p xs))
 passed P Q p f g [] h = All-nil Q
 passed {X = X} P Q p f g (x ∷ xs) h = by (p x) refl (passed P Q p f g xs h.1)
   where
@@ -62,15 +62,15 @@ first_of P before last [] c some h = absurd (omega (arith, some))
 first_of P before last (r ∷ rs) c some h = subst P (sym c.0) (All-head P r rs h)
 
 -- the run of a cell of rows
-row_run : (s t : Option ℕ) (calls : List (ℕ × ℕ)) → IsRun last_step s calls t → IsRowRun s calls t
+pub row_run : (s t : Option ℕ) (calls : List (ℕ × ℕ)) → IsRun last_step s calls t → IsRowRun s calls t
 row_run s t [] run = run
 row_run s t (e ∷ es) run = (run.0, row_run (last_step s e.0).0 t es run.1)
 
-some_calls : (calls : List (ℕ × ℕ)) (last : ℕ) → IsRun last_step None calls (Some last) → 0 < length calls
+pub some_calls : (calls : List (ℕ × ℕ)) (last : ℕ) → IsRun last_step None calls (Some last) → 0 < length calls
 some_calls [] last run = absurd (let no : ◌≡◌ {A = Option ℕ} None (Some last) = run in cc)
 some_calls (e ∷ es) last run = omega arith
 
-length-map : {X Y : Type 0} (f : X → Y) (xs : List X) → length (map f xs) ≡ length xs
+pub length-map : {X Y : Type 0} (f : X → Y) (xs : List X) → length (map f xs) ≡ length xs
 length-map f [] = refl
 length-map f (x ∷ xs) = ap suc (length-map f xs)
 
@@ -85,13 +85,13 @@ module _ (records : Table) (column : ℕ) (history : ℕ → List RowEntry) (ps 
   abbrev before : ℕ → ℕ
   before = before_in (linked all (replicate (length records) 0))
 
-  abbrev same_key : List ℕ → Link → Bool
+  abbrev pub same_key : List ℕ → Link → Bool
   same_key key l = eq_by_cmp (slice_cmp nat_cmp) key (key_of records column l.row)
 
-  itself : (key : List ℕ) → eq_by_cmp (slice_cmp nat_cmp) key key ≡ true
+  pub itself : (key : List ℕ) → eq_by_cmp (slice_cmp nat_cmp) key key ≡ true
   itself key = ap is_eq (tied_itself nat_list_cmp_total key)
 
-  key_is : (key : List ℕ) (l : Link) → same_key key l ≡ true → key_of records column l.row ≡ key
+  pub key_is : (key : List ℕ) (l : Link) → same_key key l ≡ true → key_of records column l.row ≡ key
   key_is key l e = sym (tells_apart exact_bytes key (key_of records column l.row) e)
 
   -- a row with the key of an entry
