@@ -1,3 +1,4 @@
 pub mod Going
 mod Pieces
-mod Records
+pub mod Records
+pub mod RowLines

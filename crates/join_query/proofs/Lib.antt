@@ -1,0 +1,5 @@
+pub mod Asked
+pub mod Besides
+pub mod Cuts
+pub mod Outcomes
+pub mod Writables
