@@ -2,4 +2,6 @@ pub mod Asked
 pub mod Besides
 pub mod Cuts
 pub mod Outcomes
+pub mod Statuses
+pub mod Unique
 pub mod Writables
