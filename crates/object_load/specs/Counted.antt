@@ -1,5 +1,5 @@
 -- A number to which calls add 1.
-use Rattle.std.specs.Prelude.{◌≡◌, ◌+◌, ◌%◌, ◌^◌, ℕ, List, [], ◌∷◌, length, slice_index_or}
+use Rattle.std.specs.Prelude.{◌≡◌, ◌+◌, ◌%◌, ◌^◌, ℕ, List}
 use Rattle.lock_book.specs.declared.view.Entry.{Entry}
 
 -- a call leaves the number with 1 added, modulo 2^64

@@ -3,8 +3,9 @@
 //! It is what `bench/objects.py` times: it takes no time itself, and prints one line that no schedule changes, with
 //! what it was asked and how many of the calls went as they have to.
 //!
-//! `words` reads what is asked; `lock`, `area`, `queue` and `table` are the loads, a file a kind of object; `counter` is
-//! what stands behind the lock, `number` what the table keeps under a key, and `counts` adds up what the threads counted.
+//! `words` reads what is asked; `lock`, `area`, `queue` and `table` are the loads, a file a kind of object; `counter`
+//! is what stands behind the lock, `number` what the table keeps under a key, and `counts` adds up what the threads
+//! counted.
 
 #![tactic(auto)]
 

@@ -1,5 +1,4 @@
-use Rattle.std.proofs.Common.{◌≡◌, ◌<◌, ◌∙◌, ℕ, get_or, length, ap, sym, subst, arith}
-use mathlib.Core.Option.{some}
+use Rattle.std.proofs.Common.{◌<◌, ◌∙◌, get_or, length, ap, sym, subst, arith}
 use Rattle.atomic_table.proofs.Lists.{at_index}
 use Rattle.std.proofs.lemmas.List.{get_or_default}
 use Rattle.lock_book.specs.Shown.{Belongs, mine_of, number_of}
