@@ -233,10 +233,10 @@ relaid_more old new rows lanes so_far now more slots at width h wide are fits to
     let fit : slots_in new.parts (take new.width more) ≡ slots = ap (slots_in new.parts) (take_all new.width more (omega arith) ∙ told) ∙ fits in (
       omega (arith, next_row at new.width, ap (length {A = SlotState}) is, length-append so_far more, ap (λ (n : ℕ). n * new.width) (add-one at)),
       (λ i. states_in new (take_more rows at 0 h i) (is i))
-      ∙ push-states_in new (take at rows) so_far more r begun
-      ∙ (λ i. same i ++ record { rows = r; slots = fit i } ∷ [])
-      ∙ ap (λ (s : AggState). take at (states_in old rows lanes) ++ s ∷ []) (sym there)
-      ∙ sym (take_more (states_in old rows lanes) at next (omega (arith, length-states_in old rows lanes))),
+          ∙ push-states_in new (take at rows) so_far more r begun
+          ∙ (λ i. same i ++ record { rows = r; slots = fit i } ∷ [])
+          ∙ ap (λ (s : AggState). take at (states_in old rows lanes) ++ s ∷ []) (sym there)
+          ∙ sym (take_more (states_in old rows lanes) at next (omega (arith, length-states_in old rows lanes))),
     )
 
 -- the states of a list are still its states where they were laid anew

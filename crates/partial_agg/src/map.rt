@@ -118,7 +118,10 @@ impl GroupMap {
             return None;
         };
         self.whole = false;
-        let group = (GroupKey::copy_of(self.keys.get(place)), self.states.get(place));
+        let group = (
+            GroupKey::copy_of(self.keys.get(place)),
+            self.states.get(place),
+        );
         if self.left.is_empty() {
             *self = GroupMap::new(self.alloc);
         }

@@ -2,9 +2,10 @@
 //!
 //! A state has eight slots of 48 bytes, of which a plan seldom needs more than one or two (`Layout`). So a list of
 //! states keeps the number of rows of each in one list and its lanes in another, all under one layout. A state that
-//! doesn't fit the layout gets a finer one, and the lanes of all states are laid anew; that happens when slots differ
-//! for the first time, at most sixteen times to a list and mostly within its first rows. A layout chosen from the states
-//! themselves needs no plan, so the states that a leader receives lie as those of its own rows.
+//! doesn't fit the layout gets a finer one, and the lanes of all states are laid anew. That happens where a slot gets
+//! its first values or its first integers, or differs for the first time from another: a few dozen times to a list at
+//! most, and mostly within its first rows. A layout that is chosen from the states themselves needs no plan, so the
+//! states that a leader receives lie as those of its own rows.
 
 ghost use Rattle.std.specs.Prelude.{◌≡◌, ◌<◌, ◌≤◌, ◌+◌, ◌*◌, ◌++◌, ◌∷◌, [], IfOk, IfSome, None, OnErr, OnOk, Some, drop, get_or, length, set, slice_get, take};
 ghost use Rattle.partial_agg.specs.Lanes.{Fits, IsWide, lanes_of, states_in, with_lanes};
@@ -78,7 +79,13 @@ impl StateList {
         ensures ok { OnOk result (self.new ≡ self.old ++ state.now ∷ []) }
         ensures err { OnErr result (self.new ≡ self.old) }
     {
-        make_fit(self.alloc, &mut self.layout, &self.rows, &mut self.lanes, &state.slots)?;
+        make_fit(
+            self.alloc,
+            &mut self.layout,
+            &self.rows,
+            &mut self.lanes,
+            &state.slots,
+        )?;
         self.rows.reserve(1)?;
         let lanes = self.layout.lanes(&state.slots);
         self.lanes.extend_from_slice(&lanes[..self.layout.width()])?;
@@ -101,7 +108,13 @@ impl StateList {
         ensures ok { OnOk result (self.new ≡ set self.old at state.now) }
         ensures err { OnErr result (self.new ≡ self.old) }
     {
-        make_fit(self.alloc, &mut self.layout, &self.rows, &mut self.lanes, &state.slots)?;
+        make_fit(
+            self.alloc,
+            &mut self.layout,
+            &self.rows,
+            &mut self.lanes,
+            &state.slots,
+        )?;
         let width = self.layout.width();
         let lanes = self.layout.lanes(&state.slots);
         put_lanes(&mut self.lanes, at * width, &lanes[..width]);
@@ -115,7 +128,13 @@ impl StateList {
         ensures ok { OnOk result (self.new ≡ set self.old at (combined (get_or self.old at empty_state) state.now)) }
         ensures err { OnErr result (self.new ≡ self.old) }
     {
-        make_fit(self.alloc, &mut self.layout, &self.rows, &mut self.lanes, &state.slots)?;
+        make_fit(
+            self.alloc,
+            &mut self.layout,
+            &self.rows,
+            &mut self.lanes,
+            &state.slots,
+        )?;
         let width = self.layout.width();
         let lanes = self.layout.lanes(&state.slots);
         combine_lanes(&mut self.lanes, at * width, &lanes[..width]);

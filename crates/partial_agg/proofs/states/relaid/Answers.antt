@@ -2,7 +2,7 @@ use Rattle.std.proofs.Common.{◌≡◌, ◌∙◌, ℕ, List, ap, sym, arith, l
 use Rattle.std.proofs.lemmas.List.{take_all}
 use Rattle.par_model.specs.declared.state.SlotState.{SlotState}
 use Rattle.partial_agg.specs.Lanes.{lanes_of, slots_in, states_in}
-use Rattle.partial_agg.proofs.Lanes.{length-lanes_of, length-states_in, relaid_more}
+use Rattle.partial_agg.proofs.Lanes.{length-states_in, relaid_more}
 use Rattle.partial_agg.proofs.states.relaid.Goals as goal
 
 pub loop-at-preserved : goal.loop-at-preserved

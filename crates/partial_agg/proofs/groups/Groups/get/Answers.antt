@@ -1,4 +1,3 @@
-use Rattle.std.proofs.Common.{◌≡◌, ◌∙◌, Some, ap, sym}
 use Rattle.partial_agg.proofs.Placed.{group_of_parts}
 use Rattle.partial_agg.proofs.groups.Groups.get.Goals as goal
 

@@ -1,4 +1,4 @@
-use Rattle.std.proofs.Common.{◌<◌, ◌≤◌, ◌∙◌, [], ℕ, List, Some, ap, sym, subst, arith, length, map}
+use Rattle.std.proofs.Common.{◌<◌, ◌∙◌, List, Some, ap, sym, arith, length, map}
 use Rattle.std.proofs.lemmas.Option.{slice_get-get_or}
 use Rattle.std.specs.List.{slice_get}
 use Rattle.partial_agg.specs.declared.groups.Group.{Group}

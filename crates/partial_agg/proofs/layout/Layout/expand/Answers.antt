@@ -1,4 +1,4 @@
-use Rattle.std.proofs.Common.{◌∙◌, arith, sym, ap, length-set, map}
+use Rattle.std.proofs.Common.{◌∙◌, arith, sym, ap, length-set}
 use Rattle.std.proofs.lemmas.List.{take_all}
 use Rattle.partial_agg.specs.Lanes.{slot_in, slots_in}
 use Rattle.partial_agg.specs.declared.layout.SlotPart.{SlotPart}

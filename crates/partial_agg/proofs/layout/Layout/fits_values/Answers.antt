@@ -1,4 +1,4 @@
-use Rattle.std.proofs.Common.{◌≡◌, ◌-◌, ◌∙◌, List, arith, sym, ap, refl, length}
+use Rattle.std.proofs.Common.{◌-◌, ◌∙◌, List, arith, sym, ap, length}
 use Rattle.std.proofs.lemmas.List.{take_all}
 use Rattle.par_model.specs.Aggregate.{no_values}
 use Rattle.partial_agg.specs.Lanes.{lanes_of, slots_in}

@@ -1,4 +1,4 @@
-use Rattle.std.proofs.Common.{◌-◌, ◌∙◌, None, arith, sym, ap, get_or, length}
+use Rattle.std.proofs.Common.{◌-◌, ◌∙◌, arith, sym, ap, length}
 use Rattle.partial_agg.specs.Values.{slot_of_value, values_state}
 use Rattle.partial_agg.proofs.Lanes.{get-lanes_of}
 use Rattle.partial_agg.proofs.Slots.{get_or-slots}

@@ -1,4 +1,4 @@
-use Rattle.std.proofs.Common.{◌≡◌, ◌<◌, ◌≤◌, ◌+◌, ◌*◌, ◌%◌, ◌^◌, ◌∙◌, ℕ, List, refl, ap, sym, arith, drop, get_or, length, set, take}
+use Rattle.std.proofs.Common.{◌≡◌, ◌+◌, ◌*◌, ◌%◌, ◌^◌, ◌∙◌, ℕ, List, refl, ap, sym, arith, drop, get_or, length, set, take}
 use Rattle.std.proofs.lemmas.List.{get_or_default, with_items_is}
 use Rattle.std.specs.Vec.{with_items}
 use Rattle.par_model.specs.declared.state.AggState.{AggState}
@@ -6,7 +6,7 @@ use Rattle.par_model.specs.declared.state.SlotState.{SlotState}
 use Rattle.partial_agg.specs.Lanes.{lanes_of, states_in, with_lanes}
 use Rattle.partial_agg.specs.State.{combined, combined_slots, empty_state}
 use Rattle.partial_agg.specs.Values.{values_state}
-use Rattle.partial_agg.proofs.Lanes.{combine-states_in, laid_anew, lanes_within, length-lanes_of, place_within, push-states_in, whole_anew, with-states_in}
+use Rattle.partial_agg.proofs.Lanes.{combine-states_in, lanes_within, length-lanes_of, place_within}
 use Rattle.partial_agg.proofs.states.StateList.add_values.Goals as goal
 
 pub overflow_mul-first : goal.overflow_mul-first

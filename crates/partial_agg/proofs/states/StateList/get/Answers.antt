@@ -1,4 +1,4 @@
-use Rattle.std.proofs.Common.{◌≡◌, ◌<◌, ◌≤◌, ◌+◌, ◌*◌, ◌∙◌, ℕ, List, Some, ap, sym, arith, drop, get_or, length, take}
+use Rattle.std.proofs.Common.{◌≡◌, ◌*◌, ◌∙◌, List, Some, ap, sym, arith, drop, get_or, length, take}
 use Rattle.std.proofs.lemmas.List.{get_or_default}
 use Rattle.std.specs.List.{slice_get}
 use Rattle.par_model.specs.declared.state.AggState.{AggState}

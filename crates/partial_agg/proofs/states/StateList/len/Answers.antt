@@ -1,7 +1,6 @@
-use Rattle.std.proofs.Common.{◌≡◌, ◌<◌, ◌≤◌, ◌+◌, ◌*◌, ◌∙◌, ℕ, List, Some, ap, sym, arith, rules, length, take, drop}
+use Rattle.std.proofs.Common.{◌≡◌, ◌∙◌, ap, sym, rules, length}
 use Rattle.par_model.specs.declared.state.AggState.{AggState}
-use Rattle.partial_agg.specs.Lanes.{states_in}
-use Rattle.partial_agg.proofs.Lanes.{get-states_in, length-states_in, rows_fit}
+use Rattle.partial_agg.proofs.Lanes.{length-states_in}
 use Rattle.partial_agg.proofs.states.StateList.len.Goals as goal
 
 pub returns : goal.returns

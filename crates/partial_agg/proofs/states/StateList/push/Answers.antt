@@ -1,11 +1,8 @@
-use Rattle.std.proofs.Common.{◌≡◌, ◌<◌, ◌≤◌, ◌+◌, ◌*◌, ◌%◌, ◌^◌, ◌++◌, ◌∷◌, [], ◌∙◌, ℕ, List, ap, sym, arith, drop, get_or, length, set, take}
-use Rattle.std.proofs.lemmas.List.{get_or_default, take_all}
-use Rattle.par_model.specs.declared.state.AggState.{AggState}
+use Rattle.std.proofs.Common.{◌≡◌, ◌++◌, ◌∷◌, [], ◌∙◌, ℕ, List, ap, arith, length, take}
+use Rattle.std.proofs.lemmas.List.{take_all}
 use Rattle.par_model.specs.declared.state.SlotState.{SlotState}
-use Rattle.partial_agg.specs.Lanes.{lanes_of, slots_in, states_in, with_lanes}
-use Rattle.partial_agg.specs.State.{combined, combined_slots, empty_state}
-use Rattle.partial_agg.specs.Values.{values_state}
-use Rattle.partial_agg.proofs.Lanes.{combine-states_in, laid_anew, lanes_within, length-lanes_of, place_within, push-states_in, whole_anew, with-states_in}
+use Rattle.partial_agg.specs.Lanes.{lanes_of, slots_in, states_in}
+use Rattle.partial_agg.proofs.Lanes.{laid_anew, push-states_in, whole_anew}
 use Rattle.partial_agg.proofs.states.StateList.push.Goals as goal
 
 pub returns-clause-ok : goal.returns-clause-ok
