@@ -167,12 +167,7 @@ impl NumberTable {
 
     /// How many entries the table has, and the sum of their numbers. It lists one partition after another, and takes
     /// memory for the entries and their keys.
-    pub fn total<R: Wait>(
-        &mut self,
-        rt: &R,
-        alloc: Global,
-        r: &Region,
-    ) -> Result<Total, AllocError>
+    pub fn total<R: Wait>(&mut self, rt: &R, alloc: Global, r: &Region) -> Result<Total, AllocError>
         requires table { IsNumberTable r.now self.old }
         ensures table { IsNumberTable r.now self.new }
         ensures total { IfOk result (λ total. IsTotal self.old self.new total.count total.sum) }

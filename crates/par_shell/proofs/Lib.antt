@@ -9,3 +9,5 @@ pub mod StopLaws
 pub mod ContentLaws
 pub mod Histories
 pub mod PartyLaws
+pub mod FillLaws
+pub mod TableLaws

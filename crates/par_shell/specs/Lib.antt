@@ -1,5 +1,6 @@
 pub mod Names
 pub mod Chunks
+pub mod Tables
 pub mod Rings
 pub mod Contents
 pub mod Barriers

@@ -28,7 +28,7 @@ pub(crate) fn with_numbers(
     alloc: Global,
     text: &str,
     first: u64,
-    second: u64,
+    second: u128,
 ) -> Result<Vec<u8>, AllocError>
     ensures { IfOk result (λ answer. answer.items ≡ text.now ++ (decimal first ++ (codes " " ++ decimal second))) }
 {

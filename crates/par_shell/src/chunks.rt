@@ -60,7 +60,7 @@ impl ChunkAnswer {
             ChunkAnswer::Done => plain(alloc, "ok"),
             ChunkAnswer::Granted { bytes } => with_number(alloc, "ok ", bytes),
             ChunkAnswer::NoSpace { pages, largest } => {
-                with_numbers(alloc, "nospace ", u64::from(pages), u64::from(largest))
+                with_numbers(alloc, "nospace ", u64::from(pages), u128::from(largest))
             }
             ChunkAnswer::Stranger => plain(alloc, "stranger"),
             ChunkAnswer::Value { value } => with_number(alloc, "", value),

@@ -72,7 +72,12 @@ impl ContentsAnswer {
             ContentsAnswer::NoName => plain(alloc, "noname"),
             ContentsAnswer::Done => plain(alloc, "ok"),
             ContentsAnswer::Granted { bytes } => with_number(alloc, "ok ", bytes),
-            ContentsAnswer::Full { wanted, free } => with_numbers(alloc, "tocfull ", wanted, free),
+            ContentsAnswer::Full { wanted, free } => with_numbers(
+                alloc,
+                "tocfull ",
+                wanted,
+                u128::from(free),
+            ),
             ContentsAnswer::KeyThere => plain(alloc, "keythere"),
             ContentsAnswer::None => plain(alloc, "none"),
             ContentsAnswer::Found { place } => found(alloc, chunks, place),

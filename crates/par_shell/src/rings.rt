@@ -93,7 +93,7 @@ impl RingAnswer {
             RingAnswer::Got => got(alloc, message),
             RingAnswer::Done => plain(alloc, "ok"),
             RingAnswer::NoSpace { pages, largest } => {
-                with_numbers(alloc, "nospace ", u64::from(pages), u64::from(largest))
+                with_numbers(alloc, "nospace ", u64::from(pages), u128::from(largest))
             }
         }
     }

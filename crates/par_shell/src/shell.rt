@@ -9,6 +9,7 @@ use crate::chunks::Chunks;
 use crate::contents::{Contents, TOC_WORDS};
 use crate::heap::Heap;
 use crate::rings::Rings;
+use crate::table::Cells;
 use dsa_area::area_words;
 use region_words::Region;
 use shell_words::{Command, read_line};
@@ -21,6 +22,7 @@ pub struct Shell {
     region: Region,
     heap: Heap,
     chunks: Chunks,
+    cells: Cells,
     rings: Rings,
     contents: Contents,
     barriers: Barriers,
@@ -44,6 +46,7 @@ impl Shell {
             region,
             heap,
             chunks: Chunks::new(alloc),
+            cells: Cells::new(),
             rings: Rings::new(alloc),
             contents,
             barriers: Barriers::new(alloc),
@@ -67,6 +70,10 @@ impl Shell {
             Some(Command::Chunk(asked)) => {
                 let heap = &mut self.heap;
                 self.chunks.answer(rt, alloc, r, heap, asked)
+            }
+            Some(Command::Table(asked)) => {
+                let heap = &mut self.heap;
+                self.cells.answer(rt, alloc, r, heap, asked)
             }
             Some(Command::Ring(asked)) => {
                 let heap = &mut self.heap;

@@ -270,7 +270,6 @@ fn lines_that_are_no_command(rt: HostRuntime) -> Result<(), Fail> {
         ("bar new b 0", "?"),
         ("bar new b 65", "?"),
         ("bar leave b 1", "?"),
-        ("get k", "?"),
     ];
     assert!(rt; answers(&rt, rt.alloc(), "", &turns)?);
     Ok(())
@@ -294,5 +293,125 @@ fn ends_with_a_status(rt: HostRuntime) -> Result<(), Fail> {
     let second = run(&rt, rt.alloc(), "", script, &[], &[2])?;
     assert!(rt; second.status == WRITE_FAULT && second.out.as_slice() == b"ok 24".as_slice());
     assert!(rt; second.err.as_slice() == b"parsh: write fault\n".as_slice());
+    Ok(())
+}
+
+/// A table of numbers: each line and its answer.
+const NUMBERS: [(&str, &str); 12] = [
+    ("get k", "notable"),
+    ("table", "ok"),
+    ("put k 5", "new"),
+    ("put k 6", "old 5"),
+    ("get k", "6"),
+    ("del k", "6"),
+    ("get k", "none"),
+    ("fill 1000", "new 1000"),
+    ("fill 1000", "new 0"),
+    ("total", "total 1000 500500"),
+    ("put m 18446744073709551615", "new"),
+    ("total", "total 1001 18446744073710052115"),
+];
+
+#[test]
+fn the_table_keeps_numbers(rt: HostRuntime) -> Result<(), Fail> {
+    assert!(rt; answers(&rt, rt.alloc(), "--pages 1024", &NUMBERS)?);
+    let no_room = [
+        ("table", "nospace 16 0"),
+        ("put k 5", "notable"),
+        ("total", "notable"),
+    ];
+    assert!(rt; answers(&rt, rt.alloc(), "--pages 0", &no_room)?);
+    // The slices of the table take a superblock; there is none for items.
+    let full = [
+        ("total", "notable"),
+        ("table", "ok"),
+        ("table", "ok"),
+        ("put k 5", "nospace 16 0"),
+        ("get k", "none"),
+        ("del k", "none"),
+        ("fill 3", "nospace 16 0"),
+        ("total", "total 0 0"),
+    ];
+    assert!(rt; answers(&rt, rt.alloc(), "--pages 16", &full)?);
+    let range = [
+        ("fill 0", "?"),
+        ("fill 100001", "?"),
+        ("put k 18446744073709551616", "?"),
+        ("put k", "?"),
+        ("total 1", "?"),
+        ("del k k", "?"),
+    ];
+    assert!(rt; answers(&rt, rt.alloc(), "", &range)?);
+    Ok(())
+}
+
+/// The script and the answers of the table of numbers.
+fn numbers(alloc: Global) -> Result<(Vec<u8>, Vec<u8>), AllocError> {
+    let mut script = Vec::new(alloc);
+    let mut wanted = Vec::new(alloc);
+    for (line, answer) in NUMBERS {
+        script.extend_from_slice(line.as_bytes())?;
+        script.push(b'\n')?;
+        wanted.extend_from_slice(answer.as_bytes())?;
+        wanted.push(b'\n')?;
+    }
+    Ok((script, wanted))
+}
+
+#[test]
+fn each_read_fails_in_turn(rt: HostRuntime) -> Result<(), Fail> {
+    let (script, wanted) = numbers(rt.alloc())?;
+    // Pieces of 7 bytes, and one more read that finds the end.
+    let reads = script.len().div_ceil(7) as u64 + 1;
+    for call in 1..=reads {
+        let ran = run(
+            &rt,
+            rt.alloc(),
+            "--pages 1024",
+            script.as_slice(),
+            &[call],
+            &[],
+        )?;
+        assert!(rt; ran.status == READ_FAULT && ran.out.is_empty() && !ran.has_shell);
+        assert!(rt; ran.err.as_slice() == b"parsh: read fault\n".as_slice());
+    }
+    let ran = run(
+        &rt,
+        rt.alloc(),
+        "--pages 1024",
+        script.as_slice(),
+        &[reads + 1],
+        &[],
+    )?;
+    assert!(rt; ran.status == ANSWERED && ran.out == wanted && ran.err.is_empty());
+    Ok(())
+}
+
+#[test]
+fn each_write_fails_in_turn(rt: HostRuntime) -> Result<(), Fail> {
+    let (script, wanted) = numbers(rt.alloc())?;
+    let writes = wanted.len().div_ceil(5);
+    for call in 1..=writes {
+        let ran = run(
+            &rt,
+            rt.alloc(),
+            "--pages 1024",
+            script.as_slice(),
+            &[],
+            &[call as u64],
+        )?;
+        assert!(rt; ran.status == WRITE_FAULT && !ran.has_shell);
+        assert!(rt; ran.out.as_slice() == &wanted.as_slice()[..5 * (call - 1)]);
+        assert!(rt; ran.err.as_slice() == b"parsh: write fault\n".as_slice());
+    }
+    let ran = run(
+        &rt,
+        rt.alloc(),
+        "--pages 1024",
+        script.as_slice(),
+        &[],
+        &[writes as u64 + 1],
+    )?;
+    assert!(rt; ran.status == ANSWERED && ran.out == wanted && ran.err.is_empty());
     Ok(())
 }

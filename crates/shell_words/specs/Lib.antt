@@ -1,5 +1,6 @@
 pub mod Words
 pub mod ChunkRequests
+pub mod TableRequests
 pub mod RingRequests
 pub mod TocRequests
 pub mod BarrierRequests

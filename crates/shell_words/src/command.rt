@@ -7,12 +7,14 @@ use crate::barriers::{BarrierCommand, barrier_command};
 use crate::chunks::{ChunkCommand, chunk_command};
 use crate::contents::{TocCommand, toc_command};
 use crate::rings::{RingCommand, ring_command, send_command};
+use crate::table::{TableCommand, table_command};
 use crate::words::Words;
 
 /// A command.
 #[derive(Clone, Copy, Debug, PartialEq, Eq)]
 pub enum Command<'a> {
     Chunk(ChunkCommand<'a>),
+    Table(TableCommand<'a>),
     Ring(RingCommand<'a>),
     Toc(TocCommand<'a>),
     Barrier(BarrierCommand<'a>),
@@ -30,6 +32,9 @@ pub fn read_line<'a>(line: &'a [u8]) -> Option<Command<'a>>
     let words = words.as_slice();
     if let Some(chunk) = chunk_command(words) {
         return Some(Command::Chunk(chunk));
+    }
+    if let Some(table) = table_command(words) {
+        return Some(Command::Table(table));
     }
     if let Some(ring) = ring_command(words) {
         return Some(Command::Ring(ring));

@@ -14,6 +14,13 @@ fn each_command_is_read(rt: HostRuntime) -> Result<(), Fail> {
             Some(Command::Chunk(ChunkCommand::Alloc { name, bytes: 24 })),
         ),
         (
+            b"put a 18446744073709551615",
+            Some(Command::Table(TableCommand::Put {
+                key: name,
+                value: u64::MAX,
+            })),
+        ),
+        (
             b"send a  b  c",
             Some(Command::Ring(RingCommand::Send {
                 name,

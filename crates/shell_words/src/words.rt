@@ -83,7 +83,8 @@ pub(crate) fn is(word: &[u8], text: &str) -> bool
 
 /// The word as a name: one to 64 bytes.
 pub(crate) fn name(word: &[u8]) -> Option<&[u8]>
-    ensures { option_map (λ name. name.now) result ≡ name_in word.now }
+    ensures name { option_map (λ name. name.now) result ≡ name_in word.now }
+    ensures short { IfSome result (λ name. length name.now ≤ 64) }
 {
     (!word.is_empty() && word.len() <= LONGEST_NAME).then_some(word)
 }
