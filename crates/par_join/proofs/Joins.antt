@@ -69,9 +69,9 @@ module _ (left right : Table) (l r : ℕ) where
       All-flat (IsWritable left right) pairs (numbers_of left)
       (All-wider (λ row. row < length left) (λ row. All (IsWritable left right) (pairs row))
       (λ row lt. All-map (IsWritable left right) (λ other. record { left = row; right = other }) (filter (is_pair left right l r row) (numbers_of right))
-        (All-filter (is_pair left right l r row) (λ other. IsWritable left right (record { left = row; right = other })) (numbers_of right)
-        (All-wider (λ other. other < length right) (λ other. IsWritable left right (record { left = row; right = other }))
-        (λ other there. record { of_left = full left l l_within of_left row lt; of_right = full right r r_within of_right other there }) (numbers_of right) (numbers_all right))))
+      (All-filter (is_pair left right l r row) (λ other. IsWritable left right (record { left = row; right = other })) (numbers_of right)
+      (All-wider (λ other. other < length right) (λ other. IsWritable left right (record { left = row; right = other }))
+      (λ other there. record { of_left = full left l l_within of_left row lt; of_right = full right r r_within of_right other there }) (numbers_of right) (numbers_all right))))
       (numbers_of left) (numbers_all left))
 
   -- those of a join can be written
@@ -86,7 +86,7 @@ module _ (left right : Table) (l r : ℕ) where
       let within : length (pairs_of left right l r) ≤ 1048576 = omega (arith, count, few) in
       let fits : nat_lt 1048576 (length (pairs_of left right l r)) ≡ false = grind (arith, nat_tests, within) in
       let is : by_pairs left right l r ≡ Joins (joined_records left right (pairs_of left right l r)) =
-        ap (λ (b : Bool). if b then Fails cause.TooManyPairs else Joins (joined_records left right (pairs_of left right l r))) fits in
+      ap (λ (b : Bool). if b then Fails cause.TooManyPairs else Joins (joined_records left right (pairs_of left right l r))) fits in
       inr (on.left_rows, on.right_rows, ap (λ (pairs : List Pair). Joins (joined_records left right pairs)) on.pairs ∙ sym is)
 
 -- ---- the bytes
@@ -135,7 +135,7 @@ module _ (asked : Asked) (left : Option (List ℕ)) (ready : Ready) where
     left_column = subst (λ (t : Table). column_of (record_at t 0) asked.column ≡ Some ready.left_column) is.left_is is.columns.left_is;
     right_column = subst (λ (t : Table). column_of (record_at t 0) asked.column ≡ Some ready.right_column) is.right_is is.columns.right_is;
     on = subst (λ (t : Table). IsJoinOn (left_of bytes is.place) t ready.left_column ready.right_column asked.workers j) is.right_is
-      (subst (λ (t : Table). IsJoinOn t ready.right ready.left_column ready.right_column asked.workers j) is.left_is on);
+        (subst (λ (t : Table). IsJoinOn t ready.right ready.left_column ready.right_column asked.workers j) is.left_is on);
   }
 
   -- and the join is that of the bytes

@@ -24,14 +24,12 @@ ghost use Rattle.query_answer.specs.Lines.{IsSaid, line, statuses};
 ghost use Rattle.par_join.specs.Answers.{status_in, stop_of_join};
 ghost use Rattle.par_join.specs.Used.{IsJoinBy, IsJoinOn};
 
-use hash_join::{JoinAnswer, join};
 pub use hash_join::Joined;
-use join_query::{Cause, JoinWords, Ready, Stop, prepare, read_words, write_joined};
+use hash_join::{JoinAnswer, join};
 pub use join_query::is_join;
+use join_query::{Cause, JoinWords, Ready, Stop, prepare, read_words, write_joined};
 use par_io::{Sink, Source};
-pub use query_answer::{
-    MISUSED, NO_MEMORY, READ_FAULT, REFUSED, TABLE, TOO_LARGE, WRITE_FAULT,
-};
+pub use query_answer::{MISUSED, NO_MEMORY, READ_FAULT, REFUSED, TABLE, TOO_LARGE, WRITE_FAULT};
 use std::alloc::Global;
 use std::sync::Wait;
 use std::thread::Threads;

@@ -21,9 +21,11 @@ returns-in_default-clause-complete g c = λ read write.
 
 pub returns-in_default-clause-line : goal.returns-in_default-clause-line
 returns-in_default-clause-line g c =
-    let left = g.S.Source.left c.args.source.now in
-    (line (stop_text [] (stop.Because cause.Usage)),
-      ends_line None (join_of (texts c.args.words.now)) left (stop.Because cause.Usage) c.end.result c.in_default.ensures.asked c.end.ensures.status (usage_explained left), c.end.ensures.said)
+    let left = g.S.Source.left c.args.source.now in (
+      line (stop_text [] (stop.Because cause.Usage)),
+      ends_line None (join_of (texts c.args.words.now)) left (stop.Because cause.Usage) c.end.result c.in_default.ensures.asked c.end.ensures.status (usage_explained left),
+      c.end.ensures.said,
+    )
 
 pub returns-in-Ok-clause-outcome : goal.returns-in-Ok-clause-outcome
 returns-in-Ok-clause-outcome g c = λ fine.
@@ -49,6 +51,8 @@ returns-in-Err-clause-complete g c = λ read write.
 
 pub returns-in-Err-clause-line : goal.returns-in-Err-clause-line
 returns-in-Err-clause-line g c =
-    let asked = asked_by c.in-Some.asked in
-    (line (stop_text asked.column c.in-Err.stop),
-      ends_line (Some asked) (join_of (texts c.args.words.now)) (g.S.Source.left c.args.source.now) c.in-Err.stop c.end-in-Err.result c.in-Some.ensures.asked c.end-in-Err.ensures.status c.in-Err.ensures.why, c.end-in-Err.ensures.said)
+    let asked = asked_by c.in-Some.asked in (
+      line (stop_text asked.column c.in-Err.stop),
+      ends_line (Some asked) (join_of (texts c.args.words.now)) (g.S.Source.left c.args.source.now) c.in-Err.stop c.end-in-Err.result c.in-Some.ensures.asked c.end-in-Err.ensures.status c.in-Err.ensures.why,
+      c.end-in-Err.ensures.said,
+    )
