@@ -18,18 +18,20 @@ pub struct Refused {
     pub cause: u8,
 }
 
-/// Why a row is refused, if it is.
-fn cause_of(rows: &RowStore, column: u32, row: u64) -> Option<u8>
+/// Why a row of a table is refused whose header has so many fields, if it is.
+fn cause_of(rows: &RowStore, width: u32, column: u32, row: u64) -> Option<u8>
     requires row { IsRow rows.now row }
-    requires column { column < width_of rows.now }
+    requires width { width ≡ width_of rows.now }
+    requires column { column < width }
     ensures refused { IfSome result (λ cause. IsRefused rows.now column row cause) }
     ensures accepted { IfNone result (IsAccepted rows.now column row) }
     ensures bytes { IfNone result (AllBytes (field_of rows.now row column)) }
 {
-    if rows.width(row) != rows.width(0) {
+    let record = rows.find(row);
+    if record.width() != width {
         return Some(WIDTH_CAUSE);
     }
-    let field = rows.field(row, column);
+    let field = record.field(column);
     if field.len() > LONGEST_KEY {
         return Some(KEY_CAUSE);
     }
@@ -43,8 +45,9 @@ pub fn first_refused(rows: &RowStore, column: u32) -> Option<Refused>
     ensures accepted { IfNone result (AllAccepted rows.now column) }
     ensures bytes { IfNone result ((row : ℕ) → IsRow rows.now row → AllBytes (field_of rows.now row column)) }
 {
+    let width = rows.width(0);
     for row in 1..rows.count() + 1 {
-        if let Some(cause) = cause_of(rows, column, row) {
+        if let Some(cause) = cause_of(rows, width, column, row) {
             return Some(Refused { row, cause });
         }
     }
