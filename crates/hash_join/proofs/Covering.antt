@@ -97,7 +97,7 @@ module _ (records : Table) (column : ℕ) (history : ℕ → List RowEntry) (ps 
       let i = partition_of (hash_of key) in
       let here = λ (l : Link). partition_at records column l.row == i in
       let has = λ (l : Link). eq_by_cmp (slice_cmp nat_cmp) key (key_of records column l.row) in
-      let pairs = λ (l : Link). (key_of records column l.row, l) in
+      let pairs : Link → List ℕ × Link = λ l. (key_of records column l.row, l) in
       let one : filter (is_key key) (calls_at records column i links) ≡ map pairs (with_key key) =
       filter-map (is_key key) pairs (filter here links) ∙ ap (map pairs) (filter-within has here (λ l e. let k = ap (λ (z : List ℕ). partition_of (hash_of z)) (same l e) in grind (arith, k)) links) in
       let moved = IsPermutation-map row_and_before (filter (is_key key) (done_in (history i))) (filter (is_key key) (calls_at records column i links)) (filter-permutation (is_key key) (done_in (history i)) (calls_at records column i links) (all_done i low)) in

@@ -1,11 +1,12 @@
 -- The law of the first round: whatever rows the participants put in and in which order, the entries of the closed table
 -- and the links cover all rows that have a field.
-use Rattle.std.proofs.Common.{◌≡◌, ◌≢◌, ◌<◌, ◌≤◌, ◌+◌, ◌*◌, ◌++◌, ℕ, zero, suc, Bool, true, false, cond, filter, List, [], ◌∷◌, Contains, Option, Some, None, length, map, replicate, slice_get, slice_index_or, refl, ap, sym, subst, ◌∙◌, arith, length-replicate}
+use Rattle.std.proofs.Common.{◌≡◌, ◌≢◌, ◌<◌, ◌≤◌, ◌+◌, ◌*◌, ◌++◌, ℕ, zero, suc, Bool, true, false, cond, filter, List, [], ◌∷◌, Contains, Option, Some, None, length, map, replicate, slice_get, slice_index_or, refl, ap, sym, subst, ◌∙◌, arith}
 use Rattle.std.specs.FinMap as fin
 use Rattle.std.specs.Cmp.Lexicographic.{slice_cmp}
 use Rattle.std.specs.List.{AllByRecursion, flat_map}
 use Rattle.std.specs.List.Sorted.{IsPermutation}
 use Rattle.std.specs.Ordering.{eq_by_cmp, nat_cmp}
+use Rattle.std.proofs.lemmas.List.{length-replicate}
 use Rattle.std.proofs.lemmas.List.Elements.{All-contains, All-from_recursion}
 use Rattle.std.proofs.lemmas.List.Sorted.{length_permutation}
 use Rattle.csv_rows.specs.Records.{field_of}
@@ -97,11 +98,12 @@ module _ (records : Table) (column : ℕ) (history : ℕ → List RowEntry) (ps 
       let low : i < 128 = partition_low key in
       let calls = calls_of_key key (history i) in
       let test = λ (m : Link). eq_by_cmp (slice_cmp nat_cmp) key (key_of records column m.row) in
-      let same : IsPermutation calls (map (λ (m : Link). (m.row, m.before)) (filter test joined)) =
+      let parts : Link → ℕ × ℕ = λ m. (m.row, m.before) in
+      let same : IsPermutation calls (map parts (filter test joined)) =
       key_rows records column history ps made no_others key low (key_is records column history ps made no_others lawful tells key) in
       let some : 0 < length (filter test joined) = some_passes test has.0 joined l has.1 has.2 (itself records column history ps made no_others lawful tells key) in
-      let long : length (map (λ (m : Link). (m.row, m.before)) (filter test joined)) ≡ length calls = length_permutation calls (map (λ (m : Link). (m.row, m.before)) (filter test joined)) same in
-      let mapped : length (map (λ (m : Link). (m.row, m.before)) (filter test joined)) ≡ length (filter test joined) = length-map (λ (m : Link). (m.row, m.before)) (filter test joined) in
+      let long : length (map parts (filter test joined)) ≡ length calls = length_permutation calls (map parts (filter test joined)) same in
+      let mapped : length (map parts (filter test joined)) ≡ length (filter test joined) = length-map parts (filter test joined) in
       let called : 0 < length calls = omega (arith, some, long, mapped) in
       let state = run_some calls (fin.get (map_at history i) key) called (keys_are_cells last_step i key (history i) (lawful i low)) in
       let entry = entry_of records column history ps made no_others lawful entries listed i low key state.0 state.1 in

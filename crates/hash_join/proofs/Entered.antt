@@ -107,20 +107,20 @@ module _ (records : Table) (column : ℕ) (history : ℕ → List RowEntry) (ps 
       by false e =
           other_bytes (field_of records l.row column) (field_of records last column)
           (λ same. let keys : key_of records column l.row ≡ key = ap (λ (f : List ℕ). packed_key f) same ∙ h.1 in
-            let yes : same_key key l ≡ true = ap (λ (k : List ℕ). eq_by_cmp (slice_cmp nat_cmp) key k) keys ∙ itself key in
-            let no : true ≡ false = sym yes ∙ e in absurd (cc))
+          let yes : same_key key l ≡ true = ap (λ (k : List ℕ). eq_by_cmp (slice_cmp nat_cmp) key k) keys ∙ itself key in
+          let no : true ≡ false = sym yes ∙ e in absurd (cc))
 
   pub record IsEntry (key : List ℕ) (last : ℕ) : Type 0 where
     pub here : HasKey key last
     pub chain : HasChain before records column (map (λ (l : Link). l.row) all) (field_of records last column) last
 
-  pub entry_chain : AreOnce all → AllByRecursion (λ (l : Link). IsRow records l.row) all → (length (replicate (length records) 0) ≡ length records) → (key : List ℕ) (last : ℕ) → fin.get (map_at history (partition_of (hash_of key))) key ≡ Some last → IsEntry key last
+  pub entry_chain : AreOnce all → AllByRecursion (λ (l : Link). IsRow records l.row) all → (length {A = ℕ} (replicate (length records) 0) ≡ length records) → (key : List ℕ) (last : ℕ) → fin.get (map_at history (partition_of (hash_of key))) key ≡ Some last → IsEntry key last
   entry_chain once rows long key last there =
       let i = partition_of (hash_of key) in
       let low : i < 128 = partition_low key in
       let calls = calls_of_key key (history i) in
       let kept = with_key records column history ps made no_others key in
-      let rb = λ (l : Link). (l.row, l.before) in
+      let rb : Link → ℕ × ℕ = λ l. (l.row, l.before) in
       let same : IsPermutation calls (map rb kept) = key_rows records column history ps made no_others key low (key_is key) in
       let room = members_map (λ (l : Link). IsRow records l.row) (λ (l : Link). l.row < length (replicate (length records) 0)) (λ l r. subst (λ n. l.row < n) (sym long) r.1) all rows in
       let set = members_both (λ (l : Link). IsRow records l.row) (λ (l : Link). before l.row ≡ l.before) (λ (l : Link). (l.row ≢ 0) × (before l.row ≡ l.before)) (λ l r b. ((λ e. let no : ⊥ = omega (arith, r.0, e) in no), b)) all rows

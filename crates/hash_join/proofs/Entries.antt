@@ -9,7 +9,7 @@ use Rattle.std.proofs.lemmas.Map.Lookups.{exact_bytes}
 use Rattle.std.proofs.lemmas.Map.Views.{tells_apart}
 use Rattle.dshash_core.specs.Cells.{KeyMap}
 
-abbrev map_of : List (List ℕ × ℕ) → KeyMap ℕ
+abbrev pub map_of : List (List ℕ × ℕ) → KeyMap ℕ
 map_of es = fin.from_entries es
 
 -- the map of a list has at most its entries
@@ -27,7 +27,7 @@ AreIn m es = AllByRecursion (λ (e : List ℕ × ℕ). fin.get m e.0 ≡ Some e.
 
 pub lists_states : (es : List (List ℕ × ℕ)) → length es ≡ fin.len (map_of es) → AreIn (map_of es) es
 lists_states [] h = tt
-lists_states (e ∷ es) h = by (fin.contains_key (map_of es) e.0) refl (fin.len-insert nat_list_cmp_total (map_of es) e.0 e.1)
+lists_states (e ∷ es) h = by (fin.contains_key (map_of es) e.0) refl (fin.len-insert nat_list_cmp_total (map_of es) e.0 e.1) (lists_states es)
   where
     own : fin.get (map_of (e ∷ es)) e.0 ≡ Some e.1
     own = fin.get-insert nat_list_cmp_total (map_of es) e.0 e.1 e.0 ∙ ap (λ r. cond {A = Option ℕ} (is_eq r) (Some e.1) (fin.get (map_of es) e.0)) (tied_itself nat_list_cmp_total e.0)
@@ -44,13 +44,14 @@ lists_states (e ∷ es) h = by (fin.contains_key (map_of es) e.0) refl (fin.len-
             let there : fin.contains_key (map_of es) e.0 ≡ true = ap (λ (k : List ℕ). is_some (fin.get (map_of es) k)) (sym tied) ∙ ap is_some a.0 in
             let no : true ≡ false = sym there ∙ new in cc
 
-    by : (b : Bool) → fin.contains_key (map_of es) e.0 ≡ b → fin.len (map_of (e ∷ es)) ≡ cond {A = ℕ} (fin.contains_key (map_of es) e.0) (fin.len (map_of es)) (fin.len (map_of es) + 1) → AreIn (map_of (e ∷ es)) (e ∷ es)
-    by true t l =
+    by : (b : Bool) → fin.contains_key (map_of es) e.0 ≡ b → fin.len (map_of (e ∷ es)) ≡ cond {A = ℕ} (fin.contains_key (map_of es) e.0) (fin.len (map_of es)) (fin.len (map_of es) + 1)
+        → (length es ≡ fin.len (map_of es) → AreIn (map_of es) es) → AreIn (map_of (e ∷ es)) (e ∷ es)
+    by true t l states =
         let less : fin.len (map_of (e ∷ es)) ≡ fin.len (map_of es) = l ∙ ap (λ b. cond {A = ℕ} b (fin.len (map_of es)) (fin.len (map_of es) + 1)) t in
         absurd (omega (arith, less, few es, h))
-    by false t l =
+    by false t l states =
         let more : fin.len (map_of (e ∷ es)) ≡ fin.len (map_of es) + 1 = l ∙ ap (λ b. cond {A = ℕ} b (fin.len (map_of es)) (fin.len (map_of es) + 1)) t in
-        (own, kept t es (lists_states es (omega (arith, more, h))))
+        (own, kept t es (states (omega (arith, more, h))))
 
 -- no two entries have one key
 abbrev pub KeysOnce : List (List ℕ × ℕ) → Type 0

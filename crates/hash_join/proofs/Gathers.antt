@@ -43,6 +43,10 @@ module _ (records : Table) (column : ℕ) where
   together : (ds : List (List ℕ)) (ps : List (List Link)) (ss : List (List ℕ)) → AllPut records column ds ps ss
       → IsPermutation (keyed records column (flat_map (numbers_of_blocks records) ds)) (rows_of (flat_map (λ l. l) ps) ++ flat_map (λ l. l) ss)
   together [] [] [] h = IsPermutation-refl []
+  together [] [] (s ∷ ss) h = absurd h
+  together [] (p ∷ ps) ss h = absurd h
+  together (d ∷ ds) [] ss h = absurd h
+  together (d ∷ ds) (p ∷ ps) [] h = absurd h
   together (d ∷ ds) (p ∷ ps) (s ∷ ss) h =
       let here = numbers_of_blocks records d in
       let rest = flat_map (numbers_of_blocks records) ds in
@@ -59,7 +63,7 @@ module _ (records : Table) (column : ℕ) where
   pub all_rows : (ds : List (List ℕ)) (ps : List (List Link)) (ss : List (List ℕ)) (n : ℕ) → AllPut records column ds ps ss → ((x : ℕ) → times x (flat ds) ≡ once_below x n) → length records ≤ 256 * n + 1
       → IsPermutation (keyed records column (numbers_of records)) (rows_of (flat_map (λ l. l) ps) ++ flat_map (λ l. l) ss)
   all_rows ds ps ss n h once cover =
-      let test = λ row. not (is_null (field_of records row column)) in
+      let test = λ (row : ℕ). not (is_null (field_of records row column)) in
       let drawn = numbers_of_blocks records (flat ds) in
       let all = rows_of (flat_map (λ (l : List Link). l) ps) ++ flat_map (λ (l : List ℕ). l) ss in
       let back : IsPermutation (keyed records column (numbers_of records)) (keyed records column drawn) =
@@ -69,25 +73,20 @@ module _ (records : Table) (column : ℕ) where
 
   -- ---- what is known of all links
 
-  all_below : (n : ℕ) → All (λ k. k < n) (below n)
-  all_below zero = All-nil (λ k. k < 0)
-  all_below (suc n) = All-push (λ k. k < suc n) (below n) n (All-weaker (λ k. k < n) (λ k. k < suc n) (λ k l. omega (arith, l)) (below n) (all_below n)) (omega arith)
+  drop_push : (xs : List ℕ) (x y : ℕ) → drop 1 ((xs ++ y ∷ []) ++ x ∷ []) ≡ drop 1 (xs ++ y ∷ []) ++ x ∷ []
+  drop_push [] x y = refl
+  drop_push (z ∷ zs) x y = refl
+
+  below_rows : (n : ℕ) → All (λ k. (1 ≤ k) × (k < n)) (drop 1 (below n))
+  below_rows zero = All-nil (λ k. (1 ≤ k) × (k < 0))
+  below_rows (suc zero) = All-nil (λ k. (1 ≤ k) × (k < 1))
+  below_rows (suc (suc n)) =
+      subst (All (λ k. (1 ≤ k) × (k < suc (suc n)))) (sym (drop_push (below n) (suc n) n))
+      (All-push (λ k. (1 ≤ k) × (k < suc (suc n))) (drop 1 (below (suc n))) (suc n)
+      (All-weaker (λ k. (1 ≤ k) × (k < suc n)) (λ k. (1 ≤ k) × (k < suc (suc n))) (λ k l. (l.0, omega (arith, l.1))) (drop 1 (below (suc n))) (below_rows (suc n))) (omega arith, omega arith))
 
   pub all_are_rows : All (IsRow records) (numbers_of records)
-  all_are_rows = from (length records)
-    where
-      low : (n : ℕ) → All (λ k. (1 ≤ k) × (k < n)) (drop 1 (below n))
-      low zero = All-nil (λ k. (1 ≤ k) × (k < 0))
-      low (suc zero) = All-nil (λ k. (1 ≤ k) × (k < 1))
-      low (suc (suc n)) = subst (All (λ k. (1 ≤ k) × (k < suc (suc n)))) (sym (front (below n) (suc n) n))
-          (All-push (λ k. (1 ≤ k) × (k < suc (suc n))) (drop 1 (below (suc n))) (suc n) (All-weaker (λ k. (1 ≤ k) × (k < suc n)) (λ k. (1 ≤ k) × (k < suc (suc n))) (λ k l. (l.0, omega (arith, l.1))) (drop 1 (below (suc n))) (low (suc n))) (omega arith, omega arith))
-
-      front : (xs : List ℕ) (x y : ℕ) → drop 1 ((xs ++ y ∷ []) ++ x ∷ []) ≡ drop 1 (xs ++ y ∷ []) ++ x ∷ []
-      front [] x y = refl
-      front (z ∷ zs) x y = refl
-
-      from : (n : ℕ) → All (λ k. (1 ≤ k) × (k < n)) (drop 1 (below n))
-      from n = low n
+  all_are_rows = below_rows (length records)
 
   module _ (links : List Link) (spilled : List ℕ) (all : IsPermutation (keyed records column (numbers_of records)) (rows_of links ++ spilled)) where
     pub links_are_rows : AllByRecursion (λ (l : Link). IsRow records l.row) links
@@ -103,7 +102,7 @@ module _ (records : Table) (column : ℕ) where
     pub links_are_once : AreOnce links
     links_are_once =
         once_links links (λ v.
-          let test = λ row. not (is_null (field_of records row column)) in
-          let same = sum_by-IsPermutation (one v) (keyed records column (numbers_of records)) (rows_of links ++ spilled) all in
-          let parts = sum_by-append (one v) (rows_of links) spilled in
-          omega (arith, same, parts, many_filter v test (numbers_of records), many_drop v (below (length records)) (many_below v (length records))))
+        let test = λ (row : ℕ). not (is_null (field_of records row column)) in
+        let same = sum_by-IsPermutation (one v) (keyed records column (numbers_of records)) (rows_of links ++ spilled) all in
+        let parts = sum_by-append (one v) (rows_of links) spilled in
+        omega (arith, same, parts, many_filter v test (numbers_of records), many_drop v (below (length records)) (many_below v (length records))))

@@ -97,9 +97,6 @@ put_moved records column rows mine calls at_pages links spilled same grown h = r
 }
 
 module _ (records : Table) (column : ℕ) (s : Store) (c : Claims) (fs : List Filler) (h : Home) (home : IsHome records column s c fs h) where
-  abbrev table_of : Filler → _
-  table_of f = f.table
-
   -- ---- the tokens
 
   pub home_areas : area.AreAll s.area h.areas.items

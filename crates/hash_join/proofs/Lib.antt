@@ -6,7 +6,9 @@ pub mod Homes
 pub mod Gathers
 pub mod Entries
 pub mod Listing
+pub mod Meets
 pub mod Parts
 pub mod Putting
+pub mod Rounds
 pub mod Seen
 pub mod Traced

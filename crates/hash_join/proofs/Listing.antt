@@ -56,7 +56,7 @@ module _ (records : Table) (column : ℕ) (history : ℕ → List RowEntry) (ps 
       let listed = filter (is_key key) (calls_at records column i all) in
       let moved : IsPermutation mine listed = filter-permutation (is_key key) (done_in (history i)) (calls_at records column i all) (all_done records column history ps made no_others i low) in
       let here = λ (l : Link). partition_at records column l.row == i in
-      let pairs = λ (l : Link). (key_of records column l.row, l) in
+      let pairs : Link → List ℕ × Link = λ l. (key_of records column l.row, l) in
       let has = λ (l : Link). is_key key (pairs l) in
       let are : All (λ (d : List ℕ × Link). partition_of (hash_of key) ≡ i) (map pairs (filter has (filter here all))) =
       passed (λ (l : Link). partition_at records column l.row ≡ i) (λ (d : List ℕ × Link). partition_of (hash_of key) ≡ i) has pairs

@@ -33,18 +33,18 @@ module _ {A : Type 0} (b : ℕ) (l : List A) where
 
   pick : (n : ℕ) → b < n → flat_map picked (below n) ≡ l
   pick zero h = absurd (omega (arith, h))
-  pick (suc n) h = by (b == n) refl
+  pick (suc n) h = by (λ l. pick n l) (b == n) refl
     where
       whole : flat_map picked (below n ++ n ∷ []) ≡ flat_map picked (below n) ++ picked n
       whole = flat_map-append picked (below n) (n ∷ []) ∙ ap (λ (m : List A). flat_map picked (below n) ++ m) (append-nil (picked n))
 
-      by : (t : Bool) → (b == n) ≡ t → flat_map picked (below n ++ n ∷ []) ≡ l
-      by true e =
+      by : (b < n → flat_map picked (below n) ≡ l) → (t : Bool) → (b == n) ≡ t → flat_map picked (below n ++ n ∷ []) ≡ l
+      by earlier true e =
           let same : b ≡ n = grind (arith, e) in
           whole ∙ ap (λ (m : List A). m ++ picked n) (pick_none n (omega (arith, same))) ∙ ap (λ t. cond {A = List A} t l []) e
-      by false e =
+      by earlier false e =
           let ne : b < n = (let no : b ≢ n = grind (arith, e) in omega (arith, h, no)) in
-          whole ∙ ap (λ (m : List A). m ++ picked n) (pick n ne) ∙ ap (λ t. l ++ cond {A = List A} t l []) e ∙ append-nil l
+          whole ∙ ap (λ (m : List A). m ++ picked n) (earlier ne) ∙ ap (λ t. l ++ cond {A = List A} t l []) e ∙ append-nil l
 
 -- ---- all callers together
 

@@ -75,20 +75,14 @@ fn pair_up(
     areas.into_iter().zip(tables).zip(seats).collect(alloc)
 }
 
-/// The participants, each with its tokens.
-fn fillers(
+/// Participants with these tokens, which have done nothing yet.
+fn begin(
     alloc: Global,
-    passes: Passes,
-    seats: Vec<ClaimSeat>,
+    tokens: Vec<((AreaPass, DsPass<LastRow>), ClaimSeat)>,
 ) -> Result<Vec<Filler>, AllocError>
-    requires tables { length passes.tables.items ≡ length passes.areas.items }
-    requires seats { length seats.items ≡ length passes.areas.items }
-    ensures areas { IfOk result (λ v. map (λ (f : Filler). f.area) v.items ≡ passes.areas.items) }
-    ensures tables { IfOk result (λ v. map (λ (f : Filler). f.table) v.items ≡ passes.tables.items) }
-    ensures seats { IfOk result (λ v. map (λ (f : Filler). f.claim) v.items ≡ seats.items) }
+    ensures tokens { IfOk result (λ v. map (λ (f : Filler). ((f.area, f.table), f.claim)) v.items ≡ tokens.items) }
     ensures new { IfOk result (λ v. All (λ (f : Filler). (f.links.items ≡ []) × (f.spilled.items ≡ [])) v.items) }
 {
-    let tokens = pair_up(alloc, passes, seats)?;
     let mut fillers = Vec::with_capacity(alloc, tokens.len())?;
     for ((area, table), claim) in tokens {
         fillers.push(Filler {
@@ -100,6 +94,20 @@ fn fillers(
             lacks_memory: false,
         })?;
     }
+    Ok(fillers)
+}
+
+/// The participants, each with its tokens.
+fn fillers(alloc: Global, passes: Passes, seats: Vec<ClaimSeat>) -> Result<Vec<Filler>, AllocError>
+    requires tables { length passes.tables.items ≡ length passes.areas.items }
+    requires seats { length seats.items ≡ length passes.areas.items }
+    ensures areas { IfOk result (λ v. map (λ (f : Filler). f.area) v.items ≡ passes.areas.items) }
+    ensures tables { IfOk result (λ v. map (λ (f : Filler). f.table) v.items ≡ passes.tables.items) }
+    ensures seats { IfOk result (λ v. map (λ (f : Filler). f.claim) v.items ≡ seats.items) }
+    ensures new { IfOk result (λ v. All (λ (f : Filler). (f.links.items ≡ []) × (f.spilled.items ≡ [])) v.items) }
+{
+    let tokens = pair_up(alloc, passes, seats)?;
+    let fillers = begin(alloc, tokens)?;
     Ok(fillers)
 }
 
@@ -144,9 +152,12 @@ fn fill_all<R: Threads + Wait + Sync>(
     ensures filled { AreFilled rows.now column store.now claims.now fillers.old.items fillers.new.items }
 {
     let threads = fillers.len().max(1);
-    for_each_mut(rt, fillers.as_mut_slice(), threads, &|_, filler| {
-        fill(rt, store, rows, column, claims, filler)
-    });
+    for_each_mut(
+        rt,
+        fillers.as_mut_slice(),
+        threads,
+        &|_, filler| { fill(rt, store, rows, column, claims, filler) },
+    );
 }
 
 /// Takes the participants' tokens and lists apart. None may lack memory.

@@ -38,10 +38,7 @@ pub(crate) struct Passes {
 
 /// An area of its own region, and the passes of so many callers.
 #[tactic(auto, using(word_map::proofs::Maps::answers, std::proofs::lemmas::Bool::Decides::nat_tests))]
-fn open_area(
-    alloc: Global,
-    callers: u32,
-) -> Result<(Region, Area, Vec<AreaPass>), AllocError>
+fn open_area(alloc: Global, callers: u32) -> Result<(Region, Area, Vec<AreaPass>), AllocError>
     requires callers { 1 ≤ callers }
     ensures area { IfOk result (λ a. IsArea a.0 a.1) }
     ensures callers { IfOk result (λ a. area_callers a.1 ≡ callers) }

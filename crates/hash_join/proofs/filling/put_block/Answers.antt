@@ -18,7 +18,7 @@ loop-at-preserved g c =
       record { area = is.area ∙ was.area; table = is.table ∙ was.table; claim = is.claim ∙ was.claim },
       c.in-Ok.ensures.claim ∙ c.loop-at.invariant.2,
       λ list h. subst (λ (l : List ℕ). DidPut c.args.rows.now c.args.column l c.put_row.new.filler) (append_assoc list (take at numbers) (row ∷ []) ∙ ap (λ (l : List ℕ). list ++ l) (sym more))
-      (c.in-Ok.ensures.put (list ++ take at numbers) (c.loop-at.invariant.3 list h)),
+          (c.in-Ok.ensures.put (list ++ take at numbers) (c.loop-at.invariant.3 list h)),
     )
 
 pub returns-clause-put : goal.returns-clause-put
