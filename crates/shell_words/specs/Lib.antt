@@ -1,0 +1,6 @@
+pub mod Words
+pub mod ChunkRequests
+pub mod RingRequests
+pub mod TocRequests
+pub mod BarrierRequests
+pub mod Requests
