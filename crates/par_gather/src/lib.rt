@@ -75,7 +75,7 @@ pub enum Ran {
 /// Time is linear in the input, but for the look-up of each row's group and the order of the groups, or of the rows.
 /// Memory is the input, its records, about 700 bytes for each group, twice over while their list is made, and for each
 /// worker 82 KB and the groups that it keeps, 4,351 at most; for rows in order it is the input, its records, 16 bytes a
-/// row, 82 KB for each worker, and the text that is written.
+/// row, 82 KB for each worker, and 64 KiB of bytes that wait to be written.
 pub fn pargather<R: Threads + Wait + Sync, S: Source, O: Sink, E: Sink, G: Gate + Sync>(
     rt: &R,
     alloc: Global,
@@ -97,7 +97,7 @@ pub fn pargather<R: Threads + Wait + Sync, S: Source, O: Sink, E: Sink, G: Gate 
     ensures quiet { result ≡ TABLE → err.new ≡ err.old }
     ensures none { (result ≢ TABLE) → ran.new ≡ None }
 
-    // ---- Words that don't begin with `merge`
+    // ---- Words that are to name a plan
 
     // A status that tells of no fault is that of the outcome.
     ensures outcome { form_of (texts words.now) ≡ form.Plan → IfSome (S.left source.old) (λ bytes. (result ≢ READ_FAULT) → (result ≢ WRITE_FAULT) → (result ≢ NO_MEMORY)
@@ -132,7 +132,7 @@ pub fn pargather<R: Threads + Wait + Sync, S: Source, O: Sink, E: Sink, G: Gate 
     ensures ran { form_of (texts words.now) ≡ form.Plan → result ≡ TABLE → IfSome (S.left source.old) (λ bytes.
         (text : List ℕ) × IsRun (query_of (texts words.now)) bytes text ran.new × Appends (O.taken out.old) (O.taken out.new) text) }
 
-    // ---- Words that begin with `merge`
+    // ---- Words that are to be a merge, since they begin with `merge`
 
     // The status is that of the outcome of their plan.
     ensures merge_outcome { form_of (texts words.now) ≡ form.Merge → IfSome (S.left source.old) (λ bytes. (result ≢ READ_FAULT) → (result ≢ WRITE_FAULT) → (result ≢ NO_MEMORY)
