@@ -7,7 +7,8 @@ use Rattle.query_answer.specs.declared.status.TheConstants.{NO_MEMORY, TABLE}
 use Rattle.join_query.specs.Lines.{status_of}
 use Rattle.join_query.specs.Outcome.{Outcome, IsOutcome}
 use Rattle.join_query.specs.Stops.{stop_text}
-use Rattle.join_query.specs.Words.{Asked, asked_by, join_of, texts}
+use Rattle.query_answer.specs.Words.{texts}
+use Rattle.join_query.specs.Words.{Asked, asked_by, join_of}
 use Rattle.join_query.specs.declared.cause.Cause.TheVariants as cause
 use Rattle.join_query.specs.declared.stop.Stop.TheVariants as stop
 use Rattle.join_query.proofs.Statuses.{joins_complete, joins_outcome}
