@@ -62,13 +62,13 @@ module _ (left right : Table) where
   one_of_rows : (l r : ℕ) (o p : Outcome) → IsOfRows left right l r o → IsOfRows left right l r p → o ≡ p
   one_of_rows l r o p a b = elim a [
     | inl named ↦ elim b [
-        | inl other ↦ named.4 ∙ same_named l r named.0 other.0 named.1 other.1 named.2 other.2 named.3 other.3 ∙ sym other.4
-        | inr all ↦ absurd (none_named l r named.0 named.1 named.2 all.0 all.1 named.3)
-      ]
+      | inl other ↦ named.4 ∙ same_named l r named.0 other.0 named.1 other.1 named.2 other.2 named.3 other.3 ∙ sym other.4
+      | inr all ↦ absurd (none_named l r named.0 named.1 named.2 all.0 all.1 named.3)
+    ]
     | inr all ↦ elim b [
-        | inl named ↦ absurd (none_named l r named.0 named.1 named.2 all.0 all.1 named.3)
-        | inr other ↦ all.2 ∙ sym other.2
-      ]
+      | inl named ↦ absurd (none_named l r named.0 named.1 named.2 all.0 all.1 named.3)
+      | inr other ↦ all.2 ∙ sym other.2
+    ]
   ]
 
   module _ (name : List ℕ) where
@@ -84,9 +84,9 @@ module _ (left right : Table) where
     one_of_sizes o p a b = elim a [
       | inl many ↦ elim b [ inl other ↦ many.1 ∙ sym other.1 | inr other ↦ absurd (few other.0 other.1 many.0) ]
       | inr some ↦ elim b [
-          | inl many ↦ absurd (few some.0 some.1 many.0)
-          | inr other ↦ one_of_columns (column_of (record_at left 0) name) (column_of (record_at right 0) name) o p some.2 other.2
-        ]
+        | inl many ↦ absurd (few some.0 some.1 many.0)
+        | inr other ↦ one_of_columns (column_of (record_at left 0) name) (column_of (record_at right 0) name) o p some.2 other.2
+      ]
     ]
 
     one_of_right : (o p : Outcome) → IsOfRight left right name o → IsOfRight left right name p → o ≡ p

@@ -1,5 +1,5 @@
 -- What the words `join COLUMN N` ask for.
-use Rattle.std.specs.Prelude.{◌==◌, ◌&&◌, [], ℕ, Bool, List, Option, None, bytes_eq, codes, if◌then◌else◌, length, map, option_map, slice_index_or, String, string_bytes}
+use Rattle.std.specs.Prelude.{◌==◌, ◌&&◌, [], ℕ, Bool, List, Option, None, bytes_eq, codes, if◌then◌else◌, length, option_map, slice_index_or}
 use Rattle.plan_spec.specs.Grammar.{number_in}
 use Rattle.join_query.specs.declared.words.JoinWords.{JoinWords}
 
@@ -7,10 +7,6 @@ use Rattle.join_query.specs.declared.words.JoinWords.{JoinWords}
 pub record Asked : Type 0 where
   pub column : List ℕ
   pub workers : ℕ
-
--- the bytes of each word
-abbrev pub texts : {A : Type 0} → List (String A) → List (List ℕ)
-texts words = map string_bytes words
 
 -- words that begin with `join`
 abbrev pub is_join : List (List ℕ) → Bool

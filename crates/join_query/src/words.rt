@@ -2,7 +2,8 @@
 
 ghost use Rattle.std.specs.Prelude.{◌≡◌, ◌≤◌, IfSome, option_map};
 ghost use Rattle.plan_spec.specs.Grammar.{number_in};
-ghost use Rattle.join_query.specs.Words.{asked_by, asked_in, is_join, join_of, texts};
+ghost use Rattle.query_answer.specs.Words.{texts};
+ghost use Rattle.join_query.specs.Words.{asked_by, asked_in, is_join, join_of};
 
 /// What words ask for: the name of the column, and the number of workers, at most 64.
 #[derive(Debug, Clone, Copy)]

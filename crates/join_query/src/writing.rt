@@ -43,13 +43,7 @@ pub fn write_joined<O: Sink>(
 }
 
 /// The header and the records, and then what waits.
-fn put_all<O: Sink>(
-    held: &mut Held,
-    out: &mut O,
-    left: &RowStore,
-    right: &RowStore,
-    pairs: &Pairs,
-)
+fn put_all<O: Sink>(held: &mut Held, out: &mut O, left: &RowStore, right: &RowStore, pairs: &Pairs)
     requires headers { HasHeaders left.now right.now }
     requires pairs { AreWritable left.now right.now pairs.now }
     ensures puts { Puts O.taken O.faults out.old out.new held.old held.new (table_text (joined_records left.now right.now pairs.now)) }

@@ -4,11 +4,12 @@ use Rattle.par_model.specs.declared.refusal.Refusal.{Refusal}
 use Rattle.par_model.specs.Named.{NamedPlan}
 use Rattle.par_model.specs.Outcome.{Outcome}
 use Rattle.par_gather.specs.Answers.{IsOutcome, outcome_over, status_of}
+use Rattle.query_answer.specs.Lines.{line}
 use Rattle.par_gather.specs.Forms.{usage_in}
-use Rattle.par_gather.specs.Lines.{IsLine, NamesFirst, NamesRow, line, outcome_text, refusal_text, row_text}
+use Rattle.par_gather.specs.Lines.{IsLine, NamesFirst, NamesRow, outcome_text, refusal_text, row_text}
 use Rattle.par_gather.specs.Stops.{Explains, IsExplained, IsFirstStop, cause_text, stop_status, stop_text}
 use Rattle.par_gather.specs.declared.form.Form.{Form}
-use Rattle.par_gather.specs.declared.status.TheConstants.{REFUSED}
+use Rattle.query_answer.specs.declared.status.TheConstants.{REFUSED}
 use Rattle.par_gather.specs.declared.stop.Cause.{Cause}
 use Rattle.par_gather.specs.declared.stop.Stop.{Stop}
 use Rattle.par_gather.specs.declared.stop.Stop.TheVariants as stop

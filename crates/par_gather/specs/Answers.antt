@@ -6,11 +6,7 @@ use Rattle.par_model.specs.Plan.{Plan}
 use Rattle.par_model.specs.Outcome.{Outcome, IsAnswer, outcome, Usage, TooManyBytes, NoHeader, TooManyRows, NoColumn, Refused, Table}
 use Rattle.plan_spec.specs.Query.{query_of}
 use Rattle.par_gather.specs.Forms.{plan_in, workers_in}
-use Rattle.par_gather.specs.declared.status.TheConstants.{MISUSED, NO_MEMORY, READ_FAULT, REFUSED, TABLE, TOO_LARGE, WRITE_FAULT}
-
--- every status there is
-abbrev pub statuses : List ℕ
-statuses = TABLE ∷ REFUSED ∷ MISUSED ∷ READ_FAULT ∷ WRITE_FAULT ∷ NO_MEMORY ∷ TOO_LARGE ∷ []
+use Rattle.query_answer.specs.declared.status.TheConstants.{MISUSED, NO_MEMORY, READ_FAULT, REFUSED, TABLE, TOO_LARGE, WRITE_FAULT}
 
 -- the status of an outcome
 abbrev pub status_of : Outcome → ℕ
@@ -21,10 +17,6 @@ status_of TooManyRows = TOO_LARGE
 status_of (NoColumn name) = MISUSED
 status_of (Refused rows) = REFUSED
 status_of Table = TABLE
-
--- the bytes of each word
-abbrev pub texts : {A : Type 0} → List (String A) → List (List ℕ)
-texts words = map string_bytes words
 
 -- the plan of the words, if they are one
 abbrev pub plan_of : List (List ℕ) → Option NamedPlan

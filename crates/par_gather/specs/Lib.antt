@@ -1,7 +1,7 @@
 pub mod Answers
 pub mod Forms
 pub mod Grouping
-pub mod Held
+pub mod Joined
 pub mod Lines
 pub mod Ordered
 pub mod Ran

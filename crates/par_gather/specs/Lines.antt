@@ -8,11 +8,8 @@ use Rattle.par_model.specs.Outcome.{Outcome, Usage, TooManyBytes, NoHeader, TooM
 use Rattle.par_model.specs.Refuse.{item_cause, key_cause, width_cause}
 use Rattle.par_model.specs.declared.refusal.Refusal.{Refusal}
 use Rattle.par_gather.specs.Answers.{status_of}
-use Rattle.par_gather.specs.declared.status.TheConstants.{MISUSED, NO_MEMORY, READ_FAULT, REFUSED, TOO_LARGE, WRITE_FAULT}
-
--- a text as a line of the program, ended by a line feed
-abbrev pub line : List ℕ → List ℕ
-line text = codes "pargather: " ++ (text ++ 10 ∷ [])
+use Rattle.query_answer.specs.Lines.{line}
+use Rattle.query_answer.specs.declared.status.TheConstants.{MISUSED, NO_MEMORY, READ_FAULT, REFUSED, TOO_LARGE, WRITE_FAULT}
 
 -- what a line says of an outcome that is neither a refusal of rows nor a table, where this is said of words that are none
 abbrev pub outcome_text : List ℕ → Outcome → List ℕ
@@ -70,7 +67,3 @@ pub record IsLine (usage : List ℕ) (plan : Option NamedPlan) (status : ℕ) (o
   pub write_fault : status ≡ WRITE_FAULT → said ≡ line (codes "write fault")
   pub no_memory : status ≡ NO_MEMORY → said ≡ line (codes "out of memory")
   pub too_much : status ≡ TOO_LARGE → (status_of outcome ≡ TOO_LARGE) × (said ≡ line (outcome_text usage outcome))
-
--- a sink was given a line, or a prefix of it where its faults rose
-abbrev pub IsSaid : Option (List ℕ) → Option (List ℕ) → ℕ → ℕ → List ℕ → Type 0
-IsSaid old new before now said = Appends old new said ⊎ (Rose before now × (n : ℕ) × Appends old new (take n said))

@@ -12,7 +12,7 @@ use Rattle.plan_spec.specs.Query.{Query}
 use Rattle.par_gather.specs.Answers.{bound_over, outcome_over}
 use Rattle.par_gather.specs.Forms.{plan_in, workers_in}
 use Rattle.par_gather.specs.declared.Ran.{Ran}
-use Rattle.par_gather.specs.declared.Ran.TheVariants.{Gather, Merge}
+use Rattle.par_gather.specs.declared.Ran.TheVariants.{Gather, Merge, Join}
 
 -- the plan of words that ask for rows in order, if they do
 abbrev pub merge_plan_of : List (List ℕ) → Option NamedPlan
@@ -53,3 +53,4 @@ abbrev pub IsMergeRun : Option Query → List ℕ → List ℕ → Option Ran �
 IsMergeRun query bytes text None = ⊥
 IsMergeRun query bytes text (Some (Gather g)) = ⊥
 IsMergeRun query bytes text (Some (Merge m)) = IsMergedBy query bytes text m
+IsMergeRun query bytes text (Some (Join j)) = ⊥

@@ -7,7 +7,7 @@ use Rattle.plan_spec.specs.Query.{Query}
 use Rattle.result_text.specs.Text.{IsTextOf}
 use Rattle.par_gather.specs.Answers.{bound_over}
 use Rattle.par_gather.specs.declared.Ran.{Ran}
-use Rattle.par_gather.specs.declared.Ran.TheVariants.{Gather, Merge}
+use Rattle.par_gather.specs.declared.Ran.TheVariants.{Gather, Merge, Join}
 
 -- A query's participants made the groups of a text: as many workers as it asks for shared the blocks of the records
 -- with the leader, and the text is that of the groups gathered
@@ -25,3 +25,4 @@ abbrev pub IsRun : Option Query → List ℕ → List ℕ → Option Ran → Typ
 IsRun query bytes text None = ⊥
 IsRun query bytes text (Some (Gather g)) = IsMadeBy query bytes text g
 IsRun query bytes text (Some (Merge m)) = ⊥
+IsRun query bytes text (Some (Join j)) = ⊥

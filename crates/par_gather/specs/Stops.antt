@@ -19,7 +19,7 @@ use Rattle.par_gather.specs.Answers.{IsOutcome}
 use Rattle.par_gather.specs.Forms.{usage_in}
 use Rattle.par_gather.specs.Lines.{refusal_text, refused_of}
 use Rattle.par_gather.specs.declared.form.Form.{Form}
-use Rattle.par_gather.specs.declared.status.TheConstants.{MISUSED, NO_MEMORY, READ_FAULT, REFUSED, TOO_LARGE, WRITE_FAULT}
+use Rattle.query_answer.specs.declared.status.TheConstants.{MISUSED, NO_MEMORY, READ_FAULT, REFUSED, TOO_LARGE, WRITE_FAULT}
 use Rattle.par_gather.specs.declared.stop.Cause.{Cause}
 use Rattle.par_gather.specs.declared.stop.Cause.TheVariants as cause
 use Rattle.par_gather.specs.declared.stop.Stop.{Stop}

@@ -1,9 +1,10 @@
 //! The forms of a command line.
 
 ghost use Rattle.std.specs.Prelude.{◌≡◌};
-ghost use Rattle.par_gather.specs.Answers.{texts};
+ghost use Rattle.query_answer.specs.Words.{texts};
 ghost use Rattle.par_gather.specs.Forms.{form_of, usage_in};
 
+use par_join::is_join;
 use plan_spec::is_merge;
 
 /// What the words of a command line are to be.
@@ -13,6 +14,8 @@ pub(crate) enum Form {
     Plan,
     /// `merge COLUMNS N`, which asks for rows in order.
     Merge,
+    /// `join COLUMN N`, which joins two tables.
+    Join,
 }
 
 impl Form {
@@ -25,6 +28,7 @@ impl Form {
                 "usage: pargather [--group COLUMNS] --agg ITEMS [--where FILTER] [--workers N] [--plan gather|hash] [--area-pages N]"
             }
             Form::Merge => "usage: pargather merge COLUMNS N",
+            Form::Join => "usage: pargather join COLUMN N",
         }
     }
 }
@@ -33,7 +37,9 @@ impl Form {
 pub(crate) fn form_of(words: &[String]) -> Form
     ensures { result ≡ form_of (texts words.now) }
 {
-    if is_merge(words) {
+    if is_join(words) {
+        Form::Join
+    } else if is_merge(words) {
         Form::Merge
     } else {
         Form::Plan

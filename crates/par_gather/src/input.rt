@@ -11,7 +11,7 @@ ghost use Rattle.par_model.specs.Named.{bound_plan, missing_name};
 ghost use Rattle.par_model.specs.Outcome.{by_records};
 ghost use Rattle.partial_agg.specs.Rows.{header_width};
 ghost use Rattle.plan_spec.specs.declared.plan.PlanAnswer.TheVariants as answer;
-ghost use Rattle.par_gather.specs.Answers.{texts};
+ghost use Rattle.query_answer.specs.Words.{texts};
 ghost use Rattle.par_gather.specs.Forms.{asked, plan_in};
 ghost use Rattle.par_gather.specs.Ready.{AreRecordsOf, IsReady};
 ghost use Rattle.par_gather.specs.Stops.{Explains, IsEarly, IsExplained};
@@ -65,6 +65,7 @@ fn read_words(alloc: Global, form: Form, words: &[String]) -> Result<Plan, PlanA
     match form {
         Form::Plan => Plan::of_words(alloc, words),
         Form::Merge => Plan::of_merge_words(alloc, words),
+        Form::Join => Err(PlanAnswer::Usage),
     }
 }
 

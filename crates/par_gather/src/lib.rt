@@ -1,5 +1,6 @@
 //! One query over comma-separated bytes, from the words of a command line to an exit status, in the caller's thread
-//! alone or with workers beside it: the table of groups that options name, or with `merge` the rows in order.
+//! alone or with workers beside it: the table of groups that options name, with `merge` the rows in order, or with `join`
+//! the join of two tables.
 //!
 //! The calls keep one order of faults: the words, then the reading, the header, the number of rows, the columns, the
 //! rows, and the writing. The first that holds ends it. Only a whole table is written to `out`, or all rows; one place
@@ -9,13 +10,22 @@
 
 ghost use Rattle.std.specs.Prelude.{◌≡◌, ◌≢◌, ◌⊎◌, ℕ, List, true, false, None, Some, IfOk, IfErr, IfSome, IsNone, OnOk, Contains, take};
 ghost use Rattle.std.specs.Io.KnownBytes.{Appends};
+ghost use Rattle.gather_law.specs.Tuples.{Table};
+ghost use Rattle.join_query.specs.Lines.{IsNoFault};
+ghost use Rattle.join_query.specs.Lines.{IsLine as IsJoinLine, status_of as join_status};
+ghost use Rattle.join_query.specs.Outcome.{IsOutcome as IsJoinOutcome, Joins, Outcome as JoinOutcome};
+ghost use Rattle.join_query.specs.Words.{join_of};
 ghost use Rattle.par_io.specs.Faults.{Rose};
 ghost use Rattle.par_model.specs.Outcome.{Outcome};
+ghost use Rattle.par_model.specs.Table.{table_text};
 ghost use Rattle.plan_spec.specs.Merging.{merge_of};
 ghost use Rattle.plan_spec.specs.Query.{query_of};
-ghost use Rattle.par_gather.specs.Answers.{IsOutcome, IsTableText, outcome_over, plan_of, status_of, statuses, texts, workers_of};
-ghost use Rattle.par_gather.specs.Forms.{form_of, merge_usage_text, usage_text};
-ghost use Rattle.par_gather.specs.Lines.{IsLine, IsSaid, NamesFirst, line};
+ghost use Rattle.par_gather.specs.Answers.{IsOutcome, IsTableText, outcome_over, plan_of, status_of, workers_of};
+ghost use Rattle.query_answer.specs.Lines.{IsSaid, line, statuses};
+ghost use Rattle.query_answer.specs.Words.{texts};
+ghost use Rattle.par_gather.specs.Forms.{form_of, merge_usage_text, usage_in, usage_text};
+ghost use Rattle.par_gather.specs.Lines.{IsLine, NamesFirst};
+ghost use Rattle.par_gather.specs.Joined.{IsJoinRun};
 ghost use Rattle.par_gather.specs.Ordered.{IsMergeRun, IsOrderText, merge_plan_of, merge_workers_of};
 ghost use Rattle.par_gather.specs.Ran.{IsMadeBy, IsRun};
 ghost use Rattle.par_gather.specs.Stops.{IsExplained, IsFirstStop};
@@ -24,15 +34,12 @@ ghost use Rattle.par_gather.specs.declared.stop.Stop.TheVariants as stop;
 
 mod form;
 mod groups;
-mod held;
 mod input;
 mod merging;
 mod names;
 mod output;
 mod reading;
-mod record;
 mod rows;
-mod status;
 mod stop;
 
 use form::{Form, form_of};
@@ -44,8 +51,9 @@ use merging::answer_merged;
 use names::{stop_of_block, stop_of_gather};
 use output::write_table;
 use par_io::{Sink, Source};
+use par_join::{Joined, join_tables};
+pub use query_answer::{MISUSED, NO_MEMORY, READ_FAULT, REFUSED, TABLE, TOO_LARGE, WRITE_FAULT};
 use reading::{Alone, InThreads};
-pub use status::{MISUSED, NO_MEMORY, READ_FAULT, REFUSED, TABLE, TOO_LARGE, WRITE_FAULT};
 use std::alloc::Global;
 use std::sync::Wait;
 use std::thread::Threads;
@@ -59,12 +67,15 @@ pub enum Ran {
     Gather(Gathered),
     /// Rows in order, by workers that sorted theirs.
     Merge(Merged),
+    /// Joined records, by workers that shared a table of the left rows.
+    Join(Joined),
 }
 
 /// Answers the query that `words` name, over the bytes of `source`: writes its table to `out`, or a line to `err` that
 /// says why there is none, and returns the exit status. `words` are those after the program's name. Words that begin
 /// with `merge` are to be `merge COLUMNS N`; their query puts the rows in the order of these columns, with N workers,
-/// and writes the header and then the rows.
+/// and writes the header and then the rows. Words that begin with `join` are to be `join COLUMN N`; their
+/// query joins two tables, as [`par_join::join_tables`] says.
 ///
 /// The bytes are cut into records by the caller's thread and as many workers as the words ask for, each a part of them.
 /// The rows are shared out, by blocks of 256, among the same number; each participant passes the gate before each of
@@ -166,6 +177,33 @@ pub fn pargather<R: Threads + Wait + Sync, S: Source, O: Sink, E: Sink, G: Gate 
     // Beside rows `ran` says how they were put in order.
     ensures merge_ran { form_of (texts words.now) ≡ form.Merge → result ≡ TABLE → IfSome (S.left source.old) (λ bytes.
         (text : List ℕ) × IsMergeRun (merge_of (texts words.now)) bytes text ran.new × Appends (O.taken out.old) (O.taken out.new) text) }
+
+    // ---- Words that begin with `join`
+
+    // A status that tells of no fault is that of the outcome. Without a fault it is so, or there was no memory.
+    ensures join_outcome { form_of (texts words.now) ≡ form.Join → IsNoFault result → IfSome (S.left source.old) (λ bytes.
+        (o : JoinOutcome) → IsJoinOutcome (join_of (texts words.now)) bytes o → join_status o ≡ result) }
+    ensures join_complete { form_of (texts words.now) ≡ form.Join → ¬ Rose (S.faults source.old) (S.faults source.new) → ¬ Rose (O.faults out.old) (O.faults out.new) → IfSome (S.left source.old) (λ bytes.
+        (result ≡ NO_MEMORY) ⊎ ((o : JoinOutcome) × IsJoinOutcome (join_of (texts words.now)) bytes o × (join_status o ≡ result))) }
+
+    // `out` receives the joined records, or a prefix of them where a write failed.
+    ensures join_records { form_of (texts words.now) ≡ form.Join → result ≡ TABLE → IfSome (S.left source.old) (λ bytes.
+        (records : Table) × IsJoinOutcome (join_of (texts words.now)) bytes (Joins records) × Appends (O.taken out.old) (O.taken out.new) (table_text records)) }
+    ensures join_part { form_of (texts words.now) ≡ form.Join → result ≡ WRITE_FAULT → IfSome (S.left source.old) (λ bytes.
+        (records : Table) × IsJoinOutcome (join_of (texts words.now)) bytes (Joins records) × (n : ℕ) × Appends (O.taken out.old) (O.taken out.new) (take n (table_text records))) }
+
+    // Words that are not `join COLUMN N` are answered before anything is read.
+    ensures join_no_words { form_of (texts words.now) ≡ form.Join → IsNone (join_of (texts words.now)) → result ≡ MISUSED }
+    ensures join_unread { form_of (texts words.now) ≡ form.Join → IsNone (join_of (texts words.now)) → source.new ≡ source.old }
+
+    // `err` receives the line of the status, or a prefix of it where a write of it failed.
+    ensures join_line { form_of (texts words.now) ≡ form.Join → (result ≢ TABLE) → (said : List ℕ) × IsJoinLine (join_of (texts words.now)) (S.left source.old) result said
+        × IsSaid (E.taken err.old) (E.taken err.new) (E.faults err.old) (E.faults err.new) said }
+    ensures join_usage { form_of (texts words.now) ≡ form.Join → IsNone (join_of (texts words.now))
+        → IsSaid (E.taken err.old) (E.taken err.new) (E.faults err.old) (E.faults err.new) (line (usage_in form.Join)) }
+
+    // Beside joined records `ran` says how they were made.
+    ensures join_ran { form_of (texts words.now) ≡ form.Join → result ≡ TABLE → IfSome (S.left source.old) (λ bytes. IsJoinRun (join_of (texts words.now)) bytes ran.new) }
 {
     *ran = None;
     match form_of(words) {
@@ -183,11 +221,18 @@ pub fn pargather<R: Threads + Wait + Sync, S: Source, O: Sink, E: Sink, G: Gate 
             }
             Err(stop) => stop.end(Form::Merge, err),
         },
+        Form::Join => match join_tables(rt, alloc, words, source, out, err) {
+            Ok(joined) => {
+                *ran = Some(Ran::Join(joined));
+                TABLE
+            }
+            Err(status) => status,
+        },
     }
 }
 
 /// Answers the query as [`pargather`] does with `--workers 0`, whatever number the words give: in the caller's thread
-/// alone, with no wait. Words that begin with `merge` are no plan here. Time and memory are those of `pargather`.
+/// alone, with no wait. Words that begin with `merge` or `join` are no plan here. Time and memory are those of `pargather`.
 pub fn aggregate_alone<S: Source, O: Sink, E: Sink>(
     alloc: Global,
     words: &[String],
@@ -217,6 +262,7 @@ pub fn aggregate_alone<S: Source, O: Sink, E: Sink>(
     ensures no_plan { IsNone (plan_of (texts words.now)) → (result ≡ MISUSED) ⊎ (result ≡ NO_MEMORY) }
     ensures unread { IsNone (plan_of (texts words.now)) → source.new ≡ source.old }
     ensures no_merge { form_of (texts words.now) ≡ form.Merge → IsNone (plan_of (texts words.now)) }
+    ensures no_join { form_of (texts words.now) ≡ form.Join → IsNone (plan_of (texts words.now)) }
 
     // `err` receives the line of the status, or a prefix of it where a write of it failed, and beside a table nothing.
     ensures line { (result ≢ TABLE) → (o : Outcome) × IsOutcome (plan_of (texts words.now)) (S.left source.old) o

@@ -4,7 +4,8 @@ ghost use Rattle.std.specs.Prelude.{◌≡◌, ◌≢◌, ◌⊎◌, ℕ, List, 
 ghost use Rattle.std.specs.Io.KnownBytes.{Appends};
 ghost use Rattle.par_io.specs.Faults.{Rose};
 ghost use Rattle.plan_spec.specs.Merging.{merge_of};
-ghost use Rattle.par_gather.specs.Answers.{outcome_over, texts};
+ghost use Rattle.par_gather.specs.Answers.{outcome_over};
+ghost use Rattle.query_answer.specs.Words.{texts};
 ghost use Rattle.par_gather.specs.Ordered.{IsMergedBy, IsOrderText, merge_plan_of, merge_workers_of};
 ghost use Rattle.par_gather.specs.Stops.{IsExplained, IsFirstStop};
 ghost use Rattle.par_gather.specs.declared.stop.Stop.TheVariants as stop;

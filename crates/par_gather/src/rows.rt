@@ -7,17 +7,16 @@ ghost use Rattle.csv_rows.specs.Records.{record_at};
 ghost use Rattle.gather_merge.specs.Order.{IsOrder, ordered};
 ghost use Rattle.par_io.specs.Faults.{Rose};
 ghost use Rattle.par_model.specs.Table.{table_text};
-ghost use Rattle.par_gather.specs.Held.{Puts};
+ghost use Rattle.query_answer.specs.Held.{Puts};
 ghost use Rattle.par_gather.specs.Ready.{IsBound};
 ghost use Rattle.par_gather.specs.declared.stop.Stop.TheVariants as stop;
 
-use crate::held::Held;
 use crate::input::Ready;
-use crate::record::put_record;
 use crate::stop::Stop;
 use csv_rows::RowStore;
 use gather_merge::Order;
 use par_io::Sink;
+use query_answer::{Held, put_record};
 use std::alloc::Global;
 
 /// Writes the header and the rows in this order.

@@ -2,15 +2,15 @@
 
 ghost use Rattle.std.specs.Prelude.{◌≡◌, ◌++◌, map};
 ghost use Rattle.std.specs.List.{concat};
-ghost use Rattle.par_gather.specs.Lines.{IsSaid, line};
+ghost use Rattle.query_answer.specs.Lines.{IsSaid, line};
 ghost use Rattle.par_gather.specs.Stops.{cause_text, stop_of_parsing, stop_of_reading, stop_of_words, stop_status, stop_text, text_of};
 ghost use Rattle.par_gather.specs.declared.stop.Stop.TheVariants as stop;
 
 use crate::form::Form;
-use crate::status::{MISUSED, NO_MEMORY, READ_FAULT, REFUSED, TOO_LARGE, WRITE_FAULT};
 use csv_rows::{ReadAnswer, RowsAnswer};
-use par_io::{Failed, Sink, write_whole};
+use par_io::Sink;
 use plan_spec::PlanAnswer;
+use query_answer::{MISUSED, NO_MEMORY, READ_FAULT, REFUSED, TOO_LARGE, WRITE_FAULT, write_pieces};
 use std::alloc::AllocError;
 
 /// Why a row is refused, with the name of the column of which its line speaks.
@@ -153,14 +153,4 @@ impl Stop {
         let mut digits = itoa::Buffer::new();
         let _ = write_pieces(err, &self.pieces(form, &mut digits));
     }
-}
-
-/// Writes the pieces one after the other, up to a write that fails.
-fn write_pieces<E: Sink>(err: &mut E, pieces: &[&str]) -> Result<(), Failed>
-    ensures { IsSaid (E.taken err.old) (E.taken err.new) (E.faults err.old) (E.faults err.new) (concat (map (λ piece. piece.now) pieces.now)) }
-{
-    for piece in pieces {
-        write_whole(err, piece.as_bytes())?;
-    }
-    Ok(())
 }

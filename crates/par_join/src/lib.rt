@@ -15,7 +15,8 @@ ghost use Rattle.join_pairs.specs.Join.{joined_records, width_of};
 ghost use Rattle.join_query.specs.Lines.{IsLine, IsNoFault, cause_text, status_of};
 ghost use Rattle.join_query.specs.Outcome.{IsOfRows, IsOutcome, Joins, Outcome};
 ghost use Rattle.join_query.specs.Stops.{Explains, IsExplained};
-ghost use Rattle.join_query.specs.Words.{asked_by, join_of, texts};
+ghost use Rattle.query_answer.specs.Words.{texts};
+ghost use Rattle.join_query.specs.Words.{asked_by, join_of};
 ghost use Rattle.join_query.specs.declared.cause.Cause.TheVariants as cause;
 ghost use Rattle.join_query.specs.declared.stop.Stop.TheVariants as stop;
 ghost use Rattle.par_io.specs.Faults.{Rose};
@@ -24,14 +25,12 @@ ghost use Rattle.query_answer.specs.Lines.{IsSaid, line, statuses};
 ghost use Rattle.par_join.specs.Answers.{status_in, stop_of_join};
 ghost use Rattle.par_join.specs.Used.{IsJoinBy, IsJoinOn};
 
-use hash_join::{JoinAnswer, join};
 pub use hash_join::Joined;
-use join_query::{Cause, JoinWords, Ready, Stop, prepare, read_words, write_joined};
+use hash_join::{JoinAnswer, join};
 pub use join_query::is_join;
+use join_query::{Cause, JoinWords, Ready, Stop, prepare, read_words, write_joined};
 use par_io::{Sink, Source};
-pub use query_answer::{
-    MISUSED, NO_MEMORY, READ_FAULT, REFUSED, TABLE, TOO_LARGE, WRITE_FAULT,
-};
+pub use query_answer::{MISUSED, NO_MEMORY, READ_FAULT, REFUSED, TABLE, TOO_LARGE, WRITE_FAULT};
 use std::alloc::Global;
 use std::sync::Wait;
 use std::thread::Threads;

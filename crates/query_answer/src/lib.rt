@@ -15,6 +15,4 @@ mod status;
 pub use held::Held;
 pub use line::write_pieces;
 pub use record::{put_fields, put_record};
-pub use status::{
-    MISUSED, NO_MEMORY, READ_FAULT, REFUSED, TABLE, TOO_LARGE, WRITE_FAULT,
-};
+pub use status::{MISUSED, NO_MEMORY, READ_FAULT, REFUSED, TABLE, TOO_LARGE, WRITE_FAULT};

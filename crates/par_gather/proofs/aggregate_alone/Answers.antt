@@ -1,10 +1,12 @@
 use Rattle.std.proofs.Common.{◌≡◌, ◌∙◌, ℕ, ap, arith, inl, inr, subst, sym}
 use Rattle.std.proofs.lemmas.Option.{IfSome_then}
 use Rattle.par_gather.proofs.Statuses.{line_first, line_outcome}
-use Rattle.par_gather.proofs.Strays.{merge_no_plan}
-use Rattle.par_gather.specs.Answers.{plan_of, texts}
+use Rattle.par_gather.proofs.Strays.{join_no_plan, merge_no_plan}
+use Rattle.par_gather.specs.Answers.{plan_of}
+use Rattle.query_answer.specs.Lines.{IsSaid, line}
+use Rattle.query_answer.specs.Words.{texts}
 use Rattle.par_gather.specs.Forms.{usage_text}
-use Rattle.par_gather.specs.Lines.{IsLine, IsSaid, line}
+use Rattle.par_gather.specs.Lines.{IsLine}
 use Rattle.par_gather.specs.Stops.{stop_status, stop_text}
 use Rattle.par_gather.specs.declared.form.Form.TheVariants as form
 use Rattle.par_gather.specs.declared.stop.Stop.{Stop}
@@ -37,3 +39,9 @@ returns-in-Ok-clause-no_merge g c = merge_no_plan (texts c.args.words.now)
 
 pub returns-in-Err-clause-no_merge : goal.returns-in-Err-clause-no_merge
 returns-in-Err-clause-no_merge g c = merge_no_plan (texts c.args.words.now)
+
+pub returns-in-Ok-clause-no_join : goal.returns-in-Ok-clause-no_join
+returns-in-Ok-clause-no_join g c = join_no_plan (texts c.args.words.now)
+
+pub returns-in-Err-clause-no_join : goal.returns-in-Err-clause-no_join
+returns-in-Err-clause-no_join g c = join_no_plan (texts c.args.words.now)

@@ -1,7 +1,7 @@
 use Rattle.std.proofs.Common.{◌≡◌, ◌⊎◌}
 use Rattle.std.proofs.lemmas.Result.{IfErr-weaker}
 use Rattle.plan_spec.specs.Query.{query_of}
-use Rattle.par_gather.specs.Answers.{texts}
+use Rattle.query_answer.specs.Words.{texts}
 use Rattle.par_gather.specs.Forms.{plan_in}
 use Rattle.par_gather.specs.Stops.{IsExplained}
 use Rattle.par_gather.specs.declared.stop.Stop.{Stop}

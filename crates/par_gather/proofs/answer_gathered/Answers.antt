@@ -1,7 +1,8 @@
 use Rattle.std.proofs.Common.{rules, ◌≡◌, ◌∙◌, ℕ, List, IfSome, [], take}
 use Rattle.std.specs.Io.KnownBytes.{Appends}
 use Rattle.plan_spec.specs.Query.{query_of}
-use Rattle.par_gather.specs.Answers.{IsTableText, texts}
+use Rattle.par_gather.specs.Answers.{IsTableText}
+use Rattle.query_answer.specs.Words.{texts}
 use Rattle.par_gather.specs.Forms.{plan_in}
 use Rattle.par_gather.specs.Grouping.{refused_in}
 use Rattle.par_gather.specs.Stops.{IsExplained}

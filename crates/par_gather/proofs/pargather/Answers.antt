@@ -1,9 +1,11 @@
 use Rattle.std.proofs.Common.{◌≡◌, ◌∙◌, ℕ, ap, arith, inl, inr, subst, sym}
 use Rattle.std.proofs.lemmas.Option.{IfSome_then}
 use Rattle.par_gather.proofs.Statuses.{line_first, line_outcome}
-use Rattle.par_gather.specs.Answers.{plan_of, texts}
+use Rattle.par_gather.specs.Answers.{plan_of}
+use Rattle.query_answer.specs.Lines.{IsSaid, line}
+use Rattle.query_answer.specs.Words.{texts}
 use Rattle.par_gather.specs.Forms.{usage_in}
-use Rattle.par_gather.specs.Lines.{IsLine, IsSaid, line}
+use Rattle.par_gather.specs.Lines.{IsLine}
 use Rattle.par_gather.specs.Ordered.{merge_plan_of}
 use Rattle.par_gather.specs.Stops.{stop_status, stop_text}
 use Rattle.par_gather.specs.declared.form.Form.TheVariants as form

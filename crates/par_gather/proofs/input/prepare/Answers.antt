@@ -4,7 +4,7 @@ use Rattle.par_model.specs.Named.{NamedPlan}
 use Rattle.par_gather.specs.Stops.{IsExplained}
 use Rattle.par_gather.proofs.Ready.{by_records_bound, explained_rows, plan_is, ready_outcome, ready_records}
 use Rattle.par_gather.proofs.Inputs.{explained-words}
-use Rattle.par_gather.specs.Answers.{texts}
+use Rattle.query_answer.specs.Words.{texts}
 use Rattle.par_gather.specs.Forms.{asked, plan_in}
 use Rattle.par_gather.proofs.input.prepare.Goals as goal
 

@@ -3,7 +3,7 @@ use Rattle.std.specs.Io.KnownBytes.{Appends}
 use Rattle.csv_rows.specs.Records.{record_at}
 use Rattle.gather_merge.specs.Used.{IsUsed}
 use Rattle.plan_spec.specs.Merging.{merge_of}
-use Rattle.par_gather.specs.Answers.{texts}
+use Rattle.query_answer.specs.Words.{texts}
 use Rattle.par_gather.specs.Forms.{plan_in}
 use Rattle.par_gather.specs.Grouping.{refused_in}
 use Rattle.par_gather.specs.Ordered.{IsOrderText}

@@ -2,9 +2,9 @@ use Rattle.std.proofs.Common.{[], ℕ, List, append-nil, map, subst}
 use Rattle.csv.specs.Writing.{default_writer, row_text}
 use Rattle.csv_rows.specs.Records.{record_at}
 use Rattle.par_model.specs.Table.{table_text}
-use Rattle.par_gather.specs.Held.{Puts}
-use Rattle.par_gather.proofs.Going.{puts-then}
-use Rattle.par_gather.proofs.RowLines.{text-first}
+use Rattle.query_answer.specs.Held.{Puts}
+use Rattle.query_answer.proofs.Going.{puts-then}
+use Rattle.query_answer.proofs.RowLines.{text-first}
 use Rattle.par_gather.proofs.rows.put_all.Goals as goal
 
 pub returns-clause-puts : goal.returns-clause-puts

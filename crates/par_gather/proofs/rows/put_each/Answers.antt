@@ -5,9 +5,9 @@ use Rattle.std.proofs.lemmas.Option.{get_or_from_slice_get}
 use Rattle.csv.specs.Writing.{default_writer, row_text}
 use Rattle.csv_rows.specs.Records.{record_at}
 use Rattle.par_model.specs.Table.{table_text}
-use Rattle.par_gather.specs.Held.{Puts}
-use Rattle.par_gather.proofs.Going.{puts-broken, puts-none, puts-then}
-use Rattle.par_gather.proofs.RowLines.{row-more, rows-cut, text-none}
+use Rattle.query_answer.specs.Held.{Puts}
+use Rattle.query_answer.proofs.Going.{puts-broken, puts-none, puts-then}
+use Rattle.query_answer.proofs.RowLines.{row-more, rows-cut, text-none}
 use Rattle.par_gather.proofs.rows.put_each.Goals as goal
 
 pub loop-at-init : goal.loop-at-init

@@ -1,7 +1,7 @@
 use Rattle.std.proofs.Common.{map, take}
 use Rattle.csv_rows.specs.Records.{record_at}
 use Rattle.par_model.specs.Table.{table_text}
-use Rattle.par_gather.specs.Held.{Puts}
+use Rattle.query_answer.specs.Held.{Puts}
 use Rattle.par_gather.proofs.rows.put_each.Given as goal
 
 -- the rows so far

@@ -1,7 +1,7 @@
 use Rattle.std.proofs.Common.{◌∙◌, sym}
 use Rattle.par_model.specs.Table.{table_text}
 use Rattle.gather_merge.specs.Order.{ordered}
-use Rattle.par_gather.proofs.Going.{all_gone, faults_rose, part_gone}
+use Rattle.query_answer.proofs.Going.{all_gone, faults_rose, part_gone}
 use Rattle.par_gather.proofs.Ordering.{order_within}
 use Rattle.par_gather.proofs.rows.write_rows.Goals as goal
 
