@@ -1,5 +1,5 @@
 -- Words that ask for rows, and words that do not.
-use Rattle.std.proofs.Common.{◌≡◌, ℕ, Bool, true, false, List, [], Option, Some, None, length, refl, arith, option_map}
+use Rattle.std.proofs.Common.{◌≡◌, ℕ, Bool, true, false, List, [], Option, None, length, refl, arith}
 use Rattle.std.specs.Prelude.{◌==◌, ◌&&◌, if◌then◌else◌, slice_index_or}
 use Rattle.std.proofs.lemmas.Bool.Decides.{nat_tests}
 use Rattle.gen_query.specs.Words.{Asked, asked_in, is_gen, gen_of}
@@ -24,4 +24,3 @@ other_first words is = rw is refl
 pub three_words : (words : List (List ℕ)) → is_gen words ≡ true → length words ≡ 3 → gen_of words ≡ asked_in (slice_index_or words 1 []) (slice_index_or words 2 [])
 unfolding gen_of
 three_words words is three = rw (is, three) refl
-

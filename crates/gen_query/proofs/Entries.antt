@@ -14,6 +14,7 @@ use Rattle.partial_agg.specs.Groups.{GroupsByKey, key_cmp}
 
 abbrev pub Entry : Type 0
 Entry = List ℕ × AggState
+
 -- the parts of a test by `&&`
 front_of : (a b : Bool) → T (a && b) → a ≡ true
 front_of true b h = refl

@@ -235,6 +235,7 @@ names_same xs ks are has name = (there, back)
         let k_is : IsKey xs k.0 = subst (IsKey xs) k.1.2 (are k.1.0 k.0 k.1.1) in
         let same : name_of k_is.0 ≡ name = sym (name_key k_is.0) ∙ ap name_in k_is.2 ∙ k.2 in
         subst (Contains (map name_of xs)) same (in_map name_of xs k_is.0 k_is.1)
+
     back : Contains (map name_of xs) name → Contains (map name_in ks) name
     back h =
         let x = from_map name_of xs name h in

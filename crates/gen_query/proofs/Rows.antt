@@ -1,5 +1,5 @@
 -- The record of a number: its text, that it is not refused, and its integer.
-use Rattle.std.proofs.Common.{rules, ◌≡◌, ◌≢◌, ◌∙◌, ◌<◌, ◌≤◌, ◌+◌, ◌/◌, ◌%◌, ◌^◌, ◌++◌, ◌∷◌, [], ◌≤ℤ◌, ◌-ℤ◌, neg_ℤ, ℕ, ℤ, pos, negsuc, suc, true, false, List, Some, None, FitsSigned, of_z, to_z, w64, length, append_assoc, refl, sym, ap, arith}
+use Rattle.std.proofs.Common.{◌≡◌, ◌∙◌, ◌<◌, ◌≤◌, ◌/◌, ◌%◌, ◌^◌, ◌++◌, ◌∷◌, [], ◌≤ℤ◌, neg_ℤ, ℕ, ℤ, pos, negsuc, suc, true, false, List, Some, None, FitsSigned, of_z, to_z, w64, length, append_assoc, refl, sym, ap, arith}
 use Rattle.std.proofs.lemmas.Bool.{ne_eqb}
 use Rattle.std.proofs.lemmas.Bool.Decides.{nat_tests}
 use Rattle.std.proofs.lemmas.Fmt.{decimal_is_IsNumeral, length-decimal-le}

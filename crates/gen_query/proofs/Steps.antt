@@ -1,5 +1,5 @@
 -- The text of the rows and the totals of groups, one at a time.
-use Rattle.std.proofs.Common.{◌≡◌, ◌∙◌, ◌+◌, ◌++◌, ◌%◌, ◌+ℤ◌, ◌≤◌, ◌≤ℤ◌, ◌*◌, ◌^◌, neg_ℤ, ◌∷◌, [], ℕ, ℤ, pos, zero, suc, FitsSigned, of_z, to_z, subst, List, All, None, Some, append_assoc, append-nil, get_or, length, map, take, refl, sym, ap, arith}
+use Rattle.std.proofs.Common.{◌≡◌, ◌∙◌, ◌+◌, ◌++◌, ◌%◌, ◌+ℤ◌, ◌≤◌, ◌≤ℤ◌, ◌*◌, ◌^◌, neg_ℤ, ◌∷◌, [], ℕ, ℤ, pos, zero, suc, FitsSigned, of_z, to_z, subst, List, All, Some, append_assoc, append-nil, get_or, map, take, refl, sym, ap, arith}
 use Rattle.std.proofs.lemmas.Int.{ints, to_z-of_z}
 use Rattle.par_model.proofs.Folds.{fits128}
 use Rattle.std.proofs.lemmas.List.Elements.{All-head, All-tail}
@@ -14,7 +14,7 @@ use Rattle.par_model.specs.declared.state.AggState.{AggState}
 use Rattle.partial_agg.proofs.Ideal.{total-cons}
 use Rattle.partial_agg.specs.declared.groups.Group.{Group}
 use Rattle.gen_query.proofs.Rows.{row_is}
-use Rattle.gen_query.specs.Generator.{generated, header, next_of, numbers, record_of, value_of}
+use Rattle.gen_query.specs.Generator.{generated, next_of, numbers, record_of, value_of}
 use Rattle.gen_query.specs.Totals.{IsSmall, all_rows, all_sums, rows_of, sum_of}
 
 -- the header, and then all rows

@@ -1,8 +1,7 @@
 -- Rows made of the numbers of a generator: the three shifts of Marsaglia's xorshift in 64 bits ("Xorshift RNGs", Journal
 -- of Statistical Software 8, 2003), here 13 to the left, 7 to the right and 17 to the left.
-use Rattle.std.specs.Prelude.{◌+◌, ◌*◌, ◌/◌, ◌%◌, ◌^◌, ◌++◌, ◌∷◌, [], ◌-ℤ◌, ℕ, ℤ, zero, suc, pos, List, bit_xor, codes, decimal, map}
+use Rattle.std.specs.Prelude.{◌*◌, ◌/◌, ◌%◌, ◌^◌, ◌++◌, ◌∷◌, [], ◌-ℤ◌, ℕ, ℤ, zero, suc, pos, List, bit_xor, codes, decimal, map}
 use Rattle.std.specs.Fmt.{signed_decimal}
-use Rattle.par_model.specs.Aggregate.{total}
 
 -- a number of 64 bits with itself shifted to the left, and to the right
 abbrev pub shifted_left : ℕ → ℕ → ℕ

@@ -1,5 +1,5 @@
 -- How the groups of generated rows were made.
-use Rattle.std.specs.Prelude.{◌≡◌, ℕ, List, Option, None, Some}
+use Rattle.std.specs.Prelude.{Option, None, Some}
 use Rattle.gather_run.specs.Answers.{AreAllGroups}
 use Rattle.gather_run.specs.Used.{IsUsed}
 use Rattle.gather_run.specs.declared.Gathered.{Gathered}

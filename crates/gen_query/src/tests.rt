@@ -48,7 +48,12 @@ fn answers_worked_words(rt: HostRuntime) -> Result<(), Fail> {
         ("gen 1 0", 0, "rows 0 groups 0 sum 0\n", ""),
         ("gen 1 1", 0, "rows 1 groups 1 sum -1000\n", ""),
         ("gen 1 2", 0, "rows 2 groups 2 sum -56\n", ""),
-        ("gen 00000000000000000001 0000002", 0, "rows 2 groups 2 sum -56\n", ""),
+        (
+            "gen 00000000000000000001 0000002",
+            0,
+            "rows 2 groups 2 sum -56\n",
+            "",
+        ),
         ("gen 0 5", 2, "", USAGE),
         ("gen 1 4194305", 2, "", USAGE),
         ("gen 1", 2, "", USAGE),
@@ -63,7 +68,11 @@ fn answers_worked_words(rt: HostRuntime) -> Result<(), Fail> {
         let answered = answer(&rt, rt.alloc(), words, &[], &[])?;
         assert_eq!(rt; answered.status, *status, "status of row {at}");
         assert_eq!(rt; answered.out.as_slice(), out.as_bytes(), "line of row {at}");
-        assert_eq!(rt; answered.err.as_slice(), err.as_bytes(), "error of row {at}");
+        assert_eq!(rt;
+            answered.err.as_slice(),
+            err.as_bytes(),
+            "error of row {at}"
+        );
     }
     let largest = answer(&rt, rt.alloc(), "gen 18446744073709551615 1", &[], &[])?;
     assert_eq!(rt; largest.status, TABLE);
@@ -121,13 +130,18 @@ fn returns_what_was_gathered(rt: HostRuntime) -> Result<(), Fail> {
     let words = vec![in rt.alloc();
         String::from_str(rt.alloc(), "gen")?,
         String::from_str(rt.alloc(), "7")?,
-        String::from_str(rt.alloc(), "5000")?
+        String::from_str(rt.alloc(), "5000")?,
     ]?;
     let mut out = MemSink::new(rt.alloc(), 5, 200, Vec::new(rt.alloc()))?;
     let mut err = MemSink::new(rt.alloc(), 5, 200, Vec::new(rt.alloc()))?;
-    let Ok(gathered) =
-        answer_generated(&rt, rt.alloc(), words.as_slice(), &mut out, &mut err, &OpenGate)
-    else {
+    let Ok(gathered) = answer_generated(
+        &rt,
+        rt.alloc(),
+        words.as_slice(),
+        &mut out,
+        &mut err,
+        &OpenGate,
+    ) else {
         return Err(Fail::new("no groups"));
     };
     assert_eq!(rt; gathered.finished.workers.len(), 2);

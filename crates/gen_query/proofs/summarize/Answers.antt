@@ -1,4 +1,4 @@
-use Rattle.std.proofs.Common.{subst, List, ℕ, take, sym}
+use Rattle.std.proofs.Common.{subst, List, ℕ, take}
 use Rattle.std.specs.Io.KnownBytes.{Appends}
 use Rattle.gen_query.proofs.Summed.{all_accepted, groups_of, summary_is}
 use Rattle.gen_query.proofs.summarize.Goals as goal
@@ -16,8 +16,7 @@ summary_of-requires-clause-small g c =
 
 pub returns-in-Ok-clause-summary : goal.returns-in-Ok-clause-summary
 returns-in-Ok-clause-summary g c =
-    let text = c.in_ok-text.text.items in
-    (
+    let text = c.in_ok-text.text.items in (
       text,
       summary_is c.args.asked.now.seed c.args.asked.now.rows c.requires c.in_ok-rows.rows c.in_ok-rows.ensures c.in_ok-gathered.gathered.groups text c.in_ok-gathered.ensures.groups c.in_ok-text.ensures,
       subst (λ (bytes : List ℕ). Appends (g.O.Sink.taken c.args.out.now) (g.O.Sink.taken c.write_whole.new.sink) bytes) c.as_slice.ensures.value c.in-Ok.ensures.whole,
@@ -26,8 +25,7 @@ returns-in-Ok-clause-summary g c =
 pub returns-clause-part : goal.returns-clause-part
 returns-clause-part g c e =
     let text = c.in_ok-text.text.items in
-    let prefix = c.in-Err.ensures.prefix in
-    (
+    let prefix = c.in-Err.ensures.prefix in (
       text,
       summary_is c.args.asked.now.seed c.args.asked.now.rows c.requires c.in_ok-rows.rows c.in_ok-rows.ensures c.in_ok-gathered.gathered.groups text c.in_ok-gathered.ensures.groups c.in_ok-text.ensures,
       prefix.0,

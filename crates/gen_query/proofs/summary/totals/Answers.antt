@@ -1,4 +1,4 @@
-use Rattle.std.proofs.Common.{◌≡◌, ◌∙◌, ◌+◌, ◌+ℤ◌, ◌≤◌, ◌^◌, arith, get_or, refl, sym}
+use Rattle.std.proofs.Common.{◌∙◌, ◌+◌, ◌+ℤ◌, arith, get_or, refl, sym}
 use Rattle.std.proofs.lemmas.Int.{ints}
 use Rattle.par_model.specs.Aggregate.{no_values}
 use Rattle.gen_query.proofs.Steps.{adds_one, fitting}
