@@ -1,9 +1,9 @@
 -- The law of the first round: whatever rows the participants put in and in which order, the entries of the closed table
 -- and the links cover all rows that have a field.
-use Rattle.std.proofs.Common.{◌≡◌, ◌≢◌, ◌<◌, ◌≤◌, ◌+◌, ◌*◌, ◌++◌, ℕ, zero, suc, Bool, true, false, cond, filter, List, [], ◌∷◌, Contains, Option, Some, None, length, map, replicate, slice_get, slice_index_or, refl, ap, sym, subst, ◌∙◌, arith}
+use Rattle.std.proofs.Common.{◌≡◌, ◌<◌, ◌≤◌, ◌*◌, ◌++◌, ℕ, zero, suc, Bool, true, false, cond, filter, List, [], ◌∷◌, Contains, Option, Some, None, length, map, slice_get, slice_index_or, ap, sym, subst, ◌∙◌, arith}
 use Rattle.std.specs.FinMap as fin
 use Rattle.std.specs.Cmp.Lexicographic.{slice_cmp}
-use Rattle.std.specs.List.{AllByRecursion, flat_map}
+use Rattle.std.specs.List.{flat_map}
 use Rattle.std.specs.List.Sorted.{IsPermutation}
 use Rattle.std.specs.Ordering.{eq_by_cmp, nat_cmp}
 use Rattle.std.proofs.lemmas.List.{length-replicate}
@@ -28,7 +28,7 @@ use Rattle.join_pairs.specs.Join.{AllAccepted, IsRow, keyed, numbers_of}
 use Rattle.join_pairs.specs.declared.chains.Link.{Link}
 use Rattle.hash_join.specs.Filled.{RowEntry, calls_at, done_in, key_of, partition_at}
 use Rattle.hash_join.specs.Listed.{ListsEach}
-use Rattle.hash_join.proofs.Covering.{key_rows, with_key}
+use Rattle.hash_join.proofs.Covering.{key_rows}
 use Rattle.hash_join.proofs.Entered.{IsEntry, entry_chain, itself, key_is, length-map}
 use Rattle.hash_join.proofs.Flattened.{IsStated, all_stated, entry_of}
 use Rattle.hash_join.proofs.Gathers.{links_are_once, links_are_rows, rows_of}

@@ -1,10 +1,10 @@
 -- The rows of all participants together: those of all blocks are those of all links and those that found no space.
-use Rattle.std.proofs.Common.{◌≡◌, ◌≢◌, ◌<◌, ◌≤◌, ◌+◌, ◌*◌, ◌++◌, not, ℕ, zero, suc, List, [], ◌∷◌, All, filter, length, map, drop, refl, ap, sym, subst, ◌∙◌, arith, append_assoc}
+use Rattle.std.proofs.Common.{◌≡◌, ◌<◌, ◌≤◌, ◌+◌, ◌*◌, ◌++◌, not, ℕ, zero, suc, List, [], ◌∷◌, All, length, map, drop, refl, sym, subst, arith, append_assoc}
 use Rattle.std.specs.List.{AllByRecursion, flat_map}
 use Rattle.std.specs.List.Sorted.{IsPermutation}
 use Rattle.std.proofs.lemmas.List.{map-append}
-use Rattle.std.proofs.lemmas.List.Elements.{All-append, All-filter, All-nil, All-push, All-map, All-weaker, filter-append, recursion_from_All}
-use Rattle.std.proofs.lemmas.List.Sorted.{All-permutation, IsPermutation-append, IsPermutation-append_left, IsPermutation-append_right, IsPermutation-refl, IsPermutation-sym, IsPermutation-trans, sum_by-IsPermutation}
+use Rattle.std.proofs.lemmas.List.Elements.{All-filter, All-nil, All-push, All-weaker, filter-append, recursion_from_All}
+use Rattle.std.proofs.lemmas.List.Sorted.{All-permutation, IsPermutation-append, IsPermutation-append_right, IsPermutation-refl, IsPermutation-sym, IsPermutation-trans, sum_by-IsPermutation}
 use Rattle.std.proofs.lemmas.List.Sums.{sum_by-append}
 use Rattle.csv_rows.specs.Records.{field_of}
 use Rattle.par_model.specs.Record.{is_null}
@@ -14,7 +14,7 @@ use Rattle.gather_law.specs.Tuples.{Table}
 use Rattle.join_pairs.specs.Blocks.{numbers_of_blocks}
 use Rattle.join_pairs.specs.Join.{IsRow, keyed, numbers_of}
 use Rattle.join_pairs.specs.declared.chains.Link.{Link}
-use Rattle.join_pairs.proofs.Apart.{many, many_below, many_drop, many_filter, one}
+use Rattle.join_pairs.proofs.Apart.{many_below, many_drop, many_filter, one}
 use Rattle.join_pairs.proofs.Exchange.{between}
 use Rattle.join_pairs.proofs.Filters.{filter-permutation}
 use Rattle.join_pairs.proofs.Linking.{AreOnce, once_links}

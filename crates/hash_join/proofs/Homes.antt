@@ -1,5 +1,5 @@
 -- What the participants brought home covers all rows, and shows that they were shared out.
-use Rattle.std.proofs.Common.{◌≡◌, ◌≢◌, ◌<◌, ◌≤◌, ◌+◌, ◌*◌, ◌++◌, ◌==◌, ℕ, zero, suc, Bool, true, false, ltb, IsTrue, List, [], ◌∷◌, All, Any, length, map, refl, ap, sym, subst, ◌∙◌, arith}
+use Rattle.std.proofs.Common.{◌≡◌, ◌<◌, ◌≤◌, ◌++◌, ℕ, zero, suc, Bool, true, false, ltb, IsTrue, List, [], ◌∷◌, Any, length, map, refl, ap, sym, subst, ◌∙◌, arith}
 use mathlib.Core.Option.{some, some-injective}
 use lib.ListN.{get_elem?}
 use Rattle.std.specs.List.{AllByRecursion, flat_map}
@@ -12,7 +12,6 @@ use Rattle.rel_pointer.specs.Bytes.{AllBytes}
 use Rattle.dsa_area.specs.Shown as area
 use Rattle.dsa_area.specs.Shown.{pages_mine}
 use Rattle.dsa_area.specs.declared.area.AreaPass.{AreaPass}
-use Rattle.dshash_core.specs.Key.{hash_of}
 use Rattle.dshash_parts.specs.Tables as table
 use Rattle.dshash_parts.proofs.Uses.{partition_low}
 use Rattle.scan_claim.specs.Drawing.{IsDrawn, flat, is_spent, once_below, times}
@@ -36,7 +35,7 @@ use Rattle.hash_join.specs.declared.store.Store.{Store}
 use Rattle.hash_join.proofs.Covering.{map-map}
 use Rattle.hash_join.proofs.Covers.{covered, rows_tell}
 use Rattle.hash_join.proofs.Entered.{length-map}
-use Rattle.hash_join.proofs.Flattened.{place_low, some_at}
+use Rattle.hash_join.proofs.Flattened.{some_at}
 use Rattle.hash_join.proofs.Gathers.{AllPut, all_rows, rows_of}
 
 -- ---- places of lists

@@ -1,5 +1,5 @@
 -- The passes of the table meet, all entries are listed, and the table ends.
-use Rattle.std.proofs.Common.{◌≡◌, ◌≢◌, ◌<◌, ◌≤◌, ◌+◌, ◌++◌, ◌⊎◌, ⊎_elim, inl, inr, ℕ, zero, suc, List, [], ◌∷◌, All, Option, Some, drop, get_or, length, map, set, take, refl, ap, sym, subst, ◌∙◌, arith, add-one, append_assoc, append-nil}
+use Rattle.std.proofs.Common.{◌≡◌, ◌<◌, ◌≤◌, ◌+◌, ◌++◌, ◌⊎◌, ⊎_elim, inl, inr, ℕ, zero, suc, List, [], ◌∷◌, All, Option, drop, get_or, length, set, take, refl, ap, sym, subst, ◌∙◌, arith, append_assoc, append-nil}
 use Rattle.std.specs.List.{AllZip}
 use Rattle.std.proofs.lemmas.Bool.{cases_lt}
 use Rattle.std.proofs.lemmas.List.{drop_all, get_or-drop, take_all}
@@ -9,14 +9,14 @@ use lib.ListN.{get_elem?}
 use Rattle.atomic_table.specs.Seated.{TableId}
 use Rattle.lock_book.specs.declared.kept.Kept.{Ghosts}
 use Rattle.lock_book.specs.declared.view.Entry.{Entry}
-use Rattle.lock_book.specs.History.{IsLegal, StartsWith, calls_by, last_of}
-use Rattle.lock_book.specs.Shown.{Met, mine_of, number_of, seen_of}
+use Rattle.lock_book.specs.History.{StartsWith, calls_by, last_of}
+use Rattle.lock_book.specs.Shown.{mine_of, number_of, seen_of}
 use Rattle.lock_book.specs.Told.{MakesAll}
 use Rattle.dshash_core.specs.Outcome.{ListsAll}
 use Rattle.dshash_parts.specs.Ending.{Ended, whole_of}
 use Rattle.dshash_parts.specs.Legal.{PartitionLegal}
 use Rattle.dshash_parts.specs.States.{PartitionState, fresh}
-use Rattle.dshash_parts.specs.Tables.{AreAll, Belongs, Did, callers_of}
+use Rattle.dshash_parts.specs.Tables.{AreAll, Belongs, callers_of}
 use Rattle.dshash_parts.specs.declared.asks.TableAnswer.{TableAnswer}
 use Rattle.dshash_parts.specs.declared.asks.TableAsk.{TableAsk}
 use Rattle.dshash_parts.specs.declared.close.ClosedTable.{ClosedTable}

@@ -1,6 +1,5 @@
 -- A participant puts in one more row.
-use Rattle.std.proofs.Common.{◌≡◌, ◌<◌, ◌≤◌, ◌+◌, ◌==◌, ◌⊎◌, ◌++◌, inl, inr, Bool, true, false, cond, filter, not, ℕ, List, [], ◌∷◌, All, Any, map, length, refl, ap, sym, subst, ◌∙◌, arith, append_assoc, append-nil, length-append}
-use Rattle.std.specs.List.{flat_map}
+use Rattle.std.proofs.Common.{◌≡◌, ◌<◌, ◌≤◌, ◌==◌, ◌⊎◌, ◌++◌, inl, inr, Bool, true, false, cond, filter, not, ℕ, List, [], ◌∷◌, Any, map, refl, ap, sym, subst, ◌∙◌, arith, append_assoc, append-nil, length-append}
 use Rattle.std.specs.List.Sorted.{IsPermutation}
 use Rattle.std.proofs.lemmas.List.Concat.{flat_map-append}
 use Rattle.std.proofs.lemmas.List.Elements.{All-nil, All-push, All-weaker, filter-append}
@@ -8,11 +7,9 @@ use Rattle.std.proofs.lemmas.List.Sorted.{IsPermutation-append_left, IsPermutati
 use Rattle.csv_rows.specs.Records.{field_of}
 use Rattle.dsa_area.specs.Shown.{pages_mine}
 use Rattle.dsa_area.specs.declared.area.Area.{Area}
-use Rattle.dshash_core.specs.Cells.{partition_of}
 use Rattle.dshash_core.specs.Chains.{Among}
-use Rattle.dshash_core.specs.Key.{hash_of}
 use Rattle.dshash_parts.specs.Promises.{IsCause, IsMade, IsRefused}
-use Rattle.dshash_parts.specs.Traces.{Asked, Event, Gave, Got, Missed, Request, Sight, Trace, Turn, turns_at}
+use Rattle.dshash_parts.specs.Traces.{Asked, Event, Missed, Sight, Trace, Turn, turns_at}
 use Rattle.dshash_parts.specs.declared.histories.PartitionCalls.{PartitionCalls}
 use Rattle.dshash_parts.specs.declared.histories.PartitionCalls.TheVariants.{Call}
 use Rattle.dshash_parts.specs.declared.histories.PartitionReplies.{PartitionReplies}
@@ -20,7 +17,7 @@ use Rattle.dshash_parts.specs.declared.histories.PartitionReplies.TheVariants.{L
 use Rattle.gather_law.specs.Tuples.{Table}
 use Rattle.par_model.specs.Record.{is_null}
 use Rattle.join_pairs.specs.Chains.{last_step}
-use Rattle.hash_join.specs.Filled.{HasPut, IsMissing, PageEntry, RowEntry, WasMissed, calls_at, done_in, done_of, key_of, lacks, partition_at}
+use Rattle.hash_join.specs.Filled.{HasPut, IsMissing, PageEntry, RowEntry, WasMissed, calls_at, done_in, done_of, key_of, partition_at}
 use Rattle.join_pairs.specs.Join.{keyed}
 use Rattle.join_pairs.specs.Blocks.{numbers_of_blocks}
 use Rattle.join_pairs.specs.declared.chains.Link.{Link}

@@ -1,9 +1,9 @@
 -- The participants with their tokens, from the beginning of a round to its end.
-use Rattle.std.proofs.Common.{◌≡◌, ◌<◌, ◌≤◌, ◌+◌, ◌++◌, ℕ, zero, suc, false, List, [], ◌∷◌, All, get_or, length, map, set, refl, ap, sym, subst, ◌∙◌, arith}
+use Rattle.std.proofs.Common.{◌≡◌, ◌≤◌, ℕ, zero, suc, false, List, [], ◌∷◌, All, get_or, length, map, set, refl, ap, sym, subst, ◌∙◌, arith}
 use mathlib.Core.Option.{some, some-injective}
 use lib.ListN.{get_elem?}
 use Rattle.std.specs.List.{AllByRecursion, zip}
-use Rattle.std.proofs.lemmas.List.Elements.{All-cons, All-from_get_or, All-from_recursion, All-head, All-nil, All-tail, recursion_from_All}
+use Rattle.std.proofs.lemmas.List.Elements.{All-from_recursion, recursion_from_All}
 use Rattle.std.proofs.lemmas.Slice.Zip.{firsts-zip, length-zip, seconds-zip}
 use Rattle.lock_book.specs.Shown.{mine_of, number_of}
 use Rattle.dsa_area.specs.Shown as area
@@ -11,7 +11,6 @@ use Rattle.dsa_area.specs.declared.area.Area.{Area}
 use Rattle.dsa_area.specs.declared.area.AreaPass.{AreaPass}
 use Rattle.dshash_parts.specs.Tables as table
 use Rattle.scan_claim.specs.Shown as claim
-use Rattle.scan_claim.specs.declared.claims.ClaimSeat.{ClaimSeat}
 use Rattle.scan_claim.specs.declared.claims.Claims.{Claims}
 use Rattle.gather_law.specs.Tuples.{Table}
 use Rattle.hash_join.specs.Home.{AreFilled, AreFillers, AreNew, Became}

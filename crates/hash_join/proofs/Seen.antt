@@ -1,5 +1,5 @@
 -- Who has seen all calls of all callers has seen the whole history.
-use Rattle.std.proofs.Common.{◌≡◌, ◌<◌, ◌≤◌, ◌+◌, ◌==◌, ◌++◌, ℕ, zero, suc, Bool, true, false, cond, List, [], ◌∷◌, length, refl, ap, sym, subst, ◌∙◌, arith, append-nil, append_assoc, length-append}
+use Rattle.std.proofs.Common.{◌≡◌, ◌+◌, ◌==◌, ◌++◌, ℕ, Bool, true, false, cond, List, [], ◌∷◌, length, refl, ap, sym, ◌∙◌, arith, append-nil, length-append}
 use Rattle.lock_book.specs.declared.view.Entry.{Entry}
 use Rattle.lock_book.specs.History.{StartsWith, calls_by}
 

@@ -1,7 +1,5 @@
 -- What the events of a call of the table add to the own calls of its passes.
-use Rattle.std.proofs.Common.{◌≡◌, ◌≢◌, ◌<◌, ◌≤◌, ◌+◌, ◌/◌, ◌==◌, ◌⊎◌, ◌++◌, inl, inr, ⊎_elim, Bool, true, false, cond, ℕ, List, [], ◌∷◌, Option, map, length, refl, ap, sym, subst, ◌∙◌, arith, append_assoc, append-nil}
-use mathlib.Core.Logic.{dite}
-use native.Mathlib.Decide.{ℕ_discrete}
+use Rattle.std.proofs.Common.{◌≡◌, ◌≤◌, ◌+◌, ◌/◌, ◌==◌, ◌⊎◌, ◌++◌, inl, inr, Bool, true, false, cond, ℕ, List, [], ◌∷◌, Option, map, refl, ap, sym, ◌∙◌, arith, append_assoc, append-nil}
 use Rattle.std.specs.List.{flat_map, sum_by}
 use Rattle.std.proofs.lemmas.List.Concat.{flat_map-append}
 use Rattle.std.proofs.lemmas.List.Sums.{sum_by-append}
@@ -16,11 +14,10 @@ use Rattle.free_pages.specs.Area.{superblock_pages}
 use Rattle.dsa_area.specs.Shown.{none_granted, number_of, pages_legal, pages_mine, pages_seen}
 use Rattle.dsa_area.specs.declared.area.Area.{Area}
 use Rattle.dsa_area.specs.declared.area.AreaPass.{AreaPass}
-use Rattle.dshash_core.specs.Chains.{Among}
-use Rattle.dshash_parts.specs.Promises.{HadToGrow, IsCause, IsMade, IsRefused, LackedItem}
+use Rattle.dshash_parts.specs.Promises.{IsMade}
 use Rattle.dshash_parts.specs.Legal.{PartitionLegal}
-use Rattle.dshash_parts.specs.States.{PartitionState, fresh}
-use Rattle.dshash_parts.specs.Traces.{AreGifts, Asked, Event, Gave, Got, Makes, Missed, NoneMade, Request, Requested, Sight, Trace, Turn, turns_at}
+use Rattle.dshash_parts.specs.States.{fresh}
+use Rattle.dshash_parts.specs.Traces.{AreGifts, Asked, Event, Gave, Got, Makes, Missed, NoneMade, Sight, Trace, Turn, turns_at}
 use Rattle.dshash_parts.proofs.Uses.{did_turns}
 use Rattle.dshash_parts.specs.declared.histories.PartitionCalls.{PartitionCalls}
 use Rattle.dshash_parts.specs.declared.histories.PartitionCalls.TheVariants.{Call, Looks, Moves, Lists}

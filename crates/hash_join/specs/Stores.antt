@@ -1,10 +1,8 @@
 -- The shared table of the left rows with its area, and a participant's passes.
-use Rattle.std.specs.Prelude.{◌≡◌, ◌<◌, ◌≤◌, ℕ, IsTrue, List, [], ◌++◌}
-use mathlib.Core.Option.{some}
-use lib.ListN.{get_elem?}
+use Rattle.std.specs.Prelude.{◌≡◌, ℕ, IsTrue, List, []}
 use Rattle.dsa_area.specs.Shown.{Belongs as AreaBelongs, IsArea, number_of as area_number, pages_mine}
 use Rattle.dshash_parts.specs.Tables.{Belongs as TableBelongs, IsTable, key_words_of}
-use Rattle.lock_book.specs.Shown.{mine_of, number_of, seen_of}
+use Rattle.lock_book.specs.Shown.{mine_of, number_of}
 use Rattle.scan_claim.specs.Drawing.{is_spent}
 use Rattle.scan_claim.specs.Shown.{blocks_of, draws_of, number_of as seat_number}
 use Rattle.scan_claim.specs.declared.claims.Claims.{Claims}

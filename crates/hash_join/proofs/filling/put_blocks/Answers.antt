@@ -1,4 +1,4 @@
-use Rattle.std.proofs.Common.{◌≡◌, ◌++◌, [], ◌∷◌, ℕ, List, rules, ap, sym, subst, ◌∙◌}
+use Rattle.std.proofs.Common.{◌≡◌, ◌++◌, ℕ, List, rules, ap, sym, subst, ◌∙◌}
 use Rattle.scan_claim.specs.Shown.{Belongs, blocks_of, draws_of}
 use Rattle.join_pairs.specs.Blocks.{block_numbers, numbers_of_blocks}
 use Rattle.hash_join.specs.Stores.{DidPut}

@@ -1,5 +1,4 @@
-use Rattle.std.proofs.Common.{◌≡◌, ◌<◌, ◌∷◌, ℕ, zero, suc, List, All, length, refl, sym, ap, subst, ◌∙◌, arith}
-use Rattle.lock_book.specs.Shown.{mine_of, number_of, seen_of}
+use Rattle.std.proofs.Common.{◌≡◌, suc, length, refl, sym, subst, ◌∙◌, arith}
 use Rattle.dshash_core.specs.Listing.{pairs_of as entries_of}
 use Rattle.dshash_parts.specs.Ending.{Ended, whole_of}
 use Rattle.dshash_parts.specs.Tables.{AreAll, Belongs}

@@ -1,4 +1,4 @@
-use Rattle.std.proofs.Common.{◌≡◌, ◌∙◌, map}
+use Rattle.std.proofs.Common.{◌∙◌}
 use Rattle.hash_join.specs.declared.filling.Filler.{Filler}
 use Rattle.hash_join.proofs.Rounds.{token_areas, token_claims, token_tables}
 use Rattle.hash_join.proofs.gathering.fillers.Goals as goal

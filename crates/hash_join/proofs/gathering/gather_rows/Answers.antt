@@ -1,4 +1,3 @@
-use Rattle.hash_join.specs.Home.{IsHome}
 use Rattle.hash_join.proofs.Rounds.{all_filled, still_all}
 use Rattle.hash_join.proofs.gathering.gather_rows.Goals as goal
 

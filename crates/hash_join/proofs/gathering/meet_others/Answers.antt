@@ -1,5 +1,5 @@
-use Rattle.std.proofs.Common.{◌≡◌, ◌<◌, ℕ, List, All, get_or, length, ◌∙◌, arith}
-use Rattle.lock_book.specs.Shown.{mine_of, number_of, seen_of}
+use Rattle.std.proofs.Common.{◌<◌, length, ◌∙◌, arith}
+use Rattle.lock_book.specs.Shown.{seen_of}
 use Rattle.dshash_parts.specs.Tables.{Belongs}
 use Rattle.hash_join.specs.Home.{HasMet}
 use Rattle.hash_join.proofs.Meets.{one_left, one_met, starts_trans}

@@ -1,10 +1,9 @@
-use Rattle.std.proofs.Common.{◌≡◌, ℕ, List, sym, ap, subst, ◌∙◌}
+use Rattle.std.proofs.Common.{◌≡◌, sym, subst}
 use mathlib.Core.Option.{some}
 use lib.ListN.{get_elem?}
 use Rattle.dsa_area.specs.Shown as area
 use Rattle.dshash_parts.specs.Tables as table
 use Rattle.scan_claim.specs.Shown as claim
-use Rattle.hash_join.specs.Home.{AreFillers}
 use Rattle.hash_join.specs.declared.filling.Filler.{Filler}
 use Rattle.hash_join.proofs.Homes.{map_get}
 use Rattle.hash_join.proofs.Rounds.{are_new}

@@ -1,4 +1,4 @@
-use Rattle.std.proofs.Common.{◌≡◌, ◌≤◌, ℕ, sym, subst, ◌∙◌, arith}
+use Rattle.std.proofs.Common.{◌≤◌, ◌∙◌, arith}
 use Rattle.dsa_area.specs.Shown.{callers_of}
 use Rattle.hash_join.proofs.Rounds.{areas_kept, first_pass}
 use Rattle.hash_join.proofs.store.open_store.Goals as goal
