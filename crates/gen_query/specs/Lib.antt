@@ -1,7 +1,0 @@
-pub mod Generator
-pub mod Lines
-pub mod Plan
-pub mod Summary
-pub mod Totals
-pub mod Used
-pub mod Words
