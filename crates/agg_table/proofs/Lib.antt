@@ -1,0 +1,6 @@
+pub mod Anys
+pub mod Traced
+pub mod Putting
+pub mod Growing
+pub mod Asking
+pub mod Opened
