@@ -4,3 +4,4 @@ pub mod Putting
 pub mod Growing
 pub mod Asking
 pub mod Opened
+pub mod Seats

@@ -1,5 +1,5 @@
 -- What a contract sees of the table of a query's groups, and of a participant's passes.
-use Rattle.std.specs.Prelude.{◌≡◌, ℕ, List, [], length}
+use Rattle.std.specs.Prelude.{◌≡◌, ℕ, List, [], Option, Some, None, length}
 use mathlib.Core.Option.{some}
 use lib.ListN.{get_elem?}
 use Rattle.atomic_table.specs.Seated.{TableId}
@@ -52,6 +52,27 @@ pub record IsUnusedBy (number : ℕ) (s : HashSeat) : Type 0 where
   pub number_is : number_of s.table ≡ number
   pub turns : (number : ℕ) → mine_of s.table number ≡ []
   pub pages : lacks (pages_mine s.area) ≡ 0
+
+-- a participant's passes are there exactly where the table is, and the participant has not used them
+abbrev pub IsHashSeat : TableId → ℕ → Option HashPart → Option HashSeat → Type 0
+IsHashSeat region number None None = Unit {0}
+IsHashSeat region number None (Some s) = ⊥
+IsHashSeat region number (Some p) None = ⊥
+IsHashSeat region number (Some p) (Some s) = IsPart region p × IsSeat p s × IsUnusedBy number s
+
+-- the same passes, which may have been used
+abbrev pub StaysSeated : Option HashPart → Option HashSeat → Option HashSeat → Type 0
+StaysSeated None None None = Unit {0}
+StaysSeated (Some p) (Some s) (Some t) = IsSeat p t × Grew s t
+StaysSeated None None (Some t) = ⊥
+StaysSeated None (Some s) t = ⊥
+StaysSeated (Some p) None t = ⊥
+StaysSeated (Some p) (Some s) None = ⊥
+
+-- what a participant did with the table, where there is one
+abbrev pub use_in : Option HashSeat → Option Use
+use_in None = None
+use_in (Some s) = Some (use_of s)
 
 -- the passes of all participants, in order of their numbers, with which none has done anything yet
 pub record AreUnusedSeats (p : HashPart) (seats : List HashSeat) : Type 0 where

@@ -1,4 +1,5 @@
 -- What the participants are given.
+use Rattle.agg_table.specs.Tokens.{IsHashSeat}
 use Rattle.std.proofs.Common.{Option, ◌≡◌, ◌≤◌, ◌+◌, ◌++◌, ℕ, suc, List, [], ◌∷◌, length, map, refl, subst, sym, ap, ◌∙◌, append_assoc, arith}
 use Rattle.std.specs.List.{All, AllZip}
 use Rattle.std.proofs.lemmas.List.{map-append}
@@ -18,7 +19,7 @@ use Rattle.parallel_ctx.specs.declared.tokens.WorkerEnds.{WorkerEnds}
 use Rattle.parallel_ctx.specs.Making.{AreDealt, AreRings, AreUnheardIn, AreUnused, claim_in, ends_in, firsts, hash_in}
 use Rattle.agg_table.specs.declared.part.HashSeat.{HashSeat}
 use Rattle.parallel_ctx.proofs.Passes.{AreHashes, dealt_callers, dealt_hashes}
-use Rattle.parallel_ctx.specs.Tokens.{AreNumbered, AreOneRing, AreSeated, AreUnheard, IsFresh, HasCallers, IsHashSeat, IsPrepared, number_in}
+use Rattle.parallel_ctx.specs.Tokens.{AreNumbered, AreOneRing, AreSeated, AreUnheard, IsFresh, HasCallers, IsPrepared, number_in}
 
 pub numbered-push : (n : ℕ) (hs : List Hand) (h : Hand) → AreNumbered n (map number_in hs) → h.seats.number ≡ n + length hs → AreNumbered n (map number_in (hs ++ h ∷ []))
 numbered-push n [] h p e = (omega (arith, e), tt)

@@ -15,13 +15,13 @@ use Rattle.lock_book.specs.History.{calls_by}
 use Rattle.lock_book.specs.Shown.{mine_of, number_of}
 use Rattle.agg_table.specs.Calls.{AggEntry, PageEntry, Use}
 use Rattle.agg_table.specs.Ending.{AreSeats, IsClosed}
-use Rattle.agg_table.specs.Tokens.{AreUnusedSeats, Grew, IsPart, IsSeat, IsUnusedBy, callers_of, use_of}
+use Rattle.agg_table.specs.Tokens.{AreUnusedSeats, Grew, IsHashSeat, IsPart, IsSeat, IsUnusedBy, StaysSeated, callers_of, use_in, use_of}
 use Rattle.agg_table.specs.declared.part.HashPart.{HashPart}
 use Rattle.agg_table.specs.declared.part.HashSeat.{HashSeat}
-use Rattle.parallel_ctx.specs.Accounts.{IsUnusedTable, pages_by, use_in}
+use Rattle.parallel_ctx.specs.Accounts.{IsUnusedTable, pages_by}
 use Rattle.parallel_ctx.specs.Making.{AreDealt, firsts}
 use Rattle.parallel_ctx.specs.Returns.{there}
-use Rattle.parallel_ctx.specs.Tokens.{HasCallers, IsHashSeat, StaysSeated}
+use Rattle.parallel_ctx.specs.Tokens.{HasCallers}
 
 -- ---- dealing
 

@@ -1,4 +1,5 @@
 -- What the caller learns once all tokens are home.
+use Rattle.agg_table.specs.Tokens.{use_in}
 use Rattle.std.proofs.Common.{◌+◌, ◌≡◌, ◌&&◌, ◌==◌, ℕ, zero, suc, Bool, List, [], ◌∷◌, Option, MatchOption, true, false, length, map, All, refl, subst, sym, ap, ◌∙◌, arith}
 use Rattle.std.specs.List.{AllZip}
 use Rattle.std.proofs.lemmas.List.Elements.{All-head, All-tail}
@@ -17,7 +18,7 @@ use Rattle.parallel_ctx.specs.declared.tokens.LeaderEnds.{LeaderEnds}
 use Rattle.parallel_ctx.specs.declared.home.Returned.{Returned}
 use Rattle.parallel_ctx.specs.Ran.{Finishes}
 use Rattle.parallel_ctx.specs.Returns.{CanSettle, IsReturned, Returns, claim_of, hash_of}
-use Rattle.parallel_ctx.specs.Accounts.{Account, IsIdle, account, account_in, account_of, is_over, use_in}
+use Rattle.parallel_ctx.specs.Accounts.{Account, IsIdle, account, account_in, account_of, is_over}
 use Rattle.agg_table.specs.Calls.{Use}
 use Rattle.agg_table.specs.declared.part.HashSeat.{HashSeat}
 use Rattle.parallel_ctx.specs.Tokens.{AreNumbered, AreOneRing, AreUnheard, IsFresh, SameQueues, number_in}

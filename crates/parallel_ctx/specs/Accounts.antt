@@ -2,8 +2,7 @@
 -- messages of its queues.
 use Rattle.std.specs.Prelude.{◌≡◌, ◌&&◌, ◌==◌, ℕ, zero, suc, Bool, List, [], ◌∷◌, Option, Some, None, length, option_map}
 use Rattle.agg_table.specs.Calls.{PageEntry, Use}
-use Rattle.agg_table.specs.Tokens.{use_of}
-use Rattle.agg_table.specs.declared.part.HashSeat.{HashSeat}
+use Rattle.agg_table.specs.Tokens.{use_in}
 use Rattle.dsa_area.specs.Shown.{pages_mine}
 use Rattle.dsa_area.specs.declared.area.AreaPass.{AreaPass}
 use Rattle.dshash_parts.specs.Ending.{whole_of as history_of}
@@ -18,11 +17,6 @@ use Rattle.parallel_ctx.specs.declared.tokens.Seats.{Seats}
 use Rattle.parallel_ctx.specs.declared.tokens.WorkerEnds.{WorkerEnds}
 
 -- ---- workers
-
--- what a participant did with the table of groups, where there is one
-abbrev pub use_in : Option HashSeat → Option Use
-use_in None = None
-use_in (Some s) = Some (use_of s)
 
 -- the calls at the pages of the area, by the pass of this number
 abbrev pub pages_by : List AreaPass → ℕ → List PageEntry

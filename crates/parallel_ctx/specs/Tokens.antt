@@ -1,9 +1,8 @@
 -- What a participant is given, and what stays of it.
 use Rattle.std.specs.Prelude.{◌≡◌, ◌≤◌, ℕ, suc, List, [], ◌∷◌, All, Bool, Option, Some, None, length, map, false, ⊤}
 use Rattle.std.specs.List.{AllZip}
-use Rattle.agg_table.specs.Tokens.{Grew, IsPart, IsSeat, IsUnusedBy, callers_of as table_callers}
+use Rattle.agg_table.specs.Tokens.{IsHashSeat, StaysSeated, callers_of as table_callers}
 use Rattle.agg_table.specs.declared.part.HashPart.{HashPart}
-use Rattle.agg_table.specs.declared.part.HashSeat.{HashSeat}
 use Rattle.atomic_table.specs.Seated.{TableId}
 use Rattle.mq_handle.specs.Receives.{Incoming}
 use Rattle.mq_ring.specs.Ends.{SendingEnd}
@@ -18,13 +17,6 @@ use Rattle.parallel_ctx.specs.declared.tokens.Shared.{Shared}
 use Rattle.parallel_ctx.specs.declared.tokens.WorkerEnds.{WorkerEnds}
 
 -- ---- unused tokens
-
--- a participant's passes of the table of groups are there exactly where the table is; the participant has not used them
-abbrev pub IsHashSeat : TableId → ℕ → Option HashPart → Option HashSeat → Type 0
-IsHashSeat region number None None = Unit {0}
-IsHashSeat region number None (Some s) = ⊥
-IsHashSeat region number (Some p) None = ⊥
-IsHashSeat region number (Some p) (Some s) = IsPart region p × IsSeat p s × IsUnusedBy number s
 
 -- a participant's seats: of this region, these claims and this table of groups, with the plan in the table of contents,
 -- and nothing drawn
@@ -69,15 +61,6 @@ pub record IsFreshLead (plan : Plan) (w : Shared) (s : Seats) (queues : List Lea
   pub count : callers_of w.claims ≡ suc (length queues)
 
 -- ---- tokens in their places
-
--- the same passes of the table of groups, which may have been used
-abbrev pub StaysSeated : Option HashPart → Option HashSeat → Option HashSeat → Type 0
-StaysSeated None None None = Unit {0}
-StaysSeated (Some p) (Some s) (Some t) = IsSeat p t × Grew s t
-StaysSeated None None (Some t) = ⊥
-StaysSeated None (Some s) t = ⊥
-StaysSeated (Some p) None t = ⊥
-StaysSeated (Some p) (Some s) None = ⊥
 
 -- the same seats, which may have drawn
 pub record SameSeats (w : Shared) (s t : Seats) : Type 0 where

@@ -2,12 +2,13 @@
 //! what it promises of its draws and its messages; `Context::run` gives these promises to its caller. They speak of
 //! lists alone, so what happens to an end after the call, as its detaching, does not touch them.
 
+ghost use Rattle.agg_table.specs.Tokens.{use_in};
 ghost use Rattle.std.specs.Prelude.{◌≡◌, map};
 ghost use Rattle.std.specs.List.{AllZip};
 ghost use Rattle.par_model.specs.Plan.{Plan};
 ghost use Rattle.plan_spec.specs.Planned.{HasPlan};
 ghost use Rattle.scan_claim.specs.Shown.{blocks_of, draws_of};
-ghost use Rattle.parallel_ctx.specs.Accounts.{account, heard, use_in};
+ghost use Rattle.parallel_ctx.specs.Accounts.{account, heard};
 ghost use Rattle.parallel_ctx.specs.Tokens.{IsFresh, IsFreshLead, SameEnds, SameQueues, SameSeats};
 
 use crate::tokens::{LeaderEnds, Seats, Shared, WorkerEnds};

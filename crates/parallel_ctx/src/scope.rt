@@ -1,11 +1,12 @@
 //! The scope in which the workers run beside the lead.
 
+ghost use Rattle.agg_table.specs.Tokens.{use_in};
 ghost use Rattle.std.specs.Prelude.{◌≡◌, All, map};
 ghost use Rattle.std.specs.List.{AllZip};
 ghost use Rattle.par_model.specs.Plan.{Plan};
 ghost use Rattle.plan_spec.specs.Planned.{HasPlan};
 ghost use Rattle.scan_claim.specs.Shown.{blocks_of, draws_of};
-ghost use Rattle.parallel_ctx.specs.Accounts.{heard, use_in};
+ghost use Rattle.parallel_ctx.specs.Accounts.{heard};
 ghost use Rattle.parallel_ctx.specs.Ready.{IsReady};
 ghost use Rattle.parallel_ctx.specs.Returns.{CanLead, Returns};
 ghost use Rattle.parallel_ctx.specs.Tokens.{AreHere, SameQueues, SameSeats};

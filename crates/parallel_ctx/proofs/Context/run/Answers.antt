@@ -1,3 +1,4 @@
+use Rattle.agg_table.specs.Tokens.{use_in}
 use Rattle.std.proofs.Common.{◌≡◌, ◌≤◌, ◌++◌, [], ◌∷◌, List, ℕ, Option, None, ◌+◌, suc, length, map, rules, arith, refl, subst, sym, ap, ◌∙◌, is_some, count_by}
 use Rattle.std.proofs.lemmas.List.{length-map}
 use Rattle.std.proofs.lemmas.List.Elements.{All-weaker}
@@ -7,7 +8,7 @@ use Rattle.scan_claim.specs.declared.claims.ClaimSeat.{ClaimSeat}
 use Rattle.parallel_ctx.specs.declared.tokens.Hand.{Hand}
 use Rattle.parallel_ctx.specs.Ran.{Ran}
 use Rattle.parallel_ctx.specs.Returns.{CanWork, IsReturned, Returns, claim_of, hash_of, there}
-use Rattle.parallel_ctx.specs.Accounts.{Heard, heard_of, use_in}
+use Rattle.parallel_ctx.specs.Accounts.{Heard, heard_of}
 use Rattle.parallel_ctx.specs.Tokens.{AreNumbered, AreOneRing, HasCallers, IsFresh, Prepared}
 use mathlib.Core.Option.{some}
 use lib.ListN.{get_elem?}

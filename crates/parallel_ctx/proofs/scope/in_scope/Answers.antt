@@ -1,10 +1,11 @@
+use Rattle.agg_table.specs.Tokens.{use_in}
 use Rattle.std.proofs.Common.{◌≡◌, length, arith}
 use Rattle.parallel_ctx.specs.Returns.{Carries}
 use Rattle.parallel_ctx.proofs.Zips.{AllZip-length}
 use Rattle.parallel_ctx.proofs.Carried.{all_carried}
 use Rattle.std.proofs.Common.{subst, sym, ap, map, List}
 use Rattle.scan_claim.specs.Shown.{blocks_of, draws_of}
-use Rattle.parallel_ctx.specs.Accounts.{Heard, heard, use_in}
+use Rattle.parallel_ctx.specs.Accounts.{Heard, heard}
 use Rattle.parallel_ctx.specs.Tokens.{SameQueues}
 use Rattle.parallel_ctx.proofs.Queues.{written_back}
 use Rattle.parallel_ctx.proofs.scope.in_scope.Goals as goal

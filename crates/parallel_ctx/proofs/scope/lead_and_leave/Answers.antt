@@ -1,6 +1,7 @@
+use Rattle.agg_table.specs.Tokens.{use_in}
 use Rattle.std.proofs.Common.{subst, sym, List}
 use Rattle.scan_claim.specs.Shown.{blocks_of, draws_of}
-use Rattle.parallel_ctx.specs.Accounts.{Heard, use_in}
+use Rattle.parallel_ctx.specs.Accounts.{Heard}
 use Rattle.parallel_ctx.specs.Tokens.{SameQueues}
 use Rattle.parallel_ctx.proofs.Queues.{all_here, same-trans}
 use Rattle.parallel_ctx.proofs.Zips.{AllZip-through}

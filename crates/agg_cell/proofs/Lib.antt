@@ -1,0 +1,8 @@
+pub mod Written
+pub mod Runs
+pub mod Combining
+pub mod Permuted
+pub mod Orders
+pub mod Rows
+pub mod Callers
+pub mod AtOnce

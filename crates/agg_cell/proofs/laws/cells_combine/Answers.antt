@@ -1,0 +1,5 @@
+use Rattle.agg_cell.proofs.Runs.{cells}
+use Rattle.agg_cell.proofs.laws.cells_combine.Goals as goal
+
+pub returns : goal.returns
+returns c = cells

@@ -1,0 +1,4 @@
+pub mod Words
+pub mod ReadBack
+pub mod Cell
+pub mod Called
