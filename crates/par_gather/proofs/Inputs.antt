@@ -9,11 +9,11 @@ use Rattle.csv_rows.specs.declared.records.RowsAnswer.{RowsAnswer}
 use Rattle.csv_rows.specs.declared.records.RowsAnswer.TheVariants as parsing
 use Rattle.par_model.specs.Named.{NamedPlan}
 use Rattle.par_model.specs.Outcome.{TooManyBytes, TooManyRows, Usage, by_records, outcome}
-use Rattle.std.specs.Prelude.{option_map}
-use Rattle.plan_spec.specs.Query.{Query, query_of}
+use Rattle.plan_spec.specs.Query.{Query}
 use Rattle.plan_spec.specs.declared.plan.PlanAnswer.{PlanAnswer}
 use Rattle.plan_spec.specs.declared.plan.PlanAnswer.TheVariants as usage
-use Rattle.par_gather.specs.Answers.{outcome_over, plan_of}
+use Rattle.par_gather.specs.Answers.{outcome_over}
+use Rattle.par_gather.specs.Forms.{plan_in}
 use Rattle.par_gather.specs.Stops.{Explains, IsExplained, stop_of_parsing, stop_of_reading, stop_of_words}
 use Rattle.par_gather.specs.declared.stop.Stop.{Stop}
 
@@ -75,11 +75,11 @@ Explains-parsing plan bytes parsing.TooManyRows within none many = outcome-withi
 Explains-parsing plan bytes parsing.Memory within none many = tt
 
 -- why the words gave no plan
-pub explained-words : {T : Type 0} (words : List (List ℕ)) (left : Option (List ℕ)) (answer : PlanAnswer) → (IsSame {A = Result T PlanAnswer} (Err answer) (Err usage.Usage) → query_of words ≡ None) → IsExplained (plan_of words) left (stop_of_words answer)
+pub explained-words : {T : Type 0} (asked : Option Query) (left : Option (List ℕ)) (answer : PlanAnswer) → (IsSame {A = Result T PlanAnswer} (Err answer) (Err usage.Usage) → asked ≡ None) → IsExplained (plan_in asked) left (stop_of_words answer)
 unfolding outcome
-explained-words words None usage.Usage none = (Usage, tt, refl)
-explained-words words None usage.Memory none = (Usage, tt, tt)
-explained-words words (Some all) usage.Usage none =
-    let is : outcome_over (plan_of words) all ≡ Usage = ap (λ (q : Option Query). outcome_over (option_map (λ query. query.plan) q) all) (none refl) in
-    (outcome_over (plan_of words) all, refl, is)
-explained-words words (Some all) usage.Memory none = (outcome_over (plan_of words) all, refl, tt)
+explained-words asked None usage.Usage none = (Usage, tt, refl)
+explained-words asked None usage.Memory none = (Usage, tt, tt)
+explained-words asked (Some all) usage.Usage none =
+    let is : outcome_over (plan_in asked) all ≡ Usage = ap (λ (q : Option Query). outcome_over (plan_in q) all) (none refl) in
+    (outcome_over (plan_in asked) all, refl, is)
+explained-words asked (Some all) usage.Memory none = (outcome_over (plan_in asked) all, refl, tt)

@@ -4,9 +4,12 @@ use Rattle.par_model.specs.declared.refusal.Refusal.{Refusal}
 use Rattle.par_model.specs.Named.{NamedPlan}
 use Rattle.par_model.specs.Outcome.{Outcome}
 use Rattle.par_gather.specs.Answers.{IsOutcome, outcome_over, status_of}
-use Rattle.par_gather.specs.Lines.{IsLine, NamesFirst, NamesRow, line, outcome_text, refusal_text, row_text}
+use Rattle.query_answer.specs.Lines.{line}
+use Rattle.par_gather.specs.Forms.{usage_in}
+use Rattle.par_gather.specs.Lines.{IsLine, NamesFirst, NamesRow, outcome_text, refusal_text, row_text}
 use Rattle.par_gather.specs.Stops.{Explains, IsExplained, IsFirstStop, cause_text, stop_status, stop_text}
-use Rattle.par_gather.specs.declared.status.TheConstants.{REFUSED}
+use Rattle.par_gather.specs.declared.form.Form.{Form}
+use Rattle.query_answer.specs.declared.status.TheConstants.{REFUSED}
 use Rattle.par_gather.specs.declared.stop.Cause.{Cause}
 use Rattle.par_gather.specs.declared.stop.Stop.{Stop}
 use Rattle.par_gather.specs.declared.stop.Stop.TheVariants as stop
@@ -16,46 +19,46 @@ row-text : (row : ℕ) (text : List ℕ) → (codes "row " ++ (decimal row ++ co
 row-text row text = append_assoc (codes "row ") (decimal row ++ codes ": ") text ∙ ap (λ l. codes "row " ++ l) (append_assoc (decimal row) (codes ": ") text)
 
 -- the line of a refused row is that of the first row that the outcome refuses
-says-row : (plan : NamedPlan) (row : ℕ) (cause : Cause) (refusal : Refusal) → cause_text cause ≡ refusal_text plan refusal → line (stop_text (stop.Refused row cause)) ≡ line (row_text plan (row, refusal))
-says-row plan row cause refusal same = ap line (ap (λ l. (codes "row " ++ (decimal row ++ codes ": ")) ++ l) same ∙ row-text row (refusal_text plan refusal))
+says-row : (form : Form) (plan : NamedPlan) (row : ℕ) (cause : Cause) (refusal : Refusal) → cause_text cause ≡ refusal_text plan refusal → line (stop_text form (stop.Refused row cause)) ≡ line (row_text plan (row, refusal))
+says-row form plan row cause refusal same = ap line (ap (λ l. (codes "row " ++ (decimal row ++ codes ": ")) ++ l) same ∙ row-text row (refusal_text plan refusal))
 
-NamesRow-refused : (plan : Option NamedPlan) (row : ℕ) (cause : Cause) (o : Outcome) → Explains plan (stop.Refused row cause) o → NamesRow plan o (line (stop_text (stop.Refused row cause)))
-NamesRow-refused None row cause o explains = explains
-NamesRow-refused (Some plan) row cause o explains = ((row, explains.refusal), explains.has, says-row plan row cause explains.refusal explains.says)
+NamesRow-refused : (form : Form) (plan : Option NamedPlan) (row : ℕ) (cause : Cause) (o : Outcome) → Explains plan (stop.Refused row cause) o → NamesRow plan o (line (stop_text form (stop.Refused row cause)))
+NamesRow-refused form None row cause o explains = explains
+NamesRow-refused form (Some plan) row cause o explains = ((row, explains.refusal), explains.has, says-row form plan row cause explains.refusal explains.says)
 
-NamesFirst-refused : (plan : Option NamedPlan) (row : ℕ) (cause : Cause) (o : Outcome) → IsFirstStop plan (stop.Refused row cause) o → NamesFirst plan o (line (stop_text (stop.Refused row cause)))
-NamesFirst-refused None row cause o first = first
-NamesFirst-refused (Some plan) row cause o first = ((row, first.refusal), first.first, says-row plan row cause first.refusal first.says)
+NamesFirst-refused : (form : Form) (plan : Option NamedPlan) (row : ℕ) (cause : Cause) (o : Outcome) → IsFirstStop plan (stop.Refused row cause) o → NamesFirst plan o (line (stop_text form (stop.Refused row cause)))
+NamesFirst-refused form None row cause o first = first
+NamesFirst-refused form (Some plan) row cause o first = ((row, first.refusal), first.first, says-row form plan row cause first.refusal first.says)
 
-NamesFirst-stop : (plan : Option NamedPlan) (why : Stop) (o : Outcome) → IsFirstStop plan why o → stop_status why ≡ REFUSED → NamesFirst plan o (line (stop_text why))
-NamesFirst-stop plan stop.Usage o explains is = cc is
-NamesFirst-stop plan stop.ReadFault o explains is = cc is
-NamesFirst-stop plan stop.TooManyBytes o explains is = cc is
-NamesFirst-stop plan stop.NoHeader o explains is = cc is
-NamesFirst-stop plan stop.TooManyRows o explains is = cc is
-NamesFirst-stop plan (stop.NoColumn name) o explains is = cc is
-NamesFirst-stop plan (stop.Refused row cause) o explains is = NamesFirst-refused plan row cause o explains
-NamesFirst-stop plan stop.WriteFault o explains is = cc is
-NamesFirst-stop plan stop.Memory o explains is = cc is
+NamesFirst-stop : (form : Form) (plan : Option NamedPlan) (why : Stop) (o : Outcome) → IsFirstStop plan why o → stop_status why ≡ REFUSED → NamesFirst plan o (line (stop_text form why))
+NamesFirst-stop form plan stop.Usage o explains is = cc is
+NamesFirst-stop form plan stop.ReadFault o explains is = cc is
+NamesFirst-stop form plan stop.TooManyBytes o explains is = cc is
+NamesFirst-stop form plan stop.NoHeader o explains is = cc is
+NamesFirst-stop form plan stop.TooManyRows o explains is = cc is
+NamesFirst-stop form plan (stop.NoColumn name) o explains is = cc is
+NamesFirst-stop form plan (stop.Refused row cause) o explains is = NamesFirst-refused form plan row cause o explains
+NamesFirst-stop form plan stop.WriteFault o explains is = cc is
+NamesFirst-stop form plan stop.Memory o explains is = cc is
 
 -- its line is that of its status and of an outcome that it explains
-IsLine-stop : (plan : Option NamedPlan) (why : Stop) (o : Outcome) → Explains plan why o → IsLine plan (stop_status why) o (line (stop_text why))
-IsLine-stop plan stop.Usage o explains = record { refused = λ e. cc e; misused = λ _. (ap status_of explains, ap (λ p. line (outcome_text p)) (sym explains)); read_fault = λ e. cc e; write_fault = λ e. cc e; no_memory = λ e. cc e; too_much = λ e. cc e }
-IsLine-stop plan stop.ReadFault o explains = record { refused = λ e. cc e; misused = λ e. cc e; read_fault = λ _. refl; write_fault = λ e. cc e; no_memory = λ e. cc e; too_much = λ e. cc e }
-IsLine-stop plan stop.TooManyBytes o explains = record { refused = λ e. cc e; misused = λ e. cc e; read_fault = λ e. cc e; write_fault = λ e. cc e; no_memory = λ e. cc e; too_much = λ _. (ap status_of explains, ap (λ p. line (outcome_text p)) (sym explains)) }
-IsLine-stop plan stop.NoHeader o explains = record { refused = λ e. cc e; misused = λ _. (ap status_of explains, ap (λ p. line (outcome_text p)) (sym explains)); read_fault = λ e. cc e; write_fault = λ e. cc e; no_memory = λ e. cc e; too_much = λ e. cc e }
-IsLine-stop plan stop.TooManyRows o explains = record { refused = λ e. cc e; misused = λ e. cc e; read_fault = λ e. cc e; write_fault = λ e. cc e; no_memory = λ e. cc e; too_much = λ _. (ap status_of explains, ap (λ p. line (outcome_text p)) (sym explains)) }
-IsLine-stop plan (stop.NoColumn name) o explains = record { refused = λ e. cc e; misused = λ _. (ap status_of explains, ap (λ p. line (outcome_text p)) (sym explains)); read_fault = λ e. cc e; write_fault = λ e. cc e; no_memory = λ e. cc e; too_much = λ e. cc e }
-IsLine-stop plan (stop.Refused row cause) o explains = record { refused = λ _. NamesRow-refused plan row cause o explains; misused = λ e. cc e; read_fault = λ e. cc e; write_fault = λ e. cc e; no_memory = λ e. cc e; too_much = λ e. cc e }
-IsLine-stop plan stop.WriteFault o explains = record { refused = λ e. cc e; misused = λ e. cc e; read_fault = λ e. cc e; write_fault = λ _. refl; no_memory = λ e. cc e; too_much = λ e. cc e }
-IsLine-stop plan stop.Memory o explains = record { refused = λ e. cc e; misused = λ e. cc e; read_fault = λ e. cc e; write_fault = λ e. cc e; no_memory = λ _. refl; too_much = λ e. cc e }
+IsLine-stop : (form : Form) (plan : Option NamedPlan) (why : Stop) (o : Outcome) → Explains plan why o → IsLine (usage_in form) plan (stop_status why) o (line (stop_text form why))
+IsLine-stop form plan stop.Usage o explains = record { refused = λ e. cc e; misused = λ _. (ap status_of explains, ap (λ p. line (outcome_text (usage_in form) p)) (sym explains)); read_fault = λ e. cc e; write_fault = λ e. cc e; no_memory = λ e. cc e; too_much = λ e. cc e }
+IsLine-stop form plan stop.ReadFault o explains = record { refused = λ e. cc e; misused = λ e. cc e; read_fault = λ _. refl; write_fault = λ e. cc e; no_memory = λ e. cc e; too_much = λ e. cc e }
+IsLine-stop form plan stop.TooManyBytes o explains = record { refused = λ e. cc e; misused = λ e. cc e; read_fault = λ e. cc e; write_fault = λ e. cc e; no_memory = λ e. cc e; too_much = λ _. (ap status_of explains, ap (λ p. line (outcome_text (usage_in form) p)) (sym explains)) }
+IsLine-stop form plan stop.NoHeader o explains = record { refused = λ e. cc e; misused = λ _. (ap status_of explains, ap (λ p. line (outcome_text (usage_in form) p)) (sym explains)); read_fault = λ e. cc e; write_fault = λ e. cc e; no_memory = λ e. cc e; too_much = λ e. cc e }
+IsLine-stop form plan stop.TooManyRows o explains = record { refused = λ e. cc e; misused = λ e. cc e; read_fault = λ e. cc e; write_fault = λ e. cc e; no_memory = λ e. cc e; too_much = λ _. (ap status_of explains, ap (λ p. line (outcome_text (usage_in form) p)) (sym explains)) }
+IsLine-stop form plan (stop.NoColumn name) o explains = record { refused = λ e. cc e; misused = λ _. (ap status_of explains, ap (λ p. line (outcome_text (usage_in form) p)) (sym explains)); read_fault = λ e. cc e; write_fault = λ e. cc e; no_memory = λ e. cc e; too_much = λ e. cc e }
+IsLine-stop form plan (stop.Refused row cause) o explains = record { refused = λ _. NamesRow-refused form plan row cause o explains; misused = λ e. cc e; read_fault = λ e. cc e; write_fault = λ e. cc e; no_memory = λ e. cc e; too_much = λ e. cc e }
+IsLine-stop form plan stop.WriteFault o explains = record { refused = λ e. cc e; misused = λ e. cc e; read_fault = λ e. cc e; write_fault = λ _. refl; no_memory = λ e. cc e; too_much = λ e. cc e }
+IsLine-stop form plan stop.Memory o explains = record { refused = λ e. cc e; misused = λ e. cc e; read_fault = λ e. cc e; write_fault = λ e. cc e; no_memory = λ _. refl; too_much = λ e. cc e }
 
 -- the outcome that its line is of, which is the outcome where the source tells
-pub line_outcome : (plan : Option NamedPlan) (left : Option (List ℕ)) (why : Stop) → IsExplained plan left why → (o : Outcome) × IsOutcome plan left o × IsLine plan (stop_status why) o (line (stop_text why))
-line_outcome plan left why explained = (explained.0, explained.1, IsLine-stop plan why explained.0 explained.2)
+pub line_outcome : (form : Form) (plan : Option NamedPlan) (left : Option (List ℕ)) (why : Stop) → IsExplained plan left why → (o : Outcome) × IsOutcome plan left o × IsLine (usage_in form) plan (stop_status why) o (line (stop_text form why))
+line_outcome form plan left why explained = (explained.0, explained.1, IsLine-stop form plan why explained.0 explained.2)
 
 -- the first of the rows that the outcome refuses, where the source tells
-pub line_first : (plan : Option NamedPlan) (left : Option (List ℕ)) (why : Stop) → IfSome left (λ bytes. IsFirstStop plan why (outcome_over plan bytes)) → stop_status why ≡ REFUSED
-    → IfSome left (λ bytes. NamesFirst plan (outcome_over plan bytes) (line (stop_text why)))
-line_first plan None why first is = tt
-line_first plan (Some bytes) why first is = NamesFirst-stop plan why (outcome_over plan bytes) first is
+pub line_first : (form : Form) (plan : Option NamedPlan) (left : Option (List ℕ)) (why : Stop) → IfSome left (λ bytes. IsFirstStop plan why (outcome_over plan bytes)) → stop_status why ≡ REFUSED
+    → IfSome left (λ bytes. NamesFirst plan (outcome_over plan bytes) (line (stop_text form why)))
+line_first form plan None why first is = tt
+line_first form plan (Some bytes) why first is = NamesFirst-stop form plan why (outcome_over plan bytes) first is

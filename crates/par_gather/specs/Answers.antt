@@ -1,14 +1,12 @@
 -- What a query answers: its status, and what its table is.
-use Rattle.std.specs.Prelude.{◌≡◌, ℕ, List, [], ◌∷◌, Option, None, Some, IfSome, String, length, map, option_map, string_bytes}
-use Rattle.csv_rows.specs.Records.{records_of}
-use Rattle.par_model.specs.Named.{NamedPlan}
+use Rattle.std.specs.Prelude.{◌≡◌, ℕ, List, [], ◌∷◌, Option, None, Some, IfSome, String, length, map, string_bytes}
+use Rattle.csv_rows.specs.Records.{record_at, records_of}
+use Rattle.par_model.specs.Named.{NamedPlan, bound_plan}
+use Rattle.par_model.specs.Plan.{Plan}
 use Rattle.par_model.specs.Outcome.{Outcome, IsAnswer, outcome, Usage, TooManyBytes, NoHeader, TooManyRows, NoColumn, Refused, Table}
 use Rattle.plan_spec.specs.Query.{query_of}
-use Rattle.par_gather.specs.declared.status.TheConstants.{MISUSED, NO_MEMORY, READ_FAULT, REFUSED, TABLE, TOO_LARGE, WRITE_FAULT}
-
--- every status there is
-abbrev pub statuses : List ℕ
-statuses = TABLE ∷ REFUSED ∷ MISUSED ∷ READ_FAULT ∷ WRITE_FAULT ∷ NO_MEMORY ∷ TOO_LARGE ∷ []
+use Rattle.par_gather.specs.Forms.{plan_in, workers_in}
+use Rattle.query_answer.specs.declared.status.TheConstants.{MISUSED, NO_MEMORY, READ_FAULT, REFUSED, TABLE, TOO_LARGE, WRITE_FAULT}
 
 -- the status of an outcome
 abbrev pub status_of : Outcome → ℕ
@@ -20,21 +18,21 @@ status_of (NoColumn name) = MISUSED
 status_of (Refused rows) = REFUSED
 status_of Table = TABLE
 
--- the bytes of each word
-abbrev pub texts : {A : Type 0} → List (String A) → List (List ℕ)
-texts words = map string_bytes words
-
 -- the plan of the words, if they are one
 abbrev pub plan_of : List (List ℕ) → Option NamedPlan
-plan_of words = option_map (λ query. query.plan) (query_of words)
+plan_of words = plan_in (query_of words)
 
 -- how many workers the words ask for, if they are a plan
 abbrev pub workers_of : List (List ℕ) → Option ℕ
-workers_of words = option_map (λ query. query.workers) (query_of words)
+workers_of words = workers_in (query_of words)
 
 -- the outcome of a plan, or of words that are none, over bytes
 abbrev pub outcome_over : Option NamedPlan → List ℕ → Outcome
 outcome_over plan bytes = outcome plan (length bytes) (records_of bytes)
+
+-- the plan over the columns of the records of bytes
+abbrev pub bound_over : NamedPlan → List ℕ → Plan
+bound_over plan bytes = bound_plan (record_at (records_of bytes) 0) plan
 
 -- a text is that of the table of the records of bytes
 abbrev pub IsTextOver : Option NamedPlan → List ℕ → List ℕ → Type 0

@@ -1,6 +1,9 @@
 pub mod Answers
+pub mod Forms
 pub mod Grouping
+pub mod Joined
 pub mod Lines
+pub mod Ordered
 pub mod Ran
 pub mod Ready
 pub mod Stops

@@ -8,25 +8,18 @@ use Rattle.par_model.specs.Outcome.{Outcome, Usage, TooManyBytes, NoHeader, TooM
 use Rattle.par_model.specs.Refuse.{item_cause, key_cause, width_cause}
 use Rattle.par_model.specs.declared.refusal.Refusal.{Refusal}
 use Rattle.par_gather.specs.Answers.{status_of}
-use Rattle.par_gather.specs.declared.status.TheConstants.{MISUSED, NO_MEMORY, READ_FAULT, REFUSED, TOO_LARGE, WRITE_FAULT}
+use Rattle.query_answer.specs.Lines.{line}
+use Rattle.query_answer.specs.declared.status.TheConstants.{MISUSED, NO_MEMORY, READ_FAULT, REFUSED, TOO_LARGE, WRITE_FAULT}
 
--- a text as a line of the program, ended by a line feed
-abbrev pub line : List ℕ → List ℕ
-line text = codes "pargather: " ++ (text ++ 10 ∷ [])
-
--- how the program is called
-abbrev pub usage_text : List ℕ
-usage_text = codes "usage: pargather [--group COLUMNS] --agg ITEMS [--where FILTER] [--workers N] [--plan gather|hash] [--area-pages N]"
-
--- what a line says of an outcome that is neither a refusal of rows nor a table
-abbrev pub outcome_text : Outcome → List ℕ
-outcome_text Usage = usage_text
-outcome_text TooManyBytes = codes "more than 67108864 bytes"
-outcome_text NoHeader = codes "no header"
-outcome_text TooManyRows = codes "more than 4194304 rows"
-outcome_text (NoColumn name) = codes "no column " ++ name
-outcome_text (Refused rows) = []
-outcome_text Table = []
+-- what a line says of an outcome that is neither a refusal of rows nor a table, where this is said of words that are none
+abbrev pub outcome_text : List ℕ → Outcome → List ℕ
+outcome_text usage Usage = usage
+outcome_text usage TooManyBytes = codes "more than 67108864 bytes"
+outcome_text usage NoHeader = codes "no header"
+outcome_text usage TooManyRows = codes "more than 4194304 rows"
+outcome_text usage (NoColumn name) = codes "no column " ++ name
+outcome_text usage (Refused rows) = []
+outcome_text usage Table = []
 
 -- the name of the column that the aggregate at a place reads
 abbrev pub item_name : NamedPlan → ℕ → List ℕ
@@ -67,14 +60,10 @@ abbrev pub NamesFirst : Option NamedPlan → Outcome → List ℕ → Type 0
 NamesFirst plan outcome said = IsSomeAnd plan (λ plan. (row : ℕ × Refusal) × (slice_get (refused_of outcome) 0 ≡ Some row) × (said ≡ line (row_text plan row)))
 
 -- the line of a status. Where that is an outcome's, the outcome has it, and the line is that outcome's
-pub record IsLine (plan : Option NamedPlan) (status : ℕ) (outcome : Outcome) (said : List ℕ) : Type 0 where
+pub record IsLine (usage : List ℕ) (plan : Option NamedPlan) (status : ℕ) (outcome : Outcome) (said : List ℕ) : Type 0 where
   pub refused : status ≡ REFUSED → NamesRow plan outcome said
-  pub misused : status ≡ MISUSED → (status_of outcome ≡ MISUSED) × (said ≡ line (outcome_text outcome))
+  pub misused : status ≡ MISUSED → (status_of outcome ≡ MISUSED) × (said ≡ line (outcome_text usage outcome))
   pub read_fault : status ≡ READ_FAULT → said ≡ line (codes "read fault")
   pub write_fault : status ≡ WRITE_FAULT → said ≡ line (codes "write fault")
   pub no_memory : status ≡ NO_MEMORY → said ≡ line (codes "out of memory")
-  pub too_much : status ≡ TOO_LARGE → (status_of outcome ≡ TOO_LARGE) × (said ≡ line (outcome_text outcome))
-
--- a sink was given a line, or a prefix of it where its faults rose
-abbrev pub IsSaid : Option (List ℕ) → Option (List ℕ) → ℕ → ℕ → List ℕ → Type 0
-IsSaid old new before now said = Appends old new said ⊎ (Rose before now × (n : ℕ) × Appends old new (take n said))
+  pub too_much : status ≡ TOO_LARGE → (status_of outcome ≡ TOO_LARGE) × (said ≡ line (outcome_text usage outcome))

@@ -1,18 +1,13 @@
 -- How the groups of a table were made.
 use Rattle.std.specs.Prelude.{ℕ, List, Option, None, Some}
-use Rattle.csv_rows.specs.Records.{record_at, records_of}
+use Rattle.csv_rows.specs.Records.{records_of}
 use Rattle.gather_run.specs.Used.{IsUsed}
 use Rattle.gather_run.specs.declared.Gathered.{Gathered}
-use Rattle.par_model.specs.Named.{NamedPlan, bound_plan}
-use Rattle.par_model.specs.Plan.{Plan}
 use Rattle.plan_spec.specs.Query.{Query}
 use Rattle.result_text.specs.Text.{IsTextOf}
+use Rattle.par_gather.specs.Answers.{bound_over}
 use Rattle.par_gather.specs.declared.Ran.{Ran}
-use Rattle.par_gather.specs.declared.Ran.TheVariants.{Gather}
-
--- the plan over the columns of the records of bytes
-abbrev pub bound_over : NamedPlan → List ℕ → Plan
-bound_over plan bytes = bound_plan (record_at (records_of bytes) 0) plan
+use Rattle.par_gather.specs.declared.Ran.TheVariants.{Gather, Merge, Join}
 
 -- A query's participants made the groups of a text: as many workers as it asks for shared the blocks of the records
 -- with the leader, and the text is that of the groups gathered
@@ -29,3 +24,5 @@ IsMadeBy (Some query) bytes text g = IsMadeFor query bytes text g
 abbrev pub IsRun : Option Query → List ℕ → List ℕ → Option Ran → Type 0
 IsRun query bytes text None = ⊥
 IsRun query bytes text (Some (Gather g)) = IsMadeBy query bytes text g
+IsRun query bytes text (Some (Merge m)) = ⊥
+IsRun query bytes text (Some (Join j)) = ⊥

@@ -8,9 +8,10 @@ use Rattle.par_model.specs.Named.{bound_plan}
 use Rattle.par_model.specs.Outcome.{IsAnswer, by_refused}
 use Rattle.partial_agg.specs.Rows.{header_width}
 use Rattle.partial_agg.specs.declared.groups.Group.{Group}
-use Rattle.plan_spec.specs.Query.{query_of}
+use Rattle.plan_spec.specs.Query.{Query}
 use Rattle.result_text.specs.Text.{IsTextOf}
-use Rattle.par_gather.specs.Answers.{outcome_over, plan_of}
+use Rattle.par_gather.specs.Answers.{outcome_over}
+use Rattle.par_gather.specs.Forms.{plan_in}
 use Rattle.par_gather.specs.Grouping.{refused_in}
 use Rattle.par_gather.specs.declared.input.Ready.{Ready}
 
@@ -26,13 +27,13 @@ pub record IsBound (r : Ready) : Type 0 where
   pub some : 0 < length r.rows
   pub few : length r.rows ≤ MOST_RECORDS
 
--- it is the query of the words, over the records of what a source had left, where that is told; its outcome is then
--- that of its rows
-pub record IsReady (words : List (List ℕ)) (left : Option (List ℕ)) (r : Ready) : Type 0 where
-  pub query : query_of words ≡ Some r.plan
+-- it is the query that was asked for, over the records of what a source had left, where that is told; its outcome is
+-- then that of its rows
+pub record IsReady (asked : Option Query) (left : Option (List ℕ)) (r : Ready) : Type 0 where
+  pub query : asked ≡ Some r.plan
   pub bound : IsBound r
   pub records : IfSome left (λ bytes. r.rows ≡ records_of bytes)
-  pub outcome : IfSome left (λ bytes. outcome_over (plan_of words) bytes ≡ by_refused (refused_in r.bound r.rows))
+  pub outcome : IfSome left (λ bytes. outcome_over (plan_in asked) bytes ≡ by_refused (refused_in r.bound r.rows))
 
 -- a text is that of groups, and answers the query over its records
 pub record IsGroupsText (r : Ready) (groups : List Group) (text : List ℕ) : Type 0 where

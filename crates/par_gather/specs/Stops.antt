@@ -11,11 +11,15 @@ use Rattle.partial_agg.specs.declared.map.BlockAnswer.{BlockAnswer}
 use Rattle.partial_agg.specs.declared.map.BlockAnswer.TheVariants as answer
 use Rattle.plan_spec.specs.declared.plan.PlanAnswer.{PlanAnswer}
 use Rattle.plan_spec.specs.declared.plan.PlanAnswer.TheVariants as words
+use Rattle.gather_merge.specs.declared.MergeAnswer.{MergeAnswer}
+use Rattle.gather_merge.specs.declared.MergeAnswer.TheVariants as merging
 use Rattle.gather_run.specs.declared.GatherAnswer.{GatherAnswer}
 use Rattle.gather_run.specs.declared.GatherAnswer.TheVariants as gathering
 use Rattle.par_gather.specs.Answers.{IsOutcome}
-use Rattle.par_gather.specs.Lines.{refusal_text, refused_of, usage_text}
-use Rattle.par_gather.specs.declared.status.TheConstants.{MISUSED, NO_MEMORY, READ_FAULT, REFUSED, TOO_LARGE, WRITE_FAULT}
+use Rattle.par_gather.specs.Forms.{usage_in}
+use Rattle.par_gather.specs.Lines.{refusal_text, refused_of}
+use Rattle.par_gather.specs.declared.form.Form.{Form}
+use Rattle.query_answer.specs.declared.status.TheConstants.{MISUSED, NO_MEMORY, READ_FAULT, REFUSED, TOO_LARGE, WRITE_FAULT}
 use Rattle.par_gather.specs.declared.stop.Cause.{Cause}
 use Rattle.par_gather.specs.declared.stop.Cause.TheVariants as cause
 use Rattle.par_gather.specs.declared.stop.Stop.{Stop}
@@ -40,17 +44,17 @@ cause_text cause.LongKey = codes "group key is longer than 248 bytes"
 cause_text (cause.Item name) = codes "column " ++ (string_bytes name ++ codes " is not an integer")
 cause_text (cause.Filter name) = codes "filter column " ++ (string_bytes name ++ codes " is not an integer")
 
--- what its line says, where it names a row what comes after the row's number
-abbrev pub text_of : Stop → List ℕ
-text_of stop.Usage = usage_text
-text_of stop.ReadFault = codes "read fault"
-text_of stop.TooManyBytes = codes "more than 67108864 bytes"
-text_of stop.NoHeader = codes "no header"
-text_of stop.TooManyRows = codes "more than 4194304 rows"
-text_of (stop.NoColumn name) = codes "no column " ++ string_bytes name
-text_of (stop.Refused row why) = cause_text why
-text_of stop.WriteFault = codes "write fault"
-text_of stop.Memory = codes "out of memory"
+-- what its line says of words in a form, where it names a row what comes after the row's number
+abbrev pub text_of : Form → Stop → List ℕ
+text_of form stop.Usage = usage_in form
+text_of form stop.ReadFault = codes "read fault"
+text_of form stop.TooManyBytes = codes "more than 67108864 bytes"
+text_of form stop.NoHeader = codes "no header"
+text_of form stop.TooManyRows = codes "more than 4194304 rows"
+text_of form (stop.NoColumn name) = codes "no column " ++ string_bytes name
+text_of form (stop.Refused row why) = cause_text why
+text_of form stop.WriteFault = codes "write fault"
+text_of form stop.Memory = codes "out of memory"
 
 -- what comes before that: the row that it names
 abbrev pub front_of : Stop → List ℕ
@@ -65,8 +69,8 @@ front_of stop.WriteFault = []
 front_of stop.Memory = []
 
 -- what its line says
-abbrev pub stop_text : Stop → List ℕ
-stop_text why = front_of why ++ text_of why
+abbrev pub stop_text : Form → Stop → List ℕ
+stop_text form why = front_of why ++ text_of form why
 
 -- the outcome refuses this row, and for this cause
 pub record RefusesRow (plan : NamedPlan) (row : ℕ) (why : Cause) (o : Outcome) : Type 0 where
@@ -150,3 +154,8 @@ Restates plan answer.Memory why = why ≡ stop.Memory
 abbrev pub RestatesGather : NamedPlan → GatherAnswer → Stop → Type 0
 RestatesGather plan (gathering.Row row cause item) why = IsRefusedRow plan row (record { cause = cause; item = item }) why ⊎ (why ≡ stop.Memory)
 RestatesGather plan gathering.Memory why = why ≡ stop.Memory
+
+-- likewise of an answer of `merge`, which names no aggregate
+abbrev pub RestatesMerge : NamedPlan → MergeAnswer → Stop → Type 0
+RestatesMerge plan (merging.Row row cause) why = IsRefusedRow plan row (record { cause = cause; item = 0 }) why ⊎ (why ≡ stop.Memory)
+RestatesMerge plan merging.Memory why = why ≡ stop.Memory

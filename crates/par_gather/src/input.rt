@@ -10,17 +10,20 @@ ghost use Rattle.par_model.specs.Columns.{HasColumns};
 ghost use Rattle.par_model.specs.Named.{bound_plan, missing_name};
 ghost use Rattle.par_model.specs.Outcome.{by_records};
 ghost use Rattle.partial_agg.specs.Rows.{header_width};
-ghost use Rattle.par_gather.specs.Answers.{plan_of, texts};
+ghost use Rattle.plan_spec.specs.declared.plan.PlanAnswer.TheVariants as answer;
+ghost use Rattle.query_answer.specs.Words.{texts};
+ghost use Rattle.par_gather.specs.Forms.{asked, plan_in};
 ghost use Rattle.par_gather.specs.Ready.{AreRecordsOf, IsReady};
 ghost use Rattle.par_gather.specs.Stops.{Explains, IsEarly, IsExplained};
 ghost use Rattle.par_gather.specs.declared.stop.Stop.TheVariants as stop;
 
+use crate::form::Form;
 use crate::reading::Reading;
 use crate::stop::Stop;
 use csv_rows::{RowStore, read_all};
 use par_io::Source;
 use par_model::BoundPlan;
-use plan_spec::Plan;
+use plan_spec::{Plan, PlanAnswer};
 use std::alloc::Global;
 
 /// A query that is ready to run.
@@ -32,25 +35,38 @@ pub(crate) struct Ready {
     pub(crate) bound: BoundPlan,
 }
 
-/// Reads the words and the source. Where the words are no plan the source is not read.
+/// Reads the words, which are to have this form, and the source. Where they are no query the source is not read.
 pub(crate) fn prepare<S: Source, W: Reading>(
     alloc: Global,
+    form: Form,
     words: &[String],
     source: &mut S,
     reading: &W,
 ) -> Result<Ready, Stop>
     requires { W.asks }
-    ensures ready { IfOk result (λ ready. IsReady (texts words.now) (S.left source.old) ready) }
-    ensures why { IfErr result (λ why. IsExplained (plan_of (texts words.now)) (S.left source.old) why) }
+    ensures ready { IfOk result (λ ready. IsReady (asked form (texts words.now)) (S.left source.old) ready) }
+    ensures why { IfErr result (λ why. IsExplained (plan_in (asked form (texts words.now))) (S.left source.old) why) }
     ensures read_fault { IfErr result (λ why. why ≡ stop.ReadFault → Rose (S.faults source.old) (S.faults source.new)) }
     ensures early { IfErr result (λ why. IsEarly why) }
-    ensures no_plan { IsNone (plan_of (texts words.now)) → (result ≡ Err stop.Usage) ⊎ (result ≡ Err stop.Memory) }
-    ensures unread { IsNone (plan_of (texts words.now)) → source.new ≡ source.old }
+    ensures no_plan { IsNone (plan_in (asked form (texts words.now))) → (result ≡ Err stop.Usage) ⊎ (result ≡ Err stop.Memory) }
+    ensures unread { IsNone (plan_in (asked form (texts words.now))) → source.new ≡ source.old }
 {
-    let plan = Plan::of_words(alloc, words)?;
+    let plan = read_words(alloc, form, words)?;
     let rows = read_rows(alloc, &plan, source, reading)?;
     let bound = bind(alloc, &plan, &rows)?;
     Ok(Ready { plan, rows, bound })
+}
+
+/// Reads the words.
+fn read_words(alloc: Global, form: Form, words: &[String]) -> Result<Plan, PlanAnswer>
+    ensures plan { IfOk result (λ plan. asked form (texts words.now) ≡ Some plan) }
+    ensures usage { result ≡ Err answer.Usage → asked form (texts words.now) ≡ None }
+{
+    match form {
+        Form::Plan => Plan::of_words(alloc, words),
+        Form::Merge => Plan::of_merge_words(alloc, words),
+        Form::Join => Err(PlanAnswer::Usage),
+    }
 }
 
 /// Reads the source.

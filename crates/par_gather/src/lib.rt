@@ -1,63 +1,92 @@
 //! One query over comma-separated bytes, from the words of a command line to an exit status, in the caller's thread
-//! alone or with workers beside it.
+//! alone or with workers beside it: the table of groups that options name, with `merge` the rows in order, or with `join`
+//! the join of two tables.
 //!
 //! The calls keep one order of faults: the words, then the reading, the header, the number of rows, the columns, the
-//! rows, and the writing. The first that holds ends it. One place writes to `out`, and only a whole table; one place
+//! rows, and the writing. The first that holds ends it. Only a whole table is written to `out`, or all rows; one place
 //! writes the line on `err`, and what becomes of that line changes no status.
 
 #![tactic(auto)]
 
-ghost use Rattle.std.specs.Prelude.{◌≡◌, ◌≢◌, ◌⊎◌, ℕ, List, None, Some, IfOk, IfErr, IfSome, IsNone, OnOk, Contains, take};
+ghost use Rattle.std.specs.Prelude.{◌≡◌, ◌≢◌, ◌⊎◌, ℕ, List, true, false, None, Some, IfOk, IfErr, IfSome, IsNone, OnOk, Contains, take};
 ghost use Rattle.std.specs.Io.KnownBytes.{Appends};
+ghost use Rattle.gather_law.specs.Tuples.{Table};
+ghost use Rattle.join_query.specs.Lines.{IsNoFault};
+ghost use Rattle.join_query.specs.Lines.{IsLine as IsJoinLine, status_of as join_status};
+ghost use Rattle.join_query.specs.Outcome.{IsOutcome as IsJoinOutcome, Joins, Outcome as JoinOutcome};
+ghost use Rattle.join_query.specs.Words.{join_of};
 ghost use Rattle.par_io.specs.Faults.{Rose};
 ghost use Rattle.par_model.specs.Outcome.{Outcome};
+ghost use Rattle.par_model.specs.Table.{table_text};
+ghost use Rattle.plan_spec.specs.Merging.{merge_of};
 ghost use Rattle.plan_spec.specs.Query.{query_of};
-ghost use Rattle.par_gather.specs.Answers.{IsOutcome, IsTableText, outcome_over, plan_of, status_of, statuses, texts, workers_of};
-ghost use Rattle.par_gather.specs.Lines.{IsLine, IsSaid, NamesFirst, line, usage_text};
+ghost use Rattle.par_gather.specs.Answers.{IsOutcome, IsTableText, outcome_over, plan_of, status_of, workers_of};
+ghost use Rattle.query_answer.specs.Lines.{IsSaid, line, statuses};
+ghost use Rattle.query_answer.specs.Words.{texts};
+ghost use Rattle.par_gather.specs.Forms.{form_of, merge_usage_text, usage_in, usage_text};
+ghost use Rattle.par_gather.specs.Lines.{IsLine, NamesFirst};
+ghost use Rattle.par_gather.specs.Joined.{IsJoinRun};
+ghost use Rattle.par_gather.specs.Ordered.{IsMergeRun, IsOrderText, merge_plan_of, merge_workers_of};
 ghost use Rattle.par_gather.specs.Ran.{IsMadeBy, IsRun};
 ghost use Rattle.par_gather.specs.Stops.{IsExplained, IsFirstStop};
+ghost use Rattle.par_gather.specs.declared.form.Form.TheVariants as form;
 ghost use Rattle.par_gather.specs.declared.stop.Stop.TheVariants as stop;
 
+mod form;
 mod groups;
 mod input;
+mod merging;
 mod names;
 mod output;
 mod reading;
-mod status;
+mod rows;
 mod stop;
 
+use form::{Form, form_of};
+use gather_merge::Merged;
 use gather_run::{Gathered, gather};
 use groups::groups_of;
 use input::prepare;
+use merging::answer_merged;
 use names::{stop_of_block, stop_of_gather};
 use output::write_table;
 use par_io::{Sink, Source};
+use par_join::{Joined, join_tables};
+pub use query_answer::{MISUSED, NO_MEMORY, READ_FAULT, REFUSED, TABLE, TOO_LARGE, WRITE_FAULT};
 use reading::{Alone, InThreads};
-pub use status::{MISUSED, NO_MEMORY, READ_FAULT, REFUSED, TABLE, TOO_LARGE, WRITE_FAULT};
 use std::alloc::Global;
 use std::sync::Wait;
 use std::thread::Threads;
 use stop::Stop;
 pub use worker_run::{Gate, OpenGate};
 
-/// How a table was made.
+/// How what was written was made.
 #[derive(Drop)]
 pub enum Ran {
-    /// By workers that gathered their groups.
+    /// A table, by workers that gathered their groups.
     Gather(Gathered),
+    /// Rows in order, by workers that sorted theirs.
+    Merge(Merged),
+    /// Joined records, by workers that shared a table of the left rows.
+    Join(Joined),
 }
 
 /// Answers the query that `words` name, over the bytes of `source`: writes its table to `out`, or a line to `err` that
-/// says why there is none, and returns the exit status. `words` are those after the program's name.
+/// says why there is none, and returns the exit status. `words` are those after the program's name. Words that begin
+/// with `merge` are to be `merge COLUMNS N`; their query puts the rows in the order of these columns, with N workers,
+/// and writes the header and then the rows. Words that begin with `join` are to be `join COLUMN N`; their
+/// query joins two tables, as [`par_join::join_tables`] says.
 ///
 /// The bytes are cut into records by the caller's thread and as many workers as the words ask for, each a part of them.
-/// The rows are shared out, by blocks of 256, among the same number; each participant passes the gate before each of its
-/// blocks, the caller's thread as participant 0. So far the plan `hash` runs as the plan `gather`, and `--area-pages` is
-/// read and checked alone. Of several refused rows the line may name any one, unless no workers are asked for.
+/// The rows are shared out, by blocks of 256, among the same number; each participant passes the gate before each of
+/// its blocks, the caller's thread as participant 0. So far the plan `hash` runs as the plan `gather`, and
+/// `--area-pages` is read and checked alone. Of several refused rows the line may name any one, unless no workers are
+/// asked for.
 ///
-/// Time is linear in the input, but for the look-up of each row's group and the order of the groups. Memory is the
-/// input, its records, about 700 bytes for each group, twice over while their list is made, and for each worker 82 KB
-/// and the groups that it keeps, 4,351 at most.
+/// Time is linear in the input, but for the look-up of each row's group and the order of the groups, or of the rows.
+/// Memory is the input, its records, about 700 bytes for each group, twice over while their list is made, and for each
+/// worker 82 KB and the groups that it keeps, 4,351 at most; for rows in order it is the input, its records, 16 bytes a
+/// row, 82 KB for each worker, and 64 KiB of bytes that wait to be written.
 pub fn pargather<R: Threads + Wait + Sync, S: Source, O: Sink, E: Sink, G: Gate + Sync>(
     rt: &R,
     alloc: Global,
@@ -68,58 +97,142 @@ pub fn pargather<R: Threads + Wait + Sync, S: Source, O: Sink, E: Sink, G: Gate 
     gate: &G,
     ran: &mut Option<Ran>,
 ) -> u8
-    // There is no other status, and one that tells of no fault is that of the outcome.
+    // ---- Whatever the words are
+
+    // There is no other status. On 1, 2, 3, 5 and 6 `out` receives nothing. A fault is answered only where it came in
+    // this call. Beside a table, or rows, `err` receives nothing; else `ran` is None.
     ensures statuses { Contains statuses result }
-    ensures outcome { IfSome (S.left source.old) (λ bytes. (result ≢ READ_FAULT) → (result ≢ WRITE_FAULT) → (result ≢ NO_MEMORY)
-        → result ≡ status_of (outcome_over (plan_of (texts words.now)) bytes)) }
-
-    // `out` receives the table, or a prefix of it where a write failed, and on every other status nothing.
-    ensures table { result ≡ TABLE → IfSome (S.left source.old) (λ bytes.
-        (text : List ℕ) × IsTableText (plan_of (texts words.now)) bytes text × Appends (O.taken out.old) (O.taken out.new) text) }
-    ensures part { result ≡ WRITE_FAULT → IfSome (S.left source.old) (λ bytes.
-        (text : List ℕ) × IsTableText (plan_of (texts words.now)) bytes text × (n : ℕ) × Appends (O.taken out.old) (O.taken out.new) (take n text)) }
     ensures nothing { (result ≢ TABLE) → (result ≢ WRITE_FAULT) → out.new ≡ out.old }
-
-    // A fault is answered only where it came in this call. Without one the status is the outcome's, or want of memory.
     ensures read_fault { result ≡ READ_FAULT → Rose (S.faults source.old) (S.faults source.new) }
     ensures write_fault { result ≡ WRITE_FAULT → Rose (O.faults out.old) (O.faults out.new) }
-    ensures complete { ¬ Rose (S.faults source.old) (S.faults source.new) → ¬ Rose (O.faults out.old) (O.faults out.new)
+    ensures quiet { result ≡ TABLE → err.new ≡ err.old }
+    ensures none { (result ≢ TABLE) → ran.new ≡ None }
+
+    // ---- Words that are to name a plan
+
+    // A status that tells of no fault is that of the outcome.
+    ensures outcome { form_of (texts words.now) ≡ form.Plan → IfSome (S.left source.old) (λ bytes. (result ≢ READ_FAULT) → (result ≢ WRITE_FAULT) → (result ≢ NO_MEMORY)
+        → result ≡ status_of (outcome_over (plan_of (texts words.now)) bytes)) }
+
+    // `out` receives the table, or a prefix of it where a write failed.
+    ensures table { form_of (texts words.now) ≡ form.Plan → result ≡ TABLE → IfSome (S.left source.old) (λ bytes.
+        (text : List ℕ) × IsTableText (plan_of (texts words.now)) bytes text × Appends (O.taken out.old) (O.taken out.new) text) }
+    ensures part { form_of (texts words.now) ≡ form.Plan → result ≡ WRITE_FAULT → IfSome (S.left source.old) (λ bytes.
+        (text : List ℕ) × IsTableText (plan_of (texts words.now)) bytes text × (n : ℕ) × Appends (O.taken out.old) (O.taken out.new) (take n text)) }
+
+    // Without a fault the status is the outcome's, or want of memory.
+    ensures complete { form_of (texts words.now) ≡ form.Plan → ¬ Rose (S.faults source.old) (S.faults source.new) → ¬ Rose (O.faults out.old) (O.faults out.new)
         → IfSome (S.left source.old) (λ bytes. (result ≡ NO_MEMORY) ⊎ (result ≡ status_of (outcome_over (plan_of (texts words.now)) bytes))) }
 
     // Words that are no plan are answered before anything is read.
-    ensures no_plan { IsNone (plan_of (texts words.now)) → (result ≡ MISUSED) ⊎ (result ≡ NO_MEMORY) }
-    ensures unread { IsNone (plan_of (texts words.now)) → source.new ≡ source.old }
+    ensures no_plan { form_of (texts words.now) ≡ form.Plan → IsNone (plan_of (texts words.now)) → (result ≡ MISUSED) ⊎ (result ≡ NO_MEMORY) }
+    ensures unread { form_of (texts words.now) ≡ form.Plan → IsNone (plan_of (texts words.now)) → source.new ≡ source.old }
 
-    // `err` receives the line of the status, or a prefix of it where a write of it failed, and beside a table nothing.
-    ensures line { (result ≢ TABLE) → (o : Outcome) × IsOutcome (plan_of (texts words.now)) (S.left source.old) o
-        × (said : List ℕ) × IsLine (plan_of (texts words.now)) result o said × IsSaid (E.taken err.old) (E.taken err.new) (E.faults err.old) (E.faults err.new) said }
-    ensures quiet { result ≡ TABLE → err.new ≡ err.old }
-    ensures usage { IsNone (plan_of (texts words.now)) → result ≡ MISUSED
+    // `err` receives the line of the status, or a prefix of it where a write of it failed.
+    ensures line { form_of (texts words.now) ≡ form.Plan → (result ≢ TABLE) → (o : Outcome) × IsOutcome (plan_of (texts words.now)) (S.left source.old) o
+        × (said : List ℕ) × IsLine usage_text (plan_of (texts words.now)) result o said × IsSaid (E.taken err.old) (E.taken err.new) (E.faults err.old) (E.faults err.new) said }
+    ensures usage { form_of (texts words.now) ≡ form.Plan → IsNone (plan_of (texts words.now)) → result ≡ MISUSED
         → IsSaid (E.taken err.old) (E.taken err.new) (E.faults err.old) (E.faults err.new) (line usage_text) }
 
     // Without workers the row that it names is the first that is refused.
-    ensures first { workers_of (texts words.now) ≡ Some 0 → result ≡ REFUSED → IfSome (S.left source.old) (λ bytes.
-        (said : List ℕ) × NamesFirst (plan_of (texts words.now)) (outcome_over (plan_of (texts words.now)) bytes) said × IsSaid (E.taken err.old) (E.taken err.new) (E.faults err.old) (E.faults err.new) said) }
+    ensures first { form_of (texts words.now) ≡ form.Plan → workers_of (texts words.now) ≡ Some 0 → result ≡ REFUSED → IfSome (S.left source.old) (λ bytes.
+        (said : List ℕ) × NamesFirst (plan_of (texts words.now)) (outcome_over (plan_of (texts words.now)) bytes) said
+        × IsSaid (E.taken err.old) (E.taken err.new) (E.faults err.old) (E.faults err.new) said) }
 
-    // Beside a table `ran` says how its groups were made, and on every other status it is None.
-    ensures ran { result ≡ TABLE → IfSome (S.left source.old) (λ bytes.
+    // Beside a table `ran` says how its groups were made.
+    ensures ran { form_of (texts words.now) ≡ form.Plan → result ≡ TABLE → IfSome (S.left source.old) (λ bytes.
         (text : List ℕ) × IsRun (query_of (texts words.now)) bytes text ran.new × Appends (O.taken out.old) (O.taken out.new) text) }
-    ensures none { (result ≢ TABLE) → ran.new ≡ None }
+
+    // ---- Words that are to be a merge, since they begin with `merge`
+
+    // The status is that of the outcome of their plan.
+    ensures merge_outcome { form_of (texts words.now) ≡ form.Merge → IfSome (S.left source.old) (λ bytes. (result ≢ READ_FAULT) → (result ≢ WRITE_FAULT) → (result ≢ NO_MEMORY)
+        → result ≡ status_of (outcome_over (merge_plan_of (texts words.now)) bytes)) }
+
+    // `out` receives the header and the rows in order, or a prefix of that where a write failed.
+    ensures merge_rows { form_of (texts words.now) ≡ form.Merge → result ≡ TABLE → IfSome (S.left source.old) (λ bytes.
+        (text : List ℕ) × IsOrderText (merge_plan_of (texts words.now)) bytes text × Appends (O.taken out.old) (O.taken out.new) text) }
+    ensures merge_part { form_of (texts words.now) ≡ form.Merge → result ≡ WRITE_FAULT → IfSome (S.left source.old) (λ bytes.
+        (text : List ℕ) × IsOrderText (merge_plan_of (texts words.now)) bytes text × (n : ℕ) × Appends (O.taken out.old) (O.taken out.new) (take n text)) }
+
+    // Without a fault the status is the outcome's, or want of memory.
+    ensures merge_complete { form_of (texts words.now) ≡ form.Merge → ¬ Rose (S.faults source.old) (S.faults source.new) → ¬ Rose (O.faults out.old) (O.faults out.new)
+        → IfSome (S.left source.old) (λ bytes. (result ≡ NO_MEMORY) ⊎ (result ≡ status_of (outcome_over (merge_plan_of (texts words.now)) bytes))) }
+
+    // Words that are not `merge COLUMNS N` are answered before anything is read.
+    ensures merge_no_plan { form_of (texts words.now) ≡ form.Merge → IsNone (merge_plan_of (texts words.now)) → (result ≡ MISUSED) ⊎ (result ≡ NO_MEMORY) }
+    ensures merge_unread { form_of (texts words.now) ≡ form.Merge → IsNone (merge_plan_of (texts words.now)) → source.new ≡ source.old }
+
+    // `err` receives the line of the status, or a prefix of it where a write of it failed.
+    ensures merge_line { form_of (texts words.now) ≡ form.Merge → (result ≢ TABLE) → (o : Outcome) × IsOutcome (merge_plan_of (texts words.now)) (S.left source.old) o
+        × (said : List ℕ) × IsLine merge_usage_text (merge_plan_of (texts words.now)) result o said × IsSaid (E.taken err.old) (E.taken err.new) (E.faults err.old) (E.faults err.new) said }
+    ensures merge_usage { form_of (texts words.now) ≡ form.Merge → IsNone (merge_plan_of (texts words.now)) → result ≡ MISUSED
+        → IsSaid (E.taken err.old) (E.taken err.new) (E.faults err.old) (E.faults err.new) (line merge_usage_text) }
+
+    // Without workers the row that it names is the first that is refused.
+    ensures merge_first { form_of (texts words.now) ≡ form.Merge → merge_workers_of (texts words.now) ≡ Some 0 → result ≡ REFUSED → IfSome (S.left source.old) (λ bytes.
+        (said : List ℕ) × NamesFirst (merge_plan_of (texts words.now)) (outcome_over (merge_plan_of (texts words.now)) bytes) said
+        × IsSaid (E.taken err.old) (E.taken err.new) (E.faults err.old) (E.faults err.new) said) }
+
+    // Beside rows `ran` says how they were put in order.
+    ensures merge_ran { form_of (texts words.now) ≡ form.Merge → result ≡ TABLE → IfSome (S.left source.old) (λ bytes.
+        (text : List ℕ) × IsMergeRun (merge_of (texts words.now)) bytes text ran.new × Appends (O.taken out.old) (O.taken out.new) text) }
+
+    // ---- Words that begin with `join`
+
+    // A status that tells of no fault is that of the outcome. Without a fault it is so, or there was no memory.
+    ensures join_outcome { form_of (texts words.now) ≡ form.Join → IsNoFault result → IfSome (S.left source.old) (λ bytes.
+        (o : JoinOutcome) → IsJoinOutcome (join_of (texts words.now)) bytes o → join_status o ≡ result) }
+    ensures join_complete { form_of (texts words.now) ≡ form.Join → ¬ Rose (S.faults source.old) (S.faults source.new) → ¬ Rose (O.faults out.old) (O.faults out.new) → IfSome (S.left source.old) (λ bytes.
+        (result ≡ NO_MEMORY) ⊎ ((o : JoinOutcome) × IsJoinOutcome (join_of (texts words.now)) bytes o × (join_status o ≡ result))) }
+
+    // `out` receives the joined records, or a prefix of them where a write failed.
+    ensures join_records { form_of (texts words.now) ≡ form.Join → result ≡ TABLE → IfSome (S.left source.old) (λ bytes.
+        (records : Table) × IsJoinOutcome (join_of (texts words.now)) bytes (Joins records) × Appends (O.taken out.old) (O.taken out.new) (table_text records)) }
+    ensures join_part { form_of (texts words.now) ≡ form.Join → result ≡ WRITE_FAULT → IfSome (S.left source.old) (λ bytes.
+        (records : Table) × IsJoinOutcome (join_of (texts words.now)) bytes (Joins records) × (n : ℕ) × Appends (O.taken out.old) (O.taken out.new) (take n (table_text records))) }
+
+    // Words that are not `join COLUMN N` are answered before anything is read.
+    ensures join_no_words { form_of (texts words.now) ≡ form.Join → IsNone (join_of (texts words.now)) → result ≡ MISUSED }
+    ensures join_unread { form_of (texts words.now) ≡ form.Join → IsNone (join_of (texts words.now)) → source.new ≡ source.old }
+
+    // `err` receives the line of the status, or a prefix of it where a write of it failed.
+    ensures join_line { form_of (texts words.now) ≡ form.Join → (result ≢ TABLE) → (said : List ℕ) × IsJoinLine (join_of (texts words.now)) (S.left source.old) result said
+        × IsSaid (E.taken err.old) (E.taken err.new) (E.faults err.old) (E.faults err.new) said }
+    ensures join_usage { form_of (texts words.now) ≡ form.Join → IsNone (join_of (texts words.now))
+        → IsSaid (E.taken err.old) (E.taken err.new) (E.faults err.old) (E.faults err.new) (line (usage_in form.Join)) }
+
+    // Beside joined records `ran` says how they were made.
+    ensures join_ran { form_of (texts words.now) ≡ form.Join → result ≡ TABLE → IfSome (S.left source.old) (λ bytes. IsJoinRun (join_of (texts words.now)) bytes ran.new) }
 {
-    match answer_gathered(rt, alloc, words, source, out, gate) {
-        Ok(gathered) => {
-            *ran = Some(Ran::Gather(gathered));
-            TABLE
-        }
-        Err(stop) => {
-            *ran = None;
-            stop.end(err)
-        }
+    *ran = None;
+    match form_of(words) {
+        Form::Plan => match answer_gathered(rt, alloc, words, source, out, gate) {
+            Ok(gathered) => {
+                *ran = Some(Ran::Gather(gathered));
+                TABLE
+            }
+            Err(stop) => stop.end(Form::Plan, err),
+        },
+        Form::Merge => match answer_merged(rt, alloc, words, source, out, gate) {
+            Ok(merged) => {
+                *ran = Some(Ran::Merge(merged));
+                TABLE
+            }
+            Err(stop) => stop.end(Form::Merge, err),
+        },
+        Form::Join => match join_tables(rt, alloc, words, source, out, err) {
+            Ok(joined) => {
+                *ran = Some(Ran::Join(joined));
+                TABLE
+            }
+            Err(status) => status,
+        },
     }
 }
 
 /// Answers the query as [`pargather`] does with `--workers 0`, whatever number the words give: in the caller's thread
-/// alone, with no wait. Time and memory are those of `pargather`.
+/// alone, with no wait. Words that begin with `merge` or `join` are no plan here. Time and memory are those of `pargather`.
 pub fn aggregate_alone<S: Source, O: Sink, E: Sink>(
     alloc: Global,
     words: &[String],
@@ -148,21 +261,24 @@ pub fn aggregate_alone<S: Source, O: Sink, E: Sink>(
     // Words that are no plan are answered before anything is read.
     ensures no_plan { IsNone (plan_of (texts words.now)) → (result ≡ MISUSED) ⊎ (result ≡ NO_MEMORY) }
     ensures unread { IsNone (plan_of (texts words.now)) → source.new ≡ source.old }
+    ensures no_merge { form_of (texts words.now) ≡ form.Merge → IsNone (plan_of (texts words.now)) }
+    ensures no_join { form_of (texts words.now) ≡ form.Join → IsNone (plan_of (texts words.now)) }
 
     // `err` receives the line of the status, or a prefix of it where a write of it failed, and beside a table nothing.
     ensures line { (result ≢ TABLE) → (o : Outcome) × IsOutcome (plan_of (texts words.now)) (S.left source.old) o
-        × (said : List ℕ) × IsLine (plan_of (texts words.now)) result o said × IsSaid (E.taken err.old) (E.taken err.new) (E.faults err.old) (E.faults err.new) said }
+        × (said : List ℕ) × IsLine usage_text (plan_of (texts words.now)) result o said × IsSaid (E.taken err.old) (E.taken err.new) (E.faults err.old) (E.faults err.new) said }
     ensures quiet { result ≡ TABLE → err.new ≡ err.old }
     ensures usage { IsNone (plan_of (texts words.now)) → result ≡ MISUSED
         → IsSaid (E.taken err.old) (E.taken err.new) (E.faults err.old) (E.faults err.new) (line usage_text) }
 
     // The row that it names is the first that is refused.
     ensures first { result ≡ REFUSED → IfSome (S.left source.old) (λ bytes.
-        (said : List ℕ) × NamesFirst (plan_of (texts words.now)) (outcome_over (plan_of (texts words.now)) bytes) said × IsSaid (E.taken err.old) (E.taken err.new) (E.faults err.old) (E.faults err.new) said) }
+        (said : List ℕ) × NamesFirst (plan_of (texts words.now)) (outcome_over (plan_of (texts words.now)) bytes) said
+        × IsSaid (E.taken err.old) (E.taken err.new) (E.faults err.old) (E.faults err.new) said) }
 {
     match answer_alone(alloc, words, source, out) {
         Ok(()) => TABLE,
-        Err(stop) => stop.end(err),
+        Err(stop) => stop.end(Form::Plan, err),
     }
 }
 
@@ -185,7 +301,7 @@ fn answer_alone<S: Source, O: Sink>(
     ensures unread { IsNone (plan_of (texts words.now)) → source.new ≡ source.old }
     ensures first { IfErr result (λ why. IfSome (S.left source.old) (λ bytes. IsFirstStop (plan_of (texts words.now)) why (outcome_over (plan_of (texts words.now)) bytes))) }
 {
-    let ready = prepare(alloc, words, source, &Alone)?;
+    let ready = prepare(alloc, Form::Plan, words, source, &Alone)?;
     match groups_of(alloc, &ready.rows, &ready.bound) {
         Ok(groups) => write_table(alloc, &ready, &groups, out),
         Err(answer) => Err(stop_of_block(alloc, &ready.plan, answer)),
@@ -216,7 +332,7 @@ fn answer_gathered<R: Threads + Wait + Sync, S: Source, O: Sink, G: Gate + Sync>
     ensures first { workers_of (texts words.now) ≡ Some 0 → IfErr result (λ why. IfSome (S.left source.old) (λ bytes.
         IsFirstStop (plan_of (texts words.now)) why (outcome_over (plan_of (texts words.now)) bytes))) }
 {
-    let ready = prepare(alloc, words, source, &InThreads { rt })?;
+    let ready = prepare(alloc, Form::Plan, words, source, &InThreads { rt })?;
     let gathered = match gather(
         rt,
         alloc,

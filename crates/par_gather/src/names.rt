@@ -5,10 +5,11 @@
 
 ghost use Rattle.std.specs.Prelude.{◌≡◌, ◌⊎◌, IfOk};
 ghost use Rattle.par_gather.specs.Lines.{refusal_text};
-ghost use Rattle.par_gather.specs.Stops.{IsRefusedRow, Restates, RestatesGather, cause_text};
+ghost use Rattle.par_gather.specs.Stops.{IsRefusedRow, Restates, RestatesGather, RestatesMerge, cause_text};
 ghost use Rattle.par_gather.specs.declared.stop.Stop.TheVariants as stop;
 
 use crate::stop::{Cause, Stop};
+use gather_merge::MergeAnswer;
 use gather_run::GatherAnswer;
 use par_model::{ITEM_CAUSE, KEY_CAUSE, Refusal, WIDTH_CAUSE};
 use partial_agg::BlockAnswer;
@@ -41,6 +42,21 @@ pub(crate) fn stop_of_gather(alloc: Global, plan: &Plan, answer: GatherAnswer) -
             plan,
             row,
             Refusal { cause, item },
+        ),
+    }
+}
+
+/// The reason that stands for an answer of `merge`.
+pub(crate) fn stop_of_merge(alloc: Global, plan: &Plan, answer: MergeAnswer) -> Stop
+    ensures { RestatesMerge plan.now.plan answer result }
+{
+    match answer {
+        MergeAnswer::Memory => Stop::Memory,
+        MergeAnswer::Row { row, cause } => stop_of_row(
+            alloc,
+            plan,
+            row,
+            Refusal { cause, item: 0 },
         ),
     }
 }

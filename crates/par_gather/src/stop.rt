@@ -2,14 +2,15 @@
 
 ghost use Rattle.std.specs.Prelude.{◌≡◌, ◌++◌, map};
 ghost use Rattle.std.specs.List.{concat};
-ghost use Rattle.par_gather.specs.Lines.{IsSaid, line};
+ghost use Rattle.query_answer.specs.Lines.{IsSaid, line};
 ghost use Rattle.par_gather.specs.Stops.{cause_text, stop_of_parsing, stop_of_reading, stop_of_words, stop_status, stop_text, text_of};
 ghost use Rattle.par_gather.specs.declared.stop.Stop.TheVariants as stop;
 
-use crate::status::{MISUSED, NO_MEMORY, READ_FAULT, REFUSED, TOO_LARGE, WRITE_FAULT};
+use crate::form::Form;
 use csv_rows::{ReadAnswer, RowsAnswer};
-use par_io::{Failed, Sink, write_whole};
+use par_io::Sink;
 use plan_spec::PlanAnswer;
+use query_answer::{MISUSED, NO_MEMORY, READ_FAULT, REFUSED, TOO_LARGE, WRITE_FAULT, write_pieces};
 use std::alloc::AllocError;
 
 /// Why a row is refused, with the name of the column of which its line speaks.
@@ -108,15 +109,11 @@ impl Stop {
     }
 
     /// What its line says, in pieces: of a refused row it is what comes after the row's number.
-    fn text(&self) -> (&str, &str, &str)
-        ensures { result.0.now ++ (result.1.now ++ result.2.now) ≡ text_of self.now }
+    fn text(&self, form: Form) -> (&str, &str, &str)
+        ensures { result.0.now ++ (result.1.now ++ result.2.now) ≡ text_of form self.now }
     {
         match self {
-            Stop::Usage => (
-                "usage: pargather [--group COLUMNS] --agg ITEMS [--where FILTER] [--workers N] [--plan gather|hash] [--area-pages N]",
-                "",
-                "",
-            ),
+            Stop::Usage => ("", "", form.usage()),
             Stop::ReadFault => ("read fault", "", ""),
             Stop::TooManyBytes => ("more than 67108864 bytes", "", ""),
             Stop::NoHeader => ("no header", "", ""),
@@ -129,41 +126,31 @@ impl Stop {
     }
 
     /// The pieces of its line.
-    fn pieces<'a>(&'a self, digits: &'a mut itoa::Buffer) -> [&'a str; 8]
-        ensures { concat (map (λ piece. piece.now) result) ≡ line (stop_text self.now) }
+    fn pieces<'a>(&'a self, form: Form, digits: &'a mut itoa::Buffer) -> [&'a str; 8]
+        ensures { concat (map (λ piece. piece.now) result) ≡ line (stop_text form self.now) }
     {
         let (row, number, colon) = match self {
             Stop::Refused(row, _) => ("row ", digits.format(*row), ": "),
             _ => ("", "", ""),
         };
-        let (text, name, rest) = self.text();
+        let (text, name, rest) = self.text(form);
         ["pargather: ", row, number, colon, text, name, rest, "\n"]
     }
 
-    /// Writes the line, and gives the status.
-    pub(crate) fn end<E: Sink>(&self, err: &mut E) -> u8
-        ensures said { IsSaid (E.taken err.old) (E.taken err.new) (E.faults err.old) (E.faults err.new) (line (stop_text self.now)) }
+    /// Writes the line to one who gave words in this form, and gives the status.
+    pub(crate) fn end<E: Sink>(&self, form: Form, err: &mut E) -> u8
+        ensures said { IsSaid (E.taken err.old) (E.taken err.new) (E.faults err.old) (E.faults err.new) (line (stop_text form self.now)) }
         ensures status { result ≡ stop_status self.now }
     {
-        self.report(err);
+        self.report(form, err);
         self.status()
     }
 
     /// Writes the line. A failed write ends it, and changes nothing else.
-    fn report<E: Sink>(&self, err: &mut E)
-        ensures { IsSaid (E.taken err.old) (E.taken err.new) (E.faults err.old) (E.faults err.new) (line (stop_text self.now)) }
+    fn report<E: Sink>(&self, form: Form, err: &mut E)
+        ensures { IsSaid (E.taken err.old) (E.taken err.new) (E.faults err.old) (E.faults err.new) (line (stop_text form self.now)) }
     {
         let mut digits = itoa::Buffer::new();
-        let _ = write_pieces(err, &self.pieces(&mut digits));
+        let _ = write_pieces(err, &self.pieces(form, &mut digits));
     }
-}
-
-/// Writes the pieces one after the other, up to a write that fails.
-fn write_pieces<E: Sink>(err: &mut E, pieces: &[&str]) -> Result<(), Failed>
-    ensures { IsSaid (E.taken err.old) (E.taken err.new) (E.faults err.old) (E.faults err.new) (concat (map (λ piece. piece.now) pieces.now)) }
-{
-    for piece in pieces {
-        write_whole(err, piece.as_bytes())?;
-    }
-    Ok(())
 }

@@ -1,5 +1,7 @@
 //! Worked rows: words, bytes and failing calls, and what both calls answer.
 
+mod joining;
+mod merging;
 mod slow;
 mod worked;
 mod workers;

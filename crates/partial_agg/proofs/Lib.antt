@@ -1,4 +1,5 @@
 pub mod Slots
+pub mod Lanes
 pub mod Keys
 pub mod Refusals
 pub mod Places

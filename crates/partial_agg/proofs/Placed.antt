@@ -1,5 +1,5 @@
 -- A map whose states lie in a list: what the finite map that it means becomes where a state changes, a group comes or one goes.
-use Rattle.std.proofs.Common.{◌≡◌, ◌<◌, ◌++◌, ℕ, zero, suc, Bool, true, false, cond, List, [], ◌∷◌, Option, Some, None, refl, ap, sym, subst, ◌∙◌, length, get_or, set, map as map_list}
+use Rattle.std.proofs.Common.{◌≡◌, ◌++◌, ℕ, zero, suc, Bool, true, false, cond, List, [], ◌∷◌, Option, Some, None, refl, ap, sym, subst, ◌∙◌, length, get_or, set, map as map_list}
 use Rattle.std.proofs.lemmas.List.{get_or-set_other, get_or-set_same, get_or_default}
 use Rattle.std.proofs.lemmas.Map.Made.{lookup-map_values}
 use Rattle.std.proofs.Math.ListN.{get_or-append}
@@ -18,7 +18,8 @@ use Rattle.std.specs.declared.cmp.Ordering.TheVariants.{Less, Equal, Greater}
 use Rattle.par_model.specs.declared.state.AggState.{AggState}
 use Rattle.partial_agg.specs.Groups.{GroupsByKey, added, joined, key_cmp}
 use Rattle.key_table.specs.Keys.{key_at}
-use Rattle.partial_agg.specs.Listed.{group, listed_at}
+use Rattle.partial_agg.specs.Listed.{listed_at}
+use Rattle.partial_agg.specs.declared.groups.Group.{Group}
 use Rattle.partial_agg.specs.Placed.{ArePlaces, Places, groups_at, place_of, placed}
 use Rattle.partial_agg.specs.State.{combined, empty_state}
 use Rattle.partial_agg.proofs.Maps.{entries-view, get-view, same_groups, sorted-from_ordered}
@@ -77,6 +78,13 @@ state_changed m places states k p before w state view are found stood is =
         ∙ sym (map.get-insert nat_list_cmp_total (groups_at places states) k (joined (map.get (groups_at places states) k) state) q
         ∙ ap (λ b. cond b (Some (joined (map.get (groups_at places states) k) state)) (map.get (groups_at places states) q)) e)
 
+pub state_combined : (m : GroupsByKey) (places : Places) (states new : List AggState) (k : List ℕ) (p : ℕ) (state : AggState) → groups_at places states ≡ m → ArePlaces places (length states) → place_of places k ≡ Some p
+    → new ≡ set states p (combined (get_or states p empty_state) state) → groups_at places new ≡ added m k state
+state_combined m places states new k p state view are found is =
+    let before = get_or states p empty_state in
+    ap (groups_at places) is
+    ∙ state_changed m places states k p before (combined before state) state view are found (get_or_default states p empty_state before (are.within k p found)) refl
+
 -- a place is put at a key
 abbrev pub Puts : Places → Places → List ℕ → Option ℕ → Type 0
 Puts old new k o = (q : List ℕ) → place_of new q ≡ cond (is_at (key_cmp k) q) o (place_of old q)
@@ -127,15 +135,35 @@ pub length-listed_at : (keys : List (List ℕ)) (states : List AggState) (places
 length-listed_at keys states [] = refl
 length-listed_at keys states (p ∷ places) = ap suc (length-listed_at keys states places)
 
-pub listed-get : (keys : List (List ℕ)) (states : List AggState) (places : List ℕ) (at place : ℕ) (key : List ℕ) (state : AggState) → slice_get places at ≡ Some place → slice_get keys place ≡ Some key
-    → state ≡ get_or states place state → place < length states → slice_get (listed_at keys states places) at ≡ Some (group (key, state))
-listed-get keys states [] at place key state e k s lt = cc
-listed-get keys states (p ∷ places) zero place key state e k s lt =
-    let same : p ≡ place = some_place p place e in
-    ap (λ p. Some (group (key_at keys p, get_or states p empty_state))) same
-    ∙ ap (λ (key : List ℕ). Some (group (key, get_or states place empty_state))) (get_or_from_slice_get keys place key [] k)
-    ∙ ap (λ (state : AggState). Some (group (key, state))) (get_or_default states place empty_state state lt ∙ sym s)
+some_place : (a b : ℕ) → Some a ≡ Some b → a ≡ b
+some_place a b e = cc
+
+pub listed-key : (keys : List (List ℕ)) (states : List AggState) (places : List ℕ) (at place : ℕ) (key : List ℕ) → slice_get places at ≡ Some place → slice_get keys place ≡ Some key
+    → slice_get (map_list (λ (g : Group). g.key) (listed_at keys states places)) at ≡ Some key
+listed-key keys states [] at place key e k = cc
+listed-key keys states (p ∷ places) zero place key e k =
+    ap (λ (p : ℕ). Some (key_at keys p)) (some_place p place e) ∙ ap Some (get_or_from_slice_get keys place key [] k)
+listed-key keys states (p ∷ places) (suc at) place key e k = listed-key keys states places at place key e k
+
+pub listed-state : (keys : List (List ℕ)) (states : List AggState) (places : List ℕ) (at place : ℕ) (state : AggState) → slice_get places at ≡ Some place → slice_get states place ≡ Some state
+    → slice_get (map_list (λ (g : Group). g.state) (listed_at keys states places)) at ≡ Some state
+listed-state keys states [] at place state e k = cc
+listed-state keys states (p ∷ places) zero place state e k =
+    ap (λ (p : ℕ). Some (get_or states p empty_state)) (some_place p place e) ∙ ap Some (get_or_from_slice_get states place state empty_state k)
+listed-state keys states (p ∷ places) (suc at) place state e k = listed-state keys states places at place state e k
+
+-- a group is its key and its state
+pub group_of_parts : (groups : List Group) (at : ℕ) (copy key : List ℕ) (state : AggState) → copy ≡ key → slice_get (map_list (λ (g : Group). g.key) groups) at ≡ Some key
+    → slice_get (map_list (λ (g : Group). g.state) groups) at ≡ Some state → slice_get groups at ≡ Some (record { key = copy; state = state })
+group_of_parts [] at copy key state c k s = cc
+group_of_parts (g ∷ groups) zero copy key state c k s =
+    let same_key : g.key ≡ copy = some_key g.key key k ∙ sym c in
+    let same_state : g.state ≡ state = some_state g.state state s in
+    λ i. Some (record { key = same_key i; state = same_state i })
   where
-    some_place : (a b : ℕ) → Some a ≡ Some b → a ≡ b
-    some_place a b e = cc
-listed-get keys states (p ∷ places) (suc at) place key state e k s lt = listed-get keys states places at place key state e k s lt
+    some_key : (a b : List ℕ) → Some a ≡ Some b → a ≡ b
+    some_key a b e = cc
+
+    some_state : (a b : AggState) → Some a ≡ Some b → a ≡ b
+    some_state a b e = cc
+group_of_parts (g ∷ groups) (suc at) copy key state c k s = group_of_parts groups at copy key state c k s

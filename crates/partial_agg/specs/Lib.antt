@@ -5,5 +5,6 @@ pub mod Values
 pub mod Status
 pub mod Listed
 pub mod Placed
+pub mod Lanes
 pub mod Blocks
 pub mod Laws

@@ -26,7 +26,8 @@ ghost use Rattle.partial_agg.specs.Rows.{IsAccepted, block_rows, header_width};
 use crate::groups::Groups;
 use crate::key::GroupKey;
 use crate::row::{RowBuffer, RowStatus, read_values};
-use crate::state::{add_values, combine, one_row};
+use crate::state::one_row;
+use crate::states::StateList;
 use csv_rows::{Record, RowStore};
 use key_table::KeyTable;
 use par_model::{AggState, BoundPlan, ITEM_CAUSE};
@@ -42,7 +43,7 @@ pub struct GroupMap {
     /// Each key that came, with its place, also where its group was taken.
     keys: KeyTable,
     /// The state of the key at each place.
-    states: Vec<AggState>,
+    states: StateList,
     /// The places of the groups that are in the map.
     left: Vec<usize>,
     /// That no group was taken, so that each place is left.
@@ -62,9 +63,9 @@ impl Model for GroupMap {
 
     ghost use Rattle.partial_agg.specs.Placed.{IsGrouped, groups_at, places_of};
 
-    ghost view = { λ m. groups_at (places_of m.keys (reverse m.left.items)) m.states.items };
+    ghost view = { λ m. groups_at (places_of m.keys (reverse m.left.items)) m.states };
 
-    ghost invariant = { λ m. IsGrouped m.keys (length m.states.items) (reverse m.left.items) m.whole m.sorted };
+    ghost invariant = { λ m. IsGrouped m.keys (length m.states) (reverse m.left.items) m.whole m.sorted };
 }
 
 /// Why a block was not added whole: its first refused row, or want of memory.
@@ -82,7 +83,7 @@ impl GroupMap {
     {
         GroupMap {
             keys: KeyTable::new(alloc),
-            states: Vec::new(alloc),
+            states: StateList::new(alloc),
             left: Vec::new(alloc),
             whole: true,
             sorted: true,
@@ -117,7 +118,10 @@ impl GroupMap {
             return None;
         };
         self.whole = false;
-        let group = (GroupKey::copy_of(self.keys.get(place)), self.states[place]);
+        let group = (
+            GroupKey::copy_of(self.keys.get(place)),
+            self.states.get(place),
+        );
         if self.left.is_empty() {
             *self = GroupMap::new(self.alloc);
         }
@@ -233,8 +237,10 @@ impl GroupMap {
         let values = &buffer.values[..items.len()];
         if let Some(place) = known {
             if self.whole {
-                add_values(&mut self.states[place], values);
-                return Ok(());
+                match self.states.add_values(place, values) {
+                    Ok(()) => return Ok(()),
+                    Err(AllocError) => return Err(BlockAnswer::Memory),
+                }
             }
         }
         match self.add_state(&buffer.key, &one_row(values)) {
@@ -252,20 +258,27 @@ impl GroupMap {
         match self.keys.find(key.bytes()) {
             Some(place) => {
                 if self.whole || is_left(self.left.as_slice(), place) {
-                    combine(&mut self.states[place], state);
+                    self.states.combine(place, state)?;
                 } else {
-                    self.left.push(place)?;
-                    self.states[place] = *state;
+                    self.left.reserve(1)?;
+                    self.states.put(place, state)?;
+                    self.left.push_reserved(place);
                     self.sorted = false;
                 }
                 Ok(())
             }
             None => {
+                let place = self.states.len();
                 self.left.reserve(1)?;
-                self.states.reserve(1)?;
-                self.keys.push(self.alloc, key.bytes())?;
-                self.left.push_reserved(self.states.len());
-                self.states.push_reserved(*state);
+                self.states.push(state)?;
+                match self.keys.push(self.alloc, key.bytes()) {
+                    Ok(()) => {}
+                    Err(AllocError) => {
+                        self.states.truncate(place);
+                        return Err(AllocError);
+                    }
+                }
+                self.left.push_reserved(place);
                 self.sorted = false;
                 Ok(())
             }

@@ -3,6 +3,7 @@ pub mod Columns
 pub mod Fills
 pub mod Filters
 pub mod Lists
+pub mod Merges
 pub mod Numbers
 pub mod Padded
 pub mod Places

@@ -109,7 +109,7 @@ fn item(alloc: Global, text: &str) -> Result<PlanItem, PlanAnswer>
 }
 
 /// The number of rows.
-fn row_count(alloc: Global) -> Result<PlanItem, AllocError>
+pub(crate) fn row_count(alloc: Global) -> Result<PlanItem, AllocError>
     ensures { IfOk result (λ i. i ≡ record { kind = ItemKind.Rows; column = None }) }
 {
     Ok(PlanItem {

@@ -1,15 +1,17 @@
 //! A plan, as the words of a command line name it, its columns in a header, and its words in shared memory.
 //!
-//! [`Plan::of_words`] reads the words as a command line of six options, each of which has a grammar of its own;
-//! [`Plan::bind`] looks its names up in the first record of a store. A plan keeps its names in the order in which they
-//! are counted: those to group by, those of the aggregates, that of the filter. [`write_plan`] puts the bound plan into
-//! shared memory, and [`plan_in`] finds it there for all who compute it.
+//! [`Plan::of_words`] reads the words as a command line of six options, each of which has a grammar of its own, and
+//! [`Plan::of_merge_words`] reads `merge COLUMNS N`; [`Plan::bind`] looks a plan's names up in the first record of a
+//! store. A plan keeps its names in the order in which they are counted: those to group by, those of the aggregates,
+//! that of the filter. [`write_plan`] puts the bound plan into shared memory, and [`plan_in`] finds it there for all who
+//! compute it.
 
 #![tactic(auto)]
 
 mod bind;
 mod descriptor;
 mod grammar;
+mod merging;
 mod options;
 mod plan;
 mod read;
@@ -18,4 +20,5 @@ mod tests;
 
 pub use bind::NoColumn;
 pub use descriptor::{BadDescriptor, PLAN_KEY, has_one_plan, plan_in, read_plan, write_plan};
+pub use merging::is_merge;
 pub use plan::{Plan, PlanAnswer};

@@ -6,7 +6,7 @@ ghost use Rattle.par_model.specs.Columns.{HasColumns};
 ghost use Rattle.par_model.specs.Named.{bound_plan};
 ghost use Rattle.plan_spec.specs.Query.{query_of};
 
-use crate::{Plan, PlanAnswer};
+use crate::{Plan, PlanAnswer, is_merge};
 use csv_rows::{RowStore, rows};
 use par_model::BoundPlan;
 use std::alloc::{AllocError, Global};
@@ -70,6 +70,33 @@ fn plans(rt: HostRuntime) -> Result<(), Fail> {
             Err(PlanAnswer::Usage) => assert!(rt; !is_plan, "{words}"),
             Err(PlanAnswer::Memory) => assert!(rt; false, "{words}"),
         }
+    }
+    Ok(())
+}
+
+/// Words that ask for rows in order, and words that do not.
+#[test]
+fn merges(rt: HostRuntime) -> Result<(), Fail> {
+    let table: [(&str, bool); 10] = [
+        ("merge g 0", true),
+        ("merge a,b,c,d,e,f,g,h 00064", true),
+        ("merge --agg 1", true),
+        ("merge g", false),
+        ("merge g 1 1", false),
+        ("merge g,,h 1", false),
+        ("merge a,b,c,d,e,f,g,h,i 1", false),
+        ("merge g 65", false),
+        ("merge g 000001", false),
+        ("Merge g 1", false),
+    ];
+    for (words, is_plan) in table {
+        let list = owned(rt.alloc(), words)?;
+        match Plan::of_merge_words(rt.alloc(), list.as_slice()) {
+            Ok(_plan) => assert!(rt; is_plan, "{words}"),
+            Err(PlanAnswer::Usage) => assert!(rt; !is_plan, "{words}"),
+            Err(PlanAnswer::Memory) => assert!(rt; false, "{words}"),
+        }
+        assert_eq!(rt; is_merge(list.as_slice()), words != "Merge g 1", "{words}");
     }
     Ok(())
 }

@@ -15,11 +15,11 @@ use Rattle.result_text.proofs.Tables.{table_text-cons}
 
 -- the header is written first, and then the lines
 pub written_text : (names : NamedPlan) (plan : Plan) (groups : List Group) (refs : List GroupRef) (none header all text : List ℕ)
-    → ArePrintable plan groups → All (λ (group : Group). length group.key ≤ 248) groups → IsPermutation groups (map group_of refs) → IsSortedBy (is_before (length plan.groups)) refs
-    → none ≡ [] → header ≡ none ++ row_text default_writer (table_header names) → all ≡ header ++ table_text (map (line_record plan) (shown plan (map (line_of (length plan.groups)) refs))) → text ≡ all
+    → ArePrintable plan groups → All (λ (group : Group). length group.key ≤ 248) groups → IsPermutation groups (map (group_of groups) refs) → IsSortedBy (is_before (length plan.groups)) refs
+    → none ≡ [] → header ≡ none ++ row_text default_writer (table_header names) → all ≡ header ++ table_text (map (line_record plan) (shown plan (map (line_of (length plan.groups) groups) refs))) → text ≡ all
     → IsTextOf names plan groups text
 written_text names plan groups refs none header all text printable short same sorted none_is header_is all_is text_is =
-    let lines = map (line_record plan) (shown plan (map (line_of (length plan.groups)) refs)) in
+    let lines = map (line_record plan) (shown plan (map (line_of (length plan.groups) groups) refs)) in
     record {
       table = table_header names ∷ lines;
       each = groups_table names plan groups refs printable short same sorted;

@@ -43,10 +43,10 @@ pub fn text_of(
     ensures answer { IfOk result (λ text. (header : List (List ℕ)) (rows : List (List (List ℕ))) (m : GroupsByKey)
         → bound.now ≡ bound_plan header plan.now.plan → AreGroups bound.now rows m → groups.now ≡ listed m → IsAnswer plan.now.plan (header ∷ rows) text.items) }
 {
-    let groups = in_order(alloc, groups, bound.group_count)?;
+    let refs = in_order(alloc, groups, bound.group_count)?;
     let mut table = TableWriter::new(alloc);
     table.write_header(plan, bound)?;
-    table.write_groups(bound, &groups)?;
+    table.write_groups(bound, groups, &refs)?;
     table.into_text()
 }
 

@@ -3,22 +3,21 @@
 //! An encoded key has each column after its length, lowest byte first, so keys as bytes come in another order than the
 //! columns that they encode. Two keys are compared column by column, as they lie, and nothing is copied.
 
-ghost use Rattle.std.specs.Prelude.{◌≡◌, ◌≤◌, All, IfOk, OnOk, length, map};
+ghost use Rattle.std.specs.Prelude.{◌≡◌, ◌<◌, ◌≤◌, All, IfOk, OnOk, length, map};
 ghost use Rattle.std.specs.List.Sorted.{IsPermutation, IsSortedBy};
 ghost use Rattle.par_model.specs.Table.{columns_cmp};
 ghost use Rattle.result_text.specs.Keys.{after_first_column, columns_in, first_column};
 ghost use Rattle.result_text.specs.Order.{group_of, is_before};
 
-use par_model::AggState;
 use partial_agg::Groups;
 use std::alloc::{AllocError, Global};
 use std::cmp::Ordering;
 
-/// A group where it lies: its encoded key and its aggregates.
+/// A group of a list: its encoded key, where it lies, and its place.
 #[derive(Clone, Copy)]
 pub(crate) struct GroupRef<'a> {
     pub(crate) key: &'a [u8],
-    pub(crate) state: &'a AggState,
+    pub(crate) at: usize,
 }
 
 /// The groups in order of the so many columns of their keys. It takes 24 bytes a group.
@@ -27,7 +26,8 @@ pub(crate) fn in_order<'a>(
     groups: &'a Groups,
     columns: u32,
 ) -> Result<Vec<GroupRef<'a>>, AllocError>
-    ensures same { IfOk result (λ refs. IsPermutation groups.now (map group_of refs.items)) }
+    ensures same { IfOk result (λ refs. IsPermutation groups.now (map (group_of groups.now) refs.items)) }
+    ensures within { IfOk result (λ refs. All (λ group. group.at < length groups.now) refs.items) }
     ensures short { OnOk result (All (λ group. length group.key ≤ 248) groups.now) }
     ensures sorted { IfOk result (λ refs. IsSortedBy (is_before columns) refs.items) }
 {
@@ -38,13 +38,16 @@ pub(crate) fn in_order<'a>(
 
 /// The groups as they are listed.
 fn as_they_are<'a>(alloc: Global, groups: &'a Groups) -> Result<Vec<GroupRef<'a>>, AllocError>
-    ensures same { IfOk result (λ refs. map group_of refs.items ≡ groups.now) }
+    ensures same { IfOk result (λ refs. map (group_of groups.now) refs.items ≡ groups.now) }
+    ensures within { IfOk result (λ refs. All (λ group. group.at < length groups.now) refs.items) }
     ensures short { OnOk result (All (λ group. length group.key ≤ 248) groups.now) }
 {
     let mut refs = Vec::with_capacity(alloc, groups.len())?;
     for at in 0..groups.len() {
-        let (key, state) = groups.lent(at);
-        refs.push(GroupRef { key, state })?;
+        refs.push(GroupRef {
+            key: groups.key(at),
+            at,
+        })?;
     }
     Ok(refs)
 }

@@ -2,7 +2,7 @@
 //!
 //! Between two lines the writer has no field of a record (`IsBetween`). After an error the lines are only dropped.
 
-ghost use Rattle.std.specs.Prelude.{◌≡◌, ◌++◌, [], All, IfOk, OnOk, length, map};
+ghost use Rattle.std.specs.Prelude.{◌≡◌, ◌<◌, ◌++◌, [], All, IfOk, OnOk, length, map};
 ghost use Rattle.csv.specs.Records.{fields_of};
 ghost use Rattle.csv.specs.Writing.{default_writer, row_text};
 ghost use Rattle.par_model.specs.Table.{table_header, table_text, values_text};
@@ -16,7 +16,7 @@ use crate::order::GroupRef;
 use crate::values::{push_columns, push_header, push_values};
 use csv::{ByteRecord, Writer, WriterBuilder};
 use par_model::{AggState, BoundPlan};
-use partial_agg::empty;
+use partial_agg::{Groups, empty};
 use plan_spec::Plan;
 use std::alloc::{AllocError, Global};
 
@@ -54,30 +54,38 @@ impl TableWriter {
         self.write_record()
     }
 
-    /// The lines of the groups, or that of no rows where nothing is grouped by and there is no group.
+    /// The lines of the groups in this order, or that of no rows where nothing is grouped by and there is no group.
     pub(crate) fn write_groups(
         &mut self,
         bound: &BoundPlan,
-        groups: &[GroupRef<'_>],
+        groups: &Groups,
+        refs: &[GroupRef<'_>],
     ) -> Result<(), AllocError>
         requires between { IsBetween self.old.writer }
-        requires small { All (λ group. All IsSmallSlot group.state.now.slots) groups.now }
-        ensures text { OnOk result (written self.new.writer ≡ written self.old.writer ++ table_text (map (line_record bound.now) (shown bound.now (map (line_of (length bound.now.groups)) groups.now)))) }
+        requires small { All (λ group. All IsSmallSlot group.state.slots) groups.now }
+        requires within { All (λ group. group.at < length groups.now) refs.now }
+        ensures text { OnOk result (written self.new.writer ≡ written self.old.writer ++ table_text (map (line_record bound.now) (shown bound.now (map (line_of (length bound.now.groups) groups.now) refs.now)))) }
     {
-        if bound.group_count == 0 && groups.is_empty() {
+        if bound.group_count == 0 && refs.is_empty() {
             return self.write_group(bound, &[], &empty());
         }
-        self.write_each(bound, groups)
+        self.write_each(bound, groups, refs)
     }
 
     /// A line for each group.
-    fn write_each(&mut self, bound: &BoundPlan, groups: &[GroupRef<'_>]) -> Result<(), AllocError>
+    fn write_each(
+        &mut self,
+        bound: &BoundPlan,
+        groups: &Groups,
+        refs: &[GroupRef<'_>],
+    ) -> Result<(), AllocError>
         requires between { IsBetween self.old.writer }
-        requires small { All (λ group. All IsSmallSlot group.state.now.slots) groups.now }
-        ensures text { OnOk result (written self.new.writer ≡ written self.old.writer ++ table_text (map (line_record bound.now) (map (line_of (length bound.now.groups)) groups.now))) }
+        requires small { All (λ group. All IsSmallSlot group.state.slots) groups.now }
+        requires within { All (λ group. group.at < length groups.now) refs.now }
+        ensures text { OnOk result (written self.new.writer ≡ written self.old.writer ++ table_text (map (line_record bound.now) (map (line_of (length bound.now.groups) groups.now) refs.now))) }
     {
-        for group in groups {
-            self.write_group(bound, group.key, group.state)?;
+        for group in refs {
+            self.write_group(bound, group.key, &groups.state(group.at))?;
         }
         Ok(())
     }

@@ -1,11 +1,15 @@
 //! A cache of texts under names: a table whose keys are packed names.
 
 ghost use Rattle.std.specs.Prelude.{◌≡◌, Some, None, IsSome, IfOk, IfErr, OnOk};
+ghost use Rattle.dshash_core.specs.Key.{hash_of};
+ghost use Rattle.dshash_core.specs.Cells.{partition_of};
+ghost use Rattle.dshash_parts.specs.Promises.{CallRefused, IsLastCall};
 ghost use Rattle.lock_book.specs.Shown.{number_of, seen_of};
 ghost use Rattle.dsa_area.specs.Shown.{Belongs as AreaBelongs, IsArea, number_of as area_number};
 ghost use Rattle.dshash_parts.specs.Tables.{IsTable, Belongs, key_words_of};
-ghost use Rattle.table_uses.specs.Texts.{after};
+ghost use Rattle.table_uses.specs.Texts.{after, stepped};
 ghost use Rattle.table_uses.specs.Cached.{under};
+ghost use Rattle.table_uses.specs.declared.text.TextCall.TheVariants.{Remove, Set};
 
 use crate::text::{TEXT_WORDS, Text, TextCall};
 use dsa_area::{Area, AreaPass, NoSpace};
@@ -34,7 +38,9 @@ fn ask<R: Wait>(
     ensures area_own { AreaBelongs area.now apass.new }
     ensures area_caller { area_number apass.new ≡ area_number apass.old }
     ensures stands { IfOk result (λ before. under (seen_of pass.new) name.now ≡ after before call) }
+    ensures replied { IfOk result (λ before. IsLastCall (number_of pass.old) name.now call before (seen_of pass.new (partition_of (hash_of name.now)))) }
     ensures refused { IfErr result (λ _. IsSome (after None call)) }
+    ensures lack { IfErr result (λ lack. CallRefused stepped cache.now area.now pass.old apass.old pass.new apass.new name.now call lack.pages lack.largest) }
 {
     cache.call(rt, r, area, pass, apass, name, &call)
 }
@@ -66,7 +72,8 @@ pub fn recall<R: Wait>(
     }
 }
 
-/// Puts a text under a name. The text that stood there, if any.
+/// Puts a text under a name. The text that stood there, if any. It is refused only where the area has no room for a new
+/// name or for a larger partition.
 pub fn remember<R: Wait>(
     rt: &R,
     cache: &Dshash<Text>,
@@ -87,6 +94,8 @@ pub fn remember<R: Wait>(
     ensures area_own { AreaBelongs area.now apass.new }
     ensures area_caller { area_number apass.new ≡ area_number apass.old }
     ensures stands { OnOk result (under (seen_of pass.new) name.now ≡ Some text) }
+    ensures replied { IfOk result (λ before. IsLastCall (number_of pass.old) name.now (Set text) before (seen_of pass.new (partition_of (hash_of name.now)))) }
+    ensures refused { IfErr result (λ lack. CallRefused stepped cache.now area.now pass.old apass.old pass.new apass.new name.now (Set text) lack.pages lack.largest) }
 {
     ask(rt, cache, r, area, pass, apass, name, TextCall::Set(text))
 }
@@ -111,6 +120,7 @@ pub fn forget<R: Wait>(
     ensures area_own { AreaBelongs area.now apass.new }
     ensures area_caller { area_number apass.new ≡ area_number apass.old }
     ensures gone { under (seen_of pass.new) name.now ≡ None }
+    ensures replied { IsLastCall (number_of pass.old) name.now Remove result (seen_of pass.new (partition_of (hash_of name.now))) }
 {
     match ask(rt, cache, r, area, pass, apass, name, TextCall::Remove) {
         Ok(text) => text,

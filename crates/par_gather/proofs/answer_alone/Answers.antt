@@ -1,6 +1,8 @@
 use Rattle.std.proofs.Common.{◌≡◌, ◌⊎◌}
 use Rattle.std.proofs.lemmas.Result.{IfErr-weaker}
-use Rattle.par_gather.specs.Answers.{plan_of, texts}
+use Rattle.plan_spec.specs.Query.{query_of}
+use Rattle.query_answer.specs.Words.{texts}
+use Rattle.par_gather.specs.Forms.{plan_in}
 use Rattle.par_gather.specs.Stops.{IsExplained}
 use Rattle.par_gather.specs.declared.stop.Stop.{Stop}
 use Rattle.par_gather.specs.declared.stop.Stop.TheVariants as stop
@@ -9,15 +11,15 @@ use Rattle.par_gather.proofs.answer_alone.Goals as goal
 
 pub returns-in-Ok-clause-why : goal.returns-in-Ok-clause-why
 returns-in-Ok-clause-why g c =
-    let words = texts c.args.words.now in
+    let asked = query_of (texts c.args.words.now) in
     let left = g.S.Source.left c.args.source.now in
-    IfErr-weaker c.write_table.result (λ (why : Stop). (why ≡ stop.WriteFault) ⊎ (why ≡ stop.Memory)) (IsExplained (plan_of words) left)
-    (λ why h. unwritten_explained words left c.in_ok-ready.ready why c.in_ok-ready.ensures.ready c.in-Ok.ensures.none_refused h) c.write_table.ensures.why
+    IfErr-weaker c.write_table.result (λ (why : Stop). (why ≡ stop.WriteFault) ⊎ (why ≡ stop.Memory)) (IsExplained (plan_in asked) left)
+    (λ why h. unwritten_explained asked left c.in_ok-ready.ready why c.in_ok-ready.ensures.ready c.in-Ok.ensures.none_refused h) c.write_table.ensures.why
 
 pub returns-clause-why : goal.returns-clause-why
 returns-clause-why g c =
-    block_explained (texts c.args.words.now) (g.S.Source.left c.args.source.now) c.in_ok-ready.ready c.in-Err.answer c.stop_of_block.result c.in_ok-ready.ensures.ready c.in-Err.ensures.first c.stop_of_block.ensures
+    block_explained (query_of (texts c.args.words.now)) (g.S.Source.left c.args.source.now) c.in_ok-ready.ready c.in-Err.answer c.stop_of_block.result c.in_ok-ready.ensures.ready c.in-Err.ensures.first c.stop_of_block.ensures
 
 pub returns-clause-first : goal.returns-clause-first
 returns-clause-first g c =
-    block_first (texts c.args.words.now) (g.S.Source.left c.args.source.now) c.in_ok-ready.ready c.in-Err.answer c.stop_of_block.result c.in_ok-ready.ensures.ready c.in-Err.ensures.first c.stop_of_block.ensures
+    block_first (query_of (texts c.args.words.now)) (g.S.Source.left c.args.source.now) c.in_ok-ready.ready c.in-Err.answer c.stop_of_block.result c.in_ok-ready.ensures.ready c.in-Err.ensures.first c.stop_of_block.ensures

@@ -12,10 +12,30 @@ use worker_run::Gate;
 
 /// Holds each of three participants at its first block until all have come to one, for at most a million turns.
 #[derive(Drop)]
-struct Meeting {
+pub(super) struct Meeting {
     came: [AtomicBool; 3],
     count: AtomicU32,
     late: AtomicBool,
+}
+
+impl Meeting {
+    /// A gate that nobody has come to.
+    pub(super) fn of_three() -> Meeting {
+        Meeting {
+            came: [
+                AtomicBool::new(false),
+                AtomicBool::new(false),
+                AtomicBool::new(false),
+            ],
+            count: AtomicU32::new(0),
+            late: AtomicBool::new(false),
+        }
+    }
+
+    /// Whether one gave up waiting.
+    pub(super) fn was_late(&self) -> bool {
+        self.late.load(Ordering::SeqCst)
+    }
 }
 
 impl Gate for Meeting {
@@ -37,7 +57,12 @@ impl Gate for Meeting {
 }
 
 /// A line that stands so many times, behind a header.
-fn lines(alloc: Global, header: &str, line: &str, count: u32) -> Result<Vec<u8>, AllocError> {
+pub(super) fn lines(
+    alloc: Global,
+    header: &str,
+    line: &str,
+    count: u32,
+) -> Result<Vec<u8>, AllocError> {
     let mut text = Vec::from_slice(alloc, header.as_bytes())?;
     for _ in 0..count {
         text.extend_from_slice(line.as_bytes())?;
@@ -46,7 +71,7 @@ fn lines(alloc: Global, header: &str, line: &str, count: u32) -> Result<Vec<u8>,
 }
 
 /// The words of a text.
-fn words_of(alloc: Global, text: &str) -> Result<Vec<String>, AllocError> {
+pub(super) fn words_of(alloc: Global, text: &str) -> Result<Vec<String>, AllocError> {
     let mut words = Vec::new(alloc);
     for word in text.split(' ') {
         words.push(String::from_str(alloc, word)?)?;
@@ -58,15 +83,7 @@ fn words_of(alloc: Global, text: &str) -> Result<Vec<String>, AllocError> {
 #[test]
 fn all_are_at_work_at_once(rt: HostRuntime) -> Result<(), Fail> {
     let alloc = rt.alloc();
-    let gate = Meeting {
-        came: [
-            AtomicBool::new(false),
-            AtomicBool::new(false),
-            AtomicBool::new(false),
-        ],
-        count: AtomicU32::new(0),
-        late: AtomicBool::new(false),
-    };
+    let gate = Meeting::of_three();
     let words = words_of(alloc, "--group g --agg count --workers 2")?;
     let text = lines(alloc, "g\n", "a\n", 768)?;
     let mut source = MemSource::new(text, 1000, Vec::new(alloc));
@@ -85,7 +102,7 @@ fn all_are_at_work_at_once(rt: HostRuntime) -> Result<(), Fail> {
     );
     assert_eq!(rt; status, TABLE);
     assert_eq!(rt; out.written(), b"g,count\na,768\n".as_slice());
-    assert!(rt; !gate.late.load(Ordering::SeqCst));
+    assert!(rt; !gate.was_late());
     let Some(Ran::Gather(gathered)) = &ran else {
         return Err(Fail::new("nothing is said of the run"));
     };

@@ -1,4 +1,4 @@
-use Rattle.std.proofs.Common.{◌≡◌, ◌≤◌, ◌++◌, ap, sym, subst, arith, All, ℕ, List, length, length-take, map, take}
+use Rattle.std.proofs.Common.{◌≡◌, ◌<◌, ◌≤◌, ◌++◌, ap, sym, subst, arith, All, ℕ, List, length, length-take, map, take}
 use Rattle.std.proofs.lemmas.Result.{IfOk-weaker}
 use Rattle.std.specs.List.Sorted.{IsSortedBy}
 use Rattle.par_model.specs.Plan.{Plan}
@@ -14,20 +14,19 @@ use Rattle.result_text.proofs.Sorting.{all_refs}
 use Rattle.result_text.proofs.Whole.{written_text}
 use Rattle.result_text.proofs.text_of.Goals as goal
 
-pub write_groups-requires-clause-small : goal.write_groups-requires-clause-small
-write_groups-requires-clause-small c =
-    subst (λ (refs : List GroupRef). All (λ (r : GroupRef). All IsSmallSlot r.state.now.slots) refs) (sym c.deref.ensures.value)
-    (all_refs (λ (group : Group). All IsSmallSlot group.state.slots) c.args.groups.now c.in_ok-groups.groups.items c.in_ok-groups.ensures.same c.requires.printable.slots)
+pub write_groups-requires-clause-within : goal.write_groups-requires-clause-within
+write_groups-requires-clause-within c =
+    subst (λ (refs : List GroupRef). All (λ (r : GroupRef). r.at < length c.args.groups.now) refs) (sym c.deref.ensures.value) c.in_ok-refs.ensures.within
 
 pub returns-clause-text : goal.returns-clause-text
 returns-clause-text c =
     let plan = c.args.bound.now in
-    let refs = c.in_ok-groups.groups.items in
+    let refs = c.in_ok-refs.refs.items in
     let view : length plan.groups ≡ length (take c.bound.inside.group_count c.bound.inside.groups) = ap (λ (p : Plan). length p.groups) (sym c.bound.view_is) in
     let count : c.bound.inside.group_count ≡ length plan.groups = omega (arith, view, length-take c.bound.inside.group_count c.bound.inside.groups, c.bound.told, c.bound.invariant.groups_fit) in
-    let wrote = subst (λ (rs : List GroupRef). written c.write_groups.new.self.writer ≡ written c.write_header.new.self.writer ++ table_text (map (line_record plan) (shown plan (map (line_of (length plan.groups)) rs)))) c.deref.ensures.value c.in_ok-write_groups.ensures.text in
-    let sorted = subst (λ (n : ℕ). IsSortedBy (is_before n) refs) count c.in_ok-groups.ensures.sorted in
-    IfOk-weaker c.into_text.result _ _ (λ text is. written_text c.args.plan.now.plan plan c.args.groups.now refs _ _ _ text.items c.requires.printable c.in_ok-groups.ensures.short c.in_ok-groups.ensures.same sorted
+    let wrote = subst (λ (rs : List GroupRef). written c.write_groups.new.self.writer ≡ written c.write_header.new.self.writer ++ table_text (map (line_record plan) (shown plan (map (line_of (length plan.groups) c.args.groups.now) rs)))) c.deref.ensures.value c.in_ok-write_groups.ensures.text in
+    let sorted = subst (λ (n : ℕ). IsSortedBy (is_before n) refs) count c.in_ok-refs.ensures.sorted in
+    IfOk-weaker c.into_text.result _ _ (λ text is. written_text c.args.plan.now.plan plan c.args.groups.now refs _ _ _ text.items c.requires.printable c.in_ok-refs.ensures.short c.in_ok-refs.ensures.same sorted
     c.new-table.ensures.empty c.in_ok-write_header.ensures.text wrote is) c.into_text.ensures
 
 pub returns-clause-answer : goal.returns-clause-answer
@@ -35,4 +34,4 @@ returns-clause-answer c =
     let plan = c.args.bound.now in
     let view : length plan.items ≡ length (take c.bound.inside.item_count c.bound.inside.items) = ap (λ (p : Plan). length p.items) (sym c.bound.view_is) in
     let few : length plan.items ≤ 8 = omega (arith, view, length-take c.bound.inside.item_count c.bound.inside.items, c.bound.invariant.items_fit) in
-    IfOk-weaker c.into_text.result _ _ (λ text is header rows m bound are listed. answers c.args.plan.now.plan plan c.args.groups.now text.items header rows m is c.in_ok-groups.ensures.short few bound are listed) (returns-clause-text c)
+    IfOk-weaker c.into_text.result _ _ (λ text is header rows m bound are listed. answers c.args.plan.now.plan plan c.args.groups.now text.items header rows m is c.in_ok-refs.ensures.short few bound are listed) (returns-clause-text c)

@@ -1,9 +1,10 @@
-use Rattle.std.proofs.Common.{◌≡◌, ◌≤◌, All, length, map, take}
+use Rattle.std.proofs.Common.{◌≡◌, ◌<◌, ◌≤◌, All, length, map, take}
 use Rattle.result_text.specs.Order.{group_of}
 use Rattle.result_text.proofs.order.as_they_are.Given as goal
 
 abbrev pub invariant-loop-at : goal.invariant-loop-at
 invariant-loop-at l = record {
-  same : map group_of l.refs.items ≡ take l.at l.groups;
+  same : map (group_of l.groups) l.refs.items ≡ take l.at l.groups;
+  within : All (λ ref. ref.at < length l.groups) l.refs.items;
   short : All (λ group. length group.key ≤ 248) (take l.at l.groups);
 }

@@ -1,9 +1,5 @@
-use Rattle.std.proofs.Common.{◌≡◌, ◌∙◌, Some, ap, sym}
-use Rattle.partial_agg.specs.Listed.{group}
+use Rattle.partial_agg.proofs.Placed.{group_of_parts}
 use Rattle.partial_agg.proofs.groups.Groups.get.Goals as goal
 
 pub returns : goal.returns
-returns c =
-    let state = c.lent.result.1.now in
-    let same : record { key = c.copy_of.result; state = state } ≡ group (c.lent.result.0.now, state) = λ i. record { key = c.copy_of.ensures i; state = state } in
-    c.lent.ensures.group ∙ ap Some (sym same)
+returns c = group_of_parts c.args.self.now c.args.at c.copy_of.result c.key.result.now c.state.result c.copy_of.ensures c.key.ensures.key c.state.ensures

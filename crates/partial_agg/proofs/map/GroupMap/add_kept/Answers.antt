@@ -13,7 +13,7 @@ use Rattle.std.proofs.lemmas.Option.{slice_get_within}
 use Rattle.par_model.specs.declared.state.AggState.{AggState}
 use Rattle.partial_agg.specs.Placed.{places_of}
 use Rattle.partial_agg.proofs.Grouped.{are_places, place_whole}
-use Rattle.partial_agg.proofs.Placed.{state_changed}
+use Rattle.partial_agg.proofs.Placed.{state_combined}
 use Rattle.partial_agg.proofs.map.GroupMap.add_kept.Goals as goal
 
 -- to add the values that were read under the key that was read is to add the row
@@ -25,22 +25,22 @@ row_added plan width row key items values groups kept same read readable =
     ∙ ap (added groups (key_of plan row)) (sym (state_of_one plan row (ap (λ (items : List Item). position_from (is_unreadable row) 0 items) (sym same) ∙ readable)))
     ∙ sym (with_rows-kept plan groups row kept.kept)
 
-pub index_mut-requires : goal.index_mut-requires
-index_mut-requires c =
+pub add_values-requires-clause-place : goal.add_values-requires-clause-place
+add_values-requires-clause-place c =
     let there = slice_get_within c.self.inside.keys c.in-Some.place c.bytes.result.now c.in-Some.ensures.found in
     let counted = c.self.invariant.counted in
     omega (arith, there, counted)
 
-pub returns-then-self-clause-added : goal.returns-then-self-clause-added
-returns-then-self-clause-added c =
+pub returns-in-Ok-add_values-clause-added : goal.returns-in-Ok-add_values-clause-added
+returns-in-Ok-add_values-clause-added c =
     let keys = c.self.inside.keys in
     let left = reverse c.self.inside.left.items in
-    let count = length c.self.inside.states.items in
-    state_changed c.args.self.now (places_of keys left) c.self.inside.states.items c.args.buffer.now.key c.in-Some.place c.index_mut.result.now c.add_values.new.state
+    let count = length c.self.inside.states in
+    state_combined c.args.self.now (places_of keys left) c.self.inside.states c.add_values.new.self c.args.buffer.now.key c.in-Some.place
     (values_state (take (length c.items-items.result.now) c.read_values.new.values))
     c.self.view_is (are_places keys count left c.self.inside.whole c.self.inside.sorted c.self.invariant)
     (place_whole keys count left c.self.inside.whole c.self.inside.sorted c.args.buffer.now.key c.in-Some.place c.self.invariant c.if-self.true (c.in-Some.ensures.found ∙ ap Some c.bytes.ensures.bytes))
-    c.index_mut.ensures.value c.add_values.ensures
+    c.in-Ok-add_values.ensures.ok
     ∙ row_added c.args.plan.now c.args.width c.args.row.now c.args.buffer.now.key c.items-items.result.now c.read_values.new.values c.args.self.now
     c.requires.kept c.items-items.ensures.items c.in-Ok.ensures.values c.in-Ok.ensures.readable
 

@@ -7,7 +7,7 @@ use Rattle.partial_agg.proofs.map.GroupMap.into_groups.Goals as goal
 pub of_parts-requires : goal.of_parts-requires
 of_parts-requires c =
     let keys = c.self.inside.keys in
-    let count = length c.self.inside.states.items in
+    let count = length c.self.inside.states in
     let old = c.self.inside.left.items in
     let new = c.put_in_order.new.left.items in
     let whole = c.self.inside.whole in
@@ -17,7 +17,7 @@ of_parts-requires c =
 pub returns : goal.returns
 returns c =
     let keys = c.self.inside.keys in
-    let states = c.self.inside.states.items in
+    let states = c.self.inside.states in
     c.of_parts.ensures
     ∙ ap (listed_at keys states) c.reverse.ensures.items
     ∙ listed_in_order c.args.self keys states c.self.inside.left.items c.put_in_order.new.left.items c.self.inside.whole c.self.inside.sorted c.self.view_is c.self.invariant

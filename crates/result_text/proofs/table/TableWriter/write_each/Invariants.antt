@@ -9,5 +9,5 @@ use Rattle.result_text.proofs.table.TableWriter.write_each.Given as goal
 abbrev pub invariant-loop-group : goal.invariant-loop-group
 invariant-loop-group l = record {
   between : IsBetween l.self.writer;
-  text : written l.self.writer ≡ written l.fn.self.writer ++ table_text (map (line_record l.bound) (map (line_of (length l.bound.groups)) (take l.group-index l.groups)));
+  text : written l.self.writer ≡ written l.fn.self.writer ++ table_text (map (line_record l.bound) (map (line_of (length l.bound.groups) l.groups) (take l.group-index l.refs)));
 }

@@ -1,0 +1,166 @@
+#!/usr/bin/env python3
+"""Times calls of the shared objects by several threads beside the same loads in plain Rust, each kind on its own.
+
+usage: objects.py [--kinds lock,area,window,queue,puts,gets] [--times 5] [--calls PERCENT] [--save FILE.json]
+
+The loads, their peers and what the columns mean are in docs/PERFORMANCE.md, "The shared objects by themselves". `--calls 1`
+makes a hundredth of the calls, which shows that all runs and measures nothing. The program is
+crates/object_load/out/object_load, or the path in OBJECT_LOAD; the peers (objects.rs, by rustc) lie in BENCH_DIR, or
+/tmp/lembokuj-bench.
+"""
+import argparse
+import json
+import os
+import shutil
+import subprocess
+import sys
+import time
+from dataclasses import dataclass
+
+HERE = os.path.dirname(os.path.abspath(__file__))
+FOLDER = os.environ.get("BENCH_DIR", "/tmp/lembokuj-bench")
+OURS = os.environ.get("OBJECT_LOAD", os.path.normpath(f"{HERE}/../crates/object_load/out/object_load"))
+PEERS = f"{FOLDER}/objects"
+JEMALLOC = "/usr/lib/x86_64-linux-gnu/libjemalloc.so.2"
+SEVERAL = [1, 2, 4]
+
+
+@dataclass
+class Load:
+    """Many calls and few of a thread; what both runs do besides the calls is the same."""
+    kind: str
+    threads: int
+    many: int
+    few: int
+    size: int
+
+    @property
+    def name(self):
+        unit = "" if self.kind == "lock" else f", {self.size:,} {'keys' if self.kind in ('puts', 'gets') else 'bytes'}"
+        return f"{self.kind}{unit}, {self.threads} thread{'s' if self.threads > 1 else ''}"
+
+    @property
+    def calls(self):
+        """The calls by which the two runs differ, of all threads; a message is one call of two threads."""
+        return (self.many - self.few) * (1 if self.kind == "queue" else self.threads)
+
+
+@dataclass
+class Program:
+    name: str
+    words: list
+    preload: str = ""
+
+
+KINDS = ["lock", "area", "window", "queue", "puts", "gets"]
+
+
+def loads(kinds, percent):
+    listed = [Load("lock", threads, 4_000_000 // threads, 1, 8) for threads in SEVERAL + [8, 64]]
+    listed += [Load(kind, threads, 2_000_000 // threads, 1, size) for kind in ("area", "window") for size in (24, 600) for threads in SEVERAL]
+    listed += [Load("queue", 2, 2_000_000 if size == 8 else 300_000, 1, size) for size in (8, 1000)]
+    listed += [Load("puts", threads, 1_000_000 // threads, 1, size) for size in (1_000, 1_000_000) for threads in SEVERAL]
+    listed += [Load("gets", threads, 1_000_000 // threads, 1, size) for size in (1_000, 1_000_000) for threads in SEVERAL]
+    for load in listed:
+        load.many = max(load.many * percent // 100, 2)
+    return [load for load in listed if load.kind in kinds]
+
+
+def programs(kind):
+    allocators = [("system's allocator", "system", "")] + ([("jemalloc", "system", JEMALLOC)] if os.path.exists(JEMALLOC) else [])
+    maps = [("HashMap, 1 mutex", "one", ""), ("HashMap, 128 mutexes", "many", "")]
+    peers = {
+        "lock": [("Mutex", "mutex", "")],
+        "area": allocators,
+        "window": allocators,
+        "queue": [("sync_channel", "channel", ""), ("plain ring", "ring", "")],
+        "puts": maps,
+        "gets": maps,
+    }[kind]
+    return [Program("ours", [OURS])] + [Program(name, [PEERS, form], preload) for name, form, preload in peers]
+
+
+def one_run(program, load, calls):
+    """Wall and processor time of a run, and the line that it prints."""
+    words = program.words + [load.kind, str(load.threads), str(calls), str(load.size)]
+    environment = {**os.environ, "LD_PRELOAD": program.preload} if program.preload else None
+    start = time.perf_counter()
+    child = subprocess.Popen(words, stdout=subprocess.PIPE, text=True, env=environment)
+    line = child.stdout.read()
+    _, status, used = os.wait4(child.pid, 0)
+    wall = time.perf_counter() - start
+    child.returncode = os.waitstatus_to_exitcode(status)
+    if child.returncode:
+        sys.exit(f"{' '.join(words)} ended with {child.returncode}")
+    return wall, used.ru_utime + used.ru_stime, line
+
+
+def measured(load, times):
+    """Of each program the least wall and processor nanoseconds a call, and what the line says where it is another's."""
+    listed, found, lines = programs(load.kind), {}, {}
+    for _ in range(times):
+        for program in listed:
+            for calls in (load.few, load.many):
+                wall, used, line = one_run(program, load, calls)
+                found.setdefault((program.name, calls), []).append((wall, used))
+                lines.setdefault(calls, {}).setdefault(line, []).append(program.name)
+    for told in lines.values():
+        if len(told) > 1:
+            sys.exit(f"{load.name}: the programs do not agree: {told}")
+
+    def each(name, part):
+        least = [min(run[part] for run in found[name, calls]) for calls in (load.many, load.few)]
+        return max(least[0] - least[1], 0) / load.calls * 1e9
+
+    return {program.name: {"ns": each(program.name, 0), "processor": each(program.name, 1)} for program in listed}
+
+
+def show(load, results):
+    print(load.name)
+    for name, each in results.items():
+        columns = []
+        for part in ("ns", "processor"):
+            ours = results["ours"][part]
+            ratio = f"{ours / each[part]:.2f}" if name != "ours" and ours and each[part] else ""
+            columns.append(f"{each[part]:9.1f} {part} {ratio:>6}")
+        print(f"    {name:22}{'   '.join(columns)}", flush=True)
+
+
+def build_peers():
+    """Builds objects.rs, or says what is missing for it."""
+    if not shutil.which("rustc"):
+        sys.exit("no rustc on the path: it builds the peers (bench/objects.rs); Debian has it in the package rustc")
+    os.makedirs(FOLDER, exist_ok=True)
+    if subprocess.run(["rustc", "--edition", "2021", "-O", "-o", PEERS, f"{HERE}/objects.rs"]).returncode:
+        sys.exit(f"rustc did not build {HERE}/objects.rs")
+
+
+def main():
+    words = argparse.ArgumentParser(usage=__doc__.split("usage: ")[1].split("\n")[0])
+    words.add_argument("--kinds", default=",".join(KINDS))
+    words.add_argument("--times", type=int, default=5)
+    words.add_argument("--calls", type=int, default=100)
+    words.add_argument("--save")
+    asked = words.parse_args()
+    kinds = asked.kinds.split(",")
+    unknown = [kind for kind in kinds if kind not in KINDS]
+    if unknown or asked.times < 1 or asked.calls < 1:
+        words.error(f"no such kind: {', '.join(unknown)}" if unknown else "--times and --calls are at least 1")
+    if not os.access(OURS, os.X_OK):
+        sys.exit(f"no program at {OURS}: `rt run` in crates/object_load or .ci/run builds it; OBJECT_LOAD names another place")
+    build_peers()
+    print(f"{os.cpu_count()} processors, load {os.getloadavg()[0]:.1f}, {asked.times} runs each, {asked.calls} % of the calls")
+    if not os.path.exists(JEMALLOC):
+        print(f"without jemalloc: {JEMALLOC} is not there (Debian's libjemalloc2)")
+    saved = {}
+    for load in loads(kinds, asked.calls):
+        saved[load.name] = measured(load, asked.times)
+        show(load, saved[load.name])
+    print(f"load at the end {os.getloadavg()[0]:.1f}")
+    if asked.save:
+        with open(asked.save, "w", encoding="utf-8") as file:
+            json.dump(saved, file, indent=1)
+
+
+if __name__ == "__main__":
+    main()

@@ -1,0 +1,14 @@
+pub mod Entered
+pub mod Covering
+pub mod Covers
+pub mod Flattened
+pub mod Homes
+pub mod Gathers
+pub mod Entries
+pub mod Listing
+pub mod Meets
+pub mod Parts
+pub mod Putting
+pub mod Rounds
+pub mod Seen
+pub mod Traced

@@ -1,0 +1,150 @@
+-- The participants with their tokens, from the beginning of a round to its end.
+use Rattle.std.proofs.Common.{◌≡◌, ◌<◌, ◌≤◌, ◌+◌, ◌++◌, ℕ, zero, suc, false, List, [], ◌∷◌, All, get_or, length, map, set, refl, ap, sym, subst, ◌∙◌, arith}
+use mathlib.Core.Option.{some, some-injective}
+use lib.ListN.{get_elem?}
+use Rattle.std.specs.List.{AllByRecursion, zip}
+use Rattle.std.proofs.lemmas.List.Elements.{All-cons, All-from_get_or, All-from_recursion, All-head, All-nil, All-tail, recursion_from_All}
+use Rattle.std.proofs.lemmas.Slice.Zip.{firsts-zip, length-zip, seconds-zip}
+use Rattle.lock_book.specs.Shown.{mine_of, number_of}
+use Rattle.dsa_area.specs.Shown as area
+use Rattle.dsa_area.specs.declared.area.Area.{Area}
+use Rattle.dsa_area.specs.declared.area.AreaPass.{AreaPass}
+use Rattle.dshash_parts.specs.Tables as table
+use Rattle.scan_claim.specs.Shown as claim
+use Rattle.scan_claim.specs.declared.claims.ClaimSeat.{ClaimSeat}
+use Rattle.scan_claim.specs.declared.claims.Claims.{Claims}
+use Rattle.gather_law.specs.Tuples.{Table}
+use Rattle.hash_join.specs.Home.{AreFilled, AreFillers, AreNew, Became}
+use Rattle.hash_join.specs.Stores.{HasFilled, Holds, IsNew}
+use Rattle.hash_join.specs.declared.filling.Filler.{Filler}
+use Rattle.hash_join.specs.declared.store.Store.{Store}
+use Rattle.hash_join.proofs.Entered.{length-map}
+use Rattle.hash_join.proofs.Flattened.{place_low, some_at}
+use Rattle.hash_join.proofs.Homes.{get_map, here_at, map_get}
+
+-- ---- lists by their places
+
+-- what holds at each place holds of each element
+pub all_from_each : {X : Type 0} (P : X → Type 0) (xs : List X) → ((k : ℕ) (x : X) → get_elem? xs k ≡ some x → P x) → All P xs
+all_from_each P xs h = All-from_recursion P xs (by xs h)
+  where
+    by : (ys : List _) → ((k : ℕ) (x : _) → get_elem? ys k ≡ some x → P x) → AllByRecursion P ys
+    by [] f = tt
+    by (y ∷ ys) f = (f 0 y refl, by ys (λ k x e. f (suc k) x e))
+
+get_or_at : {X : Type 0} (xs : List X) (k : ℕ) (d x : X) → get_elem? xs k ≡ some x → get_or xs k d ≡ x
+get_or_at [] k d x e = absurd (cc)
+get_or_at (y ∷ ys) zero d x e = some-injective y x e
+get_or_at (y ∷ ys) (suc k) d x e = get_or_at ys k d x e
+
+-- ---- the passes of an area, of which the first was used
+
+pub areas_kept : (a : Area) (ps : List AreaPass) (p : AreaPass) → area.AreAll a ps → area.Belongs a p → area.number_of p ≡ 0 → area.AreAll a (set ps 0 p)
+areas_kept a [] p all own first = all
+areas_kept a (q ∷ qs) p all own first = record { count = all.count; each = each; numbers = numbers }
+  where
+    each : (k : ℕ) (x : AreaPass) → get_elem? (p ∷ qs) k ≡ some x → area.Belongs a x
+    each zero x e = subst (area.Belongs a) (some-injective p x e) own
+    each (suc k) x e = all.each (suc k) x e
+
+    numbers : (k : ℕ) (x : AreaPass) → get_elem? (p ∷ qs) k ≡ some x → area.number_of x ≡ k
+    numbers zero x e = ap area.number_of (sym (some-injective p x e)) ∙ first
+    numbers (suc k) x e = all.numbers (suc k) x e
+
+pub first_pass : (a : Area) (ps : List AreaPass) (p : AreaPass) → area.AreAll a ps → 1 ≤ area.callers_of a → p ≡ get_or ps 0 p → area.Belongs a p × (area.number_of p ≡ 0)
+first_pass a [] p all low is = absurd (let none : 0 ≡ area.callers_of a = all.count in omega (arith, none, low))
+first_pass a (q ∷ qs) p all low is = subst (λ (z : AreaPass). area.Belongs a z × (area.number_of z ≡ 0)) (sym is) (all.each 0 q refl, all.numbers 0 q refl)
+
+-- ---- tokens that were put together
+
+module _ {X Y Z F : Type 0} (area_of : F → X) (table_of : F → Y) (claim_of : F → Z) (fs : List F) (xs : List X) (ys : List Y) (zs : List Z) (tokens : map (λ f. ((area_of f, table_of f), claim_of f)) fs ≡ zip (zip xs ys) zs) (second : length ys ≡ length xs) (third : length zs ≡ length xs) where
+  firsts : map (λ (t : (X × Y) × Z). t.0) (zip (zip xs ys) zs) ≡ zip xs ys
+  firsts = firsts-zip (zip xs ys) zs (let l = length-zip xs ys in omega (arith, second, third, l))
+
+  same_map : {A B : Type 0} (g : A → B) (h : F → A) (gs : List F) → map g (map h gs) ≡ map (λ f. g (h f)) gs
+  same_map g h [] = refl
+  same_map {A} {B} g h (f ∷ gs) = ap (λ (l : List B). g (h f) ∷ l) (same_map g h gs)
+
+  pub token_areas : map area_of fs ≡ xs
+  token_areas =
+      sym (same_map (λ (t : (X × Y) × Z). t.0.0) (λ f. ((area_of f, table_of f), claim_of f)) fs)
+      ∙ (ap (map (λ (t : (X × Y) × Z). t.0.0)) tokens ∙ (sym (twice (zip (zip xs ys) zs)) ∙ (ap (map (λ (t : X × Y). t.0)) firsts ∙ firsts-zip xs ys second)))
+    where
+      twice : (ts : List ((X × Y) × Z)) → map (λ (t : X × Y). t.0) (map (λ (t : (X × Y) × Z). t.0) ts) ≡ map (λ (t : (X × Y) × Z). t.0.0) ts
+      twice [] = refl
+      twice (t ∷ ts) = ap (λ (l : List X). t.0.0 ∷ l) (twice ts)
+
+  pub token_tables : map table_of fs ≡ ys
+  token_tables =
+      sym (same_map (λ (t : (X × Y) × Z). t.0.1) (λ f. ((area_of f, table_of f), claim_of f)) fs)
+      ∙ (ap (map (λ (t : (X × Y) × Z). t.0.1)) tokens ∙ (sym (twice (zip (zip xs ys) zs)) ∙ (ap (map (λ (t : X × Y). t.1)) firsts ∙ seconds-zip xs ys second)))
+    where
+      twice : (ts : List ((X × Y) × Z)) → map (λ (t : X × Y). t.1) (map (λ (t : (X × Y) × Z). t.0) ts) ≡ map (λ (t : (X × Y) × Z). t.0.1) ts
+      twice [] = refl
+      twice (t ∷ ts) = ap (λ (l : List Y). t.0.1 ∷ l) (twice ts)
+
+  pub token_claims : map claim_of fs ≡ zs
+  token_claims =
+      sym (same_map (λ (t : (X × Y) × Z). t.1) (λ f. ((area_of f, table_of f), claim_of f)) fs)
+      ∙ (ap (map (λ (t : (X × Y) × Z). t.1)) tokens ∙ seconds-zip (zip xs ys) zs (let l = length-zip xs ys in omega (arith, second, third, l)))
+
+-- ---- participants
+
+module _ (s : Store) (c : Claims) (fs : List Filler) (all : AreFillers s c fs) where
+  holds_at : (n : ℕ) (f : Filler) → get_elem? fs n ≡ some f → Holds s f × claim.Belongs c f.claim
+  holds_at n f e = (
+    record { area = all.areas.each n f.area (map_get (λ (g : Filler). g.area) fs n f e); table = all.tables.each n f.table (map_get (λ (g : Filler). g.table) fs n f e) },
+    (all.claims.1 n f.claim (map_get (λ (g : Filler). g.claim) fs n f e)).0,
+  )
+
+  pub are_new : ((n : ℕ) (f : Filler) → get_elem? fs n ≡ some f → (number : ℕ) → mine_of f.table number ≡ []) → ((n : ℕ) (f : Filler) → get_elem? fs n ≡ some f → claim.draws_of f.claim ≡ [])
+      → All (λ (f : Filler). (f.links.items ≡ []) × (f.spilled.items ≡ [])) fs → AreNew s c fs
+  are_new calls draws lists =
+      all_from_each (λ (f : Filler). Holds s f × claim.Belongs c f.claim × IsNew f) fs
+      (λ n f e.
+      let h = holds_at n f e in
+      let l = here_at (λ (f : Filler). (f.links.items ≡ []) × (f.spilled.items ≡ [])) fs n f e (recursion_from_All (λ (f : Filler). (f.links.items ≡ []) × (f.spilled.items ≡ [])) fs lists) in
+      (h.0, h.1, record { calls = calls n f e; draws = draws n f e; links = l.0; spilled = l.1 }))
+
+  module _ (records : Table) (column : ℕ) (gs : List Filler) (filled : AreFilled records column s c fs gs) where
+    -- what stood at a place became what stands there
+    became_at : (n : ℕ) (g : Filler) → get_elem? gs n ≡ some g → (f : Filler) × (get_elem? fs n ≡ some f) × Became records column s c f g
+    became_at n g e =
+        let low = place_low gs n g e in
+        let f = some_at fs n (omega (arith, low, filled.count)) in
+        let b = filled.each n g (omega (arith, low, filled.count)) in
+        (f.0, f.1, subst (λ (x : Filler). Became records column s c x g) (get_or_at fs n g f.0 f.1) (subst (Became records column s c (get_or fs n g)) (get_or_at gs n g g e) b))
+
+    pub still_all : AreFillers s c gs
+    still_all = record {
+      areas = record {
+        count = length-map (λ (f : Filler). f.area) gs ∙ (filled.count ∙ (sym (length-map (λ (f : Filler). f.area) fs) ∙ all.areas.count));
+        each = λ k p e. let g = get_map (λ (f : Filler). f.area) gs k p e in let b = became_at k g.0 g.1 in subst (area.Belongs s.area) g.2 b.2.own.area;
+        numbers = λ k p e.
+            let g = get_map (λ (f : Filler). f.area) gs k p e in
+            let b = became_at k g.0 g.1 in
+            ap area.number_of (sym g.2) ∙ (b.2.same.area ∙ all.areas.numbers k b.0.area (map_get (λ (f : Filler). f.area) fs k b.0 b.1));
+      };
+      tables = record {
+        count = length-map (λ (f : Filler). f.table) gs ∙ (filled.count ∙ (sym (length-map (λ (f : Filler). f.table) fs) ∙ all.tables.count));
+        each = λ k p e. let g = get_map (λ (f : Filler). f.table) gs k p e in let b = became_at k g.0 g.1 in subst (λ q. table.Belongs s.table q) g.2 b.2.own.table;
+        numbers = λ k p e.
+            let g = get_map (λ (f : Filler). f.table) gs k p e in
+            let b = became_at k g.0 g.1 in
+            ap (λ q. number_of q) (sym g.2) ∙ (b.2.same.table ∙ all.tables.numbers k b.0.table (map_get (λ (f : Filler). f.table) fs k b.0 b.1));
+      };
+      claims = (
+        length-map (λ (f : Filler). f.claim) gs ∙ (filled.count ∙ (sym (length-map (λ (f : Filler). f.claim) fs) ∙ all.claims.0)),
+        λ k p e.
+            let g = get_map (λ (f : Filler). f.claim) gs k p e in
+            let b = became_at k g.0 g.1 in (
+              subst (claim.Belongs c) g.2 b.2.seat,
+              ap claim.number_of (sym g.2) ∙ (b.2.same.claim ∙ (all.claims.1 k b.0.claim (map_get (λ (f : Filler). f.claim) fs k b.0 b.1)).1),
+            ),
+      );
+    }
+
+    pub all_filled : All (λ (f : Filler). f.lacks_memory ≡ false) gs → All (HasFilled records column c) gs
+    all_filled whole =
+        all_from_each (HasFilled records column c) gs
+        (λ n g e. (became_at n g e).2.filled (here_at (λ (f : Filler). f.lacks_memory ≡ false) gs n g e (recursion_from_All (λ (f : Filler). f.lacks_memory ≡ false) gs whole)))

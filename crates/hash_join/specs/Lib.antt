@@ -1,0 +1,6 @@
+pub mod Answers
+pub mod Filled
+pub mod Home
+pub mod Listed
+pub mod Stores
+pub mod Used

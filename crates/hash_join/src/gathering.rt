@@ -1,0 +1,298 @@
+//! The first round: the participants put the left rows into the shared table, and the leader makes the chains of it.
+
+ghost use Rattle.std.specs.Prelude.{◌≡◌, ◌<◌, ◌≤◌, ℕ, List, All, IfOk, OnOk, [], false, length, map};
+ghost use Rattle.std.specs.List.{AllZip, zip};
+ghost use Rattle.lock_book.specs.Shown.{mine_of, number_of};
+ghost use Rattle.dshash_core.specs.Listing.{pairs_of as entries_of};
+ghost use Rattle.dshash_parts.specs.Ending.{whole_of};
+ghost use Rattle.dshash_parts.specs.Tables.{AreAll, Belongs};
+ghost use Rattle.scan_claim.specs.Shown.{blocks_of};
+ghost use Rattle.gather_law.specs.Tuples.{AreBlocks};
+ghost use Rattle.rel_pointer.specs.Bytes.{AllBytes};
+ghost use Rattle.csv_rows.specs.Records.{field_of};
+ghost use Rattle.join_pairs.specs.Gathered.{ChainsAll};
+ghost use Rattle.join_pairs.specs.Join.{AllAccepted, IsRow, width_of};
+ghost use Rattle.hash_join.specs.Home.{AreFilled, AreFillers, AreNew, HasMet, IsClosed, IsHome};
+ghost use Rattle.hash_join.specs.Stores.{IsNew, IsStore};
+ghost use Rattle.hash_join.specs.Used.{IsShared};
+
+use crate::filling::{Filler, fill};
+use crate::store::{Passes, Store, open_store};
+use csv_rows::RowStore;
+use dsa_area::AreaPass;
+use dshash_core::Entry;
+use dshash_parts::{ClosedTable, DsPass};
+use dshash_scan::list_all;
+use join_pairs::{Chains, LastRow, Link, chain_all, count_blocks};
+use scan_claim::{ClaimSeat, Claims, Drawn};
+use std::alloc::{AllocError, Global};
+use std::sync::Wait;
+use std::thread::{Threads, for_each_mut};
+
+/// What the first round comes to.
+#[derive(Drop)]
+pub(crate) struct Gathered {
+    pub(crate) chains: Chains,
+    pub(crate) drawn: Drawn,
+    pub(crate) table: ClosedTable<LastRow>,
+    pub(crate) areas: Vec<AreaPass>,
+}
+
+/// A round that has not begun.
+#[derive(Drop)]
+struct Round {
+    store: Store,
+    claims: Claims,
+    fillers: Vec<Filler>,
+}
+
+/// What the participants brought home, in order of their numbers.
+#[derive(Drop)]
+pub(crate) struct Home {
+    pub(crate) areas: Vec<AreaPass>,
+    pub(crate) tables: Vec<DsPass<LastRow>>,
+    pub(crate) claims: Vec<ClaimSeat>,
+    pub(crate) links: Vec<Vec<Link>>,
+    pub(crate) spilled: Vec<Vec<u64>>,
+}
+
+/// A table that was closed, and the last row of each key in it.
+#[derive(Drop)]
+struct Listed {
+    table: ClosedTable<LastRow>,
+    entries: Vec<Entry<LastRow>>,
+}
+
+/// The tokens of each participant together.
+fn pair_up(
+    alloc: Global,
+    passes: Passes,
+    seats: Vec<ClaimSeat>,
+) -> Result<Vec<((AreaPass, DsPass<LastRow>), ClaimSeat)>, AllocError>
+    ensures { IfOk result (λ v. v.items ≡ zip (zip passes.areas.items passes.tables.items) seats.items) }
+{
+    let Passes { areas, tables } = passes;
+    areas.into_iter().zip(tables).zip(seats).collect(alloc)
+}
+
+/// Participants with these tokens, which have done nothing yet.
+fn begin(
+    alloc: Global,
+    tokens: Vec<((AreaPass, DsPass<LastRow>), ClaimSeat)>,
+) -> Result<Vec<Filler>, AllocError>
+    ensures tokens { IfOk result (λ v. map (λ (f : Filler). ((f.area, f.table), f.claim)) v.items ≡ tokens.items) }
+    ensures new { IfOk result (λ v. All (λ (f : Filler). (f.links.items ≡ []) × (f.spilled.items ≡ [])) v.items) }
+{
+    let mut fillers = Vec::with_capacity(alloc, tokens.len())?;
+    for ((area, table), claim) in tokens {
+        fillers.push(Filler {
+            area,
+            table,
+            claim,
+            links: Vec::new(alloc),
+            spilled: Vec::new(alloc),
+            lacks_memory: false,
+        })?;
+    }
+    Ok(fillers)
+}
+
+/// The participants, each with its tokens.
+fn fillers(alloc: Global, passes: Passes, seats: Vec<ClaimSeat>) -> Result<Vec<Filler>, AllocError>
+    requires tables { length passes.tables.items ≡ length passes.areas.items }
+    requires seats { length seats.items ≡ length passes.areas.items }
+    ensures areas { IfOk result (λ v. map (λ (f : Filler). f.area) v.items ≡ passes.areas.items) }
+    ensures tables { IfOk result (λ v. map (λ (f : Filler). f.table) v.items ≡ passes.tables.items) }
+    ensures seats { IfOk result (λ v. map (λ (f : Filler). f.claim) v.items ≡ seats.items) }
+    ensures new { IfOk result (λ v. All (λ (f : Filler). (f.links.items ≡ []) × (f.spilled.items ≡ [])) v.items) }
+{
+    let tokens = pair_up(alloc, passes, seats)?;
+    let fillers = begin(alloc, tokens)?;
+    Ok(fillers)
+}
+
+/// A table for so many participants, and each with its tokens.
+fn open_round<R: Wait>(
+    rt: &R,
+    alloc: Global,
+    rows: &RowStore,
+    callers: u32,
+) -> Result<Round, AllocError>
+    requires callers { 1 ≤ callers }
+    ensures store { IfOk result (λ r. IsStore r.store) }
+    ensures blocks { IfOk result (λ r. AreBlocks rows.now (blocks_of r.claims)) }
+    ensures all { IfOk result (λ r. AreFillers r.store r.claims r.fillers.items) }
+    ensures count { IfOk result (λ r. length r.fillers.items ≡ callers) }
+    ensures new { IfOk result (λ r. AreNew r.store r.claims r.fillers.items) }
+{
+    let (store, passes) = open_store(rt, alloc, callers)?;
+    let (claims, seats) = Claims::new(alloc, count_blocks(rows), callers)?;
+    let fillers = fillers(alloc, passes, seats)?;
+    Ok(Round {
+        store,
+        claims,
+        fillers,
+    })
+}
+
+/// All participants put in the rows of the blocks that they draw.
+fn fill_all<R: Threads + Wait + Sync>(
+    rt: &R,
+    store: &Store,
+    rows: &RowStore,
+    column: u32,
+    claims: &Claims,
+    fillers: &mut Vec<Filler>,
+)
+    requires store { IsStore store.now }
+    requires blocks { AreBlocks rows.now (blocks_of claims.now) }
+    requires accepted { AllAccepted rows.now column }
+    requires column { column < width_of rows.now }
+    requires new { AreNew store.now claims.now fillers.old.items }
+    ensures filled { AreFilled rows.now column store.now claims.now fillers.old.items fillers.new.items }
+{
+    let threads = fillers.len().max(1);
+    for_each_mut(
+        rt,
+        fillers.as_mut_slice(),
+        threads,
+        &|_, filler| { fill(rt, store, rows, column, claims, filler) },
+    );
+}
+
+/// Takes the participants' tokens and lists apart. None may lack memory.
+fn bring_home(alloc: Global, fillers: Vec<Filler>) -> Result<Home, AllocError>
+    ensures areas { IfOk result (λ h. h.areas.items ≡ map (λ (f : Filler). f.area) fillers.items) }
+    ensures tables { IfOk result (λ h. h.tables.items ≡ map (λ (f : Filler). f.table) fillers.items) }
+    ensures claims { IfOk result (λ h. h.claims.items ≡ map (λ (f : Filler). f.claim) fillers.items) }
+    ensures links { IfOk result (λ h. h.links.items ≡ map (λ (f : Filler). f.links) fillers.items) }
+    ensures spilled { IfOk result (λ h. h.spilled.items ≡ map (λ (f : Filler). f.spilled) fillers.items) }
+    ensures whole { OnOk result (All (λ (f : Filler). f.lacks_memory ≡ false) fillers.items) }
+{
+    let mut home = Home {
+        areas: Vec::new(alloc),
+        tables: Vec::new(alloc),
+        claims: Vec::new(alloc),
+        links: Vec::new(alloc),
+        spilled: Vec::new(alloc),
+    };
+    for filler in fillers {
+        let Filler {
+            area,
+            table,
+            claim,
+            links,
+            spilled,
+            lacks_memory,
+        } = filler;
+        if lacks_memory {
+            return Err(AllocError);
+        }
+        home.areas.push(area)?;
+        home.tables.push(table)?;
+        home.claims.push(claim)?;
+        home.links.push(links)?;
+        home.spilled.push(spilled)?;
+    }
+    Ok(home)
+}
+
+/// One pass sees what all others have seen.
+fn meet_others(store: &Store, leader: &mut DsPass<LastRow>, others: &mut [DsPass<LastRow>])
+    requires own { Belongs store.now.table leader.old }
+    requires others { All (Belongs store.now.table) others.old }
+    ensures own { Belongs store.now.table leader.new }
+    ensures caller { number_of leader.new ≡ number_of leader.old }
+    ensures mine { (i : ℕ) → mine_of leader.new i ≡ mine_of leader.old i }
+    ensures met { AllZip (HasMet store.now leader.new) others.old others.new }
+{
+    for other in others.iter_mut() {
+        store.table.meet(leader, other);
+    }
+}
+
+/// Ends the table, after all its entries were listed by one who had seen all of it.
+fn close_table<R: Wait>(
+    rt: &R,
+    alloc: Global,
+    store: Store,
+    mut tables: Vec<DsPass<LastRow>>,
+) -> Result<Listed, AllocError>
+    requires store { IsStore store }
+    requires tables { AreAll store.table tables.items }
+    requires some { 0 < length tables.items }
+    ensures closed { IfOk result (λ l. IsClosed tables.items (whole_of l.table) (entries_of l.entries.items)) }
+{
+    let Some((leader, others)) = tables.as_mut_slice().split_first_mut() else {
+        unreachable!()
+    };
+    meet_others(&store, leader, others);
+    let entries = list_all(rt, alloc, &store.table, &store.region, leader)?;
+    Ok(Listed {
+        table: store.table.close(tables),
+        entries,
+    })
+}
+
+/// What the participants brought home comes to.
+fn end_round<R: Wait>(
+    rt: &R,
+    alloc: Global,
+    rows: &RowStore,
+    column: u32,
+    store: Store,
+    claims: Claims,
+    home: Home,
+) -> Result<Gathered, AllocError>
+    requires store { IsStore store }
+    requires blocks { AreBlocks rows.now (blocks_of claims) }
+    requires column { column < width_of rows.now }
+    requires accepted { AllAccepted rows.now column }
+    requires bytes { (row : ℕ) → IsRow rows.now row → AllBytes (field_of rows.now row column) }
+    requires home { (fillers : List Filler) × IsHome rows.now column store claims fillers home }
+    requires some { 0 < length home.areas.items }
+    ensures chains { IfOk result (λ g. ChainsAll rows.now column g.chains) }
+    ensures shared { IfOk result (λ g. IsShared rows.now column (length home.areas.items) g.drawn (whole_of g.table) g.areas.items) }
+{
+    let Home {
+        areas,
+        tables,
+        claims: seats,
+        links,
+        spilled,
+    } = home;
+    let drawn = claims.close(seats);
+    let Listed { table, entries } = close_table(rt, alloc, store, tables)?;
+    let chains = chain_all(alloc, rows, column, &entries, &links, &spilled)?;
+    Ok(Gathered {
+        chains,
+        drawn,
+        table,
+        areas,
+    })
+}
+
+/// The first round, with so many participants.
+pub(crate) fn gather_rows<R: Threads + Wait + Sync>(
+    rt: &R,
+    alloc: Global,
+    rows: &RowStore,
+    column: u32,
+    callers: u32,
+) -> Result<Gathered, AllocError>
+    requires callers { 1 ≤ callers }
+    requires column { column < width_of rows.now }
+    requires accepted { AllAccepted rows.now column }
+    requires bytes { (row : ℕ) → IsRow rows.now row → AllBytes (field_of rows.now row column) }
+    ensures chains { IfOk result (λ g. ChainsAll rows.now column g.chains) }
+    ensures shared { IfOk result (λ g. IsShared rows.now column callers g.drawn (whole_of g.table) g.areas.items) }
+{
+    let Round {
+        store,
+        claims,
+        mut fillers,
+    } = open_round(rt, alloc, rows, callers)?;
+    fill_all(rt, &store, rows, column, &claims, &mut fillers);
+    let home = bring_home(alloc, fillers)?;
+    end_round(rt, alloc, rows, column, store, claims, home)
+}

@@ -1,0 +1,7 @@
+pub mod Blocks
+pub mod Chains
+pub mod Found
+pub mod Gathered
+pub mod Join
+pub mod Law
+pub mod Pairing

@@ -1,0 +1,30 @@
+//! What a join of two tables is, and the half of it that needs no shared table: which rows are refused, the chains of
+//! the left rows of each key, and the pairs of the right rows that follow these chains.
+//!
+//! A row is known by its number. A cell keeps the last row that came with its key (`LastRow`), and who puts a row in is
+//! told the row before, which is the row's link. So the links make a chain of all rows of a key, whoever put them in
+//! (`specs/Law.antt`). From the links, the last rows and the rows that no cell took, `chain_all` makes the chains of
+//! all left rows. Then nothing is written any more, and participants follow the chains of the right rows' keys
+//! (`find_pairs`). The pairs are sorted at last, so they are in order whoever found them.
+
+#![tactic(auto)]
+
+mod blocks;
+mod chaining;
+mod chains;
+mod last_row;
+mod laws;
+mod pairing;
+mod pairs;
+mod refused;
+#[cfg(test)]
+mod tests;
+
+pub use blocks::count_blocks;
+pub use chaining::chain_all;
+pub use chains::{Chains, Link};
+pub use last_row::LastRow;
+pub use laws::{cells_are_chains, pairs_are_join};
+pub use pairing::{MOST_PAIRS, NoPairs, find_pairs};
+pub use pairs::{Pair, Pairs};
+pub use refused::{LONGEST_KEY, Refused, first_refused};

@@ -1,0 +1,128 @@
+-- The status and the line of a reason to have no table.
+use Rattle.std.proofs.Common.{◌≡◌, ◌≢◌, ◌⊎◌, ℕ, List, Option, None, Some, IfSome, ap, arith, inl, inr, refl}
+use Rattle.std.specs.Prelude.{Contains}
+use Rattle.query_answer.specs.Lines.{line, statuses}
+use Rattle.query_answer.specs.declared.status.TheConstants.{NO_MEMORY, TABLE}
+use Rattle.join_query.specs.Lines.{IsCauseLine, IsLine, IsNoFault, cause_status, name_of, status_of}
+use Rattle.join_query.specs.Outcome.{Outcome, Fails, IsOutcome, Joins}
+use Rattle.join_query.specs.Stops.{Explains, IsExplained, stop_status, stop_text}
+use Rattle.join_query.specs.Words.{Asked}
+use Rattle.gather_law.specs.Tuples.{Table}
+use Rattle.join_query.specs.declared.cause.Cause.{Cause}
+use Rattle.join_query.specs.declared.cause.Cause.TheVariants as cause
+use Rattle.join_query.specs.declared.stop.Stop.{Stop}
+use Rattle.join_query.specs.declared.stop.Stop.TheVariants as stop
+use Rattle.join_query.proofs.Unique.{one_outcome}
+
+-- one of the statuses
+abbrev IsFailure : ℕ → Type 0
+IsFailure status = Contains statuses status × (status ≢ TABLE)
+
+of_cause : (why : Cause) → IsFailure (cause_status why)
+of_cause cause.Usage = ((2, omega arith, refl), λ e. cc e)
+of_cause cause.TooManyBytes = ((6, omega arith, refl), λ e. cc e)
+of_cause cause.NoSecondTable = ((2, omega arith, refl), λ e. cc e)
+of_cause (cause.NoHeader of_right) = ((2, omega arith, refl), λ e. cc e)
+of_cause cause.TooManyRows = ((6, omega arith, refl), λ e. cc e)
+of_cause (cause.NoColumn of_right) = ((2, omega arith, refl), λ e. cc e)
+of_cause (cause.Refused of_right row why) = ((1, omega arith, refl), λ e. cc e)
+of_cause cause.TooManyPairs = ((6, omega arith, refl), λ e. cc e)
+
+of_stop : (why : Stop) → IsFailure (stop_status why)
+of_stop (stop.Because why) = of_cause why
+of_stop stop.ReadFault = ((3, omega arith, refl), λ e. cc e)
+of_stop stop.WriteFault = ((4, omega arith, refl), λ e. cc e)
+of_stop stop.Memory = ((5, omega arith, refl), λ e. cc e)
+
+pub stop_listed : (why : Stop) → Contains statuses (stop_status why)
+stop_listed why = (of_stop why).0
+
+pub stop_fails : (why : Stop) → stop_status why ≢ TABLE
+stop_fails why = (of_stop why).1
+
+-- a status of a fault is that of the fault
+of_cause_read : (why : Cause) → cause_status why ≡ 3 → ⊥
+of_cause_read cause.Usage e = cc e
+of_cause_read cause.TooManyBytes e = cc e
+of_cause_read cause.NoSecondTable e = cc e
+of_cause_read (cause.NoHeader of_right) e = cc e
+of_cause_read cause.TooManyRows e = cc e
+of_cause_read (cause.NoColumn of_right) e = cc e
+of_cause_read (cause.Refused of_right row why) e = cc e
+of_cause_read cause.TooManyPairs e = cc e
+
+of_cause_write : (why : Cause) → cause_status why ≡ 4 → ⊥
+of_cause_write cause.Usage e = cc e
+of_cause_write cause.TooManyBytes e = cc e
+of_cause_write cause.NoSecondTable e = cc e
+of_cause_write (cause.NoHeader of_right) e = cc e
+of_cause_write cause.TooManyRows e = cc e
+of_cause_write (cause.NoColumn of_right) e = cc e
+of_cause_write (cause.Refused of_right row why) e = cc e
+of_cause_write cause.TooManyPairs e = cc e
+
+of_cause_memory : (why : Cause) → cause_status why ≡ 5 → ⊥
+of_cause_memory cause.Usage e = cc e
+of_cause_memory cause.TooManyBytes e = cc e
+of_cause_memory cause.NoSecondTable e = cc e
+of_cause_memory (cause.NoHeader of_right) e = cc e
+of_cause_memory cause.TooManyRows e = cc e
+of_cause_memory (cause.NoColumn of_right) e = cc e
+of_cause_memory (cause.Refused of_right row why) e = cc e
+of_cause_memory cause.TooManyPairs e = cc e
+
+pub stop_read : (why : Stop) → stop_status why ≡ 3 → why ≡ stop.ReadFault
+stop_read (stop.Because why) e = absurd (of_cause_read why e)
+stop_read stop.ReadFault e = refl
+stop_read stop.WriteFault e = cc e
+stop_read stop.Memory e = cc e
+
+pub stop_write : (why : Stop) → stop_status why ≡ 4 → why ≡ stop.WriteFault
+stop_write (stop.Because why) e = absurd (of_cause_write why e)
+stop_write stop.ReadFault e = cc e
+stop_write stop.WriteFault e = refl
+stop_write stop.Memory e = cc e
+
+-- the status is that of the outcome
+pub stop_outcome : (asked : Option Asked) (left : Option (List ℕ)) (why : Stop) → IsExplained asked left why → IsNoFault (stop_status why)
+    → IfSome left (λ bytes. (o : Outcome) → IsOutcome asked bytes o → status_of o ≡ stop_status why)
+stop_outcome asked None why is fine = tt
+stop_outcome asked (Some bytes) (stop.Because why) is fine = λ o of. ap status_of (one_outcome asked bytes o (Fails why) of is)
+stop_outcome asked (Some bytes) stop.ReadFault is fine = absurd (fine.read refl)
+stop_outcome asked (Some bytes) stop.WriteFault is fine = absurd (fine.write refl)
+stop_outcome asked (Some bytes) stop.Memory is fine = absurd (fine.memory refl)
+
+pub joins_outcome : (asked : Option Asked) (left : Option (List ℕ)) (P : List ℕ → Table → Type 0) → IfSome left (λ bytes. (records : Table) × IsOutcome asked bytes (Joins records) × P bytes records)
+    → IfSome left (λ bytes. (o : Outcome) → IsOutcome asked bytes o → status_of o ≡ TABLE)
+joins_outcome asked None P is = tt
+joins_outcome asked (Some bytes) P is = λ o of. ap status_of (one_outcome asked bytes o (Joins is.0) of is.1)
+
+-- and without a fault there is one, or no memory
+pub stop_complete : (asked : Option Asked) (left : Option (List ℕ)) (why : Stop) → IsExplained asked left why → (why ≢ stop.ReadFault) → (why ≢ stop.WriteFault)
+    → IfSome left (λ bytes. (stop_status why ≡ NO_MEMORY) ⊎ ((o : Outcome) × IsOutcome asked bytes o × (status_of o ≡ stop_status why)))
+stop_complete asked None why is read write = tt
+stop_complete asked (Some bytes) (stop.Because why) is read write = inr (Fails why, is, refl)
+stop_complete asked (Some bytes) stop.ReadFault is read write = absurd (read refl)
+stop_complete asked (Some bytes) stop.WriteFault is read write = absurd (write refl)
+stop_complete asked (Some bytes) stop.Memory is read write = inl refl
+
+pub joins_complete : (asked : Option Asked) (left : Option (List ℕ)) (P : List ℕ → Table → Type 0) → IfSome left (λ bytes. (records : Table) × IsOutcome asked bytes (Joins records) × P bytes records)
+    → IfSome left (λ bytes. (TABLE ≡ NO_MEMORY) ⊎ ((o : Outcome) × IsOutcome asked bytes o × (status_of o ≡ TABLE)))
+joins_complete asked None P is = tt
+joins_complete asked (Some bytes) P is = inr (Joins is.0, is.1, refl)
+
+-- the line
+of_explained : (asked : Option Asked) (left : Option (List ℕ)) (why : Cause) → IsExplained asked left (stop.Because why) → IfSome left (λ bytes. IsOutcome asked bytes (Fails why))
+of_explained asked None why is = tt
+of_explained asked (Some bytes) why is = is
+
+pub stop_line : (asked : Option Asked) (left : Option (List ℕ)) (why : Stop) → IsExplained asked left why → IsLine asked left (stop_status why) (line (stop_text (name_of asked) why))
+stop_line asked left (stop.Because why) is = record {
+  read_fault = λ e. absurd (of_cause_read why e);
+  write_fault = λ e. absurd (of_cause_write why e);
+  no_memory = λ e. absurd (of_cause_memory why e);
+  cause = λ _. record { why = why; is = of_explained asked left why is; status_is = refl; says = refl };
+}
+stop_line asked left stop.ReadFault is = record { read_fault = λ _. refl; write_fault = λ e. cc e; no_memory = λ e. cc e; cause = λ fine. absurd (fine.read refl) }
+stop_line asked left stop.WriteFault is = record { read_fault = λ e. cc e; write_fault = λ _. refl; no_memory = λ e. cc e; cause = λ fine. absurd (fine.write refl) }
+stop_line asked left stop.Memory is = record { read_fault = λ e. cc e; write_fault = λ e. cc e; no_memory = λ _. refl; cause = λ fine. absurd (fine.memory refl) }

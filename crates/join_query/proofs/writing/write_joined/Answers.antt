@@ -1,0 +1,20 @@
+use Rattle.std.proofs.Common.{◌∙◌, sym}
+use Rattle.par_model.specs.Table.{table_text}
+use Rattle.join_pairs.specs.Join.{joined_records}
+use Rattle.query_answer.proofs.Going.{all_gone, faults_rose, part_gone}
+use Rattle.join_query.proofs.writing.write_joined.Goals as goal
+
+pub returns-then-is_broken-clause-part : goal.returns-then-is_broken-clause-part
+returns-then-is_broken-clause-part g c =
+    λ _. part_gone g.O.Sink.taken g.O.Sink.faults c.args.out.now c.put_all.new.out c.in_ok-held.held c.put_all.new.held (table_text (joined_records c.args.left.now c.args.right.now c.args.pairs.now)) c.in_ok-held.ensures.empty c.put_all.ensures.puts
+
+pub returns-then-is_broken-clause-write_fault : goal.returns-then-is_broken-clause-write_fault
+returns-then-is_broken-clause-write_fault g c =
+    λ _. faults_rose g.O.Sink.taken g.O.Sink.faults c.args.out.now c.put_all.new.out c.in_ok-held.held c.put_all.new.held (table_text (joined_records c.args.left.now c.args.right.now c.args.pairs.now)) c.in_ok-held.ensures.whole
+    (sym c.is_broken.ensures ∙ c.if-is_broken.true) c.put_all.ensures.puts
+
+pub returns-clause-records : goal.returns-clause-records
+returns-clause-records g c =
+    let fine = sym c.is_broken.ensures ∙ c.if-is_broken.false in
+    all_gone g.O.Sink.taken g.O.Sink.faults c.args.out.now c.put_all.new.out c.in_ok-held.held c.put_all.new.held (table_text (joined_records c.args.left.now c.args.right.now c.args.pairs.now)) c.in_ok-held.ensures.empty fine (c.put_all.ensures.none fine)
+    c.put_all.ensures.puts

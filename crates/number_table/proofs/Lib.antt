@@ -1,0 +1,4 @@
+pub mod Lone
+pub mod Turns
+pub mod Calls
+pub mod Tables

@@ -1,0 +1,225 @@
+//! A shared area, of which all threads take chunks and give them back.
+
+ghost use Rattle.std.specs.Prelude.{◌≡◌, ◌<◌, ◌≤◌, All, IfOk, vec_len};
+ghost use Rattle.dsa_area.specs.Shown.{AreAll, Belongs, IsArea, callers_of};
+
+use crate::counts::sum_of;
+use dsa_area::{Area, AreaPass, area_words};
+use region_words::{Chunk, Region};
+use std::alloc::{AllocError, Global};
+use std::mem;
+use std::sync::Wait;
+use std::thread::{Threads, map_vec};
+
+/// The pages of the area whose chunks are timed: 16 MiB.
+const PAGES: u32 = 4096;
+
+/// How many chunks of a thread are live at once, where it gives each back that many calls after it was taken.
+const WINDOW: usize = 100;
+
+/// A region with an area of so many pages behind its first word, and a pass for each caller.
+#[tactic(auto, using(word_map::proofs::Maps::answers, std::proofs::lemmas::Bool::Decides::nat_tests))]
+pub fn area_for(
+    alloc: Global,
+    pages: u32,
+    callers: u32,
+) -> Result<(Region, Area, Vec<AreaPass>), AllocError>
+    requires few { pages ≤ 65536 }
+    requires callers { 1 ≤ callers }
+    ensures area { IfOk result (λ a. IsArea a.0 a.1) }
+    ensures callers { IfOk result (λ a. callers_of a.1 ≡ callers) }
+    ensures passes { IfOk result (λ a. AreAll a.1 a.2.items) }
+{
+    let words = area_words(pages);
+    let (region, mut part) = Region::new(alloc, words as usize + 1)?;
+    let chunk = part.split_chunk(&region, 1, words);
+    let (area, passes) = Area::new(alloc, &region, chunk, pages, callers)?;
+    Ok((region, area, passes))
+}
+
+/// Takes a chunk, writes its first word and gives it back. Says whether the area gave it and took it.
+fn take_and_give<R: Wait>(
+    rt: &R,
+    area: &Area,
+    r: &Region,
+    pass: &mut AreaPass,
+    bytes: u64,
+    number: u64,
+) -> bool
+    requires area { IsArea r.now area.now }
+    requires own { Belongs area.now pass.old }
+    requires some { 8 ≤ bytes }
+    requires few { bytes ≤ 1000000 }
+    ensures own { Belongs area.now pass.new }
+{
+    let Ok(mut chunk) = area.alloc(rt, r, pass, bytes) else {
+        return false;
+    };
+    chunk.store(r, 0, number);
+    area.free(rt, r, pass, chunk).is_ok()
+}
+
+/// The same so many times. Says how often the area gave the chunk and took it.
+fn pairs<R: Wait>(
+    rt: &R,
+    area: &Area,
+    r: &Region,
+    mut pass: AreaPass,
+    bytes: u64,
+    calls: u64,
+) -> u64
+    requires area { IsArea r.now area.now }
+    requires own { Belongs area.now pass }
+    requires some { 8 ≤ bytes }
+    requires few { bytes ≤ 1000000 }
+    ensures { result ≤ calls }
+{
+    let mut good = 0;
+    for number in 0..calls {
+        if take_and_give(rt, area, r, &mut pass, bytes, number) {
+            good += 1;
+        }
+    }
+    good
+}
+
+/// Has so many threads take and give back so many chunks each, of so many bytes. Says how often the area gave one and
+/// took it.
+pub fn area_load<R: Threads + Wait + Sync>(
+    rt: &R,
+    alloc: Global,
+    threads: u32,
+    calls: u64,
+    bytes: u64,
+) -> Result<u64, AllocError>
+    requires some { 1 ≤ threads }
+    requires bytes { 8 ≤ bytes }
+    requires bytes_few { bytes ≤ 1000000 }
+{
+    let (region, area, passes) = area_for(alloc, PAGES, threads)?;
+    let here = &region;
+    let shared = &area;
+    let good = map_vec(
+        rt,
+        passes,
+        &|pass: AreaPass| -> u64
+            requires { IsArea here.now shared.now × Belongs shared.now pass × (8 ≤ bytes) × (bytes ≤ 1000000) }
+        { pairs(rt, shared, here, pass, bytes, calls) },
+    )?;
+    Ok(sum_of(good.as_slice()))
+}
+
+/// Takes as many chunks as are live at once, or as the area has.
+fn first_chunks<R: Wait>(
+    rt: &R,
+    alloc: Global,
+    area: &Area,
+    r: &Region,
+    pass: &mut AreaPass,
+    bytes: u64,
+) -> Result<Vec<Chunk>, AllocError>
+    requires area { IsArea r.now area.now }
+    requires own { Belongs area.now pass.old }
+    requires some { 8 ≤ bytes }
+    requires few { bytes ≤ 1000000 }
+    ensures own { Belongs area.now pass.new }
+    ensures here { IfOk result (λ v. All (λ c. c.part.region ≡ r.now) v.items) }
+{
+    let mut held = Vec::new(alloc);
+    for _ in 0..WINDOW {
+        let Ok(chunk) = area.alloc(rt, r, pass, bytes) else {
+            return Ok(held);
+        };
+        held.push(chunk)?;
+    }
+    Ok(held)
+}
+
+/// Takes a chunk, writes its first word, and gives the one back in whose place it is held. Says whether the area gave
+/// the one and took the other.
+fn exchange<R: Wait>(
+    rt: &R,
+    area: &Area,
+    r: &Region,
+    pass: &mut AreaPass,
+    bytes: u64,
+    held: &mut Vec<Chunk>,
+    at: usize,
+    number: u64,
+) -> bool
+    requires area { IsArea r.now area.now }
+    requires own { Belongs area.now pass.old }
+    requires some { 8 ≤ bytes }
+    requires few { bytes ≤ 1000000 }
+    requires place { at < vec_len held.old }
+    requires here { All (λ c. c.part.region ≡ r.now) held.old.items }
+    ensures own { Belongs area.now pass.new }
+    ensures len { vec_len held.new ≡ vec_len held.old }
+    ensures here { All (λ c. c.part.region ≡ r.now) held.new.items }
+{
+    let Ok(mut chunk) = area.alloc(rt, r, pass, bytes) else {
+        return false;
+    };
+    chunk.store(r, 0, number);
+    let old = mem::replace(&mut held[at], chunk);
+    area.free(rt, r, pass, old).is_ok()
+}
+
+/// The same so many times, each time in the place of the chunk that was taken longest ago. Says how often the area gave
+/// the one and took the other, and 0 where it has no room for as many as are to be live at once.
+fn exchanges<R: Wait>(
+    rt: &R,
+    alloc: Global,
+    area: &Area,
+    r: &Region,
+    mut pass: AreaPass,
+    bytes: u64,
+    calls: u64,
+) -> u64
+    requires area { IsArea r.now area.now }
+    requires own { Belongs area.now pass }
+    requires some { 8 ≤ bytes }
+    requires few { bytes ≤ 1000000 }
+    ensures { result ≤ calls }
+{
+    let Ok(mut held) = first_chunks(rt, alloc, area, r, &mut pass, bytes) else {
+        return 0;
+    };
+    if held.len() < WINDOW {
+        return 0;
+    }
+    let mut good = 0;
+    for number in 0..calls {
+        let at = (number % WINDOW as u64) as usize;
+        if exchange(rt, area, r, &mut pass, bytes, &mut held, at, number) {
+            good += 1;
+        }
+    }
+    good
+}
+
+/// Has so many threads take so many chunks each, of so many bytes, and give each back a hundred calls later. Says how
+/// often the area gave one and took one.
+pub fn window_load<R: Threads + Wait + Sync>(
+    rt: &R,
+    alloc: Global,
+    threads: u32,
+    calls: u64,
+    bytes: u64,
+) -> Result<u64, AllocError>
+    requires some { 1 ≤ threads }
+    requires bytes { 8 ≤ bytes }
+    requires bytes_few { bytes ≤ 1000000 }
+{
+    let (region, area, passes) = area_for(alloc, PAGES, threads)?;
+    let here = &region;
+    let shared = &area;
+    let good = map_vec(
+        rt,
+        passes,
+        &|pass: AreaPass| -> u64
+            requires { IsArea here.now shared.now × Belongs shared.now pass × (8 ≤ bytes) × (bytes ≤ 1000000) }
+        { exchanges(rt, alloc, shared, here, pass, bytes, calls) },
+    )?;
+    Ok(sum_of(good.as_slice()))
+}

@@ -1,0 +1,34 @@
+-- The clauses of a call that ended for a reason, over what words ask for.
+use Rattle.std.proofs.Common.{◌≡◌, ◌≢◌, ◌⊎◌, ℕ, List, Option, None, Some, IfSome, refl, subst, sym}
+use Rattle.query_answer.specs.Lines.{line}
+use Rattle.query_answer.specs.declared.status.TheConstants.{NO_MEMORY, TABLE}
+use Rattle.join_query.specs.Lines.{IsLine, IsNoFault, name_of, status_of}
+use Rattle.join_query.specs.Outcome.{Outcome, IsOutcome}
+use Rattle.join_query.specs.Stops.{IsExplained, stop_status, stop_text}
+use Rattle.join_query.specs.Words.{Asked}
+use Rattle.join_query.specs.declared.cause.Cause.TheVariants as cause
+use Rattle.join_query.specs.declared.stop.Stop.{Stop}
+use Rattle.join_query.specs.declared.stop.Stop.TheVariants as stop
+use Rattle.join_query.proofs.Statuses.{stop_complete, stop_line, stop_outcome}
+
+-- words that ask for no join
+pub usage_explained : (left : Option (List ℕ)) → IsExplained None left (stop.Because cause.Usage)
+usage_explained None = tt
+usage_explained (Some bytes) = refl
+
+module _ (asked words : Option Asked) (left : Option (List ℕ)) (why : Stop) (status : ℕ) where
+  pub ends_complete : asked ≡ words → status ≡ stop_status why → IsExplained asked left why → (why ≢ stop.ReadFault) → (why ≢ stop.WriteFault)
+      → IfSome left (λ bytes. (status ≡ NO_MEMORY) ⊎ ((o : Outcome) × IsOutcome words bytes o × (status_of o ≡ status)))
+  ends_complete same is explained read write =
+      subst (λ (w : Option Asked). IfSome left (λ bytes. (status ≡ NO_MEMORY) ⊎ ((o : Outcome) × IsOutcome w bytes o × (status_of o ≡ status)))) same
+      (subst (λ (s : ℕ). IfSome left (λ bytes. (s ≡ NO_MEMORY) ⊎ ((o : Outcome) × IsOutcome asked bytes o × (status_of o ≡ s)))) (sym is) (stop_complete asked left why explained read write))
+
+  pub ends_outcome : asked ≡ words → status ≡ stop_status why → IsExplained asked left why → IsNoFault status → IfSome left (λ bytes. (o : Outcome) → IsOutcome words bytes o → status_of o ≡ status)
+  ends_outcome same is explained fine =
+      subst (λ (w : Option Asked). IfSome left (λ bytes. (o : Outcome) → IsOutcome w bytes o → status_of o ≡ status)) same
+      (subst (λ (s : ℕ). IfSome left (λ bytes. (o : Outcome) → IsOutcome asked bytes o → status_of o ≡ s)) (sym is) (stop_outcome asked left why explained (subst IsNoFault is fine)))
+
+  pub ends_line : asked ≡ words → status ≡ stop_status why → IsExplained asked left why → IsLine words left status (line (stop_text (name_of asked) why))
+  ends_line same is explained =
+      subst (λ (w : Option Asked). IsLine w left status (line (stop_text (name_of asked) why))) same
+      (subst (λ (s : ℕ). IsLine asked left s (line (stop_text (name_of asked) why))) (sym is) (stop_line asked left why explained))

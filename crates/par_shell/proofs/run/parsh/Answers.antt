@@ -1,0 +1,11 @@
+use Rattle.std.proofs.Common.{refl}
+use Rattle.par_shell.specs.Scripts.{pages_in, texts}
+use Rattle.par_shell.proofs.StopLaws.{if-some, is-status}
+use Rattle.par_shell.proofs.run.parsh.Goals as goal
+
+pub returns-in-Ok-clause-answered : goal.returns-in-Ok-clause-answered
+returns-in-Ok-clause-answered g c = λ _.
+    if-some (g.S.Source.left c.args.source.now) _ _ (λ script. if-some (pages_in (texts c.args.words.now)) _ _ (λ pages x. (x.0, c.in-Ok.shell, refl, x.1, x.2, x.3))) c.in-Ok.ensures.answered
+
+pub returns-in-Err-clause-statuses : goal.returns-in-Err-clause-statuses
+returns-in-Err-clause-statuses g c = is-status c.in-Err.stop c.end.result c.end.ensures.status

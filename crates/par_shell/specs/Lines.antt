@@ -1,0 +1,50 @@
+-- The shell: what it is seen as, and what one line is answered and does.
+use Rattle.std.specs.Prelude.{◌≡◌, ℕ, List, Option, None, Some, codes}
+use Rattle.dsa_area.specs.Shown.{IsFresh, pages_of}
+use Rattle.par_shell.specs.Barriers as barriers
+use Rattle.par_shell.specs.Chunks as chunks
+use Rattle.par_shell.specs.Contents as contents
+use Rattle.par_shell.specs.Names.{under}
+use Rattle.par_shell.specs.Rings as rings
+use Rattle.par_shell.specs.Tables as tables
+use Rattle.shell_words.specs.Requests.{Request, OfBarriers, OfChunks, OfRings, OfTable, OfToc, request_in}
+use Rattle.par_shell.specs.declared.shell.Shell.{Shell}
+
+-- what a shell always is
+pub record IsShell (s : Shell) : Type 0 where
+  pub heap : chunks.IsHeap s.region s.heap
+  pub chunks : chunks.AreChunks s.region s.chunks
+  pub cells : tables.IsCells s.region s.cells
+  pub rings : rings.AreRings s.region s.rings
+  pub contents : contents.IsContents s.region s.contents
+  pub barriers : barriers.AreBarriers s.barriers
+
+-- a shell as it opens, over so many pages: the area is fresh, nothing has a name, there is no hash table, and the
+-- table of contents is empty and grows
+pub record Opens (pages : ℕ) (s : Shell) : Type 0 where
+  pub pages_are : pages_of s.heap.area ≡ pages
+  pub fresh : IsFresh s.heap.pass
+  pub no_chunks : (name : List ℕ) → under s.chunks.named name ≡ None
+  pub no_table : s.cells.table ≡ None
+  pub no_rings : (name : List ℕ) → under s.rings.named name ≡ None
+  pub no_barriers : (name : List ℕ) → under s.barriers.named name ≡ None
+  pub contents : contents.state_of s.contents ≡ Some contents.opening
+
+-- a shell s becomes t
+module _ (s t : Shell) where
+  -- what a request is answered, and what it does: of the families that it does not name nothing changes
+  abbrev pub Answers : Request → List ℕ → Type 0
+  Answers (OfChunks request) line = chunks.IsAnswered request s.heap t.heap s.chunks t.chunks line × (t.cells ≡ s.cells) × (t.rings ≡ s.rings) × (t.contents ≡ s.contents) × (t.barriers ≡ s.barriers)
+  Answers (OfTable request) line = tables.IsAnswered s.heap t.heap s.cells t.cells request line × (t.chunks ≡ s.chunks) × (t.rings ≡ s.rings) × (t.contents ≡ s.contents) × (t.barriers ≡ s.barriers)
+  Answers (OfRings request) line = rings.IsAnswered s.heap t.heap s.rings t.rings request line × (t.chunks ≡ s.chunks) × (t.cells ≡ s.cells) × (t.contents ≡ s.contents) × (t.barriers ≡ s.barriers)
+  Answers (OfToc request) line = contents.IsAnswered request s.contents t.contents s.chunks t.chunks line × (t.heap ≡ s.heap) × (t.cells ≡ s.cells) × (t.rings ≡ s.rings) × (t.barriers ≡ s.barriers)
+  Answers (OfBarriers request) line = barriers.IsAnswered s.barriers t.barriers request line × (t.heap ≡ s.heap) × (t.chunks ≡ s.chunks) × (t.cells ≡ s.cells) × (t.rings ≡ s.rings) × (t.contents ≡ s.contents)
+
+  -- the answer to a line that is a request, or is none: then nothing changes
+  abbrev pub AnswersBy : Option Request → List ℕ → Type 0
+  AnswersBy None answer = (answer ≡ codes "?") × (t ≡ s)
+  AnswersBy (Some request) answer = (t.region ≡ s.region) × Answers request answer
+
+  -- a line has this answer
+  abbrev pub IsAnswered : List ℕ → List ℕ → Type 0
+  IsAnswered line answer = AnswersBy (request_in line) answer

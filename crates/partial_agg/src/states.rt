@@ -1,0 +1,260 @@
+//! The states of a map's groups, in as little memory as they need.
+//!
+//! A state has eight slots of 48 bytes, of which a plan seldom needs more than one or two (`Layout`). So a list of
+//! states keeps the number of rows of each in one list and its lanes in another, all under one layout. A state that
+//! doesn't fit the layout gets a finer one, and the lanes of all states are laid anew. That happens where a slot gets
+//! its first values or its first integers, or differs for the first time from another: a few dozen times to a list at
+//! most, and mostly within its first rows. A layout that is chosen from the states themselves needs no plan, so the
+//! states that a leader receives lie as those of its own rows.
+
+ghost use Rattle.std.specs.Prelude.{◌≡◌, ◌<◌, ◌≤◌, ◌+◌, ◌*◌, ◌++◌, ◌∷◌, [], IfOk, IfSome, None, OnErr, OnOk, Some, drop, get_or, length, set, slice_get, take};
+ghost use Rattle.partial_agg.specs.Lanes.{Fits, IsWide, lanes_of, states_in, with_lanes};
+ghost use Rattle.partial_agg.specs.State.{combined, combined_slots, empty_state};
+ghost use Rattle.partial_agg.specs.Values.{values_state};
+
+use crate::layout::{Layout, value_at};
+use crate::state::{add_to_slot, combine_slots, one_row};
+use par_model::{AggState, SlotState};
+use std::alloc::{AllocError, Global};
+use std::marker::Model;
+
+/// A list of states.
+#[derive(Drop)]
+pub(crate) struct StateList {
+    layout: Layout,
+    /// The number of rows of each state.
+    rows: Vec<u64>,
+    /// The lanes of the states, those of one after the other.
+    lanes: Vec<SlotState>,
+    alloc: Global,
+}
+
+impl Model for StateList {
+    ghost use Rattle.std.specs.Prelude.{◌≡◌, ◌*◌, List, length};
+    ghost use Rattle.par_model.specs.declared.state.AggState.{AggState};
+    ghost use Rattle.partial_agg.specs.Lanes.{states_in};
+
+    ghost Value = { List AggState };
+
+    ghost view = { λ s. states_in s.layout s.rows.items s.lanes.items };
+
+    ghost invariant = { λ s. length s.lanes.items ≡ length s.rows.items * s.layout.width };
+}
+
+impl StateList {
+    /// No states. Takes no memory.
+    pub(crate) fn new(alloc: Global) -> StateList
+        ensures { result ≡ [] }
+    {
+        StateList {
+            layout: Layout::none(),
+            rows: Vec::new(alloc),
+            lanes: Vec::new(alloc),
+            alloc,
+        }
+    }
+
+    /// The number of states.
+    pub(crate) fn len(&self) -> usize
+        ensures { result ≡ length self.now }
+    {
+        self.rows.len()
+    }
+
+    /// The state at a place, as a copy.
+    pub(crate) fn get(&self, at: usize) -> AggState
+        requires { at < length self.now }
+        ensures { slice_get self.now at ≡ Some result }
+    {
+        let width = self.layout.width();
+        let lanes = lanes_at(&self.lanes, at * width, width);
+        AggState {
+            rows: self.rows[at],
+            slots: self.layout.expand(lanes),
+        }
+    }
+
+    /// Puts a state behind the others.
+    pub(crate) fn push(&mut self, state: &AggState) -> Result<(), AllocError>
+        ensures ok { OnOk result (self.new ≡ self.old ++ state.now ∷ []) }
+        ensures err { OnErr result (self.new ≡ self.old) }
+    {
+        make_fit(
+            self.alloc,
+            &mut self.layout,
+            &self.rows,
+            &mut self.lanes,
+            &state.slots,
+        )?;
+        self.rows.reserve(1)?;
+        let lanes = self.layout.lanes(&state.slots);
+        self.lanes.extend_from_slice(&lanes[..self.layout.width()])?;
+        self.rows.push_reserved(state.rows);
+        Ok(())
+    }
+
+    /// Drops the states from a place on.
+    pub(crate) fn truncate(&mut self, len: usize)
+        requires { len ≤ length self.old }
+        ensures { self.new ≡ take len self.old }
+    {
+        self.lanes.truncate(len * self.layout.width());
+        self.rows.truncate(len);
+    }
+
+    /// Puts a state in the place of another.
+    pub(crate) fn put(&mut self, at: usize, state: &AggState) -> Result<(), AllocError>
+        requires { at < length self.old }
+        ensures ok { OnOk result (self.new ≡ set self.old at state.now) }
+        ensures err { OnErr result (self.new ≡ self.old) }
+    {
+        make_fit(
+            self.alloc,
+            &mut self.layout,
+            &self.rows,
+            &mut self.lanes,
+            &state.slots,
+        )?;
+        let width = self.layout.width();
+        let lanes = self.layout.lanes(&state.slots);
+        put_lanes(&mut self.lanes, at * width, &lanes[..width]);
+        self.rows[at] = state.rows;
+        Ok(())
+    }
+
+    /// Adds the rows of another state to the state at a place.
+    pub(crate) fn combine(&mut self, at: usize, state: &AggState) -> Result<(), AllocError>
+        requires { at < length self.old }
+        ensures ok { OnOk result (self.new ≡ set self.old at (combined (get_or self.old at empty_state) state.now)) }
+        ensures err { OnErr result (self.new ≡ self.old) }
+    {
+        make_fit(
+            self.alloc,
+            &mut self.layout,
+            &self.rows,
+            &mut self.lanes,
+            &state.slots,
+        )?;
+        let width = self.layout.width();
+        let lanes = self.layout.lanes(&state.slots);
+        combine_lanes(&mut self.lanes, at * width, &lanes[..width]);
+        self.rows[at] = self.rows[at].wrapping_add(state.rows);
+        Ok(())
+    }
+
+    /// Adds the row that has these values to the state at a place.
+    pub(crate) fn add_values(&mut self, at: usize, values: &[Option<i64>]) -> Result<(), AllocError>
+        requires place { at < length self.old }
+        requires few { length values.now ≤ 8 }
+        ensures ok { OnOk result (self.new ≡ set self.old at (combined (get_or self.old at empty_state) (values_state values.now))) }
+        ensures err { OnErr result (self.new ≡ self.old) }
+    {
+        if !self.layout.fits_values(values) {
+            return self.combine(at, &one_row(values));
+        }
+        let first = at * self.layout.width();
+        add_values(&mut self.lanes, first, &self.layout, values);
+        self.rows[at] = self.rows[at].wrapping_add(1);
+        Ok(())
+    }
+}
+
+/// So many lanes from a place on.
+fn lanes_at(lanes: &[SlotState], first: usize, width: usize) -> &[SlotState]
+    requires { first + width ≤ length lanes.now }
+    ensures { result.now ≡ take width (drop first lanes.now) }
+{
+    &lanes[first..first + width]
+}
+
+/// Puts lanes in the place of others.
+fn put_lanes(lanes: &mut [SlotState], first: usize, new: &[SlotState])
+    requires { first + length new.now ≤ length lanes.old }
+    ensures { lanes.new ≡ with_lanes lanes.old first new.now }
+{
+    lanes[first..first + new.len()].copy_from_slice(new);
+}
+
+/// Adds lanes to those from a place on.
+fn combine_lanes(lanes: &mut [SlotState], first: usize, others: &[SlotState])
+    requires { first + length others.now ≤ length lanes.old }
+    ensures { lanes.new ≡ with_lanes lanes.old first (combined_slots (take (length others.now) (drop first lanes.old)) others.now) }
+{
+    combine_slots(&mut lanes[first..first + others.len()], others);
+}
+
+/// Adds the row that has these values to the lanes from a place on.
+fn add_values(lanes: &mut [SlotState], first: usize, layout: &Layout, values: &[Option<i64>])
+    requires { first + layout.now.width ≤ length lanes.old }
+    ensures { lanes.new ≡ with_lanes lanes.old first (combined_slots (take layout.now.width (drop first lanes.old)) (lanes_of layout.now (values_state values.now).slots)) }
+{
+    add_to_lanes(&mut lanes[first..first + layout.width()], layout, values);
+}
+
+/// Adds the row that has these values to the lanes of a state.
+fn add_to_lanes(lanes: &mut [SlotState], layout: &Layout, values: &[Option<i64>])
+    requires { length lanes.old ≡ layout.now.width }
+    ensures { lanes.new ≡ combined_slots lanes.old (lanes_of layout.now (values_state values.now).slots) }
+{
+    let kept = layout.kept();
+    for lane in 0..lanes.len() {
+        add_to_slot(&mut lanes[lane], value_at(values, kept[lane]));
+    }
+}
+
+/// Lays the states anew, if these slots don't fit the layout of their lanes, under one that they fit too.
+fn make_fit(
+    alloc: Global,
+    layout: &mut Layout,
+    rows: &[u64],
+    lanes: &mut Vec<SlotState>,
+    slots: &[SlotState; 8],
+) -> Result<(), AllocError>
+    requires whole { length lanes.old.items ≡ length rows.now * layout.old.width }
+    ensures fits { OnOk result (Fits layout.new slots.now) }
+    ensures whole { length lanes.new.items ≡ length rows.now * layout.new.width }
+    ensures same { states_in layout.new rows.now lanes.new.items ≡ states_in layout.old rows.now lanes.old.items }
+{
+    if layout.fits(slots) {
+        return Ok(());
+    }
+    let finer = layout.finer(slots);
+    if finer.fits(slots) {
+        if let Some(relaid) = relaid(alloc, layout, &finer, rows, lanes)? {
+            *layout = finer;
+            *lanes = relaid;
+            return Ok(());
+        }
+    }
+    let wide = Layout::wide();
+    if let Some(relaid) = relaid(alloc, layout, &wide, rows, lanes)? {
+        *layout = wide;
+        *lanes = relaid;
+    }
+    Ok(())
+}
+
+/// The lanes of states under another layout, unless one of them doesn't fit it. All states fit the wide one.
+fn relaid(
+    alloc: Global,
+    old: &Layout,
+    new: &Layout,
+    rows: &[u64],
+    lanes: &[SlotState],
+) -> Result<Option<Vec<SlotState>>, AllocError>
+    requires whole { length lanes.now ≡ length rows.now * old.now.width }
+    ensures whole { IfOk result (λ relaid. IfSome relaid (λ lanes. length lanes.items ≡ length rows.now * new.now.width)) }
+    ensures same { IfOk result (λ relaid. IfSome relaid (λ relaid. states_in new.now rows.now relaid.items ≡ states_in old.now rows.now lanes.now)) }
+    ensures wide { IsWide new.now → IfOk result (λ relaid. relaid ≡ None → ⊥) }
+{
+    let width = old.width();
+    let mut relaid = Vec::new(alloc);
+    for at in 0..rows.len() {
+        let slots = old.expand(lanes_at(lanes, at * width, width));
+        if !new.fits(&slots) {
+            return Ok(None);
+        }
+        relaid.extend_from_slice(&new.lanes(&slots)[..new.width()])?;
+    }
+    Ok(Some(relaid))
+}
