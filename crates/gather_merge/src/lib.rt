@@ -97,7 +97,7 @@ pub fn merge<G: Gate + Sync, R: Threads + Wait + Sync>(
     ensures first { workers ≡ 0 → IfErr result (λ why. IsFirstCause plan.now rows.now why) }
     ensures used { IfOk result (λ m. IsUsed plan.now rows.now workers m.finished) }
 {
-    let Ok(context) = Context::build(alloc, plan, workers, count_blocks(rows)) else {
+    let Ok(context) = Context::build(rt, alloc, plan, workers, 0, count_blocks(rows)) else {
         return Err(MergeAnswer::Memory);
     };
     let team = Team { alloc, rows, gate };

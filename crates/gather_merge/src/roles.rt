@@ -96,7 +96,7 @@ impl<'a, G: Gate> Lead for Leader<'a, G> {
 
     ghost asks = { λ leader plan blocks. HasColumns plan (header_width leader.rows.now) × AreBlocks leader.rows.now blocks × (leader.order.items ≡ []) };
 
-    ghost led = { λ leader plan blocks draws heard new. Led plan leader.rows.now blocks draws heard new.order.items new.failure };
+    ghost led = { λ leader plan blocks draws used heard new. Led plan leader.rows.now blocks draws heard new.order.items new.failure };
 
     fn lead<R: Wait + Sync>(
         &mut self,

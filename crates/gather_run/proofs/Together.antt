@@ -1,5 +1,5 @@
 -- What the workers and the leader did, put together.
-use Rattle.std.proofs.Common.{◌≡◌, ◌<◌, ◌≤◌, ◌+◌, ◌-◌, ◌*◌, ◌^◌, ◌++◌, ◌⊎◌, inl, inr, ℕ, List, [], ◌∷◌, length, drop, map, All, IsTrue, MatchOption, Option, Some, None, true, false, zero, suc, get_or, is_some, refl, ap, sym, subst, ◌∙◌, arith, Any, length-append}
+use Rattle.std.proofs.Common.{option_map, Bool, ◌&&◌, ◌≡◌, ◌<◌, ◌≤◌, ◌+◌, ◌-◌, ◌*◌, ◌^◌, ◌++◌, ◌⊎◌, inl, inr, ℕ, List, [], ◌∷◌, length, drop, map, All, IsTrue, MatchOption, Option, Some, None, true, false, zero, suc, get_or, is_some, refl, ap, sym, subst, ◌∙◌, arith, Any, length-append}
 use Rattle.std.specs.List.{AllByRecursion, AllZip, flat_map}
 use Rattle.std.proofs.lemmas.List.Elements.{All-head, All-map, All-nil, All-tail, All-weaker}
 use Rattle.error_queue.specs.Message.{encoding}
@@ -17,9 +17,13 @@ use Rattle.gather_law.specs.Law.{AreSent, CombineTo, IsGathered}
 use Rattle.gather_law.specs.Parts.{after}
 use Rattle.gather_law.specs.Tuples.{AreBlocks, Group, HasTuple, Table, groups_of, rows_of_blocks, tuple_of}
 use Rattle.gather_law.proofs.Gathering.{All-apart, combines, gathers}
+use Rattle.agg_table.specs.Calls.{Use}
+use Rattle.agg_table.specs.declared.part.HashPart.{HashPart}
+use Rattle.parallel_ctx.specs.Making.{HasTable}
 use Rattle.parallel_ctx.specs.Ran.{Finishes}
-use Rattle.parallel_ctx.specs.Accounts.{Account, Heard, IsIdle, account_of, heard_of}
+use Rattle.parallel_ctx.specs.Accounts.{Account, Heard, IsIdle, account_of, heard_of, use_by}
 use Rattle.parallel_ctx.specs.Tokens.{AreUnheard}
+use Rattle.parallel_ctx.specs.declared.home.Finished.{Finished as Home}
 use Rattle.parallel_ctx.specs.declared.home.Returned.{Returned}
 use Rattle.worker_run.specs.Ended.{IsNotice, IsRefused}
 use Rattle.worker_run.specs.declared.WorkerEnd.{WorkerEnd}
@@ -32,7 +36,8 @@ use Rattle.parallel_ctx.specs.declared.tokens.Shared.{Shared}
 use Rattle.gather_run.specs.Looks.{tuples_of}
 use Rattle.gather_run.specs.declared.GatherAnswer.{GatherAnswer}
 use Rattle.gather_run.specs.declared.GatherAnswer.TheVariants.{Row, Memory}
-use Rattle.gather_run.specs.Did.{AreVerdict, DidWork, EndsWell, IsVerdict}
+use Rattle.worker_run.specs.Tabled.{EndsWith}
+use Rattle.gather_run.specs.Did.{sends_in, AreVerdict, DidPlainWork, DidWork, EndsWell, IsVerdict}
 use Rattle.gather_run.specs.Answers.{IsCause, IsFirst, IsFirstCause}
 use Rattle.gather_run.specs.Leading.{HasLed, Led, NamesRow}
 use Rattle.gather_run.specs.Used.{SentItsRows}
@@ -51,12 +56,23 @@ no_groups_read : (gs : List Group) → ReadAs [] gs → gs ≡ []
 no_groups_read [] r = refl
 no_groups_read (g ∷ gs) r = absurd r
 
-module _ (plan : Plan) (records : Table) (blocks : ℕ) where
+module _ (uses : ℕ → Option Use) (plan : Plan) (records : Table) (blocks : ℕ) where
   abbrev Did : Plan → ℕ → Account → WorkerEnd → Type 0
-  Did p b account end = DidWork p records b account end
+  Did p b account end = DidPlainWork p records b account end
 
   abbrev Worker : List ℕ → Returned WorkerEnd → Type 0
-  Worker draws r = Finishes Did plan blocks draws r
+  Worker draws r = Finishes Did uses plan blocks draws r
+
+  -- where there is no table the workers did what they do without
+  pub plain : ((n : ℕ) → uses n ≡ None) → (draws : List (List ℕ)) (ws : List (Returned WorkerEnd)) → AllZip (Finishes (λ p b account end. DidWork p records b account end) uses plan blocks) draws ws → AllZip Worker draws ws
+  plain none [] [] f = tt
+  plain none [] (w ∷ ws) f = absurd f
+  plain none (ds ∷ draws) [] f = absurd f
+  plain none (ds ∷ draws) (w ∷ ws) f = (record { done = by w.end f.0.done; errors = f.0.errors; tuples = f.0.tuples }, plain none draws ws f.1)
+    where
+      by : (end : Option WorkerEnd) → MatchOption end (IsIdle (account_of uses ds w)) (λ e. DidWork plan records blocks (account_of uses ds w) e) → MatchOption end (IsIdle (account_of uses ds w)) (λ e. Did plan blocks (account_of uses ds w) e)
+      by None d = d
+      by (Some e) d = subst (λ (u : Option Use). EndsWith plan records blocks ds u (sends_in (account_of uses ds w)) e) (none w.number) d
 
   -- ---- what was sent
 
@@ -68,7 +84,7 @@ module _ (plan : Plan) (records : Table) (blocks : ℕ) where
       all : whole_of r.tuples.receiver.taken ≡ whole_of r.tuples.sender.put
       all = f.tuples.all over
 
-      by : (end : Option WorkerEnd) → MatchOption end (IsIdle (account_of draws r)) (λ e. Did plan blocks (account_of draws r) e) → EndsWell end → AreSent plan (header_width records) records draws gs
+      by : (end : Option WorkerEnd) → MatchOption end (IsIdle (account_of uses draws r)) (λ e. Did plan blocks (account_of uses draws r) e) → EndsWell end → AreSent plan (header_width records) records draws gs
       by None d w =
           let none : gs ≡ [] = no_groups_read gs (subst (λ ms. ReadAs ms gs) (all ∙ d.tuples) read) in
           subst (λ ds. AreSent plan (header_width records) records ds gs) (sym d.draws)
@@ -141,7 +157,7 @@ module _ (plan : Plan) (records : Table) (blocks : ℕ) where
   worker_notices : (draws : List ℕ) (r : Returned WorkerEnd) → Worker draws r → All (IsNotice plan records draws) (whole_of r.errors.sender.put)
   worker_notices draws r f = by r.end f.done
     where
-      by : (end : Option WorkerEnd) → MatchOption end (IsIdle (account_of draws r)) (λ e. Did plan blocks (account_of draws r) e) → All (IsNotice plan records draws) (whole_of r.errors.sender.put)
+      by : (end : Option WorkerEnd) → MatchOption end (IsIdle (account_of uses draws r)) (λ e. Did plan blocks (account_of uses draws r) e) → All (IsNotice plan records draws) (whole_of r.errors.sender.put)
       by None d = subst (All (IsNotice plan records draws)) (sym d.errors) (All-nil (IsNotice plan records draws))
       by (Some e) d = d.notices
 
@@ -169,7 +185,7 @@ module _ (plan : Plan) (records : Table) (blocks : ℕ) where
     where
       by : (w.end ≡ Some (Refused row cause item)) ⊎ Any (λ (w : Returned WorkerEnd). w.end ≡ Some (Refused row cause item)) ws
           → (Any (λ (w : Returned WorkerEnd). w.end ≡ Some (Refused row cause item)) ws → IsRefused plan records row cause item) → IsRefused plan records row cause item
-      by (inl e) rest = (subst (λ o. MatchOption o (IsIdle (account_of ds w)) (λ e. Did plan blocks (account_of ds w) e)) e f.0.done).ended.refused
+      by (inl e) rest = (subst (λ o. MatchOption o (IsIdle (account_of uses ds w)) (λ e. Did plan blocks (account_of uses ds w) e)) e f.0.done).ended.refused
       by (inr a) rest = rest a
 
   -- ---- what is answered
@@ -221,7 +237,7 @@ module _ (plan : Plan) (records : Table) (blocks : ℕ) where
       all : whole_of r.tuples.receiver.taken ≡ whole_of r.tuples.sender.put
       all = f.tuples.all over
 
-      by : (end : Option WorkerEnd) → MatchOption end (IsIdle (account_of draws r)) (λ e. Did plan blocks (account_of draws r) e) → EndsWell end → CombineTo plan (rows_of_blocks records draws) (whole_of r.tuples.sender.put)
+      by : (end : Option WorkerEnd) → MatchOption end (IsIdle (account_of uses draws r)) (λ e. Did plan blocks (account_of uses draws r) e) → EndsWell end → CombineTo plan (rows_of_blocks records draws) (whole_of r.tuples.sender.put)
       by None d w =
           subst (λ ds. CombineTo plan (rows_of_blocks records ds) (whole_of r.tuples.sender.put)) (sym d.draws) (subst (CombineTo plan []) (sym d.tuples) nothing_sent)
       by (Some Finished) d w = combines plan (header_width records) (rows_of_blocks records draws) (whole_of r.tuples.sender.put) d.ended.accepted (omega (arith, rows_few draws, few)) d.ended.sent
@@ -288,3 +304,16 @@ well_there ws k w (Some why) e none v = cc
 
 pub unheard : (w : Shared) (queues : List LeaderEnds) → All (AreUnheard w) queues → All (λ ms. ms ≡ []) (map tuples_of queues)
 unheard w queues h = All-map (λ ms. ms ≡ []) tuples_of queues (All-weaker (AreUnheard w) (λ (q : LeaderEnds). tuples_of q ≡ []) (λ q u. ap whole_of u.tuples.taken ∙ whole_nothing) queues h)
+
+-- ---- without a table
+
+pub no_table_for : (plan : Plan) (o : Option HashPart) → HasTable plan 0 o → o ≡ None
+no_table_for plan None h = refl
+no_table_for plan (Some p) h = absurd (by plan.hash h.0)
+  where
+    by : (b : Bool) → (b && false) ≡ true → ⊥
+    by true e = absurd (cc)
+    by false e = absurd (cc)
+
+pub none_used : (f : Home WorkerEnd) → f.table ≡ None → (n : ℕ) → use_by f n ≡ None
+none_used f e n = ap (option_map _) e

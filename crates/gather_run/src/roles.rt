@@ -56,6 +56,8 @@ impl<'a, G: Gate + Sync> Worker for Team<'a, G> {
             &mut seats.toc,
             &shared.claims,
             &mut seats.claim,
+            &shared.hash,
+            &mut seats.hash,
             self.rows,
             &mut ends.errors,
             &mut ends.tuples,
@@ -94,7 +96,7 @@ impl<'a, G: Gate> Lead for Leader<'a, G> {
 
     ghost asks = { λ leader plan blocks. HasColumns plan (header_width leader.rows.now) × AreBlocks leader.rows.now blocks × (leader.groups ≡ fin.empty) };
 
-    ghost led = { λ leader plan blocks draws heard new. Led plan leader.rows.now blocks draws heard new.groups new.failure };
+    ghost led = { λ leader plan blocks draws used heard new. Led plan leader.rows.now blocks draws heard new.groups new.failure };
 
     fn lead<R: Wait + Sync>(
         &mut self,

@@ -1,4 +1,6 @@
-use Rattle.std.proofs.Common.{subst, sym}
+use Rattle.std.proofs.Common.{rules, subst, sym}
+use Rattle.agg_table.specs.Tokens.{use_in}
+use Rattle.agg_table.proofs.Seats.{stays_itself}
 use Rattle.par_model.specs.Columns.{HasColumns}
 use Rattle.par_model.specs.Plan.{Plan}
 use Rattle.partial_agg.specs.Rows.{header_width}
@@ -14,5 +16,14 @@ work-requires-clause-columns g c =
 
 pub returns-clause-did : goal.returns-clause-did
 returns-clause-did g c plan has =
-    subst (λ (p : Plan). DidWork p c.args.self.now.rows.now (blocks_of c.args.shared.now.claims) (account_in (draws_of c.work.new.claim) c.work.new.errors.end c.work.new.tuples.end) c.work.result)
+    subst (λ (p : Plan). DidWork p c.args.self.now.rows.now (blocks_of c.args.shared.now.claims) (account_in (draws_of c.work.new.claim) (use_in c.args.seats.now.hash) c.work.new.errors.end c.work.new.tuples.end) c.work.result)
     (c.plan_in-plan.ensures.plan plan has) c.work.ensures.ended
+
+pub returns-clause-seats : goal.returns-clause-seats
+returns-clause-seats g c = record {
+  number = search rules;
+  toc = search rules;
+  claim = search rules;
+  same = search rules;
+  hash = stays_itself c.args.shared.now.region c.args.seats.now.number c.args.shared.now.hash c.args.seats.now.hash c.requires.1.seats.hash;
+}

@@ -1,4 +1,5 @@
 use Rattle.std.proofs.Common.{rules, ◌≡◌, [], List, ℕ, map, sym, subst}
+use Rattle.agg_table.proofs.Seats.{stays_itself}
 use Rattle.par_model.specs.Columns.{HasColumns}
 use Rattle.par_model.specs.Plan.{Plan}
 use Rattle.partial_agg.specs.Rows.{header_width}
@@ -23,3 +24,12 @@ pub returns-clause-led : goal.returns-clause-led
 returns-clause-led g c plan has =
     subst (λ (p : Plan). Led p c.args.self.now.rows.now (blocks_of c.args.shared.now.claims) (draws_of c.lead_all-self.new.claim) (map heard c.lead_all-self.new.queues) c.lead_all-self.new.groups c.lead_all-self.result)
     (c.plan_in-plan.ensures.plan plan has) c.lead_all-self.ensures.led
+
+pub returns-clause-seats : goal.returns-clause-seats
+returns-clause-seats g c = record {
+  number = search rules;
+  toc = search rules;
+  claim = search rules;
+  same = search rules;
+  hash = stays_itself c.args.shared.now.region c.args.seats.now.number c.args.shared.now.hash c.args.seats.now.hash c.requires.1.seats.hash;
+}
