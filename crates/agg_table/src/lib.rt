@@ -9,9 +9,11 @@
 #![tactic(auto)]
 
 mod close;
+mod drain;
 mod opening;
 mod part;
 mod put;
 
+pub use drain::drain;
 pub use opening::{LEAST_PAGES, open};
 pub use part::{HashPart, HashSeat};
