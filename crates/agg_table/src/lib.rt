@@ -9,11 +9,11 @@
 #![tactic(auto)]
 
 mod close;
-mod drain;
+mod draining;
 mod opening;
 mod part;
 mod put;
 
-pub use drain::drain;
+pub use draining::drain;
 pub use opening::{LEAST_PAGES, open};
 pub use part::{HashPart, HashSeat};

@@ -1,9 +1,10 @@
 //! The entries of a closed table go into a map of groups, each once.
 
-ghost use Rattle.std.specs.Prelude.{◌≡◌, ℕ, ◌∷◌, ◌×◌, [], List, OnOk};
+ghost use Rattle.std.specs.Prelude.{◌≡◌, ◌≤◌, ℕ, All, List, OnOk, length};
+ghost use Rattle.dshash_core.specs.Key.{IsPackedKey, packed_key};
 ghost use Rattle.dshash_core.specs.Listing.{pairs_of};
-ghost use Rattle.dshash_core.specs.Key.{IsPackedKey};
 ghost use Rattle.dshash_parts.specs.Ending.{IsOf, left_of, whole_of};
+ghost use Rattle.rel_pointer.specs.Bytes.{AllBytes};
 ghost use Rattle.agg_table.specs.Calls.{Group};
 ghost use Rattle.agg_table.specs.Drained.{AddsCells, AddsEntries, AddsTable, ArePacked, HoldsAll};
 
@@ -18,7 +19,9 @@ use std::alloc::{AllocError, Global};
 /// The key of a group, from its words.
 fn group_key(words: &[u64]) -> GroupKey
     requires { IsPackedKey words.now }
-    ensures { (state : _) → (IsKeyed (result, state)) × (words.now ≡ packed_key result) }
+    ensures bytes { AllBytes result }
+    ensures short { length result ≤ 248 }
+    ensures packs { words.now ≡ packed_key result }
 {
     let mut bytes = [0; 248];
     let count = unpack_key(words, &mut bytes);
