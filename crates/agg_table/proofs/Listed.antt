@@ -1,13 +1,17 @@
 -- What a map of groups has after the entries of a map of cells were added to it, each once.
-use Rattle.std.proofs.Common.{◌≡◌, ◌≢◌, ◌≤◌, ◌+◌, ◌⊎◌, inl, inr, ℕ, suc, Bool, true, false, cond, List, [], ◌∷◌, All, Option, Some, None, drop, get_or, length, map as map_list, is_some, refl, ap, sym, subst, ◌∙◌, arith}
+use Rattle.std.proofs.Common.{◌≡◌, ◌≢◌, ◌≤◌, ◌+◌, ◌⊎◌, inl, inr, ℕ, suc, Bool, true, false, cond, List, [], ◌∷◌, All, Option, Some, None, drop, get_or, length, map as map_list, is_some, refl, ap, sym, subst, ◌∙◌, ◌++◌, arith}
 use Rattle.std.specs.Cmp.Lexicographic.{nat_list_cmp_total, slice_cmp}
 use Rattle.std.specs.FinMap as fin
 use Rattle.std.specs.List.{AllByRecursion}
 use Rattle.std.specs.Ordering.{nat_cmp}
-use Rattle.std.proofs.lemmas.List.Elements.{recursion_from_All}
+use Rattle.std.proofs.lemmas.List.{map-append}
+use Rattle.std.proofs.lemmas.List.Elements.{All-from_recursion, All-nil, All-push, recursion_from_All}
+use Rattle.agg_cell.specs.declared.cell.AggObject.{AggObject}
 use Rattle.dshash_core.specs.Cells.{KeyMap}
-use Rattle.dshash_core.specs.Key.{packed_key}
+use Rattle.dshash_core.specs.Key.{IsPackedKey, packed_key}
+use Rattle.dshash_core.specs.Listing.{pairs_of}
 use Rattle.dshash_core.specs.Outcome.{ListsAll}
+use Rattle.dshash_core.specs.declared.entries.Entry.{Entry}
 use Rattle.dshash_core.proofs.Keys.{packed_head}
 use Rattle.dshash_core.proofs.Maps.{keys_same_or_not, other_key, same_key}
 use Rattle.par_model.specs.declared.state.AggState.{AggState}
@@ -17,7 +21,7 @@ use Rattle.partial_agg.proofs.Adding.{both-none, both-some}
 use Rattle.rel_pointer.specs.Bytes.{AllBytes, packed_words}
 use Rattle.rel_pointer.proofs.Words.{packed_words-same}
 use Rattle.agg_table.specs.Calls.{Group, IsKeyed, called}
-use Rattle.agg_table.specs.Drained.{AddsCells, AddsEntries, with_each}
+use Rattle.agg_table.specs.Drained.{AddsCells, AddsEntries, ArePacked, with_each}
 
 -- ---- keys
 
@@ -138,3 +142,37 @@ listed_added cells entries g h lists adds =
       each = λ key bytes short. ap (λ (m : GroupsByKey). fin.get m key) adds.adds ∙ each_added gs keyed once g key bytes short ∙ ap (λ (m : KeyMap AggState). both (fin.get g key) (fin.get m (packed_key key))) is;
       rest = λ key none. ap (λ (m : GroupsByKey). fin.get m key) adds.adds ∙ rest_kept gs keyed g key (λ bytes short. ap (λ (m : KeyMap AggState). fin.get m (packed_key key)) is ∙ none bytes short);
     }
+
+-- ---- one entry more
+
+with_each-push : (gs : List Group) (g : GroupsByKey) (x : Group) → with_each g (gs ++ x ∷ []) ≡ added (with_each g gs) x.0 x.1
+with_each-push [] g x = refl
+with_each-push (y ∷ gs) g x = with_each-push gs (added g y.0 y.1) x
+
+pub adds_nothing : (g : GroupsByKey) → AddsEntries [] g g
+adds_nothing g = record { groups = []; keyed = All-nil IsKeyed; are = refl; adds = refl }
+
+pub adds_one : (es : List (List ℕ × AggState)) (g m h : GroupsByKey) (words key : List ℕ) (state : AggState) → AddsEntries es g m → AllBytes key → length key ≤ 248 → words ≡ packed_key key → h ≡ added m key state
+    → AddsEntries (es ++ (words, state) ∷ []) g h
+adds_one es g m h words key state so_far bytes short packs is = record {
+  groups = so_far.groups ++ (key, state) ∷ [];
+  keyed = All-push IsKeyed so_far.groups (key, state) so_far.keyed (record { bytes = bytes; short = short });
+  are = ap (λ (l : List (List ℕ × AggState)). l ++ (words, state) ∷ []) so_far.are
+      ∙ ap (λ (k : List ℕ). map_list called so_far.groups ++ (k, state) ∷ []) packs
+      ∙ sym (map-append called so_far.groups ((key, state) ∷ []));
+  adds = is ∙ ap (λ (n : GroupsByKey). added n key state) so_far.adds ∙ sym (with_each-push so_far.groups g (key, state));
+}
+
+-- the entries of a map of cells with packed keys have packed keys
+packed_pairs : (cells : KeyMap AggState) → ArePacked cells → (es : List (List ℕ × AggState)) → AllByRecursion (λ (e : List ℕ × AggState). fin.contains_key cells e.0 ≡ true) es → AllByRecursion (λ (e : List ℕ × AggState). IsPackedKey e.0) es
+packed_pairs cells packed [] h = tt
+packed_pairs cells packed (e ∷ es) h = (packed e.0 h.0, packed_pairs cells packed es h.1)
+
+of_pairs : (es : List (Entry AggObject AggState AggState (Unit {0}))) → AllByRecursion (λ (e : List ℕ × AggState). IsPackedKey e.0) (pairs_of es) → AllByRecursion (λ (e : Entry AggObject AggState AggState (Unit {0})). IsPackedKey e.key) es
+of_pairs [] h = tt
+of_pairs (e ∷ es) h = (h.0, of_pairs es h.1)
+
+pub entries_packed : (cells : KeyMap AggState) (es : List (Entry AggObject AggState AggState (Unit {0}))) → ListsAll cells (pairs_of es) → ArePacked cells → All (λ (e : Entry AggObject AggState AggState (Unit {0})). IsPackedKey e.key) es
+entries_packed cells es lists packed =
+    All-from_recursion (λ (e : Entry AggObject AggState AggState (Unit {0})). IsPackedKey e.key) es
+    (of_pairs es (packed_pairs cells packed (pairs_of es) (subst (λ (m : KeyMap AggState). AllByRecursion (λ (e : List ℕ × AggState). fin.contains_key m e.0 ≡ true) (pairs_of es)) lists.all (standing (pairs_of es)))))

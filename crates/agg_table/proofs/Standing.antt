@@ -1,6 +1,6 @@
 -- What stands in a partition of a table that has what its participants put in: under keys of groups alone, and under each
 -- of them all that was called with it.
-use Rattle.std.proofs.Common.{◌≡◌, ◌≢◌, ◌<◌, ◌≤◌, ◌⊎◌, inl, inr, ◌++◌, ◌==◌, ℕ, Bool, true, false, cond, List, [], ◌∷◌, All, Option, Some, None, filter, is_some, length, map as map_list, slice_get, refl, ap, sym, subst, ◌∙◌, arith}
+use Rattle.std.proofs.Common.{◌≡◌, ◌≢◌, ◌<◌, ◌≤◌, ◌⊎◌, inl, inr, ◌++◌, ◌==◌, ℕ, Bool, true, false, cond, List, [], ◌∷◌, All, Option, Some, None, filter, get_or, is_some, length, map as map_list, slice_get, refl, ap, sym, subst, ◌∙◌, arith}
 use Rattle.std.specs.Cmp.Lexicographic.{slice_cmp}
 use Rattle.std.specs.FinMap as fin
 use Rattle.std.specs.List.{AllByRecursion}
@@ -116,7 +116,7 @@ module _ (history : ℕ → List AggEntry) (puts : List (List Group)) (held : Ho
   calls_here : CallsHere i (done_in (history i))
   calls_here = from_callers (λ (c : Group). IsHere i c.0) (history i) (λ n. by n (slice_get_cases puts n).1)
     where
-      by : (n : ℕ) → ((put : List Group) × (n < length puts) × (slice_get puts n ≡ Some put) × _) ⊎ ((length puts ≤ n) × (slice_get puts n ≡ None)) → CallsHere i (done_in (calls_by n (history i)))
+      by : (n : ℕ) → ((put : List Group) × (n < length puts) × (slice_get puts n ≡ Some put) × (get_or puts n put ≡ put)) ⊎ ((length puts ≤ n) × (slice_get puts n ≡ None)) → CallsHere i (done_in (calls_by n (history i)))
       by n (inl x) = subst (CallsHere i) (sym (held.done n i x.0 x.2 low)) (put_here i x.0 (recursion_from_All IsKeyed x.0 (held.keyed n x.0 x.2)))
       by n (inr x) = subst (λ es. CallsHere i (done_in es)) (sym (held.no_others n i x.0 low)) tt
 
