@@ -31,18 +31,15 @@ module _ (key : List ℕ) (bytes : AllBytes key) (short : length key ≤ 248) wh
   -- the calls of the key in its partition are those of its groups
   put_states : (put : List Group) → AllByRecursion IsKeyed put → states_of (packed_key key) (calls_at at put) ≡ states_of key put
   put_states [] keyed = refl
-  put_states (g ∷ put) keyed = by (keys_same_or_not key g.0)
+  put_states (g ∷ put) keyed = by (put_states put keyed.1) (keys_same_or_not key g.0)
     where
-      rest : states_of (packed_key key) (calls_at at put) ≡ states_of key put
-      rest = put_states put keyed.1
-
-      by : (key ≡ g.0) ⊎ (key ≢ g.0) → states_of (packed_key key) (map_list called (cond {A = List Group} (partition_at g == at) (g ∷ filter (λ (x : Group). partition_at x == at) put) (filter (λ (x : Group). partition_at x == at) put))) ≡ states_of key (g ∷ put)
-      by (inl same) =
+      by : states_of (packed_key key) (calls_at at put) ≡ states_of key put → (key ≡ g.0) ⊎ (key ≢ g.0) → states_of (packed_key key) (map_list called (cond {A = List Group} (partition_at g == at) (g ∷ filter (λ (x : Group). partition_at x == at) put) (filter (λ (x : Group). partition_at x == at) put))) ≡ states_of key (g ∷ put)
+      by rest (inl same) =
           let here : (partition_at g == at) ≡ true = eq-eqb (partition_at g) at (ap (λ (k : List ℕ). partition_of (hash_of (packed_key k))) (sym same)) in
           ap (λ b. states_of (packed_key key) (map_list called (cond {A = List Group} b (g ∷ filter (λ (x : Group). partition_at x == at) put) (filter (λ (x : Group). partition_at x == at) put)))) here
           ∙ states-here (packed_key key) (called g) (calls_at at put) (ap (λ (k : List ℕ). packed_key k) same)
           ∙ ap (λ (ss : List AggState). g.1 ∷ ss) rest ∙ sym (states-here key g put same)
-      by (inr differ) = skip (partition_at g == at) ∙ rest ∙ sym (states-other key g put differ)
+      by rest (inr differ) = skip (partition_at g == at) ∙ rest ∙ sym (states-other key g put differ)
         where
           skip : (b : Bool) → states_of (packed_key key) (map_list called (cond {A = List Group} b (g ∷ filter (λ (x : Group). partition_at x == at) put) (filter (λ (x : Group). partition_at x == at) put))) ≡ states_of (packed_key key) (calls_at at put)
           skip true = states-other (packed_key key) (called g) (calls_at at put) (λ e. differ (packed_once key g.0 bytes keyed.0.bytes short e))

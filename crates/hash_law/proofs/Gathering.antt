@@ -1,5 +1,5 @@
 -- The law: the leader's map is that of one pass over all rows.
-use Rattle.std.proofs.Common.{◌≡◌, ◌≢◌, ◌<◌, ◌≤◌, ◌+◌, ◌*◌, ◌^◌, ◌++◌, ◌&&◌, ◌⊎◌, inl, inr, ℕ, suc, Bool, true, false, List, [], ◌∷◌, All, Option, None, Some, drop, filter, length, map as map_list, not, bytes_eq, refl, ap, sym, subst, ◌∙◌, arith, length-append, length-drop}
+use Rattle.std.proofs.Common.{◌≡◌, ◌≢◌, ◌<◌, ◌≤◌, ◌+◌, ◌*◌, ◌^◌, ◌++◌, ◌&&◌, ◌⊎◌, inl, inr, ℕ, suc, Bool, true, false, List, [], ◌∷◌, All, Option, None, Some, drop, filter, length, map as map_list, not, slice_get, bytes_eq, refl, ap, sym, subst, ◌∙◌, arith, length-append, length-drop}
 use Rattle.std.specs.FinMap as fin
 use Rattle.std.specs.List.{AllByRecursion, AllZip, flat_map}
 use Rattle.std.specs.List.Sorted.{IsPermutation}
@@ -51,11 +51,11 @@ all_keyed (put ∷ puts) h = both_parts put (flat_map (λ (p : List Group). p) p
 -- a key that some group has is a key of such groups
 key_keyed : (gs : List Group) → AllByRecursion IsKeyed gs → (key : List ℕ) (s : AggState) (ss : List AggState) → states_of key gs ≡ s ∷ ss → IsKeyed (key, s)
 key_keyed [] keyed key s ss e = absurd (cc)
-key_keyed (g ∷ gs) keyed key s ss e = by (keys_same_or_not key g.0)
+key_keyed (g ∷ gs) keyed key s ss e = by (key_keyed gs keyed.1 key s ss) (keys_same_or_not key g.0)
   where
-    by : (key ≡ g.0) ⊎ (key ≢ g.0) → IsKeyed (key, s)
-    by (inl same) = record { bytes = subst AllBytes (sym same) keyed.0.bytes; short = subst (λ (k : List ℕ). length k ≤ 248) (sym same) keyed.0.short }
-    by (inr differ) = key_keyed gs keyed.1 key s ss (sym (states-other key g gs differ) ∙ e)
+    by : (states_of key gs ≡ s ∷ ss → IsKeyed (key, s)) → (key ≡ g.0) ⊎ (key ≢ g.0) → IsKeyed (key, s)
+    by rest (inl same) = record { bytes = subst AllBytes (sym same) keyed.0.bytes; short = subst (λ (k : List ℕ). length k ≤ 248) (sym same) keyed.0.short }
+    by rest (inr differ) = rest (sym (states-other key g gs differ) ∙ e)
 
 none_combined : (states : List AggState) → IsPermutation [] states → all_combined states ≡ None
 none_combined [] same = refl
