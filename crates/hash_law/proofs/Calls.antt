@@ -1,5 +1,5 @@
 -- What a key of the table was called with: the states of all groups of the key that the participants put in.
-use Rattle.std.proofs.Common.{◌≡◌, ◌≢◌, ◌<◌, ◌≤◌, ◌⊎◌, inl, inr, ◌++◌, ◌==◌, ℕ, zero, suc, Bool, true, false, cond, List, [], ◌∷◌, All, Some, None, filter, get_or, length, map as map_list, slice_get, take, refl, ap, sym, subst, ◌∙◌, arith, append-nil}
+use Rattle.std.proofs.Common.{◌≡◌, ◌≢◌, ◌<◌, ◌≤◌, ◌⊎◌, inl, inr, ◌++◌, ◌==◌, ℕ, zero, suc, Bool, true, false, cond, List, [], ◌∷◌, filter, get_or, length, map as map_list, take, refl, ap, sym, subst, ◌∙◌, arith, append-nil}
 use Rattle.std.specs.List.{AllByRecursion, flat_map}
 use Rattle.std.specs.List.Sorted.{IsPermutation}
 use Rattle.std.proofs.Math.Seq.{take-suc}
@@ -11,7 +11,7 @@ use Rattle.std.proofs.lemmas.Option.{slice_get-get_or}
 use Rattle.agg_cell.specs.Called.{Seen, all_combined, called as called_states, called_below, stands}
 use Rattle.agg_cell.proofs.Callers.{callers}
 use Rattle.agg_cell.proofs.Runs.{cells}
-use Rattle.agg_table.specs.Calls.{Group, IsKeyed, called, calls_at, done_in, partition_at}
+use Rattle.agg_table.specs.Calls.{Group, IsKeyed, called, calls_at, partition_at}
 use Rattle.agg_table.specs.Drained.{HoldsAll}
 use Rattle.agg_table.proofs.Listed.{packed_once}
 use Rattle.agg_table.proofs.Standing.{called-done, states_of}

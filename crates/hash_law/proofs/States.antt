@@ -1,9 +1,8 @@
 -- The states of a key among some groups: what adding the groups to a map gives, and the rows that they stand for.
-use Rattle.std.proofs.Common.{◌≡◌, ◌≢◌, ◌⊎◌, inl, inr, ◌++◌, ℕ, Bool, true, false, cond, if◌then◌else◌, List, [], ◌∷◌, Option, Some, None, filter, map as map_list, bytes_eq, refl, ap, sym, ◌∙◌}
+use Rattle.std.proofs.Common.{◌≡◌, ◌≢◌, ◌⊎◌, inl, inr, ◌++◌, ℕ, Bool, true, false, cond, List, [], ◌∷◌, Option, Some, None, filter, map as map_list, refl, ap, sym, ◌∙◌}
 use Rattle.std.specs.Cmp.Lexicographic.{nat_list_cmp_total, slice_cmp}
 use Rattle.std.specs.FinMap as fin
 use Rattle.std.specs.List.{AllZip, cons_option}
-use Rattle.std.specs.List.Sorted.{IsPermutation}
 use Rattle.std.specs.Ordering.{eq_by_cmp, nat_cmp}
 use Rattle.std.proofs.lemmas.List.{map-append}
 use Rattle.std.proofs.lemmas.List.Elements.{filter-append}
@@ -35,7 +34,6 @@ all_states : (gs : List Group) (m : GroupsByKey) (key : List ℕ) → fin.get (w
 all_states [] m key = refl
 all_states (g ∷ gs) m key = all_states gs (added m g.0 g.1) key ∙ by (keys_same_or_not key g.0)
   where
-
     now : fin.get (added m g.0 g.1) key ≡ cond {A = Option AggState} (eq_by_cmp (slice_cmp nat_cmp) key g.0) (Some (joined (fin.get m g.0) g.1)) (fin.get m key)
     now = fin.get-insert nat_list_cmp_total m g.0 (joined (fin.get m g.0) g.1) key
 
