@@ -31,10 +31,10 @@ use plan_spec::plan_in;
 use region_words::Region;
 use scan_claim::{ClaimSeat, Claims};
 use sending::{finish, give_up, send_groups};
-use tabled::table_all;
 use shm_toc::FrozenToc;
 use std::alloc::Global;
 use std::sync::Wait;
+use tabled::table_all;
 
 mod gate;
 mod sending;
@@ -43,7 +43,7 @@ mod tabled;
 pub use gate::{Gate, OpenGate};
 
 /// A worker sends its groups once it holds so many after a block.
-const MOST_KEPT: usize = 4096;
+const MOST_KEPT: usize = 1_048_576;
 
 /// How a worker ended.
 #[derive(Debug, Clone, Copy, PartialEq, Eq)]
@@ -206,7 +206,7 @@ fn work_by<G: Gate, R: Wait>(
 /// each block there, and a group for which there is no room goes as a tuple. Tuples are sent without flush, the notice with it; both
 /// ends are detached afterwards, the tuple queue's first. It waits where a queue is full, until the receiver takes
 /// something or is gone. Time is that of `add_block` over its blocks and of `encode` over its groups; memory is that of
-/// a map of at most 4,351 groups.
+/// a map of the groups of its rows, 1,048,831 at most.
 pub fn work<G: Gate, R: Wait>(
     rt: &R,
     alloc: Global,
