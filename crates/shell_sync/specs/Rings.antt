@@ -16,7 +16,7 @@ use Rattle.mq_handle.specs.declared.answers.SendAnswer.{SendAnswer}
 use Rattle.mq_handle.specs.declared.answers.SendAnswer.TheVariants as send
 use Rattle.mq_ring.specs.Ends.{ring_of}
 use Rattle.region_words.specs.declared.chunk.Chunk.{Chunk}
-use Rattle.ring_rule.specs.Ends.{first_receiving, publishes, receiver_leaves, sender_leaves}
+use Rattle.ring_rule.specs.Ends.{first_receiving, first_sending, publishes, receiver_leaves, sender_leaves}
 use Rattle.ring_rule.specs.Ring.{AreEnds, Receiving, Sending}
 use Rattle.shell_memory.specs.Names.{IsFree, Puts, Stays, under}
 use Rattle.shell_words.specs.RingRequests.{RingRequest, Ring, Send, Receive, DetachSender, DetachReceiver}
@@ -148,11 +148,9 @@ pub record IsReceiveTry (region : TableId) (q q' : Queue) (answer : ReceiveAnswe
   pub found : ReceiveFound (Some q.sender.end) q.receiver.end q'.receiver.end answer
   pub ends : AreEnds q'.sender.end q'.receiver.end
 
--- a new ring in a chunk at this word: nothing was put or taken, and both counts begin at `from`
+-- a new ring in a chunk at this word: both ends are as they begin, whatever the cells hold, and both counts begin at `from`
 pub record IsNew (at words from max : ℕ) (q : Queue) : Type 0 where
-  pub ring : q.sender.end.ring ≡ ring_of at words from max
-  pub put : q.sender.end.put ≡ []
-  pub is_open : q.sender.end.gone ≡ false
+  pub sender : q.sender.end ≡ first_sending (ring_of at words from max) q.sender.end.cells
   pub receiver : q.receiver.end ≡ first_receiving (ring_of at words from max)
   pub torn : (state_of q).torn ≡ None
 
