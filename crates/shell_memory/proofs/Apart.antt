@@ -1,5 +1,5 @@
 -- Words of two parts that begin at one place are none that both have.
-use Rattle.std.proofs.Common.{◌≡◌, ◌≢◌, ◌∙◌, ℕ, ◌<◌, ◌/◌, ◌%◌, Bool, true, false, Option, Some, None, is_some, refl, sym, subst, arith}
+use Rattle.std.proofs.Common.{◌≡◌, ◌≢◌, ◌∙◌, ℕ, ◌<◌, ◌/◌, ◌%◌, true, Option, Some, None, is_some, refl, sym, subst, arith}
 use Rattle.std.proofs.lemmas.Bool.Decides.{nat_tests}
 use Rattle.word_map.specs.WordMap.{Disjoint, Has, HasJust, WordMap, at, is_within}
 

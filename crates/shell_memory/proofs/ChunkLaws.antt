@@ -1,15 +1,15 @@
 -- The names and the places of chunks keep to one another.
-use Rattle.std.proofs.Common.{◌≡◌, ◌≢◌, ◌∙◌, ◌⊎◌, inl, inr, ℕ, ◌+◌, ◌<◌, List, Option, None, Some, refl, ap, sym, subst}
+use Rattle.std.proofs.Common.{◌≡◌, ◌≢◌, ◌∙◌, ◌⊎◌, inl, inr, ℕ, ◌<◌, List, None, Some, ap, sym, subst}
 use Rattle.std.specs.Global.{Vec}
 use Rattle.atomic_table.specs.Seated.{TableId}
 use Rattle.region_words.specs.declared.chunk.Chunk.{Chunk}
-use Rattle.shell_memory.specs.Chunks.{AreChunks, LoadsWord, StoresWord, chunk_of, name_beside, with_word}
-use Rattle.shell_memory.specs.Names.{IsFree, Puts, Stays, under}
+use Rattle.shell_memory.specs.Chunks.{AreChunks, LoadsWord, StoresWord, chunk_of, name_beside}
+use Rattle.shell_memory.specs.Names.{IsFree, Puts, Stays}
 use Rattle.region_words.specs.Parts.{Owned}
 use Rattle.shell_memory.specs.declared.chunks.ChunkAnswer.{ChunkAnswer}
 use Rattle.shell_memory.specs.declared.chunks.ChunkAnswer.TheVariants.{Named, NoName, Range, Done, Granted, NoSpace, Stranger, Value}
 use Rattle.shell_memory.specs.declared.chunks.Chunks.{Chunks}
-use Rattle.shell_memory.proofs.Named.{all_after, all_stays, puts_twice, same_or_not}
+use Rattle.shell_memory.proofs.Named.{all_after, all_stays, same_or_not}
 use Rattle.shell_memory.proofs.Placed.{Sets}
 use Rattle.std.proofs.lemmas.Bool.{cases_eq}
 

@@ -1,8 +1,8 @@
 -- The state of the table of contents, by the token that there is.
-use Rattle.std.proofs.Common.{◌≡◌, ◌∙◌, true, false, Option, None, Some, is_some, IfSome, IsSome, refl, ap, sym, subst}
+use Rattle.std.proofs.Common.{◌≡◌, Option, None, Some, is_some, IfSome, IsSome, refl, ap, subst}
 use Rattle.atomic_table.specs.Seated.{TableId}
 use Rattle.region_words.specs.Parts.{Owned}
-use Rattle.shell_memory.specs.Contents.{Goes, IsContents, TocState, frozen_in, growing_in, state_by, state_of}
+use Rattle.shell_memory.specs.Contents.{Goes, IsContents, TocState, frozen_in, growing_in, state_by}
 use Rattle.shell_memory.specs.declared.contents.Contents.{Contents}
 
 -- where there is a table that grows there is none that is frozen

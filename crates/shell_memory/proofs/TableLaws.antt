@@ -1,5 +1,5 @@
 -- Steps of the hash table, as the shell has it.
-use Rattle.std.proofs.Common.{◌≡◌, ◌⊎◌, inl, inr, ℕ, List, Option, None, Some, IfNone, IfSome, Result, Ok, Err, IfOk, OnOk, refl, sym, subst}
+use Rattle.std.proofs.Common.{◌≡◌, inr, ℕ, List, Option, None, Some, IfNone, IfSome, Result, Ok, Err, IfOk, OnOk, refl, sym, subst}
 use Rattle.dsa_area.specs.declared.area.Area.{Area}
 use Rattle.dsa_area.specs.declared.area.AreaPass.{AreaPass}
 use Rattle.dshash_core.specs.Key.{packed_key}

@@ -6,7 +6,7 @@ use Rattle.region_words.specs.Parts.{Owned}
 use Rattle.region_words.specs.declared.chunk.Chunk.{Chunk}
 use Rattle.shm_toc.specs.Answers.{IsFull}
 use Rattle.shm_toc.specs.Requests.{empty_table, with_chunk, with_entry}
-use Rattle.shm_toc.specs.Table.{Table, free_bytes_of, low_of, place_of, rounded, table_of}
+use Rattle.shm_toc.specs.Table.{Table, low_of, place_of, rounded, table_of}
 use Rattle.shm_toc.specs.declared.table.TocAnswer.{TocAnswer}
 use Rattle.shm_toc.specs.declared.table.TocAnswer.TheVariants as toc
 use Rattle.word_map.specs.WordMap.{WordMap}

@@ -1,6 +1,6 @@
 -- The commands over the hash table: what each is answered, and what it does. This page stands beside the table "The hash
 -- table" of docs/SHELL.md.
-use Rattle.std.specs.Prelude.{◌≡◌, ℕ, zero, suc, ◌+◌, ◌<◌, ◌⊎◌, ◌++◌, Bool, List, codes, cond, decimal, is_some, Option, Some, None, IfSome, IsSome, replicate}
+use Rattle.std.specs.Prelude.{◌≡◌, ℕ, zero, suc, ◌+◌, ◌<◌, ◌⊎◌, ◌++◌, List, codes, cond, decimal, is_some, Option, Some, None, IfSome, IsSome, replicate}
 use Rattle.atomic_table.specs.Seated.{TableId}
 use Rattle.dsa_area.specs.declared.area.Area.{Area}
 use Rattle.dsa_area.specs.declared.area.AreaPass.{AreaPass}

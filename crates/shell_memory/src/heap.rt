@@ -21,12 +21,7 @@ pub struct Heap {
 
 impl Heap {
     /// An area of so many pages in a chunk, with one caller.
-    pub fn new(
-        alloc: Global,
-        r: &Region,
-        chunk: Chunk,
-        pages: u32,
-    ) -> Result<Heap, AllocError>
+    pub fn new(alloc: Global, r: &Region, chunk: Chunk, pages: u32) -> Result<Heap, AllocError>
         requires here { chunk.part.region ≡ r.now }
         requires size { chunk.bytes ≡ 8 * area_size pages }
         requires few { pages ≤ 65536 }
@@ -42,12 +37,7 @@ impl Heap {
     }
 
     /// A chunk of at least so many bytes.
-    pub fn alloc<R: Wait>(
-        &mut self,
-        rt: &R,
-        r: &Region,
-        bytes: u64,
-    ) -> Result<Chunk, NoSpace>
+    pub fn alloc<R: Wait>(&mut self, rt: &R, r: &Region, bytes: u64) -> Result<Chunk, NoSpace>
         requires heap { IsHeap r.now self.old }
         requires some { (1 ≤ bytes) × (bytes ≤ 2 ^ 30) }
         ensures heap { IsHeap r.now self.new }

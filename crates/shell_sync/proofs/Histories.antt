@@ -1,9 +1,9 @@
 -- A history in which each caller has just the calls that it had in a beginning is that beginning.
-use Rattle.std.proofs.Common.{◌≡◌, ◌≢◌, ◌∙◌, ◌⊎◌, inl, inr, ℕ, ◌<◌, ◌≤◌, Bool, cond, List, [], ◌∷◌, ◌++◌, eq-eqb, refl, ap, sym, subst, arith}
+use Rattle.std.proofs.Common.{◌≡◌, ◌≢◌, ◌∙◌, ◌⊎◌, inl, inr, ℕ, ◌<◌, ◌≤◌, Bool, cond, List, [], ◌∷◌, ◌++◌, eq-eqb, refl, ap, sym, subst}
 use Rattle.std.proofs.lemmas.Bool.{cases_eq, cases_lt}
 use Rattle.lock_book.specs.declared.view.Entry.{Entry}
-use Rattle.lock_book.specs.History.{StartsWith, calls_by, entry, last_of}
-use Rattle.lock_book.proofs.Histories.{calls_by-append, calls_by_mine, calls_by_other, last_snoc, nil_of}
+use Rattle.lock_book.specs.History.{StartsWith, calls_by, entry}
+use Rattle.lock_book.proofs.Histories.{calls_by-append, calls_by_mine, calls_by_other, nil_of}
 
 module _ {S C R : Type 0} where
   of_nobody : (xs : List (Entry S C R)) → ((n : ℕ) → calls_by n xs ≡ []) → xs ≡ []

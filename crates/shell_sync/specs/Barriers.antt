@@ -1,6 +1,6 @@
 -- The commands over barriers: what each is answered, and what it does. This page stands beside the table "Barriers" of
 -- docs/SHELL.md.
-use Rattle.std.specs.Prelude.{◌≡◌, ◌≢◌, ◌⊎◌, ℕ, ◌++◌, ◌<◌, ◌≤◌, true, false, List, [], length, codes, decimal, Option, Some, None}
+use Rattle.std.specs.Prelude.{◌≡◌, ◌≢◌, ◌⊎◌, ℕ, ◌++◌, ◌<◌, ◌≤◌, true, false, List, codes, decimal, Option, Some, None}
 use mathlib.Core.Option.{some}
 use lib.ListN.{get_elem?}
 use Rattle.lock_book.specs.History.{last_of}

@@ -1,8 +1,6 @@
 -- The commands over rings: what each is answered, and what it does. This page stands beside the table "Rings" of
 -- docs/SHELL.md.
-use Rattle.std.specs.Prelude.{◌≡◌, ◌≢◌, ◌⊎◌, ℕ, ◌+◌, ◌*◌, ◌++◌, ◌<◌, ◌≤◌, Bool, true, false, not, List, [], length, codes, decimal, option_map, Option, Some, None, if◌then◌else◌, ◌==◌}
-use Rattle.std.specs.BTreeMap.{BTreeMap}
-use Rattle.std.specs.Global.{Vec}
+use Rattle.std.specs.Prelude.{◌≡◌, ◌≢◌, ◌⊎◌, ℕ, ◌+◌, ◌*◌, ◌++◌, Bool, true, false, not, List, [], length, codes, decimal, option_map, Option, Some, None, if◌then◌else◌, ◌==◌}
 use Rattle.atomic_table.specs.Seated.{TableId}
 use Rattle.dsa_area.specs.Requests.{IsGranted, IsRefused}
 use Rattle.mq_handle.specs.Messages.{left_of}
@@ -15,7 +13,6 @@ use Rattle.mq_handle.specs.declared.answers.ReceiveAnswer.TheVariants as receive
 use Rattle.mq_handle.specs.declared.answers.SendAnswer.{SendAnswer}
 use Rattle.mq_handle.specs.declared.answers.SendAnswer.TheVariants as send
 use Rattle.mq_ring.specs.Ends.{ring_of}
-use Rattle.region_words.specs.declared.chunk.Chunk.{Chunk}
 use Rattle.ring_rule.specs.Ends.{first_receiving, first_sending, publishes, receiver_leaves, sender_leaves}
 use Rattle.ring_rule.specs.Ring.{AreEnds, Receiving, Sending}
 use Rattle.shell_memory.specs.Names.{IsFree, Puts, Stays, under}

@@ -1,6 +1,5 @@
 use Rattle.std.proofs.Common.{◌≡◌, ◌∙◌, suc, ◌+◌, arith}
 use Rattle.shell_memory.proofs.FillLaws.{one-more, stops-here}
-use Rattle.shell_memory.specs.Tables.{fill_key}
 use Rattle.shell_memory.proofs.table.fill.Goals as goal
 
 pub returns-in-Err-clause-answer : goal.returns-in-Err-clause-answer

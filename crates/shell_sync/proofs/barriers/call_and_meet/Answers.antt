@@ -1,7 +1,6 @@
-use Rattle.std.proofs.Common.{List, subst, sym}
+use Rattle.std.proofs.Common.{subst, sym}
 use Rattle.std.specs.List.{All, AllZip}
 use Rattle.par_barrier.specs.Shown.{History, history_of}
-use Rattle.par_barrier.specs.declared.barrier.BarrierPass.{BarrierPass}
 use Rattle.shell_sync.specs.Barriers.{call_of}
 use Rattle.shell_sync.specs.Meetings.{IsBehind, Meets}
 use Rattle.shell_sync.proofs.PartyLaws.{behind-call, meets-twice}

@@ -1,5 +1,5 @@
-use Rattle.std.proofs.Common.{Ok, refl, subst, sym}
-use Rattle.par_barrier.specs.Shown.{Called, detach_reply}
+use Rattle.std.proofs.Common.{refl, subst, sym}
+use Rattle.par_barrier.specs.Shown.{Called}
 use Rattle.par_barrier.specs.declared.history.BarrierReply.TheVariants as reply
 use Rattle.shell_sync.specs.Barriers.{call_of}
 use Rattle.shell_words.specs.declared.barriers.PartyCall.{PartyCall}

@@ -1,4 +1,4 @@
-use Rattle.std.proofs.Common.{◌∙◌, ℕ, List, None, Some, refl, ap, sym, subst}
+use Rattle.std.proofs.Common.{◌∙◌, ℕ, List, None, Some, ap, sym, subst}
 use Rattle.std.specs.BTreeMap.{BTreeMap}
 use Rattle.std.specs.Global.{Vec}
 use Rattle.region_words.specs.declared.chunk.Chunk.{Chunk}

@@ -1,4 +1,4 @@
-use Rattle.std.proofs.Common.{refl, subst, sym}
+use Rattle.std.proofs.Common.{subst, sym}
 use Rattle.std.proofs.lemmas.Result.{IfOk-weaker}
 use Rattle.shell_memory.specs.Tables.{Answers}
 use Rattle.shell_words.specs.TableRequests.{request_of}

@@ -1,6 +1,4 @@
-use Rattle.std.proofs.Common.{◌≡◌, ◌∙◌, ◌⊎◌, ℕ, ◌<◌, ◌≤◌, List, Some, inl, inr, ap, rules, subst, sym}
-use Rattle.std.proofs.lemmas.Bool.{cases_lt}
-use Rattle.par_barrier.specs.Shown.{callers_of}
+use Rattle.std.proofs.Common.{◌∙◌, Some, inr, ap, rules, sym}
 use Rattle.par_barrier.specs.declared.history.BarrierState.{BarrierState}
 use Rattle.shell_memory.proofs.Named.{all_after, all_stays, puts, puts_again, same}
 use Rattle.shell_sync.proofs.PartyLaws.{still-party}

@@ -1,8 +1,7 @@
-use Rattle.std.proofs.Common.{ℕ, List, Some, inr, rules, sym}
+use Rattle.std.proofs.Common.{Some, inr, rules, sym}
 use Rattle.std.proofs.lemmas.Result.{IfOk-weaker, on_ok_weaker}
 use Rattle.shell_memory.proofs.Named.{all_after, all_stays, puts, same}
-use Rattle.shell_sync.specs.Rings.{IsNoName, IsQueue, At, Receives, Sends, text_of}
-use Rattle.shell_sync.specs.declared.rings.RingAnswer.{RingAnswer}
+use Rattle.shell_sync.specs.Rings.{IsQueue}
 use Rattle.shell_sync.proofs.rings.Rings.send.Goals as goal
 
 pub send-requires : goal.send-requires
