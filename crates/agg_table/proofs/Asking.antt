@@ -1,5 +1,5 @@
 -- Requests that are granted leave the count of those that were refused.
-use Rattle.std.proofs.Common.{true, false, Some, Option, ◌≡◌, ◌≤◌, ◌+◌, ◌⊎◌, inl, inr, ℕ, zero, suc, List, [], ◌∷◌, replicate, refl, ap, sym, ◌∙◌, arith}
+use Rattle.std.proofs.Common.{true, false, Option, ◌≡◌, inl, inr, ℕ, zero, suc, [], ◌∷◌, replicate, ap, ◌∙◌, arith}
 use Rattle.free_pages.specs.Area.{superblock_pages}
 use Rattle.free_pages.specs.Legal as pages
 use Rattle.dsa_area.specs.Requests.{IsGranted}

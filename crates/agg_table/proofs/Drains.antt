@@ -1,8 +1,8 @@
 -- A map of groups while the partitions of a closed table are added to it, from the last to the first.
-use Rattle.std.proofs.Common.{◌≡◌, ◌<◌, ◌≤◌, ◌+◌, ◌⊎◌, inl, inr, ℕ, suc, true, List, [], Option, Some, None, length, is_some, IsTrue, refl, ap, sym, subst, ◌∙◌, arith}
+use Rattle.std.proofs.Common.{◌≡◌, ◌<◌, ◌≤◌, ◌+◌, ◌⊎◌, inl, inr, ℕ, List, Option, Some, None, length, is_some, refl, ap, sym, ◌∙◌, arith}
 use Rattle.std.specs.FinMap as fin
 use Rattle.agg_cell.specs.Called.{Seen, stands}
-use Rattle.dshash_core.specs.Cells.{KeyMap, partition_of}
+use Rattle.dshash_core.specs.Cells.{partition_of}
 use Rattle.dshash_core.specs.Key.{hash_of, packed_key}
 use Rattle.dshash_parts.specs.Tables.{map_at}
 use Rattle.dshash_parts.proofs.Uses.{partition_low}
@@ -12,7 +12,7 @@ use Rattle.partial_agg.specs.Laws.{both}
 use Rattle.rel_pointer.specs.Bytes.{AllBytes}
 use Rattle.agg_table.specs.Calls.{Group}
 use Rattle.agg_table.specs.Drained.{AddsCells, AddsTable, ArePacked, HoldsAll}
-use Rattle.agg_table.proofs.Standing.{IsHere, stands_here}
+use Rattle.agg_table.proofs.Standing.{stands_here}
 
 -- the partition of a key's bytes
 abbrev at : List ℕ → ℕ

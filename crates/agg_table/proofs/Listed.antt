@@ -1,5 +1,5 @@
 -- What a map of groups has after the entries of a map of cells were added to it, each once.
-use Rattle.std.proofs.Common.{◌≡◌, ◌≢◌, ◌≤◌, ◌+◌, ◌⊎◌, inl, inr, ℕ, suc, Bool, true, false, cond, List, [], ◌∷◌, All, Option, Some, None, drop, get_or, length, map as map_list, is_some, refl, ap, sym, subst, ◌∙◌, ◌++◌, arith}
+use Rattle.std.proofs.Common.{◌≡◌, ◌≢◌, ◌≤◌, ◌+◌, ◌⊎◌, inl, inr, ℕ, Bool, true, false, cond, List, [], ◌∷◌, All, Option, Some, None, drop, get_or, length, map as map_list, is_some, refl, ap, sym, subst, ◌∙◌, ◌++◌, arith}
 use Rattle.std.specs.Cmp.Lexicographic.{nat_list_cmp_total, slice_cmp}
 use Rattle.std.specs.FinMap as fin
 use Rattle.std.specs.List.{AllByRecursion}
@@ -101,7 +101,6 @@ each_added (x ∷ gs) keyed once g key bytes short =
   where
     new : IsNew (called x) (map_list called gs)
     new = is_new (called x) (map_list called gs) once
-
 
     by : (key ≡ x.0) ⊎ (key ≢ x.0) → both (fin.get (added g x.0 x.1) key) (fin.get (standing_of gs) (packed_key key)) ≡ both (fin.get g key) (fin.get (standing_of (x ∷ gs)) (packed_key key))
     by (inl same) =

@@ -1,12 +1,12 @@
 -- The passes of an area, the last of which has made some requests.
-use Rattle.std.proofs.Common.{◌≡◌, ◌<◌, ◌+◌, ◌⊎◌, ◌++◌, inl, inr, ℕ, zero, suc, List, [], ◌∷◌, length, refl, ap, sym, subst, ◌∙◌, arith, length-append}
-use mathlib.Core.Option.{some, none, some-injective, some-ne-none}
+use Rattle.std.proofs.Common.{◌≡◌, ◌⊎◌, ◌++◌, inl, inr, ℕ, zero, suc, List, [], ◌∷◌, length, refl, ap, sym, subst, ◌∙◌, arith, length-append}
+use mathlib.Core.Option.{some, some-injective, some-ne-none}
 use lib.ListN.{get_elem?}
 use Rattle.lock_book.proofs.Uses.{at_last, at_longer}
 use Rattle.dsa_area.specs.Shown.{AreAll, Belongs, IsFresh, callers_of, number_of, pages_mine}
 use Rattle.dsa_area.specs.declared.area.Area.{Area}
 use Rattle.dsa_area.specs.declared.area.AreaPass.{AreaPass}
-use Rattle.agg_table.specs.Calls.{PageEntry, lacks}
+use Rattle.agg_table.specs.Calls.{lacks}
 
 pub snoc_at : {A : Type 0} (xs : List A) (y s : A) (k : ℕ) → get_elem? (xs ++ y ∷ []) k ≡ some s → (get_elem? xs k ≡ some s) ⊎ ((k ≡ length xs) × (s ≡ y))
 snoc_at [] y s zero e = inr (refl, sym (some-injective y s e))

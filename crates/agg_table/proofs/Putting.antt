@@ -1,6 +1,5 @@
 -- A participant puts in one more group.
-use Rattle.std.proofs.Common.{◌≡◌, ◌<◌, ◌≤◌, ◌+◌, ◌==◌, ◌⊎◌, ◌++◌, inl, inr, Bool, true, false, cond, filter, ℕ, List, [], ◌∷◌, All, Any, map, length, Option, refl, ap, sym, subst, ◌∙◌, arith, append_assoc, append-nil, length-append}
-use Rattle.std.specs.List.{flat_map}
+use Rattle.std.proofs.Common.{◌≡◌, ◌≤◌, ◌==◌, ◌⊎◌, ◌++◌, inl, inr, Bool, true, false, cond, filter, ℕ, List, [], ◌∷◌, Any, map, Option, refl, ap, sym, subst, ◌∙◌, arith, append_assoc, append-nil, length-append}
 use Rattle.std.specs.List.Sorted.{IsPermutation}
 use Rattle.std.proofs.lemmas.List.{map-append}
 use Rattle.std.proofs.lemmas.List.Concat.{flat_map-append}
@@ -11,13 +10,11 @@ use Rattle.dsa_area.specs.declared.area.Area.{Area}
 use Rattle.dshash_core.specs.Chains.{Among}
 use Rattle.dshash_core.specs.Key.{packed_key}
 use Rattle.dshash_parts.specs.Promises.{IsCause, IsMade, IsRefused}
-use Rattle.dshash_parts.specs.Traces.{Asked, Event, Gave, Got, Missed, Request, Sight, Trace, Turn}
-use Rattle.dshash_parts.specs.declared.histories.PartitionCalls.{PartitionCalls}
+use Rattle.dshash_parts.specs.Traces.{Asked, Event, Missed, Sight, Trace, Turn}
 use Rattle.dshash_parts.specs.declared.histories.PartitionCalls.TheVariants.{Call}
-use Rattle.dshash_parts.specs.declared.histories.PartitionReplies.{PartitionReplies}
 use Rattle.dshash_parts.specs.declared.histories.PartitionReplies.TheVariants.{LacksItem, HasToGrow}
 use Rattle.par_model.specs.declared.state.AggState.{AggState}
-use Rattle.agg_table.specs.Calls.{AggCall, AggEntry, AggReply, Group, HasPut, IsKeyed, IsLeft, IsMissing, IsPut, PageEntry, Use, WasMissed, called, calls_at, done_in, done_of, lacks, partition_at}
+use Rattle.agg_table.specs.Calls.{AggCall, AggEntry, AggReply, Group, HasPut, IsKeyed, IsLeft, IsMissing, IsPut, Use, WasMissed, called, calls_at, done_in, done_of, partition_at}
 use Rattle.agg_table.proofs.Anys.{any_cases, any_head, any_left, any_none, any_right, any_tail}
 use Rattle.agg_table.proofs.Traced.{all_grew, all_lacks, done_by, done_map, made_done, misses, misses_among, none_done, pair_of, turns_append, turns_at}
 

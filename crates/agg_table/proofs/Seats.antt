@@ -1,7 +1,6 @@
 -- Passes that stay in their places.
-use Rattle.std.proofs.Common.{◌≡◌, ℕ, List, [], Option, Some, None, refl, sym, ◌∙◌, append-nil}
-use Rattle.lock_book.specs.History.{StartsWith}
-use Rattle.agg_table.specs.Tokens.{Grew, IsHashSeat, IsSeat, StaysSeated}
+use Rattle.std.proofs.Common.{ℕ, [], Option, Some, None, refl, sym, ◌∙◌, append-nil}
+use Rattle.agg_table.specs.Tokens.{Grew, IsHashSeat, StaysSeated}
 use Rattle.agg_table.specs.declared.part.HashPart.{HashPart}
 use Rattle.agg_table.specs.declared.part.HashSeat.{HashSeat}
 use Rattle.atomic_table.specs.Seated.{TableId}

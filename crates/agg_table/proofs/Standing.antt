@@ -1,6 +1,6 @@
 -- What stands in a partition of a table that has what its participants put in: under keys of groups alone, and under each
 -- of them all that was called with it.
-use Rattle.std.proofs.Common.{◌≡◌, ◌≢◌, ◌<◌, ◌≤◌, ◌⊎◌, inl, inr, ◌++◌, ◌==◌, ℕ, Bool, true, false, cond, List, [], ◌∷◌, All, Option, Some, None, filter, get_or, is_some, length, map as map_list, slice_get, refl, ap, sym, subst, ◌∙◌, arith}
+use Rattle.std.proofs.Common.{◌≡◌, ◌≢◌, ◌<◌, ◌≤◌, ◌⊎◌, inl, inr, ◌++◌, ◌==◌, ℕ, Bool, true, false, cond, List, [], ◌∷◌, Some, None, filter, get_or, is_some, length, map as map_list, slice_get, refl, ap, sym, subst, ◌∙◌}
 use Rattle.std.specs.Cmp.Lexicographic.{slice_cmp}
 use Rattle.std.specs.FinMap as fin
 use Rattle.std.specs.List.{AllByRecursion}

@@ -1,5 +1,5 @@
 -- What the events of a call of the table add to the own calls of its passes.
-use Rattle.std.proofs.Common.{◌≡◌, ◌≢◌, ◌<◌, ◌≤◌, ◌+◌, ◌/◌, ◌==◌, ◌⊎◌, ◌++◌, inl, inr, ⊎_elim, Bool, true, false, cond, ℕ, List, [], ◌∷◌, Option, map, length, refl, ap, sym, subst, ◌∙◌, arith, append_assoc, append-nil}
+use Rattle.std.proofs.Common.{◌≡◌, ◌≤◌, ◌+◌, ◌/◌, ◌==◌, ◌⊎◌, ◌++◌, inl, inr, Bool, true, false, cond, ℕ, List, [], ◌∷◌, Option, map, refl, ap, sym, subst, ◌∙◌, arith, append_assoc, append-nil}
 use mathlib.Core.Logic.{dite}
 use native.Mathlib.Decide.{ℕ_discrete}
 use Rattle.std.specs.List.{flat_map, sum_by}
@@ -16,14 +16,11 @@ use Rattle.free_pages.specs.Area.{superblock_pages}
 use Rattle.dsa_area.specs.Shown.{none_granted, number_of, pages_legal, pages_mine, pages_seen}
 use Rattle.dsa_area.specs.declared.area.Area.{Area}
 use Rattle.dsa_area.specs.declared.area.AreaPass.{AreaPass}
-use Rattle.dshash_core.specs.Chains.{Among}
-use Rattle.dshash_parts.specs.Promises.{HadToGrow, IsCause, IsMade, IsRefused, LackedItem}
+use Rattle.dshash_parts.specs.Promises.{IsMade}
 use Rattle.dshash_parts.specs.Legal.{PartitionLegal}
-use Rattle.dshash_parts.specs.States.{PartitionState, fresh}
-use Rattle.dshash_parts.specs.Traces.{AreGifts, Asked, Event, Gave, Got, Makes, Missed, NoneMade, Request, Requested, Sight, Trace, Turn}
-use Rattle.dshash_parts.specs.declared.histories.PartitionCalls.{PartitionCalls}
+use Rattle.dshash_parts.specs.States.{fresh}
+use Rattle.dshash_parts.specs.Traces.{AreGifts, Asked, Event, Gave, Got, Makes, Missed, NoneMade, Sight, Trace, Turn}
 use Rattle.dshash_parts.specs.declared.histories.PartitionCalls.TheVariants.{Call, Looks, Moves, Lists}
-use Rattle.dshash_parts.specs.declared.histories.PartitionReplies.{PartitionReplies}
 use Rattle.dshash_parts.specs.declared.histories.PartitionReplies.TheVariants.{Made, LacksItem, HasToGrow, HasSize, Moved, Listed}
 use Rattle.par_model.specs.declared.state.AggState.{AggState}
 use Rattle.agg_table.specs.Calls.{AggCall, AggEntry, AggReply, Group, PageEntry, done_in, done_of, is_lack, lacks}
@@ -76,13 +73,13 @@ module _ (step : Option AggState → AggState → Option AggState × Unit {0}) (
   one_grew k v w (Turn number call reply) h =
       dite {P = number ≡ k} (ℕ_discrete number k)
       (λ same.
-          let g = own_grows (λ _. PartitionLegal step number) fresh n (v.seen number) (v.mine number) (w.seen number) (w.mine number) ((call, reply) ∷ []) h.0.here in
-          let is : turns_at k (Turn number call reply ∷ []) ≡ (call, reply) ∷ [] = ap (λ b. cond {A = List (AggCall × AggReply)} b ((call, reply) ∷ []) []) (let t : (number == k) ≡ true = grind (arith, same) in t) in
-          record { more = g.0; grows = subst (λ j. w.mine j ≡ v.mine j ++ g.0) same g.1; are = g.2 ∙ sym is })
+      let g = own_grows (λ _. PartitionLegal step number) fresh n (v.seen number) (v.mine number) (w.seen number) (w.mine number) ((call, reply) ∷ []) h.0.here in
+      let is : turns_at k (Turn number call reply ∷ []) ≡ (call, reply) ∷ [] = ap (λ b. cond {A = List (AggCall × AggReply)} b ((call, reply) ∷ []) []) (let t : (number == k) ≡ true = grind (arith, same) in t) in
+      record { more = g.0; grows = subst (λ j. w.mine j ≡ v.mine j ++ g.0) same g.1; are = g.2 ∙ sym is })
       (λ ne.
-          let g = own_grows (λ _. PartitionLegal step k) fresh n (v.seen k) (v.mine k) (w.seen k) (w.mine k) [] (h.0.others k (λ e. ne (sym e))) in
-          let is : turns_at k (Turn number call reply ∷ []) ≡ [] = ap (λ b. cond {A = List (AggCall × AggReply)} b ((call, reply) ∷ []) []) (let t : (number == k) ≡ false = grind (arith, ne) in t) in
-          record { more = g.0; grows = g.1; are = g.2 ∙ sym is })
+      let g = own_grows (λ _. PartitionLegal step k) fresh n (v.seen k) (v.mine k) (w.seen k) (w.mine k) [] (h.0.others k (λ e. ne (sym e))) in
+      let is : turns_at k (Turn number call reply ∷ []) ≡ [] = ap (λ b. cond {A = List (AggCall × AggReply)} b ((call, reply) ∷ []) []) (let t : (number == k) ≡ false = grind (arith, ne) in t) in
+      record { more = g.0; grows = g.1; are = g.2 ∙ sym is })
   one_grew k v w (Asked request) h = record { more = []; grows = ap (λ (f : ℕ → List AggEntry). f k) h.3 ∙ sym (append-nil (v.mine k)); are = refl }
 
   turns_front : (k : ℕ) (e : Event AggState AggState (Unit {0})) (es : List (Event AggState AggState (Unit {0}))) → turns_at k (e ∷ es) ≡ turns_at k (e ∷ []) ++ turns_at k es

@@ -1,9 +1,9 @@
 -- What a participant made of some groups: the calls of the table that it made, and those that found no space.
-use Rattle.std.specs.Prelude.{◌≡◌, ◌≤◌, ◌+◌, ◌++◌, ◌==◌, ℕ, Bool, true, false, cond, List, [], ◌∷◌, All, Any, count_by, filter, length, map}
+use Rattle.std.specs.Prelude.{◌≡◌, ◌≤◌, ◌+◌, ◌++◌, ◌==◌, ℕ, Bool, true, false, List, [], ◌∷◌, All, Any, count_by, filter, length, map}
 use Rattle.std.specs.List.{flat_map}
 use Rattle.std.specs.List.Sorted.{IsPermutation}
 use Rattle.dshash_core.specs.Cells.{partition_of}
-use Rattle.dshash_core.specs.Key.{IsPackedKey, hash_of, packed_key}
+use Rattle.dshash_core.specs.Key.{hash_of, packed_key}
 use Rattle.dshash_parts.specs.States.{PartitionState}
 use Rattle.dshash_parts.specs.declared.histories.PartitionCalls.{PartitionCalls}
 use Rattle.dshash_parts.specs.declared.histories.PartitionCalls.TheVariants.{Call}

@@ -88,7 +88,10 @@ fn a_table_is_added_to_a_map(rt: HostRuntime) -> Result<(), Fail> {
     let groups = groups.into_groups();
     assert_eq!(rt; groups.len(), 2);
     for at in 0..groups.len() {
-        assert_eq!(rt; (groups.key(at), groups.state(at).rows), ([at as u8].as_slice(), 46));
+        assert_eq!(rt;
+            (groups.key(at), groups.state(at).rows),
+            ([at as u8].as_slice(), 46)
+        );
     }
     Ok(())
 }

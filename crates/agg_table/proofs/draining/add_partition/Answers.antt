@@ -1,8 +1,7 @@
-use Rattle.std.proofs.Common.{All, OnOk, Result, Ok, Err, ap, sym, subst, ◌∙◌}
+use Rattle.std.proofs.Common.{All, OnOk, Result, Ok, Err, sym, subst}
 use Rattle.dshash_core.specs.Key.{IsPackedKey}
 use Rattle.dshash_core.specs.Listing.{pairs_of}
 use Rattle.dshash_core.specs.Outcome.{ListsAll}
-use Rattle.agg_table.specs.Drained.{AddsCells, AddsEntries}
 use Rattle.agg_table.proofs.Listed.{entries_packed, listed_added}
 use Rattle.agg_table.proofs.draining.add_partition.Goals as goal
 

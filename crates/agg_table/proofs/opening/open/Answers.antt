@@ -1,10 +1,9 @@
-use Rattle.std.proofs.Common.{ℕ, ◌≡◌, ◌∙◌, ◌++◌, ◌∷◌, [], List, length, map, refl, ap, sym, subst, arith}
+use Rattle.std.proofs.Common.{ℕ, ◌≡◌, ◌∙◌, ◌++◌, ◌∷◌, [], List, length, map, refl, ap, sym, subst}
 use Rattle.std.specs.List.{zip}
 use mathlib.Core.Option.{some}
 use lib.ListN.{get_elem?}
-use Rattle.lock_book.specs.Shown.{number_of}
 use Rattle.lock_book.proofs.Uses.{at_last}
-use Rattle.dsa_area.specs.Shown.{AreAll, IsFresh, Belongs}
+use Rattle.dsa_area.specs.Shown.{AreAll, IsFresh}
 use Rattle.dsa_area.specs.declared.area.AreaPass.{AreaPass}
 use Rattle.dsa_area.proofs.Openings.{pair_at, pairs_long}
 use Rattle.agg_table.specs.declared.part.HashSeat.{HashSeat}

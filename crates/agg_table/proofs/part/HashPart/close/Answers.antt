@@ -1,4 +1,4 @@
-use Rattle.std.proofs.Common.{◌≡◌, ◌∙◌, map, length, ap, sym, subst}
+use Rattle.std.proofs.Common.{◌∙◌, length, ap, sym, subst}
 use Rattle.std.proofs.lemmas.List.{length-map}
 use lib.ListN.{get_elem?}
 use Rattle.lock_book.proofs.Uses.{at_map, map_at}

@@ -1,4 +1,4 @@
-use Rattle.std.proofs.Common.{◌≡◌, ◌∙◌, ℕ, List, length, sym, ap, subst}
+use Rattle.std.proofs.Common.{◌≡◌, ◌∙◌, ℕ, List, ap, subst}
 use Rattle.lock_book.specs.Shown.{number_of}
 use Rattle.dshash_core.specs.Cells.{partition_of}
 use Rattle.dshash_core.specs.Key.{hash_of, packed_key}
