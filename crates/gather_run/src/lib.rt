@@ -30,6 +30,7 @@ use worker_run::{Gate, WorkerEnd};
 mod leading;
 mod messages;
 mod roles;
+mod sharing;
 #[cfg(test)]
 mod tests;
 mod verdicts;
@@ -88,6 +89,7 @@ pub fn gather<G: Gate + Sync, R: Threads + Wait + Sync>(
     };
     let team = Team { alloc, rows, gate };
     let mut leader = Leader {
+        alloc,
         rows,
         gate,
         groups: GroupMap::new(alloc),
