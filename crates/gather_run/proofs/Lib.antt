@@ -1,4 +1,6 @@
 mod Anys
 pub mod Parts
+pub mod Seated
+pub mod Shares
 pub mod Looking
 pub mod Together
