@@ -4,5 +4,3 @@ pub mod Seated
 pub mod Shares
 pub mod Looking
 pub mod Together
-pub mod Participants
-pub mod Home

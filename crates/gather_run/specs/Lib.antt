@@ -6,4 +6,3 @@ pub mod Sharing
 pub mod Looks
 pub mod Steps
 pub mod Used
-pub mod Drained
