@@ -4,3 +4,5 @@ pub mod Seated
 pub mod Shares
 pub mod Looking
 pub mod Together
+pub mod Participants
+pub mod Home

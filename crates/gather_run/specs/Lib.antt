@@ -6,3 +6,4 @@ pub mod Sharing
 pub mod Looks
 pub mod Steps
 pub mod Used
+pub mod Drained

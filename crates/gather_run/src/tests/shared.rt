@@ -1,9 +1,11 @@
 //! The worked row of all aggregates in its three plans, and a table with room for all groups, for some and for none.
 
-ghost use Rattle.std.specs.Prelude.{◌≤◌};
+ghost use Rattle.std.specs.Prelude.{◌≤◌, IfOk};
+ghost use Rattle.par_model.specs.Columns.{HasColumns};
+ghost use Rattle.partial_agg.specs.Rows.{header_width};
 
 use super::{even_groups, gathered, wide_table};
-use csv_rows::rows;
+use csv_rows::{RowStore, rows};
 use par_model::{BoundPlan, Item, ItemKind};
 use std::alloc::{AllocError, Global};
 use std::process::Abort;
@@ -23,7 +25,15 @@ fn regions(alloc: Global) -> Result<Vec<u8>, AllocError> {
 }
 
 /// The query for the rows, the sum and the average of the cents by region.
-fn by_region(hash: bool) -> BoundPlan {
+fn by_region(alloc: Global, hash: bool) -> Result<(RowStore, BoundPlan), Fail>
+    ensures columns { IfOk result (λ query. HasColumns query.1 (header_width query.0)) }
+{
+    let Ok(store) = rows(alloc, &regions(alloc)?) else {
+        return Err(Fail::new("no rows"));
+    };
+    if store.width(0) != 3 {
+        return Err(Fail::new("not three columns"));
+    }
     let unused = Item {
         kind: ItemKind::Rows,
         column: 0,
@@ -36,14 +46,15 @@ fn by_region(hash: bool) -> BoundPlan {
         kind: ItemKind::Avg,
         column: 2,
     };
-    BoundPlan {
+    let plan = BoundPlan {
         groups: [0, 0, 0, 0, 0, 0, 0, 0],
         group_count: 1,
         items: [unused, sum, average, unused, unused, unused, unused, unused],
         item_count: 3,
         hash,
         filter: None,
-    }
+    };
+    Ok((store, plan))
 }
 
 /// Rows and sums by region. The numbers were computed apart from the program. Keys are compared by bytes, and begin with
@@ -74,13 +85,8 @@ fn has_regions<R: Abort + Threads + Wait + Sync>(
     requires workers { workers ≤ 64 }
     requires pages { area_pages ≤ 65536 }
 {
-    let Ok(store) = rows(alloc, &regions(alloc)?) else {
-        return Err(Fail::new("no rows"));
-    };
-    if store.width(0) != 3 {
-        return Err(Fail::new("not three columns"));
-    }
-    let got = gathered(rt, alloc, &store, &by_region(hash), workers, area_pages, &OpenGate)?;
+    let (store, plan) = by_region(alloc, hash)?;
+    let got = gathered(rt, alloc, &store, &plan, workers, area_pages, &OpenGate)?;
     assert_eq!(rt; got.groups.len(), 12);
     for (at, (name, count, sum)) in REGIONS.iter().enumerate() {
         let group = got.groups.get(at);
