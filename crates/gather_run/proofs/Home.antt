@@ -39,6 +39,12 @@ table_home P Q R None (Some c) some none = let no : Some c ≡ None = none refl 
 table_home P Q R (Some part) None some none = absurd (some part refl)
 table_home P Q R (Some part) (Some c) some none = let h = some part refl in (refl, h.0, h.1.0, (part, h.1.1))
 
+pub same_there : {A : Type 0} (h : A → Seen) (o o' : Option A) → SameHistories (option_map h o) (option_map h o') → is_some o' ≡ is_some o
+same_there h None None same = refl
+same_there h None (Some d) same = absurd same
+same_there h (Some c) None same = absurd same
+same_there h (Some c) (Some d) same = refl
+
 module _ {A : Type 0} (h : A → Seen) (areas : List AreaPass) where
   -- what each participant did with a table
   abbrev uses_of : Option A → ℕ → Option Use

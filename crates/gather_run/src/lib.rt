@@ -66,6 +66,13 @@ fn count_blocks(rows: &RowStore) -> u64
     rows.count().div_ceil(BLOCK_ROWS)
 }
 
+/// A plan has few aggregates. It does nothing when it runs.
+fn has_few_items(plan: &BoundPlan)
+    ensures { length plan.now.items ≤ 8 }
+{
+    let _items = plan.items();
+}
+
 /// What a query comes to.
 #[derive(Drop)]
 pub struct Gathered {
@@ -140,6 +147,7 @@ pub fn gather<G: Gate + Sync, R: Threads + Wait + Sync>(
     if let Some(why) = first_verdict(&finished.workers) {
         return Err(why);
     }
+    has_few_items(plan);
     if add_table(alloc, &finished.region, &mut finished.table, &mut groups).is_err() {
         return Err(GatherAnswer::Memory);
     }
