@@ -6,6 +6,7 @@ use Rattle.std.specs.List.{AllByRecursion}
 use Rattle.std.specs.Ordering.{nat_cmp}
 use Rattle.std.proofs.lemmas.List.{map-append}
 use Rattle.std.proofs.lemmas.List.Elements.{All-from_recursion, All-nil, All-push, recursion_from_All}
+use Rattle.std.proofs.lemmas.List.Sums.{fold-append}
 use Rattle.agg_cell.specs.declared.cell.AggObject.{AggObject}
 use Rattle.dshash_core.specs.Cells.{KeyMap}
 use Rattle.dshash_core.specs.Key.{IsPackedKey, packed_key}
@@ -145,10 +146,6 @@ listed_added cells entries g h lists adds =
 
 -- ---- one entry more
 
-with_each-push : (gs : List Group) (g : GroupsByKey) (x : Group) → with_each g (gs ++ x ∷ []) ≡ added (with_each g gs) x.0 x.1
-with_each-push [] g x = refl
-with_each-push (y ∷ gs) g x = with_each-push gs (added g y.0 y.1) x
-
 pub adds_nothing : (g : GroupsByKey) → AddsEntries [] g g
 adds_nothing g = record { groups = []; keyed = All-nil IsKeyed; are = refl; adds = refl }
 
@@ -160,7 +157,7 @@ adds_one es g m h words key state so_far bytes short packs is = record {
   are = ap (λ (l : List (List ℕ × AggState)). l ++ (words, state) ∷ []) so_far.are
       ∙ ap (λ (k : List ℕ). map_list called so_far.groups ++ (k, state) ∷ []) packs
       ∙ sym (map-append called so_far.groups ((key, state) ∷ []));
-  adds = is ∙ ap (λ (n : GroupsByKey). added n key state) so_far.adds ∙ sym (with_each-push so_far.groups g (key, state));
+  adds = is ∙ ap (λ (n : GroupsByKey). added n key state) so_far.adds ∙ sym (fold-append (λ (so_far' : GroupsByKey) (x : Group). added so_far' x.0 x.1) g so_far.groups ((key, state) ∷ []));
 }
 
 -- the entries of a map of cells with packed keys have packed keys

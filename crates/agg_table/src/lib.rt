@@ -13,6 +13,8 @@ mod draining;
 mod opening;
 mod part;
 mod put;
+#[cfg(test)]
+mod tests;
 
 pub use draining::drain;
 pub use opening::{LEAST_PAGES, open};

@@ -1,5 +1,5 @@
 -- What a key of the table was called with: the states of all groups of the key that the participants put in.
-use Rattle.std.proofs.Common.{◌≡◌, ◌≢◌, ◌<◌, ◌≤◌, ◌⊎◌, inl, inr, ◌++◌, ◌==◌, ℕ, zero, suc, Bool, true, false, cond, List, [], ◌∷◌, All, Some, None, filter, get_or, length, map as map_list, slice_get, take, refl, ap, sym, subst, ◌∙◌, arith, append-nil}
+use Rattle.std.proofs.Common.{◌≡◌, ◌≢◌, ◌<◌, ◌≤◌, ◌⊎◌, inl, inr, ◌++◌, ◌==◌, ℕ, zero, suc, Bool, true, false, cond, List, [], ◌∷◌, filter, get_or, length, map as map_list, take, refl, ap, sym, subst, ◌∙◌, arith, append-nil}
 use Rattle.std.specs.List.{AllByRecursion, flat_map}
 use Rattle.std.specs.List.Sorted.{IsPermutation}
 use Rattle.std.proofs.Math.Seq.{take-suc}
@@ -11,7 +11,7 @@ use Rattle.std.proofs.lemmas.Option.{slice_get-get_or}
 use Rattle.agg_cell.specs.Called.{Seen, all_combined, called as called_states, called_below, stands}
 use Rattle.agg_cell.proofs.Callers.{callers}
 use Rattle.agg_cell.proofs.Runs.{cells}
-use Rattle.agg_table.specs.Calls.{Group, IsKeyed, called, calls_at, done_in, partition_at}
+use Rattle.agg_table.specs.Calls.{Group, IsKeyed, called, calls_at, partition_at}
 use Rattle.agg_table.specs.Drained.{HoldsAll}
 use Rattle.agg_table.proofs.Listed.{packed_once}
 use Rattle.agg_table.proofs.Standing.{called-done, states_of}
@@ -31,18 +31,15 @@ module _ (key : List ℕ) (bytes : AllBytes key) (short : length key ≤ 248) wh
   -- the calls of the key in its partition are those of its groups
   put_states : (put : List Group) → AllByRecursion IsKeyed put → states_of (packed_key key) (calls_at at put) ≡ states_of key put
   put_states [] keyed = refl
-  put_states (g ∷ put) keyed = by (keys_same_or_not key g.0)
+  put_states (g ∷ put) keyed = by (put_states put keyed.1) (keys_same_or_not key g.0)
     where
-      rest : states_of (packed_key key) (calls_at at put) ≡ states_of key put
-      rest = put_states put keyed.1
-
-      by : (key ≡ g.0) ⊎ (key ≢ g.0) → states_of (packed_key key) (map_list called (cond {A = List Group} (partition_at g == at) (g ∷ filter (λ (x : Group). partition_at x == at) put) (filter (λ (x : Group). partition_at x == at) put))) ≡ states_of key (g ∷ put)
-      by (inl same) =
+      by : states_of (packed_key key) (calls_at at put) ≡ states_of key put → (key ≡ g.0) ⊎ (key ≢ g.0) → states_of (packed_key key) (map_list called (cond {A = List Group} (partition_at g == at) (g ∷ filter (λ (x : Group). partition_at x == at) put) (filter (λ (x : Group). partition_at x == at) put))) ≡ states_of key (g ∷ put)
+      by rest (inl same) =
           let here : (partition_at g == at) ≡ true = eq-eqb (partition_at g) at (ap (λ (k : List ℕ). partition_of (hash_of (packed_key k))) (sym same)) in
           ap (λ b. states_of (packed_key key) (map_list called (cond {A = List Group} b (g ∷ filter (λ (x : Group). partition_at x == at) put) (filter (λ (x : Group). partition_at x == at) put)))) here
           ∙ states-here (packed_key key) (called g) (calls_at at put) (ap (λ (k : List ℕ). packed_key k) same)
           ∙ ap (λ (ss : List AggState). g.1 ∷ ss) rest ∙ sym (states-here key g put same)
-      by (inr differ) = skip (partition_at g == at) ∙ rest ∙ sym (states-other key g put differ)
+      by rest (inr differ) = skip (partition_at g == at) ∙ rest ∙ sym (states-other key g put differ)
         where
           skip : (b : Bool) → states_of (packed_key key) (map_list called (cond {A = List Group} b (g ∷ filter (λ (x : Group). partition_at x == at) put) (filter (λ (x : Group). partition_at x == at) put))) ≡ states_of (packed_key key) (calls_at at put)
           skip true = states-other (packed_key key) (called g) (calls_at at put) (λ e. differ (packed_once key g.0 bytes keyed.0.bytes short e))

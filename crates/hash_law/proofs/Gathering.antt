@@ -1,14 +1,13 @@
 -- The law: the leader's map is that of one pass over all rows.
-use Rattle.std.proofs.Common.{◌≡◌, ◌≢◌, ◌<◌, ◌≤◌, ◌+◌, ◌*◌, ◌^◌, ◌++◌, ◌&&◌, ◌⊎◌, inl, inr, ℕ, suc, Bool, true, false, List, [], ◌∷◌, All, Option, None, Some, drop, filter, length, map as map_list, not, bytes_eq, refl, ap, sym, subst, ◌∙◌, arith, length-append, length-drop}
+use Rattle.std.proofs.Common.{◌≡◌, ◌≢◌, ◌<◌, ◌≤◌, ◌+◌, ◌*◌, ◌^◌, ◌++◌, ◌&&◌, ◌⊎◌, inl, inr, ℕ, suc, false, List, [], ◌∷◌, All, None, Some, drop, filter, length, map as map_list, not, slice_get, bytes_eq, refl, ap, sym, subst, ◌∙◌, arith, length-append, length-drop}
 use Rattle.std.specs.FinMap as fin
 use Rattle.std.specs.List.{AllByRecursion, AllZip, flat_map}
 use Rattle.std.specs.List.Sorted.{IsPermutation}
 use Rattle.std.proofs.lemmas.List.Concat.{flat_map-append}
-use Rattle.std.proofs.lemmas.List.Elements.{All-filter, filter-append, recursion_from_All}
+use Rattle.std.proofs.lemmas.List.Elements.{All-filter, recursion_from_All}
 use Rattle.std.proofs.lemmas.List.Filters.{length-filter_both}
-use Rattle.std.proofs.lemmas.List.Sorted.{All-permutation, IsPermutation-append, IsPermutation-append_comm, IsPermutation-refl, IsPermutation-sym, IsPermutation-trans, length_permutation}
-use Rattle.std.proofs.lemmas.Option.{slice_get_cases}
-use Rattle.agg_cell.specs.Called.{Seen, all_combined, called as called_states, groups_in, stands}
+use Rattle.std.proofs.lemmas.List.Sorted.{All-permutation, IsPermutation-refl, length_permutation}
+use Rattle.agg_cell.specs.Called.{Seen, all_combined, called as called_states, stands}
 use Rattle.agg_cell.proofs.Rows.{groups}
 use Rattle.agg_table.specs.Calls.{IsKeyed}
 use Rattle.agg_table.specs.Drained.{AddsTable, HoldsAll}
@@ -17,7 +16,7 @@ use Rattle.dshash_core.specs.Cells.{partition_of}
 use Rattle.dshash_core.specs.Key.{hash_of, packed_key}
 use Rattle.dshash_core.proofs.Maps.{keys_same_or_not}
 use Rattle.gather_law.specs.Parts.{with_all}
-use Rattle.gather_law.specs.Tuples.{Group, Table, groups_of, rows_of_blocks}
+use Rattle.gather_law.specs.Tuples.{Group, Table, rows_of_blocks}
 use Rattle.gather_law.proofs.Draws.{drawn_are_below, rows_all}
 use Rattle.gather_law.proofs.Gathering.{All-apart}
 use Rattle.gather_law.proofs.Keys.{StandsFor, filter_through}
@@ -33,9 +32,9 @@ use Rattle.partial_agg.proofs.Adding.{both-none, grouped, groups_add}
 use Rattle.partial_agg.proofs.AnyOrder.{in_any_order}
 use Rattle.rel_pointer.specs.Bytes.{AllBytes}
 use Rattle.scan_claim.specs.Drawing.{below, flat, once_below, times}
-use Rattle.hash_law.specs.Law.{IsTabled, Share, Shares, TableGathers}
+use Rattle.hash_law.specs.Law.{IsTabled, Share, TableGathers}
 use Rattle.hash_law.proofs.Calls.{called_are, stands_combined}
-use Rattle.hash_law.proofs.Shared.{all_accepted, all_left, all_put, apart, blocks_stand, groups_in_blocks, put_or_left}
+use Rattle.hash_law.proofs.Shared.{all_accepted, apart, blocks_stand, groups_in_blocks, left_and_put}
 use Rattle.hash_law.proofs.States.{gathered_states, groups_in-states, states-other}
 
 -- ---- lists
@@ -51,11 +50,11 @@ all_keyed (put ∷ puts) h = both_parts put (flat_map (λ (p : List Group). p) p
 -- a key that some group has is a key of such groups
 key_keyed : (gs : List Group) → AllByRecursion IsKeyed gs → (key : List ℕ) (s : AggState) (ss : List AggState) → states_of key gs ≡ s ∷ ss → IsKeyed (key, s)
 key_keyed [] keyed key s ss e = absurd (cc)
-key_keyed (g ∷ gs) keyed key s ss e = by (keys_same_or_not key g.0)
+key_keyed (g ∷ gs) keyed key s ss e = by (key_keyed gs keyed.1 key s ss) (keys_same_or_not key g.0)
   where
-    by : (key ≡ g.0) ⊎ (key ≢ g.0) → IsKeyed (key, s)
-    by (inl same) = record { bytes = subst AllBytes (sym same) keyed.0.bytes; short = subst (λ (k : List ℕ). length k ≤ 248) (sym same) keyed.0.short }
-    by (inr differ) = key_keyed gs keyed.1 key s ss (sym (states-other key g gs differ) ∙ e)
+    by : (states_of key gs ≡ s ∷ ss → IsKeyed (key, s)) → (key ≡ g.0) ⊎ (key ≢ g.0) → IsKeyed (key, s)
+    by rest (inl same) = record { bytes = subst AllBytes (sym same) keyed.0.bytes; short = subst (λ (k : List ℕ). length k ≤ 248) (sym same) keyed.0.short }
+    by rest (inr differ) = rest (sym (states-other key g gs differ) ∙ e)
 
 none_combined : (states : List AggState) → IsPermutation [] states → all_combined states ≡ None
 none_combined [] same = refl
@@ -121,6 +120,15 @@ module _ (plan : Plan) (width : ℕ) (items_few : length plan.items ≤ 8) where
   kept_group : (rows : Table) (q : List ℕ) → group_of plan (kept rows) q ≡ group_of plan rows q
   kept_group rows q = ap (grouped plan) (filter_through (is_kept plan) (λ row. is_kept plan row && bytes_eq (key_of plan row) q) (not_kept q) rows)
 
+  -- the groups of two lists of rows, which are together those of the drawn rows that are kept, are those of all rows
+  two_parts : (xs ys drawn everything : Table) → Accepted xs → Accepted ys → length xs + length ys < 2 ^ 64 → Accepted drawn → IsPermutation (kept drawn) (xs ++ ys) → IsPermutation drawn everything
+      → (key : List ℕ) → both (group_of plan xs key) (group_of plan ys key) ≡ group_of plan everything key
+  two_parts xs ys drawn everything of_xs of_ys few accepted moved order key =
+      sym (groups_add plan width xs ys key of_xs of_ys few)
+      ∙ in_any_order plan width (kept drawn) (xs ++ ys) key (All-filter (is_kept plan) (IsAccepted plan width) drawn accepted) moved
+      ∙ kept_group drawn key
+      ∙ sym (in_any_order plan width drawn everything key accepted order)
+
   gathered : (records : Table) (draws : List (List ℕ)) (shares : List Share) (history : Seen) (left : List Group) (last : GroupsByKey) (n : ℕ)
       → IsTabled plan width records draws shares history left last
       → ((x : ℕ) → times x (flat draws) ≡ once_below x n) → length records ≤ 256 * n + 1 → length records < 2 ^ 63
@@ -139,14 +147,7 @@ module _ (plan : Plan) (width : ℕ) (items_few : length plan.items ≤ 8) where
       let accepted = all_accepted plan width records draws shares is.shared in
       let stand = blocks_stand plan width records drawn accepted (omega (arith, size, short, few)) in
       let blocks = groups_in_blocks plan width records drawn in
-      let puts_are : all_put plan width records shares ≡ put = sym (puts_flat shares) in
-      let order : IsPermutation blocks (left ++ put) =
-      IsPermutation-trans blocks (all_put plan width records shares ++ all_left plan width records shares) (left ++ put)
-      (put_or_left plan width records draws shares is.shared)
-      (IsPermutation-trans (all_put plan width records shares ++ all_left plan width records shares) (all_left plan width records shares ++ all_put plan width records shares) (left ++ put)
-      (IsPermutation-append_comm (all_put plan width records shares) (all_left plan width records shares))
-      (IsPermutation-append (all_left plan width records shares) left (all_put plan width records shares) put (IsPermutation-sym left (all_left plan width records shares) is.all_left)
-      (subst (IsPermutation (all_put plan width records shares)) puts_are (IsPermutation-refl (all_put plan width records shares))))) in
+      let order : IsPermutation blocks (left ++ put) = subst (λ l. IsPermutation blocks (left ++ l)) (sym (puts_flat shares)) (left_and_put plan width records draws shares left is.shared is.all_left) in
       let paired = goes_along (StandsFor plan) blocks (left ++ put) (kept rows_drawn) order stand in
       let parts = apart (StandsFor plan) left put paired.lists paired.each in
       let rows_left = flat_rows parts.first in
@@ -157,17 +158,12 @@ module _ (plan : Plan) (width : ℕ) (items_few : length plan.items ≤ 8) where
       let fine_parts = All-apart (IsAccepted plan width) rows_left rows_put (All-permutation (IsAccepted plan width) (kept rows_drawn) (rows_left ++ rows_put) moved fine) in
       let fewer : length (kept rows_drawn) ≤ length rows_drawn = (let both = length-filter_both (is_kept plan) (λ row. not (is_kept plan row)) (λ row. refl) rows_drawn in omega (arith, both)) in
       let lengths : length (rows_left ++ rows_put) ≡ length (kept rows_drawn) = length_permutation (kept rows_drawn) (rows_left ++ rows_put) moved in
-      let sum = length-append rows_left rows_put in (
+      let sum = length-append rows_left rows_put in
+      let both_few : length rows_left + length rows_put < 2 ^ 64 = omega (arith, sum, lengths, fewer, size, short, few) in
+      let one = each_key history puts is.table left last is.added parts.first parts.second parts.firsts parts.seconds fine_parts.0 fine_parts.1 (omega (arith, both_few)) (omega (arith, both_few)) in
+      let two = two_parts rows_left rows_put rows_drawn everything fine_parts.0 fine_parts.1 both_few accepted moved rows in (
         All-permutation (IsAccepted plan width) rows_drawn everything rows accepted,
-        record {
-          each = λ key.
-              each_key history puts is.table left last is.added parts.first parts.second parts.firsts parts.seconds fine_parts.0 fine_parts.1
-              (omega (arith, sum, lengths, fewer, size, short, few)) (omega (arith, sum, lengths, fewer, size, short, few)) key
-              ∙ sym (groups_add plan width rows_left rows_put key fine_parts.0 fine_parts.1 (omega (arith, sum, lengths, fewer, size, short, few)))
-              ∙ in_any_order plan width (kept rows_drawn) (rows_left ++ rows_put) key fine moved
-              ∙ kept_group rows_drawn key
-              ∙ sym (in_any_order plan width rows_drawn everything key accepted rows);
-        },
+        record { each = λ key. one key ∙ two key },
       )
 
 pub gathers : TableGathers

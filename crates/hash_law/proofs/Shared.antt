@@ -1,10 +1,10 @@
 -- The groups of all blocks, put in or left: whose rows they stand for.
-use Rattle.std.proofs.Common.{◌≡◌, ◌<◌, ◌≤◌, ◌+◌, ◌^◌, ◌++◌, ℕ, List, [], ◌∷◌, All, filter, length, map as map_list, not, refl, ap, sym, subst, ◌∙◌, arith, append_assoc, append-nil, length-append}
+use Rattle.std.proofs.Common.{◌≡◌, ◌<◌, ◌^◌, ◌++◌, ℕ, List, [], ◌∷◌, All, filter, length, refl, ap, sym, subst, arith, append_assoc, length-append}
 use Rattle.std.specs.List.{AllZip, flat_map}
 use Rattle.std.specs.List.Sorted.{IsPermutation}
 use Rattle.std.proofs.lemmas.List.Concat.{flat_map-append}
 use Rattle.std.proofs.lemmas.List.Elements.{All-append, All-nil, filter-append}
-use Rattle.std.proofs.lemmas.List.Sorted.{IsPermutation-append, IsPermutation-append_comm, IsPermutation-append_left, IsPermutation-append_right, IsPermutation-refl, IsPermutation-trans}
+use Rattle.std.proofs.lemmas.List.Sorted.{IsPermutation-append, IsPermutation-append_comm, IsPermutation-append_left, IsPermutation-append_right, IsPermutation-refl, IsPermutation-sym, IsPermutation-trans}
 use Rattle.gather_law.specs.Tuples.{Group, Table, groups_of, rows_of_blocks}
 use Rattle.gather_law.proofs.Gathering.{All-apart, one_batch}
 use Rattle.gather_law.proofs.Keys.{StandsFor}
@@ -54,13 +54,13 @@ module _ (plan : Plan) (width : ℕ) (records : Table) where
 
   -- ---- what was put in, and what was left
 
-  abbrev pub all_put : List Share → List Group
+  abbrev all_put : List Share → List Group
   all_put shares = flat_map (λ (s : Share). s.put) shares
 
-  abbrev pub all_left : List Share → List Group
+  abbrev all_left : List Share → List Group
   all_left shares = flat_map (λ (s : Share). s.left) shares
 
-  pub put_or_left : (draws : List (List ℕ)) (shares : List Share) → AllZip (Shares plan width records) draws shares → IsPermutation (groups_in_blocks (flat draws)) (all_put shares ++ all_left shares)
+  put_or_left : (draws : List (List ℕ)) (shares : List Share) → AllZip (Shares plan width records) draws shares → IsPermutation (groups_in_blocks (flat draws)) (all_put shares ++ all_left shares)
   put_or_left [] [] z = IsPermutation-refl []
   put_or_left [] (s ∷ shares) z = absurd z
   put_or_left (d ∷ draws) [] z = absurd z
@@ -70,6 +70,15 @@ module _ (plan : Plan) (width : ℕ) (records : Table) where
       (IsPermutation-trans (groups_in_blocks d ++ groups_in_blocks (flat draws)) ((s.put ++ s.left) ++ (all_put shares ++ all_left shares)) ((s.put ++ all_put shares) ++ (s.left ++ all_left shares))
       (IsPermutation-append (groups_in_blocks d) (s.put ++ s.left) (groups_in_blocks (flat draws)) (all_put shares ++ all_left shares) z.0.all rest)
       (between s.put s.left (all_put shares) (all_left shares)))
+
+  -- what was left, in any order, and what was put in are the groups of all blocks
+  pub left_and_put : (draws : List (List ℕ)) (shares : List Share) (left : List Group) → AllZip (Shares plan width records) draws shares → IsPermutation left (all_left shares)
+      → IsPermutation (groups_in_blocks (flat draws)) (left ++ all_put shares)
+  left_and_put draws shares left z order =
+      IsPermutation-trans (groups_in_blocks (flat draws)) (all_put shares ++ all_left shares) (left ++ all_put shares) (put_or_left draws shares z)
+      (IsPermutation-trans (all_put shares ++ all_left shares) (all_left shares ++ all_put shares) (left ++ all_put shares)
+      (IsPermutation-append_comm (all_put shares) (all_left shares))
+      (IsPermutation-append_left (all_put shares) (all_left shares) left (IsPermutation-sym left (all_left shares) order)))
 
   pub all_accepted : (draws : List (List ℕ)) (shares : List Share) → AllZip (Shares plan width records) draws shares → All (IsAccepted plan width) (rows_of_blocks records (flat draws))
   all_accepted [] [] z = All-nil (IsAccepted plan width)

@@ -1,9 +1,8 @@
 -- The states of a key among some groups: what adding the groups to a map gives, and the rows that they stand for.
-use Rattle.std.proofs.Common.{◌≡◌, ◌≢◌, ◌⊎◌, inl, inr, ◌++◌, ℕ, Bool, true, false, cond, if◌then◌else◌, List, [], ◌∷◌, Option, Some, None, filter, map as map_list, bytes_eq, refl, ap, sym, ◌∙◌}
+use Rattle.std.proofs.Common.{◌≡◌, ◌≢◌, ◌⊎◌, inl, inr, ◌++◌, ℕ, Bool, true, false, cond, List, [], ◌∷◌, Option, Some, None, filter, map as map_list, refl, ap, sym, ◌∙◌}
 use Rattle.std.specs.Cmp.Lexicographic.{nat_list_cmp_total, slice_cmp}
 use Rattle.std.specs.FinMap as fin
 use Rattle.std.specs.List.{AllZip, cons_option}
-use Rattle.std.specs.List.Sorted.{IsPermutation}
 use Rattle.std.specs.Ordering.{eq_by_cmp, nat_cmp}
 use Rattle.std.proofs.lemmas.List.{map-append}
 use Rattle.std.proofs.lemmas.List.Elements.{filter-append}
@@ -35,7 +34,6 @@ all_states : (gs : List Group) (m : GroupsByKey) (key : List ℕ) → fin.get (w
 all_states [] m key = refl
 all_states (g ∷ gs) m key = all_states gs (added m g.0 g.1) key ∙ by (keys_same_or_not key g.0)
   where
-
     now : fin.get (added m g.0 g.1) key ≡ cond {A = Option AggState} (eq_by_cmp (slice_cmp nat_cmp) key g.0) (Some (joined (fin.get m g.0) g.1)) (fin.get m key)
     now = fin.get-insert nat_list_cmp_total m g.0 (joined (fin.get m g.0) g.1) key
 
@@ -57,14 +55,11 @@ pub groups_in-states : (plan : Plan) (key : List ℕ) (gs : List Group) (lists :
 groups_in-states plan key [] [] z = refl
 groups_in-states plan key [] (l ∷ lists) z = absurd z
 groups_in-states plan key (g ∷ gs) [] z = absurd z
-groups_in-states plan key (g ∷ gs) (l ∷ lists) z = by (keys_same_or_not key g.0)
+groups_in-states plan key (g ∷ gs) (l ∷ lists) z = by (groups_in-states plan key gs lists z.1) (keys_same_or_not key g.0)
   where
-    rest : groups_in plan lists key ≡ states_of key gs
-    rest = groups_in-states plan key gs lists z.1
-
     one : (b : Bool) → eq_by_cmp (slice_cmp nat_cmp) key g.0 ≡ b → group_of plan l key ≡ cond {A = Option AggState} b (Some g.1) None
     one b e = z.0.each key ∙ ap (λ t. cond {A = Option AggState} t (Some g.1) None) (sym (ties key g.0) ∙ e)
 
-    by : (key ≡ g.0) ⊎ (key ≢ g.0) → cons_option (group_of plan l key) (groups_in plan lists key) ≡ states_of key (g ∷ gs)
-    by (inl same) = ap (λ o. cons_option o (groups_in plan lists key)) (one true (same_key key g.0 same)) ∙ ap (λ (ss : List AggState). g.1 ∷ ss) rest ∙ sym (states-here key g gs same)
-    by (inr differ) = ap (λ o. cons_option o (groups_in plan lists key)) (one false (other_key key g.0 differ)) ∙ rest ∙ sym (states-other key g gs differ)
+    by : groups_in plan lists key ≡ states_of key gs → (key ≡ g.0) ⊎ (key ≢ g.0) → cons_option (group_of plan l key) (groups_in plan lists key) ≡ states_of key (g ∷ gs)
+    by rest (inl same) = ap (λ o. cons_option o (groups_in plan lists key)) (one true (same_key key g.0 same)) ∙ ap (λ (ss : List AggState). g.1 ∷ ss) rest ∙ sym (states-here key g gs same)
+    by rest (inr differ) = ap (λ o. cons_option o (groups_in plan lists key)) (one false (other_key key g.0 differ)) ∙ rest ∙ sym (states-other key g gs differ)
