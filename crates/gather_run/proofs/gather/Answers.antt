@@ -16,6 +16,7 @@ use Rattle.gather_run.specs.Drained.{AddsAll}
 use Rattle.gather_run.specs.Leading.{HasLed, Led}
 use Rattle.gather_run.specs.Used.{IsUsed}
 use Rattle.gather_run.proofs.Home.{gathered, held, made_where, ran_home, ran_well, same_there, tells}
+use Rattle.gather_run.proofs.Looking.{on_ok}
 use Rattle.gather_run.proofs.Together.{leader_first, leader_row, worker_first, worker_row}
 use Rattle.gather_run.proofs.gather.Goals as goal
 
@@ -98,7 +99,8 @@ returns-clause-groups g c =
     let asked : length ws ≡ c.args.workers = r.asked ∙ c.in-Ok.ensures.asked in
     let items : length p.plan.items ≤ 8 = subst (λ (q : Plan). length q.items ≤ 8) (sym c.in-Ok.ensures.plan) c.has_few_items.ensures in
     let went = ran_well _ p f leader records leader.groups r led are c.count_blocks.ensures.short (omega (arith, asked, c.requires.workers)) items well in
-    let added = subst (λ (m : GroupsByKey). AddsAll (option_map (λ t. whole_of t) f.table) m c.add_table.new.groups) c.into_groups-groups.ensures.0 c.if-not-is_err.ensures.added in
+    let here = on_ok c.add_table.result (AddsAll (option_map (λ t. whole_of t) f.table) c.into_groups-groups.result.0 c.add_table.new.groups) (sym c.if-is_err.ensures.value) c.add_table.ensures.added in
+    let added = subst (λ (m : GroupsByKey). AddsAll (option_map (λ t. whole_of t) f.table) m c.add_table.new.groups) c.into_groups-groups.ensures.0 here in
     let all = gathered (λ t. whole_of t) f.areas.items p.plan records blocks r.drawn.0 (lists_of f.drawn) r.own r.draws ws leader.groups gathers f.table went c.add_table.new.groups added in
     subst (λ (q : Plan). AreAllGroups q records c.into_groups.result) c.in-Ok.ensures.plan
     (record {
@@ -129,7 +131,7 @@ returns-clause-used g c =
     let t = tells (λ t. whole_of t) f.areas.items p.plan records blocks r.drawn.0 (lists_of f.drawn) r.own r.draws ws leader.groups f.table c.add_table.new.table went same in
     let home = ran_home _ _ p f leader r in
     let made = subst (λ (q : Plan). HasTable q c.args.area_pages p.shared.hash) (sym c.in-Ok.ensures.plan) c.in-Ok.ensures.hash in
-    subst (λ (q : Plan). IsUsed q records c.args.workers c.args.area_pages _) c.in-Ok.ensures.plan
+    subst (λ (q : Plan). IsUsed q records c.args.workers c.args.area_pages (record f { table = c.add_table.new.table })) c.in-Ok.ensures.plan
     (record {
       asked = asked;
       numbers = r.numbers;
