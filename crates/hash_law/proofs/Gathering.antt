@@ -120,6 +120,9 @@ module _ (plan : Plan) (width : ℕ) (items_few : length plan.items ≤ 8) where
   kept_group : (rows : Table) (q : List ℕ) → group_of plan (kept rows) q ≡ group_of plan rows q
   kept_group rows q = ap (grouped plan) (filter_through (is_kept plan) (λ row. is_kept plan row && bytes_eq (key_of plan row) q) (not_kept q) rows)
 
+  flat_parts : (xs ys zs : List Table) → zs ≡ xs ++ ys → flat_rows zs ≡ flat_rows xs ++ flat_rows ys
+  flat_parts xs ys zs is = ap flat_rows is ∙ flat_map-append (λ (rows : Table). rows) xs ys
+
   -- the groups of two lists of rows, which are together those of the drawn rows that are kept, are those of all rows
   two_parts : (xs ys drawn everything : Table) → Accepted xs → Accepted ys → length xs + length ys < 2 ^ 64 → Accepted drawn → IsPermutation (kept drawn) (xs ++ ys) → IsPermutation drawn everything
       → (key : List ℕ) → both (group_of plan xs key) (group_of plan ys key) ≡ group_of plan everything key
@@ -128,6 +131,10 @@ module _ (plan : Plan) (width : ℕ) (items_few : length plan.items ≤ 8) where
       ∙ in_any_order plan width (kept drawn) (xs ++ ys) key (All-filter (is_kept plan) (IsAccepted plan width) drawn accepted) moved
       ∙ kept_group drawn key
       ∙ sym (in_any_order plan width drawn everything key accepted order)
+
+  of_parts : (last : GroupsByKey) (xs ys everything : Table) → ((key : List ℕ) → fin.get last key ≡ both (group_of plan xs key) (group_of plan ys key))
+      → ((key : List ℕ) → both (group_of plan xs key) (group_of plan ys key) ≡ group_of plan everything key) → AreGroups plan everything last
+  of_parts last xs ys everything one two = record { each = λ key. one key ∙ two key }
 
   gathered : (records : Table) (draws : List (List ℕ)) (shares : List Share) (history : Seen) (left : List Group) (last : GroupsByKey) (n : ℕ)
       → IsTabled plan width records draws shares history left last
@@ -152,7 +159,7 @@ module _ (plan : Plan) (width : ℕ) (items_few : length plan.items ≤ 8) where
       let parts = apart (StandsFor plan) left put paired.lists paired.each in
       let rows_left = flat_rows parts.first in
       let rows_put = flat_rows parts.second in
-      let whole : flat_rows paired.lists ≡ rows_left ++ rows_put = ap flat_rows parts.is ∙ flat_map-append (λ (l : Table). l) parts.first parts.second in
+      let whole : flat_rows paired.lists ≡ rows_left ++ rows_put = flat_parts parts.first parts.second paired.lists parts.is in
       let moved : IsPermutation (kept rows_drawn) (rows_left ++ rows_put) = subst (IsPermutation (kept rows_drawn)) whole paired.same in
       let fine : Accepted (kept rows_drawn) = All-filter (is_kept plan) (IsAccepted plan width) rows_drawn accepted in
       let fine_parts = All-apart (IsAccepted plan width) rows_left rows_put (All-permutation (IsAccepted plan width) (kept rows_drawn) (rows_left ++ rows_put) moved fine) in
@@ -163,7 +170,7 @@ module _ (plan : Plan) (width : ℕ) (items_few : length plan.items ≤ 8) where
       let one = each_key history puts is.table left last is.added parts.first parts.second parts.firsts parts.seconds fine_parts.0 fine_parts.1 (omega (arith, both_few)) (omega (arith, both_few)) in
       let two = two_parts rows_left rows_put rows_drawn everything fine_parts.0 fine_parts.1 both_few accepted moved rows in (
         All-permutation (IsAccepted plan width) rows_drawn everything rows accepted,
-        record { each = λ key. one key ∙ two key },
+        of_parts last rows_left rows_put everything one two,
       )
 
 pub gathers : TableGathers
