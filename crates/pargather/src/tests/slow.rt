@@ -5,13 +5,16 @@ ghost use Rattle.csv_rows.specs.Records.{record_at};
 ghost use Rattle.par_model.specs.Columns.{HasColumns};
 ghost use Rattle.partial_agg.specs.Rows.{header_width};
 
-use crate::groups::groups_of;
 use csv_rows::{RowStore, rows};
+use gather_run::gather;
+use par_gather::OpenGate;
 use par_model::{BoundPlan, Field, Row, slow_refusal, slow_state};
 use partial_agg::refusal;
 use plan_spec::Plan;
 use std::alloc::{AllocError, Global};
+use std::sync::Wait;
 use std::test::Fail;
+use std::thread::Threads;
 
 /// A header, and a row for each key, value and mark.
 fn table_of(
@@ -68,7 +71,8 @@ fn copied_rows(alloc: Global, store: &RowStore, width: u32) -> Result<Vec<Row>, 
 }
 
 /// How many groups a store has, if the state of each is that of the slow program.
-fn agreeing_groups(
+fn agreeing_groups<R: Threads + Wait + Sync>(
+    rt: &R,
     alloc: Global,
     store: &RowStore,
     plan: &BoundPlan,
@@ -78,9 +82,10 @@ fn agreeing_groups(
     // Tells that there is a header. It does nothing.
     let _count = store.count();
     let rows = copied_rows(alloc, store, store.width(0))?;
-    let Ok(groups) = groups_of(alloc, store, plan) else {
+    let Ok(gathered) = gather(rt, alloc, store, plan, 2, &OpenGate) else {
         return Ok(None);
     };
+    let groups = gathered.groups;
     for at in 0..groups.len() {
         let group = groups.get(at);
         if slow_state(rows.as_slice(), group.key.bytes(), plan) != group.state {
@@ -149,7 +154,7 @@ fn groups_agree(rt: HostRuntime) -> Result<(), Fail> {
         let Ok(plan) = plan.bind(&store) else {
             return Err("columns".into());
         };
-        let found = agreeing_groups(rt.alloc(), &store, &plan)?;
+        let found = agreeing_groups(&rt, rt.alloc(), &store, &plan)?;
         assert_eq!(rt; found, Some(count), "groups of {words}");
     }
     Ok(())
