@@ -11,7 +11,7 @@ use Rattle.gen_query.specs.Words.{Asked}
 -- two workers shared the blocks of these records with the leader, and the groups are those of all rows
 pub record IsGatheredOf (records : Table) (g : Gathered) : Type 0 where
   pub groups : AreAllGroups bound_gen records g.groups
-  pub used : IsUsed bound_gen records 2 g.finished
+  pub used : IsUsed bound_gen records 2 2048 g.finished
 
 -- so it is for the rows that words ask for
 abbrev pub IsGatheredBy : Option Asked → Gathered → Type 0

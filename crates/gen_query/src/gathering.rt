@@ -20,6 +20,9 @@ use worker_run::Gate;
 /// How many workers there are beside the caller's thread.
 const WORKERS: u32 = 2;
 
+/// How many pages a shared table of groups would have, for which the plan does not ask.
+const AREA_PAGES: u32 = 2_048;
+
 /// The plan over the columns `g` and `v`: the rows and the sum of `v` by `g`.
 fn plan() -> BoundPlan
     ensures plan { result ≡ bound_gen }
@@ -83,7 +86,7 @@ pub(crate) fn gather_rows<G: Gate + Sync, R: Threads + Wait + Sync>(
     requires accepted { All (IsAccepted bound_gen 2) (drop 1 rows.now) }
     ensures { IfOk result (λ gathered. IsGatheredOf rows.now gathered) }
 {
-    match gather(rt, alloc, rows, &plan(), WORKERS, gate) {
+    match gather(rt, alloc, rows, &plan(), WORKERS, AREA_PAGES, gate) {
         Ok(gathered) => Ok(gathered),
         Err(GatherAnswer::Memory) => Err(AllocError),
         Err(GatherAnswer::Row { .. }) => unreachable!(),

@@ -373,6 +373,7 @@ fn answer_gathered<R: Threads + Wait + Sync, S: Source, O: Sink, G: Gate + Sync>
         &ready.rows,
         &ready.bound,
         ready.plan.workers(),
+        ready.plan.area_pages(),
         gate,
     ) {
         Ok(gathered) => gathered,

@@ -82,7 +82,7 @@ fn agreeing_groups<R: Threads + Wait + Sync>(
     // Tells that there is a header. It does nothing.
     let _count = store.count();
     let rows = copied_rows(alloc, store, store.width(0))?;
-    let Ok(gathered) = gather(rt, alloc, store, plan, 2, &OpenGate) else {
+    let Ok(gathered) = gather(rt, alloc, store, plan, 2, 0, &OpenGate) else {
         return Ok(None);
     };
     let groups = gathered.groups;
