@@ -84,13 +84,14 @@ pub enum Ran {
 ///
 /// The bytes are cut into records by the caller's thread and as many workers as the words ask for, each a part of them.
 /// The rows are shared out, by blocks of 256, among the same number; each participant passes the gate before each of
-/// its blocks, the caller's thread as participant 0. So far the plan `hash` runs as the plan `gather`, and
-/// `--area-pages` is read and checked alone. Of several refused rows the line may name any one, unless no workers are
-/// asked for.
+/// its blocks, the caller's thread as participant 0. In the plan `hash`, with `--area-pages` of 16 or more, they share a
+/// table of groups in an area of so many pages of 4 KiB; a group that finds no room there, and each group in the plan
+/// `gather`, comes to the caller's thread. What is written is the same. Of several refused rows the line may name any one,
+/// unless no workers are asked for.
 ///
 /// Time is linear in the input, but for the look-up of each row's group and the order of the groups, or of the rows.
 /// Memory is the input, its records, about 700 bytes for each group, twice over while their list is made, and for each
-/// worker 82 KB and the groups that it keeps, 4,351 at most; for rows in order it is the input, its records, 16 bytes a
+/// worker 82 KB and the groups that it keeps, 4,351 at most, and the area of a shared table; for rows in order it is the input, its records, 16 bytes a
 /// row, 82 KB for each worker, and 64 KiB of bytes that wait to be written.
 pub fn pargather<R: Threads + Wait + Sync, S: Source, O: Sink, E: Sink, G: Gate + Sync>(
     rt: &R,
