@@ -5,3 +5,6 @@ pub mod Growing
 pub mod Asking
 pub mod Opened
 pub mod Seats
+pub mod Listed
+pub mod Standing
+pub mod Drains

@@ -9,9 +9,13 @@
 #![tactic(auto)]
 
 mod close;
+mod draining;
 mod opening;
 mod part;
 mod put;
+#[cfg(test)]
+mod tests;
 
+pub use draining::drain;
 pub use opening::{LEAST_PAGES, open};
 pub use part::{HashPart, HashSeat};

@@ -84,7 +84,7 @@ impl<'a> Lead for Leaver<'a> {
 #[test]
 fn a_worker_is_stopped(rt: HostRuntime) -> Result<(), Fail> {
     let text = table(rt.alloc(), 3, 2, 0)?;
-    let (rows, plan) = query(rt.alloc(), &text)?;
+    let (rows, plan) = query(rt.alloc(), &text, false)?;
     let gate = Barred {
         open: AtomicBool::new(false),
     };
