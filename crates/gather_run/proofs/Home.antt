@@ -37,7 +37,7 @@ pub table_home : {A : Type 0} (P Q : A → Type 0) (R : HashPart → A → Type 
 table_home P Q R None None some none = (refl, tt, tt, tt)
 table_home P Q R None (Some c) some none = let no : Some c ≡ None = none refl in cc
 table_home P Q R (Some part) None some none = absurd (some part refl)
-table_home P Q R (Some part) (Some c) some none = let h = some part refl in (refl, h.0, h.1.0, (part, h.1.1))
+table_home P Q R (Some part) (Some c) some none = let h = some part refl in (refl, h.0, h.1, (part, h.2))
 
 pub same_there : {A : Type 0} (h : A → Seen) (o o' : Option A) → SameHistories (option_map h o) (option_map h o') → is_some o' ≡ is_some o
 same_there h None None same = refl
@@ -160,7 +160,7 @@ ran_well leads p f lead records groups r led are few short items well = record {
   well = well;
   led = led;
   whole = subst (λ k. IfSome f.table (λ c. AreWhole (suc k) (whole_of c))) (sym r.asked)
-      (table_home (λ c. AreWhole (suc (length p.hands)) (whole_of c)) (λ c. left_of c ≡ 128) (λ part c. IsOf p.shared.region part.table c) p.shared.hash f.table r.table (λ e. (r.no_table e).0)).1.0;
+      (table_home (λ c. AreWhole (suc (length p.hands)) (whole_of c)) (λ c. left_of c ≡ 128) (λ part c. IsOf p.shared.region part.table c) p.shared.hash f.table r.table (λ e. (r.no_table e).0)).1;
 }
 
 -- the table that came home is the one that was made, whole, and there where one was made
@@ -168,7 +168,7 @@ pub ran_home : {L : Type 0} (did : Plan → ℕ → Account → WorkerEnd → Ty
     → (is_some f.table ≡ is_some p.shared.hash) × IfSome f.table (λ c. left_of c ≡ 128) × IfSome f.table (λ c. (part : HashPart) × IsOf f.region part.table c)
 ran_home did leads p f lead r =
     let home = table_home (λ c. AreWhole (suc (length p.hands)) (whole_of c)) (λ c. left_of c ≡ 128) (λ part c. IsOf p.shared.region part.table c) p.shared.hash f.table r.table (λ e. (r.no_table e).0) in
-    (home.0, home.1.1.0, subst (λ region. IfSome f.table (λ c. (part : HashPart) × IsOf region part.table c)) (sym r.region) home.1.1.1)
+    (home.0, home.2, subst (λ region. IfSome f.table (λ c. (part : HashPart) × IsOf region part.table c)) (sym r.region) home.3)
 
 -- a table was made exactly where the plan asks for it and its area has room for it
 pub made_where : (plan : Plan) (pages : ℕ) (o : Option HashPart) → HasTable plan pages o → is_some o ≡ (plan.hash && leb 16 pages)

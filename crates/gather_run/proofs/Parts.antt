@@ -25,10 +25,10 @@ use Rattle.gather_law.proofs.Permute.{AllZip-at, AllZip-join, AllZip-long, AllZi
 use Rattle.gather_run.specs.Answers.{IsFirst}
 use Rattle.gather_run.specs.Leading.{IsLeading}
 use Rattle.gather_run.specs.Reading.{ReadAs}
+use Rattle.gather_run.proofs.Shares.{no_entries}
 use Rattle.gather_run.specs.Sharing.{DoesBlock, DoesBlocks, SharesGroups}
 use Rattle.parallel_ctx.specs.Accounts.{IsUnusedTable}
 use Rattle.worker_run.specs.Tabled.{groups_of_blocks}
-use Rattle.worker_run.proofs.Sent.{no_entries}
 use Rattle.worker_run.proofs.Working.{late_draw, more_blocks, no_rows}
 
 blocks-append : (xs ys : List Part) → blocks_in (xs ++ ys) ≡ blocks_in xs ++ blocks_in ys

@@ -13,13 +13,13 @@ module _ (region : TableId) where
   seated_at_first number None None h = tt
   seated_at_first number None (Some s) h = absurd h
   seated_at_first number (Some p) None h = absurd h
-  seated_at_first number (Some p) (Some s) h = (h.0, h.1.0)
+  seated_at_first number (Some p) (Some s) h = (h.0, h.1)
 
   pub unused_at_first : (number : ℕ) (p : Option HashPart) (s : Option HashSeat) → IsHashSeat region number p s → IsUnusedTable (use_in s)
   unused_at_first number None None h = tt
   unused_at_first number None (Some s) h = absurd h
   unused_at_first number (Some p) None h = absurd h
-  unused_at_first number (Some p) (Some s) h = h.1.1.turns
+  unused_at_first number (Some p) (Some s) h = h.2.turns
 
   pub stays_seated : (p : Option HashPart) (s : Option HashSeat) → IsSeated region p s → StaysSeated p s s
   stays_seated None None h = tt

@@ -1,14 +1,26 @@
 -- Groups are shared out, one after another.
-use Rattle.std.proofs.Common.{◌≡◌, ◌++◌, ◌⊎◌, inl, inr, List, [], ◌∷◌, fold, refl, ap, sym, subst, ◌∙◌, append-nil, append_assoc}
+use Rattle.std.proofs.Common.{◌≡◌, ◌++◌, ◌⊎◌, inl, inr, ℕ, List, [], ◌∷◌, length, Result, Ok, Err, IfErr, arith, refl, ap, sym, subst, ◌∙◌, append-nil, append_assoc}
 use Rattle.std.specs.FinMap as map
 use Rattle.std.proofs.lemmas.List.Sums.{fold-append}
 use Rattle.agg_table.specs.Calls.{HasPut, Use}
 use Rattle.agg_table.proofs.Putting.{has_left_more, has_put_more}
-use Rattle.partial_agg.specs.Groups.{GroupsByKey, added}
+use Rattle.par_model.specs.declared.state.AggState.{AggState}
+use Rattle.partial_agg.specs.Groups.{GroupsByKey, added, key_cmp}
+use Rattle.partial_agg.specs.Blocks.{Stopped}
+use Rattle.partial_agg.specs.declared.map.BlockAnswer.{BlockAnswer}
+use Rattle.partial_agg.specs.declared.map.BlockAnswer.TheVariants as answer
+use Rattle.par_model.specs.Plan.{Plan}
 use Rattle.gather_law.specs.Parts.{with_all}
-use Rattle.gather_law.specs.Tuples.{Group}
-use Rattle.worker_run.proofs.Sent.{no_entries}
-use Rattle.gather_run.specs.Sharing.{SharesGroup, SharesGroups}
+use Rattle.gather_law.specs.Tuples.{Group, Table}
+use Rattle.gather_run.specs.Sharing.{SharesGroup, SharesGroups, StopsAt}
+
+nil_of_length : {A : Type 0} (xs : List A) → length xs ≡ 0 → xs ≡ []
+nil_of_length [] e = refl
+nil_of_length (x ∷ xs) e = let no : ⊥ = grind arith in absurd no
+
+-- an empty map has no groups
+pub no_entries : map.entries (map.empty {K = List ℕ} {X = AggState} {R = key_cmp}) ≡ []
+no_entries = nil_of_length (map.entries map.empty) (sym (map.len-entries map.empty) ∙ map.len-empty key_cmp AggState)
 
 -- of the groups of a map some were shared out, and the others are in it yet
 pub record IsSharing (groups rest : GroupsByKey) (u v : Use) (before now : GroupsByKey) : Type 0 where
@@ -59,3 +71,13 @@ pub sharing-end : (groups rest : GroupsByKey) (u v : Use) (before now : GroupsBy
 sharing-end groups rest u v before now i e =
     let all : map.entries groups ≡ i.done = i.split ∙ ap (λ (m : GroupsByKey). i.done ++ map.entries m) e ∙ ap (λ l. i.done ++ l) no_entries ∙ append-nil i.done in
     subst (λ (gs : List Group). SharesGroups gs u v before now) (sym all) i.shares
+
+-- ---- a block that stopped
+
+pub stops_at : (plan : Plan) (records : Table) (block : ℕ) (old new : GroupsByKey) (why : BlockAnswer) → Stopped plan records block old new why → StopsAt plan records block why
+stops_at plan records block old new (answer.Row row cause item) s = record { before = old; now = new; stopped = s }
+stops_at plan records block old new answer.Memory s = tt
+
+pub stops_if : (plan : Plan) (records : Table) (block : ℕ) (old new : GroupsByKey) (r : Result (Unit {0}) BlockAnswer) → IfErr r (Stopped plan records block old new) → IfErr r (StopsAt plan records block)
+stops_if plan records block old new (Ok done) h = tt
+stops_if plan records block old new (Err why) h = stops_at plan records block old new why h

@@ -53,7 +53,7 @@ same_groups plan (h ∷ hs) (g ∷ gs) r t =
     let one : g ≡ h = r.0.each h.0 h.1 (length plan.items) t.0 refl in
     ap (λ x. x ∷ gs) one ∙ ap (λ l. h ∷ l) (same_groups plan hs gs r.1 t.1)
 
-no_groups_read : (gs : List Group) → ReadAs [] gs → gs ≡ []
+pub no_groups_read : (gs : List Group) → ReadAs [] gs → gs ≡ []
 no_groups_read [] r = refl
 no_groups_read (g ∷ gs) r = absurd r
 

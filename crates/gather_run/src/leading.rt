@@ -114,7 +114,10 @@ fn lead_next<G: Gate, R: Wait>(
     ensures step { Steps plan.now rows.now claims.now (draws_of claim.new) (use_in seat.new) queues.new groups.new result }
 {
     match hear_all(rt, r, queues, groups) {
-        Hearing::Quiet | Hearing::Ended => lead_block(
+        Hearing::Quiet => lead_block(
+            rt, r, plan, rows, gate, claims, claim, part, seat, block_groups, groups,
+        ),
+        Hearing::Ended => lead_block(
             rt, r, plan, rows, gate, claims, claim, part, seat, block_groups, groups,
         ),
         Hearing::NoRoom => Step::Failed(GatherAnswer::Memory),

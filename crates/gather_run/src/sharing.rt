@@ -86,7 +86,9 @@ fn share_block<R: Wait>(
     ensures shared { OnOk result (SharesGroups (groups_of plan.now (block_rows rows.now block)) (use_of seat.old) (use_of seat.new) groups.old groups.new) }
     ensures stopped { IfErr result (StopsAt plan.now rows.now block) }
 {
-    block_groups.add_block(rows, plan, block)?;
+    if let Err(why) = block_groups.add_block(rows, plan, block) {
+        return Err(why);
+    }
     if share_groups(rt, r, part, seat, block_groups, groups).is_err() {
         return Err(BlockAnswer::Memory);
     }

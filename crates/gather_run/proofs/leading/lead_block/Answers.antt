@@ -3,7 +3,7 @@ use Rattle.agg_table.specs.Tokens.{use_in}
 use Rattle.scan_claim.specs.Shown.{blocks_of, draws_of}
 use Rattle.worker_run.proofs.Ends.{refused_row}
 use Rattle.gather_run.specs.Leading.{IsLeading}
-use Rattle.gather_run.specs.Sharing.{StopsAt}
+use Rattle.gather_run.specs.Sharing.{StopsAtRow}
 use Rattle.gather_run.proofs.Parts.{first_row, leading-block, leading-late}
 use Rattle.gather_run.proofs.leading.lead_block.Goals as goal
 
@@ -21,7 +21,7 @@ returns-in-Ok-clause-step g c tuples l =
 pub returns-in-Err-Row-clause-step : goal.returns-in-Err-Row-clause-step
 returns-in-Err-Row-clause-step g c tuples l =
     let e = c.in-Err-Row in
-    let s : StopsAt c.args.plan.now c.args.rows.now c.in-Some.block _ = rw e.field-0-is at e.ensures.stopped in
+    let s : StopsAtRow c.args.plan.now c.args.rows.now c.in-Some.block e.row e.cause e.item = rw e.field-0-is at e.ensures.stopped in
     record {
       refused = refused_row c.args.plan.now c.args.rows.now c.in-Some.block e.row e.cause e.item s.before s.now s.stopped;
       first = λ alone.
