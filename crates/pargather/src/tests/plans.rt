@@ -62,7 +62,7 @@ fn keyed(alloc: Global, rows: u32) -> Result<Vec<u8>, AllocError> {
     Ok(text)
 }
 
-/// What holds much is the table of the workers alone: 16 pages are the fewest that have one at all, and few groups.
+/// With 16 pages, the fewest with which there is a shared table, many groups find no room in it.
 #[test]
 fn the_same_bytes(rt: HostRuntime) -> Result<(), Fail> {
     let alloc = rt.alloc();
