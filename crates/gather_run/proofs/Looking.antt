@@ -1,18 +1,13 @@
 -- What looks at the queues come to.
-use Rattle.std.proofs.Common.{◌≡◌, ◌<◌, ◌≤◌, ◌+◌, ◌++◌, ◌⊎◌, ◌&&◌, ◌==◌, inl, inr, ℕ, zero, suc, Bool, true, false, List, [], ◌∷◌, Ok, Err, Result, OnOk, Option, Some, None, IsTrue, length, set, get_or, map, fold, All, Any, refl, ap, sym, subst, ◌∙◌, arith, append-nil, append_assoc}
+use Rattle.std.proofs.Common.{◌≡◌, ◌<◌, ◌++◌, ◌⊎◌, ◌==◌, inl, inr, ℕ, zero, suc, true, false, List, [], ◌∷◌, Ok, Err, Result, OnOk, Option, Some, None, IsTrue, length, set, get_or, map, All, Any, refl, ap, sym, subst, ◌∙◌, arith, append-nil, append_assoc}
 use Rattle.std.specs.List.{AllZip}
 use Rattle.std.specs.Result.{is_err}
 use Rattle.std.proofs.lemmas.List.Sums.{fold-append}
 use Rattle.agg_table.specs.Calls.{Use}
-use Rattle.error_queue.specs.Message.{IsMessage, encoding}
-use Rattle.error_queue.specs.declared.ErrorMessage.{ErrorMessage}
-use Rattle.error_queue.specs.declared.ErrorMessage.TheVariants as message
 use Rattle.mq_handle.specs.Messages.{whole_of}
 use Rattle.par_model.specs.Plan.{Plan}
-use Rattle.par_model.specs.declared.state.AggState.{AggState}
 use Rattle.partial_agg.specs.Groups.{GroupsByKey, added}
 use Rattle.ring_rule.specs.Ring.{Receiving}
-use Rattle.tuple_codec.specs.Tuple.{IsTuple, tuple_bytes}
 use Rattle.gather_law.specs.Tuples.{Group, Table}
 use Rattle.gather_law.proofs.Permute.{AllZip-join}
 use Rattle.parallel_ctx.specs.Accounts.{Heard, heard, is_over}
@@ -22,7 +17,7 @@ use Rattle.gather_run.specs.Leading.{IsLeading, Led}
 use Rattle.gather_run.specs.Looks.{HearsOut, IsOverQueue, NamedBy, Takes, tuples_of}
 use Rattle.gather_run.specs.Steps.{BlockStep, Steps}
 use Rattle.gather_law.specs.Parts.{with_all}
-use Rattle.gather_run.specs.Reading.{ReadAs, ReadsAs, ReadsRow}
+use Rattle.gather_run.specs.Reading.{ReadsAs, ReadsRow}
 use Rattle.std.proofs.lemmas.List.Elements.{All-map}
 use Rattle.scan_claim.specs.Drawing.{is_spent}
 use Rattle.scan_claim.specs.Shown.{callers_of}

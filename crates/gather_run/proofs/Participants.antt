@@ -1,5 +1,5 @@
 -- What the leader and the workers did with a table of groups, put together.
-use Rattle.std.proofs.Common.{◌≡◌, ◌<◌, ◌≤◌, ◌+◌, ◌*◌, ◌^◌, ◌++◌, ℕ, zero, suc, List, [], ◌∷◌, length, drop, fold, slice_get, map as map_list, All, Any, MatchOption, Option, option_map, Some, None, refl, ap, sym, subst, ◌∙◌, arith, true}
+use Rattle.std.proofs.Common.{◌≡◌, ◌<◌, ◌≤◌, ◌+◌, ◌*◌, ◌^◌, ◌++◌, ℕ, zero, suc, List, [], ◌∷◌, length, drop, fold, slice_get, map as map_list, All, Any, MatchOption, Option, Some, None, refl, ap, sym, subst, ◌∙◌, arith, true}
 use Rattle.std.specs.FinMap as map
 use Rattle.std.specs.List.{AllZip, flat_map}
 use Rattle.std.specs.List.Sorted.{IsPermutation}
@@ -10,7 +10,7 @@ use Rattle.agg_table.specs.Calls.{AggEntry, HasPut, IsKeyed, IsMissing, Use, Was
 use Rattle.agg_table.specs.Drained.{AddsTable, HoldsAll}
 use Rattle.agg_table.proofs.Putting.{has_put_nothing}
 use Rattle.dshash_core.specs.Key.{packed_key}
-use Rattle.hash_law.specs.Law.{IsTabled, Share, Shares, TableGathers}
+use Rattle.hash_law.specs.Law.{Share, Shares, TableGathers}
 use Rattle.lock_book.specs.History.{calls_by}
 use Rattle.mq_handle.specs.Messages.{whole_of}
 use Rattle.par_model.specs.Plan.{Plan}
@@ -19,10 +19,10 @@ use Rattle.partial_agg.specs.Rows.{IsAccepted, block_rows, header_width}
 use Rattle.partial_agg.proofs.Adding.{maps_grow, no_groups}
 use Rattle.partial_agg.proofs.Blocks.{length-block}
 use Rattle.scan_claim.specs.Drawing.{flat, once_below, times}
-use Rattle.gather_law.specs.Parts.{Block, Part, Received, after, blocks_in, received_in, with_all, with_part}
+use Rattle.gather_law.specs.Parts.{Block, Part, Received, blocks_in, received_in, with_all, with_part}
 use Rattle.gather_law.specs.Tuples.{Group, Table, groups_of, rows_of_blocks}
 use Rattle.gather_law.proofs.Gathering.{All-apart}
-use Rattle.parallel_ctx.specs.Accounts.{Account, Heard, IsIdle, account_of, heard_of}
+use Rattle.parallel_ctx.specs.Accounts.{Heard, IsIdle, account_of, heard_of}
 use Rattle.parallel_ctx.specs.Ran.{AreWhole}
 use Rattle.parallel_ctx.specs.Tokens.{AreNumbered}
 use Rattle.parallel_ctx.specs.declared.home.Returned.{Returned}

@@ -1,5 +1,5 @@
 -- The leader's passes of the table of groups stay in their places.
-use Rattle.std.proofs.Common.{◌≡◌, ℕ, List, [], Option, Some, None}
+use Rattle.std.proofs.Common.{ℕ, Option, Some, None}
 use Rattle.agg_table.specs.Tokens.{IsHashSeat, StaysSeated, use_in}
 use Rattle.agg_table.specs.declared.part.HashPart.{HashPart}
 use Rattle.agg_table.specs.declared.part.HashSeat.{HashSeat}

@@ -1,5 +1,5 @@
 -- Groups are shared out, one after another.
-use Rattle.std.proofs.Common.{◌≡◌, ◌++◌, ◌⊎◌, inl, inr, ℕ, List, [], ◌∷◌, length, Result, Ok, Err, IfErr, arith, refl, ap, sym, subst, ◌∙◌, append-nil, append_assoc}
+use Rattle.std.proofs.Common.{◌≡◌, ◌++◌, inl, inr, ℕ, List, [], ◌∷◌, length, Result, Ok, Err, IfErr, arith, refl, ap, sym, subst, ◌∙◌, append-nil, append_assoc}
 use Rattle.std.specs.FinMap as map
 use Rattle.std.proofs.lemmas.List.Sums.{fold-append}
 use Rattle.agg_table.specs.Calls.{HasPut, Use}
@@ -10,7 +10,6 @@ use Rattle.partial_agg.specs.Blocks.{Stopped}
 use Rattle.partial_agg.specs.declared.map.BlockAnswer.{BlockAnswer}
 use Rattle.partial_agg.specs.declared.map.BlockAnswer.TheVariants as answer
 use Rattle.par_model.specs.Plan.{Plan}
-use Rattle.gather_law.specs.Parts.{with_all}
 use Rattle.gather_law.specs.Tuples.{Group, Table}
 use Rattle.gather_run.specs.Sharing.{SharesGroup, SharesGroups, StopsAt}
 

@@ -1,10 +1,8 @@
 -- What the workers and the leader did, put together.
-use Rattle.std.proofs.Common.{option_map, Bool, ◌&&◌, ◌≡◌, ◌<◌, ◌≤◌, ◌+◌, ◌-◌, ◌*◌, ◌^◌, ◌++◌, ◌⊎◌, inl, inr, ℕ, List, [], ◌∷◌, length, drop, map, All, IsTrue, MatchOption, Option, Some, None, true, false, zero, suc, get_or, is_some, refl, ap, sym, subst, ◌∙◌, arith, Any, length-append}
+use Rattle.std.proofs.Common.{◌≡◌, ◌<◌, ◌≤◌, ◌+◌, ◌-◌, ◌*◌, ◌^◌, ◌++◌, ◌⊎◌, inl, inr, ℕ, List, [], ◌∷◌, length, drop, map, All, IsTrue, MatchOption, Option, Some, None, true, false, zero, suc, get_or, is_some, refl, ap, sym, subst, ◌∙◌, arith, Any, length-append}
 use Rattle.std.specs.List.{AllByRecursion, AllZip, flat_map}
 use Rattle.std.specs.List.Sorted.{IsPermutation}
 use Rattle.std.proofs.lemmas.List.Elements.{All-head, All-map, All-nil, All-tail, All-weaker}
-use Rattle.error_queue.specs.Message.{encoding}
-use Rattle.error_queue.specs.declared.ErrorMessage.{ErrorMessage}
 use Rattle.error_queue.specs.declared.ErrorMessage.TheVariants as message
 use Rattle.mq_handle.specs.Messages.{whole_of}
 use Rattle.par_model.specs.Plan.{Plan}
@@ -14,23 +12,19 @@ use Rattle.partial_agg.proofs.Adding.{no_groups}
 use Rattle.partial_agg.proofs.Blocks.{length-block}
 use Rattle.scan_claim.specs.Drawing.{IsDrawn, flat, is_spent, late, once_below, times}
 use Rattle.scan_claim.proofs.Totals.{late-append}
-use Rattle.gather_law.specs.Law.{AreSent, CombineTo, IsGathered}
-use Rattle.gather_law.specs.Parts.{after, received_in}
+use Rattle.gather_law.specs.Law.{AreSent, CombineTo}
+use Rattle.gather_law.specs.Parts.{received_in}
 use Rattle.gather_law.specs.Tuples.{AreBlocks, Group, HasTuple, Table, groups_of, rows_of_blocks, tuple_of}
 use Rattle.gather_law.proofs.Gathering.{All-apart, combines, gathers}
 use Rattle.agg_table.specs.Calls.{Use}
-use Rattle.agg_table.specs.declared.part.HashPart.{HashPart}
-use Rattle.parallel_ctx.specs.Making.{HasTable}
 use Rattle.parallel_ctx.specs.Ran.{Finishes}
-use Rattle.parallel_ctx.specs.Accounts.{Account, Heard, IsIdle, account_of, heard_of, use_by}
+use Rattle.parallel_ctx.specs.Accounts.{Account, Heard, IsIdle, account_of, heard_of}
 use Rattle.parallel_ctx.specs.Tokens.{AreUnheard}
-use Rattle.parallel_ctx.specs.declared.home.Finished.{Finished as Home}
 use Rattle.parallel_ctx.specs.declared.home.Returned.{Returned}
 use Rattle.worker_run.specs.Ended.{IsNotice, IsRefused, Sends}
 use Rattle.worker_run.specs.declared.WorkerEnd.{WorkerEnd}
 use Rattle.worker_run.specs.declared.WorkerEnd.TheVariants.{Finished, Stopped, Refused, NoMemory}
 use Rattle.parallel_ctx.proofs.Idle.{whole_nothing}
-use Rattle.parallel_ctx.proofs.Zips.{AllZip-length}
 use Rattle.gather_run.proofs.Anys.{any_cases, any_head, any_none, any_tail}
 use Rattle.parallel_ctx.specs.declared.tokens.LeaderEnds.{LeaderEnds}
 use Rattle.parallel_ctx.specs.declared.tokens.Shared.{Shared}
@@ -42,7 +36,7 @@ use Rattle.gather_run.specs.Did.{sends_in, AreVerdict, DidPlainWork, DidWork, En
 use Rattle.gather_run.specs.Answers.{IsCause, IsFirst, IsFirstCause}
 use Rattle.gather_run.specs.Leading.{HasLed, Led, NamesRow}
 use Rattle.gather_run.specs.Used.{SentItsRows}
-use Rattle.gather_run.specs.Reading.{ReadAs, ReadsAs, ReadsRow}
+use Rattle.gather_run.specs.Reading.{ReadAs, ReadsRow}
 
 -- tuples are read as the groups that they are
 pub same_groups : (plan : Plan) (hs gs : List Group) → ReadAs (map (tuple_of plan) hs) gs → AllByRecursion (HasTuple plan) hs → gs ≡ hs

@@ -126,7 +126,8 @@ pub fn gather<G: Gate + Sync, R: Threads + Wait + Sync>(
     ensures first { workers ≡ 0 → IfErr result (λ why. IsFirstCause plan.now rows.now why) }
     ensures used { IfOk result (λ g. IsUsed plan.now rows.now workers area_pages g.finished) }
 {
-    let Ok(context) = Context::build(rt, alloc, plan, workers, area_pages, count_blocks(rows)) else {
+    let Ok(context) = Context::build(rt, alloc, plan, workers, area_pages, count_blocks(rows))
+    else {
         return Err(GatherAnswer::Memory);
     };
     let team = Team { alloc, rows, gate };

@@ -121,9 +121,7 @@ pub(crate) fn do_block<R: Wait>(
         None => groups.add_block(rows, plan, block),
         Some(seat) => match part {
             None => unreachable!(),
-            Some(part) => share_block(
-                rt, r, plan, rows, block, part, seat, block_groups, groups,
-            ),
+            Some(part) => share_block(rt, r, plan, rows, block, part, seat, block_groups, groups),
         },
     }
 }

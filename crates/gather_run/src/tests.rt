@@ -204,9 +204,18 @@ fn many_groups_with_any_workers(rt: HostRuntime) -> Result<(), Fail> {
 #[test]
 fn no_rows(rt: HostRuntime) -> Result<(), Fail> {
     let text = table(rt.alloc(), 0, 1, 0)?;
-    assert_eq!(rt; even_groups(&rt, rt.alloc(), &text, 0, 0, 0, 0, &OpenGate)?, 0);
-    assert_eq!(rt; even_groups(&rt, rt.alloc(), &text, 0, 0, 3, 0, &OpenGate)?, 3);
-    assert_eq!(rt; even_groups(&rt, rt.alloc(), &text, 0, 0, 3, 16, &OpenGate)?, 3);
+    assert_eq!(rt;
+        even_groups(&rt, rt.alloc(), &text, 0, 0, 0, 0, &OpenGate)?,
+        0
+    );
+    assert_eq!(rt;
+        even_groups(&rt, rt.alloc(), &text, 0, 0, 3, 0, &OpenGate)?,
+        3
+    );
+    assert_eq!(rt;
+        even_groups(&rt, rt.alloc(), &text, 0, 0, 3, 16, &OpenGate)?,
+        3
+    );
     Ok(())
 }
 

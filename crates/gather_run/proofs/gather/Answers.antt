@@ -1,8 +1,7 @@
-use Rattle.std.proofs.Common.{rules, ◌≡◌, ◌≤◌, ◌∙◌, List, ℕ, suc, length, Option, option_map, None, Some, is_some, map, ap, arith, subst, sym}
+use Rattle.std.proofs.Common.{◌≡◌, ◌≤◌, ◌∙◌, List, length, option_map, None, Some, map, arith, subst, sym}
 use Rattle.dshash_parts.specs.Ending.{whole_of}
 use Rattle.scan_claim.specs.Shown.{blocks_of, lists_of}
 use Rattle.partial_agg.specs.Groups.{GroupsByKey}
-use Rattle.partial_agg.specs.Listed.{listed}
 use Rattle.par_model.specs.Plan.{Plan}
 use Rattle.parallel_ctx.specs.Accounts.{heard_of, use_by}
 use Rattle.parallel_ctx.specs.Making.{HasTable}

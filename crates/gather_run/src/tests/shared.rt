@@ -119,8 +119,14 @@ fn many_groups_with_a_table(rt: HostRuntime) -> Result<(), Fail> {
     let text = wide_table(rt.alloc(), 6_000, 1_500, 0)?;
     for pages in [16, 48, 1_024] {
         if pages <= 65_536 {
-            assert_eq!(rt; even_groups(&rt, rt.alloc(), &text, 1_500, 4, 0, pages, &OpenGate)?, 0);
-            assert_eq!(rt; even_groups(&rt, rt.alloc(), &text, 1_500, 4, 3, pages, &OpenGate)?, 3);
+            assert_eq!(rt;
+                even_groups(&rt, rt.alloc(), &text, 1_500, 4, 0, pages, &OpenGate)?,
+                0
+            );
+            assert_eq!(rt;
+                even_groups(&rt, rt.alloc(), &text, 1_500, 4, 3, pages, &OpenGate)?,
+                3
+            );
         }
     }
     Ok(())

@@ -1,4 +1,4 @@
-use Rattle.std.proofs.Common.{◌≡◌, ℕ, List, map}
+use Rattle.std.proofs.Common.{◌≡◌, map}
 use Rattle.std.specs.FinMap as fin
 use Rattle.std.specs.List.{All, AllZip}
 use Rattle.agg_table.specs.Tokens.{StaysSeated, use_in}

@@ -1,4 +1,4 @@
-use Rattle.std.proofs.Common.{rules, ◌≡◌, List, ℕ, inr, map}
+use Rattle.std.proofs.Common.{map}
 use Rattle.agg_table.specs.Tokens.{use_in}
 use Rattle.scan_claim.specs.Shown.{draws_of}
 use Rattle.gather_run.specs.Looks.{tuples_of}

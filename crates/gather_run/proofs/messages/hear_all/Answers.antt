@@ -1,10 +1,10 @@
-use Rattle.std.proofs.Common.{rules, ◌≡◌, ◌<◌, ◌∙◌, sym, ap, subst, refl, length, get_or, arith, map, Any, List, ℕ, true, false}
+use Rattle.std.proofs.Common.{◌≡◌, ◌<◌, ◌∙◌, sym, length, get_or, arith, Any, true, false}
 use Rattle.std.proofs.lemmas.List.Quantifiers.{any-set}
-use Rattle.std.proofs.lemmas.List.Elements.{All-get_or, All-set, AllWithin-more_set, AllWithin-none}
+use Rattle.std.proofs.lemmas.List.Elements.{All-set, AllWithin-more_set, AllWithin-none}
 use Rattle.mq_handle.specs.Messages.{whole_of}
 use Rattle.parallel_ctx.proofs.Queues.{all-same, same-put}
 use Rattle.parallel_ctx.specs.declared.tokens.LeaderEnds.{LeaderEnds}
-use Rattle.gather_run.specs.Looks.{IsOpen, IsOverQueue, OverSoFar, Takes}
+use Rattle.gather_run.specs.Looks.{IsOpen, IsOverQueue, Takes}
 use Rattle.gather_run.specs.Reading.{ReadsRow}
 use Rattle.gather_run.proofs.Looking.{leading_after}
 use Rattle.gather_run.proofs.messages.hear_all.Goals as goal

@@ -1,4 +1,3 @@
-use Rattle.std.proofs.Common.{◌≡◌, List}
 use Rattle.std.specs.List.{All, AllZip}
 use Rattle.parallel_ctx.specs.Tokens.{SameQueues}
 use Rattle.gather_run.specs.Looks.{IsOpen, OverSoFar, StaysLeading}

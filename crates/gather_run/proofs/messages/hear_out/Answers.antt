@@ -1,4 +1,3 @@
-use Rattle.std.proofs.Common.{rules, ◌≡◌, ◌∙◌, refl}
 use Rattle.parallel_ctx.proofs.Queues.{all-same}
 use Rattle.gather_run.proofs.Looking.{all-trans}
 use Rattle.gather_run.proofs.messages.hear_out.Goals as goal

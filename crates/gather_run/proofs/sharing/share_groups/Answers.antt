@@ -1,4 +1,3 @@
-use Rattle.std.proofs.Common.{◌≡◌}
 use Rattle.agg_table.specs.Tokens.{use_of}
 use Rattle.agg_table.proofs.Seats.{grew_itself, grew_through}
 use Rattle.gather_run.proofs.Shares.{sharing-end, sharing-start, sharing-step}

@@ -1,4 +1,4 @@
-use Rattle.std.proofs.Common.{rules, ◌≡◌, [], List, ℕ, map, sym, subst}
+use Rattle.std.proofs.Common.{rules, List, ℕ, map, sym, subst}
 use Rattle.agg_table.specs.Tokens.{use_in}
 use Rattle.par_model.specs.Columns.{HasColumns}
 use Rattle.par_model.specs.Plan.{Plan}
