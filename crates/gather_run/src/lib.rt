@@ -103,12 +103,14 @@ fn add_table(
 
 /// Runs a query in the caller's thread, as participant 0, with so many workers beside it. Each participant passes the
 /// gate before each of its blocks. Where the plan asks for a shared table of groups, it is made in an area of so many
-/// pages, if these are 16 or more; else the workers send their groups to the leader. Of several refused rows any may be named, unless there are no workers. A refused row
-/// that the leader met or read goes before a worker's want of memory; on either, and on want of memory of its own, the
-/// leader leaves its queues at once, which stops the workers. Fewer workers than asked for may start, also none.
+/// pages, if these are 16 or more; else the workers send their groups to the leader. Of several refused rows any may be
+/// named, unless there are no workers. A refused row that the leader met or read goes before a worker's want of memory;
+/// on either, and on want of memory of its own, the leader leaves its queues at once, which stops the workers. Fewer
+/// workers than asked for may start, also none.
 ///
-/// The time of the rows is shared out by blocks of 256; that of taking the groups off the queues is the leader's.
-/// Memory is 82 KB for each worker, the groups, and those that each worker keeps, 4,351 at most.
+/// The time of the rows is shared out by blocks of 256; that of taking the groups off the queues, and of draining the
+/// table, is the leader's. Memory is 82 KB for each worker, the groups, the table's area, and where there is no table
+/// the groups of each worker's own rows.
 pub fn gather<G: Gate + Sync, R: Threads + Wait + Sync>(
     rt: &R,
     alloc: Global,

@@ -90,9 +90,9 @@ pub enum Ran {
 /// unless no workers are asked for.
 ///
 /// Time is linear in the input, but for the look-up of each row's group and the order of the groups, or of the rows.
-/// Memory is the input, its records, about 700 bytes for each group, twice over while their list is made, and for each
-/// worker 82 KB and the groups that it keeps, 4,351 at most, and the area of a shared table; for rows in order it is the input, its records, 16 bytes a
-/// row, 82 KB for each worker, and 64 KiB of bytes that wait to be written.
+/// Memory is the input, its records, the groups, for each worker 82 KB and the groups of its own rows, and the area of a
+/// shared table; for rows in order it is the input, its records, 16 bytes a row, 82 KB for each worker, and 64 KiB of
+/// bytes that wait to be written.
 pub fn pargather<R: Threads + Wait + Sync, S: Source, O: Sink, E: Sink, G: Gate + Sync>(
     rt: &R,
     alloc: Global,
