@@ -26,8 +26,10 @@ use std::alloc::Global;
 use std::sync::Wait;
 use std::thread::Threads;
 use verdicts::first_verdict;
+use words::first_words;
 use worker_run::{Gate, WorkerEnd};
 
+mod comparing;
 mod drawing;
 mod heads;
 mod hearing;
@@ -36,9 +38,11 @@ mod leading;
 mod order;
 mod roles;
 mod sending;
+mod sorting;
 #[cfg(test)]
 mod tests;
 mod verdicts;
+mod words;
 mod working;
 
 pub use laws::{merges_all, one_order};
@@ -100,10 +104,19 @@ pub fn merge<G: Gate + Sync, R: Threads + Wait + Sync>(
     let Ok(context) = Context::build(rt, alloc, plan, workers, 0, count_blocks(rows)) else {
         return Err(MergeAnswer::Memory);
     };
-    let team = Team { alloc, rows, gate };
+    let Ok(words) = first_words(alloc, rows, plan) else {
+        return Err(MergeAnswer::Memory);
+    };
+    let team = Team {
+        alloc,
+        rows,
+        words: &words,
+        gate,
+    };
     let mut leader = Leader {
         alloc,
         rows,
+        words: &words,
         gate,
         order: Vec::new(alloc),
         failure: None,
