@@ -29,3 +29,6 @@ returns-clause-led g c =
     let stream = stream_drawn plan records c.args.claims.now c.draw_all.new.claim c.draw_all.new.list.items c.sort_rows.new.list.items d c.in-Ok.ensures.permutation c.in-Ok.ensures.sorted in
     led_merged plan records (blocks_of c.args.claims.now) (draws_of c.draw_all.new.claim) c.sort_rows.new.list.items c.merge_all.new.own c.merge_all.new.queues c.merge_all.new.order.items c.merge_all.result
     (ap (λ (v : Vec ℕ Global). v.items) c.merge_all.ensures.list) stream d.spent c.merge_all.ensures.drained
+
+pub returns-in_default-sort_rows-clause-same : goal.returns-in_default-sort_rows-clause-same
+returns-in_default-sort_rows-clause-same g c = all-same c.args.queues.now

@@ -1,4 +1,6 @@
-use Rattle.std.proofs.Common.{rules, List, ℕ, subst}
+use Rattle.std.proofs.Common.{rules, List, ℕ, refl, subst}
+use Rattle.partial_agg.specs.declared.map.BlockAnswer.TheVariants.{Memory}
+use Rattle.worker_run.specs.declared.WorkerEnd.TheVariants.{NoMemory}
 use Rattle.worker_run.proofs.Working.{fresh_ready, fresh_silent}
 use Rattle.gather_merge.specs.Ended.{Finishes}
 use Rattle.gather_merge.proofs.Drawn.{drawn_none}
