@@ -107,10 +107,10 @@ pub fn merge<G: Gate + Sync, R: Threads + Wait + Sync>(
     let Ok(context) = Context::build(rt, alloc, plan, workers, 0, count_blocks(rows)) else {
         return Err(MergeAnswer::Memory);
     };
-    let Ok(list) = first_words(alloc, rows, plan) else {
+    let Ok(all_words) = first_words(alloc, rows, plan) else {
         return Err(MergeAnswer::Memory);
     };
-    let words = list.as_slice();
+    let words = all_words.as_slice();
     let team = Team {
         alloc,
         rows,

@@ -23,7 +23,7 @@ lead_all-self-requires-clause-unheard g c = unheard c.args.shared.now c.args.que
 
 pub lead_all-self-requires-clause-words : goal.lead_all-self-requires-clause-words
 lead_all-self-requires-clause-words g c =
-    subst (λ (p : Plan). AreWords (columns_at p c.args.self.now.rows.now) c.args.self.now.words.now) (sym (c.plan_in-plan.ensures.plan c.requires.0 c.requires.1.seats.plan_is)) c.requires.2.1.1.0
+    subst (λ (p : Plan). AreWords (columns_at p c.args.self.now.rows.now) c.args.self.now.words.now) (sym (c.plan_in-plan.ensures.plan c.requires.0 c.requires.1.seats.plan_is)) c.requires.2.2
 
 pub returns-clause-led : goal.returns-clause-led
 returns-clause-led g c plan has =

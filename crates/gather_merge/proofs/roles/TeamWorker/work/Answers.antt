@@ -18,7 +18,7 @@ work-requires-clause-columns g c =
 
 pub work-requires-clause-words : goal.work-requires-clause-words
 work-requires-clause-words g c =
-    subst (λ (p : Plan). AreWords (columns_at p c.args.self.now.rows.now) c.args.self.now.words.now) (sym (c.plan_in-plan.ensures.plan c.requires.0 c.requires.1.seats.plan_is)) c.requires.2.1.1
+    subst (λ (p : Plan). AreWords (columns_at p c.args.self.now.rows.now) c.args.self.now.words.now) (sym (c.plan_in-plan.ensures.plan c.requires.0 c.requires.1.seats.plan_is)) c.requires.2.2
 
 pub returns-clause-did : goal.returns-clause-did
 returns-clause-did g c plan has =
