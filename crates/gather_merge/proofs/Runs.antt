@@ -267,7 +267,7 @@ module _ (cmp : ℕ → ℕ → Ordering) where
 
     tied_on : (c o d p : ℕ) (s : List Keyed) → All (IsWorded columns c o) s → HaveOneWord s → AreTied cmp columns c o (rows_of s)
         → ((a b : ℕ) → AreBytes (text_at columns c o a) → AreBytes (text_at columns c o b) → word (text_at columns c o a) ≡ word (text_at columns c o b) → word (text_at columns c o a) ≡ word_of_pair s 0
-            → level_cmp columns c o a b ≡ level_cmp columns d p a b)
+        → level_cmp columns c o a b ≡ level_cmp columns d p a b)
         → AreTied cmp columns d p (rows_of s)
     tied_on c o d p s w one t step =
         each_from (λ a b. cmp a b ≡ level_cmp columns d p a b) s (λ i j l m.

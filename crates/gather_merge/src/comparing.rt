@@ -55,13 +55,7 @@ fn compare_from(rows: &RowStore, plan: &BoundPlan, from: usize, a: u64, b: u64) 
 
 /// How two rows compare: by the plan's columns in turn, and then by their numbers. The rows are looked up only where
 /// their words are the same and do not have the whole of the columns.
-pub(crate) fn compare(
-    rows: &RowStore,
-    plan: &BoundPlan,
-    words: &[u64],
-    a: u64,
-    b: u64,
-) -> Ordering
+pub(crate) fn compare(rows: &RowStore, plan: &BoundPlan, words: &[u64], a: u64, b: u64) -> Ordering
     requires words { AreWords (columns_at plan.now rows.now) words.now }
     ensures { result ≡ row_cmp plan.now rows.now a b }
 {

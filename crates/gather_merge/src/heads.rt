@@ -21,13 +21,7 @@ pub(crate) struct Head {
 }
 
 /// Where a row belongs among the heads: those before it come later in the order of the rows.
-fn place_of(
-    rows: &RowStore,
-    plan: &BoundPlan,
-    words: &[u64],
-    heads: &[Head],
-    row: u64,
-) -> usize
+fn place_of(rows: &RowStore, plan: &BoundPlan, words: &[u64], heads: &[Head], row: u64) -> usize
     requires words { AreWords (columns_at plan.now rows.now) words.now }
     requires falling { AreFalling plan.now rows.now heads.now }
     ensures within { result ≤ length heads.now }

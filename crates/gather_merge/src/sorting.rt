@@ -130,7 +130,13 @@ fn sort_ties(
 }
 
 /// Rows beside their words of the first column.
-fn with_words(alloc: Global, rows: &RowStore, plan: &BoundPlan, words: &[u64], list: &[u64]) -> Result<Vec<Keyed>, AllocError>
+fn with_words(
+    alloc: Global,
+    rows: &RowStore,
+    plan: &BoundPlan,
+    words: &[u64],
+    list: &[u64],
+) -> Result<Vec<Keyed>, AllocError>
     requires words { AreWords (columns_at plan.now rows.now) words.now }
     ensures rows { IfOk result (λ run. rows_of run.items ≡ list.now) }
     ensures worded { IfOk result (λ run. All (IsWorded (columns_at plan.now rows.now) 0 0) run.items) }

@@ -53,7 +53,11 @@ pub(crate) fn text_from<'a>(
         return &[];
     }
     let field = field_or_none(&find_row(rows, row), columns[column]);
-    if from >= field.len() { &[] } else { &field[from..] }
+    if from >= field.len() {
+        &[]
+    } else {
+        &field[from..]
+    }
 }
 
 /// The word of each record's first column. In time linear in the records, and with 8 bytes for each.

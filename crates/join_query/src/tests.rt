@@ -43,7 +43,10 @@ fn the_line_of_a_cause(rt: HostRuntime) -> Result<(), Fail> {
     let mut err = MemSink::new(rt.alloc(), 5, 100, Vec::new(rt.alloc()))?;
     let stop = Stop::Because(Cause::NoColumn { right: true });
     assert_eq!(rt; stop.end("id", &mut err), 2);
-    assert_eq!(rt; err.written(), b"pargather: no right column id\n".as_slice());
+    assert_eq!(rt;
+        err.written(),
+        b"pargather: no right column id\n".as_slice()
+    );
     Ok(())
 }
 

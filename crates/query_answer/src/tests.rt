@@ -29,7 +29,10 @@ fn pieces_wait_and_go_on_in_order(rt: HostRuntime) -> Result<(), Fail> {
 
 #[test]
 fn records_as_csv_writes_them(rt: HostRuntime) -> Result<(), Fail> {
-    let store = stored(rt.alloc(), b"a,b\n\"x, y\",\"say \"\"hi\"\"\"\nplain,\n\"\"\n")?;
+    let store = stored(
+        rt.alloc(),
+        b"a,b\n\"x, y\",\"say \"\"hi\"\"\"\nplain,\n\"\"\n",
+    )?;
     let mut out = MemSink::new(rt.alloc(), 5, 100, Vec::new(rt.alloc()))?;
     let mut held = Held::new(rt.alloc())?;
     for row in 1..store.count() + 1 {
@@ -37,7 +40,10 @@ fn records_as_csv_writes_them(rt: HostRuntime) -> Result<(), Fail> {
     }
     put_fields(&mut held, &mut out, &store.find(0));
     held.pass_on(&mut out);
-    assert_eq!(rt; out.written(), b"\"x, y\",\"say \"\"hi\"\"\"\nplain,\n\"\"\na,b".as_slice());
+    assert_eq!(rt;
+        out.written(),
+        b"\"x, y\",\"say \"\"hi\"\"\"\nplain,\n\"\"\na,b".as_slice()
+    );
     Ok(())
 }
 

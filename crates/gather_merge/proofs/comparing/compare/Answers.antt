@@ -21,7 +21,9 @@ returns c =
     let order : c.cmp-order.result ≡ nat_cmp (get_or words c.args.a 0) (get_or words c.args.b 0) = c.cmp-order.ensures ∙ ap₂ nat_cmp c.word_at-word.ensures c.word_at.ensures in
     let same : get_or words c.args.a 0 ≡ get_or words c.args.b 0 = tied_numbers (get_or words c.args.a 0) (get_or words c.args.b 0) (ap is_ne (sym order) ∙ sym c.is_ne.ensures ∙ c.if-is_ne.false) in
     let From : ℕ → Ordering = λ from. tail_cmp (columns_at plan records) from c.args.a c.args.b in
-    elim c.if-is_whole.branch [ then-is_whole w ↦
-        let whole : get_or words c.args.a 0 % 256 < 8 = grind (arith, sym c.is_whole.ensures ∙ w.if-is_whole.true, c.word_at-word.ensures) in
-        c.compare_from.ensures ∙ ap From w.compare_from-is ∙ sym (words_tie plan records words c.requires.words c.args.a c.args.b same whole)
-      | else-is_whole w ↦ c.compare_from.ensures ∙ ap From w.compare_from-is ∙ sym (by_tail plan records c.args.a c.args.b) ]
+    elim c.if-is_whole.branch [
+      | then-is_whole w ↦
+          let whole : get_or words c.args.a 0 % 256 < 8 = grind (arith, sym c.is_whole.ensures ∙ w.if-is_whole.true, c.word_at-word.ensures) in
+          c.compare_from.ensures ∙ ap From w.compare_from-is ∙ sym (words_tie plan records words c.requires.words c.args.a c.args.b same whole)
+      | else-is_whole w ↦ c.compare_from.ensures ∙ ap From w.compare_from-is ∙ sym (by_tail plan records c.args.a c.args.b)
+    ]

@@ -23,9 +23,22 @@ sort_level-sort_ties-requires t c =
     let inv = c.loop-from.invariant.done in
     let within = c.end_of_ties-to.ensures.within in
     let worded : All (IsWorded columns c.args.column c.args.offset) s = All-permutation (IsWorded columns c.args.column c.args.offset) c.args.run.now s c.sort_unstable.ensures.permutation c.requires.worded in
-    let tied : AreTied cmp columns c.args.column c.args.offset (rows_of s) = moved_tied cmp columns c.args.column c.args.offset c.args.run.now s c.sort_unstable.ensures.permutation c.requires.tied in
-    (omega (arith, c.decreases), (c.requires.words, (search rules, (part_sorted cmp s run from n inv c.sort_unstable.ensures.sorted, (part_one cmp run from c.end_of_ties-to.result within.0 within.1 c.end_of_ties-to.ensures.same,
-    (part_all cmp s run from n inv (IsWorded columns c.args.column c.args.offset) worded, (part_tied cmp columns c.args.column c.args.offset s run from n inv tied, c.requires.few)))))))
+    let tied : AreTied cmp columns c.args.column c.args.offset (rows_of s) = moved_tied cmp columns c.args.column c.args.offset c.args.run.now s c.sort_unstable.ensures.permutation c.requires.tied in (
+      omega (arith, c.decreases),
+      (
+        c.requires.words,
+        (
+          search rules,
+          (
+            part_sorted cmp s run from n inv c.sort_unstable.ensures.sorted,
+            (
+              part_one cmp run from c.end_of_ties-to.result within.0 within.1 c.end_of_ties-to.ensures.same,
+              (part_all cmp s run from n inv (IsWorded columns c.args.column c.args.offset) worded, (part_tied cmp columns c.args.column c.args.offset s run from n inv tied, c.requires.few)),
+            ),
+          ),
+        ),
+      ),
+    )
 
 pub sort_level-loop-from-preserved : goal.sort_level-loop-from-preserved
 sort_level-loop-from-preserved t c =
@@ -55,13 +68,15 @@ sort_ties-returns-then-ties-eq1 t c =
     let cmp = row_cmp plan records in
     let ties = c.args.ties.now in
     let next = c.next_level-column.result in
-    elim c.then-ties-eq1.branch [ sort_ties-then-ties-eq1-via-then-ties-eq1 w ↦ alone cmp ties w.if-ties-eq1.true
+    elim c.then-ties-eq1.branch [
+      | sort_ties-then-ties-eq1-via-then-ties-eq1 w ↦ alone cmp ties w.if-ties-eq1.true
       | sort_ties-then-ties-eq1-via-else-ties-eq1+then-column-group_columns w ↦
-        let columns = columns_at plan records in
-        let tied : AreTied cmp columns next.0 next.1 (rows_of ties) =
-        tied_follows cmp columns (length plan.groups) (even plan records) c.args.column c.args.offset next.0 next.1 ties c.requires.worded c.requires.one c.requires.tied c.next_level-column.ensures in
-        in_order cmp ties c.requires.sorted c.requires.one (numbers_decide cmp columns (length plan.groups) (even plan records) next.0 next.1 ties
-        (subst (λ (l : List ℕ). length l ≤ next.0) w.group_columns.ensures.columns w.if-column-group_columns.true) tied) ]
+          let columns = columns_at plan records in
+          let tied : AreTied cmp columns next.0 next.1 (rows_of ties) =
+          tied_follows cmp columns (length plan.groups) (even plan records) c.args.column c.args.offset next.0 next.1 ties c.requires.worded c.requires.one c.requires.tied c.next_level-column.ensures in
+          in_order cmp ties c.requires.sorted c.requires.one (numbers_decide cmp columns (length plan.groups) (even plan records) next.0 next.1 ties
+          (subst (λ (l : List ℕ). length l ≤ next.0) w.group_columns.ensures.columns w.if-column-group_columns.true) tied)
+    ]
 
 pub sort_ties-returns-then-levels-eq0 : goal.sort_ties-returns-then-levels-eq0
 sort_ties-returns-then-levels-eq0 t c =
@@ -84,6 +99,16 @@ sort_ties-sort_level-requires t c =
     let tied : AreTied cmp columns next.0 next.1 (rows_of ties) =
     tied_follows cmp columns (length plan.groups) (even plan records) c.args.column c.args.offset next.0 next.1 ties c.requires.worded c.requires.one c.requires.tied c.next_level-column.ensures in
     let more : 0 < c.args.levels = omega (arith, c.if-levels-eq0.false) in
-    let few : next.1 + 7 * (c.args.levels - 1) ≤ 448 = follows_few _ c.args.column c.args.offset next.0 next.1 c.args.levels c.next_level-column.ensures c.requires.few.1 more in
-    (omega (arith, c.decreases, more), (c.requires.words, (c.load_words.ensures.worded, (subst (AreTied cmp columns next.0 next.1) (sym c.load_words.ensures.rows) tied,
-    (omega (arith, c.if-column-group_columns.false, c.group_columns.ensures.few), few)))))
+    let few : next.1 + 7 * (c.args.levels - 1) ≤ 448 = follows_few _ c.args.column c.args.offset next.0 next.1 c.args.levels c.next_level-column.ensures c.requires.few.1 more in (
+      omega (arith, c.decreases, more),
+      (
+        c.requires.words,
+        (
+          c.load_words.ensures.worded,
+          (
+            subst (AreTied cmp columns next.0 next.1) (sym c.load_words.ensures.rows) tied,
+            (omega (arith, c.if-column-group_columns.false, c.group_columns.ensures.few), few),
+          ),
+        ),
+      ),
+    )
