@@ -8,11 +8,17 @@ use Rattle.scan_claim.specs.Shown.{blocks_of}
 use Rattle.parallel_ctx.specs.Accounts.{account_in}
 use Rattle.scan_claim.specs.Shown.{draws_of}
 use Rattle.gather_merge.specs.Ended.{DidWork}
+use Rattle.gather_merge.specs.Order.{columns_at}
+use Rattle.gather_merge.specs.Words.{AreWords}
 use Rattle.gather_merge.proofs.roles.TeamWorker.work.Goals as goal
 
 pub work-requires-clause-columns : goal.work-requires-clause-columns
 work-requires-clause-columns g c =
     subst (λ (p : Plan). HasColumns p (header_width c.args.self.now.rows.now)) (sym (c.plan_in-plan.ensures.plan c.requires.0 c.requires.1.seats.plan_is)) c.requires.2.0
+
+pub work-requires-clause-words : goal.work-requires-clause-words
+work-requires-clause-words g c =
+    subst (λ (p : Plan). AreWords (columns_at p c.args.self.now.rows.now) c.args.self.now.words.now) (sym (c.plan_in-plan.ensures.plan c.requires.0 c.requires.1.seats.plan_is)) c.requires.2.2
 
 pub returns-clause-did : goal.returns-clause-did
 returns-clause-did g c plan has =
