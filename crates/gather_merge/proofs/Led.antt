@@ -1,8 +1,9 @@
 -- What a leader comes to, by what it took of its sources.
-use Rattle.std.proofs.Common.{◌≡◌, inl, inr, ℕ, suc, IsTrue, List, [], ◌∷◌, length, leb, map, take, All, Any, Option, None, Some, true, refl, ap, ap₂, sym, subst, ◌∙◌, arith}
+use Rattle.std.proofs.Common.{◌≡◌, inl, inr, ℕ, suc, IsTrue, List, [], ◌∷◌, length, leb, map, take, All, Any, Option, None, Some, true, refl, ap, ap₂, sym, subst, ◌∙◌, arith, append-nil}
 use Rattle.std.specs.List.Sorted.{IsPermutation, IsSorted}
 use Rattle.std.proofs.lemmas.Bool.{leb-true}
 use Rattle.std.proofs.lemmas.List.{length-map, take_all}
+use Rattle.std.proofs.lemmas.List.Sorted.{IsPermutation-refl}
 use Rattle.std.proofs.lemmas.List.Elements.{All-cons, All-head, All-map, All-nil, All-tail, All-weaker}
 use Rattle.mq_handle.specs.Messages.{whole_of}
 use Rattle.gather_law.specs.Tuples.{Table}
@@ -69,6 +70,20 @@ module _ (plan : Plan) (records : Table) where
   led_merged blocks draws rows own queues order (Some (Row row cause)) e s spent d =
       inr (record { item = d.item; named = subst (Any (λ notices. Any (ReadsRow row cause d.item) notices)) (notices_are queues) d.named })
   led_merged blocks draws rows own queues order (Some Memory) e s spent d = tt
+
+  -- the leader's own rows alone are an order, where there are no queues
+  pub led_alone : (blocks : ℕ) (draws rows order : List ℕ) (queues : List LeaderEnds) → length queues ≡ 0 → order ≡ rows → IsStream plan (header_width records) records draws rows → IsTrue (is_spent blocks draws)
+      → Led plan records blocks draws (map heard queues) order None
+  led_alone blocks draws rows order [] none e s spent =
+      subst (λ l. Led plan records blocks draws [] l None) (sym e)
+      (record {
+        own = rows;
+        stream = s;
+        merge = record { each = subst (λ l. IsPermutation l rows) (sym (append-nil rows)) (IsPermutation-refl rows); rising = λ a. All-head (IsSorted (row_cmp plan records)) rows [] a };
+        spent = spent;
+        over = All-nil (λ (h : Heard). h.tuples_over ≡ true);
+      })
+  led_alone blocks draws rows order (q ∷ queues) none e s spent = absurd (omega (arith, none))
 
   alone_is : (callers : ℕ) (queues : List LeaderEnds) → callers ≡ suc (length queues) → map heard queues ≡ [] → callers ≡ 1
   alone_is callers queues e none = let long = ap (λ (l : List Heard). length l) none in omega (arith, e, long, length-map queues heard)

@@ -10,6 +10,7 @@ use Rattle.scan_claim.specs.Drawing.{IsDrawn, flat, is_spent, late, once_below, 
 use Rattle.scan_claim.proofs.Totals.{late-append}
 use Rattle.gather_law.specs.Tuples.{AreBlocks, Table}
 use Rattle.gather_law.proofs.Gathering.{All-apart}
+use Rattle.agg_table.specs.Calls.{Use}
 use Rattle.parallel_ctx.specs.Ran.{Finishes}
 use Rattle.parallel_ctx.specs.Accounts.{Account, Heard, IsIdle, account_of, heard_of}
 use Rattle.parallel_ctx.specs.declared.home.Returned.{Returned}
@@ -35,12 +36,12 @@ use Rattle.gather_merge.proofs.Streams.{no_stream, read_rows}
 abbrev pub IsRefusedRow : Plan → Table → ℕ → ℕ → Type 0
 IsRefusedRow plan records row cause = (item : ℕ) × IsRefused plan records row cause item
 
-module _ (plan : Plan) (records : Table) (blocks : ℕ) where
+module _ (uses : ℕ → Option Use) (plan : Plan) (records : Table) (blocks : ℕ) where
   abbrev Did : Plan → ℕ → Account → WorkerEnd → Type 0
   Did p n a e = DidWork p records n a e
 
   abbrev Worker : List ℕ → Returned WorkerEnd → Type 0
-  Worker draws w = Finishes Did plan blocks draws w
+  Worker draws w = Finishes Did uses plan blocks draws w
 
   -- ---- refused rows
 
@@ -65,7 +66,7 @@ module _ (plan : Plan) (records : Table) (blocks : ℕ) where
   worker_notices : (draws : List ℕ) (r : Returned WorkerEnd) → Worker draws r → All (IsNotice plan records draws) (whole_of r.errors.sender.put)
   worker_notices draws r f = by r.end f.done
     where
-      by : (end : Option WorkerEnd) → MatchOption end (IsIdle (account_of draws r)) (λ e. Did plan blocks (account_of draws r) e) → All (IsNotice plan records draws) (whole_of r.errors.sender.put)
+      by : (end : Option WorkerEnd) → MatchOption end (IsIdle (account_of uses draws r)) (λ e. Did plan blocks (account_of uses draws r) e) → All (IsNotice plan records draws) (whole_of r.errors.sender.put)
       by None d = subst (All (IsNotice plan records draws)) (sym d.errors) (All-nil (IsNotice plan records draws))
       by (Some e) d = d.notices
 
@@ -97,7 +98,7 @@ module _ (plan : Plan) (records : Table) (blocks : ℕ) where
     where
       by : WasRefused row cause w.end ⊎ Any (λ (w : Returned WorkerEnd). WasRefused row cause w.end) ws
           → (Any (λ (w : Returned WorkerEnd). WasRefused row cause w.end) ws → IsRefusedRow plan records row cause) → IsRefusedRow plan records row cause
-      by (inl e) rest = (e.0, (subst (λ o. MatchOption o (IsIdle (account_of ds w)) (λ e. Did plan blocks (account_of ds w) e)) e.1 f.0.done).ended.refused)
+      by (inl e) rest = (e.0, (subst (λ o. MatchOption o (IsIdle (account_of uses ds w)) (λ e. Did plan blocks (account_of uses ds w) e)) e.1 f.0.done).ended.refused)
       by (inr a) rest = rest a
 
   -- ---- why there is no order
@@ -145,15 +146,15 @@ well_there ws k w (Some why) e none v = cc
 
 -- ---- the rows of all participants
 
-module _ (plan : Plan) (records : Table) (blocks : ℕ) where
+module _ (uses : ℕ → Option Use) (plan : Plan) (records : Table) (blocks : ℕ) where
   -- the rows that the lead took of a worker that ended well are a stream of its blocks
-  stream_of : (draws : List ℕ) (r : Returned WorkerEnd) → length records < 2 ^ 63 → Worker plan records blocks draws r → EndsWell r.end → (heard_of r).tuples_over ≡ true → SentItsRows plan records draws r
+  stream_of : (draws : List ℕ) (r : Returned WorkerEnd) → length records < 2 ^ 63 → Worker uses plan records blocks draws r → EndsWell r.end → (heard_of r).tuples_over ≡ true → SentItsRows plan records draws r
   stream_of draws r few f well over = by r.end f.done well
     where
       all : whole_of r.tuples.receiver.taken ≡ whole_of r.tuples.sender.put
       all = f.tuples.all over
 
-      by : (end : Option WorkerEnd) → MatchOption end (IsIdle (account_of draws r)) (λ e. Did plan records blocks plan blocks (account_of draws r) e) → EndsWell end → SentItsRows plan records draws r
+      by : (end : Option WorkerEnd) → MatchOption end (IsIdle (account_of uses draws r)) (λ e. Did uses plan records blocks plan blocks (account_of uses draws r) e) → EndsWell end → SentItsRows plan records draws r
       by None d w = record { rows = []; stream = subst (λ ds. IsStream plan (header_width records) records ds []) (sym d.draws) (no_stream plan records); sent = d.tuples; taken = all ∙ d.tuples }
       by (Some Finished) d w = record { rows = d.ended.sent.rows; stream = d.ended.sent.stream; sent = d.ended.sent.are; taken = all ∙ d.ended.sent.are }
       by (Some Stopped) d w = absurd w
@@ -169,7 +170,7 @@ module _ (plan : Plan) (records : Table) (blocks : ℕ) where
       let s = z.0 in
       (subst (IsStream plan (header_width records) records ds) (sym (ap (map row_of) s.taken ∙ read_rows records ds s.rows few s.stream.each)) s.stream, streams_of draws ws few z.1)
 
-  all_sent : (draws : List (List ℕ)) (ws : List (Returned WorkerEnd)) → length records < 2 ^ 63 → AllZip (Worker plan records blocks) draws ws → All (λ (w : Returned WorkerEnd). EndsWell w.end) ws
+  all_sent : (draws : List (List ℕ)) (ws : List (Returned WorkerEnd)) → length records < 2 ^ 63 → AllZip (Worker uses plan records blocks) draws ws → All (λ (w : Returned WorkerEnd). EndsWell w.end) ws
       → All (λ (h : Heard). h.tuples_over ≡ true) (map heard_of ws) → AllZip (SentItsRows plan records) draws ws
   all_sent [] [] few f w o = tt
   all_sent [] (v ∷ ws) few f w o = absurd f
@@ -193,7 +194,7 @@ module _ (plan : Plan) (records : Table) (blocks : ℕ) where
     pub sent : AllZip (SentItsRows plan records) draws ws
 
   pub all_merged : (own : List ℕ) (draws : List (List ℕ)) (ws : List (Returned WorkerEnd)) (order : List ℕ) (lists : List (List ℕ)) (n : ℕ)
-      → AreBlocks records blocks → length records ≤ 4194305 → lists ≡ own ∷ draws → IsDrawn blocks lists n → AllZip (Worker plan records blocks) draws ws → All (λ (w : Returned WorkerEnd). EndsWell w.end) ws
+      → AreBlocks records blocks → length records ≤ 4194305 → lists ≡ own ∷ draws → IsDrawn blocks lists n → AllZip (Worker uses plan records blocks) draws ws → All (λ (w : Returned WorkerEnd). EndsWell w.end) ws
       → HasLed plan records blocks own (map heard_of ws) order → HasOrder own draws lists ws order
   all_merged own draws ws order lists n are few e d f w led =
       let drawn : IsDrawn blocks (own ∷ draws) n = subst (λ l. IsDrawn blocks l n) e d in
@@ -213,24 +214,24 @@ module _ (plan : Plan) (records : Table) (blocks : ℕ) where
 
 -- ---- why there is no order, where rows are ordered
 
-module _ (plan : Plan) (records : Table) (blocks : ℕ) (o : OrdersRows plan) where
+module _ (uses : ℕ → Option Use) (plan : Plan) (records : Table) (blocks : ℕ) (o : OrdersRows plan) where
   is_cause : (row cause : ℕ) → IsRefusedRow plan records row cause → IsCause plan records (Row row cause)
   is_cause row cause r = subst (IsRefused plan records row cause) (no_cause plan records row cause r.0 o r.1) r.1
 
-  pub leader_cause : (own : List ℕ) (draws : List (List ℕ)) (ws : List (Returned WorkerEnd)) (order : List ℕ) (failure : Option MergeAnswer) (why : MergeAnswer) → AllZip (Worker plan records blocks) draws ws
+  pub leader_cause : (own : List ℕ) (draws : List (List ℕ)) (ws : List (Returned WorkerEnd)) (order : List ℕ) (failure : Option MergeAnswer) (why : MergeAnswer) → AllZip (Worker uses plan records blocks) draws ws
       → Led plan records blocks own (map heard_of ws) order failure → failure ≡ Some why → IsCause plan records why
-  leader_cause own draws ws order failure (Row row cause) f led e = is_cause row cause (leader_row plan records blocks own draws ws order failure row cause f led e)
+  leader_cause own draws ws order failure (Row row cause) f led e = is_cause row cause (leader_row uses plan records blocks own draws ws order failure row cause f led e)
   leader_cause own draws ws order failure Memory f led e = tt
 
-  pub worker_cause : (draws : List (List ℕ)) (ws : List (Returned WorkerEnd)) (why : MergeAnswer) → AllZip (Worker plan records blocks) draws ws → AreVerdict ws (Some why) → IsCause plan records why
-  worker_cause draws ws (Row row cause) f a = is_cause row cause (worker_row plan records blocks draws ws row cause f a)
+  pub worker_cause : (draws : List (List ℕ)) (ws : List (Returned WorkerEnd)) (why : MergeAnswer) → AllZip (Worker uses plan records blocks) draws ws → AreVerdict ws (Some why) → IsCause plan records why
+  worker_cause draws ws (Row row cause) f a = is_cause row cause (worker_row uses plan records blocks draws ws row cause f a)
   worker_cause draws ws Memory f a = tt
 
   pub leader_first_cause : (own : List ℕ) (ws : List (Returned WorkerEnd)) (order : List ℕ) (failure : Option MergeAnswer) (why : MergeAnswer) → length ws ≡ 0
       → Led plan records blocks own (map heard_of ws) order failure → failure ≡ Some why → IsFirstCause plan records why
-  leader_first_cause own ws order failure (Row row cause) none led e = leader_first plan records blocks own ws order failure row cause none led e
+  leader_first_cause own ws order failure (Row row cause) none led e = leader_first uses plan records blocks own ws order failure row cause none led e
   leader_first_cause own ws order failure Memory none led e = tt
 
   pub worker_first_cause : (ws : List (Returned WorkerEnd)) (why : MergeAnswer) → length ws ≡ 0 → AreVerdict ws (Some why) → IsFirstCause plan records why
-  worker_first_cause ws (Row row cause) none a = worker_first plan records blocks ws row cause none a
+  worker_first_cause ws (Row row cause) none a = worker_first uses plan records blocks ws row cause none a
   worker_first_cause ws Memory none a = tt

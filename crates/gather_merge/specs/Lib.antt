@@ -1,4 +1,6 @@
 pub mod Order
+pub mod Words
+pub mod Levels
 pub mod Streams
 pub mod Law
 pub mod Answers

@@ -1,71 +1,19 @@
-//! What each participant does at first: it draws blocks until there are no more, keeps the numbers of their rows, and
-//! puts these in order. Rows are compared where they lie, so nothing of them is copied.
+//! What each participant does at first: it draws blocks until there are no more, and keeps the numbers of their rows.
 
-ghost use Rattle.std.specs.Prelude.{◌≡◌, ◌<◌, ◌+◌, ◌*◌, ◌++◌, [], OnOk, IfErr, All, length, unwrap_or};
-ghost use Rattle.std.specs.List.Sorted.{IsPermutation, IsSorted};
-ghost use Rattle.csv_rows.specs.Records.{record_at};
+ghost use Rattle.std.specs.Prelude.{◌≡◌, ◌<◌, ◌+◌, ◌*◌, ◌++◌, OnOk, IfErr, All, length};
 ghost use Rattle.par_model.specs.Columns.{HasColumns};
-ghost use Rattle.par_model.specs.Record.{field_of};
 ghost use Rattle.partial_agg.specs.Rows.{IsAccepted, block_rows, header_width};
 ghost use Rattle.scan_claim.specs.Shown.{Belongs, blocks_of, draws_of, number_of};
 ghost use Rattle.gather_law.specs.Tuples.{AreBlocks};
 ghost use Rattle.gather_merge.specs.Drawn.{Draws, Drew, HasDrawn, Stops};
-ghost use Rattle.gather_merge.specs.Order.{row_cmp};
 ghost use Rattle.gather_merge.specs.Streams.{block_numbers};
 
-use csv_rows::{Record, RowStore};
+use csv_rows::RowStore;
 use par_model::{BoundPlan, Refusal};
 use partial_agg::{BLOCK_ROWS, BlockAnswer, refusal};
 use scan_claim::{ClaimSeat, Claims};
-use std::cmp::Ordering;
 use std::sync::Wait;
 use worker_run::Gate;
-
-/// A record, if there is one of this number.
-fn find_row(rows: &RowStore, row: u64) -> Option<Record<'_>>
-    ensures { unwrap_or result [] ≡ record_at rows.now row }
-{
-    if row <= rows.count() {
-        Some(rows.find(row))
-    } else {
-        None
-    }
-}
-
-/// A field of a record, and nothing where it is not there.
-fn field_or_none<'a>(row: &Option<Record<'a>>, column: u32) -> &'a [u8]
-    ensures { result.now ≡ field_of (unwrap_or row.entry.now []) column }
-{
-    match row {
-        Some(row) if column < row.width() => row.field(column),
-        _ => &[],
-    }
-}
-
-/// How two rows compare: by the plan's columns in turn, and then by their numbers. A number of no row is that of one
-/// with no fields. No memory is taken; each row is looked up once, and the time is that of the columns up to the first
-/// that differs.
-pub(crate) fn compare(rows: &RowStore, plan: &BoundPlan, a: u64, b: u64) -> Ordering
-    ensures { result ≡ row_cmp plan.now rows.now a b }
-{
-    let left = find_row(rows, a);
-    let right = find_row(rows, b);
-    for column in plan.group_columns() {
-        let columns = field_or_none(&left, *column).cmp(field_or_none(&right, *column));
-        if columns.is_ne() {
-            return columns;
-        }
-    }
-    a.cmp(&b)
-}
-
-/// Puts numbers in the order of their rows.
-pub(crate) fn sort_rows(rows: &RowStore, plan: &BoundPlan, list: &mut Vec<u64>)
-    ensures permutation { IsPermutation list.old.items list.new.items }
-    ensures sorted { IsSorted (row_cmp plan.now rows.now) list.new.items }
-{
-    list.sort_unstable_by(|a, b| compare(rows, plan, *a, *b));
-}
 
 /// Puts the numbers of a block's rows behind the others. A refused row stops it, the first of the block.
 fn take_block(

@@ -5,8 +5,10 @@
 
 ghost use Rattle.std.specs.Prelude.{◌≡◌, ◌≤◌, ℕ, OnOk, length};
 ghost use Rattle.gather_merge.specs.Heads.{AreFalling, IsPlace, put_at};
+ghost use Rattle.gather_merge.specs.Order.{columns_at};
+ghost use Rattle.gather_merge.specs.Words.{AreWords};
 
-use crate::drawing::compare;
+use crate::comparing::compare;
 use csv_rows::RowStore;
 use par_model::BoundPlan;
 use std::alloc::AllocError;
@@ -19,26 +21,29 @@ pub(crate) struct Head {
 }
 
 /// Where a row belongs among the heads: those before it come later in the order of the rows.
-fn place_of(rows: &RowStore, plan: &BoundPlan, heads: &[Head], row: u64) -> usize
-    requires { AreFalling plan.now rows.now heads.now }
+fn place_of(rows: &RowStore, plan: &BoundPlan, words: &[u64], heads: &[Head], row: u64) -> usize
+    requires words { AreWords (columns_at plan.now rows.now) words.now }
+    requires falling { AreFalling plan.now rows.now heads.now }
     ensures within { result ≤ length heads.now }
     ensures place { IsPlace plan.now rows.now heads.now row result }
 {
-    heads.partition_point(|head| compare(rows, plan, head.row, row).is_gt())
+    heads.partition_point(|head| compare(rows, plan, words, head.row, row).is_gt())
 }
 
 /// Puts a head in its place.
 pub(crate) fn put_head(
     rows: &RowStore,
     plan: &BoundPlan,
+    words: &[u64],
     heads: &mut Vec<Head>,
     head: Head,
 ) -> Result<(), AllocError>
-    requires { AreFalling plan.now rows.now heads.old.items }
+    requires words { AreWords (columns_at plan.now rows.now) words.now }
+    requires falling { AreFalling plan.now rows.now heads.old.items }
     ensures falling { OnOk result (AreFalling plan.now rows.now heads.new.items) }
     ensures put { OnOk result ((at : ℕ) × (at ≤ length heads.old.items) × (heads.new.items ≡ put_at heads.old.items at head)) }
 {
-    let at = place_of(rows, plan, heads, head.row);
+    let at = place_of(rows, plan, words, heads, head.row);
     match heads.insert(at, head) {
         Ok(()) => Ok(()),
         Err(_) => Err(AllocError),

@@ -13,11 +13,14 @@ ghost use Rattle.parallel_ctx.specs.Tokens.{SameQueues};
 ghost use Rattle.gather_merge.specs.Heads.{AreFalling};
 ghost use Rattle.gather_merge.specs.Hearing.{AreOpen, HasGivenNone, HaveGivenNone, queue_source, sources_of};
 ghost use Rattle.gather_merge.specs.Leading.{Answers, Drains, Fills, IsFilled, Led, Refills};
+ghost use Rattle.gather_merge.specs.Order.{columns_at};
+ghost use Rattle.gather_merge.specs.Words.{AreWords};
 
 use crate::MergeAnswer;
-use crate::drawing::{draw_all, sort_rows};
+use crate::drawing::draw_all;
 use crate::heads::{Head, put_head};
 use crate::hearing::{Next, OwnRows, next_of};
+use crate::sorting::sort_rows;
 use csv_rows::RowStore;
 use par_model::BoundPlan;
 use parallel_ctx::LeaderEnds;
@@ -34,11 +37,13 @@ fn refill<R: Wait>(
     r: &Region,
     plan: &BoundPlan,
     rows: &RowStore,
+    words: &[u64],
     from: usize,
     own: &mut OwnRows,
     queues: &mut [LeaderEnds],
     heads: &mut Vec<Head>,
 ) -> Option<MergeAnswer>
+    requires words { AreWords (columns_at plan.now rows.now) words.now }
     requires from { from ≤ length queues.old }
     requires open { AreOpen r.now queues.old }
     requires falling { AreFalling plan.now rows.now heads.old.items }
@@ -56,7 +61,7 @@ fn refill<R: Wait>(
             item: _,
         } => Some(MergeAnswer::Row { row, cause }),
         Next::Lost => Some(MergeAnswer::Memory),
-        Next::Row(row) => match put_head(rows, plan, heads, Head { row, from }) {
+        Next::Row(row) => match put_head(rows, plan, words, heads, Head { row, from }) {
             Ok(()) => None,
             Err(_) => Some(MergeAnswer::Memory),
         },
@@ -69,10 +74,12 @@ fn fill<R: Wait>(
     r: &Region,
     plan: &BoundPlan,
     rows: &RowStore,
+    words: &[u64],
     own: &mut OwnRows,
     queues: &mut [LeaderEnds],
     heads: &mut Vec<Head>,
 ) -> Option<MergeAnswer>
+    requires words { AreWords (columns_at plan.now rows.now) words.now }
     requires open { AreOpen r.now queues.old }
     requires fresh { HaveGivenNone (sources_of own.old queues.old) }
     requires empty { heads.old.items ≡ [] }
@@ -82,7 +89,7 @@ fn fill<R: Wait>(
     ensures filled { Fills plan.now rows.now (sources_of own.new queues.new) heads.new.items queues.new result }
 {
     for from in 0..queues.len() + 1 {
-        let failure = refill(rt, r, plan, rows, from, own, queues, heads);
+        let failure = refill(rt, r, plan, rows, words, from, own, queues, heads);
         if failure.is_some() {
             return failure;
         }
@@ -96,11 +103,13 @@ fn drain<R: Wait>(
     r: &Region,
     plan: &BoundPlan,
     rows: &RowStore,
+    words: &[u64],
     own: &mut OwnRows,
     queues: &mut [LeaderEnds],
     heads: &mut Vec<Head>,
     order: &mut Vec<u64>,
 ) -> Option<MergeAnswer>
+    requires words { AreWords (columns_at plan.now rows.now) words.now }
     requires open { AreOpen r.now queues.old }
     requires filled { IsFilled plan.now rows.now (sources_of own.old queues.old) order.old.items heads.old.items }
     ensures list { own.new.list ≡ own.old.list }
@@ -114,7 +123,7 @@ fn drain<R: Wait>(
         if order.push(least.row).is_err() {
             return Some(MergeAnswer::Memory);
         }
-        let failure = refill(rt, r, plan, rows, least.from, own, queues, heads);
+        let failure = refill(rt, r, plan, rows, words, least.from, own, queues, heads);
         if failure.is_some() {
             return failure;
         }
@@ -129,10 +138,12 @@ fn merge_all<R: Wait>(
     r: &Region,
     plan: &BoundPlan,
     rows: &RowStore,
+    words: &[u64],
     own: &mut OwnRows,
     queues: &mut [LeaderEnds],
     order: &mut Vec<u64>,
 ) -> Option<MergeAnswer>
+    requires words { AreWords (columns_at plan.now rows.now) words.now }
     requires open { AreOpen r.now queues.old }
     requires fresh { HaveGivenNone (sources_of own.old queues.old) }
     requires empty { order.old.items ≡ [] }
@@ -141,11 +152,11 @@ fn merge_all<R: Wait>(
     ensures drained { Drains plan.now rows.now (sources_of own.new queues.new) order.new.items queues.new result }
 {
     let mut heads = Vec::new(alloc);
-    let failure = fill(rt, r, plan, rows, own, queues, &mut heads);
+    let failure = fill(rt, r, plan, rows, words, own, queues, &mut heads);
     if failure.is_some() {
         return failure;
     }
-    drain(rt, r, plan, rows, own, queues, &mut heads, order)
+    drain(rt, r, plan, rows, words, own, queues, &mut heads, order)
 }
 
 /// Why a block was not taken, as an answer.
@@ -169,12 +180,14 @@ pub(crate) fn lead_all<G: Gate, R: Wait>(
     r: &Region,
     plan: &BoundPlan,
     rows: &RowStore,
+    words: &[u64],
     gate: &G,
     claims: &Claims,
     claim: &mut ClaimSeat,
     queues: &mut [LeaderEnds],
     order: &mut Vec<u64>,
 ) -> Option<MergeAnswer>
+    requires words { AreWords (columns_at plan.now rows.now) words.now }
     requires seat { Belongs claims.now claim.old }
     requires fresh { draws_of claim.old ≡ [] }
     requires callers { callers_of claims.now ≡ suc (length queues.old) }
@@ -191,7 +204,13 @@ pub(crate) fn lead_all<G: Gate, R: Wait>(
     if let Some(why) = draw_all(rt, 0, plan, rows, gate, claims, claim, &mut list) {
         return Some(answer_of(why));
     }
-    sort_rows(rows, plan, &mut list);
+    let Ok(()) = sort_rows(alloc, rows, plan, words, &mut list) else {
+        return Some(MergeAnswer::Memory);
+    };
+    if queues.is_empty() {
+        *order = list;
+        return None;
+    }
     let mut own = OwnRows { list, given: 0 };
-    merge_all(rt, alloc, r, plan, rows, &mut own, queues, order)
+    merge_all(rt, alloc, r, plan, rows, words, &mut own, queues, order)
 }

@@ -2,9 +2,10 @@
 //! of the blocks that it draws, and the leader merges the workers' streams with its own.
 //!
 //! Rows are known by their numbers, and compare by their columns and then by these numbers, so no two are alike and
-//! there is one order of all rows (`IsOrder`), whoever drew which block. That a merge of sorted streams is this order
-//! is a fact about plain lists (`merges_all`); here it is shown that a run is one of those that the fact speaks of. A
-//! worker that ended early has left rows out, so the answer is then a refused row or want of memory, and no order.
+//! there is one order of all rows (`IsOrder`), whoever drew which block. Each row has a word of the first bytes of its
+//! first column, and where two words tell the rows apart nothing else is looked at. That a merge of sorted streams is
+//! this order is a fact about plain lists (`merges_all`); here it is shown that a run is one of those that the fact speaks
+//! of. A worker that ended early has left rows out, so the answer is then a refused row or want of memory, and no order.
 
 #![tactic(auto)]
 
@@ -26,8 +27,10 @@ use std::alloc::Global;
 use std::sync::Wait;
 use std::thread::Threads;
 use verdicts::first_verdict;
+use words::first_words;
 use worker_run::{Gate, WorkerEnd};
 
+mod comparing;
 mod drawing;
 mod heads;
 mod hearing;
@@ -36,9 +39,11 @@ mod leading;
 mod order;
 mod roles;
 mod sending;
+mod sorting;
 #[cfg(test)]
 mod tests;
 mod verdicts;
+mod words;
 mod working;
 
 pub use laws::{merges_all, one_order};
@@ -78,8 +83,10 @@ pub struct Merged {
 /// stops the workers. Fewer workers than asked for may start, also none.
 ///
 /// The blocks of 256 rows and their sorting are shared out. Each row of a worker is one message; taking the messages off
-/// and merging them is the leader's work, with at most 7 comparisons of rows for each row. Memory is 82 KB for each
-/// worker, and 8 bytes a row for the participants' lists, 8 more for the order.
+/// and merging them is the leader's work, with at most 7 comparisons for each row, most of which are of words. A row is
+/// looked up once for each seven bytes of its columns by which it has to be told apart from others. Memory is 82 KB for
+/// each worker, 8 bytes a row for the words, 8 for the participants' lists, 16 more while these are sorted, and 8 for the
+/// order.
 pub fn merge<G: Gate + Sync, R: Threads + Wait + Sync>(
     rt: &R,
     alloc: Global,
@@ -97,13 +104,23 @@ pub fn merge<G: Gate + Sync, R: Threads + Wait + Sync>(
     ensures first { workers ≡ 0 → IfErr result (λ why. IsFirstCause plan.now rows.now why) }
     ensures used { IfOk result (λ m. IsUsed plan.now rows.now workers m.finished) }
 {
-    let Ok(context) = Context::build(alloc, plan, workers, count_blocks(rows)) else {
+    let Ok(context) = Context::build(rt, alloc, plan, workers, 0, count_blocks(rows)) else {
         return Err(MergeAnswer::Memory);
     };
-    let team = Team { alloc, rows, gate };
+    let Ok(all_words) = first_words(alloc, rows, plan) else {
+        return Err(MergeAnswer::Memory);
+    };
+    let words = all_words.as_slice();
+    let team = Team {
+        alloc,
+        rows,
+        words,
+        gate,
+    };
     let mut leader = Leader {
         alloc,
         rows,
+        words,
         gate,
         order: Vec::new(alloc),
         failure: None,

@@ -16,6 +16,7 @@ use worker_run::{Gate, WorkerEnd};
 pub(crate) struct Team<'a, G: Gate + Sync> {
     pub(crate) alloc: Global,
     pub(crate) rows: &'a RowStore,
+    pub(crate) words: &'a [u64],
     pub(crate) gate: &'a G,
 }
 
@@ -24,6 +25,7 @@ impl<'a, G: Gate + Sync> Drop for Team<'a, G> {
         let Team {
             alloc: _,
             rows: _,
+            words: _,
             gate: _,
         } = self;
     }
@@ -34,10 +36,12 @@ impl<'a, G: Gate + Sync> Worker for Team<'a, G> {
     ghost use Rattle.partial_agg.specs.Rows.{header_width};
     ghost use Rattle.gather_law.specs.Tuples.{AreBlocks};
     ghost use Rattle.gather_merge.specs.Ended.{DidWork};
+    ghost use Rattle.gather_merge.specs.Order.{columns_at};
+    ghost use Rattle.gather_merge.specs.Words.{AreWords};
 
     type End = WorkerEnd;
 
-    ghost asks = { λ team plan blocks. HasColumns plan (header_width team.rows.now) × AreBlocks team.rows.now blocks };
+    ghost asks = { λ team plan blocks. HasColumns plan (header_width team.rows.now) × AreBlocks team.rows.now blocks × AreWords (columns_at plan team.rows.now) team.words.now };
 
     ghost did = { λ team plan blocks account end. DidWork plan team.rows.now blocks account end };
 
@@ -58,6 +62,7 @@ impl<'a, G: Gate + Sync> Worker for Team<'a, G> {
             &shared.claims,
             &mut seats.claim,
             self.rows,
+            self.words,
             &mut ends.errors,
             &mut ends.tuples,
             self.gate,
@@ -69,6 +74,7 @@ impl<'a, G: Gate + Sync> Worker for Team<'a, G> {
 pub(crate) struct Leader<'a, G: Gate> {
     pub(crate) alloc: Global,
     pub(crate) rows: &'a RowStore,
+    pub(crate) words: &'a [u64],
     pub(crate) gate: &'a G,
     pub(crate) order: Vec<u64>,
     pub(crate) failure: Option<MergeAnswer>,
@@ -79,6 +85,7 @@ impl<'a, G: Gate> Drop for Leader<'a, G> {
         let Leader {
             alloc: _,
             rows: _,
+            words: _,
             gate: _,
             order,
             failure: _,
@@ -93,10 +100,12 @@ impl<'a, G: Gate> Lead for Leader<'a, G> {
     ghost use Rattle.partial_agg.specs.Rows.{header_width};
     ghost use Rattle.gather_law.specs.Tuples.{AreBlocks};
     ghost use Rattle.gather_merge.specs.Leading.{Led};
+    ghost use Rattle.gather_merge.specs.Order.{columns_at};
+    ghost use Rattle.gather_merge.specs.Words.{AreWords};
 
-    ghost asks = { λ leader plan blocks. HasColumns plan (header_width leader.rows.now) × AreBlocks leader.rows.now blocks × (leader.order.items ≡ []) };
+    ghost asks = { λ leader plan blocks. HasColumns plan (header_width leader.rows.now) × AreBlocks leader.rows.now blocks × AreWords (columns_at plan leader.rows.now) leader.words.now × (leader.order.items ≡ []) };
 
-    ghost led = { λ leader plan blocks draws heard new. Led plan leader.rows.now blocks draws heard new.order.items new.failure };
+    ghost led = { λ leader plan blocks draws used heard new. Led plan leader.rows.now blocks draws heard new.order.items new.failure };
 
     fn lead<R: Wait + Sync>(
         &mut self,
@@ -112,6 +121,7 @@ impl<'a, G: Gate> Lead for Leader<'a, G> {
             &shared.region,
             &plan,
             self.rows,
+            self.words,
             self.gate,
             &shared.claims,
             &mut seats.claim,
@@ -129,6 +139,7 @@ impl<'a, G: Gate> Leader<'a, G> {
         let Leader {
             alloc: _,
             rows: _,
+            words: _,
             gate: _,
             order,
             failure,

@@ -14,9 +14,12 @@ ghost use Rattle.worker_run.specs.Sent.{FoundGone, HasSent, IsFreshQueue, IsRead
 ghost use Rattle.worker_run.specs.Steps.{GivesUp, KeepsQueues};
 ghost use Rattle.worker_run.specs.declared.WorkerEnd.{WorkerEnd};
 ghost use Rattle.gather_merge.specs.Ended.{Finishes, HasEnded};
+ghost use Rattle.gather_merge.specs.Order.{columns_at};
+ghost use Rattle.gather_merge.specs.Words.{AreWords};
 
-use crate::drawing::{draw_all, sort_rows};
+use crate::drawing::draw_all;
 use crate::sending::{send_notice, send_rows};
+use crate::sorting::sort_rows;
 use csv_rows::RowStore;
 use error_queue::ErrorMessage;
 use mq_handle::Sender;
@@ -100,10 +103,12 @@ fn work_rows<G: Gate, R: Wait>(
     claims: &Claims,
     claim: &mut ClaimSeat,
     rows: &RowStore,
+    words: &[u64],
     errors: &mut Sender,
     tuples: &mut Sender,
     gate: &G,
 ) -> WorkerEnd
+    requires words { AreWords (columns_at plan.now rows.now) words.now }
     requires seat { Belongs claims.now claim.old }
     requires fresh { draws_of claim.old ≡ [] }
     requires blocks { AreBlocks rows.now (blocks_of claims.now) }
@@ -122,7 +127,9 @@ fn work_rows<G: Gate, R: Wait>(
     if let Some(why) = draw_all(rt, number, plan, rows, gate, claims, claim, &mut list) {
         return give_up(rt, r, errors, why);
     }
-    sort_rows(rows, plan, &mut list);
+    let Ok(()) = sort_rows(alloc, rows, plan, words, &mut list) else {
+        return WorkerEnd::NoMemory;
+    };
     finish(rt, r, errors, tuples, &list)
 }
 
@@ -138,10 +145,12 @@ pub(crate) fn work<G: Gate, R: Wait>(
     claims: &Claims,
     claim: &mut ClaimSeat,
     rows: &RowStore,
+    words: &[u64],
     errors: &mut Sender,
     tuples: &mut Sender,
     gate: &G,
 ) -> WorkerEnd
+    requires words { AreWords (columns_at plan.now rows.now) words.now }
     requires seat { Belongs claims.now claim.old }
     requires fresh { draws_of claim.old ≡ [] }
     requires blocks { AreBlocks rows.now (blocks_of claims.now) }
@@ -158,7 +167,7 @@ pub(crate) fn work<G: Gate, R: Wait>(
     ensures ended { HasEnded plan.now rows.now (blocks_of claims.now) (draws_of claim.new) (sends_of errors.new.end tuples.new.end) result }
 {
     let end = work_rows(
-        rt, alloc, r, number, plan, claims, claim, rows, errors, tuples, gate,
+        rt, alloc, r, number, plan, claims, claim, rows, words, errors, tuples, gate,
     );
     tuples.detach(r);
     errors.detach(r);

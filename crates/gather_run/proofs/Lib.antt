@@ -1,4 +1,8 @@
 mod Anys
 pub mod Parts
+pub mod Seated
+pub mod Shares
 pub mod Looking
 pub mod Together
+pub mod Participants
+pub mod Home

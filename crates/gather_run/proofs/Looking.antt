@@ -1,17 +1,13 @@
 -- What looks at the queues come to.
-use Rattle.std.proofs.Common.{◌≡◌, ◌<◌, ◌≤◌, ◌+◌, ◌++◌, ◌⊎◌, ◌&&◌, ◌==◌, inl, inr, ℕ, zero, suc, Bool, true, false, List, [], ◌∷◌, Ok, Err, Result, OnOk, Option, Some, None, IsTrue, length, set, get_or, map, fold, All, Any, refl, ap, sym, subst, ◌∙◌, arith, append-nil, append_assoc}
+use Rattle.std.proofs.Common.{◌≡◌, ◌<◌, ◌++◌, ◌⊎◌, ◌==◌, inl, inr, ℕ, zero, suc, true, false, List, [], ◌∷◌, Ok, Err, Result, OnOk, Option, Some, None, IsTrue, length, set, get_or, map, All, Any, refl, ap, sym, subst, ◌∙◌, arith, append-nil, append_assoc}
 use Rattle.std.specs.List.{AllZip}
 use Rattle.std.specs.Result.{is_err}
 use Rattle.std.proofs.lemmas.List.Sums.{fold-append}
-use Rattle.error_queue.specs.Message.{IsMessage, encoding}
-use Rattle.error_queue.specs.declared.ErrorMessage.{ErrorMessage}
-use Rattle.error_queue.specs.declared.ErrorMessage.TheVariants as message
+use Rattle.agg_table.specs.Calls.{Use}
 use Rattle.mq_handle.specs.Messages.{whole_of}
 use Rattle.par_model.specs.Plan.{Plan}
-use Rattle.par_model.specs.declared.state.AggState.{AggState}
 use Rattle.partial_agg.specs.Groups.{GroupsByKey, added}
 use Rattle.ring_rule.specs.Ring.{Receiving}
-use Rattle.tuple_codec.specs.Tuple.{IsTuple, tuple_bytes}
 use Rattle.gather_law.specs.Tuples.{Group, Table}
 use Rattle.gather_law.proofs.Permute.{AllZip-join}
 use Rattle.parallel_ctx.specs.Accounts.{Heard, heard, is_over}
@@ -21,7 +17,7 @@ use Rattle.gather_run.specs.Leading.{IsLeading, Led}
 use Rattle.gather_run.specs.Looks.{HearsOut, IsOverQueue, NamedBy, Takes, tuples_of}
 use Rattle.gather_run.specs.Steps.{BlockStep, Steps}
 use Rattle.gather_law.specs.Parts.{with_all}
-use Rattle.gather_run.specs.Reading.{ReadAs, ReadsAs, ReadsRow}
+use Rattle.gather_run.specs.Reading.{ReadsAs, ReadsRow}
 use Rattle.std.proofs.lemmas.List.Elements.{All-map}
 use Rattle.scan_claim.specs.Drawing.{is_spent}
 use Rattle.scan_claim.specs.Shown.{callers_of}
@@ -77,13 +73,13 @@ map-long f [] = refl
 map-long f (x ∷ xs) = ap suc (map-long f xs)
 
 pub leading_after : (queues : List LeaderEnds) (k : ℕ) (d q : LeaderEnds) (before now : GroupsByKey) → k < length queues → Takes (get_or queues k d).tuples.end q.tuples.end before now
-    → (plan : Plan) (records : Table) (draws : List ℕ) → IsLeading plan records draws (map tuples_of queues) before → IsLeading plan records draws (map tuples_of (set queues k q)) now
-leading_after queues k d q before now h t plan records draws l =
+    → (plan : Plan) (records : Table) (draws : List ℕ) (used : Option Use) → IsLeading plan records draws used (map tuples_of queues) before → IsLeading plan records draws used (map tuples_of (set queues k q)) now
+leading_after queues k d q before now h t plan records draws used l =
     let place : k < length (map tuples_of queues) = omega (arith, map-long tuples_of queues, h) in
     let were = map-at tuples_of queues k d [] h in
     let are : map tuples_of (set queues k q) ≡ set (map tuples_of queues) k (get_or (map tuples_of queues) k [] ++ t.messages) =
     map-set tuples_of queues k q ∙ ap (λ ms. set (map tuples_of queues) k ms) (t.taken ∙ ap (λ ms. ms ++ t.messages) (sym were)) in
-    subst (λ ts. IsLeading plan records draws ts now) (sym are) (leading-hear plan records draws (map tuples_of queues) k t.messages t.groups before now l place t.read t.added_are)
+    subst (λ ts. IsLeading plan records draws used ts now) (sym are) (leading-hear plan records draws used (map tuples_of queues) k t.messages t.groups before now l place t.read t.added_are)
 
 pub all-trans : (a b c : List LeaderEnds) → AllZip SameQueues a b → AllZip SameQueues b c → AllZip SameQueues a c
 all-trans = AllZip-through SameQueues SameQueues SameQueues same-trans
@@ -106,27 +102,27 @@ any_heard row cause item (q ∷ queues) a = by (any_cases (λ (q : LeaderEnds). 
 over_heard : (queues : List LeaderEnds) → All IsOverQueue queues → All (λ (h : Heard). h.tuples_over ≡ true) (map heard queues)
 over_heard queues h = All-map (λ (h : Heard). h.tuples_over ≡ true) heard queues h
 
-pub led_out : (plan : Plan) (records : Table) (blocks : ℕ) (draws : List ℕ) (old new : List LeaderEnds) (before now : GroupsByKey) (r : Option GatherAnswer)
-    → IsLeading plan records draws (map tuples_of old) before → IsTrue (is_spent blocks draws) → HearsOut old new before now r → Led plan records blocks draws (map heard new) now r
-led_out plan records blocks draws old new before now None l s h =
-    record { leading = subst (λ ts. IsLeading plan records draws ts now) (tuples_heard new) (h.0 plan records draws l); spent = s; over = over_heard new h.1 }
-led_out plan records blocks draws old new before now (Some (Row row cause item)) l s h = inr (any_heard row cause item new h)
-led_out plan records blocks draws old new before now (Some Memory) l s h = tt
+pub led_out : (plan : Plan) (records : Table) (blocks : ℕ) (draws : List ℕ) (used : Option Use) (old new : List LeaderEnds) (before now : GroupsByKey) (r : Option GatherAnswer)
+    → IsLeading plan records draws used (map tuples_of old) before → IsTrue (is_spent blocks draws) → HearsOut old new before now r → Led plan records blocks draws used (map heard new) now r
+led_out plan records blocks draws used old new before now None l s h =
+    record { leading = subst (λ ts. IsLeading plan records draws used ts now) (tuples_heard new) (h.0 plan records draws used l); spent = s; over = over_heard new h.1 }
+led_out plan records blocks draws used old new before now (Some (Row row cause item)) l s h = inr (any_heard row cause item new h)
+led_out plan records blocks draws used old new before now (Some Memory) l s h = tt
 
 -- a leader that has heard nobody is alone
 alone_is : (callers : ℕ) (queues : List LeaderEnds) → callers ≡ suc (length queues) → map heard queues ≡ [] → callers ≡ 1
 alone_is callers queues e none = let long = ap (λ l. length l) none in omega (arith, e, long, map-long heard queues)
 
-pub led_failed : (plan : Plan) (records : Table) (claims : Claims) (blocks : ℕ) (draws : List ℕ) (queues : List LeaderEnds) (groups : GroupsByKey) (why : GatherAnswer) → callers_of claims ≡ suc (length queues)
-    → Steps plan records claims draws queues groups (Failed why) → Led plan records blocks draws (map heard queues) groups (Some why)
-led_failed plan records claims blocks draws queues groups (Row row cause item) e (inl m) = inl (record { refused = m.refused; first = λ none. m.first (alone_is (callers_of claims) queues e none) })
-led_failed plan records claims blocks draws queues groups (Row row cause item) e (inr a) = inr (any_heard row cause item queues a)
-led_failed plan records claims blocks draws queues groups Memory e s = tt
+pub led_failed : (plan : Plan) (records : Table) (claims : Claims) (blocks : ℕ) (draws : List ℕ) (used : Option Use) (queues : List LeaderEnds) (groups : GroupsByKey) (why : GatherAnswer) → callers_of claims ≡ suc (length queues)
+    → Steps plan records claims draws used queues groups (Failed why) → Led plan records blocks draws used (map heard queues) groups (Some why)
+led_failed plan records claims blocks draws used queues groups (Row row cause item) e (inl m) = inl (record { refused = m.refused; first = λ none. m.first (alone_is (callers_of claims) queues e none) })
+led_failed plan records claims blocks draws used queues groups (Row row cause item) e (inr a) = inr (any_heard row cause item queues a)
+led_failed plan records claims blocks draws used queues groups Memory e s = tt
 
 -- what a block did, once all workers were heard
-pub step_of : (plan : Plan) (records : Table) (claims : Claims) (draws : List ℕ) (queues : List LeaderEnds) (groups : GroupsByKey) (step : Step) → BlockStep plan records claims draws (map tuples_of queues) groups step
-    → Steps plan records claims draws queues groups step
-step_of plan records claims draws queues groups Next s = s
-step_of plan records claims draws queues groups NoMore s = s
-step_of plan records claims draws queues groups (Failed (Row row cause item)) s = inl s
-step_of plan records claims draws queues groups (Failed Memory) s = tt
+pub step_of : (plan : Plan) (records : Table) (claims : Claims) (draws : List ℕ) (used : Option Use) (queues : List LeaderEnds) (groups : GroupsByKey) (step : Step) → BlockStep plan records claims draws used (map tuples_of queues) groups step
+    → Steps plan records claims draws used queues groups step
+step_of plan records claims draws used queues groups Next s = s
+step_of plan records claims draws used queues groups NoMore s = s
+step_of plan records claims draws used queues groups (Failed (Row row cause item)) s = inl s
+step_of plan records claims draws used queues groups (Failed Memory) s = tt

@@ -1,9 +1,8 @@
 -- What the workers and the leader did, put together.
 use Rattle.std.proofs.Common.{◌≡◌, ◌<◌, ◌≤◌, ◌+◌, ◌-◌, ◌*◌, ◌^◌, ◌++◌, ◌⊎◌, inl, inr, ℕ, List, [], ◌∷◌, length, drop, map, All, IsTrue, MatchOption, Option, Some, None, true, false, zero, suc, get_or, is_some, refl, ap, sym, subst, ◌∙◌, arith, Any, length-append}
 use Rattle.std.specs.List.{AllByRecursion, AllZip, flat_map}
+use Rattle.std.specs.List.Sorted.{IsPermutation}
 use Rattle.std.proofs.lemmas.List.Elements.{All-head, All-map, All-nil, All-tail, All-weaker}
-use Rattle.error_queue.specs.Message.{encoding}
-use Rattle.error_queue.specs.declared.ErrorMessage.{ErrorMessage}
 use Rattle.error_queue.specs.declared.ErrorMessage.TheVariants as message
 use Rattle.mq_handle.specs.Messages.{whole_of}
 use Rattle.par_model.specs.Plan.{Plan}
@@ -13,30 +12,31 @@ use Rattle.partial_agg.proofs.Adding.{no_groups}
 use Rattle.partial_agg.proofs.Blocks.{length-block}
 use Rattle.scan_claim.specs.Drawing.{IsDrawn, flat, is_spent, late, once_below, times}
 use Rattle.scan_claim.proofs.Totals.{late-append}
-use Rattle.gather_law.specs.Law.{AreSent, CombineTo, IsGathered}
-use Rattle.gather_law.specs.Parts.{after}
+use Rattle.gather_law.specs.Law.{AreSent, CombineTo}
+use Rattle.gather_law.specs.Parts.{received_in}
 use Rattle.gather_law.specs.Tuples.{AreBlocks, Group, HasTuple, Table, groups_of, rows_of_blocks, tuple_of}
 use Rattle.gather_law.proofs.Gathering.{All-apart, combines, gathers}
+use Rattle.agg_table.specs.Calls.{Use}
 use Rattle.parallel_ctx.specs.Ran.{Finishes}
 use Rattle.parallel_ctx.specs.Accounts.{Account, Heard, IsIdle, account_of, heard_of}
 use Rattle.parallel_ctx.specs.Tokens.{AreUnheard}
 use Rattle.parallel_ctx.specs.declared.home.Returned.{Returned}
-use Rattle.worker_run.specs.Ended.{IsNotice, IsRefused}
+use Rattle.worker_run.specs.Ended.{IsNotice, IsRefused, Sends}
 use Rattle.worker_run.specs.declared.WorkerEnd.{WorkerEnd}
 use Rattle.worker_run.specs.declared.WorkerEnd.TheVariants.{Finished, Stopped, Refused, NoMemory}
 use Rattle.parallel_ctx.proofs.Idle.{whole_nothing}
-use Rattle.parallel_ctx.proofs.Zips.{AllZip-length}
 use Rattle.gather_run.proofs.Anys.{any_cases, any_head, any_none, any_tail}
 use Rattle.parallel_ctx.specs.declared.tokens.LeaderEnds.{LeaderEnds}
 use Rattle.parallel_ctx.specs.declared.tokens.Shared.{Shared}
 use Rattle.gather_run.specs.Looks.{tuples_of}
 use Rattle.gather_run.specs.declared.GatherAnswer.{GatherAnswer}
 use Rattle.gather_run.specs.declared.GatherAnswer.TheVariants.{Row, Memory}
-use Rattle.gather_run.specs.Did.{AreVerdict, DidWork, EndsWell, IsVerdict}
+use Rattle.worker_run.specs.Tabled.{EndsWith}
+use Rattle.gather_run.specs.Did.{sends_in, AreVerdict, DidPlainWork, DidWork, EndsWell, IsVerdict}
 use Rattle.gather_run.specs.Answers.{IsCause, IsFirst, IsFirstCause}
 use Rattle.gather_run.specs.Leading.{HasLed, Led, NamesRow}
 use Rattle.gather_run.specs.Used.{SentItsRows}
-use Rattle.gather_run.specs.Reading.{ReadAs, ReadsAs, ReadsRow}
+use Rattle.gather_run.specs.Reading.{ReadAs, ReadsRow}
 
 -- tuples are read as the groups that they are
 pub same_groups : (plan : Plan) (hs gs : List Group) → ReadAs (map (tuple_of plan) hs) gs → AllByRecursion (HasTuple plan) hs → gs ≡ hs
@@ -47,20 +47,38 @@ same_groups plan (h ∷ hs) (g ∷ gs) r t =
     let one : g ≡ h = r.0.each h.0 h.1 (length plan.items) t.0 refl in
     ap (λ x. x ∷ gs) one ∙ ap (λ l. h ∷ l) (same_groups plan hs gs r.1 t.1)
 
-no_groups_read : (gs : List Group) → ReadAs [] gs → gs ≡ []
+pub no_groups_read : (gs : List Group) → ReadAs [] gs → gs ≡ []
 no_groups_read [] r = refl
 no_groups_read (g ∷ gs) r = absurd r
 
-module _ (plan : Plan) (records : Table) (blocks : ℕ) where
+module _ (uses : ℕ → Option Use) (plan : Plan) (records : Table) (blocks : ℕ) where
   abbrev Did : Plan → ℕ → Account → WorkerEnd → Type 0
   Did p b account end = DidWork p records b account end
 
-  abbrev Worker : List ℕ → Returned WorkerEnd → Type 0
-  Worker draws r = Finishes Did plan blocks draws r
+  -- what came home of a worker that drew these numbers, and of one that had no table
+  abbrev pub Worker : List ℕ → Returned WorkerEnd → Type 0
+  Worker draws r = Finishes Did uses plan blocks draws r
+
+  abbrev DidPlain : Plan → ℕ → Account → WorkerEnd → Type 0
+  DidPlain p b account end = DidPlainWork p records b account end
+
+  abbrev pub Plain : List ℕ → Returned WorkerEnd → Type 0
+  Plain draws r = Finishes DidPlain uses plan blocks draws r
+
+  -- where there is no table the workers did what they do without
+  pub plain : ((n : ℕ) → uses n ≡ None) → (draws : List (List ℕ)) (ws : List (Returned WorkerEnd)) → AllZip Worker draws ws → AllZip Plain draws ws
+  plain none [] [] f = tt
+  plain none [] (w ∷ ws) f = absurd f
+  plain none (ds ∷ draws) [] f = absurd f
+  plain none (ds ∷ draws) (w ∷ ws) f = (record { done = by w.end f.0.done; errors = f.0.errors; tuples = f.0.tuples }, plain none draws ws f.1)
+    where
+      by : (end : Option WorkerEnd) → MatchOption end (IsIdle (account_of uses ds w)) (λ e. Did plan blocks (account_of uses ds w) e) → MatchOption end (IsIdle (account_of uses ds w)) (λ e. DidPlain plan blocks (account_of uses ds w) e)
+      by None d = d
+      by (Some e) d = subst (λ (u : Option Use). EndsWith plan records blocks ds u (sends_in (account_of uses ds w)) e) (none w.number) d
 
   -- ---- what was sent
 
-  one_sent : (draws : List ℕ) (r : Returned WorkerEnd) (gs : List Group) → Worker draws r → EndsWell r.end → (heard_of r).tuples_over ≡ true → ReadAs (heard_of r).tuples gs
+  one_sent : (draws : List ℕ) (r : Returned WorkerEnd) (gs : List Group) → Plain draws r → EndsWell r.end → (heard_of r).tuples_over ≡ true → ReadAs (heard_of r).tuples gs
       → AreSent plan (header_width records) records draws gs
   one_sent draws r gs f well over read =
       by r.end f.done well
@@ -68,7 +86,7 @@ module _ (plan : Plan) (records : Table) (blocks : ℕ) where
       all : whole_of r.tuples.receiver.taken ≡ whole_of r.tuples.sender.put
       all = f.tuples.all over
 
-      by : (end : Option WorkerEnd) → MatchOption end (IsIdle (account_of draws r)) (λ e. Did plan blocks (account_of draws r) e) → EndsWell end → AreSent plan (header_width records) records draws gs
+      by : (end : Option WorkerEnd) → MatchOption end (IsIdle (account_of uses draws r)) (λ e. DidPlain plan blocks (account_of uses draws r) e) → EndsWell end → AreSent plan (header_width records) records draws gs
       by None d w =
           let none : gs ≡ [] = no_groups_read gs (subst (λ ms. ReadAs ms gs) (all ∙ d.tuples) read) in
           subst (λ ds. AreSent plan (header_width records) records ds gs) (sym d.draws)
@@ -85,7 +103,7 @@ module _ (plan : Plan) (records : Table) (blocks : ℕ) where
       by (Some (Refused row cause item)) d w = absurd w
       by (Some NoMemory) d w = absurd w
 
-  all_sent : (draws : List (List ℕ)) (ws : List (Returned WorkerEnd)) (taken : List (List Group)) → AllZip Worker draws ws → All (λ (w : Returned WorkerEnd). EndsWell w.end) ws
+  all_sent : (draws : List (List ℕ)) (ws : List (Returned WorkerEnd)) (taken : List (List Group)) → AllZip Plain draws ws → All (λ (w : Returned WorkerEnd). EndsWell w.end) ws
       → All (λ (h : Heard). h.tuples_over ≡ true) (map heard_of ws) → AllZip ReadAs (map (λ (h : Heard). h.tuples) (map heard_of ws)) taken
       → AllZip (AreSent plan (header_width records) records) draws taken
   all_sent [] [] [] f w o r = tt
@@ -100,12 +118,12 @@ module _ (plan : Plan) (records : Table) (blocks : ℕ) where
 
   -- ---- all rows
 
-  spent_is : (own : List ℕ) → IsTrue (is_spent blocks own) → 0 < late blocks own
+  pub spent_is : (own : List ℕ) → IsTrue (is_spent blocks own) → 0 < late blocks own
   spent_is own h = grind (arith, h)
 
   pub all_gathered : (own : List ℕ) (draws : List (List ℕ)) (ws : List (Returned WorkerEnd)) (groups : GroupsByKey) (lists : List (List ℕ)) (n : ℕ)
-      → AreBlocks records blocks → length records ≤ 4194305 → lists ≡ own ∷ draws → IsDrawn blocks lists n → AllZip Worker draws ws → All (λ (w : Returned WorkerEnd). EndsWell w.end) ws
-      → HasLed plan records blocks own (map heard_of ws) groups
+      → AreBlocks records blocks → length records ≤ 4194305 → lists ≡ own ∷ draws → IsDrawn blocks lists n → AllZip Plain draws ws → All (λ (w : Returned WorkerEnd). EndsWell w.end) ws
+      → HasLed plan records blocks own None (map heard_of ws) groups
       → All (IsAccepted plan (header_width records)) (drop 1 records) × AreGroups plan (drop 1 records) groups
   all_gathered own draws ws groups lists n are few e d f w led =
       let drawn : IsDrawn blocks (own ∷ draws) n = subst (λ l. IsDrawn blocks l n) e d in
@@ -114,7 +132,7 @@ module _ (plan : Plan) (records : Table) (blocks : ℕ) where
       let past : late blocks (own ++ flat draws) ≡ n - blocks = drawn.past in
       let l = led.leading in
       let both = gathers plan (header_width records) records own draws l.taken l.parts n
-      (record { own_blocks = l.own; own_accepted = l.accepted; all_received = l.received; all_sent = all_sent draws ws l.taken f w led.over l.read })
+      (record { own_blocks = l.own.0; own_accepted = l.accepted; all_received = subst (λ (gs : List Group). IsPermutation (received_in l.parts) (gs ++ flat_map (λ groups. groups) l.taken)) l.own.1 l.received; all_sent = all_sent draws ws l.taken f w led.over l.read })
       drawn.once (omega (arith, some, lates, past, are.all)) (omega (arith, few)) in
       (both.0, subst (AreGroups plan (drop 1 records)) (sym l.map_is) both.1)
 
@@ -138,12 +156,20 @@ module _ (plan : Plan) (records : Table) (blocks : ℕ) where
       by (inl r) rest = one_notice draws row cause item m r (All-head (IsNotice plan records draws) m ms h)
       by (inr a) rest = rest a (All-tail (IsNotice plan records draws) m ms h)
 
+  notices_of : (u : Option Use) (draws : List ℕ) (s : Sends) (end : WorkerEnd) → EndsWith plan records blocks draws u s end → All (IsNotice plan records draws) s.errors
+  notices_of None draws s end d = d.notices
+  notices_of (Some u) draws s end d = d.notices
+
+  refused_of : (u : Option Use) (draws : List ℕ) (s : Sends) (row cause item : ℕ) → EndsWith plan records blocks draws u s (Refused row cause item) → IsRefused plan records row cause item
+  refused_of None draws s row cause item d = d.ended.refused
+  refused_of (Some u) draws s row cause item d = d.ended.refused
+
   worker_notices : (draws : List ℕ) (r : Returned WorkerEnd) → Worker draws r → All (IsNotice plan records draws) (whole_of r.errors.sender.put)
   worker_notices draws r f = by r.end f.done
     where
-      by : (end : Option WorkerEnd) → MatchOption end (IsIdle (account_of draws r)) (λ e. Did plan blocks (account_of draws r) e) → All (IsNotice plan records draws) (whole_of r.errors.sender.put)
+      by : (end : Option WorkerEnd) → MatchOption end (IsIdle (account_of uses draws r)) (λ e. Did plan blocks (account_of uses draws r) e) → All (IsNotice plan records draws) (whole_of r.errors.sender.put)
       by None d = subst (All (IsNotice plan records draws)) (sym d.errors) (All-nil (IsNotice plan records draws))
-      by (Some e) d = d.notices
+      by (Some e) d = notices_of (uses r.number) draws (sends_in (account_of uses draws r)) e d
 
   pub named : (draws : List (List ℕ)) (ws : List (Returned WorkerEnd)) (row cause item : ℕ) → AllZip Worker draws ws → Any (λ (h : Heard). Any (ReadsRow row cause item) h.errors) (map heard_of ws) → IsRefused plan records row cause item
   named [] [] row cause item f a = absurd (any_none (λ (h : Heard). Any (ReadsRow row cause item) h.errors) a)
@@ -169,20 +195,22 @@ module _ (plan : Plan) (records : Table) (blocks : ℕ) where
     where
       by : (w.end ≡ Some (Refused row cause item)) ⊎ Any (λ (w : Returned WorkerEnd). w.end ≡ Some (Refused row cause item)) ws
           → (Any (λ (w : Returned WorkerEnd). w.end ≡ Some (Refused row cause item)) ws → IsRefused plan records row cause item) → IsRefused plan records row cause item
-      by (inl e) rest = (subst (λ o. MatchOption o (IsIdle (account_of ds w)) (λ e. Did plan blocks (account_of ds w) e)) e f.0.done).ended.refused
+      by (inl e) rest =
+          refused_of (uses w.number) ds (sends_in (account_of uses ds w)) row cause item
+          (subst (λ o. MatchOption o (IsIdle (account_of uses ds w)) (λ e. Did plan blocks (account_of uses ds w) e)) e f.0.done)
       by (inr a) rest = rest a
 
   -- ---- what is answered
 
-  pub leader_row : (own : List ℕ) (draws : List (List ℕ)) (ws : List (Returned WorkerEnd)) (groups : GroupsByKey) (failure : Option GatherAnswer) (why : GatherAnswer) → AllZip Worker draws ws
-      → Led plan records blocks own (map heard_of ws) groups failure → failure ≡ Some why → IsCause plan records why
-  leader_row own draws ws groups failure (Row row cause item) f led e =
-      by (subst (Led plan records blocks own (map heard_of ws) groups) e led)
+  pub leader_row : (own : List ℕ) (used : Option Use) (draws : List (List ℕ)) (ws : List (Returned WorkerEnd)) (groups : GroupsByKey) (failure : Option GatherAnswer) (why : GatherAnswer) → AllZip Worker draws ws
+      → Led plan records blocks own used (map heard_of ws) groups failure → failure ≡ Some why → IsCause plan records why
+  leader_row own used draws ws groups failure (Row row cause item) f led e =
+      by (subst (Led plan records blocks own used (map heard_of ws) groups) e led)
     where
       by : NamesRow plan records (map heard_of ws) row cause item → IsRefused plan records row cause item
       by (inl m) = m.refused
       by (inr a) = named draws ws row cause item f a
-  leader_row own draws ws groups failure Memory f led e = tt
+  leader_row own used draws ws groups failure Memory f led e = tt
 
   pub worker_row : (draws : List (List ℕ)) (ws : List (Returned WorkerEnd)) (why : GatherAnswer) → AllZip Worker draws ws → AreVerdict ws (Some why) → IsCause plan records why
   worker_row draws ws (Row row cause item) f a = ended draws ws row cause item f a
@@ -190,15 +218,15 @@ module _ (plan : Plan) (records : Table) (blocks : ℕ) where
 
   -- ---- with no workers the first refused row is named
 
-  pub leader_first : (own : List ℕ) (ws : List (Returned WorkerEnd)) (groups : GroupsByKey) (failure : Option GatherAnswer) (why : GatherAnswer) → length ws ≡ 0
-      → Led plan records blocks own (map heard_of ws) groups failure → failure ≡ Some why → IsFirstCause plan records why
-  leader_first own [] groups failure (Row row cause item) none led e = by (subst (Led plan records blocks own [] groups) e led)
+  pub leader_first : (own : List ℕ) (used : Option Use) (ws : List (Returned WorkerEnd)) (groups : GroupsByKey) (failure : Option GatherAnswer) (why : GatherAnswer) → length ws ≡ 0
+      → Led plan records blocks own used (map heard_of ws) groups failure → failure ≡ Some why → IsFirstCause plan records why
+  leader_first own used [] groups failure (Row row cause item) none led e = by (subst (Led plan records blocks own used [] groups) e led)
     where
       by : NamesRow plan records [] row cause item → IsFirst plan records row
       by (inl m) = m.first refl
       by (inr a) = absurd (any_none (λ (h : Heard). Any (ReadsRow row cause item) h.errors) a)
-  leader_first own [] groups failure Memory none led e = tt
-  leader_first own (w ∷ ws) groups failure why none led e = let no : ⊥ = grind arith in absurd no
+  leader_first own used [] groups failure Memory none led e = tt
+  leader_first own used (w ∷ ws) groups failure why none led e = let no : ⊥ = grind arith in absurd no
 
   pub worker_first : (ws : List (Returned WorkerEnd)) (why : GatherAnswer) → length ws ≡ 0 → AreVerdict ws (Some why) → IsFirstCause plan records why
   worker_first [] (Row row cause item) none a = absurd (any_none (λ (w : Returned WorkerEnd). w.end ≡ Some (Refused row cause item)) a)
@@ -214,14 +242,14 @@ module _ (plan : Plan) (records : Table) (blocks : ℕ) where
   nothing_sent : CombineTo plan [] []
   nothing_sent = record { groups = []; has = tt; are = refl; whole = no_groups plan }
 
-  sent_its_rows : (draws : List ℕ) (r : Returned WorkerEnd) → length draws < 2 ^ 50 → Worker draws r → EndsWell r.end → (heard_of r).tuples_over ≡ true → SentItsRows plan records draws r
+  sent_its_rows : (draws : List ℕ) (r : Returned WorkerEnd) → length draws < 2 ^ 50 → Plain draws r → EndsWell r.end → (heard_of r).tuples_over ≡ true → SentItsRows plan records draws r
   sent_its_rows draws r few f well over =
       subst (CombineTo plan (rows_of_blocks records draws)) (sym all) (by r.end f.done well)
     where
       all : whole_of r.tuples.receiver.taken ≡ whole_of r.tuples.sender.put
       all = f.tuples.all over
 
-      by : (end : Option WorkerEnd) → MatchOption end (IsIdle (account_of draws r)) (λ e. Did plan blocks (account_of draws r) e) → EndsWell end → CombineTo plan (rows_of_blocks records draws) (whole_of r.tuples.sender.put)
+      by : (end : Option WorkerEnd) → MatchOption end (IsIdle (account_of uses draws r)) (λ e. DidPlain plan blocks (account_of uses draws r) e) → EndsWell end → CombineTo plan (rows_of_blocks records draws) (whole_of r.tuples.sender.put)
       by None d w =
           subst (λ ds. CombineTo plan (rows_of_blocks records ds) (whole_of r.tuples.sender.put)) (sym d.draws) (subst (CombineTo plan []) (sym d.tuples) nothing_sent)
       by (Some Finished) d w = combines plan (header_width records) (rows_of_blocks records draws) (whole_of r.tuples.sender.put) d.ended.accepted (omega (arith, rows_few draws, few)) d.ended.sent
@@ -229,7 +257,7 @@ module _ (plan : Plan) (records : Table) (blocks : ℕ) where
       by (Some (Refused row cause item)) d w = absurd w
       by (Some NoMemory) d w = absurd w
 
-  all_sent_rows : (draws : List (List ℕ)) (ws : List (Returned WorkerEnd)) → length (flat draws) < 2 ^ 50 → AllZip Worker draws ws → All (λ (w : Returned WorkerEnd). EndsWell w.end) ws
+  pub all_sent_rows : (draws : List (List ℕ)) (ws : List (Returned WorkerEnd)) → length (flat draws) < 2 ^ 50 → AllZip Plain draws ws → All (λ (w : Returned WorkerEnd). EndsWell w.end) ws
       → All (λ (h : Heard). h.tuples_over ≡ true) (map heard_of ws) → AllZip (SentItsRows plan records) draws ws
   all_sent_rows [] [] few f w o = tt
   all_sent_rows [] (v ∷ ws) few f w o = absurd f
@@ -247,25 +275,26 @@ module _ (plan : Plan) (records : Table) (blocks : ℕ) where
       by zero h = omega arith
       by (suc n) h = omega (arith, h n (omega arith), few)
 
-  pub all_used : (own : List ℕ) (draws : List (List ℕ)) (ws : List (Returned WorkerEnd)) (groups : GroupsByKey) (lists : List (List ℕ)) (n : ℕ)
-      → AreBlocks records blocks → length records ≤ 4194305 → length ws ≤ 64 → lists ≡ own ∷ draws → IsDrawn blocks lists n → AllZip Worker draws ws → All (λ (w : Returned WorkerEnd). EndsWell w.end) ws
-      → HasLed plan records blocks own (map heard_of ws) groups
-      → ((b : ℕ) → 256 * b + 1 < length records → times b (flat lists) ≡ 1) × AllZip (SentItsRows plan records) draws ws
-  all_used own draws ws groups lists n are few short e d f w led =
-      let drawn : IsDrawn blocks (own ∷ draws) n = subst (λ l. IsDrawn blocks l n) e d in
-      let some = spent_is own led.spent in
+  -- each block was drawn once, and few were drawn
+  pub all_drawn : (own : List ℕ) (lists draws : List (List ℕ)) (n : ℕ) → AreBlocks records blocks → lists ≡ own ∷ draws → IsDrawn blocks lists n → IsTrue (is_spent blocks own)
+      → (b : ℕ) → 256 * b + 1 < length records → times b (flat lists) ≡ 1
+  all_drawn own lists draws n are e d spent b h =
+      let some = spent_is own spent in
       let lates = late-append blocks own (flat draws) in
+      let drawn : IsDrawn blocks (own ∷ draws) n = subst (λ l. IsDrawn blocks l n) e d in
       let past : late blocks (own ++ flat draws) ≡ n - blocks = drawn.past in
-      let most = few_blocks are few in
-      let long : length draws ≡ length ws = AllZip-length Worker draws ws f in
-      let parts = length-append own (flat draws) in
-      let count : length (own ++ flat draws) ≡ n = drawn.draws in (
-        λ b h. d.once b ∙ once_is b n (omega (arith, some, lates, past, are.all, h)),
-        all_sent_rows draws ws (omega (arith, drawn.few, long, short, most, parts, count)) f w led.over,
-      )
+      d.once b ∙ once_is b n (omega (arith, some, lates, past, are.all, h))
     where
       once_is : (b n : ℕ) → b < n → once_below b n ≡ 1
       once_is b n h = grind (arith, h)
+
+  pub few_drawn : (own : List ℕ) (lists draws : List (List ℕ)) (n : ℕ) → AreBlocks records blocks → length records ≤ 4194305 → length draws ≤ 64 → lists ≡ own ∷ draws → IsDrawn blocks lists n → length own + length (flat draws) < 2 ^ 50
+  few_drawn own lists draws n are few short e d =
+      let drawn : IsDrawn blocks (own ∷ draws) n = subst (λ l. IsDrawn blocks l n) e d in
+      let most = few_blocks are few in
+      let parts = length-append own (flat draws) in
+      let count : length (own ++ flat draws) ≡ n = drawn.draws in
+      omega (arith, drawn.few, short, most, parts, count)
 
 -- ---- the verdict on some workers
 

@@ -7,6 +7,7 @@ use Rattle.parallel_ctx.specs.declared.home.Returned.{Returned}
 use Rattle.gather_run.specs.declared.GatherAnswer.{GatherAnswer}
 use Rattle.gather_run.specs.declared.GatherAnswer.TheVariants.{Row, Memory}
 use Rattle.worker_run.specs.Ended.{HasEnded, Sends}
+use Rattle.worker_run.specs.Tabled.{EndsWith}
 use Rattle.worker_run.specs.declared.WorkerEnd.{WorkerEnd}
 use Rattle.worker_run.specs.declared.WorkerEnd.TheVariants.{Finished, Stopped, Refused, NoMemory}
 
@@ -14,9 +15,13 @@ use Rattle.worker_run.specs.declared.WorkerEnd.TheVariants.{Finished, Stopped, R
 abbrev pub sends_in : Account → Sends
 sends_in a = record { errors = a.errors; tuples = a.tuples; errors_gone = a.errors_gone; tuples_gone = a.tuples_gone }
 
--- what it did: all that its end says
+-- what it did: all that its end says, with the table of groups where there is one
 abbrev pub DidWork : Plan → Table → ℕ → Account → WorkerEnd → Type 0
-DidWork plan records blocks a end = HasEnded plan records blocks a.draws (sends_in a) end
+DidWork plan records blocks a end = EndsWith plan records blocks a.draws a.used (sends_in a) end
+
+-- what it did without a table
+abbrev pub DidPlainWork : Plan → Table → ℕ → Account → WorkerEnd → Type 0
+DidPlainWork plan records blocks a end = HasEnded plan records blocks a.draws (sends_in a) end
 
 -- a worker that finished, or did not start, has left out none of its rows
 abbrev pub EndsWell : Option WorkerEnd → Type 0

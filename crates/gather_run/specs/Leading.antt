@@ -1,7 +1,8 @@
 -- What a leader has put into its map so far, and why it may have given up.
-use Rattle.std.specs.Prelude.{◌≡◌, ◌⊎◌, ℕ, List, [], All, Any, IsTrue, Option, Some, None, length, map as map_list, true}
+use Rattle.std.specs.Prelude.{◌≡◌, ◌⊎◌, ◌++◌, ℕ, List, [], All, Any, IsTrue, Option, Some, None, length, map as map_list, true}
 use Rattle.std.specs.List.{AllZip, flat_map}
 use Rattle.std.specs.List.Sorted.{IsPermutation}
+use Rattle.agg_table.specs.Calls.{Use}
 use Rattle.par_model.specs.Plan.{Plan}
 use Rattle.partial_agg.specs.Groups.{GroupsByKey}
 use Rattle.partial_agg.specs.Rows.{IsAccepted, header_width}
@@ -15,19 +16,22 @@ use Rattle.parallel_ctx.specs.Accounts.{Heard}
 use Rattle.worker_run.specs.Ended.{IsRefused}
 use Rattle.gather_run.specs.Answers.{IsFirst}
 use Rattle.gather_run.specs.Reading.{ReadAs, ReadsRow}
+use Rattle.gather_run.specs.Sharing.{DoesBlocks}
 use Rattle.gather_run.specs.declared.GatherAnswer.{GatherAnswer}
 use Rattle.gather_run.specs.declared.GatherAnswer.TheVariants.{Row, Memory}
 
--- its map has the blocks that it drew, none of whose rows is refused, and the groups of all messages that it took off
--- the tuple queues
-pub record IsLeading (plan : Plan) (records : Table) (draws : List ℕ) (tuples : List (List (List ℕ))) (groups : GroupsByKey) : Type 0 where
+-- The blocks that it drew are done, and none of their rows is refused. Its map has their rows and the groups of all
+-- messages that it took off the tuple queues; with a table of groups, in place of the rows, the groups of its own blocks
+-- that the table had no room for
+pub record IsLeading (plan : Plan) (records : Table) (draws : List ℕ) (used : Option Use) (tuples : List (List (List ℕ))) (groups : GroupsByKey) : Type 0 where
   pub parts : List Part
+  pub left : List Group
   pub taken : List (List Group)
   pub map_is : groups ≡ after plan records parts
-  pub own : rows_of_blocks records (blocks_in parts) ≡ rows_of_blocks records draws
+  pub own : DoesBlocks plan records draws used (blocks_in parts) left
   pub accepted : All (IsAccepted plan (header_width records)) (rows_of_blocks records draws)
   pub read : AllZip ReadAs tuples taken
-  pub received : IsPermutation (received_in parts) (flat_map (λ groups. groups) taken)
+  pub received : IsPermutation (received_in parts) (left ++ flat_map (λ groups. groups) taken)
 
 -- where it is alone it draws the blocks in order
 abbrev pub DrawsInOrder : Claims → ClaimSeat → Type 0
@@ -39,8 +43,8 @@ pub record MetRow (plan : Plan) (records : Table) (alone : Type 0) (row cause it
   pub first : alone → IsFirst plan records row
 
 -- it has led to the end: there are no more blocks, and no more messages on the tuple queues
-pub record HasLed (plan : Plan) (records : Table) (blocks : ℕ) (draws : List ℕ) (heard : List Heard) (groups : GroupsByKey) : Type 0 where
-  pub leading : IsLeading plan records draws (map_list (λ (h : Heard). h.tuples) heard) groups
+pub record HasLed (plan : Plan) (records : Table) (blocks : ℕ) (draws : List ℕ) (used : Option Use) (heard : List Heard) (groups : GroupsByKey) : Type 0 where
+  pub leading : IsLeading plan records draws used (map_list (λ (h : Heard). h.tuples) heard) groups
   pub spent : IsTrue (is_spent blocks draws)
   pub over : All (λ (h : Heard). h.tuples_over ≡ true) heard
 
@@ -49,7 +53,7 @@ abbrev pub NamesRow : Plan → Table → List Heard → ℕ → ℕ → ℕ → 
 NamesRow plan records heard row cause item = MetRow plan records (heard ≡ []) row cause item ⊎ Any (λ (h : Heard). Any (ReadsRow row cause item) h.errors) heard
 
 -- what it did: it led to the end, or knows of a refused row, or had no memory
-abbrev pub Led : Plan → Table → ℕ → List ℕ → List Heard → GroupsByKey → Option GatherAnswer → Type 0
-Led plan records blocks draws heard groups None = HasLed plan records blocks draws heard groups
-Led plan records blocks draws heard groups (Some (Row row cause item)) = NamesRow plan records heard row cause item
-Led plan records blocks draws heard groups (Some Memory) = Unit {0}
+abbrev pub Led : Plan → Table → ℕ → List ℕ → Option Use → List Heard → GroupsByKey → Option GatherAnswer → Type 0
+Led plan records blocks draws used heard groups None = HasLed plan records blocks draws used heard groups
+Led plan records blocks draws used heard groups (Some (Row row cause item)) = NamesRow plan records heard row cause item
+Led plan records blocks draws used heard groups (Some Memory) = Unit {0}

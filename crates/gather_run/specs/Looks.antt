@@ -1,6 +1,7 @@
 -- What a look at the workers' queues does.
 use Rattle.std.specs.Prelude.{◌≡◌, ◌++◌, ℕ, Option, Some, None, Bool, List, Any, map, false, true}
 use Rattle.std.specs.List.{All, AllWithin}
+use Rattle.agg_table.specs.Calls.{Use}
 use Rattle.atomic_table.specs.Seated.{TableId}
 use Rattle.mq_handle.specs.Messages.{whole_of}
 use Rattle.par_model.specs.Plan.{Plan}
@@ -76,7 +77,7 @@ pub record OverSoFar (over : Bool) (queues : List LeaderEnds) (at : ℕ) : Type 
 -- messages were taken of all workers, and their groups added: the map of a leader becomes the map of a leader that has
 -- taken these too
 abbrev pub StaysLeading : List LeaderEnds → List LeaderEnds → GroupsByKey → GroupsByKey → Type 0
-StaysLeading old new before now = (plan : Plan) (records : Table) (draws : List ℕ) → IsLeading plan records draws (map tuples_of old) before → IsLeading plan records draws (map tuples_of new) now
+StaysLeading old new before now = (plan : Plan) (records : Table) (draws : List ℕ) (used : Option Use) → IsLeading plan records draws used (map tuples_of old) before → IsLeading plan records draws used (map tuples_of new) now
 
 -- a notice of some worker names a refused row
 abbrev pub NamedBy : List LeaderEnds → ℕ → ℕ → ℕ → Type 0

@@ -1,32 +1,65 @@
--- That a query's blocks were drawn by its participants, and that the workers' groups went through their queues.
-use Rattle.std.specs.Prelude.{◌≡◌, ◌<◌, ◌+◌, ◌*◌, ℕ, List, ◌∷◌, All, count_by, is_some, length, map}
-use Rattle.std.specs.List.{AllZip}
+-- That a query's blocks were drawn by its participants, and that their groups went through the table of groups, or the
+-- workers' through their queues.
+use Rattle.std.specs.Prelude.{◌≡◌, ◌<◌, ◌+◌, ◌*◌, ◌&&◌, leb, ℕ, List, ◌∷◌, All, IfSome, None, count_by, is_some, length, map as map_list}
+use Rattle.std.specs.FinMap as map
+use Rattle.std.specs.List.{AllZip, flat_map}
+use Rattle.agg_table.specs.Calls.{HasPut, Use}
 use Rattle.mq_handle.specs.Messages.{whole_of}
 use Rattle.par_model.specs.Plan.{Plan}
+use Rattle.partial_agg.specs.Groups.{AreGroups, GroupsByKey}
+use Rattle.partial_agg.specs.Rows.{block_rows}
 use Rattle.scan_claim.specs.Drawing.{flat, times}
 use Rattle.scan_claim.specs.Shown.{lists_of}
 use Rattle.gather_law.specs.Law.{CombineTo}
-use Rattle.gather_law.specs.Tuples.{Table, rows_of_blocks}
+use Rattle.gather_law.specs.Tuples.{Group, Table, rows_of_blocks}
+use Rattle.parallel_ctx.specs.Accounts.{use_by}
 use Rattle.parallel_ctx.specs.Tokens.{AreNumbered}
 use Rattle.parallel_ctx.specs.declared.home.Finished.{Finished}
 use Rattle.parallel_ctx.specs.declared.home.Returned.{Returned}
 use Rattle.worker_run.specs.declared.WorkerEnd.{WorkerEnd}
 use Rattle.gather_run.specs.Did.{EndsWell}
 
+-- ---- without a table
+
 -- the tuples that were received of a worker combine to the groups of the rows of its blocks
 abbrev pub SentItsRows : Plan → Table → List ℕ → Returned WorkerEnd → Type 0
 SentItsRows plan records draws w = CombineTo plan (rows_of_blocks records draws) (whole_of w.tuples.receiver.taken)
 
+-- ---- with a table
+
+-- some groups are those of a block's rows: each key that occurs there, once, with the aggregates of its rows
+pub record AreBlockGroups (plan : Plan) (records : Table) (block : ℕ) (groups : List Group) : Type 0 where
+  pub whole : GroupsByKey
+  pub are : AreGroups plan (block_rows records block) whole
+  pub listed : groups ≡ map.entries whole
+
+-- A participant put each group of each block that it drew into the table, or left it. At each partition its calls that
+-- were made are those of the groups that it put in, in order, and no others. For each group that it left the histories
+-- have a call of its own with that key and that state which was not made, and one of its requests for pages was refused
+pub record SharedItsBlocks (plan : Plan) (records : Table) (draws : List ℕ) (u : Use) : Type 0 where
+  pub blocks : List (List Group)
+  pub are : AllZip (AreBlockGroups plan records) draws blocks
+  pub put : List Group
+  pub left : List Group
+  pub has : HasPut (flat_map (λ groups. groups) blocks) u put left
+
+-- ---- all participants
+
 -- What the participants brought home where there is an answer: there is one entry for each worker asked for, in order
 -- of their numbers, and each that started has finished; each block with a row was drawn once, by the leader or by one
--- of the workers; and the tuples received of each worker combine to the groups of the rows of its blocks
-pub record IsUsed (plan : Plan) (records : Table) (workers : ℕ) (f : Finished WorkerEnd) : Type 0 where
+-- of the workers; there is a table exactly where the plan asks for it and its area has room for it. With a table the
+-- leader and each worker have shared out the groups of their blocks; without one the tuples received of each worker
+-- combine to the groups of the rows of its blocks
+pub record IsUsed (plan : Plan) (records : Table) (workers pages : ℕ) (f : Finished WorkerEnd) : Type 0 where
   pub asked : length f.workers.items ≡ workers
-  pub numbers : AreNumbered 1 (map (λ (w : Returned WorkerEnd). w.number) f.workers.items)
+  pub numbers : AreNumbered 1 (map_list (λ (w : Returned WorkerEnd). w.number) f.workers.items)
   pub ended : All (λ (w : Returned WorkerEnd). EndsWell w.end) f.workers.items
   pub launched : f.launched ≡ count_by (λ (w : Returned WorkerEnd). is_some w.end) f.workers.items
   pub own : List ℕ
   pub draws : List (List ℕ)
   pub lists : lists_of f.drawn ≡ own ∷ draws
   pub drawn : (block : ℕ) → 256 * block + 1 < length records → times block (flat (lists_of f.drawn)) ≡ 1
-  pub sent : AllZip (SentItsRows plan records) draws f.workers.items
+  pub table : is_some f.table ≡ (plan.hash && leb 16 pages)
+  pub shared_own : IfSome (use_by f 0) (SharedItsBlocks plan records own)
+  pub shared : AllZip (λ ds (w : Returned WorkerEnd). IfSome (use_by f w.number) (SharedItsBlocks plan records ds)) draws f.workers.items
+  pub sent : f.table ≡ None → AllZip (SentItsRows plan records) draws f.workers.items

@@ -56,6 +56,8 @@ impl<'a, G: Gate + Sync> Worker for Team<'a, G> {
             &mut seats.toc,
             &shared.claims,
             &mut seats.claim,
+            &shared.hash,
+            &mut seats.hash,
             self.rows,
             &mut ends.errors,
             &mut ends.tuples,
@@ -66,6 +68,7 @@ impl<'a, G: Gate + Sync> Worker for Team<'a, G> {
 
 /// The leader of a query, with its map of groups. `failure` says why it has no answer.
 pub(crate) struct Leader<'a, G: Gate> {
+    pub(crate) alloc: Global,
     pub(crate) rows: &'a RowStore,
     pub(crate) gate: &'a G,
     pub(crate) groups: GroupMap,
@@ -75,6 +78,7 @@ pub(crate) struct Leader<'a, G: Gate> {
 impl<'a, G: Gate> Drop for Leader<'a, G> {
     fn drop(self) {
         let Leader {
+            alloc: _,
             rows: _,
             gate: _,
             groups,
@@ -94,7 +98,7 @@ impl<'a, G: Gate> Lead for Leader<'a, G> {
 
     ghost asks = { λ leader plan blocks. HasColumns plan (header_width leader.rows.now) × AreBlocks leader.rows.now blocks × (leader.groups ≡ fin.empty) };
 
-    ghost led = { λ leader plan blocks draws heard new. Led plan leader.rows.now blocks draws heard new.groups new.failure };
+    ghost led = { λ leader plan blocks draws used heard new. Led plan leader.rows.now blocks draws used heard new.groups new.failure };
 
     fn lead<R: Wait + Sync>(
         &mut self,
@@ -106,12 +110,15 @@ impl<'a, G: Gate> Lead for Leader<'a, G> {
         let plan = plan_in(&mut seats.toc, &shared.region);
         self.failure = lead_all(
             rt,
+            self.alloc,
             &shared.region,
             &plan,
             self.rows,
             self.gate,
             &shared.claims,
             &mut seats.claim,
+            &shared.hash,
+            &mut seats.hash,
             queues,
             &mut self.groups,
         );
@@ -124,6 +131,7 @@ impl<'a, G: Gate> Leader<'a, G> {
         ensures { (result.0 ≡ self.entry.groups) × (result.1 ≡ self.entry.failure) }
     {
         let Leader {
+            alloc: _,
             rows: _,
             gate: _,
             groups,

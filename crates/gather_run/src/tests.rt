@@ -5,6 +5,7 @@ ghost use Rattle.par_model.specs.Columns.{HasColumns};
 ghost use Rattle.partial_agg.specs.Rows.{header_width};
 
 mod meeting;
+mod shared;
 mod stopped;
 
 use crate::{GatherAnswer, Gathered, gather};
@@ -61,8 +62,8 @@ fn wide_table(alloc: Global, count: u64, names: u64, bad: u64) -> Result<Vec<u8>
     Ok(text)
 }
 
-/// The query for the rows and the sum of `v` by `g`.
-fn query(alloc: Global, text: &[u8]) -> Result<(RowStore, BoundPlan), Fail>
+/// The query for the rows and the sum of `v` by `g`, with a table of groups or without.
+fn query(alloc: Global, text: &[u8], hash: bool) -> Result<(RowStore, BoundPlan), Fail>
     ensures columns { IfOk result (λ query. HasColumns query.1 (header_width query.0)) }
 {
     let store = match rows(alloc, text) {
@@ -85,7 +86,7 @@ fn query(alloc: Global, text: &[u8]) -> Result<(RowStore, BoundPlan), Fail>
         group_count: 1,
         items: [unused, sum, unused, unused, unused, unused, unused, unused],
         item_count: 2,
-        hash: false,
+        hash,
         filter: None,
     };
     Ok((store, plan))
@@ -98,12 +99,14 @@ fn gathered<G: Gate + Sync, R: Threads + Wait + Sync>(
     store: &RowStore,
     plan: &BoundPlan,
     workers: u32,
+    area_pages: u32,
     gate: &G,
 ) -> Result<Gathered, Fail>
     requires columns { HasColumns plan.now (header_width store.now) }
     requires workers { workers ≤ 64 }
+    requires pages { area_pages ≤ 65536 }
 {
-    match gather(rt, alloc, store, plan, workers, gate) {
+    match gather(rt, alloc, store, plan, workers, area_pages, gate) {
         Ok(gathered) => Ok(gathered),
         Err(GatherAnswer::Memory) => Err(Fail::new("memory")),
         Err(GatherAnswer::Row { .. }) => Err(Fail::new("a row is refused")),
@@ -117,18 +120,20 @@ fn refused<R: Threads + Wait + Sync>(
     store: &RowStore,
     plan: &BoundPlan,
     workers: u32,
+    area_pages: u32,
 ) -> Result<u64, Fail>
     requires columns { HasColumns plan.now (header_width store.now) }
     requires workers { workers ≤ 64 }
+    requires pages { area_pages ≤ 65536 }
 {
-    match gather(rt, alloc, store, plan, workers, &OpenGate) {
+    match gather(rt, alloc, store, plan, workers, area_pages, &OpenGate) {
         Ok(_) => Err(Fail::new("no row is refused")),
         Err(GatherAnswer::Memory) => Err(Fail::new("memory")),
         Err(GatherAnswer::Row { row, .. }) => Ok(row),
     }
 }
 
-/// So many groups of so many rows each, with so many workers.
+/// So many groups of so many rows each, with so many workers, and with a table in so many pages if these are not none.
 fn even_groups<G: Gate + Sync, R: Threads + Wait + Sync>(
     rt: &R,
     alloc: Global,
@@ -136,12 +141,17 @@ fn even_groups<G: Gate + Sync, R: Threads + Wait + Sync>(
     names: usize,
     each: u64,
     workers: u32,
+    area_pages: u32,
     gate: &G,
 ) -> Result<u32, Fail>
     requires workers { workers ≤ 64 }
+    requires pages { area_pages ≤ 65536 }
 {
-    let (store, plan) = query(alloc, text)?;
-    let got = gathered(rt, alloc, &store, &plan, workers, gate)?;
+    let (store, plan) = query(alloc, text, area_pages > 0)?;
+    let got = gathered(rt, alloc, &store, &plan, workers, area_pages, gate)?;
+    if got.finished.table.is_some() != (area_pages > 0) {
+        return Err(Fail::new("a table too many, or too few"));
+    }
     if got.groups.len() != names {
         return Err(Fail::new("another number of groups"));
     }
@@ -162,10 +172,10 @@ fn even_groups<G: Gate + Sync, R: Threads + Wait + Sync>(
 #[test]
 fn one_group_with_any_workers(rt: HostRuntime) -> Result<(), Fail> {
     let text = table(rt.alloc(), 768, 1, 0)?;
-    let (store, plan) = query(rt.alloc(), &text)?;
+    let (store, plan) = query(rt.alloc(), &text, false)?;
     for workers in [0, 1, 2, 8, 64] {
         if workers <= 64 {
-            let got = gathered(&rt, rt.alloc(), &store, &plan, workers, &OpenGate)?;
+            let got = gathered(&rt, rt.alloc(), &store, &plan, workers, 0, &OpenGate)?;
             assert_eq!(rt; got.groups.len(), 1, "with {workers} workers");
             let group = got.groups.get(0);
             assert!(rt; group.key.bytes() == b"\x01\0\0\0a".as_slice());
@@ -184,7 +194,7 @@ fn many_groups_with_any_workers(rt: HostRuntime) -> Result<(), Fail> {
     let text = wide_table(rt.alloc(), 6_000, 1_500, 0)?;
     for workers in [0, 1, 4] {
         if workers <= 64 {
-            let launched = even_groups(&rt, rt.alloc(), &text, 1_500, 4, workers, &OpenGate)?;
+            let launched = even_groups(&rt, rt.alloc(), &text, 1_500, 4, workers, 0, &OpenGate)?;
             assert_eq!(rt; launched, workers);
         }
     }
@@ -194,8 +204,18 @@ fn many_groups_with_any_workers(rt: HostRuntime) -> Result<(), Fail> {
 #[test]
 fn no_rows(rt: HostRuntime) -> Result<(), Fail> {
     let text = table(rt.alloc(), 0, 1, 0)?;
-    assert_eq!(rt; even_groups(&rt, rt.alloc(), &text, 0, 0, 0, &OpenGate)?, 0);
-    assert_eq!(rt; even_groups(&rt, rt.alloc(), &text, 0, 0, 3, &OpenGate)?, 3);
+    assert_eq!(rt;
+        even_groups(&rt, rt.alloc(), &text, 0, 0, 0, 0, &OpenGate)?,
+        0
+    );
+    assert_eq!(rt;
+        even_groups(&rt, rt.alloc(), &text, 0, 0, 3, 0, &OpenGate)?,
+        3
+    );
+    assert_eq!(rt;
+        even_groups(&rt, rt.alloc(), &text, 0, 0, 3, 16, &OpenGate)?,
+        3
+    );
     Ok(())
 }
 
@@ -204,10 +224,13 @@ fn no_rows(rt: HostRuntime) -> Result<(), Fail> {
 fn a_refused_row(rt: HostRuntime) -> Result<(), Fail> {
     for bad in [1, 257, 2_500, 5_000] {
         let text = wide_table(rt.alloc(), 5_000, 1_250, bad)?;
-        let (store, plan) = query(rt.alloc(), &text)?;
-        assert_eq!(rt; refused(&rt, rt.alloc(), &store, &plan, 0)?, bad);
-        assert_eq!(rt; refused(&rt, rt.alloc(), &store, &plan, 1)?, bad);
-        assert_eq!(rt; refused(&rt, rt.alloc(), &store, &plan, 4)?, bad);
+        let (store, plan) = query(rt.alloc(), &text, false)?;
+        assert_eq!(rt; refused(&rt, rt.alloc(), &store, &plan, 0, 0)?, bad);
+        assert_eq!(rt; refused(&rt, rt.alloc(), &store, &plan, 1, 0)?, bad);
+        assert_eq!(rt; refused(&rt, rt.alloc(), &store, &plan, 4, 0)?, bad);
+        let (store, plan) = query(rt.alloc(), &text, true)?;
+        assert_eq!(rt; refused(&rt, rt.alloc(), &store, &plan, 0, 32)?, bad);
+        assert_eq!(rt; refused(&rt, rt.alloc(), &store, &plan, 4, 32)?, bad);
     }
     Ok(())
 }

@@ -64,11 +64,20 @@ impl KeyList {
         if at < self.len() { self.get(at) } else { &[] }
     }
 
-    /// A key's first 32 bytes as two numbers, highest byte first, that compare as those bytes do.
-    pub(crate) fn front(&self, at: usize) -> (u128, u128) {
+    /// Bytes with which all keys begin, as many as there are.
+    pub(crate) fn common_front(&self) -> &[u8] {
+        let mut front = self.get_or_none(0);
+        for at in 1..self.len() {
+            front = common_front(front, self.get(at));
+        }
+        front
+    }
+
+    /// A key's 16 bytes from a place on as a number, highest byte first, that compares as those bytes do.
+    pub(crate) fn bytes_from(&self, at: usize, from: usize) -> u128 {
         let key = self.get_or_none(at);
-        let (first, rest) = key.split_at(key.len().min(16));
-        (number(first), number(&rest[..rest.len().min(16)]))
+        let rest = &key[from.min(key.len())..];
+        number(&rest[..rest.len().min(16)])
     }
 
     /// Whether this key stands there.
@@ -76,6 +85,11 @@ impl KeyList {
         ensures { IsTrue result ↔ (slice_get self.now at ≡ Some key.now) }
     {
         at < self.len() && self.get(at) == key
+    }
+
+    /// Whether a key that ends with this byte stands there.
+    pub(crate) fn ends_with(&self, at: usize, byte: u8) -> bool {
+        at < self.len() && self.get(at).last() == Some(&byte)
     }
 
     pub(crate) fn push(&mut self, key: &[u8]) -> Result<(), AllocError>
@@ -102,6 +116,15 @@ fn span(ends: &Vec<usize>, at: usize) -> (usize, usize)
 {
     let start = if at == 0 { 0 } else { ends[at - 1] };
     (start, ends[at])
+}
+
+/// Bytes with which both begin, as many as there are.
+fn common_front<'a>(front: &'a [u8], key: &[u8]) -> &'a [u8] {
+    if key.starts_with(front) {
+        return front;
+    }
+    let same = front.iter().zip(key).take_while(|(a, b)| a == b).count();
+    &front[..same.min(front.len())]
 }
 
 /// Up to 16 bytes as a number, highest first, with zeros behind them.

@@ -101,14 +101,47 @@ impl KeyTable {
         find_late(&self.late, &self.keys, key)
     }
 
-    /// Puts places in the order of their keys. A place of no key comes first. If there is memory for it, the keys'
-    /// first bytes are sorted with the places at first, so that few keys are looked at twice; without it only takes
-    /// longer.
+    /// The same, where the key may be expected at a place that [`KeyTable::guess`] gave: there it is looked for first.
+    pub fn find_at(&self, guess: usize, key: &[u8]) -> Option<usize>
+        ensures found { IfSome result (λ place. slice_get self.now place ≡ Some key.now) }
+        ensures absent { IfNone result ((place : ℕ) → slice_get self.now place ≡ Some key.now → ⊥) }
+    {
+        if self.keys.is(guess, key) {
+            return Some(guess);
+        }
+        self.find(key)
+    }
+
+    /// Guesses at the places of keys, of which each has a hash, by [`hash_of`], and a last byte. A guess may be wrong, or
+    /// no place at all. In a large table a look-up waits for far memory twice, for a slot and for a key. Here it is the
+    /// slots of all keys that are read first, and then their keys, and nothing that is read waits for anything else of
+    /// the same turn; so [`KeyTable::find_at`] finds near what it reads. There are as many guesses as all three lists
+    /// have places for.
+    pub fn guess(&self, hashes: &[u64], lasts: &[u8], guesses: &mut [usize]) {
+        let size = self.slots.len();
+        for (guess, hash) in guesses.iter_mut().zip(hashes) {
+            *guess = if size == 0 {
+                NO_GUESS
+            } else {
+                guess_in(self.slots[probe(size, *hash, 0)], *hash)
+            };
+        }
+        for (guess, last) in guesses.iter_mut().zip(lasts) {
+            if !self.keys.ends_with(*guess, *last) {
+                *guess = NO_GUESS;
+            }
+        }
+    }
+
+    /// Puts places in the order of their keys. A place of no key comes first. If there is memory for it, the places are
+    /// first sorted by 16 bytes of their keys, those behind the front that all keys have in common, so that hardly a
+    /// key is looked at twice; without it only takes longer.
     pub fn sort(&self, places: &mut Vec<usize>)
         ensures permutation { IsPermutation places.old.items places.new.items }
         ensures sorted { IsSorted key_cmp (map (key_at self.now) places.new.items) }
     {
-        let _ = places.sort_by_cached_key(|place| self.keys.front(*place));
+        let from = self.keys.common_front().len();
+        let _ = places.sort_by_cached_key(|place| self.keys.bytes_from(*place, from));
         places.sort_unstable_by(|a, b| self.keys.cmp(*a, *b));
     }
 
@@ -146,12 +179,24 @@ const FIRST_SLOTS: usize = 1024;
 
 const MOST_KEYS: usize = u32::MAX as usize;
 
-fn hash_of(key: &[u8]) -> u64
+/// The hash of a key, by which a table finds it.
+pub fn hash_of(key: &[u8]) -> u64
     ensures { result ≡ hash key.now }
 {
     let mut hasher = FoldHasher::default();
     hasher.write(key);
     hasher.finish()
+}
+
+/// The place that stands for no guess: no key has it.
+const NO_GUESS: usize = usize::MAX;
+
+/// The place in a slot, if it may be that of a key with this hash.
+fn guess_in(slot: Slot, hash: u64) -> usize {
+    if slot.next == 0 || slot.tag != (hash >> 32) as u32 {
+        return NO_GUESS;
+    }
+    slot.next as usize - 1
 }
 
 /// The slot that a search for a hash comes to after so many steps.

@@ -3,7 +3,7 @@
 
 ghost use Rattle.std.specs.Prelude.{◌≡◌, IfOk, Some, slice_get};
 
-use crate::KeyTable;
+use crate::{KeyTable, hash_of};
 use std::alloc::{AllocError, Global};
 use std::test::Fail;
 
@@ -41,6 +41,30 @@ fn places_of_keys(rt: HostRuntime) -> Result<(), Fail> {
     keys.sort(&mut places);
     let sorted: [usize; 4] = [1, 2, 0, 3];
     assert!(rt; places.as_slice() == sorted.as_slice());
+    Ok(())
+}
+
+/// Guesses at the places of keys, and that a wrong one finds the same.
+#[test]
+fn guessed_places(rt: HostRuntime) -> Result<(), Fail> {
+    let table: [(&[u8], u8, Option<usize>); 4] = [
+        (b"pear", b'r', Some(0)),
+        (b"fig", b'g', Some(1)),
+        (b"", 0, Some(2)),
+        (b"plum", b'm', None),
+    ];
+    let mut keys = KeyTable::new(rt.alloc());
+    for key in [b"pear".as_slice(), b"fig", b""] {
+        keys.push(rt.alloc(), key)?;
+    }
+    for (key, last, place) in table {
+        let mut guess = [7];
+        keys.guess(&[hash_of(key)], &[last], &mut guess);
+        assert!(rt; key.is_empty() || guess[0] == place.unwrap_or(usize::MAX));
+        for at in [guess[0], 0, 1, 9] {
+            assert_eq!(rt; keys.find_at(at, key), place);
+        }
+    }
     Ok(())
 }
 

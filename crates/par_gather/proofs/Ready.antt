@@ -85,14 +85,14 @@ module _ (asked : Option Query) where
         (subst (λ (l : List (List (List ℕ))). IsAnswer r.plan.plan l text) ready.records t.answers);
   }
 
-  pub made_text : (left : Option (List ℕ)) (r : Ready) (g : Gathered) (text : List ℕ) → IsReady asked left r → IsUsed r.bound r.rows r.plan.workers g.finished → IsGroupsText r g.groups text
+  pub made_text : (left : Option (List ℕ)) (r : Ready) (g : Gathered) (text : List ℕ) → IsReady asked left r → IsUsed r.bound r.rows r.plan.workers r.plan.area_pages g.finished → IsGroupsText r g.groups text
       → IfSome left (λ bytes. IsMadeBy asked bytes text g)
   made_text None r g text ready used t = tt
   made_text (Some bytes) r g text ready used t =
       let same : r.bound ≡ bound_over r.plan.plan bytes = ready.bound.is ∙ ap (λ (l : List (List (List ℕ))). bound_plan (record_at l 0) r.plan.plan) ready.records in
       subst (λ (q : Option Query). IsMadeBy q bytes text g) (sym ready.query)
       (record {
-        used = subst (λ (l : List (List (List ℕ))). IsUsed (bound_over r.plan.plan bytes) l r.plan.workers g.finished) ready.records (subst (λ (b : Plan). IsUsed b r.rows r.plan.workers g.finished) same used);
+        used = subst (λ (l : List (List (List ℕ))). IsUsed (bound_over r.plan.plan bytes) l r.plan.workers r.plan.area_pages g.finished) ready.records (subst (λ (b : Plan). IsUsed b r.rows r.plan.workers r.plan.area_pages g.finished) same used);
         text_is = subst (λ (b : Plan). IsTextOf r.plan.plan b g.groups text) same t.of_groups;
       })
 
@@ -166,7 +166,7 @@ module _ (asked : Option Query) where
   part_written None r groups old new ready none t = tt
   part_written (Some bytes) r groups old new ready none t = (t.0, table_text (Some bytes) r groups t.0 ready none t.1, t.2, t.3)
 
-  pub made_written : (left : Option (List ℕ)) (r : Ready) (g : Gathered) (old new : Option (List ℕ)) → IsReady asked left r → IsUsed r.bound r.rows r.plan.workers g.finished
+  pub made_written : (left : Option (List ℕ)) (r : Ready) (g : Gathered) (old new : Option (List ℕ)) → IsReady asked left r → IsUsed r.bound r.rows r.plan.workers r.plan.area_pages g.finished
       → (text : List ℕ) × IsGroupsText r g.groups text × Appends old new text → IfSome left (λ bytes. (text : List ℕ) × IsMadeBy asked bytes text g × Appends old new text)
   made_written None r g old new ready used t = tt
   made_written (Some bytes) r g old new ready used t = (t.0, made_text (Some bytes) r g t.0 ready used t.1, t.2)

@@ -1,15 +1,19 @@
 -- The status and the line of a reason to have no table.
-use Rattle.std.proofs.Common.{◌≡◌, ℕ, List, refl, None, Some, Option, IfSome, ◌++◌, ◌∙◌, append_assoc, decimal, codes, ap, sym}
+use Rattle.std.proofs.Common.{◌≡◌, ◌≢◌, ◌⊎◌, Contains, arith, inl, inr, ℕ, List, refl, None, Some, Option, IfSome, ◌++◌, ◌∙◌, append_assoc, decimal, codes, ap, sym}
 use Rattle.par_model.specs.declared.refusal.Refusal.{Refusal}
 use Rattle.par_model.specs.Named.{NamedPlan}
-use Rattle.par_model.specs.Outcome.{Outcome}
+use Rattle.gen_query.specs.declared.GenAnswer.{GenAnswer}
+use Rattle.gen_query.specs.declared.GenAnswer.TheVariants as generating
+use Rattle.par_model.specs.Outcome.{Outcome, Usage, TooManyBytes, NoHeader, TooManyRows, NoColumn, Refused, Table}
 use Rattle.par_gather.specs.Answers.{IsOutcome, outcome_over, status_of}
-use Rattle.query_answer.specs.Lines.{line}
+use Rattle.query_answer.specs.Lines.{line, statuses}
 use Rattle.par_gather.specs.Forms.{usage_in}
-use Rattle.par_gather.specs.Lines.{IsLine, NamesFirst, NamesRow, outcome_text, refusal_text, row_text}
-use Rattle.par_gather.specs.Stops.{Explains, IsExplained, IsFirstStop, cause_text, stop_status, stop_text}
+use Rattle.par_gather.specs.Generated.{gen_statuses, gen_text}
+use Rattle.par_gather.specs.Lines.{IsLine, NamesFirst, NamesRow, outcome_text, refusal_text, refused_of, row_text}
+use Rattle.par_gather.specs.Stops.{Explains, IsExplained, IsFirstStop, cause_text, stop_of_gen, stop_status, stop_text}
 use Rattle.par_gather.specs.declared.form.Form.{Form}
-use Rattle.query_answer.specs.declared.status.TheConstants.{REFUSED}
+use Rattle.par_gather.specs.declared.form.Form.TheVariants as forms
+use Rattle.query_answer.specs.declared.status.TheConstants.{NO_MEMORY, READ_FAULT, REFUSED, WRITE_FAULT}
 use Rattle.par_gather.specs.declared.stop.Cause.{Cause}
 use Rattle.par_gather.specs.declared.stop.Stop.{Stop}
 use Rattle.par_gather.specs.declared.stop.Stop.TheVariants as stop
@@ -62,3 +66,70 @@ pub line_first : (form : Form) (plan : Option NamedPlan) (left : Option (List �
     → IfSome left (λ bytes. NamesFirst plan (outcome_over plan bytes) (line (stop_text form why)))
 line_first form plan None why first is = tt
 line_first form plan (Some bytes) why first is = NamesFirst-stop form plan why (outcome_over plan bytes) first is
+
+-- ---- statuses
+
+pub is_status : (why : Stop) → Contains statuses (stop_status why)
+is_status stop.Usage = (2, omega arith, refl)
+is_status stop.ReadFault = (3, omega arith, refl)
+is_status stop.TooManyBytes = (6, omega arith, refl)
+is_status stop.NoHeader = (2, omega arith, refl)
+is_status stop.TooManyRows = (6, omega arith, refl)
+is_status (stop.NoColumn name) = (2, omega arith, refl)
+is_status (stop.Refused row cause) = (1, omega arith, refl)
+is_status stop.WriteFault = (4, omega arith, refl)
+is_status stop.Memory = (5, omega arith, refl)
+
+refused_status : (o : Outcome) (row : ℕ × Refusal) → Contains (refused_of o) row → status_of o ≡ REFUSED
+refused_status Usage row has = absurd (omega (arith, has.1))
+refused_status TooManyBytes row has = absurd (omega (arith, has.1))
+refused_status NoHeader row has = absurd (omega (arith, has.1))
+refused_status TooManyRows row has = absurd (omega (arith, has.1))
+refused_status (NoColumn name) row has = absurd (omega (arith, has.1))
+refused_status (Refused rows) row has = refl
+refused_status Table row has = absurd (omega (arith, has.1))
+
+refused_told : (plan : Option NamedPlan) (row : ℕ) (cause : Cause) (o : Outcome) → Explains plan (stop.Refused row cause) o → status_of o ≡ REFUSED
+refused_told None row cause o explains = absurd explains
+refused_told (Some plan) row cause o explains = refused_status o (row, explains.refusal) explains.has
+
+-- the status of a reason that is no fault is want of memory, or that of the outcome which it explains
+told : (plan : Option NamedPlan) (why : Stop) (o : Outcome) → Explains plan why o → (why ≢ stop.ReadFault) → (why ≢ stop.WriteFault) → (stop_status why ≡ NO_MEMORY) ⊎ (stop_status why ≡ status_of o)
+told plan stop.Usage o explains reads writes = inr (sym (ap status_of explains))
+told plan stop.ReadFault o explains reads writes = absurd (reads refl)
+told plan stop.TooManyBytes o explains reads writes = inr (sym (ap status_of explains))
+told plan stop.NoHeader o explains reads writes = inr (sym (ap status_of explains))
+told plan stop.TooManyRows o explains reads writes = inr (sym (ap status_of explains))
+told plan (stop.NoColumn name) o explains reads writes = inr (sym (ap status_of explains))
+told plan (stop.Refused row cause) o explains reads writes = inr (sym (refused_told plan row cause o explains))
+told plan stop.WriteFault o explains reads writes = absurd (writes refl)
+told plan stop.Memory o explains reads writes = inl refl
+
+pub complete_told : (plan : Option NamedPlan) (left : Option (List ℕ)) (why : Stop) (n : ℕ) → IsExplained plan left why → n ≡ stop_status why → (why ≢ stop.ReadFault) → (why ≢ stop.WriteFault)
+    → IfSome left (λ bytes. (n ≡ NO_MEMORY) ⊎ (n ≡ status_of (outcome_over plan bytes)))
+complete_told plan None why n explained is reads writes = tt
+complete_told plan (Some bytes) why n explained is reads writes = elim (told plan why explained.0 explained.2 reads writes) [
+  | inl e ↦ inl (is ∙ e)
+  | inr e ↦ inr (is ∙ e ∙ ap status_of explained.1)
+]
+
+pub outcome_told : (plan : Option NamedPlan) (left : Option (List ℕ)) (why : Stop) (n : ℕ) → IsExplained plan left why → n ≡ stop_status why
+    → IfSome left (λ bytes. (n ≢ READ_FAULT) → (n ≢ WRITE_FAULT) → (n ≢ NO_MEMORY) → n ≡ status_of (outcome_over plan bytes))
+outcome_told plan None why n explained is = tt
+outcome_told plan (Some bytes) why n explained is = λ read write memory.
+    elim (told plan why explained.0 explained.2 (λ e. read (is ∙ ap stop_status e)) (λ e. write (is ∙ ap stop_status e))) [
+      | inl e ↦ absurd (memory (is ∙ e))
+      | inr e ↦ is ∙ e ∙ ap status_of explained.1
+    ]
+
+-- ---- where rows are made
+
+pub is_gen_status : (why : GenAnswer) → Contains gen_statuses (stop_status (stop_of_gen why))
+is_gen_status generating.Usage = (1, omega arith, refl)
+is_gen_status generating.WriteFault = (2, omega arith, refl)
+is_gen_status generating.Memory = (3, omega arith, refl)
+
+pub gen_says : (why : GenAnswer) → gen_text (stop_status (stop_of_gen why)) ≡ stop_text forms.Gen (stop_of_gen why)
+gen_says generating.Usage = refl
+gen_says generating.WriteFault = refl
+gen_says generating.Memory = refl

@@ -1,5 +1,6 @@
 pub mod Answers
 pub mod Forms
+pub mod Generated
 pub mod Grouping
 pub mod Joined
 pub mod Lines

@@ -10,9 +10,9 @@ use Rattle.par_gather.specs.declared.Ran.{Ran}
 use Rattle.par_gather.specs.declared.Ran.TheVariants.{Gather, Merge, Join}
 
 -- A query's participants made the groups of a text: as many workers as it asks for shared the blocks of the records
--- with the leader, and the text is that of the groups gathered
+-- with the leader, by way of a shared table of groups where it asks for one, and the text is that of the groups gathered
 pub record IsMadeFor (query : Query) (bytes text : List ℕ) (g : Gathered) : Type 0 where
-  pub used : IsUsed (bound_over query.plan bytes) (records_of bytes) query.workers g.finished
+  pub used : IsUsed (bound_over query.plan bytes) (records_of bytes) query.workers query.area_pages g.finished
   pub text_is : IsTextOf query.plan (bound_over query.plan bytes) g.groups text
 
 -- likewise where the words are a query

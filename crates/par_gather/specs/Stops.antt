@@ -15,6 +15,8 @@ use Rattle.gather_merge.specs.declared.MergeAnswer.{MergeAnswer}
 use Rattle.gather_merge.specs.declared.MergeAnswer.TheVariants as merging
 use Rattle.gather_run.specs.declared.GatherAnswer.{GatherAnswer}
 use Rattle.gather_run.specs.declared.GatherAnswer.TheVariants as gathering
+use Rattle.gen_query.specs.declared.GenAnswer.{GenAnswer}
+use Rattle.gen_query.specs.declared.GenAnswer.TheVariants as generating
 use Rattle.par_gather.specs.Answers.{IsOutcome}
 use Rattle.par_gather.specs.Forms.{usage_in}
 use Rattle.par_gather.specs.Lines.{refusal_text, refused_of}
@@ -140,6 +142,12 @@ abbrev pub stop_of_parsing : RowsAnswer → Stop
 stop_of_parsing parsing.NoHeader = stop.NoHeader
 stop_of_parsing parsing.TooManyRows = stop.TooManyRows
 stop_of_parsing parsing.Memory = stop.Memory
+
+-- that for an answer of `answer_generated`
+abbrev pub stop_of_gen : GenAnswer → Stop
+stop_of_gen generating.Usage = stop.Usage
+stop_of_gen generating.WriteFault = stop.WriteFault
+stop_of_gen generating.Memory = stop.Memory
 
 -- the reason is that this row is refused, and has the text of the refusal
 abbrev pub IsRefusedRow : NamedPlan → ℕ → Refusal → Stop → Type 0

@@ -4,6 +4,7 @@ ghost use Rattle.std.specs.Prelude.{◌≡◌};
 ghost use Rattle.query_answer.specs.Words.{texts};
 ghost use Rattle.par_gather.specs.Forms.{form_of, usage_in};
 
+use gen_query::is_gen;
 use par_join::is_join;
 use plan_spec::is_merge;
 
@@ -16,6 +17,8 @@ pub(crate) enum Form {
     Merge,
     /// `join COLUMN N`, which joins two tables.
     Join,
+    /// `gen SEED ROWS`, which makes rows.
+    Gen,
 }
 
 impl Form {
@@ -24,7 +27,7 @@ impl Form {
         ensures { result.now ≡ usage_in self }
     {
         match self {
-            Form::Plan => {
+            Form::Plan | Form::Gen => {
                 "usage: pargather [--group COLUMNS] --agg ITEMS [--where FILTER] [--workers N] [--plan gather|hash] [--area-pages N]"
             }
             Form::Merge => "usage: pargather merge COLUMNS N",
@@ -41,6 +44,8 @@ pub(crate) fn form_of(words: &[String]) -> Form
         Form::Join
     } else if is_merge(words) {
         Form::Merge
+    } else if is_gen(words) {
+        Form::Gen
     } else {
         Form::Plan
     }

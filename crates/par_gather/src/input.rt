@@ -65,7 +65,7 @@ fn read_words(alloc: Global, form: Form, words: &[String]) -> Result<Plan, PlanA
     match form {
         Form::Plan => Plan::of_words(alloc, words),
         Form::Merge => Plan::of_merge_words(alloc, words),
-        Form::Join => Err(PlanAnswer::Usage),
+        Form::Join | Form::Gen => Err(PlanAnswer::Usage),
     }
 }
 

@@ -1,6 +1,6 @@
 //! One query over comma-separated bytes, from the words of a command line to an exit status, in the caller's thread
-//! alone or with workers beside it: the table of groups that options name, with `merge` the rows in order, or with `join`
-//! the join of two tables.
+//! alone or with workers beside it: the table of groups that options name, with `merge` the rows in order, with `join`
+//! the join of two tables, or with `gen` what is said of generated rows.
 //!
 //! The calls keep one order of faults: the words, then the reading, the header, the number of rows, the columns, the
 //! rows, and the writing. The first that holds ends it. Only a whole table is written to `out`, or all rows; one place
@@ -8,9 +8,11 @@
 
 #![tactic(auto)]
 
-ghost use Rattle.std.specs.Prelude.{◌≡◌, ◌≢◌, ◌⊎◌, ℕ, List, true, false, None, Some, IfOk, IfErr, IfSome, IsNone, OnOk, Contains, take};
+ghost use Rattle.std.specs.Prelude.{◌≡◌, ◌≢◌, ◌⊎◌, ℕ, List, true, false, None, Some, IfOk, IfErr, IfSome, IsNone, IsSome, OnOk, Contains, take};
 ghost use Rattle.std.specs.Io.KnownBytes.{Appends};
 ghost use Rattle.gather_law.specs.Tuples.{Table};
+ghost use Rattle.gen_query.specs.Summary.{IsAnswered, IsBegun};
+ghost use Rattle.gen_query.specs.Words.{gen_of};
 ghost use Rattle.join_query.specs.Lines.{IsNoFault};
 ghost use Rattle.join_query.specs.Lines.{IsLine as IsJoinLine, status_of as join_status};
 ghost use Rattle.join_query.specs.Outcome.{IsOutcome as IsJoinOutcome, Joins, Outcome as JoinOutcome};
@@ -24,6 +26,7 @@ ghost use Rattle.par_gather.specs.Answers.{IsOutcome, IsTableText, outcome_over,
 ghost use Rattle.query_answer.specs.Lines.{IsSaid, line, statuses};
 ghost use Rattle.query_answer.specs.Words.{texts};
 ghost use Rattle.par_gather.specs.Forms.{form_of, merge_usage_text, usage_in, usage_text};
+ghost use Rattle.par_gather.specs.Generated.{IsGenRun, gen_statuses, gen_text};
 ghost use Rattle.par_gather.specs.Lines.{IsLine, NamesFirst};
 ghost use Rattle.par_gather.specs.Joined.{IsJoinRun};
 ghost use Rattle.par_gather.specs.Ordered.{IsMergeRun, IsOrderText, merge_plan_of, merge_workers_of};
@@ -45,6 +48,7 @@ mod stop;
 use form::{Form, form_of};
 use gather_merge::Merged;
 use gather_run::{Gathered, gather};
+use gen_query::answer_generated;
 use groups::groups_of;
 use input::prepare;
 use merging::answer_merged;
@@ -63,7 +67,7 @@ pub use worker_run::{Gate, OpenGate};
 /// How what was written was made.
 #[derive(Drop)]
 pub enum Ran {
-    /// A table, by workers that gathered their groups.
+    /// A table, or what is said of generated rows, by workers that gathered their groups.
     Gather(Gathered),
     /// Rows in order, by workers that sorted theirs.
     Merge(Merged),
@@ -75,18 +79,20 @@ pub enum Ran {
 /// says why there is none, and returns the exit status. `words` are those after the program's name. Words that begin
 /// with `merge` are to be `merge COLUMNS N`; their query puts the rows in the order of these columns, with N workers,
 /// and writes the header and then the rows. Words that begin with `join` are to be `join COLUMN N`; their
-/// query joins two tables, as [`par_join::join_tables`] says.
+/// query joins two tables, as [`par_join::join_tables`] says. Words that begin with `gen` are to be `gen SEED ROWS`;
+/// nothing is read then, and what is written is the line of [`gen_query::answer_generated`].
 ///
 /// The bytes are cut into records by the caller's thread and as many workers as the words ask for, each a part of them.
 /// The rows are shared out, by blocks of 256, among the same number; each participant passes the gate before each of
-/// its blocks, the caller's thread as participant 0. So far the plan `hash` runs as the plan `gather`, and
-/// `--area-pages` is read and checked alone. Of several refused rows the line may name any one, unless no workers are
-/// asked for.
+/// its blocks, the caller's thread as participant 0. In the plan `hash`, with `--area-pages` of 16 or more, they share a
+/// table of groups in an area of so many pages of 4 KiB; a group that finds no room there, and each group in the plan
+/// `gather`, comes to the caller's thread. What is written is the same. Of several refused rows the line may name any one,
+/// unless no workers are asked for.
 ///
 /// Time is linear in the input, but for the look-up of each row's group and the order of the groups, or of the rows.
-/// Memory is the input, its records, about 700 bytes for each group, twice over while their list is made, and for each
-/// worker 82 KB and the groups that it keeps, 4,351 at most; for rows in order it is the input, its records, 16 bytes a
-/// row, 82 KB for each worker, and 64 KiB of bytes that wait to be written.
+/// Memory is the input, its records, the groups, for each worker 82 KB and the groups of its own rows, and the area of a
+/// shared table; for rows in order it is the input, its records, 16 bytes a row, 82 KB for each worker, and 64 KiB of
+/// bytes that wait to be written.
 pub fn pargather<R: Threads + Wait + Sync, S: Source, O: Sink, E: Sink, G: Gate + Sync>(
     rt: &R,
     alloc: Global,
@@ -204,6 +210,27 @@ pub fn pargather<R: Threads + Wait + Sync, S: Source, O: Sink, E: Sink, G: Gate 
 
     // Beside joined records `ran` says how they were made.
     ensures join_ran { form_of (texts words.now) ≡ form.Join → result ≡ TABLE → IfSome (S.left source.old) (λ bytes. IsJoinRun (join_of (texts words.now)) bytes ran.new) }
+
+    // ---- Words that begin with `gen`
+
+    // There is no other status. It is 2 exactly where the words are not `gen SEED ROWS`. Without a fault it is then 0, or
+    // there was no memory.
+    ensures gen_statuses { form_of (texts words.now) ≡ form.Gen → Contains gen_statuses result }
+    ensures gen_no_words { form_of (texts words.now) ≡ form.Gen → IsNone (gen_of (texts words.now)) → result ≡ MISUSED }
+    ensures gen_misused { form_of (texts words.now) ≡ form.Gen → result ≡ MISUSED → IsNone (gen_of (texts words.now)) }
+    ensures gen_complete { form_of (texts words.now) ≡ form.Gen → IsSome (gen_of (texts words.now)) → ¬ Rose (O.faults out.old) (O.faults out.new)
+        → (result ≡ TABLE) ⊎ (result ≡ NO_MEMORY) }
+
+    // The source is not read. `out` receives the line of the rows, or a prefix of it where a write failed.
+    ensures gen_unread { form_of (texts words.now) ≡ form.Gen → source.new ≡ source.old }
+    ensures gen_summary { form_of (texts words.now) ≡ form.Gen → result ≡ TABLE → IsAnswered (gen_of (texts words.now)) (O.taken out.old) (O.taken out.new) }
+    ensures gen_part { form_of (texts words.now) ≡ form.Gen → result ≡ WRITE_FAULT → IsBegun (gen_of (texts words.now)) (O.taken out.old) (O.taken out.new) }
+
+    // `err` receives the line of the status, or a prefix of it where a write of it failed.
+    ensures gen_line { form_of (texts words.now) ≡ form.Gen → (result ≢ TABLE) → IsSaid (E.taken err.old) (E.taken err.new) (E.faults err.old) (E.faults err.new) (line (gen_text result)) }
+
+    // Beside that line `ran` says how the groups of the rows were made.
+    ensures gen_ran { form_of (texts words.now) ≡ form.Gen → result ≡ TABLE → IsGenRun (gen_of (texts words.now)) ran.new }
 {
     *ran = None;
     match form_of(words) {
@@ -228,11 +255,18 @@ pub fn pargather<R: Threads + Wait + Sync, S: Source, O: Sink, E: Sink, G: Gate 
             }
             Err(status) => status,
         },
+        Form::Gen => match answer_generated(rt, alloc, words, out, gate) {
+            Ok(gathered) => {
+                *ran = Some(Ran::Gather(gathered));
+                TABLE
+            }
+            Err(why) => Stop::from(why).end(Form::Gen, err),
+        },
     }
 }
 
 /// Answers the query as [`pargather`] does with `--workers 0`, whatever number the words give: in the caller's thread
-/// alone, with no wait. Words that begin with `merge` or `join` are no plan here. Time and memory are those of `pargather`.
+/// alone, with no wait. Words that begin with `merge`, `join` or `gen` are no plan here. Time and memory are those of `pargather`.
 pub fn aggregate_alone<S: Source, O: Sink, E: Sink>(
     alloc: Global,
     words: &[String],
@@ -263,6 +297,7 @@ pub fn aggregate_alone<S: Source, O: Sink, E: Sink>(
     ensures unread { IsNone (plan_of (texts words.now)) → source.new ≡ source.old }
     ensures no_merge { form_of (texts words.now) ≡ form.Merge → IsNone (plan_of (texts words.now)) }
     ensures no_join { form_of (texts words.now) ≡ form.Join → IsNone (plan_of (texts words.now)) }
+    ensures no_gen { form_of (texts words.now) ≡ form.Gen → IsNone (plan_of (texts words.now)) }
 
     // `err` receives the line of the status, or a prefix of it where a write of it failed, and beside a table nothing.
     ensures line { (result ≢ TABLE) → (o : Outcome) × IsOutcome (plan_of (texts words.now)) (S.left source.old) o
@@ -339,6 +374,7 @@ fn answer_gathered<R: Threads + Wait + Sync, S: Source, O: Sink, G: Gate + Sync>
         &ready.rows,
         &ready.bound,
         ready.plan.workers(),
+        ready.plan.area_pages(),
         gate,
     ) {
         Ok(gathered) => gathered,
@@ -347,6 +383,3 @@ fn answer_gathered<R: Threads + Wait + Sync, S: Source, O: Sink, G: Gate + Sync>
     write_table(alloc, &ready, &gathered.groups, out)?;
     Ok(gathered)
 }
-
-#[cfg(test)]
-mod tests;

@@ -3,11 +3,12 @@
 ghost use Rattle.std.specs.Prelude.{◌≡◌, ◌++◌, map};
 ghost use Rattle.std.specs.List.{concat};
 ghost use Rattle.query_answer.specs.Lines.{IsSaid, line};
-ghost use Rattle.par_gather.specs.Stops.{cause_text, stop_of_parsing, stop_of_reading, stop_of_words, stop_status, stop_text, text_of};
+ghost use Rattle.par_gather.specs.Stops.{cause_text, stop_of_gen, stop_of_parsing, stop_of_reading, stop_of_words, stop_status, stop_text, text_of};
 ghost use Rattle.par_gather.specs.declared.stop.Stop.TheVariants as stop;
 
 use crate::form::Form;
 use csv_rows::{ReadAnswer, RowsAnswer};
+use gen_query::GenAnswer;
 use par_io::Sink;
 use plan_spec::PlanAnswer;
 use query_answer::{MISUSED, NO_MEMORY, READ_FAULT, REFUSED, TOO_LARGE, WRITE_FAULT, write_pieces};
@@ -75,6 +76,18 @@ impl From<RowsAnswer> for Stop {
             RowsAnswer::NoHeader => Stop::NoHeader,
             RowsAnswer::TooManyRows => Stop::TooManyRows,
             RowsAnswer::Memory => Stop::Memory,
+        }
+    }
+}
+
+impl From<GenAnswer> for Stop {
+    ghost from_gives = { λ answer why. why ≡ stop_of_gen answer };
+
+    fn from(answer: GenAnswer) -> Stop {
+        match answer {
+            GenAnswer::Usage => Stop::Usage,
+            GenAnswer::WriteFault => Stop::WriteFault,
+            GenAnswer::Memory => Stop::Memory,
         }
     }
 }

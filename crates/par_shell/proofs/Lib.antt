@@ -1,13 +1,4 @@
-pub mod Named
-pub mod Placed
-pub mod ChunkLaws
 pub mod Filled
-pub mod Apart
 pub mod Pieces
 pub mod RunLaws
 pub mod StopLaws
-pub mod ContentLaws
-pub mod Histories
-pub mod PartyLaws
-pub mod FillLaws
-pub mod TableLaws

@@ -1,10 +1,3 @@
-pub mod Names
-pub mod Chunks
-pub mod Tables
-pub mod Rings
-pub mod Contents
-pub mod Barriers
-pub mod Meetings
 pub mod Lines
 pub mod Scripts
 pub mod Stops

@@ -1,12 +1,11 @@
 -- The shell: what it is seen as, and what one line is answered and does.
 use Rattle.std.specs.Prelude.{◌≡◌, ℕ, List, Option, None, Some, codes}
 use Rattle.dsa_area.specs.Shown.{IsFresh, pages_of}
-use Rattle.par_shell.specs.Barriers as barriers
-use Rattle.par_shell.specs.Chunks as chunks
-use Rattle.par_shell.specs.Contents as contents
-use Rattle.par_shell.specs.Names.{under}
-use Rattle.par_shell.specs.Rings as rings
-use Rattle.par_shell.specs.Tables as tables
+use Rattle.shell_sync.specs.Barriers as barriers
+use Rattle.shell_memory.specs.Chunks as chunks
+use Rattle.shell_memory.specs.Contents as contents
+use Rattle.shell_sync.specs.Rings as rings
+use Rattle.shell_memory.specs.Tables as tables
 use Rattle.shell_words.specs.Requests.{Request, OfBarriers, OfChunks, OfRings, OfTable, OfToc, request_in}
 use Rattle.par_shell.specs.declared.shell.Shell.{Shell}
 
@@ -24,10 +23,10 @@ pub record IsShell (s : Shell) : Type 0 where
 pub record Opens (pages : ℕ) (s : Shell) : Type 0 where
   pub pages_are : pages_of s.heap.area ≡ pages
   pub fresh : IsFresh s.heap.pass
-  pub no_chunks : (name : List ℕ) → under s.chunks.named name ≡ None
-  pub no_table : s.cells.table ≡ None
-  pub no_rings : (name : List ℕ) → under s.rings.named name ≡ None
-  pub no_barriers : (name : List ℕ) → under s.barriers.named name ≡ None
+  pub no_chunks : (name : List ℕ) → chunks.chunk_of s.chunks name ≡ None
+  pub no_table : tables.table_of s.cells ≡ None
+  pub no_rings : (name : List ℕ) → rings.queue_of s.rings name ≡ None
+  pub no_barriers : (name : List ℕ) → barriers.party_of s.barriers name ≡ None
   pub contents : contents.state_of s.contents ≡ Some contents.opening
 
 -- a shell s becomes t

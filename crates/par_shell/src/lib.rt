@@ -5,24 +5,16 @@
 //! chunk, the two ends of each ring, the histories of the area, of the hash table and of each barrier, the words of the
 //! table of contents. So an answer cannot come from a copy that the shell keeps beside the region.
 //!
-//! `shell_words` tells which command a line is; `chunks`, `table`, `rings`, `contents` and `barriers` are the families of
-//! commands, each with its answers; `shell` sends a command to its family; `script`, `stop` and `run` are the top call
-//! over a whole script.
+//! `shell_words` tells which command a line is, and `shell` sends it to its family, of `shell_memory` or `shell_sync`;
+//! `script`, `stop` and `run` are the top call over a whole script.
 
 #![tactic(auto)]
 
-mod answers;
-mod barriers;
-mod chunks;
-mod contents;
-mod heap;
-mod rings;
 mod run;
 mod script;
 mod shell;
 mod status;
 mod stop;
-mod table;
 #[cfg(test)]
 mod tests;
 

@@ -3,18 +3,16 @@
 ghost use Rattle.std.specs.Prelude.{◌≤◌, IfOk, OnOk};
 ghost use Rattle.par_shell.specs.Lines.{IsAnswered, IsShell, Opens};
 
-use crate::answers::{UNKNOWN, plain};
-use crate::barriers::Barriers;
-use crate::chunks::Chunks;
-use crate::contents::{Contents, TOC_WORDS};
-use crate::heap::Heap;
-use crate::rings::Rings;
-use crate::table::Cells;
 use dsa_area::area_words;
 use region_words::Region;
+use shell_memory::{Cells, Chunks, Contents, Heap, TOC_WORDS, plain};
+use shell_sync::{Barriers, Rings};
 use shell_words::{Command, read_line};
 use std::alloc::{AllocError, Global};
 use std::sync::Wait;
+
+/// The answer to a line that is no command.
+const UNKNOWN: &str = "?";
 
 /// A region with a table of contents and an area behind it, and all that commands made in it.
 #[derive(Drop)]

@@ -4,4 +4,5 @@ pub mod Carried
 pub mod Queues
 pub mod Settling
 pub mod Room
+pub mod Passes
 pub mod Dealing

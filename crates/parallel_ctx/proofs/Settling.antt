@@ -1,5 +1,6 @@
 -- What the caller learns once all tokens are home.
-use Rattle.std.proofs.Common.{◌≡◌, ◌&&◌, ◌==◌, ℕ, zero, suc, Bool, List, [], ◌∷◌, MatchOption, true, false, length, map, All, refl, subst, sym, ap, ◌∙◌, arith}
+use Rattle.agg_table.specs.Tokens.{use_in}
+use Rattle.std.proofs.Common.{◌+◌, ◌≡◌, ◌&&◌, ◌==◌, ℕ, zero, suc, Bool, List, [], ◌∷◌, Option, MatchOption, true, false, length, map, All, refl, subst, sym, ap, ◌∙◌, arith}
 use Rattle.std.specs.List.{AllZip}
 use Rattle.std.proofs.lemmas.List.Elements.{All-head, All-tail}
 use mathlib.Core.Option.{some, none}
@@ -16,9 +17,12 @@ use Rattle.parallel_ctx.specs.declared.start.Back.{Back}
 use Rattle.parallel_ctx.specs.declared.tokens.LeaderEnds.{LeaderEnds}
 use Rattle.parallel_ctx.specs.declared.home.Returned.{Returned}
 use Rattle.parallel_ctx.specs.Ran.{Finishes}
-use Rattle.parallel_ctx.specs.Returns.{CanSettle, IsReturned, Returns, claim_of}
+use Rattle.parallel_ctx.specs.Returns.{CanSettle, IsReturned, Returns, claim_of, hash_of}
 use Rattle.parallel_ctx.specs.Accounts.{Account, IsIdle, account, account_in, account_of, is_over}
-use Rattle.parallel_ctx.specs.Tokens.{AreOneRing, AreUnheard, IsFresh, SameQueues, number_in}
+use Rattle.agg_table.specs.Calls.{Use}
+use Rattle.agg_table.specs.declared.part.HashSeat.{HashSeat}
+use Rattle.parallel_ctx.specs.Tokens.{AreNumbered, AreOneRing, AreUnheard, IsFresh, SameQueues, number_in}
+use Rattle.parallel_ctx.proofs.Passes.{AreHome, IsHome, comes_home}
 use Rattle.parallel_ctx.proofs.Zips.{AllZip-flip, AllZip-length, AllZip-through}
 
 -- ---- lists
@@ -63,7 +67,7 @@ seats_after c xs ys are z = (
       (p.holds.0, p.holds.1 ∙ (are.1 k p.it p.is).1),
 )
 
-module _ {E : Type 0} (did : Plan → ℕ → Account → E → Type 0) (w : Shared) (plan : Plan) where
+module _ {E : Type 0} (did : Plan → ℕ → Account → E → Type 0) (uses : ℕ → Option Use) (w : Shared) (plan : Plan) where
   abbrev Fresh : Hand → Type 0
   Fresh h = IsFresh plan w h.seats h.ends
 
@@ -90,11 +94,13 @@ module _ {E : Type 0} (did : Plan → ℕ → Account → E → Type 0) (w : Sha
 
   -- ---- the workers
 
-  one_finished : (h : Hand) (b : Back E) (r : Returned E) → Fresh h × Returns did w h b → IsReturned b r → Finishes did plan (blocks_of w.claims) (draws_of (claim_of b)) r
-  one_finished h b r x i =
-      let same : account b.hand.seats b.hand.ends ≡ account_of (draws_of (claim_of b)) r =
-      ap (λ (s : Sending). account_in (draws_of (claim_of b)) s b.hand.ends.tuples.end) (sym i.errors)
-      ∙ ap (λ (s : Sending). account_in (draws_of (claim_of b)) r.errors.sender s) (sym i.tuples) in
+  one_finished : (h : Hand) (b : Back E) (r : Returned E) → Fresh h × Returns did w h b → IsReturned b r × (uses r.number ≡ use_in (hash_of b)) → Finishes did uses plan (blocks_of w.claims) (draws_of (claim_of b)) r
+  one_finished h b r x y =
+      let i = y.0 in
+      let same : account b.hand.seats b.hand.ends ≡ account_of uses (draws_of (claim_of b)) r =
+      ap (λ (u : Option Use). account_in (draws_of (claim_of b)) u b.hand.ends.errors.end b.hand.ends.tuples.end) (sym y.1)
+      ∙ ap (λ (s : Sending). account_in (draws_of (claim_of b)) (uses r.number) s b.hand.ends.tuples.end) (sym i.errors)
+      ∙ ap (λ (s : Sending). account_in (draws_of (claim_of b)) (uses r.number) r.errors.sender s) (sym i.tuples) in
       record {
         done =
             subst (λ a. MatchOption r.end (IsIdle a) (λ e. did plan (blocks_of w.claims) a e)) same
@@ -104,16 +110,20 @@ module _ {E : Type 0} (did : Plan → ℕ → Account → E → Type 0) (w : Sha
         tuples = i.tuples_queue;
       }
 
-  pub all_finished : (hs : List Hand) (bs : List (Back E)) (rs : List (Returned E)) → All Fresh hs → AllZip (Returns did w) hs bs → AllZip IsReturned bs rs
-      → AllZip (Finishes did plan (blocks_of w.claims)) (map draws_of (map claim_of bs)) rs
+  -- what each did with the table of groups is known by its number
+  abbrev pub IsReturnedWith : Back E → Returned E → Type 0
+  IsReturnedWith b r = IsReturned b r × (uses r.number ≡ use_in (hash_of b))
+
+  pub all_finished : (hs : List Hand) (bs : List (Back E)) (rs : List (Returned E)) → All Fresh hs → AllZip (Returns did w) hs bs → AllZip IsReturnedWith bs rs
+      → AllZip (Finishes did uses plan (blocks_of w.claims)) (map draws_of (map claim_of bs)) rs
   all_finished hs bs rs fresh returns back =
       let hands = all_and Fresh (Returns did w) hs bs fresh returns in
       let whole = AllZip-through (λ b h. Fresh h × Returns did w h b) (λ h b. Fresh h × Returns did w h b) (λ b b'. (h : Hand) × (Fresh h × Returns did w h b')) (λ b h b' x y. (h, y)) bs hs bs
       (AllZip-flip (λ h b. Fresh h × Returns did w h b) hs bs hands) hands in
       by bs rs (λ b r x i. one_finished x.0 b r x.1 i) whole back
     where
-      by : (bs : List (Back E)) (rs : List (Returned E)) → ((b : Back E) (r : Returned E) → (h : Hand) × (Fresh h × Returns did w h b) → IsReturned b r → Finishes did plan (blocks_of w.claims) (draws_of (claim_of b)) r)
-          → AllZip (λ b b'. (h : Hand) × (Fresh h × Returns did w h b')) bs bs → AllZip IsReturned bs rs → AllZip (Finishes did plan (blocks_of w.claims)) (map draws_of (map claim_of bs)) rs
+      by : (bs : List (Back E)) (rs : List (Returned E)) → ((b : Back E) (r : Returned E) → (h : Hand) × (Fresh h × Returns did w h b) → IsReturnedWith b r → Finishes did uses plan (blocks_of w.claims) (draws_of (claim_of b)) r)
+          → AllZip (λ b b'. (h : Hand) × (Fresh h × Returns did w h b')) bs bs → AllZip IsReturnedWith bs rs → AllZip (Finishes did uses plan (blocks_of w.claims)) (map draws_of (map claim_of bs)) rs
       by [] [] f z i = tt
       by [] (r ∷ rs) f z i = absurd i
       by (b ∷ bs) [] f z i = absurd i
@@ -133,6 +143,29 @@ module _ {E : Type 0} (did : Plan → ℕ → Account → E → Type 0) (w : Sha
 
   pub same_numbers : (hs : List Hand) (bs : List (Back E)) (rs : List (Returned E)) → AllZip (Returns did w) hs bs → AllZip IsReturned bs rs → map (λ (r : Returned E). r.number) rs ≡ map number_in hs
   same_numbers hs bs rs returns back = numbers_of hs rs (AllZip-through (Returns did w) IsReturned HasNumber (λ h b r x i. i.number ∙ x.seats.number) hs bs rs returns back)
+
+-- the workers' passes of the table of groups come home in order
+pub all_home : {E : Type 0} (did : Plan → ℕ → Account → E → Type 0) (w : Shared) (plan : Plan) (n : ℕ) (hs : List Hand) (bs : List (Back E)) → All (λ (h : Hand). IsFresh plan w h.seats h.ends) hs → AllZip (Returns did w) hs bs
+    → AreNumbered n (map number_in hs) → AreHome w.region w.hash n (map hash_of bs)
+all_home did w plan n [] [] f z m = tt
+all_home did w plan n [] (b ∷ bs) f z m = absurd z
+all_home did w plan n (h ∷ hs) [] f z m = absurd z
+all_home did w plan n (h ∷ hs) (b ∷ bs) f z m =
+    let first = All-head (λ (h : Hand). IsFresh plan w h.seats h.ends) h hs f in (
+      subst (λ (i : ℕ). IsHome w.region w.hash i (hash_of b)) m.0 (comes_home w.region w.hash h.seats.number h.seats.hash (hash_of b) first.seats.hash z.0.seats.hash),
+      all_home did w plan (suc n) hs bs (All-tail (λ (h : Hand). IsFresh plan w h.seats h.ends) h hs f) z.1 m.1,
+    )
+
+-- each worker that came home has the passes of its number
+pub with_uses : {E : Type 0} (uses : ℕ → Option Use) (n : ℕ) (bs : List (Back E)) (rs : List (Returned E)) → AllZip IsReturned bs rs → AreNumbered n (map (λ (r : Returned E). r.number) rs)
+    → ((k : ℕ) (o : Option HashSeat) → get_elem? (map hash_of bs) k ≡ some o → uses (n + k) ≡ use_in o) → AllZip (λ b r. IsReturned b r × (uses r.number ≡ use_in (hash_of b))) bs rs
+with_uses uses n [] [] z m u = tt
+with_uses uses n [] (r ∷ rs) z m u = absurd z
+with_uses uses n (b ∷ bs) [] z m u = absurd z
+with_uses uses n (b ∷ bs) (r ∷ rs) z m u = (
+  (z.0, ap uses (let e : r.number ≡ n + 0 = omega (arith, m.0) in e) ∙ u 0 (hash_of b) refl),
+  with_uses uses (suc n) bs rs z.1 m.1 (λ k o e. ap uses (let s : suc n + k ≡ n + suc k = omega arith in s) ∙ u (suc k) o e),
+)
 
 -- ---- a queue that came home
 

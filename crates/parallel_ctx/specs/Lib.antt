@@ -5,3 +5,4 @@ pub mod Returns
 pub mod Ready
 pub mod Ran
 pub mod Making
+pub mod Codes

@@ -1,5 +1,11 @@
 -- A context while it is made.
-use Rattle.std.specs.Prelude.{◌≡◌, ◌≤◌, ◌+◌, ◌*◌, ℕ, None}
+use Rattle.std.specs.Prelude.{◌≡◌, ◌≤◌, ◌+◌, ◌*◌, ◌&&◌, ℕ, zero, suc, Bool, true, false, cond, leb, List, [], ◌∷◌, Option, Some, None}
+use Rattle.agg_table.specs.Tokens.{AreUnusedSeats, IsPart, callers_of}
+use Rattle.agg_table.specs.declared.part.HashPart.{HashPart}
+use Rattle.agg_table.specs.declared.part.HashSeat.{HashSeat}
+use Rattle.dsa_area.specs.Shown.{pages_of}
+use Rattle.free_pages.specs.Area.{area_size}
+use Rattle.par_model.specs.Plan.{Plan}
 use Rattle.atomic_table.specs.Seated.{TableId}
 use Rattle.scan_claim.specs.declared.claims.ClaimSeat.{ClaimSeat}
 use Rattle.shm_toc.specs.Requests.{with_chunk, with_entry}
@@ -52,3 +58,27 @@ claim_in h = h.seats.claim
 -- the ends that it is given
 abbrev pub ends_in : Hand → WorkerEnds
 ends_in h = h.ends
+
+-- the passes of the table of groups that a worker is given
+abbrev pub hash_in : Hand → Option HashSeat
+hash_in h = h.seats.hash
+
+-- the first so many of some passes, one for each participant; none where they are used up
+abbrev pub firsts : List HashSeat → ℕ → List (Option HashSeat)
+firsts seats zero = []
+firsts [] (suc n) = None ∷ firsts [] n
+firsts (s ∷ seats) (suc n) = Some s ∷ firsts seats n
+
+-- a table of groups was made with the passes of so many participants, or none was
+abbrev pub AreDealt : TableId → ℕ → Option HashPart → List HashSeat → Type 0
+AreDealt region callers None seats = seats ≡ []
+AreDealt region callers (Some p) seats = IsPart region p × (callers_of p ≡ callers) × AreUnusedSeats p seats
+
+-- there is a table exactly where the plan asks for it and the area has room for it; the area has so many pages
+abbrev pub HasTable : Plan → ℕ → Option HashPart → Type 0
+HasTable plan pages None = (plan.hash && leb 16 pages) ≡ false
+HasTable plan pages (Some p) = ((plan.hash && leb 16 pages) ≡ true) × (pages_of p.area ≡ pages)
+
+-- the words that a table of groups takes of the segment, if there is one
+abbrev pub hash_size : Bool → ℕ → ℕ
+hash_size with_table pages = cond {A = ℕ} with_table (area_size pages + 4) 0

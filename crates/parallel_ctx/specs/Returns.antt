@@ -1,5 +1,6 @@
 -- What comes back from a worker's thread.
-use Rattle.std.specs.Prelude.{◌≡◌, ℕ, List, MatchOption}
+use Rattle.std.specs.Prelude.{◌≡◌, ℕ, List, [], ◌∷◌, Option, Some, None, MatchOption}
+use Rattle.agg_table.specs.declared.part.HashSeat.{HashSeat}
 use Rattle.par_model.specs.Plan.{Plan}
 use Rattle.scan_claim.specs.Shown.{blocks_of}
 use Rattle.plan_spec.specs.Planned.{HasPlan}
@@ -69,3 +70,13 @@ pub record IsReturned {E : Type 0} (b : Back E) (r : Returned E) : Type 0 where
 -- the seat of the claims that a worker brought back
 abbrev pub claim_of : {E : Type 0} → Back E → ClaimSeat
 claim_of b = b.hand.seats.claim
+
+-- the passes of the table of groups that a worker brought back
+abbrev pub hash_of : {E : Type 0} → Back E → Option HashSeat
+hash_of b = b.hand.seats.hash
+
+-- those passes that are there, in order
+abbrev pub there : List (Option HashSeat) → List HashSeat
+there [] = []
+there (None ∷ os) = there os
+there (Some s ∷ os) = s ∷ there os

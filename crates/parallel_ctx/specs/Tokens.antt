@@ -1,6 +1,8 @@
 -- What a participant is given, and what stays of it.
-use Rattle.std.specs.Prelude.{◌≡◌, ◌≤◌, ℕ, suc, List, [], ◌∷◌, All, length, map, false, ⊤}
+use Rattle.std.specs.Prelude.{◌≡◌, ◌≤◌, ℕ, suc, List, [], ◌∷◌, All, Bool, Option, Some, None, length, map, false, ⊤}
 use Rattle.std.specs.List.{AllZip}
+use Rattle.agg_table.specs.Tokens.{IsHashSeat, StaysSeated, callers_of as table_callers}
+use Rattle.agg_table.specs.declared.part.HashPart.{HashPart}
 use Rattle.atomic_table.specs.Seated.{TableId}
 use Rattle.mq_handle.specs.Receives.{Incoming}
 use Rattle.mq_ring.specs.Ends.{SendingEnd}
@@ -16,13 +18,15 @@ use Rattle.parallel_ctx.specs.declared.tokens.WorkerEnds.{WorkerEnds}
 
 -- ---- unused tokens
 
--- a participant's seats: of this region and these claims, with the plan in the table of contents, and nothing drawn
+-- a participant's seats: of this region, these claims and this table of groups, with the plan in the table of contents,
+-- and nothing drawn
 pub record AreSeated (plan : Plan) (w : Shared) (s : Seats) : Type 0 where
   pub here : s.toc.region ≡ w.region
   pub plan_is : HasPlan s.toc.words plan
   pub claim : Belongs w.claims s.claim
   pub number : number_of s.claim ≡ s.number
   pub drawn : draws_of s.claim ≡ []
+  pub hash : IsHashSeat w.region s.number w.hash s.hash
 
 -- a sending end that is open, on which nothing was put and no receiver was found gone, with its longest message
 pub record IsUnused (region : TableId) (max : ℕ) (s : SendingEnd) : Type 0 where
@@ -64,6 +68,7 @@ pub record SameSeats (w : Shared) (s t : Seats) : Type 0 where
   pub toc : t.toc ≡ s.toc
   pub claim : Belongs w.claims t.claim
   pub same : number_of t.claim ≡ number_of s.claim
+  pub hash : StaysSeated w.hash s.hash t.hash
 
 -- the ends of the same rings, which may have sent
 pub record SameEnds (e f : WorkerEnds) : Type 0 where
@@ -100,6 +105,11 @@ abbrev pub AreNumbered : ℕ → List ℕ → Type 0
 AreNumbered n [] = ⊤
 AreNumbered n (k ∷ ks) = (k ≡ n) × AreNumbered (suc n) ks
 
+-- the table of groups has so many participants
+abbrev pub HasCallers : ℕ → Option HashPart → Type 0
+HasCallers n None = Unit {0}
+HasCallers n (Some p) = table_callers p ≡ n
+
 -- what contracts see of a context
 pub record Prepared : Type 0 where
   pub plan : Plan
@@ -117,3 +127,4 @@ pub record IsPrepared (p : Prepared) : Type 0 where
   pub receivers : All (AreUnheard p.shared) p.receivers
   pub rings : AllZip AreOneRing p.hands p.receivers
   pub seats : AreSeats p.shared.claims (p.leader.claim ∷ map (λ (h : Hand). h.seats.claim) p.hands)
+  pub hash : HasCallers (suc (length p.hands)) p.shared.hash

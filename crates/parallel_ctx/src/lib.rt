@@ -12,8 +12,10 @@
 
 ghost use Rattle.std.specs.Prelude.{◌≡◌, ◌≤◌, ◌^◌, IfOk, OnErr, length, vec_len};
 ghost use Rattle.scan_claim.specs.Shown.{blocks_of};
+ghost use Rattle.parallel_ctx.specs.Making.{HasTable};
 ghost use Rattle.parallel_ctx.specs.Ran.{Ran};
 
+mod hashing;
 mod home;
 mod making;
 mod roles;
@@ -21,8 +23,10 @@ mod scope;
 mod start;
 mod tokens;
 
+pub use agg_table::{HashPart, HashSeat};
+use hashing::{hash_words, open_hash, wants_table};
 pub use home::{Finished, Returned};
-use home::{AllSettled, count_ends, settle_all};
+use home::{AllSettled, close_table, count_ends, keep_seat, settle_all};
 use making::{Dealt, Planned, Queues, deal, keep_plan, new_queues, new_toc, words_for};
 use par_model::BoundPlan;
 use region_words::Region;
@@ -57,10 +61,14 @@ impl Model for Context {
     ghost use Rattle.region_words.specs.Parts.{owned_code};
     ghost use Rattle.mq_ring.specs.Ends.{sending_end_code};
     ghost use Rattle.mq_handle.specs.Receives.{incoming_code};
+    ghost use Rattle.free_pages.specs.PagesView.{pages_state_code, pages_view_code};
+    ghost use Rattle.span_pools.specs.PoolView.{pool_state_code, pool_view_code};
+    ghost use Rattle.partial_agg.specs.Groups.{state_code};
+    ghost use Rattle.parallel_ctx.specs.Codes.{cells_code, part_state_code, part_view_code};
 
     ghost Value = { Prepared };
 
-    ghost coded = { Prim.hlevel (codes, table_id_coded, map_code, owned_code, sending_end_code, incoming_code) };
+    ghost coded = { Prim.hlevel (codes, table_id_coded, map_code, owned_code, sending_end_code, incoming_code, pages_state_code, pages_view_code, pool_state_code, pool_view_code, state_code, cells_code, part_state_code, part_view_code) };
 
     ghost view = { λ c. record { plan = c.plan.value; shared = c.shared; leader = c.leader; hands = c.hands.items; receivers = c.receivers.items } };
 
@@ -82,21 +90,35 @@ impl Context {
     /// Makes the region, the table of contents with the plan, the queues, and the tokens of the lead and of the workers
     /// asked for. Want of memory is its only answer beside `Ok`. It takes 82 KB for each worker and the receivers'
     /// buffers, and writes each word of the region once.
-    pub fn build(
+    pub fn build<R: Wait>(
+        rt: &R,
         alloc: Global,
         plan: &BoundPlan,
         workers: u32,
+        area_pages: u32,
         blocks: u64,
     ) -> Result<Context, AllocError>
         requires workers { workers ≤ 64 }
+        requires pages { area_pages ≤ 65536 }
         requires blocks { blocks ≤ 2 ^ 32 }
         ensures plan { IfOk result (λ c. c.plan ≡ plan.now) }
         ensures blocks { IfOk result (λ c. blocks_of c.shared.claims ≡ blocks) }
         ensures asked { IfOk result (λ c. length c.hands ≡ workers) }
+        ensures hash { IfOk result (λ c. HasTable plan.now area_pages c.shared.hash) }
     {
-        let words = words_for(workers);
+        let with_table = wants_table(plan, area_pages);
+        let words = words_for(workers, hash_words(with_table, area_pages));
         let (region, part) = Region::new(alloc, words as usize)?;
         let Planned { mut toc, chunk } = new_toc(&region, part, words);
+        let (hash, hash_seats) = open_hash(
+            rt,
+            alloc,
+            &region,
+            &mut toc,
+            with_table,
+            area_pages,
+            workers + 1,
+        )?;
         let ends = Vec::with_capacity(alloc, workers as usize)?;
         let receivers = Vec::with_capacity(alloc, workers as usize)?;
         let Queues { ends, receivers } = new_queues(
@@ -105,10 +127,14 @@ impl Context {
         let toc = keep_plan(&region, toc, chunk, plan);
         let (claims, seats) = Claims::new(alloc, blocks, workers + 1)?;
         let hands = Vec::with_capacity(alloc, workers as usize)?;
-        let Dealt { leader, hands } = deal(&region, toc, seats, ends, hands);
+        let Dealt { leader, hands } = deal(&region, toc, seats, hash_seats, ends, hands);
         Ok(Context {
             plan: Snapshot::of(plan),
-            shared: Shared { region, claims },
+            shared: Shared {
+                region,
+                claims,
+                hash,
+            },
             leader,
             hands,
             receivers,
@@ -144,6 +170,9 @@ impl Context {
         let backs = Vec::with_capacity(alloc, asked)?;
         let workers = Vec::with_capacity(alloc, asked)?;
         let mut claims = Vec::with_capacity(alloc, asked + 1)?;
+        let mut hashes = Vec::with_capacity(alloc, asked + 1)?;
+        let tables = Vec::with_capacity(alloc, asked + 1)?;
+        let areas = Vec::with_capacity(alloc, asked + 1)?;
         let flags = lowered(alloc, asked)?;
         let Served {
             backs,
@@ -156,26 +185,30 @@ impl Context {
             number: _,
             toc: _,
             claim,
+            hash,
         } = leader;
         claims.push_reserved(claim);
-        let AllSettled { workers, claims } = settle_all(
-            &shared.region,
-            backs,
-            queues,
+        keep_seat(&mut hashes, hash);
+        let AllSettled {
             workers,
             claims,
-        );
+            hashes,
+        } = settle_all(&shared.region, backs, queues, workers, claims, hashes);
         let launched = count_ends(&workers) as u32;
         let Shared {
             region,
             claims: counter,
+            hash,
         } = shared;
         let drawn = counter.close(claims);
+        let (table, areas) = close_table(hash, hashes, tables, areas);
         Ok(Finished {
             launched,
             workers,
             drawn,
             region,
+            table,
+            areas,
         })
     }
 }

@@ -4,6 +4,7 @@
 //! | key | chunk |
 //! |---|---|
 //! | 1 | the plan's descriptor |
+//! | 2 | the area of the table of groups, where there is one |
 //! | 16 + 2w | the error queue of worker w, from 1 on |
 //! | 17 + 2w | its tuple queue |
 //!
@@ -12,12 +13,14 @@
 ghost use Rattle.std.specs.Prelude.{◌≡◌, ◌≤◌, ◌<◌, ◌*◌, ◌+◌, ◌-◌, ◌%◌, ◌^◌, ℕ, All, IfOk, None, OnOk, Some, [], ◌∷◌, length, map, vec_capacity};
 ghost use Rattle.std.specs.List.{AllZip};
 ghost use Rattle.plan_spec.specs.Planned.{HasPlan};
-ghost use Rattle.parallel_ctx.specs.Making.{AreRings, AreUnheardIn, AreUnused, IsMaking, claim_in, ends_in, with_queue, with_queues};
+ghost use Rattle.parallel_ctx.specs.Making.{AreRings, AreUnheardIn, AreUnused, IsMaking, claim_in, ends_in, firsts, hash_in, with_queue, with_queues};
 ghost use Rattle.parallel_ctx.specs.Tokens.{AreNumbered, IsUnheard, IsUnused, number_in};
 ghost use Rattle.shm_toc.specs.Table.{free_bytes_of, place_of, rounded, table_of};
 ghost use Rattle.word_map.specs.WordMap.{HasJust};
 
+use crate::hashing::next_seat;
 use crate::tokens::{Hand, LeaderEnds, Seats, WorkerEnds};
+use agg_table::HashSeat;
 use mq_handle::{Receiver, Sender, attach};
 use mq_ring::Ring;
 use par_model::BoundPlan;
@@ -48,14 +51,15 @@ pub const LONGEST_NOTICE: u32 = 64;
 
 pub const LONGEST_TUPLE: u32 = 1024;
 
-/// How many words the segment of a context for so many workers has.
-pub(crate) fn words_for(workers: u32) -> u64
-    requires { workers ≤ 64 }
+/// How many words the segment of a context for so many workers has, beside those of its table of groups.
+pub(crate) fn words_for(workers: u32, hash: u64) -> u64
+    requires workers { workers ≤ 64 }
+    requires hash { (hash ≤ 40000000) × (hash % 4 ≡ 0) }
     ensures size { (40 ≤ result) × (result % 4 ≡ 0) }
     ensures few { result ≤ 2 ^ 26 }
-    ensures room { 304 + 82016 * workers ≤ 8 * result }
+    ensures room { 304 + 82016 * workers + 8 * hash ≤ 8 * result }
 {
-    40 + 10252 * u64::from(workers)
+    40 + 10252 * u64::from(workers) + hash
 }
 
 /// A table of contents, and the chunk of it that the plan is to be written into, under its key.
@@ -178,7 +182,7 @@ pub(crate) fn new_queues(
 ) -> Result<Queues, AllocError>
     requires here { toc.old.region ≡ r.now }
     requires few { workers ≤ 64 }
-    requires making { IsMaking (table_of toc.old.words) 2 (82016 * workers) }
+    requires making { IsMaking (table_of toc.old.words) 16 (82016 * workers) }
     requires ends { (ends.items ≡ []) × (workers ≤ vec_capacity ends) }
     requires receivers { (receivers.items ≡ []) × (workers ≤ vec_capacity receivers) }
     ensures here { toc.new.region ≡ toc.old.region }
@@ -232,11 +236,13 @@ pub(crate) struct Dealt {
     pub(crate) hands: Vec<Hand>,
 }
 
-/// Gives each participant its number, its share of the table of contents and its seat, and each worker its ends.
+/// Gives each participant its number, its share of the table of contents, its seat and its passes of the table of
+/// groups, where there is one, and each worker its ends.
 pub(crate) fn deal(
     r: &Region,
     mut toc: FrozenToc,
     seats: Vec<ClaimSeat>,
+    hash_seats: Vec<HashSeat>,
     ends: Vec<WorkerEnds>,
     mut hands: Vec<Hand>,
 ) -> Dealt
@@ -250,9 +256,11 @@ pub(crate) fn deal(
     ensures tocs { All (λ h. h.seats.toc ≡ toc) result.hands.items }
     ensures numbers { AreNumbered 1 (map number_in result.hands.items) }
     ensures claims { result.leader.claim ∷ map claim_in result.hands.items ≡ seats.items }
+    ensures hashes { result.leader.hash ∷ map hash_in result.hands.items ≡ firsts hash_seats.items (length ends.items + 1) }
     ensures ends { map ends_in result.hands.items ≡ ends.items }
 {
     let mut rest = seats.into_iter();
+    let mut hash_rest = hash_seats.into_iter();
     let Some(own) = rest.next() else {
         unreachable!()
     };
@@ -260,6 +268,7 @@ pub(crate) fn deal(
         number: 0,
         toc: share_toc(r, &mut toc),
         claim: own,
+        hash: next_seat(&mut hash_rest),
     };
     let mut number = 1;
     for mine in ends {
@@ -270,6 +279,7 @@ pub(crate) fn deal(
             number,
             toc: share_toc(r, &mut toc),
             claim,
+            hash: next_seat(&mut hash_rest),
         };
         hands.push_reserved(Hand { seats, ends: mine });
         number += 1;

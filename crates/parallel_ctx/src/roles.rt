@@ -2,6 +2,7 @@
 //! what it promises of its draws and its messages; `Context::run` gives these promises to its caller. They speak of
 //! lists alone, so what happens to an end after the call, as its detaching, does not touch them.
 
+ghost use Rattle.agg_table.specs.Tokens.{use_in};
 ghost use Rattle.std.specs.Prelude.{◌≡◌, map};
 ghost use Rattle.std.specs.List.{AllZip};
 ghost use Rattle.par_model.specs.Plan.{Plan};
@@ -46,13 +47,16 @@ pub trait Worker: Sync {
 pub trait Lead {
     ghost use Rattle.std.specs.Prelude.{ℕ, List};
     ghost use Rattle.par_model.specs.Plan.{Plan};
+    ghost use Rattle.std.specs.Prelude.{Option};
+    ghost use Rattle.agg_table.specs.Calls.{Use};
     ghost use Rattle.parallel_ctx.specs.Accounts.{Heard};
 
     /// Which plans, over so many blocks, it can lead.
     ghost asks: { Self → Plan → ℕ → Type 0 };
 
-    /// What the call did by a plan over so many blocks: the numbers it drew, and what it took of each worker's queues.
-    ghost led: { Self → Plan → ℕ → List ℕ → List Heard → Self → Type 0 };
+    /// What the call did by a plan over so many blocks: the numbers it drew, what it did with the table of groups, where
+    /// there is one, and what it took of each worker's queues.
+    ghost led: { Self → Plan → ℕ → List ℕ → Option Use → List Heard → Self → Type 0 };
 
     /// Leads with unused tokens, and one pair of ends for each worker asked for, in order. They stay in their places;
     /// it may leave its ends attached.
@@ -66,5 +70,5 @@ pub trait Lead {
         requires { (plan : Plan) × IsFreshLead plan shared.now seats.old queues.old × asks self.old plan (blocks_of shared.now.claims) }
         ensures seats { SameSeats shared.now seats.old seats.new }
         ensures queues { AllZip SameQueues queues.old queues.new }
-        ensures led { (plan : Plan) → HasPlan seats.old.toc.words plan → led self.old plan (blocks_of shared.now.claims) (draws_of seats.new.claim) (map heard queues.new) self.new };
+        ensures led { (plan : Plan) → HasPlan seats.old.toc.words plan → led self.old plan (blocks_of shared.now.claims) (draws_of seats.new.claim) (use_in seats.new.hash) (map heard queues.new) self.new };
 }

@@ -1,5 +1,6 @@
 //! The scope in which the workers run beside the lead.
 
+ghost use Rattle.agg_table.specs.Tokens.{use_in};
 ghost use Rattle.std.specs.Prelude.{◌≡◌, All, map};
 ghost use Rattle.std.specs.List.{AllZip};
 ghost use Rattle.par_model.specs.Plan.{Plan};
@@ -52,7 +53,7 @@ fn lead_and_leave<L: Lead, R: Wait + Sync>(
     requires { CanLead (L.asks lead.old) shared.now leader.old queues.old }
     ensures seats { SameSeats shared.now leader.old leader.new }
     ensures queues { AllZip SameQueues queues.old queues.new }
-    ensures led { (plan : Plan) → HasPlan leader.old.toc.words plan → L.led lead.old plan (blocks_of shared.now.claims) (draws_of leader.new.claim) (map heard queues.new) lead.new }
+    ensures led { (plan : Plan) → HasPlan leader.old.toc.words plan → L.led lead.old plan (blocks_of shared.now.claims) (draws_of leader.new.claim) (use_in leader.new.hash) (map heard queues.new) lead.new }
 {
     lead.lead(rt, shared, leader, queues);
     leave_all(&shared.region, queues);
@@ -86,7 +87,7 @@ where
     ensures workers { AllZip (Returns (W.did worker.now) shared.now) hands.items result.backs.items }
     ensures seats { SameSeats shared.now leader result.leader }
     ensures queues { AllZip SameQueues queues.items result.queues.items }
-    ensures led { (plan : Plan) → HasPlan leader.toc.words plan → L.led lead.old plan (blocks_of shared.now.claims) (draws_of result.leader.claim) (map heard result.queues.items) lead.new }
+    ensures led { (plan : Plan) → HasPlan leader.toc.words plan → L.led lead.old plan (blocks_of shared.now.claims) (draws_of result.leader.claim) (use_in result.leader.hash) (map heard result.queues.items) lead.new }
 {
     let placed = launch_all(scope, rt, worker, shared, flags, hands, placed);
     lead_and_leave(rt, lead, shared, &mut leader, &mut queues);
@@ -115,7 +116,7 @@ pub(crate) fn serve<W: Worker, L: Lead, R: Threads + Wait + Sync>(
     ensures workers { AllZip (Returns (W.did worker.now) shared.now) hands.items result.backs.items }
     ensures seats { SameSeats shared.now leader result.leader }
     ensures queues { AllZip SameQueues queues.items result.queues.items }
-    ensures led { (plan : Plan) → HasPlan leader.toc.words plan → L.led lead.old plan (blocks_of shared.now.claims) (draws_of result.leader.claim) (map heard result.queues.items) lead.new }
+    ensures led { (plan : Plan) → HasPlan leader.toc.words plan → L.led lead.old plan (blocks_of shared.now.claims) (draws_of result.leader.claim) (use_in result.leader.hash) (map heard result.queues.items) lead.new }
 {
     let (served, lead) = thread::scope(
         thread::scope_env(),
@@ -125,7 +126,7 @@ pub(crate) fn serve<W: Worker, L: Lead, R: Threads + Wait + Sync>(
             ensures workers { AllZip (Returns (W.did worker.entry.now) shared.entry.now) hands.items result.0.backs.items }
             ensures seats { SameSeats shared.entry.now leader result.0.leader }
             ensures queues { AllZip SameQueues queues.items result.0.queues.items }
-            ensures led { (plan : Plan) → HasPlan leader.toc.words plan → L.led lead.entry.now plan (blocks_of shared.entry.now.claims) (draws_of result.0.leader.claim) (map heard result.0.queues.items) result.1.now }
+            ensures led { (plan : Plan) → HasPlan leader.toc.words plan → L.led lead.entry.now plan (blocks_of shared.entry.now.claims) (draws_of result.0.leader.claim) (use_in result.0.leader.hash) (map heard result.0.queues.items) result.1.now }
             ensures lent { result.1.ghost_name ≡ lead.entry.ghost_name }
         {
             let served = in_scope(

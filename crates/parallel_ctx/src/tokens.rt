@@ -1,6 +1,7 @@
 //! What the participants share, and what each owns while it works. All tokens are values that move into a worker's
 //! thread and come back as its result, so none of them borrows anything.
 
+use agg_table::{HashPart, HashSeat};
 use mq_handle::{Receiver, Sender};
 use region_words::Region;
 use scan_claim::{ClaimSeat, Claims};
@@ -13,6 +14,8 @@ pub struct Shared {
     pub region: Region,
     /// The counter that hands out the blocks.
     pub claims: Claims,
+    /// The table of groups that all share, where the plan has one.
+    pub hash: Option<HashPart>,
 }
 
 /// What one participant owns while it works.
@@ -24,6 +27,8 @@ pub struct Seats {
     pub toc: FrozenToc,
     /// Its seat at the counter of blocks.
     pub claim: ClaimSeat,
+    /// Its passes of the table of groups, where there is one.
+    pub hash: Option<HashSeat>,
 }
 
 /// A worker's ends of its two queues.

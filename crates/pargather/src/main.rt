@@ -5,6 +5,9 @@
 
 #![tactic(auto)]
 
+#[cfg(test)]
+mod tests;
+
 use par_gather::{NO_MEMORY, OpenGate, pargather};
 use par_io::{StdSink, StdSource};
 use std::io::ErrorKind;

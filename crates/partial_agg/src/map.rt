@@ -23,12 +23,13 @@ ghost use Rattle.partial_agg.specs.Values.{values_state};
 ghost use Rattle.partial_agg.specs.Status.{IsKeptBy};
 ghost use Rattle.partial_agg.specs.Rows.{IsAccepted, block_rows, header_width};
 
+use crate::ahead::guess_places;
 use crate::groups::Groups;
 use crate::key::GroupKey;
 use crate::row::{RowBuffer, RowStatus, read_values};
 use crate::state::one_row;
 use crate::states::StateList;
-use csv_rows::{Record, RowStore};
+use csv_rows::{NearRows, Record, RowStore};
 use key_table::KeyTable;
 use par_model::{AggState, BoundPlan, ITEM_CAUSE};
 use std::alloc::{AllocError, Global};
@@ -170,10 +171,12 @@ impl GroupMap {
         let count = (last - first + 1).min(BLOCK_ROWS);
         let near = rows.near(first);
         let width = rows.width(0);
+        let guesses = self.guess_places(&near, first, count, width, plan);
         let mut buffer = RowBuffer::new();
         for at in 0..count {
             let number = first + at;
-            match self.add_read(&mut buffer, number, &near.find(number), width, plan) {
+            let guess = guesses[at as usize];
+            match self.add_read(&mut buffer, guess, number, &near.find(number), width, plan) {
                 Ok(()) => {}
                 Err(answer) => return Err(answer),
             }
@@ -181,10 +184,27 @@ impl GroupMap {
         Ok(())
     }
 
-    /// Reads a row, and adds it if it is kept.
+    /// Guesses at the places of the keys of so many rows.
+    fn guess_places(
+        &self,
+        rows: &NearRows<'_>,
+        first: u64,
+        count: u64,
+        width: u32,
+        plan: &BoundPlan,
+    ) -> [usize; 256]
+        requires rows { first + count ≤ length rows.now }
+        requires fits { first + count < 2 ^ 64 }
+        requires columns { HasColumns plan.now width }
+    {
+        guess_places(&self.keys, &self.states, rows, first, count, width, plan)
+    }
+
+    /// Reads a row, whose key may be expected at a place, and adds it if it is kept.
     fn add_read(
         &mut self,
         buffer: &mut RowBuffer,
+        guess: usize,
         number: u64,
         row: &Record<'_>,
         width: u32,
@@ -203,7 +223,7 @@ impl GroupMap {
                 item: refusal.item,
             }),
             RowStatus::LeftOut => Ok(()),
-            RowStatus::Kept => self.add_kept(buffer, number, row, width, plan),
+            RowStatus::Kept => self.add_kept(buffer, guess, number, row, width, plan),
         }
     }
 
@@ -212,6 +232,7 @@ impl GroupMap {
     fn add_kept(
         &mut self,
         buffer: &mut RowBuffer,
+        guess: usize,
         number: u64,
         row: &Record<'_>,
         width: u32,
@@ -224,7 +245,7 @@ impl GroupMap {
         ensures stopped { IfErr result (ExplainsRow plan.now width row.now number) }
         ensures err { OnErr result (self.new ≡ self.old) }
     {
-        let known = self.keys.find(buffer.key.bytes());
+        let known = self.keys.find_at(guess, buffer.key.bytes());
         let items = plan.items();
         match read_values(&mut buffer.values, row, items) {
             Ok(()) => {}

@@ -74,6 +74,14 @@ impl StateList {
         }
     }
 
+    /// Whether a state stands there in which nothing is counted. No row makes one.
+    pub(crate) fn is_blank(&self, at: usize) -> bool {
+        let lane = at.wrapping_mul(self.layout.width());
+        at < self.rows.len()
+            && lane < self.lanes.len()
+            && self.rows[at].wrapping_add(self.lanes[lane].count) == 0
+    }
+
     /// Puts a state behind the others.
     pub(crate) fn push(&mut self, state: &AggState) -> Result<(), AllocError>
         ensures ok { OnOk result (self.new ≡ self.old ++ state.now ∷ []) }

@@ -156,8 +156,9 @@ fn bind_filter(filter: &Option<PlanFilter>, rows: &RowStore) -> Option<Option<Fi
     }))
 }
 
-/// The column of a name: the first field of the header with its bytes.
-fn column(rows: &RowStore, name: &str) -> Option<u32>
+/// The column of a name: the first field of the header, the store's first record, with its bytes. Takes no memory; the
+/// time is that of the header.
+pub fn column(rows: &RowStore, name: &str) -> Option<u32>
     ensures first { result ≡ column_of (record_at rows.now 0) name.now }
     ensures below { IfSome result (λ at. at < length (record_at rows.now 0)) }
     ensures narrow { IfSome result (λ at. at < 2 ^ 32) }

@@ -228,8 +228,8 @@ fn relation(bytes: &[u8]) -> Option<(FilterOp, &[u8])>
     }
 }
 
-/// One to five digits, with a value up to `most`.
-pub(crate) fn number(text: &str, most: u32) -> Option<u32>
+/// One to five digits, with a value up to `most`, which is at most 65,536. Takes no memory.
+pub fn number(text: &str, most: u32) -> Option<u32>
     requires { most ≤ 65536 }
     ensures { result ≡ number_in most text.now }
 {

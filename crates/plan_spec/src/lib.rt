@@ -4,7 +4,7 @@
 //! [`Plan::of_merge_words`] reads `merge COLUMNS N`; [`Plan::bind`] looks a plan's names up in the first record of a
 //! store. A plan keeps its names in the order in which they are counted: those to group by, those of the aggregates,
 //! that of the filter. [`write_plan`] puts the bound plan into shared memory, and [`plan_in`] finds it there for all who
-//! compute it.
+//! compute it. [`number`] and [`column`] read a number and a name for other command lines.
 
 #![tactic(auto)]
 
@@ -18,7 +18,8 @@ mod read;
 #[cfg(test)]
 mod tests;
 
-pub use bind::NoColumn;
+pub use bind::{NoColumn, column};
 pub use descriptor::{BadDescriptor, PLAN_KEY, has_one_plan, plan_in, read_plan, write_plan};
+pub use grammar::number;
 pub use merging::is_merge;
 pub use plan::{Plan, PlanAnswer};

@@ -27,13 +27,13 @@ use Rattle.worker_run.specs.declared.WorkerEnd.{WorkerEnd}
 use Rattle.worker_run.specs.declared.WorkerEnd.TheVariants.{Finished, Stopped, Refused, NoMemory}
 use Rattle.worker_run.proofs.Working.{late_draw, working-flush}
 
-gone_is : (s : Sending) → s.flag_value ≡ 1 → found_gone s ≡ true
+pub gone_is : (s : Sending) → s.flag_value ≡ 1 → found_gone s ≡ true
 gone_is s e = rw e refl
 
 module _ (plan : Plan) (records : Table) where
   -- ---- what was sent
 
-  written_are : (groups : List Group) → AreWritten (length plan.items) groups → All (IsTupleOf plan) (tuples_of (length plan.items) groups)
+  pub written_are : (groups : List Group) → AreWritten (length plan.items) groups → All (IsTupleOf plan) (tuples_of (length plan.items) groups)
   written_are [] w = All-nil (IsTupleOf plan)
   written_are (g ∷ groups) w =
       All-cons (IsTupleOf plan) _ (tuples_of (length plan.items) groups) (record { group = g; has = w.0; is = refl }) (written_are groups w.1)
@@ -41,14 +41,14 @@ module _ (plan : Plan) (records : Table) where
   working_tuples : (draws : List ℕ) (groups : GroupsByKey) (errors tuples : Sending) → IsWorking plan records draws groups errors tuples → All (IsTupleOf plan) (whole_of tuples.put)
   working_tuples draws groups errors tuples w = subst (All (IsTupleOf plan)) (sym w.sent) (written_are (flat_map (groups_of plan) w.batches) w.written)
 
-  more_tuples : (gs : List Group) (old new : Sending) → All (IsTupleOf plan) (whole_of old.put) → AreWritten (length plan.items) gs → whole_of new.put ≡ whole_of old.put ++ tuples_of (length plan.items) gs
+  pub more_tuples : (gs : List Group) (old new : Sending) → All (IsTupleOf plan) (whole_of old.put) → AreWritten (length plan.items) gs → whole_of new.put ≡ whole_of old.put ++ tuples_of (length plan.items) gs
       → All (IsTupleOf plan) (whole_of new.put)
   more_tuples gs old new h w e = subst (All (IsTupleOf plan)) (sym e) (All-append (IsTupleOf plan) (whole_of old.put) (tuples_of (length plan.items) gs) h (written_are gs w))
 
-  silent_yet : (errors errors' : Sending) → whole_of errors.put ≡ [] → whole_of errors'.put ≡ whole_of errors.put ++ [] → whole_of errors'.put ≡ []
+  pub silent_yet : (errors errors' : Sending) → whole_of errors.put ≡ [] → whole_of errors'.put ≡ whole_of errors.put ++ [] → whole_of errors'.put ≡ []
   silent_yet errors errors' e f = f ∙ append-nil (whole_of errors.put) ∙ e
 
-  silence : (draws : List ℕ) (errors : Sending) → whole_of errors.put ≡ [] → All (IsNotice plan records draws) (whole_of errors.put)
+  pub silence : (draws : List ℕ) (errors : Sending) → whole_of errors.put ≡ [] → All (IsNotice plan records draws) (whole_of errors.put)
   silence draws errors e = subst (All (IsNotice plan records draws)) (sym e) (All-nil (IsNotice plan records draws))
 
   -- ---- no more blocks
@@ -105,7 +105,7 @@ module _ (plan : Plan) (records : Table) where
         cause_is = ap (λ k. refusal plan (header_width records) (record_at records k)) at ∙ s.explains.1;
       }
 
-  own_row : (draws draws' : List ℕ) (block row cause item : ℕ) (old new : GroupsByKey) → draws' ≡ draws ++ block ∷ [] → IsStoppedAt plan records block old new (answer.Row row cause item) → IsOwnRow draws' row
+  pub own_row : (draws draws' : List ℕ) (block row cause item : ℕ) (old new : GroupsByKey) → draws' ≡ draws ++ block ∷ [] → IsStoppedAt plan records block old new (answer.Row row cause item) → IsOwnRow draws' row
   own_row draws draws' block row cause item old new e s =
       let at = s.explains.0 in
       record {

@@ -1,3 +1,4 @@
 mod Sent
 pub mod Working
 pub mod Ends
+pub mod Giving

@@ -93,7 +93,7 @@ module _ (plan : Plan) (records : Table) where
         tuples_ready = still_ready 581 tuples tuples' (tuples_of slots (map.entries groups)) w.tuples_ready s.all.sent;
       }
 
-  no_rows : (blocks n : ℕ) → AreBlocks records blocks → blocks ≤ n → block_rows records n ≡ []
+  pub no_rows : (blocks n : ℕ) → AreBlocks records blocks → blocks ≤ n → block_rows records n ≡ []
   no_rows blocks n a h = ap (take 256) (drop_all (256 * n + 1) records (omega (arith, a.all, h)))
 
   pub late_draw : (blocks : ℕ) (draws draws' : List ℕ) → AreBlocks records blocks → (draws' ≡ draws) ⊎ ((n : ℕ) × (blocks ≤ n) × (draws' ≡ draws ++ n ∷ [])) → rows_of_blocks records draws' ≡ rows_of_blocks records draws

@@ -9,6 +9,7 @@
 #![tactic(auto)]
 
 ghost use Rattle.std.specs.Prelude.{◌≡◌, ◌≤◌, ℕ, IfNone, IfSome, [], length, true};
+ghost use Rattle.agg_table.specs.Tokens.{IsHashSeat, StaysSeated, use_in};
 ghost use Rattle.par_model.specs.Columns.{HasColumns};
 ghost use Rattle.par_model.specs.Plan.{Plan};
 ghost use Rattle.partial_agg.specs.Rows.{header_width};
@@ -18,8 +19,10 @@ ghost use Rattle.plan_spec.specs.Planned.{HasPlan};
 ghost use Rattle.worker_run.specs.Sent.{IsFreshQueue};
 ghost use Rattle.worker_run.specs.Ended.{HasEnded, sends_of};
 ghost use Rattle.worker_run.specs.Steps.{KeepsQueues};
+ghost use Rattle.worker_run.specs.Tabled.{EndsWith};
 ghost use Rattle.worker_run.specs.Working.{IsWorking};
 
+use agg_table::{HashPart, HashSeat};
 use csv_rows::RowStore;
 use mq_handle::Sender;
 use par_model::BoundPlan;
@@ -31,14 +34,16 @@ use sending::{finish, give_up, send_groups};
 use shm_toc::FrozenToc;
 use std::alloc::Global;
 use std::sync::Wait;
+use tabled::table_all;
 
 mod gate;
 mod sending;
+mod tabled;
 
 pub use gate::{Gate, OpenGate};
 
 /// A worker sends its groups once it holds so many after a block.
-const MOST_KEPT: usize = 4096;
+const MOST_KEPT: usize = 1_048_576;
 
 /// How a worker ended.
 #[derive(Debug, Clone, Copy, PartialEq, Eq)]
@@ -54,7 +59,7 @@ pub enum WorkerEnd {
 }
 
 /// How many aggregates a plan has.
-fn slots_of(plan: &BoundPlan) -> u32
+pub(crate) fn slots_of(plan: &BoundPlan) -> u32
     ensures items { result ≡ length plan.now.items }
     ensures few { result ≤ 8 }
 {
@@ -151,11 +156,57 @@ fn work_all<G: Gate, R: Wait>(
     unreachable!()
 }
 
+/// Works until the worker's end, with the table of groups where there is one.
+fn work_by<G: Gate, R: Wait>(
+    rt: &R,
+    alloc: Global,
+    r: &Region,
+    number: u32,
+    plan: &BoundPlan,
+    claims: &Claims,
+    claim: &mut ClaimSeat,
+    part: &Option<HashPart>,
+    seat: &mut Option<HashSeat>,
+    rows: &RowStore,
+    errors: &mut Sender,
+    tuples: &mut Sender,
+    gate: &G,
+) -> WorkerEnd
+    requires seat { Belongs claims.now claim.old }
+    requires fresh { draws_of claim.old ≡ [] }
+    requires blocks { AreBlocks rows.now (blocks_of claims.now) }
+    requires columns { HasColumns plan.now (header_width rows.now) }
+    requires hash { IsHashSeat r.now number part.now seat.old }
+    requires errors_here { errors.old.region ≡ r.now }
+    requires here { tuples.old.region ≡ r.now }
+    requires errors_fresh { IsFreshQueue 14 errors.old.end }
+    requires tuples_fresh { IsFreshQueue 581 tuples.old.end }
+    ensures seat { Belongs claims.now claim.new × (number_of claim.new ≡ number_of claim.old) }
+    ensures hash { StaysSeated part.now seat.old seat.new }
+    ensures errors_kept { errors.new ≡ record errors.old { end = errors.new.end } }
+    ensures tuples_kept { tuples.new ≡ record tuples.old { end = tuples.new.end } }
+    ensures queues { KeepsQueues errors.old.end tuples.old.end errors.new.end tuples.new.end }
+    ensures ended { EndsWith plan.now rows.now (blocks_of claims.now) (draws_of claim.new) (use_in seat.new) (sends_of errors.new.end tuples.new.end) result }
+{
+    match seat {
+        None => work_all(
+            rt, alloc, r, number, plan, claims, claim, rows, errors, tuples, gate,
+        ),
+        Some(seat) => match part {
+            None => unreachable!(),
+            Some(part) => table_all(
+                rt, alloc, r, number, plan, claims, claim, part, seat, rows, errors, tuples, gate,
+            ),
+        },
+    }
+}
+
 /// Works by the plan that stands in the table of contents until there are no more blocks, and tells how it ended. It
-/// passes the gate before each block, as participant `number`. Tuples are sent without flush, the notice with it; both
+/// passes the gate before each block, as participant `number`. Where there is a table of groups, it puts the groups of
+/// each block there, and a group for which there is no room goes as a tuple. Tuples are sent without flush, the notice with it; both
 /// ends are detached afterwards, the tuple queue's first. It waits where a queue is full, until the receiver takes
 /// something or is gone. Time is that of `add_block` over its blocks and of `encode` over its groups; memory is that of
-/// a map of at most 4,351 groups.
+/// a map of the groups of its rows, 1,048,831 at most.
 pub fn work<G: Gate, R: Wait>(
     rt: &R,
     alloc: Global,
@@ -164,6 +215,8 @@ pub fn work<G: Gate, R: Wait>(
     toc: &mut FrozenToc,
     claims: &Claims,
     claim: &mut ClaimSeat,
+    part: &Option<HashPart>,
+    seat: &mut Option<HashSeat>,
     rows: &RowStore,
     errors: &mut Sender,
     tuples: &mut Sender,
@@ -174,21 +227,23 @@ pub fn work<G: Gate, R: Wait>(
     requires seat { Belongs claims.now claim.old }
     requires fresh { draws_of claim.old ≡ [] }
     requires blocks { AreBlocks rows.now (blocks_of claims.now) }
+    requires hash { IsHashSeat r.now number part.now seat.old }
     requires errors_here { errors.old.region ≡ r.now }
     requires here { tuples.old.region ≡ r.now }
     requires errors_fresh { IsFreshQueue 14 errors.old.end }
     requires tuples_fresh { IsFreshQueue 581 tuples.old.end }
     ensures toc { toc.new ≡ toc.old }
     ensures seat { Belongs claims.now claim.new × (number_of claim.new ≡ number_of claim.old) }
+    ensures hash { StaysSeated part.now seat.old seat.new }
     ensures errors_kept { errors.new ≡ record errors.old { end = errors.new.end } }
     ensures tuples_kept { tuples.new ≡ record tuples.old { end = tuples.new.end } }
     ensures errors { (errors.new.end.ring ≡ errors.old.end.ring) × (errors.new.end.gone ≡ true) }
     ensures tuples { (tuples.new.end.ring ≡ tuples.old.end.ring) × (tuples.new.end.gone ≡ true) }
-    ensures ended { (plan : Plan) → HasPlan toc.old.words plan → HasEnded plan rows.now (blocks_of claims.now) (draws_of claim.new) (sends_of errors.new.end tuples.new.end) result }
+    ensures ended { (plan : Plan) → HasPlan toc.old.words plan → EndsWith plan rows.now (blocks_of claims.now) (draws_of claim.new) (use_in seat.new) (sends_of errors.new.end tuples.new.end) result }
 {
     let plan = plan_in(toc, r);
-    let end = work_all(
-        rt, alloc, r, number, &plan, claims, claim, rows, errors, tuples, gate,
+    let end = work_by(
+        rt, alloc, r, number, &plan, claims, claim, part, seat, rows, errors, tuples, gate,
     );
     tuples.detach(r);
     errors.detach(r);

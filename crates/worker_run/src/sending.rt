@@ -36,7 +36,7 @@ fn send_notice<R: Wait>(rt: &R, r: &Region, errors: &mut Sender, notice: &ErrorM
 }
 
 /// Sends a group as a tuple, without flush. Answers false where the receiver is gone.
-fn send_group<R: Wait>(
+pub(crate) fn send_group<R: Wait>(
     rt: &R,
     r: &Region,
     tuples: &mut Sender,

@@ -3,7 +3,7 @@ use Rattle.std.specs.Global.{Global}
 use Rattle.scan_claim.specs.Shown.{blocks_of, lists_of}
 use Rattle.par_model.specs.Plan.{Plan}
 use Rattle.partial_agg.specs.Rows.{IsAccepted, header_width}
-use Rattle.parallel_ctx.specs.Accounts.{heard_of}
+use Rattle.parallel_ctx.specs.Accounts.{heard_of, use_by}
 use Rattle.parallel_ctx.specs.declared.home.Returned.{Returned}
 use Rattle.worker_run.specs.declared.WorkerEnd.{WorkerEnd}
 use Rattle.gather_law.specs.Tuples.{AreBlocks}
@@ -21,7 +21,7 @@ returns-in-Some-clause-row g c =
     let leader = c.run.new.lead in
     let orders : OrdersRows p.plan = subst OrdersRows (sym c.in-Ok.ensures.plan) c.requires.plan in
     subst (λ (q : Plan). IsCause q c.args.rows.now c.in-Some.why) c.in-Ok.ensures.plan
-    (leader_cause p.plan c.args.rows.now (blocks_of p.shared.claims) orders r.own r.draws c.in-Ok-run.finished.workers.items leader.order.items leader.failure c.in-Some.why r.workers r.led
+    (leader_cause (use_by c.in-Ok-run.finished) p.plan c.args.rows.now (blocks_of p.shared.claims) orders r.own r.draws c.in-Ok-run.finished.workers.items leader.order.items leader.failure c.in-Some.why r.workers r.led
     (sym c.into_order-list.ensures.1 ∙ c.in-Some.is))
 
 pub returns-in-Some-first_verdict-clause-row : goal.returns-in-Some-first_verdict-clause-row
@@ -31,7 +31,7 @@ returns-in-Some-first_verdict-clause-row g c =
     let ws = c.in-Ok-run.finished.workers.items in
     let orders : OrdersRows p.plan = subst OrdersRows (sym c.in-Ok.ensures.plan) c.requires.plan in
     subst (λ (q : Plan). IsCause q c.args.rows.now c.in-Some-first_verdict.why) c.in-Ok.ensures.plan
-    (worker_cause p.plan c.args.rows.now (blocks_of p.shared.claims) orders r.draws ws c.in-Some-first_verdict.why r.workers
+    (worker_cause (use_by c.in-Ok-run.finished) p.plan c.args.rows.now (blocks_of p.shared.claims) orders r.draws ws c.in-Some-first_verdict.why r.workers
     (subst (λ (l : List (Returned WorkerEnd)). AreVerdict l (Some c.in-Some-first_verdict.why)) c.deref.ensures.value c.in-Some-first_verdict.ensures))
 
 pub returns-in-Some-clause-first : goal.returns-in-Some-clause-first
@@ -42,7 +42,7 @@ returns-in-Some-clause-first g c none =
     let ws = c.in-Ok-run.finished.workers.items in
     let orders : OrdersRows p.plan = subst OrdersRows (sym c.in-Ok.ensures.plan) c.requires.plan in
     subst (λ (q : Plan). IsFirstCause q c.args.rows.now c.in-Some.why) c.in-Ok.ensures.plan
-    (leader_first_cause p.plan c.args.rows.now (blocks_of p.shared.claims) orders r.own ws leader.order.items leader.failure c.in-Some.why (r.asked ∙ c.in-Ok.ensures.asked ∙ none) r.led
+    (leader_first_cause (use_by c.in-Ok-run.finished) p.plan c.args.rows.now (blocks_of p.shared.claims) orders r.own ws leader.order.items leader.failure c.in-Some.why (r.asked ∙ c.in-Ok.ensures.asked ∙ none) r.led
     (sym c.into_order-list.ensures.1 ∙ c.in-Some.is))
 
 pub returns-in-Some-first_verdict-clause-first : goal.returns-in-Some-first_verdict-clause-first
@@ -52,7 +52,7 @@ returns-in-Some-first_verdict-clause-first g c none =
     let ws = c.in-Ok-run.finished.workers.items in
     let orders : OrdersRows p.plan = subst OrdersRows (sym c.in-Ok.ensures.plan) c.requires.plan in
     subst (λ (q : Plan). IsFirstCause q c.args.rows.now c.in-Some-first_verdict.why) c.in-Ok.ensures.plan
-    (worker_first_cause p.plan c.args.rows.now (blocks_of p.shared.claims) orders ws c.in-Some-first_verdict.why (r.asked ∙ c.in-Ok.ensures.asked ∙ none)
+    (worker_first_cause (use_by c.in-Ok-run.finished) p.plan c.args.rows.now (blocks_of p.shared.claims) orders ws c.in-Some-first_verdict.why (r.asked ∙ c.in-Ok.ensures.asked ∙ none)
     (subst (λ (l : List (Returned WorkerEnd)). AreVerdict l (Some c.in-Some-first_verdict.why)) c.deref.ensures.value c.in-Some-first_verdict.ensures))
 
 pub returns : goal.returns
@@ -69,7 +69,7 @@ returns g c =
     let are : AreBlocks records blocks = subst (AreBlocks records) (sym c.in-Ok.ensures.blocks) c.count_blocks.ensures.blocks in
     let verdict : AreVerdict ws c.first_verdict.result = subst (λ (l : List (Returned WorkerEnd)). AreVerdict l c.first_verdict.result) c.deref.ensures.value c.first_verdict.ensures in
     let well : AreVerdict ws None = subst (AreVerdict ws) c.in_default-first_verdict.is verdict in
-    let all = all_merged p.plan records blocks r.own r.draws ws leader.order.items (lists_of f.drawn) r.drawn.0 are c.count_blocks.ensures.short r.lists r.drawn.1 r.workers well led in
+    let all = all_merged (use_by c.in-Ok-run.finished) p.plan records blocks r.own r.draws ws leader.order.items (lists_of f.drawn) r.drawn.0 are c.count_blocks.ensures.short r.lists r.drawn.1 r.workers well led in
     record {
       accepted = subst (λ (q : Plan). All (IsAccepted q (header_width records)) (drop 1 records)) c.in-Ok.ensures.plan all.accepted;
       order = subst (IsOrder c.args.plan.now records) (sym (c.of.ensures ∙ ap (λ (v : Vec ℕ Global). v.items) c.into_order-list.ensures.0)) (subst (λ (q : Plan). IsOrder q records leader.order.items) c.in-Ok.ensures.plan all.is);

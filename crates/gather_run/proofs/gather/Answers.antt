@@ -1,74 +1,113 @@
-use Rattle.std.proofs.Common.{rules, ◌≡◌, ◌∙◌, List, length, Option, None, Some, map, ap, arith, subst, sym}
-use Rattle.scan_claim.specs.Shown.{blocks_of, draws_of, lists_of}
-use Rattle.partial_agg.specs.Listed.{listed}
+use Rattle.std.proofs.Common.{◌≡◌, ◌≤◌, ◌∙◌, List, length, option_map, None, Some, map, arith, subst, sym}
+use Rattle.dshash_parts.specs.Ending.{whole_of}
+use Rattle.scan_claim.specs.Shown.{blocks_of, lists_of}
+use Rattle.partial_agg.specs.Groups.{GroupsByKey}
 use Rattle.par_model.specs.Plan.{Plan}
-use Rattle.parallel_ctx.specs.Accounts.{heard_of}
+use Rattle.parallel_ctx.specs.Accounts.{heard_of, use_by}
+use Rattle.parallel_ctx.specs.Making.{HasTable}
 use Rattle.parallel_ctx.specs.declared.home.Returned.{Returned}
 use Rattle.worker_run.specs.declared.WorkerEnd.{WorkerEnd}
 use Rattle.gather_law.specs.Tuples.{AreBlocks}
-use Rattle.gather_run.specs.Did.{AreVerdict}
+use Rattle.hash_law.proofs.Gathering.{gathers}
 use Rattle.gather_run.specs.Answers.{AreAllGroups, IsCause, IsFirstCause}
+use Rattle.gather_run.specs.Did.{AreVerdict}
+use Rattle.gather_run.specs.Drained.{AddsAll}
 use Rattle.gather_run.specs.Leading.{HasLed, Led}
 use Rattle.gather_run.specs.Used.{IsUsed}
-use Rattle.gather_run.proofs.Together.{all_gathered, all_used, leader_first, leader_row, worker_first, worker_row}
+use Rattle.gather_run.proofs.Home.{gathered, held, made_where, ran_home, ran_well, same_there, tells}
+use Rattle.gather_run.proofs.Looking.{on_ok}
+use Rattle.gather_run.proofs.Together.{leader_first, leader_row, worker_first, worker_row}
 use Rattle.gather_run.proofs.gather.Goals as goal
 
 pub returns-in-Some-clause-row : goal.returns-in-Some-clause-row
 returns-in-Some-clause-row g c =
     let r = c.in-Ok-run.ensures.ran in
     let p = c.in-Ok.context in
+    let f = c.in-Ok-run.finished in
     let leader = c.run.new.lead in
     subst (λ (q : Plan). IsCause q c.args.rows.now c.in-Some.why) c.in-Ok.ensures.plan
-    (leader_row p.plan c.args.rows.now (blocks_of p.shared.claims) r.own r.draws c.in-Ok-run.finished.workers.items leader.groups leader.failure c.in-Some.why r.workers r.led (sym c.into_groups-groups.ensures.1 ∙ c.in-Some.is))
+    (leader_row (use_by f) p.plan c.args.rows.now (blocks_of p.shared.claims) r.own (use_by f 0) r.draws f.workers.items leader.groups leader.failure c.in-Some.why r.workers r.led (sym c.into_groups-groups.ensures.1 ∙ c.in-Some.is))
 
 pub returns-in-Some-first_verdict-clause-row : goal.returns-in-Some-first_verdict-clause-row
 returns-in-Some-first_verdict-clause-row g c =
     let r = c.in-Ok-run.ensures.ran in
     let p = c.in-Ok.context in
-    let ws = c.in-Ok-run.finished.workers.items in
+    let f = c.in-Ok-run.finished in
+    let ws = f.workers.items in
     subst (λ (q : Plan). IsCause q c.args.rows.now c.in-Some-first_verdict.why) c.in-Ok.ensures.plan
-    (worker_row p.plan c.args.rows.now (blocks_of p.shared.claims) r.draws ws c.in-Some-first_verdict.why r.workers
+    (worker_row (use_by f) p.plan c.args.rows.now (blocks_of p.shared.claims) r.draws ws c.in-Some-first_verdict.why r.workers
     (subst (λ (l : List (Returned WorkerEnd)). AreVerdict l (Some c.in-Some-first_verdict.why)) c.deref.ensures.value c.in-Some-first_verdict.ensures))
+
+pub returns-in-Some-clause-first : goal.returns-in-Some-clause-first
+returns-in-Some-clause-first g c none =
+    let r = c.in-Ok-run.ensures.ran in
+    let p = c.in-Ok.context in
+    let f = c.in-Ok-run.finished in
+    let leader = c.run.new.lead in
+    subst (λ (q : Plan). IsFirstCause q c.args.rows.now c.in-Some.why) c.in-Ok.ensures.plan
+    (leader_first (use_by f) p.plan c.args.rows.now (blocks_of p.shared.claims) r.own (use_by f 0) f.workers.items leader.groups leader.failure c.in-Some.why (r.asked ∙ c.in-Ok.ensures.asked ∙ none) r.led (sym c.into_groups-groups.ensures.1 ∙ c.in-Some.is))
+
+pub returns-in-Some-first_verdict-clause-first : goal.returns-in-Some-first_verdict-clause-first
+returns-in-Some-first_verdict-clause-first g c none =
+    let r = c.in-Ok-run.ensures.ran in
+    let p = c.in-Ok.context in
+    let f = c.in-Ok-run.finished in
+    subst (λ (q : Plan). IsFirstCause q c.args.rows.now c.in-Some-first_verdict.why) c.in-Ok.ensures.plan
+    (worker_first (use_by f) p.plan c.args.rows.now (blocks_of p.shared.claims) f.workers.items c.in-Some-first_verdict.why (r.asked ∙ c.in-Ok.ensures.asked ∙ none)
+    (subst (λ (l : List (Returned WorkerEnd)). AreVerdict l (Some c.in-Some-first_verdict.why)) c.deref.ensures.value c.in-Some-first_verdict.ensures))
+
+pub add_table-requires-clause-part : goal.add_table-requires-clause-part
+add_table-requires-clause-part g c = (ran_home _ _ c.in-Ok.context c.in-Ok-run.finished c.run.new.lead c.in-Ok-run.ensures.ran).2
+
+pub add_table-requires-clause-whole : goal.add_table-requires-clause-whole
+add_table-requires-clause-whole g c = (ran_home _ _ c.in-Ok.context c.in-Ok-run.finished c.run.new.lead c.in-Ok-run.ensures.ran).1
+
+pub add_table-requires-clause-held : goal.add_table-requires-clause-held
+add_table-requires-clause-held g c =
+    let r = c.in-Ok-run.ensures.ran in
+    let p = c.in-Ok.context in
+    let leader = c.run.new.lead in
+    let f = c.in-Ok-run.finished in
+    let ws = f.workers.items in
+    let records = c.args.rows.now in
+    let blocks = blocks_of p.shared.claims in
+    let never : leader.failure ≡ None = sym c.into_groups-groups.ensures.1 ∙ c.in_default-failure.is in
+    let led : HasLed p.plan records blocks r.own (use_by f 0) (map heard_of ws) leader.groups = subst (Led p.plan records blocks r.own (use_by f 0) (map heard_of ws) leader.groups) never r.led in
+    let are : AreBlocks records blocks = subst (AreBlocks records) (sym c.in-Ok.ensures.blocks) c.count_blocks.ensures.blocks in
+    let verdict : AreVerdict ws c.first_verdict.result = subst (λ (l : List (Returned WorkerEnd)). AreVerdict l c.first_verdict.result) c.deref.ensures.value c.first_verdict.ensures in
+    let well : AreVerdict ws None = subst (AreVerdict ws) c.in_default-first_verdict.is verdict in
+    let asked : length ws ≡ c.args.workers = r.asked ∙ c.in-Ok.ensures.asked in
+    let items : length p.plan.items ≤ 8 = subst (λ (q : Plan). length q.items ≤ 8) (sym c.in-Ok.ensures.plan) c.has_few_items.ensures in
+    let went = ran_well _ p f leader records leader.groups r led are c.count_blocks.ensures.short (omega (arith, asked, c.requires.workers)) items well in
+    held (λ t. whole_of t) f.areas.items p.plan records blocks r.drawn.0 (lists_of f.drawn) r.own r.draws ws leader.groups f.table went
 
 pub returns-clause-groups : goal.returns-clause-groups
 returns-clause-groups g c =
     let r = c.in-Ok-run.ensures.ran in
     let p = c.in-Ok.context in
     let leader = c.run.new.lead in
-    let ws = c.in-Ok-run.finished.workers.items in
+    let f = c.in-Ok-run.finished in
+    let ws = f.workers.items in
     let records = c.args.rows.now in
     let blocks = blocks_of p.shared.claims in
     let never : leader.failure ≡ None = sym c.into_groups-groups.ensures.1 ∙ c.in_default-failure.is in
-    let led : HasLed p.plan records blocks r.own (map heard_of ws) leader.groups = subst (Led p.plan records blocks r.own (map heard_of ws) leader.groups) never r.led in
+    let led : HasLed p.plan records blocks r.own (use_by f 0) (map heard_of ws) leader.groups = subst (Led p.plan records blocks r.own (use_by f 0) (map heard_of ws) leader.groups) never r.led in
     let are : AreBlocks records blocks = subst (AreBlocks records) (sym c.in-Ok.ensures.blocks) c.count_blocks.ensures.blocks in
     let verdict : AreVerdict ws c.first_verdict.result = subst (λ (l : List (Returned WorkerEnd)). AreVerdict l c.first_verdict.result) c.deref.ensures.value c.first_verdict.ensures in
     let well : AreVerdict ws None = subst (AreVerdict ws) c.in_default-first_verdict.is verdict in
-    let all = all_gathered p.plan records blocks r.own r.draws ws leader.groups (lists_of c.in-Ok-run.finished.drawn) r.drawn.0 are c.count_blocks.ensures.short r.lists r.drawn.1 r.workers well led in
+    let asked : length ws ≡ c.args.workers = r.asked ∙ c.in-Ok.ensures.asked in
+    let items : length p.plan.items ≤ 8 = subst (λ (q : Plan). length q.items ≤ 8) (sym c.in-Ok.ensures.plan) c.has_few_items.ensures in
+    let went = ran_well _ p f leader records leader.groups r led are c.count_blocks.ensures.short (omega (arith, asked, c.requires.workers)) items well in
+    let here = on_ok c.add_table.result (AddsAll (option_map (λ t. whole_of t) f.table) c.into_groups-groups.result.0 c.add_table.new.groups) (sym c.if-is_err.ensures.value) c.add_table.ensures.added in
+    let added = subst (λ (m : GroupsByKey). AddsAll (option_map (λ t. whole_of t) f.table) m c.add_table.new.groups) c.into_groups-groups.ensures.0 here in
+    let all = gathered (λ t. whole_of t) f.areas.items p.plan records blocks r.drawn.0 (lists_of f.drawn) r.own r.draws ws leader.groups gathers f.table went c.add_table.new.groups added in
     subst (λ (q : Plan). AreAllGroups q records c.into_groups.result) c.in-Ok.ensures.plan
     (record {
       accepted = all.0;
-      whole = leader.groups;
+      whole = c.add_table.new.groups;
       are = all.1;
-      in_order = c.into_groups.ensures ∙ ap listed c.into_groups-groups.ensures.0;
+      in_order = c.into_groups.ensures;
     })
-
-pub returns-in-Some-clause-first : goal.returns-in-Some-clause-first
-returns-in-Some-clause-first g c none =
-    let r = c.in-Ok-run.ensures.ran in
-    let p = c.in-Ok.context in
-    let leader = c.run.new.lead in
-    let ws = c.in-Ok-run.finished.workers.items in
-    subst (λ (q : Plan). IsFirstCause q c.args.rows.now c.in-Some.why) c.in-Ok.ensures.plan
-    (leader_first p.plan c.args.rows.now (blocks_of p.shared.claims) r.own ws leader.groups leader.failure c.in-Some.why (r.asked ∙ c.in-Ok.ensures.asked ∙ none) r.led (sym c.into_groups-groups.ensures.1 ∙ c.in-Some.is))
-
-pub returns-in-Some-first_verdict-clause-first : goal.returns-in-Some-first_verdict-clause-first
-returns-in-Some-first_verdict-clause-first g c none =
-    let r = c.in-Ok-run.ensures.ran in
-    let p = c.in-Ok.context in
-    let ws = c.in-Ok-run.finished.workers.items in
-    subst (λ (q : Plan). IsFirstCause q c.args.rows.now c.in-Some-first_verdict.why) c.in-Ok.ensures.plan
-    (worker_first p.plan c.args.rows.now (blocks_of p.shared.claims) ws c.in-Some-first_verdict.why (r.asked ∙ c.in-Ok.ensures.asked ∙ none)
-    (subst (λ (l : List (Returned WorkerEnd)). AreVerdict l (Some c.in-Some-first_verdict.why)) c.deref.ensures.value c.in-Some-first_verdict.ensures))
 
 pub returns-clause-used : goal.returns-clause-used
 returns-clause-used g c =
@@ -80,11 +119,29 @@ returns-clause-used g c =
     let records = c.args.rows.now in
     let blocks = blocks_of p.shared.claims in
     let never : leader.failure ≡ None = sym c.into_groups-groups.ensures.1 ∙ c.in_default-failure.is in
-    let led : HasLed p.plan records blocks r.own (map heard_of ws) leader.groups = subst (Led p.plan records blocks r.own (map heard_of ws) leader.groups) never r.led in
+    let led : HasLed p.plan records blocks r.own (use_by f 0) (map heard_of ws) leader.groups = subst (Led p.plan records blocks r.own (use_by f 0) (map heard_of ws) leader.groups) never r.led in
     let are : AreBlocks records blocks = subst (AreBlocks records) (sym c.in-Ok.ensures.blocks) c.count_blocks.ensures.blocks in
     let verdict : AreVerdict ws c.first_verdict.result = subst (λ (l : List (Returned WorkerEnd)). AreVerdict l c.first_verdict.result) c.deref.ensures.value c.first_verdict.ensures in
     let well : AreVerdict ws None = subst (AreVerdict ws) c.in_default-first_verdict.is verdict in
     let asked : length ws ≡ c.args.workers = r.asked ∙ c.in-Ok.ensures.asked in
-    let all = all_used p.plan records blocks r.own r.draws ws leader.groups (lists_of f.drawn) r.drawn.0 are c.count_blocks.ensures.short (omega (arith, asked, c.requires.workers)) r.lists r.drawn.1 r.workers well led in
-    subst (λ (q : Plan). IsUsed q records c.args.workers f) c.in-Ok.ensures.plan
-    (record { asked = asked; numbers = r.numbers; ended = well; launched = r.launched; own = r.own; draws = r.draws; lists = r.lists; drawn = all.0; sent = all.1 })
+    let items : length p.plan.items ≤ 8 = subst (λ (q : Plan). length q.items ≤ 8) (sym c.in-Ok.ensures.plan) c.has_few_items.ensures in
+    let went = ran_well _ p f leader records leader.groups r led are c.count_blocks.ensures.short (omega (arith, asked, c.requires.workers)) items well in
+    let same = c.add_table.ensures.history in
+    let t = tells (λ t. whole_of t) f.areas.items p.plan records blocks r.drawn.0 (lists_of f.drawn) r.own r.draws ws leader.groups f.table c.add_table.new.table went same in
+    let home = ran_home _ _ p f leader r in
+    let made = subst (λ (q : Plan). HasTable q c.args.area_pages p.shared.hash) (sym c.in-Ok.ensures.plan) c.in-Ok.ensures.hash in
+    subst (λ (q : Plan). IsUsed q records c.args.workers c.args.area_pages (record f { table = c.add_table.new.table })) c.in-Ok.ensures.plan
+    (record {
+      asked = asked;
+      numbers = r.numbers;
+      ended = well;
+      launched = r.launched;
+      own = r.own;
+      draws = r.draws;
+      lists = r.lists;
+      drawn = t.drawn;
+      table = same_there (λ t. whole_of t) f.table c.add_table.new.table same ∙ home.0 ∙ made_where p.plan c.args.area_pages p.shared.hash made;
+      shared_own = t.shared_own;
+      shared = t.shared;
+      sent = t.sent;
+    })

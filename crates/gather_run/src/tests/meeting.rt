@@ -59,7 +59,7 @@ impl Gate for Meeting {
 fn all_are_at_work_at_once(rt: HostRuntime) -> Result<(), Fail> {
     let text = table(rt.alloc(), 768, 1, 0)?;
     let gate = Meeting::of(3);
-    let launched = even_groups(&rt, rt.alloc(), &text, 1, 768, 2, &gate)?;
+    let launched = even_groups(&rt, rt.alloc(), &text, 1, 768, 2, 0, &gate)?;
     assert!(rt; !gate.late.load(Ordering::SeqCst));
     assert_eq!(rt; gate.count.load(Ordering::SeqCst), 3);
     assert_eq!(rt; launched, 2);
@@ -71,7 +71,7 @@ fn all_are_at_work_at_once(rt: HostRuntime) -> Result<(), Fail> {
 fn all_send_at_once(rt: HostRuntime) -> Result<(), Fail> {
     let text = wide_table(rt.alloc(), 12_000, 3_000, 0)?;
     let gate = Meeting::of(4);
-    let launched = even_groups(&rt, rt.alloc(), &text, 3_000, 4, 3, &gate)?;
+    let launched = even_groups(&rt, rt.alloc(), &text, 3_000, 4, 3, 0, &gate)?;
     assert!(rt; !gate.late.load(Ordering::SeqCst));
     assert_eq!(rt; gate.count.load(Ordering::SeqCst), 4);
     assert_eq!(rt; launched, 3);

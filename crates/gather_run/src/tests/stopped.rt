@@ -67,7 +67,7 @@ fn leave_first(r: &Region, queues: &mut [LeaderEnds])
 impl<'a> Lead for Leaver<'a> {
     ghost asks = { λ leaver plan blocks. Unit {0} };
 
-    ghost led = { λ leaver plan blocks draws heard new. Unit {0} };
+    ghost led = { λ leaver plan blocks draws used heard new. Unit {0} };
 
     fn lead<R: Wait + Sync>(
         &mut self,
@@ -84,7 +84,7 @@ impl<'a> Lead for Leaver<'a> {
 #[test]
 fn a_worker_is_stopped(rt: HostRuntime) -> Result<(), Fail> {
     let text = table(rt.alloc(), 3, 2, 0)?;
-    let (rows, plan) = query(rt.alloc(), &text)?;
+    let (rows, plan) = query(rt.alloc(), &text, false)?;
     let gate = Barred {
         open: AtomicBool::new(false),
     };
@@ -94,7 +94,7 @@ fn a_worker_is_stopped(rt: HostRuntime) -> Result<(), Fail> {
         gate: &gate,
     };
     let mut leaver = Leaver { gate: &gate };
-    let context = Context::build(rt.alloc(), &plan, 1, count_blocks(&rows))?;
+    let context = Context::build(&rt, rt.alloc(), &plan, 1, 0, count_blocks(&rows))?;
     let finished = context.run(&rt, rt.alloc(), &team, &mut leaver)?;
     assert_eq!(rt; finished.launched, 1);
     assert!(rt; finished.workers[0].end == Some(WorkerEnd::Stopped));

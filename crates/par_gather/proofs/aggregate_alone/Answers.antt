@@ -1,7 +1,7 @@
 use Rattle.std.proofs.Common.{◌≡◌, ◌∙◌, ℕ, ap, arith, inl, inr, subst, sym}
 use Rattle.std.proofs.lemmas.Option.{IfSome_then}
 use Rattle.par_gather.proofs.Statuses.{line_first, line_outcome}
-use Rattle.par_gather.proofs.Strays.{join_no_plan, merge_no_plan}
+use Rattle.par_gather.proofs.Strays.{gen_no_plan, join_no_plan, merge_no_plan}
 use Rattle.par_gather.specs.Answers.{plan_of}
 use Rattle.query_answer.specs.Lines.{IsSaid, line}
 use Rattle.query_answer.specs.Words.{texts}
@@ -45,3 +45,9 @@ returns-in-Ok-clause-no_join g c = join_no_plan (texts c.args.words.now)
 
 pub returns-in-Err-clause-no_join : goal.returns-in-Err-clause-no_join
 returns-in-Err-clause-no_join g c = join_no_plan (texts c.args.words.now)
+
+pub returns-in-Ok-clause-no_gen : goal.returns-in-Ok-clause-no_gen
+returns-in-Ok-clause-no_gen g c = gen_no_plan (texts c.args.words.now)
+
+pub returns-in-Err-clause-no_gen : goal.returns-in-Err-clause-no_gen
+returns-in-Err-clause-no_gen g c = gen_no_plan (texts c.args.words.now)

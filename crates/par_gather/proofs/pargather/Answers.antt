@@ -1,13 +1,15 @@
-use Rattle.std.proofs.Common.{◌≡◌, ◌∙◌, ℕ, ap, arith, inl, inr, subst, sym}
+use Rattle.std.proofs.Common.{◌≡◌, ◌∙◌, Contains, List, ℕ, ap, arith, inl, inr, subst, sym}
 use Rattle.std.proofs.lemmas.Option.{IfSome_then}
-use Rattle.par_gather.proofs.Statuses.{line_first, line_outcome}
+use Rattle.par_gather.proofs.Statuses.{complete_told, gen_says, is_gen_status, is_status, line_first, line_outcome, outcome_told}
 use Rattle.par_gather.specs.Answers.{plan_of}
-use Rattle.query_answer.specs.Lines.{IsSaid, line}
+use Rattle.query_answer.specs.Lines.{IsSaid, line, statuses}
+use Rattle.gen_query.specs.declared.GenAnswer.{GenAnswer}
 use Rattle.query_answer.specs.Words.{texts}
 use Rattle.par_gather.specs.Forms.{usage_in}
+use Rattle.par_gather.specs.Generated.{gen_statuses, gen_text}
 use Rattle.par_gather.specs.Lines.{IsLine}
 use Rattle.par_gather.specs.Ordered.{merge_plan_of}
-use Rattle.par_gather.specs.Stops.{stop_status, stop_text}
+use Rattle.par_gather.specs.Stops.{stop_of_gen, stop_status, stop_text}
 use Rattle.par_gather.specs.declared.form.Form.TheVariants as form
 use Rattle.par_gather.specs.declared.stop.Stop.{Stop}
 use Rattle.par_gather.specs.declared.stop.Stop.TheVariants as stop
@@ -66,3 +68,47 @@ returns-in-Err-answer_merged-clause-merge_usage g c = λ is none misused.
           let five : stop_status c.in-Err-answer_merged.stop ≡ 5 = ap stop_status why in
           absurd (omega (arith, two, five))
     ]
+
+pub returns-in-Err-clause-outcome : goal.returns-in-Err-clause-outcome
+returns-in-Err-clause-outcome g c = λ _.
+    outcome_told (plan_of (texts c.args.words.now)) (g.S.Source.left c.args.source.now) c.in-Err.stop c.end.result c.in-Err.ensures.why c.end.ensures.status
+
+pub returns-in-Err-clause-complete : goal.returns-in-Err-clause-complete
+returns-in-Err-clause-complete g c = λ _ reads writes.
+    complete_told (plan_of (texts c.args.words.now)) (g.S.Source.left c.args.source.now) c.in-Err.stop c.end.result c.in-Err.ensures.why c.end.ensures.status
+    (λ e. reads (c.in-Err.ensures.read_fault e)) (λ e. writes (c.in-Err.ensures.write_fault e))
+
+pub returns-in-Err-answer_merged-clause-statuses : goal.returns-in-Err-answer_merged-clause-statuses
+returns-in-Err-answer_merged-clause-statuses g c = subst (Contains statuses) (sym c.end-in-Err-answer_merged.ensures.status) (is_status c.in-Err-answer_merged.stop)
+
+pub returns-in-Err-answer_merged-clause-merge_outcome : goal.returns-in-Err-answer_merged-clause-merge_outcome
+returns-in-Err-answer_merged-clause-merge_outcome g c = λ _.
+    outcome_told (merge_plan_of (texts c.args.words.now)) (g.S.Source.left c.args.source.now) c.in-Err-answer_merged.stop c.end-in-Err-answer_merged.result c.in-Err-answer_merged.ensures.why
+    c.end-in-Err-answer_merged.ensures.status
+
+pub returns-in-Err-answer_merged-clause-merge_complete : goal.returns-in-Err-answer_merged-clause-merge_complete
+returns-in-Err-answer_merged-clause-merge_complete g c = λ _ reads writes.
+    complete_told (merge_plan_of (texts c.args.words.now)) (g.S.Source.left c.args.source.now) c.in-Err-answer_merged.stop c.end-in-Err-answer_merged.result c.in-Err-answer_merged.ensures.why
+    c.end-in-Err-answer_merged.ensures.status (λ e. reads (c.in-Err-answer_merged.ensures.read_fault e)) (λ e. writes (c.in-Err-answer_merged.ensures.write_fault e))
+
+pub returns-in-Err-answer_generated-clause-statuses : goal.returns-in-Err-answer_generated-clause-statuses
+returns-in-Err-answer_generated-clause-statuses g c = subst (Contains statuses) (sym c.end-in-Err-answer_generated.ensures.status) (is_status c.from.result)
+
+pub returns-in-Err-answer_generated-clause-nothing : goal.returns-in-Err-answer_generated-clause-nothing
+returns-in-Err-answer_generated-clause-nothing g c = λ _ writes.
+    let status : c.end-in-Err-answer_generated.result ≡ stop_status (stop_of_gen c.in-Err-answer_generated.why) = c.end-in-Err-answer_generated.ensures.status ∙ ap stop_status c.from.ensures in
+    c.in-Err-answer_generated.ensures.nothing (λ e. writes (status ∙ ap (λ (w : GenAnswer). stop_status (stop_of_gen w)) e))
+
+pub returns-in-Err-answer_generated-clause-gen_statuses : goal.returns-in-Err-answer_generated-clause-gen_statuses
+returns-in-Err-answer_generated-clause-gen_statuses g c = λ _.
+    let status : c.end-in-Err-answer_generated.result ≡ stop_status (stop_of_gen c.in-Err-answer_generated.why) = c.end-in-Err-answer_generated.ensures.status ∙ ap stop_status c.from.ensures in
+    subst (Contains gen_statuses) (sym status) (is_gen_status c.in-Err-answer_generated.why)
+
+pub returns-in-Err-answer_generated-clause-gen_line : goal.returns-in-Err-answer_generated-clause-gen_line
+returns-in-Err-answer_generated-clause-gen_line g c = λ _ _.
+    let status : c.end-in-Err-answer_generated.result ≡ stop_status (stop_of_gen c.in-Err-answer_generated.why) = c.end-in-Err-answer_generated.ensures.status ∙ ap stop_status c.from.ensures in
+    let same : stop_text form.Gen c.from.result ≡ gen_text c.end-in-Err-answer_generated.result = ap (stop_text form.Gen) c.from.ensures ∙ sym (gen_says c.in-Err-answer_generated.why) ∙ sym (ap gen_text status) in
+    let old = c.args.err.now in
+    let new = c.end-in-Err-answer_generated.new.err in
+    let Said : List ℕ → Type 0 = λ text. IsSaid (g.E.Sink.taken old) (g.E.Sink.taken new) (g.E.Sink.faults old) (g.E.Sink.faults new) (line text) in
+    subst Said same c.end-in-Err-answer_generated.ensures.said

@@ -11,4 +11,4 @@ pub returns-clause-place : goal.returns-clause-place
 returns-clause-place c =
     let cmp = row_cmp c.args.plan.now c.args.rows.now in
     IsPartitionPoint-from_clause (λ (h : Head). is_gt (cmp h.row c.args.row)) c.args.heads.now c.partition_point.result c.partition_point.ensures.partitioned
-    (falling_parts cmp (rows_total c.args.plan.now c.args.rows.now) c.args.heads.now c.args.row c.requires) (λ a r f' k. search rules)
+    (falling_parts cmp (rows_total c.args.plan.now c.args.rows.now) c.args.heads.now c.args.row c.requires.falling) (λ a r f' k. search rules)

@@ -15,4 +15,4 @@ returns-in-Ok-clause-falling c =
     let put : c.insert.new.self.items ≡ put_at heads at c.args.head = search rules in
     let place : IsPlace plan records heads c.args.head.row at = subst (λ (l : List Head). IsPlace plan records l c.args.head.row at) c.deref.ensures.value c.place_of-at.ensures.place in
     let within : at ≤ length heads = subst (λ (l : List Head). at ≤ length l) c.deref.ensures.value c.place_of-at.ensures.within in
-    subst (AreFalling plan records) (sym put) (falling_put (row_cmp plan records) (rows_total plan records) heads at c.args.head c.requires place.0 place.1 within)
+    subst (AreFalling plan records) (sym put) (falling_put (row_cmp plan records) (rows_total plan records) heads at c.args.head c.requires.falling place.0 place.1 within)

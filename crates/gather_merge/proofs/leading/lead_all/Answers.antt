@@ -4,7 +4,7 @@ use Rattle.parallel_ctx.proofs.Queues.{all-same}
 use Rattle.scan_claim.specs.Shown.{blocks_of, draws_of}
 use Rattle.gather_merge.specs.Drawn.{HasDrawnAll}
 use Rattle.gather_merge.proofs.Drawn.{drawn_none}
-use Rattle.gather_merge.proofs.Led.{led_merged, led_met, none_given, stream_drawn}
+use Rattle.gather_merge.proofs.Led.{led_alone, led_merged, led_met, none_given, stream_drawn}
 use Rattle.gather_merge.proofs.leading.lead_all.Goals as goal
 
 pub draw_all-requires-clause-drawn : goal.draw_all-requires-clause-drawn
@@ -26,6 +26,9 @@ returns-clause-led g c =
     let plan = c.args.plan.now in
     let records = c.args.rows.now in
     let d : HasDrawnAll plan records c.args.claims.now c.draw_all.new.claim c.draw_all.new.list.items = c.in_default.ensures.drawn in
-    let stream = stream_drawn plan records c.args.claims.now c.draw_all.new.claim c.draw_all.new.list.items c.sort_rows.new.list.items d c.sort_rows.ensures.permutation c.sort_rows.ensures.sorted in
+    let stream = stream_drawn plan records c.args.claims.now c.draw_all.new.claim c.draw_all.new.list.items c.sort_rows.new.list.items d c.in-Ok.ensures.permutation c.in-Ok.ensures.sorted in
     led_merged plan records (blocks_of c.args.claims.now) (draws_of c.draw_all.new.claim) c.sort_rows.new.list.items c.merge_all.new.own c.merge_all.new.queues c.merge_all.new.order.items c.merge_all.result
     (ap (λ (v : Vec ℕ Global). v.items) c.merge_all.ensures.list) stream d.spent c.merge_all.ensures.drained
+
+pub returns-in_default-sort_rows-clause-same : goal.returns-in_default-sort_rows-clause-same
+returns-in_default-sort_rows-clause-same g c = all-same c.args.queues.now

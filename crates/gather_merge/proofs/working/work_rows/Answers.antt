@@ -1,4 +1,6 @@
-use Rattle.std.proofs.Common.{rules, List, ℕ, subst}
+use Rattle.std.proofs.Common.{rules, List, ℕ, refl, subst}
+use Rattle.partial_agg.specs.declared.map.BlockAnswer.TheVariants.{Memory}
+use Rattle.worker_run.specs.declared.WorkerEnd.TheVariants.{NoMemory}
 use Rattle.worker_run.proofs.Working.{fresh_ready, fresh_silent}
 use Rattle.gather_merge.specs.Ended.{Finishes}
 use Rattle.gather_merge.proofs.Drawn.{drawn_none}
@@ -31,5 +33,13 @@ returns-clause-ended g c =
     let e = c.args.errors.now.end in
     let t = c.args.tuples.now.end in
     has_finished plan records c.args.claims.now c.draw_all.new.claim c.draw_all.new.list.items c.sort_rows.new.list.items e t c.finish.new.errors.end c.finish.new.tuples.end c.finish.result c.in_default.ensures.drawn
-    c.sort_rows.ensures.permutation c.sort_rows.ensures.sorted (fresh_silent plan records 14 e c.requires.errors_fresh) (fresh_silent plan records 8 t c.requires.tuples_fresh)
+    c.in-Ok.ensures.permutation c.in-Ok.ensures.sorted (fresh_silent plan records 14 e c.requires.errors_fresh) (fresh_silent plan records 8 t c.requires.tuples_fresh)
     (subst (λ (rows : List ℕ). Finishes rows e t c.finish.new.errors.end c.finish.new.tuples.end c.finish.result) c.deref.ensures.value c.finish.ensures.end)
+
+pub returns-in_default-sort_rows-clause-ended : goal.returns-in_default-sort_rows-clause-ended
+returns-in_default-sort_rows-clause-ended g c =
+    let plan = c.args.plan.now in
+    let records = c.args.rows.now in
+    let e = c.args.errors.now.end in
+    has_given_up plan records c.args.claims.now c.draw_all.new.claim e c.args.tuples.now.end e Memory NoMemory tt
+    (fresh_silent plan records 14 e c.requires.errors_fresh) (fresh_silent plan records 8 c.args.tuples.now.end c.requires.tuples_fresh) (refl, refl)

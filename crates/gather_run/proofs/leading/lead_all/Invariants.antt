@@ -1,9 +1,12 @@
-use Rattle.std.proofs.Common.{◌≡◌, ℕ, List, map}
+use Rattle.std.proofs.Common.{◌≡◌, map}
+use Rattle.std.specs.FinMap as fin
 use Rattle.std.specs.List.{All, AllZip}
+use Rattle.agg_table.specs.Tokens.{StaysSeated, use_in}
 use Rattle.parallel_ctx.specs.Tokens.{SameQueues}
 use Rattle.scan_claim.specs.Shown.{Belongs, draws_of, number_of}
 use Rattle.gather_run.specs.Leading.{DrawsInOrder, IsLeading}
 use Rattle.gather_run.specs.Looks.{IsOpen, tuples_of}
+use Rattle.gather_run.specs.Sharing.{IsSeated}
 use Rattle.gather_run.proofs.leading.lead_all.Given as goal
 
 abbrev pub invariant-loop : goal.invariant-loop
@@ -13,7 +16,10 @@ invariant-loop g l = record {
   seat : Belongs l.claims l.claim;
   in_order : DrawsInOrder l.claims l.claim;
   number : number_of l.claim ≡ number_of l.initial.claim;
+  hash : IsSeated l.r l.part l.seat;
+  stays : StaysSeated l.part l.initial.seat l.seat;
+  empty : l.block_groups ≡ fin.empty;
   open_are : All (IsOpen l.r) l.queues;
   same : AllZip SameQueues l.initial.queues l.queues;
-  leading : IsLeading l.plan l.rows (draws_of l.claim) (map tuples_of l.queues) l.groups;
+  leading : IsLeading l.plan l.rows (draws_of l.claim) (use_in l.seat) (map tuples_of l.queues) l.groups;
 }

@@ -1,17 +1,17 @@
-use Rattle.std.proofs.Common.{rules, ◌≡◌, ◌<◌, ◌∙◌, sym, ap, subst, refl, length, get_or, arith, map, Any, List, ℕ, true, false}
+use Rattle.std.proofs.Common.{◌≡◌, ◌<◌, ◌∙◌, sym, length, get_or, arith, Any, true, false}
 use Rattle.std.proofs.lemmas.List.Quantifiers.{any-set}
-use Rattle.std.proofs.lemmas.List.Elements.{All-get_or, All-set, AllWithin-more_set, AllWithin-none}
+use Rattle.std.proofs.lemmas.List.Elements.{All-set, AllWithin-more_set, AllWithin-none}
 use Rattle.mq_handle.specs.Messages.{whole_of}
 use Rattle.parallel_ctx.proofs.Queues.{all-same, same-put}
 use Rattle.parallel_ctx.specs.declared.tokens.LeaderEnds.{LeaderEnds}
-use Rattle.gather_run.specs.Looks.{IsOpen, IsOverQueue, OverSoFar, Takes}
+use Rattle.gather_run.specs.Looks.{IsOpen, IsOverQueue, Takes}
 use Rattle.gather_run.specs.Reading.{ReadsRow}
 use Rattle.gather_run.proofs.Looking.{leading_after}
 use Rattle.gather_run.proofs.messages.hear_all.Goals as goal
 use Rattle.gather_run.proofs.messages.hear_all.Goals.{in-Ended, in-Quiet}
 
 pub loop-at-init : goal.loop-at-init
-loop-at-init g c = record { open_are = c.requires; same = all-same c.args.queues.now; over = record { each = λ e. AllWithin-none IsOverQueue c.args.queues.now 0 }; leading = λ p r d l. l }
+loop-at-init g c = record { open_are = c.requires; same = all-same c.args.queues.now; over = record { each = λ e. AllWithin-none IsOverQueue c.args.queues.now 0 }; leading = λ p r d u l. l }
 
 pub returns-in-NoRoom-clause-same : goal.returns-in-NoRoom-clause-same
 returns-in-NoRoom-clause-same g c =
@@ -42,5 +42,5 @@ loop-at-preserved g c =
         | in-Ended w ↦ record { each = λ e. AllWithin-more_set qs k q within IsOverQueue (c.loop-at.invariant.over.each (sym w.over-is ∙ e)) w.in-Ended.ensures.heard.1 }
         | in-Quiet w ↦ record { each = λ e. let no : false ≡ true = sym w.over-is ∙ e in cc }
       ];
-      leading = λ plan records draws l. leading_after qs k one q c.loop-at.groups c.hear.new.groups within takes plan records draws (c.loop-at.invariant.leading plan records draws l);
+      leading = λ plan records draws used l. leading_after qs k one q c.loop-at.groups c.hear.new.groups within takes plan records draws used (c.loop-at.invariant.leading plan records draws used l);
     }

@@ -1,10 +1,9 @@
-use Rattle.std.proofs.Common.{rules, ◌≡◌, ◌∙◌, refl}
 use Rattle.parallel_ctx.proofs.Queues.{all-same}
 use Rattle.gather_run.proofs.Looking.{all-trans}
 use Rattle.gather_run.proofs.messages.hear_out.Goals as goal
 
 pub loop-init : goal.loop-init
-loop-init g c = record { can_next = tt; finite = tt; open_are = c.requires; same = all-same c.args.queues.now; leading = λ p r d l. l }
+loop-init g c = record { can_next = tt; finite = tt; open_are = c.requires; same = all-same c.args.queues.now; leading = λ p r d u l. l }
 
 pub loop-preserved : goal.loop-preserved
 loop-preserved g c = record {
@@ -12,7 +11,7 @@ loop-preserved g c = record {
   finite = tt;
   open_are = c.hear_all.ensures.«open»;
   same = all-trans c.args.queues.now c.loop.queues c.hear_all.new.queues c.loop.invariant.same c.hear_all.ensures.same;
-  leading = λ p r d l. c.in-Quiet.ensures.heard p r d (c.loop.invariant.leading p r d l);
+  leading = λ p r d u l. c.in-Quiet.ensures.heard p r d u (c.loop.invariant.leading p r d u l);
 }
 
 pub returns-in-Ended-clause-same : goal.returns-in-Ended-clause-same

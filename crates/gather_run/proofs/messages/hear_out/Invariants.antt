@@ -1,10 +1,6 @@
-use Rattle.std.proofs.Common.{◌≡◌, ℕ, List, map}
 use Rattle.std.specs.List.{All, AllZip}
-use Rattle.par_model.specs.Plan.{Plan}
-use Rattle.gather_law.specs.Tuples.{Table}
 use Rattle.parallel_ctx.specs.Tokens.{SameQueues}
-use Rattle.gather_run.specs.Leading.{IsLeading}
-use Rattle.gather_run.specs.Looks.{IsOpen, tuples_of}
+use Rattle.gather_run.specs.Looks.{IsOpen, StaysLeading}
 use Rattle.gather_run.proofs.messages.hear_out.Given as goal
 
 abbrev pub invariant-loop : goal.invariant-loop
@@ -13,5 +9,5 @@ invariant-loop g l = record {
   finite : (goal.iterator-loop g).is_finite l.iterator';
   open_are : All (IsOpen l.r) l.queues;
   same : AllZip SameQueues l.initial.queues l.queues;
-  leading : (plan : Plan) (records : Table) (draws : List ℕ) → IsLeading plan records draws (map tuples_of l.initial.queues) l.initial.groups → IsLeading plan records draws (map tuples_of l.queues) l.groups;
+  leading : StaysLeading l.initial.queues l.queues l.initial.groups l.groups;
 }

@@ -1,4 +1,4 @@
-use Rattle.std.proofs.Common.{rules, ◌≡◌, ◌∙◌, sym, ap, subst, Any, List, ℕ}
+use Rattle.std.proofs.Common.{◌∙◌, sym, subst, Any, List, ℕ}
 use Rattle.mq_handle.specs.Messages.{whole_of}
 use Rattle.gather_run.specs.Reading.{ReadsRow}
 use Rattle.std.proofs.lemmas.List.Quantifiers.{Any-push}

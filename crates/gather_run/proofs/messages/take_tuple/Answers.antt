@@ -1,4 +1,4 @@
-use Rattle.std.proofs.Common.{rules, ◌≡◌, ◌∙◌, sym, ap, subst}
+use Rattle.std.proofs.Common.{rules, ◌≡◌, ◌∙◌, sym}
 use Rattle.partial_agg.specs.Groups.{added}
 use Rattle.gather_run.proofs.Looking.{ok_inj, on_ok, over_is, takes_none, takes_one}
 use Rattle.gather_run.proofs.messages.take_tuple.Goals as goal

@@ -1,4 +1,4 @@
-use Rattle.std.proofs.Common.{rules, ◌≡◌, ◌∙◌, sym, ap, subst, refl}
+use Rattle.std.proofs.Common.{◌∙◌, refl}
 use Rattle.gather_run.proofs.Looking.{takes_more, takes_none}
 use Rattle.gather_run.proofs.messages.take_tuples.Goals as goal
 

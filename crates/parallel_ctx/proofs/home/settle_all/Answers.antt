@@ -1,7 +1,8 @@
 use Rattle.std.proofs.Common.{◌≡◌, ◌∷◌, length, map, rules, arith, ap, ◌∙◌}
 use Rattle.std.proofs.lemmas.List.{map-append}
 use Rattle.std.specs.Vec.Iter.{into_iter_items}
-use Rattle.parallel_ctx.specs.Returns.{CanSettle, IsReturned, claim_of}
+use Rattle.parallel_ctx.specs.Returns.{CanSettle, IsReturned, claim_of, hash_of}
+use Rattle.parallel_ctx.proofs.Passes.{all_there, more_there}
 use Rattle.parallel_ctx.specs.Accounts.{heard, heard_of}
 use Rattle.parallel_ctx.proofs.Zips.{completes-end, completes-next, images-next, images-end, AllZip-length, AllZip-none, AllZip-rest}
 use Rattle.parallel_ctx.proofs.home.settle_all.Goals as goal
@@ -20,10 +21,12 @@ loop-back-preserved g c =
       ready = both.1;
       room = search rules;
       claims_room = search rules;
+      hashes_room = search rules;
       so_far = completes-next IsReturned _ back c.settle-worker.result.worker left left' _ _ one c.push_reserved.ensures.items e.is was.so_far;
       heard =
           images-next heard _ _ _ (heard_of c.settle-worker.result.worker) receiver rest rest'
           (ap (map heard_of) c.push_reserved.ensures.items ∙ map-append _ _ _) other e.heard was.heard;
+      hashes = more_there hash_of _ _ _ c.settle-worker.result.hash back left left' c.keep_seat.ensures.kept e.hash one was.hashes;
       claims =
           images-next claim_of _ _ _ c.settle-worker.result.claim back left left' c.push_reserved-in-loop-back.ensures.items one e.claim was.claims;
     }
@@ -42,6 +45,12 @@ returns-clause-claims g c =
     let left = into_iter_items c.loop-back.back-iterator in
     let none : length left ≡ 0 = search rules in
     images-end claim_of _ _ left none c.loop-back.invariant.claims
+
+pub returns-clause-hashes : goal.returns-clause-hashes
+returns-clause-hashes g c =
+    let left = into_iter_items c.loop-back.back-iterator in
+    let none : length left ≡ 0 = search rules in
+    all_there hash_of _ _ left none c.loop-back.invariant.hashes
 
 pub unreachable-requires : goal.unreachable-requires
 unreachable-requires g c =

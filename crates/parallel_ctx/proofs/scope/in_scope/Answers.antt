@@ -1,3 +1,4 @@
+use Rattle.agg_table.specs.Tokens.{use_in}
 use Rattle.std.proofs.Common.{◌≡◌, length, arith}
 use Rattle.parallel_ctx.specs.Returns.{Carries}
 use Rattle.parallel_ctx.proofs.Zips.{AllZip-length}
@@ -23,5 +24,5 @@ returns-clause-led g c plan has =
     let new = c.lead_and_leave.new.queues in
     let long = AllZip-length SameQueues c.deref_mut.result.now new c.lead_and_leave.ensures.queues in
     let size : c.args.queues.len ≡ length new = omega (arith, long, c.deref_mut.ensures.len) in
-    subst (λ (h : List Heard). g.L.Lead.led c.args.lead.now plan (blocks_of c.args.shared.now.claims) (draws_of c.lead_and_leave.new.leader.claim) h c.lead_and_leave.new.lead)
+    subst (λ (h : List Heard). g.L.Lead.led c.args.lead.now plan (blocks_of c.args.shared.now.claims) (draws_of c.lead_and_leave.new.leader.claim) (use_in c.lead_and_leave.new.leader.hash) h c.lead_and_leave.new.lead)
     (ap (map heard) (sym (written_back c.args.queues.len new _ size))) (c.lead_and_leave.ensures.led plan has)

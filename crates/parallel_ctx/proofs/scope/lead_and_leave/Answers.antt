@@ -1,3 +1,4 @@
+use Rattle.agg_table.specs.Tokens.{use_in}
 use Rattle.std.proofs.Common.{subst, sym, List}
 use Rattle.scan_claim.specs.Shown.{blocks_of, draws_of}
 use Rattle.parallel_ctx.specs.Accounts.{Heard}
@@ -14,4 +15,4 @@ returns-clause-queues g c = AllZip-through SameQueues SameQueues SameQueues same
 
 pub returns-clause-led : goal.returns-clause-led
 returns-clause-led g c plan has =
-    subst (λ (h : List Heard). g.L.Lead.led c.args.lead.now plan (blocks_of c.args.shared.now.claims) (draws_of c.lead.new.seats.claim) h c.lead.new.self) (sym c.leave_all.ensures.heard) (c.lead.ensures.led plan has)
+    subst (λ (h : List Heard). g.L.Lead.led c.args.lead.now plan (blocks_of c.args.shared.now.claims) (draws_of c.lead.new.seats.claim) (use_in c.lead.new.seats.hash) h c.lead.new.self) (sym c.leave_all.ensures.heard) (c.lead.ensures.led plan has)

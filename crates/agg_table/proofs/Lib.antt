@@ -1,0 +1,10 @@
+pub mod Anys
+pub mod Traced
+pub mod Putting
+pub mod Growing
+pub mod Asking
+pub mod Opened
+pub mod Seats
+pub mod Listed
+pub mod Standing
+pub mod Drains

@@ -1,0 +1,242 @@
+-- What the events of a call of the table add to the own calls of its passes.
+use Rattle.std.proofs.Common.{◌≡◌, ◌≤◌, ◌+◌, ◌/◌, ◌==◌, ◌⊎◌, ◌++◌, inl, inr, Bool, true, false, cond, ℕ, List, [], ◌∷◌, Option, map, refl, ap, sym, subst, ◌∙◌, arith, append_assoc, append-nil}
+use mathlib.Core.Logic.{dite}
+use native.Mathlib.Decide.{ℕ_discrete}
+use Rattle.std.specs.List.{flat_map, sum_by}
+use Rattle.std.proofs.lemmas.List.Concat.{flat_map-append}
+use Rattle.std.proofs.lemmas.List.Sums.{sum_by-append}
+use Rattle.lock_book.specs.declared.view.Entry.{Entry}
+use Rattle.lock_book.specs.History.{entry}
+use Rattle.lock_book.specs.Told.{MakesAll}
+use Rattle.free_pages.specs.Legal as pages
+use Rattle.free_pages.specs.Legal.{PagesCall, PagesReply, PagesState}
+use Rattle.dsa_area.specs.Requests.{IsGranted, IsHandedBack, IsRefused as IsRefusedRequest, IsTakenBack}
+use Rattle.dsa_area.specs.Sizes.{page_bytes, pages_for}
+use Rattle.free_pages.specs.Area.{superblock_pages}
+use Rattle.dsa_area.specs.Shown.{none_granted, number_of, pages_legal, pages_mine, pages_seen}
+use Rattle.dsa_area.specs.declared.area.Area.{Area}
+use Rattle.dsa_area.specs.declared.area.AreaPass.{AreaPass}
+use Rattle.dshash_parts.specs.Promises.{IsMade}
+use Rattle.dshash_parts.specs.Legal.{PartitionLegal}
+use Rattle.dshash_parts.specs.States.{fresh}
+use Rattle.dshash_parts.specs.Traces.{AreGifts, Asked, Event, Gave, Got, Makes, Missed, NoneMade, Sight, Trace, Turn}
+use Rattle.dshash_parts.specs.declared.histories.PartitionCalls.TheVariants.{Call, Looks, Moves, Lists}
+use Rattle.dshash_parts.specs.declared.histories.PartitionReplies.TheVariants.{Made, LacksItem, HasToGrow, HasSize, Moved, Listed}
+use Rattle.par_model.specs.declared.state.AggState.{AggState}
+use Rattle.agg_table.specs.Calls.{AggCall, AggEntry, AggReply, Group, PageEntry, done_in, done_of, is_lack, lacks}
+
+-- ---- own calls at one value
+
+module _ {S C R : Type 0} (legal : ℕ → S → C → R → S → Type 0) (opening : S) (n : ℕ) where
+  -- the own calls grow by entries with just these calls and replies
+  pub own_grows : (s m s' m' : List (Entry S C R)) (es : List (C × R)) → MakesAll legal opening n s m s' m' es → (xs : List (Entry S C R)) × (m' ≡ m ++ xs) × (map (λ (e : Entry S C R). (e.call, e.reply)) xs ≡ es)
+  own_grows s m s' m' [] x = ([], x.1 ∙ sym (append-nil m), refl)
+  own_grows s m s' m' (e ∷ es) x =
+      let r = own_grows x.0 x.1 s' m' es x.3 in
+      let one = entry n e.0 e.1 x.2.after in
+      (one ∷ r.0, r.1 ∙ (ap (λ (z : List (Entry S C R)). z ++ r.0) x.2.own ∙ append_assoc m (one ∷ []) r.0), ap (λ (z : List (C × R)). e ∷ z) r.2)
+
+-- ---- calls of a partition
+
+abbrev pub pair_of : AggEntry → AggCall × AggReply
+pair_of e = (e.call, e.reply)
+
+-- the calls that were made, among the calls with their replies
+abbrev pub done_by : List (AggCall × AggReply) → List Group
+done_by es = flat_map (λ (e : AggCall × AggReply). done_of e.0 e.1) es
+
+pub done_map : (es : List AggEntry) → done_in es ≡ done_by (map pair_of es)
+done_map [] = refl
+done_map (e ∷ es) = ap (λ (l : List Group). done_of e.call e.reply ++ l) (done_map es)
+
+-- the turns at a partition among some events
+abbrev pub turns_at : ℕ → List (Event AggState AggState (Unit {0})) → List (AggCall × AggReply)
+turns_at k [] = []
+turns_at k (Turn number call reply ∷ es) = cond {A = List (AggCall × AggReply)} (number == k) ((call, reply) ∷ turns_at k es) (turns_at k es)
+turns_at k (Asked request ∷ es) = turns_at k es
+
+-- how many requests were refused among some events
+abbrev pub misses : List (Event AggState AggState (Unit {0})) → ℕ
+misses [] = 0
+misses (Asked (Missed bytes wanted largest) ∷ es) = 1 + misses es
+misses (e ∷ es) = misses es
+
+-- what the own calls are after some events
+pub record Grew (k : ℕ) (mine mine' : List AggEntry) (es : List (Event AggState AggState (Unit {0}))) : Type 0 where
+  pub more : List AggEntry
+  pub grows : mine' ≡ mine ++ more
+  pub are : map pair_of more ≡ turns_at k es
+
+module _ (step : Option AggState → AggState → Option AggState × Unit {0}) (a : Area) (n : ℕ) where
+  -- of one event
+  one_grew : (k : ℕ) (v w : Sight AggState AggState (Unit {0})) (e : Event AggState AggState (Unit {0})) → Makes step a n v w e → Grew k (v.mine k) (w.mine k) (e ∷ [])
+  one_grew k v w (Turn number call reply) h =
+      dite {P = number ≡ k} (ℕ_discrete number k)
+      (λ same.
+      let g = own_grows (λ _. PartitionLegal step number) fresh n (v.seen number) (v.mine number) (w.seen number) (w.mine number) ((call, reply) ∷ []) h.0.here in
+      let is : turns_at k (Turn number call reply ∷ []) ≡ (call, reply) ∷ [] = ap (λ b. cond {A = List (AggCall × AggReply)} b ((call, reply) ∷ []) []) (let t : (number == k) ≡ true = grind (arith, same) in t) in
+      record { more = g.0; grows = subst (λ j. w.mine j ≡ v.mine j ++ g.0) same g.1; are = g.2 ∙ sym is })
+      (λ ne.
+      let g = own_grows (λ _. PartitionLegal step k) fresh n (v.seen k) (v.mine k) (w.seen k) (w.mine k) [] (h.0.others k (λ e. ne (sym e))) in
+      let is : turns_at k (Turn number call reply ∷ []) ≡ [] = ap (λ b. cond {A = List (AggCall × AggReply)} b ((call, reply) ∷ []) []) (let t : (number == k) ≡ false = grind (arith, ne) in t) in
+      record { more = g.0; grows = g.1; are = g.2 ∙ sym is })
+  one_grew k v w (Asked request) h = record { more = []; grows = ap (λ (f : ℕ → List AggEntry). f k) h.3 ∙ sym (append-nil (v.mine k)); are = refl }
+
+  turns_front : (k : ℕ) (e : Event AggState AggState (Unit {0})) (es : List (Event AggState AggState (Unit {0}))) → turns_at k (e ∷ es) ≡ turns_at k (e ∷ []) ++ turns_at k es
+  turns_front k (Turn number call reply) es = by (number == k)
+    where
+      by : (b : Bool) → cond {A = List (AggCall × AggReply)} b ((call, reply) ∷ turns_at k es) (turns_at k es)
+          ≡ cond {A = List (AggCall × AggReply)} b ((call, reply) ∷ []) [] ++ turns_at k es
+      by true = refl
+      by false = refl
+  turns_front k (Asked request) es = refl
+
+  map_both : (xs ys : List AggEntry) → map pair_of (xs ++ ys) ≡ map pair_of xs ++ map pair_of ys
+  map_both [] ys = refl
+  map_both (x ∷ xs) ys = ap (λ (l : List (AggCall × AggReply)). (x.call, x.reply) ∷ l) (map_both xs ys)
+
+  pub all_grew : (k : ℕ) (v w : Sight AggState AggState (Unit {0})) (es : List (Event AggState AggState (Unit {0}))) → Trace step a n v w es → Grew k (v.mine k) (w.mine k) es
+  all_grew k v w [] t = record { more = []; grows = ap (λ (s : Sight AggState AggState (Unit {0})). s.mine k) t ∙ sym (append-nil (v.mine k)); are = refl }
+  all_grew k v w (e ∷ es) t =
+      let first = one_grew k v t.0 e t.1 in
+      let rest = all_grew k t.0 w es t.2 in
+      record {
+        more = first.more ++ rest.more;
+        grows = rest.grows ∙ ap (λ (l : List AggEntry). l ++ rest.more) first.grows ∙ append_assoc (v.mine k) first.more rest.more;
+        are = map_both first.more rest.more ∙ ap (λ (l : List (AggCall × AggReply)). l ++ map pair_of rest.more) first.are
+            ∙ ap (λ (l : List (AggCall × AggReply)). turns_at k (e ∷ []) ++ l) rest.are ∙ sym (turns_front k e es);
+      }
+
+  -- ---- refused requests
+
+  abbrev count : List (PagesCall × PagesReply) → ℕ
+  count es = sum_by (λ (e : PagesCall × PagesReply). cond {A = ℕ} (is_lack e.1) 1 0) es
+
+  counted : (xs : List PageEntry) → lacks xs ≡ count (map (λ (e : PageEntry). (e.call, e.reply)) xs)
+  counted [] = refl
+  counted (x ∷ xs) =
+      sum_by-append (λ (e : PageEntry). cond {A = ℕ} (is_lack e.reply) 1 0) (x ∷ []) xs ∙ ap (λ (m : ℕ). lacks (x ∷ []) + m) (counted xs)
+      ∙ sym (sum_by-append (λ (e : PagesCall × PagesReply). cond {A = ℕ} (is_lack e.1) 1 0) ((x.call, x.reply) ∷ []) (map (λ (e : PageEntry). (e.call, e.reply)) xs))
+
+  pub lacks_more : (p q : AreaPass) (es : List (PagesCall × PagesReply)) → MakesAll (pages_legal a) (none_granted a) (number_of p) (pages_seen p) (pages_mine p) (pages_seen q) (pages_mine q) es
+      → lacks (pages_mine q) ≡ lacks (pages_mine p) + count es
+  lacks_more p q es h =
+      let g = own_grows (pages_legal a) (none_granted a) (number_of p) (pages_seen p) (pages_mine p) (pages_seen q) (pages_mine q) es h in
+      ap lacks g.1 ∙ sum_by-append (λ (e : PageEntry). cond {A = ℕ} (is_lack e.reply) 1 0) (pages_mine p) g.0
+      ∙ ap (λ (m : ℕ). lacks (pages_mine p) + m) (counted g.0 ∙ ap count g.2)
+
+  granted_lacks : (p q : AreaPass) (bytes at : ℕ) → IsGranted a p q bytes at → lacks (pages_mine p) ≤ lacks (pages_mine q)
+  granted_lacks p q bytes at (inl x) = let e = lacks_more p q [] x.2.pages in omega (arith, e)
+  granted_lacks p q bytes at (inr (inl x)) = let e = lacks_more p q ((pages.Take superblock_pages true, pages.Gets x.1) ∷ []) x.3.pages in omega (arith, e)
+  granted_lacks p q bytes at (inr (inr x)) = let e = lacks_more p q ((pages.Take (pages_for bytes) false, pages.Gets at) ∷ []) x.1.pages in omega (arith, e)
+
+  refused_lacks : (p q : AreaPass) (bytes wanted largest : ℕ) → IsRefusedRequest a p q bytes wanted largest → lacks (pages_mine p) + 1 ≤ lacks (pages_mine q)
+  refused_lacks p q bytes wanted largest (inl x) = let e = lacks_more p q ((pages.Take superblock_pages true, pages.Lacks wanted largest) ∷ []) x.2.pages in omega (arith, e)
+  refused_lacks p q bytes wanted largest (inr x) = let e = lacks_more p q ((pages.Take (pages_for bytes) false, pages.Lacks wanted largest) ∷ []) x.1.pages in omega (arith, e)
+
+  taken_lacks : (p q : AreaPass) (at bytes : ℕ) → IsTakenBack a p q at bytes → lacks (pages_mine p) ≤ lacks (pages_mine q)
+  taken_lacks p q at bytes (inl x) = let e = lacks_more p q [] x.3.pages in omega (arith, e)
+  taken_lacks p q at bytes (inr (inl x)) = let e = lacks_more p q ((pages.Give x.1 superblock_pages true, x.2) ∷ []) x.5.pages in omega (arith, e)
+  taken_lacks p q at bytes (inr (inr x)) = let e = lacks_more p q ((pages.Give at (bytes / page_bytes) false, pages.Accepts) ∷ []) x.2.pages in omega (arith, e)
+
+  handed_lacks : (p q : AreaPass) (at bytes : ℕ) → IsHandedBack a p q at bytes → lacks (pages_mine p) ≤ lacks (pages_mine q)
+  handed_lacks p q at bytes (inl x) = let e = lacks_more p q [] x.3.pages in omega (arith, e)
+  handed_lacks p q at bytes (inr (inl x)) = let e = lacks_more p q ((pages.Give at (bytes / page_bytes) false, pages.HandsBack) ∷ []) x.2.pages in omega (arith, e)
+  handed_lacks p q at bytes (inr (inr x)) = let e = lacks_more p q [] x.2.pages in omega (arith, e)
+
+  one_lacks : (v w : Sight AggState AggState (Unit {0})) (e : Event AggState AggState (Unit {0})) → Makes step a n v w e → lacks (pages_mine v.area) + misses (e ∷ []) ≤ lacks (pages_mine w.area)
+  one_lacks v w (Turn number call reply) h = let e = ap (λ (p : AreaPass). lacks (pages_mine p)) h.1 in omega (arith, e)
+  one_lacks v w (Asked (Got bytes)) h = let e = granted_lacks v.area w.area bytes h.0.0 h.0.1 in omega (arith, e)
+  one_lacks v w (Asked (Missed bytes wanted largest)) h = let e = refused_lacks v.area w.area bytes wanted largest h.0 in omega (arith, e)
+  one_lacks v w (Asked Gave) h = by h.0.2
+    where
+      by : IsTakenBack a v.area w.area h.0.0 h.0.1 ⊎ IsHandedBack a v.area w.area h.0.0 h.0.1 → lacks (pages_mine v.area) + 0 ≤ lacks (pages_mine w.area)
+      by (inl x) = let e = taken_lacks v.area w.area h.0.0 h.0.1 x in omega (arith, e)
+      by (inr x) = let e = handed_lacks v.area w.area h.0.0 h.0.1 x in omega (arith, e)
+
+  misses_front : (e : Event AggState AggState (Unit {0})) (es : List (Event AggState AggState (Unit {0}))) → misses (e ∷ es) ≡ misses (e ∷ []) + misses es
+  misses_front (Turn number call reply) es = omega arith
+  misses_front (Asked (Got bytes)) es = omega arith
+  misses_front (Asked (Missed bytes wanted largest)) es = omega arith
+  misses_front (Asked Gave) es = omega arith
+
+  pub all_lacks : (v w : Sight AggState AggState (Unit {0})) (es : List (Event AggState AggState (Unit {0}))) → Trace step a n v w es → lacks (pages_mine v.area) + misses es ≤ lacks (pages_mine w.area)
+  all_lacks v w [] t = let e = ap (λ (s : Sight AggState AggState (Unit {0})). lacks (pages_mine s.area)) t in omega (arith, e)
+  all_lacks v w (e ∷ es) t = let first = one_lacks v t.0 e t.1 in let rest = all_lacks t.0 w es t.2 in let m = misses_front e es in omega (arith, first, rest, m)
+
+-- ---- what a call's events are
+
+pub misses_among : (bytes wanted largest : ℕ) (before after : List (Event AggState AggState (Unit {0}))) → 1 ≤ misses (before ++ Asked (Missed bytes wanted largest) ∷ after)
+misses_among bytes wanted largest [] after = omega arith
+misses_among bytes wanted largest (Turn number call reply ∷ es) after = misses_among bytes wanted largest es after
+misses_among bytes wanted largest (Asked (Got b) ∷ es) after = misses_among bytes wanted largest es after
+misses_among bytes wanted largest (Asked (Missed b w l) ∷ es) after = omega arith
+misses_among bytes wanted largest (Asked Gave ∷ es) after = misses_among bytes wanted largest es after
+
+-- a turn by which no call was made adds none
+skip : (k number : ℕ) (call : AggCall) (reply : AggReply) (es : List (Event AggState AggState (Unit {0}))) → done_of call reply ≡ [] → done_by (turns_at k es) ≡ [] → done_by (turns_at k (Turn number call reply ∷ es)) ≡ []
+skip k number call reply es none rest = by (number == k)
+  where
+    by : (b : Bool) → done_by (cond {A = List (AggCall × AggReply)} b ((call, reply) ∷ turns_at k es) (turns_at k es)) ≡ []
+    by true = ap (λ (l : List Group). l ++ done_by (turns_at k es)) none ∙ rest
+    by false = rest
+
+-- the call and the reply decide whether a call was made
+not_made : (call : AggCall) (reply : AggReply) → ((before : Unit {0}) (unused freed : Bool) → reply ≡ Made before unused freed → ⊥) → done_of call reply ≡ []
+not_made (Call key row spare) (Made before unused freed) h = absurd (h before unused freed refl)
+not_made (Call key row spare) LacksItem h = refl
+not_made (Call key row spare) (HasToGrow size back) h = refl
+not_made (Call key row spare) (HasSize size) h = refl
+not_made (Call key row spare) Moved h = refl
+not_made (Call key row spare) (Listed entries) h = refl
+not_made Looks reply h = refl
+not_made (Moves to) reply h = refl
+not_made Lists reply h = refl
+
+-- events in which no call was made have none that was
+pub none_done : (k : ℕ) (es : List (Event AggState AggState (Unit {0}))) → NoneMade es → done_by (turns_at k es) ≡ []
+none_done k [] h = refl
+none_done k (Asked request ∷ es) h = none_done k es h
+none_done k (Turn number call (Made reply unused freed) ∷ es) h = absurd h
+none_done k (Turn number call LacksItem ∷ es) h = skip k number call LacksItem es (not_made call LacksItem (λ b u f e. absurd (cc))) (none_done k es h)
+none_done k (Turn number call (HasToGrow size back) ∷ es) h = skip k number call (HasToGrow size back) es (not_made call (HasToGrow size back) (λ b u f e. absurd (cc))) (none_done k es h)
+none_done k (Turn number call (HasSize size) ∷ es) h = skip k number call (HasSize size) es (not_made call (HasSize size) (λ b u f e. absurd (cc))) (none_done k es h)
+none_done k (Turn number call Moved ∷ es) h = skip k number call Moved es (not_made call Moved (λ b u f e. absurd (cc))) (none_done k es h)
+none_done k (Turn number call (Listed entries) ∷ es) h = skip k number call (Listed entries) es (not_made call (Listed entries) (λ b u f e. absurd (cc))) (none_done k es h)
+
+gifts_done : (k : ℕ) (es : List (Event AggState AggState (Unit {0}))) → AreGifts es → turns_at k es ≡ []
+gifts_done k [] h = refl
+gifts_done k (Asked Gave ∷ es) h = gifts_done k es h
+gifts_done k (Asked (Got bytes) ∷ es) h = absurd h
+gifts_done k (Asked (Missed bytes wanted largest) ∷ es) h = absurd h
+gifts_done k (Turn number call reply ∷ es) h = absurd h
+
+pub turns_append : (k : ℕ) (es fs : List (Event AggState AggState (Unit {0}))) → turns_at k (es ++ fs) ≡ turns_at k es ++ turns_at k fs
+turns_append k [] fs = refl
+turns_append k (Asked request ∷ es) fs = turns_append k es fs
+turns_append k (Turn number call reply ∷ es) fs = by (number == k) (turns_append k es fs)
+  where
+    by : (b : Bool) → turns_at k (es ++ fs) ≡ turns_at k es ++ turns_at k fs
+        → cond {A = List (AggCall × AggReply)} b ((call, reply) ∷ turns_at k (es ++ fs)) (turns_at k (es ++ fs))
+        ≡ cond {A = List (AggCall × AggReply)} b ((call, reply) ∷ turns_at k es) (turns_at k es) ++ turns_at k fs
+    by true e = ap (λ (l : List (AggCall × AggReply)). (call, reply) ∷ l) e
+    by false e = e
+
+done_append : (xs ys : List (AggCall × AggReply)) → done_by (xs ++ ys) ≡ done_by xs ++ done_by ys
+done_append xs ys = flat_map-append (λ (e : AggCall × AggReply). done_of e.0 e.1) xs ys
+
+-- the events of a call that was made have just this one
+pub made_done : (k number item : ℕ) (key : List ℕ) (row : AggState) (before : Unit {0}) (es : List (Event AggState AggState (Unit {0}))) → IsMade number item key row before es
+    → done_by (turns_at k es) ≡ cond {A = List Group} (number == k) ((key, row) ∷ []) []
+made_done k number item key row before es m =
+    let last = Turn number (Call key row m.spare) (Made before m.unused m.freed) in
+    ap (λ (l : List (Event AggState AggState (Unit {0}))). done_by (turns_at k l)) m.is
+    ∙ ap done_by (turns_append k m.before (last ∷ m.after))
+    ∙ done_append (turns_at k m.before) (turns_at k (last ∷ m.after))
+    ∙ ap (λ (l : List Group). l ++ done_by (turns_at k (last ∷ m.after))) (none_done k m.before m.none_before)
+    ∙ by (number == k)
+  where
+    by : (b : Bool) → done_by (cond {A = List (AggCall × AggReply)} b ((Call key row m.spare, Made before m.unused m.freed) ∷ turns_at k m.after) (turns_at k m.after))
+        ≡ cond {A = List Group} b ((key, row) ∷ []) []
+    by true = ap (λ (l : List (AggCall × AggReply)). (key, row) ∷ done_by l) (gifts_done k m.after m.gifts_after)
+    by false = ap done_by (gifts_done k m.after m.gifts_after)

@@ -1,0 +1,113 @@
+-- What a participant made of some groups: the calls of the table that it made, and those that found no space.
+use Rattle.std.specs.Prelude.{◌≡◌, ◌≤◌, ◌+◌, ◌++◌, ◌==◌, ℕ, Bool, true, false, List, [], ◌∷◌, All, Any, count_by, filter, length, map}
+use Rattle.std.specs.List.{flat_map}
+use Rattle.std.specs.List.Sorted.{IsPermutation}
+use Rattle.dshash_core.specs.Cells.{partition_of}
+use Rattle.dshash_core.specs.Key.{hash_of, packed_key}
+use Rattle.dshash_parts.specs.States.{PartitionState}
+use Rattle.dshash_parts.specs.declared.histories.PartitionCalls.{PartitionCalls}
+use Rattle.dshash_parts.specs.declared.histories.PartitionCalls.TheVariants.{Call}
+use Rattle.dshash_parts.specs.declared.histories.PartitionReplies.{PartitionReplies}
+use Rattle.dshash_parts.specs.declared.histories.PartitionReplies.TheVariants.{Made, LacksItem, HasToGrow}
+use Rattle.free_pages.specs.Legal.{PagesCall, PagesReply, PagesState}
+use Rattle.free_pages.specs.Legal as pages
+use Rattle.lock_book.specs.declared.view.Entry.{Entry}
+use Rattle.par_model.specs.declared.state.AggState.{AggState}
+use Rattle.rel_pointer.specs.Bytes.{AllBytes}
+
+-- a key and the partial aggregates of some of its rows
+abbrev pub Group : Type 0
+Group = List ℕ × AggState
+
+-- a call at a partition, and a reply
+abbrev pub AggCall : Type 0
+AggCall = PartitionCalls AggState
+
+abbrev pub AggReply : Type 0
+AggReply = PartitionReplies AggState (Unit {0})
+
+-- an entry in the history of a partition
+abbrev pub AggEntry : Type 0
+AggEntry = Entry (PartitionState AggState) AggCall AggReply
+
+-- an entry in the history of the pages of the table's area
+abbrev pub PageEntry : Type 0
+PageEntry = Entry PagesState PagesCall PagesReply
+
+-- what a participant did with the table: its own turns at each partition, and its own calls at the pages of the area
+pub record Use : Type 0 where
+  pub turns : ℕ → List AggEntry
+  pub pages : List PageEntry
+
+-- ---- entries
+
+-- the call that an entry is, where it was made: its key, and the state that was called
+abbrev pub done_of : AggCall → AggReply → List Group
+done_of (Call key state spare) (Made reply unused freed) = (key, state) ∷ []
+done_of call reply = []
+
+-- the calls that were made, in order
+abbrev pub done_in : List AggEntry → List Group
+done_in entries = flat_map (λ (e : AggEntry). done_of e.call e.reply) entries
+
+-- a call of this key with this state was not made: it lacked an item, or the partition had to grow first
+abbrev pub IsMissing : List ℕ → AggState → AggCall → AggReply → Type 0
+IsMissing key state (Call k s spare) LacksItem = (k ≡ key) × (s ≡ state)
+IsMissing key state (Call k s spare) (HasToGrow size back) = (k ≡ key) × (s ≡ state)
+IsMissing key state call reply = ⊥
+
+-- a request for pages was refused
+abbrev pub is_lack : PagesReply → Bool
+is_lack (pages.Lacks wanted largest) = true
+is_lack reply = false
+
+-- how many requests for pages were refused
+abbrev pub lacks : List PageEntry → ℕ
+lacks entries = count_by (λ (e : PageEntry). is_lack e.reply) entries
+
+-- ---- groups
+
+-- a group as a call: under the words of its key
+abbrev pub called : Group → Group
+called g = (packed_key g.0, g.1)
+
+-- the partition of a group
+abbrev pub partition_at : Group → ℕ
+partition_at g = partition_of (hash_of (packed_key g.0))
+
+-- the calls of some groups that belong to a partition
+abbrev pub calls_at : ℕ → List Group → List Group
+calls_at number groups = map called (filter (λ (g : Group). partition_at g == number) groups)
+
+-- some entry has the call of this group, which was not made
+abbrev pub WasMissed : (ℕ → List AggEntry) → Group → Type 0
+WasMissed turns g = Any (λ (e : AggEntry). IsMissing (packed_key g.0) g.1 e.call e.reply) (turns (partition_at g))
+
+-- a group whose key can be packed
+pub record IsKeyed (g : Group) : Type 0 where
+  pub bytes : AllBytes g.0
+  pub short : length g.0 ≤ 248
+
+-- one group more was put in: its call was made, and no other
+pub record IsPut (u v : Use) (g : Group) : Type 0 where
+  pub keyed : IsKeyed g
+  pub done : (number : ℕ) → done_in (v.turns number) ≡ done_in (u.turns number) ++ calls_at number (g ∷ [])
+  pub kept : (number : ℕ) → (more : List AggEntry) × (v.turns number ≡ u.turns number ++ more)
+  pub refused : lacks u.pages ≤ lacks v.pages
+
+-- one group was left: no call was made, an entry says that this one was not, and a request for pages was refused
+pub record IsLeft (u v : Use) (g : Group) : Type 0 where
+  pub done : (number : ℕ) → done_in (v.turns number) ≡ done_in (u.turns number)
+  pub kept : (number : ℕ) → (more : List AggEntry) × (v.turns number ≡ u.turns number ++ more)
+  pub missed : WasMissed v.turns g
+  pub refused : lacks u.pages + 1 ≤ lacks v.pages
+
+-- What a participant did with some groups. Each of them was put in or left. At each partition its calls that were made
+-- are those of the groups that it put in, in order, and no others. Of those that it left the calls were not made, and
+-- for each of them a request for pages was refused
+pub record HasPut (groups : List Group) (u : Use) (put left : List Group) : Type 0 where
+  pub all : IsPermutation groups (put ++ left)
+  pub keyed : All IsKeyed put
+  pub done : (number : ℕ) → done_in (u.turns number) ≡ calls_at number put
+  pub missed : All (WasMissed u.turns) left
+  pub few : length left ≤ lacks u.pages

@@ -1,0 +1,4 @@
+pub mod Calls
+pub mod Tokens
+pub mod Ending
+pub mod Drained

@@ -1,0 +1,245 @@
+-- What the leader and the workers did with a table of groups, put together.
+use Rattle.std.proofs.Common.{◌≡◌, ◌<◌, ◌≤◌, ◌+◌, ◌*◌, ◌^◌, ◌++◌, ℕ, zero, suc, List, [], ◌∷◌, length, drop, fold, slice_get, map as map_list, All, Any, MatchOption, Option, Some, None, refl, ap, sym, subst, ◌∙◌, arith, true}
+use Rattle.std.specs.FinMap as map
+use Rattle.std.specs.List.{AllZip, flat_map}
+use Rattle.std.specs.List.Sorted.{IsPermutation}
+use Rattle.std.proofs.lemmas.List.{length-map}
+use Rattle.std.proofs.lemmas.List.Elements.{All-head, All-nil, All-tail, All-weaker}
+use Rattle.agg_cell.specs.Called.{Seen}
+use Rattle.agg_table.specs.Calls.{AggEntry, HasPut, IsKeyed, IsMissing, Use, WasMissed, calls_at, done_in, lacks, partition_at}
+use Rattle.agg_table.specs.Drained.{AddsTable, HoldsAll}
+use Rattle.agg_table.proofs.Putting.{has_put_nothing}
+use Rattle.dshash_core.specs.Key.{packed_key}
+use Rattle.hash_law.specs.Law.{Share, Shares, TableGathers}
+use Rattle.lock_book.specs.History.{calls_by}
+use Rattle.mq_handle.specs.Messages.{whole_of}
+use Rattle.par_model.specs.Plan.{Plan}
+use Rattle.partial_agg.specs.Groups.{AreGroups, GroupsByKey, added, with_rows}
+use Rattle.partial_agg.specs.Rows.{IsAccepted, block_rows, header_width}
+use Rattle.partial_agg.proofs.Adding.{maps_grow, no_groups}
+use Rattle.partial_agg.proofs.Blocks.{length-block}
+use Rattle.scan_claim.specs.Drawing.{flat, once_below, times}
+use Rattle.gather_law.specs.Parts.{Block, Part, Received, blocks_in, received_in, with_all, with_part}
+use Rattle.gather_law.specs.Tuples.{Group, Table, groups_of, rows_of_blocks}
+use Rattle.gather_law.proofs.Gathering.{All-apart}
+use Rattle.parallel_ctx.specs.Accounts.{Heard, IsIdle, account_of, heard_of}
+use Rattle.parallel_ctx.specs.Ran.{AreWhole}
+use Rattle.parallel_ctx.specs.Tokens.{AreNumbered}
+use Rattle.parallel_ctx.specs.declared.home.Returned.{Returned}
+use Rattle.worker_run.specs.Tabled.{groups_of_blocks}
+use Rattle.worker_run.specs.declared.WorkerEnd.{WorkerEnd}
+use Rattle.worker_run.specs.declared.WorkerEnd.TheVariants.{Finished, Stopped, Refused, NoMemory}
+use Rattle.gather_run.specs.Did.{DidWork, EndsWell}
+use Rattle.gather_run.specs.Leading.{HasLed}
+use Rattle.gather_run.specs.Reading.{ReadAs}
+use Rattle.gather_run.specs.Used.{AreBlockGroups, SharedItsBlocks}
+use Rattle.gather_run.proofs.Together.{Worker, no_groups_read, same_groups}
+
+-- the map after groups alone is that of these groups
+groups_alone : (plan : Plan) (records : Table) (parts : List Part) (m : GroupsByKey) → blocks_in parts ≡ [] → fold (with_part plan records) m parts ≡ with_all m (received_in parts)
+groups_alone plan records [] m e = refl
+groups_alone plan records (Block b ∷ parts) m e = cc
+groups_alone plan records (Received g ∷ parts) m e = groups_alone plan records parts (added m g.0 g.1) e
+
+some_same : {A : Type 0} (x y : A) → Some x ≡ Some y → x ≡ y
+some_same x y e = cc
+
+flat_of : {A B : Type 0} (f : A → List B) (xs : List A) → flat_map (λ l. l) (map_list f xs) ≡ flat_map f xs
+flat_of f [] = refl
+flat_of f (x ∷ xs) = ap (λ l. f x ++ l) (flat_of f xs)
+
+-- what a participant did is the same by histories that are the same
+same_put : (groups put left : List Group) (u v : Use) → ((i : ℕ) → v.turns i ≡ u.turns i) → v.pages ≡ u.pages → HasPut groups u put left → HasPut groups v put left
+same_put groups put left u v turns pages h = record {
+  all = h.all;
+  keyed = h.keyed;
+  done = λ i. ap done_in (turns i) ∙ h.done i;
+  missed = All-weaker (WasMissed u.turns) (WasMissed v.turns) (λ g m. subst (Any (λ (e : AggEntry). IsMissing (packed_key g.0) g.1 e.call e.reply)) (sym (turns (partition_at g))) m) left h.missed;
+  few = subst (λ ps. length left ≤ lacks ps) (sym pages) h.few;
+}
+
+module _ (plan : Plan) (records : Table) where
+  -- a participant that drew these numbers shared out the groups of its blocks
+  pub record TookPart (draws : List ℕ) (u : Use) (s : Share) : Type 0 where
+    pub has : HasPut (groups_of_blocks plan records draws) u s.put s.left
+    pub accepted : All (IsAccepted plan (header_width records)) (rows_of_blocks records draws)
+
+  -- ---- what is said of it
+
+  block_groups : (b : ℕ) → All (IsAccepted plan (header_width records)) (block_rows records b) → AreBlockGroups plan records b (groups_of plan (block_rows records b))
+  block_groups b h =
+      let short = length-block records b in
+      record {
+        whole = with_rows plan map.empty (block_rows records b);
+        are = maps_grow plan (header_width records) [] (block_rows records b) map.empty (All-nil (IsAccepted plan (header_width records))) h (omega (arith, short)) (no_groups plan);
+        listed = refl;
+      }
+
+  all_block_groups : (draws : List ℕ) → All (IsAccepted plan (header_width records)) (rows_of_blocks records draws) → AllZip (AreBlockGroups plan records) draws (map_list (λ b. groups_of plan (block_rows records b)) draws)
+  all_block_groups [] h = tt
+  all_block_groups (b ∷ draws) h = let both = All-apart (IsAccepted plan (header_width records)) (block_rows records b) (rows_of_blocks records draws) h in (block_groups b both.0, all_block_groups draws both.1)
+
+  pub part_shared : (draws : List ℕ) (u v : Use) (s : Share) → ((i : ℕ) → v.turns i ≡ u.turns i) → v.pages ≡ u.pages → TookPart draws u s → SharedItsBlocks plan records draws v
+  part_shared draws u v s turns pages t = record {
+    blocks = map_list (λ b. groups_of plan (block_rows records b)) draws;
+    are = all_block_groups draws t.accepted;
+    put = s.put;
+    left = s.left;
+    has = subst (λ gs. HasPut gs v s.put s.left) (sym (flat_of (λ b. groups_of plan (block_rows records b)) draws)) (same_put (groups_of_blocks plan records draws) s.put s.left u v turns pages t.has);
+  }
+
+  -- ---- all participants, in order of their numbers
+
+  module _ (uses : ℕ → Use) where
+    abbrev pub AllTookPart : ℕ → List (List ℕ) → List Share → Type 0
+    AllTookPart n [] [] = Unit {0}
+    AllTookPart n [] (s ∷ shares) = ⊥
+    AllTookPart n (ds ∷ draws) [] = ⊥
+    AllTookPart n (ds ∷ draws) (s ∷ shares) = TookPart ds (uses n) s × AllTookPart (suc n) draws shares
+
+    pub as_many : (n : ℕ) (draws : List (List ℕ)) (shares : List Share) → AllTookPart n draws shares → length shares ≡ length draws
+    as_many n [] [] t = refl
+    as_many n [] (s ∷ shares) t = absurd t
+    as_many n (ds ∷ draws) [] t = absurd t
+    as_many n (ds ∷ draws) (s ∷ shares) t = ap suc (as_many (suc n) draws shares t.1)
+
+    all_share : (n : ℕ) (draws : List (List ℕ)) (shares : List Share) → AllTookPart n draws shares → AllZip (Shares plan (header_width records) records) draws shares
+    all_share n [] [] t = tt
+    all_share n [] (s ∷ shares) t = absurd t
+    all_share n (ds ∷ draws) [] t = absurd t
+    all_share n (ds ∷ draws) (s ∷ shares) t = (record { all = t.0.has.all; accepted = t.0.accepted }, all_share (suc n) draws shares t.1)
+
+    abbrev puts_of : List Share → List (List Group)
+    puts_of shares = map_list (λ (s : Share). s.put) shares
+
+    keyed_of : (n : ℕ) (draws : List (List ℕ)) (shares : List Share) → AllTookPart n draws shares → (k : ℕ) (put : List Group) → slice_get (puts_of shares) k ≡ Some put → All IsKeyed put
+    keyed_of n [] [] t k put e = cc
+    keyed_of n [] (s ∷ shares) t k put e = absurd t
+    keyed_of n (ds ∷ draws) [] t k put e = absurd t
+    keyed_of n (ds ∷ draws) (s ∷ shares) t zero put e = subst (All IsKeyed) (some_same s.put put e) t.0.has.keyed
+    keyed_of n (ds ∷ draws) (s ∷ shares) t (suc k) put e = keyed_of (suc n) draws shares t.1 k put e
+
+    done_of : (n : ℕ) (draws : List (List ℕ)) (shares : List Share) → AllTookPart n draws shares → (k m i : ℕ) (put : List Group) → m ≡ n + k → slice_get (puts_of shares) k ≡ Some put → done_in ((uses m).turns i) ≡ calls_at i put
+    done_of n [] [] t k m i put at e = cc
+    done_of n [] (s ∷ shares) t k m i put at e = absurd t
+    done_of n (ds ∷ draws) [] t k m i put at e = absurd t
+    done_of n (ds ∷ draws) (s ∷ shares) t zero m i put at e =
+        let same : m ≡ n = omega (arith, at) in
+        subst (λ j. done_in ((uses j).turns i) ≡ calls_at i put) (sym same) (t.0.has.done i ∙ ap (calls_at i) (some_same s.put put e))
+    done_of n (ds ∷ draws) (s ∷ shares) t (suc k) m i put at e = done_of (suc n) draws shares t.1 k m i put (omega (arith, at)) e
+
+    pub holds_all : (history : Seen) (draws : List (List ℕ)) (shares : List Share) → ((n i : ℕ) → (uses n).turns i ≡ calls_by n (history i)) → AreWhole (length draws) history → AllTookPart 0 draws shares → HoldsAll history (puts_of shares)
+    holds_all history draws shares turns whole t =
+        let long = length-map shares (λ (s : Share). s.put) in
+        let many = as_many 0 draws shares t in
+        record {
+          lawful = whole.lawful;
+          keyed = keyed_of 0 draws shares t;
+          done = λ k i put e within. ap done_in (sym (turns k i)) ∙ done_of 0 draws shares t k k i put (omega arith) e;
+          no_others = λ k i h within. whole.no_others i k (omega (arith, long, many, h));
+        }
+
+    -- ---- what was sent
+
+    -- the shares of the workers, by what was received of them
+    pub record HaveShares (n : ℕ) (draws : List (List ℕ)) (taken : List (List Group)) : Type 0 where
+      pub shares : List Share
+      pub took : AllTookPart n draws shares
+      pub left : flat_map (λ (s : Share). s.left) shares ≡ flat_map (λ gs. gs) taken
+
+    module _ (blocks : ℕ) where
+      abbrev Tabled : List ℕ → Returned WorkerEnd → Type 0
+      Tabled draws r = Worker (λ n. Some (uses n)) plan records blocks draws r
+
+      -- a worker that finished or did not start
+      one_part : (draws : List ℕ) (r : Returned WorkerEnd) (gs : List Group) → Tabled draws r → EndsWell r.end → (heard_of r).tuples_over ≡ true → ReadAs (heard_of r).tuples gs
+          → (put : List Group) × TookPart draws (uses r.number) (record { put = put; left = gs })
+      one_part draws r gs f well over read =
+          by r.end f.done well
+        where
+          u : Use
+          u = uses r.number
+
+          all : whole_of r.tuples.receiver.taken ≡ whole_of r.tuples.sender.put
+          all = f.tuples.all over
+
+          by : (end : Option WorkerEnd) → MatchOption end (IsIdle (account_of (λ n. Some (uses n)) draws r)) (λ e. DidWork plan records blocks (account_of (λ n. Some (uses n)) draws r) e) → EndsWell end
+              → (put : List Group) × TookPart draws u (record { put = put; left = gs })
+          by None d w =
+              let none : gs ≡ [] = no_groups_read gs (subst (λ ms. ReadAs ms gs) (all ∙ d.tuples) read) in (
+                [],
+                subst (λ ds. TookPart ds u (record { put = []; left = gs })) (sym d.draws)
+                    (record { has = subst (λ l. HasPut [] u [] l) (sym none) (has_put_nothing u d.used); accepted = All-nil (IsAccepted plan (header_width records)) }),
+              )
+          by (Some Finished) d w =
+              let t = d.ended in
+              let same : gs ≡ t.left = same_groups plan t.left gs (subst (λ ms. ReadAs ms gs) (all ∙ t.sent) read) t.written in
+              (t.put, record { has = subst (λ l. HasPut (groups_of_blocks plan records draws) u t.put l) (sym same) t.has; accepted = t.accepted })
+          by (Some Stopped) d w = absurd w
+          by (Some (Refused row cause item)) d w = absurd w
+          by (Some NoMemory) d w = absurd w
+
+      pub all_parts : (n : ℕ) (draws : List (List ℕ)) (ws : List (Returned WorkerEnd)) (taken : List (List Group)) → AllZip Tabled draws ws → All (λ (w : Returned WorkerEnd). EndsWell w.end) ws
+          → All (λ (h : Heard). h.tuples_over ≡ true) (map_list heard_of ws) → AllZip ReadAs (map_list (λ (h : Heard). h.tuples) (map_list heard_of ws)) taken → AreNumbered n (map_list (λ (w : Returned WorkerEnd). w.number) ws)
+          → HaveShares n draws taken
+      all_parts n [] [] [] f w o r k = record { shares = []; took = tt; left = refl }
+      all_parts n [] [] (gs ∷ taken) f w o r k = absurd r
+      all_parts n [] (v ∷ ws) taken f w o r k = absurd f
+      all_parts n (ds ∷ draws) [] taken f w o r k = absurd f
+      all_parts n (ds ∷ draws) (v ∷ ws) [] f w o r k = absurd r
+      all_parts n (ds ∷ draws) (v ∷ ws) (gs ∷ taken) f w o r k =
+          let one = one_part ds v gs f.0 (All-head (λ (w : Returned WorkerEnd). EndsWell w.end) v ws w) (All-head (λ (h : Heard). h.tuples_over ≡ true) (heard_of v) (map_list heard_of ws) o) r.0 in
+          let more = all_parts (suc n) draws ws taken f.1 (All-tail (λ (w : Returned WorkerEnd). EndsWell w.end) v ws w) (All-tail (λ (h : Heard). h.tuples_over ≡ true) (heard_of v) (map_list heard_of ws) o) r.1 k.1 in
+          let s : Share = record { put = one.0; left = gs } in
+          record { shares = s ∷ more.shares; took = (subst (λ j. TookPart ds (uses j) s) k.0 one.1, more.took); left = ap (λ l. gs ++ l) more.left }
+
+      -- ---- the leader with them
+
+      -- the shares of all participants, by what the leader has in its map
+      pub record AllShared (own : List ℕ) (draws : List (List ℕ)) (groups : GroupsByKey) : Type 0 where
+        pub shares : List Share
+        pub took : AllTookPart 0 (own ∷ draws) shares
+        pub kept : List Group
+        pub map_is : groups ≡ with_all map.empty kept
+        pub left : IsPermutation kept (flat_map (λ (s : Share). s.left) shares)
+
+      pub all_shared : (own : List ℕ) (draws : List (List ℕ)) (ws : List (Returned WorkerEnd)) (groups : GroupsByKey) → AllZip Tabled draws ws → All (λ (w : Returned WorkerEnd). EndsWell w.end) ws
+          → AreNumbered 1 (map_list (λ (w : Returned WorkerEnd). w.number) ws) → HasLed plan records blocks own (Some (uses 0)) (map_list heard_of ws) groups → AllShared own draws groups
+      all_shared own draws ws groups f w k led =
+          let l = led.leading in
+          let more = all_parts 1 draws ws l.taken f w led.over l.read k in
+          let s : Share = record { put = l.own.put; left = l.left } in
+          record {
+            shares = s ∷ more.shares;
+            took = (record { has = l.own.has; accepted = l.accepted }, more.took);
+            kept = received_in l.parts;
+            map_is = l.map_is ∙ groups_alone plan records l.parts map.empty l.own.none;
+            left = subst (λ gs. IsPermutation (received_in l.parts) (l.left ++ gs)) (sym more.left) l.received;
+          }
+
+    pub law_of : TableGathers → (history : Seen) (own : List ℕ) (draws : List (List ℕ)) (blocks : ℕ) (groups last : GroupsByKey) (n : ℕ) → ((k i : ℕ) → (uses k).turns i ≡ calls_by k (history i)) → AreWhole (suc (length draws)) history
+        → AllShared blocks own draws groups → AddsTable history groups last → ((x : ℕ) → times x (flat (own ∷ draws)) ≡ once_below x n) → length records ≤ 256 * n + 1 → length records < 2 ^ 63 → length plan.items ≤ 8
+        → All (IsAccepted plan (header_width records)) (drop 1 records) × AreGroups plan (drop 1 records) last
+    law_of law history own draws blocks groups last n turns whole a added once all few items =
+        law plan (header_width records) records (own ∷ draws) a.shares history a.kept last n
+        (record {
+          shared = all_share 0 (own ∷ draws) a.shares a.took;
+          table = holds_all history (own ∷ draws) a.shares turns whole a.took;
+          all_left = a.left;
+          added = subst (λ (m : GroupsByKey). AddsTable history m last) a.map_is added;
+        })
+        once all few items
+
+    -- ---- what is said of all
+
+    pub workers_shared : (vs : ℕ → Use) → ((n i : ℕ) → (vs n).turns i ≡ (uses n).turns i) → ((n : ℕ) → (vs n).pages ≡ (uses n).pages) → (n : ℕ) (draws : List (List ℕ)) (shares : List Share) (ws : List (Returned WorkerEnd))
+        → length ws ≡ length draws → AllTookPart n draws shares → AreNumbered n (map_list (λ (w : Returned WorkerEnd). w.number) ws) → AllZip (λ ds (w : Returned WorkerEnd). SharedItsBlocks plan records ds (vs w.number)) draws ws
+    workers_shared vs turns pages n [] [] [] long t k = tt
+    workers_shared vs turns pages n [] [] (w ∷ ws) long t k = let no : ⊥ = grind arith in absurd no
+    workers_shared vs turns pages n [] (s ∷ shares) ws long t k = absurd t
+    workers_shared vs turns pages n (ds ∷ draws) [] ws long t k = absurd t
+    workers_shared vs turns pages n (ds ∷ draws) (s ∷ shares) [] long t k = let no : ⊥ = grind arith in absurd no
+    workers_shared vs turns pages n (ds ∷ draws) (s ∷ shares) (w ∷ ws) long t k = (
+      subst (λ j. SharedItsBlocks plan records ds (vs j)) (sym k.0) (part_shared ds (uses n) (vs n) s (turns n) (pages n) t.0),
+      workers_shared vs turns pages (suc n) draws shares ws (omega (arith, long)) t.1 k.1,
+    )

@@ -1,0 +1,17 @@
+-- What stands in the table of groups when all participants are home, and what comes of it.
+use Rattle.std.specs.Prelude.{◌≡◌, ℕ, Option, Some, None}
+use Rattle.agg_cell.specs.Called.{Seen}
+use Rattle.agg_table.specs.Drained.{AddsTable}
+use Rattle.partial_agg.specs.Groups.{GroupsByKey}
+
+-- what stands in a table with these histories, if there is one, was added to a map
+abbrev pub AddsAll : Option Seen → GroupsByKey → GroupsByKey → Type 0
+AddsAll None before now = now ≡ before
+AddsAll (Some history) before now = AddsTable history before now
+
+-- a table shows the histories that it showed
+abbrev pub SameHistories : Option Seen → Option Seen → Type 0
+SameHistories None None = Unit {0}
+SameHistories (Some old) (Some new) = (i : ℕ) → new i ≡ old i
+SameHistories None (Some new) = ⊥
+SameHistories (Some old) None = ⊥

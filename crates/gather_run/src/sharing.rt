@@ -1,0 +1,127 @@
+//! The leader's blocks: without a table of groups it adds their rows to its map. With one it does as the workers do: it
+//! puts the groups of each block into the table, one call each, and keeps in its map only a group for which the table
+//! has no room.
+
+ghost use Rattle.std.specs.Prelude.{◌≡◌, ◌<◌, ◌+◌, ◌*◌, All, IfErr, OnOk, length};
+ghost use Rattle.std.specs.FinMap as map;
+ghost use Rattle.agg_table.specs.Tokens.{Grew, IsPart, IsSeat, StaysSeated, use_in, use_of};
+ghost use Rattle.par_model.specs.Columns.{HasColumns};
+ghost use Rattle.partial_agg.specs.Rows.{IsAccepted, block_rows, header_width};
+ghost use Rattle.gather_law.specs.Tuples.{groups_of};
+ghost use Rattle.gather_run.specs.Sharing.{DoesBlock, IsSeated, SharesGroup, SharesGroups, StopsAt};
+
+use csv_rows::RowStore;
+use par_model::{AggState, BoundPlan};
+use parallel_ctx::{HashPart, HashSeat};
+use partial_agg::{BLOCK_ROWS, BlockAnswer, GroupKey, GroupMap};
+use region_words::Region;
+use std::alloc::AllocError;
+use std::sync::Wait;
+
+/// Puts a group into the table, or adds it to the map where the table has no room.
+fn share_group<R: Wait>(
+    rt: &R,
+    r: &Region,
+    part: &HashPart,
+    seat: &mut HashSeat,
+    groups: &mut GroupMap,
+    key: GroupKey,
+    state: &AggState,
+) -> Result<(), AllocError>
+    requires part { IsPart r.now part.now }
+    requires seat { IsSeat part.now seat.old }
+    ensures seat { IsSeat part.now seat.new × Grew seat.old seat.new }
+    ensures shared { OnOk result (SharesGroup (use_of seat.old) (use_of seat.new) groups.old groups.new (key, state.now)) }
+{
+    if part.put(rt, r, seat, &key, state) {
+        return Ok(());
+    }
+    groups.add(key, state)
+}
+
+/// Shares out all groups of a block's map, in the order of their keys.
+fn share_groups<R: Wait>(
+    rt: &R,
+    r: &Region,
+    part: &HashPart,
+    seat: &mut HashSeat,
+    block_groups: &mut GroupMap,
+    groups: &mut GroupMap,
+) -> Result<(), AllocError>
+    requires part { IsPart r.now part.now }
+    requires seat { IsSeat part.now seat.old }
+    ensures seat { IsSeat part.now seat.new × Grew seat.old seat.new }
+    ensures empty { OnOk result (block_groups.new ≡ map.empty) }
+    ensures shared { OnOk result (SharesGroups (map.entries block_groups.old) (use_of seat.old) (use_of seat.new) groups.old groups.new) }
+{
+    for _ in rt.forever() {
+        let Some((key, state)) = block_groups.take_first() else {
+            return Ok(());
+        };
+        share_group(rt, r, part, seat, groups, key, &state)?;
+    }
+    unreachable!()
+}
+
+/// Shares out the groups of a block. Their map is empty before, and afterwards where the block was done.
+fn share_block<R: Wait>(
+    rt: &R,
+    r: &Region,
+    plan: &BoundPlan,
+    rows: &RowStore,
+    block: u64,
+    part: &HashPart,
+    seat: &mut HashSeat,
+    block_groups: &mut GroupMap,
+    groups: &mut GroupMap,
+) -> Result<(), BlockAnswer>
+    requires block { BLOCK_ROWS * block + 1 < length rows.now }
+    requires columns { HasColumns plan.now (header_width rows.now) }
+    requires part { IsPart r.now part.now }
+    requires seat { IsSeat part.now seat.old }
+    requires empty { block_groups.old ≡ map.empty }
+    ensures seat { IsSeat part.now seat.new × Grew seat.old seat.new }
+    ensures empty { OnOk result (block_groups.new ≡ map.empty) }
+    ensures accepted { OnOk result (All (IsAccepted plan.now (header_width rows.now)) (block_rows rows.now block)) }
+    ensures shared { OnOk result (SharesGroups (groups_of plan.now (block_rows rows.now block)) (use_of seat.old) (use_of seat.new) groups.old groups.new) }
+    ensures stopped { IfErr result (StopsAt plan.now rows.now block) }
+{
+    if let Err(why) = block_groups.add_block(rows, plan, block) {
+        return Err(why);
+    }
+    if share_groups(rt, r, part, seat, block_groups, groups).is_err() {
+        return Err(BlockAnswer::Memory);
+    }
+    Ok(())
+}
+
+/// Does a block of the leader's: shares out its groups where there is a table, and else adds its rows to the map.
+pub(crate) fn do_block<R: Wait>(
+    rt: &R,
+    r: &Region,
+    plan: &BoundPlan,
+    rows: &RowStore,
+    block: u64,
+    part: &Option<HashPart>,
+    seat: &mut Option<HashSeat>,
+    block_groups: &mut GroupMap,
+    groups: &mut GroupMap,
+) -> Result<(), BlockAnswer>
+    requires block { BLOCK_ROWS * block + 1 < length rows.now }
+    requires columns { HasColumns plan.now (header_width rows.now) }
+    requires seat { IsSeated r.now part.now seat.old }
+    requires empty { block_groups.old ≡ map.empty }
+    ensures seat { StaysSeated part.now seat.old seat.new }
+    ensures empty { OnOk result (block_groups.new ≡ map.empty) }
+    ensures accepted { OnOk result (All (IsAccepted plan.now (header_width rows.now)) (block_rows rows.now block)) }
+    ensures done { OnOk result (DoesBlock plan.now rows.now block (use_in seat.old) (use_in seat.new) groups.old groups.new) }
+    ensures stopped { IfErr result (StopsAt plan.now rows.now block) }
+{
+    match seat {
+        None => groups.add_block(rows, plan, block),
+        Some(seat) => match part {
+            None => unreachable!(),
+            Some(part) => share_block(rt, r, plan, rows, block, part, seat, block_groups, groups),
+        },
+    }
+}

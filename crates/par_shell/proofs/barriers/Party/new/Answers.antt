@@ -1,7 +1,0 @@
-use Rattle.std.proofs.Common.{[], refl}
-use Rattle.par_shell.proofs.barriers.Party.new.Goals as goal
-
-pub returns-clause-party : goal.returns-clause-party
-returns-clause-party c =
-    let s = c.in_ok-barrier.ensures in
-    record { all = s.passes; seen = ([], λ k p e. (s.fresh k p e).0, refl) }

@@ -1,0 +1,16 @@
+use Rattle.std.proofs.Common.{rules, true, Bool, ◌≡◌, ◌+◌, ◌*◌, ◌∙◌, ℕ, ap, subst, sym, arith}
+use Rattle.free_pages.specs.Area.{area_size}
+use Rattle.shm_toc.specs.Table.{Table, place_of, table_of}
+use Rattle.parallel_ctx.specs.Making.{IsMaking, hash_size, with_queue}
+use Rattle.parallel_ctx.proofs.Room.{making-area, making-from, same_plan}
+use Rattle.parallel_ctx.proofs.hashing.open_hash.Goals as goal
+
+pub returns-clause-plan : goal.returns-clause-plan
+returns-clause-plan g c =
+    ap (λ (t : Table). place_of t.entries 1) c.area_chunk-chunk.ensures.entered
+    ∙ same_plan (table_of c.args.toc.now.words) 2 (8 * area_size c.args.pages) c.area_chunk-chunk.result.at (omega arith)
+
+pub returns-clause-making : goal.returns-clause-making
+returns-clause-making g c left m =
+    subst (λ (t : Table). IsMaking t 16 left) (sym c.area_chunk-chunk.ensures.entered)
+    (making-area (table_of c.args.toc.now.words) c.args.pages left c.area_chunk-chunk.result.at (subst (λ (b : Bool). IsMaking (table_of c.args.toc.now.words) 2 (8 * hash_size b c.args.pages + left)) (let t : c.args.with_table ≡ true = search rules in t) m))

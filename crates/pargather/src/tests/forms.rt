@@ -1,0 +1,256 @@
+//! What the words that begin with `merge`, `join` and `gen` answer, and that to the call in the caller's thread they are
+//! no plan. More rows of joins stand in `par_join`, and of generated rows in `gen_query`.
+
+use super::{Failing, LETTERS, NO_FAULTS, Pieces, USAGE, ask, ask_alone, bytes_of, check};
+use par_gather::{OpenGate, Ran};
+use std::test::Fail;
+
+/// Words, the input, the calls that fail, and what is answered: the status, and what the two sinks were given.
+type Row = (
+    &'static str,
+    Pieces<'static>,
+    Failing<'static>,
+    u8,
+    &'static str,
+    &'static str,
+);
+
+const PAIRS: Pieces<'static> = &[("g,v\nb,1\na,2\nb,0\na,1\n", 1)];
+
+const TWO: Pieces<'static> = &[("id,a\n1,x\n2,y\n1,z\n%\nid,b\n1,p\n1,t\n", 1)];
+
+/// Quotes, a comma and an end of line in fields; bytes are compared, and a front comes before what is longer.
+const QUOTED: Pieces<'static> = &[(
+    "g,v\r\n\"b\nc\",1\r\nb,\"2,0\"\r\n\"\",\"a\"\"b\"\r\nB,3\r\n",
+    1,
+)];
+
+const MERGE_USAGE: &str = "pargather: usage: pargather merge COLUMNS N\n";
+
+const JOINED: &str = "id,a,id,b\n1,x,1,p\n1,x,1,t\n1,z,1,p\n1,z,1,t\n";
+
+const ROWS: &[Row] = &[
+    (
+        "merge g 2",
+        PAIRS,
+        NO_FAULTS,
+        0,
+        "g,v\na,2\na,1\nb,1\nb,0\n",
+        "",
+    ),
+    (
+        "merge v,g 0",
+        PAIRS,
+        NO_FAULTS,
+        0,
+        "g,v\nb,0\na,1\nb,1\na,2\n",
+        "",
+    ),
+    (
+        "merge g 1",
+        QUOTED,
+        NO_FAULTS,
+        0,
+        "g,v\n,\"a\"\"b\"\nB,3\nb,\"2,0\"\n\"b\nc\",1\n",
+        "",
+    ),
+    ("merge g 3", &[("g,v\n", 1)], NO_FAULTS, 0, "g,v\n", ""),
+    (
+        "merge w 1",
+        PAIRS,
+        NO_FAULTS,
+        2,
+        "",
+        "pargather: no column w\n",
+    ),
+    ("merge g 1", &[], NO_FAULTS, 2, "", "pargather: no header\n"),
+    ("merge g", PAIRS, NO_FAULTS, 2, "", MERGE_USAGE),
+    ("merge", PAIRS, NO_FAULTS, 2, "", MERGE_USAGE),
+    ("merge g 1 2", PAIRS, NO_FAULTS, 2, "", MERGE_USAGE),
+    ("merge g, 1", PAIRS, NO_FAULTS, 2, "", MERGE_USAGE),
+    ("merge g 65", PAIRS, NO_FAULTS, 2, "", MERGE_USAGE),
+    ("merge g +1", PAIRS, NO_FAULTS, 2, "", MERGE_USAGE),
+    (
+        "merge g 1",
+        &[("g,v\nb\n", 1)],
+        NO_FAULTS,
+        1,
+        "",
+        "pargather: row 1: wrong number of fields\n",
+    ),
+    (
+        "merge g 2",
+        PAIRS,
+        Failing {
+            reads: &[2],
+            writes: &[],
+            lines: &[],
+        },
+        3,
+        "",
+        "pargather: read fault\n",
+    ),
+    (
+        "merge g 2",
+        PAIRS,
+        Failing {
+            reads: &[],
+            writes: &[3],
+            lines: &[],
+        },
+        4,
+        "g,v\na,2\na,",
+        "pargather: write fault\n",
+    ),
+    ("join id 0", TWO, NO_FAULTS, 0, JOINED, ""),
+    ("join id 3", TWO, NO_FAULTS, 0, JOINED, ""),
+    (
+        "join b 1",
+        TWO,
+        NO_FAULTS,
+        2,
+        "",
+        "pargather: no left column b\n",
+    ),
+    (
+        "join id",
+        TWO,
+        NO_FAULTS,
+        2,
+        "",
+        "pargather: usage: pargather join COLUMN N\n",
+    ),
+    // the source is not read: its first read would fail
+    (
+        "gen 1 1",
+        LETTERS,
+        Failing {
+            reads: &[1],
+            writes: &[],
+            lines: &[],
+        },
+        0,
+        "rows 1 groups 1 sum -1000\n",
+        "",
+    ),
+    ("gen 1 0", &[], NO_FAULTS, 0, "rows 0 groups 0 sum 0\n", ""),
+    (
+        "gen 1 2",
+        &[],
+        NO_FAULTS,
+        0,
+        "rows 2 groups 2 sum -56\n",
+        "",
+    ),
+    ("gen 0 5", &[], NO_FAULTS, 2, "", USAGE),
+    (
+        "gen 1 4194305",
+        LETTERS,
+        Failing {
+            reads: &[1],
+            writes: &[],
+            lines: &[],
+        },
+        2,
+        "",
+        USAGE,
+    ),
+    ("gen 1", &[], NO_FAULTS, 2, "", USAGE),
+    ("gen", &[], NO_FAULTS, 2, "", USAGE),
+    (
+        "gen 1 2",
+        &[],
+        Failing {
+            reads: &[],
+            writes: &[2],
+            lines: &[2],
+        },
+        4,
+        "rows ",
+        "parga",
+    ),
+    ("generate 1 2", LETTERS, NO_FAULTS, 2, "", USAGE),
+];
+
+#[test]
+fn answers_worked_rows(rt: HostRuntime) -> Result<(), Fail> {
+    for (words, input, failing, status, out, line) in ROWS {
+        let input = bytes_of(rt.alloc(), input)?;
+        let answer = ask(&rt, rt.alloc(), words, input, *failing, &OpenGate)?;
+        check(
+            &rt,
+            words,
+            &answer,
+            *status,
+            out.as_bytes(),
+            line.as_bytes(),
+        );
+    }
+    Ok(())
+}
+
+/// To the call in the caller's thread these words are no plan.
+#[test]
+fn no_plan_alone(rt: HostRuntime) -> Result<(), Fail> {
+    for words in ["merge g 2", "join id 2", "gen 1 2"] {
+        let input = bytes_of(rt.alloc(), TWO)?;
+        let answer = ask_alone(rt.alloc(), words, input, NO_FAULTS)?;
+        check(&rt, words, &answer, 2, b"", USAGE.as_bytes());
+    }
+    Ok(())
+}
+
+/// 2,000 rows, of which row i has i modulo 7.
+#[test]
+fn two_thousand_rows(rt: HostRuntime) -> Result<(), Fail> {
+    let alloc = rt.alloc();
+    let mut wanted = Vec::from_slice(alloc, b"n\n")?;
+    for digit in 0..7u8 {
+        for row in 1..=2_000u64 {
+            if row % 7 == u64::from(digit) {
+                wanted.extend_from_slice(&[b'0' + digit, b'\n'])?;
+            }
+        }
+    }
+    for words in ["merge n 0", "merge n 1", "merge n 3"] {
+        let mut text = Vec::from_slice(alloc, b"n\n")?;
+        for row in 1..=2_000u64 {
+            text.extend_from_slice(&[b'0' + (row % 7) as u8, b'\n'])?;
+        }
+        let answer = ask(&rt, alloc, words, text, NO_FAULTS, &OpenGate)?;
+        check(&rt, words, &answer, 0, wanted.as_slice(), b"");
+        let Some(Ran::Merge(merged)) = &answer.ran else {
+            return Err(Fail::new("nothing is said of the run"));
+        };
+        assert_eq!(rt; merged.order.len(), 2_000);
+    }
+    Ok(())
+}
+
+/// Beside joined records `ran` has the join: a pass of the table's area for each worker and one for the caller.
+#[test]
+fn said_of_a_join(rt: HostRuntime) -> Result<(), Fail> {
+    for (words, passes) in [("join id 0", 1), ("join id 3", 4)] {
+        let input = bytes_of(rt.alloc(), TWO)?;
+        let answer = ask(&rt, rt.alloc(), words, input, NO_FAULTS, &OpenGate)?;
+        let Some(Ran::Join(joined)) = &answer.ran else {
+            return Err(Fail::new("nothing is said of the run"));
+        };
+        assert_eq!(rt; joined.areas.len(), passes);
+        assert_eq!(rt; joined.pairs.len(), 4);
+    }
+    Ok(())
+}
+
+/// Beside the line of generated rows `ran` has their groups, which two workers were asked for.
+#[test]
+fn said_of_generated_rows(rt: HostRuntime) -> Result<(), Fail> {
+    let nothing = Vec::new(rt.alloc());
+    let answer = ask(&rt, rt.alloc(), "gen 7 5000", nothing, NO_FAULTS, &OpenGate)?;
+    let Some(Ran::Gather(gathered)) = &answer.ran else {
+        return Err(Fail::new("nothing is said of the run"));
+    };
+    assert_eq!(rt; gathered.finished.workers.len(), 2);
+    assert!(rt; gathered.groups.len() > 900);
+    Ok(())
+}

@@ -1,0 +1,92 @@
+//! One table, whatever plan the words ask for, and however many workers.
+
+use super::{NO_FAULTS, ask, check, check_both};
+use par_gather::{OpenGate, TABLE};
+use std::alloc::{AllocError, Global};
+use std::test::Fail;
+
+/// A thousand orders of an item whose name is quoted.
+fn orders(alloc: Global) -> Result<Vec<u8>, AllocError> {
+    let mut text = Vec::from_slice(alloc, b"region,item,cents\n")?;
+    for cents in 1..=1000u32 {
+        let line = format!(in alloc; "R{},\"box, large\",{}\n", cents % 12, cents)?;
+        text.extend_from_slice(line.as_bytes())?;
+    }
+    Ok(text)
+}
+
+const BY_REGION: &str =
+    "region,count,sum(cents),avg(cents)\nR0,83,41832,504.0000\nR1,84,41916,499.0000\nR10,83,41666,502.0000\nR11,83,41749,503.0000\nR2,84,42000,500.0000\nR3,84,42084,501.0000\nR4,84,42168,502.0000\nR5,83,41251,497.0000\nR6,83,41334,498.0000\nR7,83,41417,499.0000\nR8,83,41500,500.0000\nR9,83,41583,501.0000\n";
+
+const ORDERS: &[(&str, &str)] = &[
+    ("--group region --agg count,sum:cents,avg:cents", BY_REGION),
+    (
+        "--group region --agg count,sum:cents,avg:cents --plan hash",
+        BY_REGION,
+    ),
+    (
+        "--group region --agg count,sum:cents,avg:cents --plan hash --area-pages 0",
+        BY_REGION,
+    ),
+    (
+        "--group item --agg count",
+        "item,count\n\"box, large\",1000\n",
+    ),
+];
+
+#[test]
+fn thousand_orders(rt: HostRuntime) -> Result<(), Fail> {
+    let text = orders(rt.alloc())?;
+    for (words, out) in ORDERS {
+        check_both(
+            &rt,
+            rt.alloc(),
+            words,
+            text.as_slice(),
+            NO_FAULTS,
+            0,
+            out.as_bytes(),
+            b"",
+        )?;
+    }
+    Ok(())
+}
+
+/// So many rows, of which three in a row have one key.
+fn keyed(alloc: Global, rows: u32) -> Result<Vec<u8>, AllocError> {
+    let mut text = Vec::from_slice(alloc, b"k,v\n")?;
+    for row in 0..rows {
+        let line = format!(in alloc; "key {},{}\n", row / 3, row % 100)?;
+        text.extend_from_slice(line.as_bytes())?;
+    }
+    Ok(text)
+}
+
+/// With 16 pages, the fewest with which there is a shared table, many groups find no room in it.
+#[test]
+fn the_same_bytes(rt: HostRuntime) -> Result<(), Fail> {
+    let alloc = rt.alloc();
+    let text = keyed(alloc, 3_000)?;
+    let copy = Vec::from_slice(alloc, text.as_slice())?;
+    let first = "--group k --agg count,sum:v,avg:v --workers 0";
+    let wanted = ask(&rt, alloc, first, copy, NO_FAULTS, &OpenGate)?;
+    assert_eq!(rt; wanted.status, TABLE);
+    for plan in ["gather", "hash", "hash --area-pages 16"] {
+        for workers in [0, 1, 3, 16, 64u32] {
+            let words = format!(in alloc;
+                "--group k --agg count,sum:v,avg:v --workers {workers} --plan {plan}"
+            )?;
+            let copy = Vec::from_slice(alloc, text.as_slice())?;
+            let answer = ask(&rt, alloc, words.as_str(), copy, NO_FAULTS, &OpenGate)?;
+            check(
+                &rt,
+                words.as_str(),
+                &answer,
+                TABLE,
+                wanted.out.as_slice(),
+                b"",
+            );
+        }
+    }
+    Ok(())
+}

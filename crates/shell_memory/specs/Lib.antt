@@ -1,0 +1,4 @@
+pub mod Names
+pub mod Chunks
+pub mod Tables
+pub mod Contents

@@ -1,0 +1,22 @@
+use Rattle.std.proofs.Common.{◌≡◌}
+use Rattle.std.specs.FinMap as map
+use Rattle.agg_table.specs.Tokens.{Grew, IsSeat, use_of}
+use Rattle.scan_claim.specs.Shown.{Belongs, blocks_of, draws_of, number_of}
+use Rattle.worker_run.specs.Tabled.{IsTabling}
+use Rattle.worker_run.specs.Steps.{KeepsQueues}
+use Rattle.worker_run.proofs.tabled.table_all.Given as goal
+
+abbrev pub invariant-loop : goal.invariant-loop
+invariant-loop g l = record {
+  can_next : (goal.iterator-loop g).can_next l.iterator';
+  finite : (goal.iterator-loop g).is_finite l.iterator';
+  seat : Belongs l.claims l.claim;
+  number : number_of l.claim ≡ number_of l.initial.claim;
+  hash : IsSeat l.part l.seat;
+  grew : Grew l.initial.seat l.seat;
+  errors_kept : l.errors ≡ record l.initial.errors { end = l.errors.end };
+  tuples_kept : l.tuples ≡ record l.initial.tuples { end = l.tuples.end };
+  queues : KeepsQueues l.initial.errors.end l.initial.tuples.end l.errors.end l.tuples.end;
+  empty : l.groups ≡ map.empty;
+  working : IsTabling l.plan l.rows (draws_of l.claim) (use_of l.seat) l.errors.end l.tuples.end;
+}

@@ -1,0 +1,89 @@
+-- A worker with a table of groups: the groups of its blocks that it put into the table, and those that it sent.
+use Rattle.std.specs.Prelude.{◌≡◌, ◌⊎◌, ◌++◌, ℕ, List, [], ◌∷◌, All, IsTrue, Option, Some, None, length}
+use Rattle.std.specs.FinMap as map
+use Rattle.std.specs.List.{flat_map}
+use Rattle.agg_table.specs.Calls.{HasPut, IsLeft, IsPut, Use}
+use Rattle.error_queue.specs.Message.{encoding}
+use Rattle.error_queue.specs.declared.ErrorMessage.TheVariants as message
+use Rattle.mq_handle.specs.Messages.{whole_of}
+use Rattle.par_model.specs.Plan.{Plan}
+use Rattle.partial_agg.specs.Rows.{IsAccepted, block_rows, header_width}
+use Rattle.ring_rule.specs.Ring.{Sending}
+use Rattle.scan_claim.specs.Drawing.{is_spent}
+use Rattle.tuple_codec.specs.Tuple.{IsTuple, tuple_bytes}
+use Rattle.gather_law.specs.Tuples.{Group, IsTupleOf, Table, groups_of, rows_of_blocks}
+use Rattle.worker_run.specs.Ended.{Ended, HasEnded, IsNotice, Sends}
+use Rattle.worker_run.specs.Sent.{AreWritten, FoundGone, HasSent, IsReady, tuples_of}
+use Rattle.worker_run.specs.declared.WorkerEnd.{WorkerEnd}
+use Rattle.worker_run.specs.declared.WorkerEnd.TheVariants.{Finished, Stopped, Refused, NoMemory}
+
+-- the groups of some blocks, each block's in the order of their keys
+abbrev pub groups_of_blocks : Plan → Table → List ℕ → List Group
+groups_of_blocks plan records blocks = flat_map (λ b. groups_of plan (block_rows records b)) blocks
+
+-- ---- steps
+
+-- one group was put into the table, or was left and sent as a tuple
+abbrev pub GivesGroup : ℕ → Use → Use → Sending → Sending → Group → Type 0
+GivesGroup slots u v old new g = (IsPut u v g × (new ≡ old)) ⊎ (IsLeft u v g × IsTuple g.0 g.1 slots × HasSent old new (tuple_bytes g.0 g.1 slots ∷ []))
+
+-- some groups were put into the table or sent, each of them once
+pub record GivesGroups (slots : ℕ) (groups : List Group) (u v : Use) (old new : Sending) : Type 0 where
+  pub put : List Group
+  pub left : List Group
+  pub more : (before ps ls : List Group) → HasPut before u ps ls → HasPut (before ++ groups) v (ps ++ put) (ls ++ left)
+  pub written : AreWritten slots left
+  pub sent : HasSent old new (tuples_of slots left)
+
+-- a send found that the receiver is gone; before it some groups were sent
+pub record StoppedGiving (slots : ℕ) (old new : Sending) : Type 0 where
+  pub done : List Group
+  pub written : AreWritten slots done
+  pub found : FoundGone old new (tuples_of slots done)
+
+-- ---- between two blocks
+
+-- Of the groups of its blocks, whose rows are not refused, it has put each into the table, or has sent it as a tuple of
+-- its own. It has sent no notice
+pub record IsTabling (plan : Plan) (records : Table) (draws : List ℕ) (u : Use) (errors tuples : Sending) : Type 0 where
+  pub put : List Group
+  pub left : List Group
+  pub has : HasPut (groups_of_blocks plan records draws) u put left
+  pub accepted : All (IsAccepted plan (header_width records)) (rows_of_blocks records draws)
+  pub sent : whole_of tuples.put ≡ tuples_of (length plan.items) left
+  pub written : AreWritten (length plan.items) left
+  pub silent : whole_of errors.put ≡ []
+  pub errors_ready : IsReady 14 errors
+  pub tuples_ready : IsReady 581 tuples
+
+-- ---- the ends
+
+-- A worker that finished: there are no more blocks, none of its rows is refused, each group of each of its blocks is one
+-- call of the table or one tuple, and it said that it has finished
+pub record IsFinishedBy (plan : Plan) (records : Table) (blocks : ℕ) (draws : List ℕ) (u : Use) (s : Sends) : Type 0 where
+  pub spent : IsTrue (is_spent blocks draws)
+  pub accepted : All (IsAccepted plan (header_width records)) (rows_of_blocks records draws)
+  pub put : List Group
+  pub left : List Group
+  pub has : HasPut (groups_of_blocks plan records draws) u put left
+  pub sent : s.tuples ≡ tuples_of (length plan.items) left
+  pub written : AreWritten (length plan.items) left
+  pub said : s.errors ≡ encoding message.End ∷ []
+
+-- what each end says; the others say what those of a worker without a table do
+abbrev pub EndedBy : Plan → Table → ℕ → List ℕ → Use → Sends → WorkerEnd → Type 0
+EndedBy plan records blocks draws u s Finished = IsFinishedBy plan records blocks draws u s
+EndedBy plan records blocks draws u s Stopped = Ended plan records blocks draws s Stopped
+EndedBy plan records blocks draws u s (Refused row cause item) = Ended plan records blocks draws s (Refused row cause item)
+EndedBy plan records blocks draws u s NoMemory = Ended plan records blocks draws s NoMemory
+
+-- what a worker with a table has done when it ends
+pub record HasEndedBy (plan : Plan) (records : Table) (blocks : ℕ) (draws : List ℕ) (u : Use) (s : Sends) (end : WorkerEnd) : Type 0 where
+  pub ended : EndedBy plan records blocks draws u s end
+  pub notices : All (IsNotice plan records draws) s.errors
+  pub tuples : All (IsTupleOf plan) s.tuples
+
+-- what a worker has done when it ends, with a table or without
+abbrev pub EndsWith : Plan → Table → ℕ → List ℕ → Option Use → Sends → WorkerEnd → Type 0
+EndsWith plan records blocks draws None s end = HasEnded plan records blocks draws s end
+EndsWith plan records blocks draws (Some u) s end = HasEndedBy plan records blocks draws u s end
