@@ -113,3 +113,17 @@ run_just first pages heads q n place runs words out_words records p f w e = (
   subst (λ (o : Owned). HasJust o.words place (512 * n)) (sym w)
       (subst (λ (z : ℕ). HasJust (range_of words.words (first + 512 * q) (512 * n)) z (512 * n)) (sym e) (run_words first pages heads q n runs words records p f)),
 )
+
+-- where a walk grants nothing
+pub after_walk : (first pages heads : ℕ) (runs runs2 words records : Owned) → IsPages first pages heads runs words records → runs2.region ≡ runs.region → IsRuns runs2.words heads pages
+    → granted_in runs2.words heads pages ≡ granted_in runs.words heads pages → IsPages first pages heads runs2 words records
+after_walk first pages heads runs runs2 words records p region laid same = record {
+  words_here = p.words_here ∙ sym region;
+  records_here = p.records_here ∙ sym region;
+  place = p.place;
+  valid = p.valid;
+  low = p.low;
+  runs_are = laid;
+  keeps = subst (λ (gs : List Granted). HasKept words.words first 512 pages (is_taken gs)) (sym same) p.keeps;
+  keeps_records = subst (λ (gs : List Granted). HasKept records.words (heads + pages) 7 pages (is_recorded gs)) (sym same) p.keeps_records;
+}

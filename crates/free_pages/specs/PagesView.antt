@@ -1,11 +1,11 @@
 -- The pages of an area as a value, and what its parts own.
-use Rattle.std.specs.Prelude.{◌≡◌, ℕ, ◌+◌, ◌*◌, ◌-◌, ◌/◌, ◌<◌, ◌≤◌, Bool, true, false, not, ◌&&◌, List, Option, Some, None, is_some, refl}
+use Rattle.std.specs.Prelude.{◌≡◌, ℕ, ◌+◌, ◌*◌, ◌-◌, ◌/◌, ◌<◌, ◌≤◌, Bool, true, false, not, ◌&&◌, List, Option, Some, None, is_some, IfSome, refl}
 use Rattle.std.specs.Coded.{Coded, code_by, coded×, coded_ℕ, coded_bool, coded_list}
 use Rattle.atomic_table.specs.Seated.{TableId, table_id_coded}
 use Rattle.word_map.specs.WordMap.{WordMap, at, is_within, range_of, rest_of, union}
 use Rattle.region_words.specs.Parts.{Owned, owned}
 use Rattle.free_pages.specs.Area.{front, page_words, record_words, HasRecords}
-use Rattle.free_pages.specs.Legal.{Granted, PagesState, is_taken, is_recorded}
+use Rattle.free_pages.specs.Legal.{Granted, PagesState, IsLargest, is_taken, is_recorded}
 use Rattle.free_pages.specs.Runs.{IsRuns, granted_in}
 
 -- the region, the first word of page 0, and the state
@@ -46,6 +46,10 @@ pub record IsPages (first pages heads : ℕ) (runs words records : Owned) : Type
   pub runs_are : IsRuns runs.words heads pages
   pub keeps : HasKept words.words first page_words pages (is_taken (granted_in runs.words heads pages))
   pub keeps_records : HasKept records.words (heads + pages) record_words pages (is_recorded (granted_in runs.words heads pages))
+
+-- the longest run of free pages, where it is known
+abbrev pub IsLongest : ℕ → List Granted → Option ℕ → Type 0
+IsLongest pages granted known = IfSome known (λ n. IsLargest pages granted n)
 
 -- the tokens of a run of n of these pages: its control records are those of its pages, or did not go with them
 pub record IsRunOf (region : TableId) (first pages n : ℕ) (control : Bool) (place run_pages : ℕ) (words : Owned) (records : Option Owned) : Type 0 where

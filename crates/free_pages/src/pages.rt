@@ -41,6 +41,8 @@ pub struct Pages {
     heads: u64,
     /// A page before which every page is granted; a run begins there, or the pages end. A walk begins here.
     filled: u64,
+    /// The pages of the longest free run, from the walk that told it until a run is granted or given back.
+    longest: Option<u32>,
     /// The words at the head and the run words.
     runs: Part,
     /// The words of the pages that are not granted.
@@ -51,7 +53,7 @@ pub struct Pages {
 
 impl Model for Pages {
     ghost use Rattle.free_pages.specs.Runs.{IsFilled, granted_in};
-    ghost use Rattle.free_pages.specs.PagesView.{PagesView, pages_view_code, pages_view, IsPages};
+    ghost use Rattle.free_pages.specs.PagesView.{PagesView, pages_view_code, pages_view, IsPages, IsLongest};
 
     ghost Value = { PagesView };
 
@@ -59,7 +61,7 @@ impl Model for Pages {
 
     ghost view = { λ p. pages_view p.runs.region p.first p.pages (granted_in p.runs.words p.heads p.pages) };
 
-    ghost invariant = { λ p. IsPages p.first p.pages p.heads p.runs p.words p.records × IsFilled p.runs.words p.heads p.pages p.filled };
+    ghost invariant = { λ p. IsPages p.first p.pages p.heads p.runs p.words p.records × IsFilled p.runs.words p.heads p.pages p.filled × IsLongest p.pages (granted_in p.runs.words p.heads p.pages) p.longest };
 }
 
 impl Pages {
@@ -92,6 +94,7 @@ impl Pages {
             pages,
             heads,
             filled: 0,
+            longest: None,
             runs,
             words,
             records,
@@ -100,8 +103,24 @@ impl Pages {
 
     /// Any `n` pages in a row that are free, with their control records where `control` is true. Walks from run to run,
     /// from the first free page to the first free run of `n` pages, and makes one of the free runs that touch on its
-    /// way.
+    /// way; a refusal walks over all runs. Where the longest free run is known since then, a further refusal walks over
+    /// none.
     pub fn take(&mut self, r: &Region, n: u32, control: bool) -> Result<Run, NoRun>
+        requires here { self.old.region ≡ r.now }
+        requires some { 1 ≤ n }
+        ensures same { self.new ≡ record self.old { state = self.new.state } }
+        ensures taken { IfOk result (λ run. IsLegal self.old.first self.old.state (Take n control) (Gets run.at) self.new.state) }
+        ensures run { IfOk result (λ run. IsRunOf self.old.region self.old.first self.old.state.pages n control run.at run.pages run.words run.control) }
+        ensures refused { IfErr result (λ no. IsLegal self.old.first self.old.state (Take n control) (Lacks no.wanted no.largest) self.new.state) }
+    {
+        match self.longest {
+            Some(largest) if largest < n => Err(NoRun { wanted: n, largest }),
+            _ => self.look_for(r, n, control),
+        }
+    }
+
+    /// The same, by a walk.
+    fn look_for(&mut self, r: &Region, n: u32, control: bool) -> Result<Run, NoRun>
         requires here { self.old.region ≡ r.now }
         requires some { 1 ≤ n }
         ensures same { self.new ≡ record self.old { state = self.new.state } }
@@ -120,11 +139,14 @@ impl Pages {
         );
         self.filled = found.filled;
         if found.at >= self.pages {
+            let len = found.len as u32;
+            self.longest = Some(len);
             return Err(NoRun {
                 wanted: n,
-                largest: found.len as u32,
+                largest: len,
             });
         }
+        self.longest = None;
         grant(
             &mut self.runs,
             r,
@@ -175,6 +197,7 @@ impl Pages {
             return Err(run);
         }
         self.filled = smaller(self.filled, at);
+        self.longest = None;
         let Run {
             at: _,
             pages: _,
@@ -187,8 +210,20 @@ impl Pages {
     }
 
     /// The pages of the longest run that is free; 0 where no page is. Walks once over all runs from the first free page
-    /// on.
+    /// on, unless it is known from a walk since the last change.
     pub fn largest(&mut self, r: &Region) -> u32
+        requires here { self.old.region ≡ r.now }
+        ensures same { self.new ≡ self.old }
+        ensures largest { IsLargest self.old.state.pages self.old.state.granted result }
+    {
+        match self.longest {
+            Some(largest) => largest,
+            None => self.look_over(r),
+        }
+    }
+
+    /// The same, by a walk.
+    fn look_over(&mut self, r: &Region) -> u32
         requires here { self.old.region ≡ r.now }
         ensures same { self.new ≡ self.old }
         ensures largest { IsLargest self.old.state.pages self.old.state.granted result }
@@ -201,8 +236,10 @@ impl Pages {
             self.filled,
             self.pages + 1,
         );
+        let largest = found.len as u32;
         self.filled = found.filled;
-        found.len as u32
+        self.longest = Some(largest);
+        largest
     }
 }
 

@@ -42,6 +42,7 @@ invariant_of-self-2 c =
       after_give c.self.inside.first c.self.inside.pages c.self.inside.heads c.page_of-at.result c.args.run.pages c.args.run.at c.self.inside.runs c.release.new.runs c.self.inside.words c.args.run.words c.join.new.self c.self.inside.records c.join_back.new.records c.args.run.control
           c.self.invariant.0 c.if-not-release.ensures.region c.if-not-release.ensures.runs free adds place may c.args.run.just c.join.ensures.both c.join_back.ensures,
       filled_give c.self.inside.runs.words c.release.new.runs.words c.self.inside.heads c.self.inside.pages c.self.inside.filled c.page_of-at.result c.args.run.pages c.smaller-self-inside.result (is_some c.args.run.control) c.self.invariant.0.runs_are c.if-not-release.ensures.heads adds c.smaller-self-inside.ensures c.self.invariant.1,
+      tt,
     )
 
 pub returns-clause-given : goal.returns-clause-given

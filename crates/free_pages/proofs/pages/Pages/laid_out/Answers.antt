@@ -18,4 +18,5 @@ invariant_of-result c =
       new_pages c.args.first c.args.pages (c.args.first - c.front.result) c.args.control c.blank.new.runs c.args.words c.split-records.result c.requires.control c.requires.place.0 c.requires.place.1 (ap (λ (z : ℕ). c.args.first - z) c.front.ensures)
           (c.requires.here.0 ∙ sym (old ∙ c.requires.here.1)) (ap (λ (o : Owned). o.region) c.split-records.ensures.range ∙ sym old) c.blank.ensures.runs c.blank.ensures.granted c.requires.words (ap (λ (o : Owned). o.words) c.split-records.ensures.range),
       filled_none c.blank.new.runs.words (c.args.first - c.front.result) c.args.pages c.blank.ensures.runs,
+      tt,
     )

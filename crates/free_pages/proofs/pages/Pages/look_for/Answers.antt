@@ -5,7 +5,7 @@ use Rattle.free_pages.specs.Runs.{granted_in}
 use Rattle.free_pages.specs.PagesView.{PagesView, pages_view, IsRunOf}
 use Rattle.free_pages.proofs.Grants.{found_free, may_split, may_split_words, after_grant, take_is, run_is, run_just}
 use Rattle.free_pages.proofs.Filled.{filled_grant}
-use Rattle.free_pages.proofs.pages.Pages.take.Goals as goal
+use Rattle.free_pages.proofs.pages.Pages.look_for.Goals as goal
 
 pub split-words-requires-clause-owns : goal.split-words-requires-clause-owns
 split-words-requires-clause-owns c =
@@ -25,6 +25,7 @@ invariant_of-self-2 c =
       after_grant c.self.inside.first c.self.inside.pages c.self.inside.heads c.find-found.result.at c.from-count.result c.self.inside.runs c.grant.new.runs c.self.inside.words c.split-words.new.self c.self.inside.records c.split_off-control.new.records c.split_off-control.result c.args.control c.self.invariant.0
           (c.grant.ensures.region ∙ c.find-found.ensures.region) c.grant.ensures.runs adds c.split-words.ensures.rest c.split_off-control.ensures,
       filled_grant c.find-found.new.runs.words c.grant.new.runs.words c.self.inside.heads c.self.inside.pages c.find-found.result.filled _ c.grant.ensures.heads c.grant.ensures.granted c.find-found.ensures.filled,
+      tt,
     )
 
 pub invariant_of-result : goal.invariant_of-result
