@@ -9,7 +9,7 @@ use Rattle.lock_book.specs.declared.view.Entry.{Entry}
 use Rattle.lock_book.specs.History.{entry}
 use Rattle.lock_book.specs.Told.{MakesAll}
 use Rattle.free_pages.specs.Legal as pages
-use Rattle.free_pages.specs.Legal.{PagesCall, PagesReply, PagesState}
+use Rattle.free_pages.specs.Legal.{PagesCall, PagesReply}
 use Rattle.dsa_area.specs.Requests.{IsGranted, IsHandedBack, IsRefused as IsRefusedRequest, IsTakenBack}
 use Rattle.dsa_area.specs.Sizes.{page_bytes, pages_for}
 use Rattle.free_pages.specs.Area.{superblock_pages}

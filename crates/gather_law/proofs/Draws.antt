@@ -1,6 +1,5 @@
 -- Numbers that were drawn, each once, are those below the number of draws in another order; so their rows are all rows.
-use Rattle.std.proofs.Common.{◌≡◌, ◌≢◌, ◌<◌, ◌≤◌, ◌+◌, ◌*◌, ◌++◌, ◌==◌, ℕ, zero, suc, if◌then◌else◌, Bool, true, false, List, [], ◌∷◌, length, take, drop, refl, ap, sym, subst, ◌∙◌, arith, append_assoc, length-drop, take-append-drop}
-use Rattle.std.specs.List.{flat_map}
+use Rattle.std.proofs.Common.{◌≡◌, ◌≢◌, ◌<◌, ◌≤◌, ◌+◌, ◌*◌, ◌++◌, ◌==◌, ℕ, zero, suc, if◌then◌else◌, Bool, true, false, List, [], ◌∷◌, length, take, drop, refl, ap, sym, subst, ◌∙◌, arith, length-drop, take-append-drop}
 use Rattle.std.specs.List.Sorted.{IsPermutation}
 use Rattle.std.proofs.lemmas.List.{append-nil, drop-drop, drop-take, take-take, take_all}
 use Rattle.std.proofs.lemmas.List.Concat.{flat_map-append}
@@ -9,7 +8,6 @@ use Rattle.scan_claim.specs.Drawing.{times, once_below, below}
 use Rattle.partial_agg.specs.Rows.{block_rows}
 use Rattle.partial_agg.proofs.Blocks.{rows_before-next}
 use Rattle.gather_law.specs.Tuples.{Table, rows_of_blocks}
-use Rattle.gather_law.proofs.Permute.{same-permutation}
 
 -- a number taken out of a list that has it
 record Without (x : ℕ) (xs : List ℕ) : Type 0 where

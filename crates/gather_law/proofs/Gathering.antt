@@ -1,19 +1,16 @@
 -- The law: the map of the leader is that of one pass over all rows.
-use Rattle.std.proofs.Common.{◌≡◌, ◌<◌, ◌≤◌, ◌+◌, ◌*◌, ◌^◌, ◌++◌, ◌&&◌, ℕ, suc, Bool, true, false, cond, List, [], ◌∷◌, length, not, filter, fold, map, drop, All, Option, None, Some, refl, ap, sym, subst, ◌∙◌, arith, length-append, append-nil, append_assoc, bytes_eq, T}
-use Rattle.std.specs.Cmp.Lexicographic.{nat_list_cmp_total, bytes_decides}
+use Rattle.std.proofs.Common.{◌≡◌, ◌<◌, ◌≤◌, ◌+◌, ◌*◌, ◌^◌, ◌++◌, ◌&&◌, ℕ, Bool, true, false, List, [], ◌∷◌, length, not, filter, fold, map, drop, All, refl, ap, sym, subst, ◌∙◌, arith, length-append, append-nil, append_assoc, bytes_eq, T}
 use Rattle.std.specs.FinMap as fin
 use Rattle.std.specs.List.{AllZip, flat_map}
 use Rattle.std.specs.List.Sorted.{IsPermutation}
 use Rattle.std.proofs.lemmas.List.Filters.{length-filter_both}
 use Rattle.std.proofs.lemmas.List.Concat.{flat_map-append}
 use Rattle.std.proofs.lemmas.List.Elements.{All-append, All-cons, All-filter, All-head, All-nil, All-tail, filter-append, filter_passes}
-use Rattle.std.proofs.lemmas.List.Sorted.{All-permutation, IsPermutation-append, IsPermutation-append_left, IsPermutation-append_right, IsPermutation-cons, IsPermutation-map, IsPermutation-middle, IsPermutation-refl, IsPermutation-sym, IsPermutation-trans, length_permutation}
+use Rattle.std.proofs.lemmas.List.Sorted.{All-permutation, IsPermutation-append, IsPermutation-append_right, IsPermutation-cons, IsPermutation-map, IsPermutation-middle, IsPermutation-refl, IsPermutation-sym, IsPermutation-trans, length_permutation}
 use Rattle.scan_claim.specs.Drawing.{flat, once_below, times, below}
-use Rattle.par_model.specs.Aggregate.{rows_of}
 use Rattle.par_model.specs.Keep.{is_kept}
 use Rattle.par_model.specs.Plan.{Plan}
-use Rattle.par_model.specs.declared.state.AggState.{AggState}
-use Rattle.partial_agg.specs.Groups.{AreGroups, GroupsByKey, added, group_of, joined, key_cmp, with_row, with_rows}
+use Rattle.partial_agg.specs.Groups.{AreGroups, GroupsByKey, added, group_of, key_cmp, with_row, with_rows}
 use Rattle.partial_agg.specs.Rows.{IsAccepted, block_rows}
 use Rattle.partial_agg.proofs.Adding.{grouped, maps_grow, no_groups}
 use Rattle.partial_agg.proofs.Joining.{maps_add}

@@ -6,7 +6,7 @@ use Rattle.std.specs.List.{AllByRecursion, AllZip, flat_map}
 use Rattle.std.specs.List.Sorted.{IsPermutation}
 use Rattle.scan_claim.specs.Drawing.{flat, once_below, times}
 use Rattle.par_model.specs.Plan.{Plan}
-use Rattle.partial_agg.specs.Groups.{AreGroups, GroupsByKey}
+use Rattle.partial_agg.specs.Groups.{AreGroups}
 use Rattle.partial_agg.specs.Rows.{IsAccepted}
 use Rattle.gather_law.specs.Tuples.{AreTuples, Group, HasTuple, Table, groups_of, rows_of_blocks, tuple_of}
 use Rattle.gather_law.specs.Parts.{Part, after, blocks_in, received_in, with_all}

@@ -2,7 +2,6 @@
 use Rattle.std.specs.Prelude.{◌≡◌, ℕ, List, [], ◌∷◌, fold}
 use Rattle.std.specs.FinMap as map
 use Rattle.par_model.specs.Plan.{Plan}
-use Rattle.par_model.specs.declared.state.AggState.{AggState}
 use Rattle.partial_agg.specs.Groups.{GroupsByKey, added, with_rows}
 use Rattle.partial_agg.specs.Rows.{block_rows}
 use Rattle.gather_law.specs.Tuples.{Table, Group}

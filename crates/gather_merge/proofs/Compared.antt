@@ -1,5 +1,5 @@
 -- Two rows compared by their words, and column by column.
-use Rattle.std.proofs.Common.{◌≡◌, ◌<◌, ◌≤◌, ◌+◌, ◌%◌, ◌⊎◌, inl, inr, ℕ, List, [], true, false, length, drop, get_or, map, refl, ap, ap₂, sym, subst, ◌∙◌, arith}
+use Rattle.std.proofs.Common.{◌≡◌, ◌<◌, ◌≤◌, ◌+◌, ◌%◌, ◌⊎◌, inl, inr, ℕ, List, [], true, false, length, get_or, refl, ap, ap₂, sym, subst, ◌∙◌, arith}
 use Rattle.std.specs.Cmp.Lexicographic.{slice_cmp}
 use Rattle.std.specs.Ordering.{is_ne, nat_cmp, ordering_reverse, ordering_then}
 use Rattle.std.specs.declared.cmp.Ordering.{Ordering}
@@ -11,7 +11,7 @@ use Rattle.gather_law.specs.Tuples.{Table}
 use Rattle.par_model.specs.Plan.{Plan}
 use Rattle.par_model.specs.Record.{field_of}
 use Rattle.gather_merge.specs.Order.{columns_at, row_cmp}
-use Rattle.gather_merge.specs.Words.{AreWords, tail_cmp, text_at, word}
+use Rattle.gather_merge.specs.Words.{AreWords, tail_cmp}
 use Rattle.gather_merge.proofs.Levels.{level_less, level_whole, tail_level}
 use Rattle.gather_merge.proofs.Ordered.{rows_total}
 

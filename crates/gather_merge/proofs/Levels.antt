@@ -1,11 +1,10 @@
 -- How rows compare from a level on.
-use Rattle.std.proofs.Common.{◌≡◌, ◌<◌, ◌≤◌, ◌+◌, ◌%◌, ℕ, zero, suc, List, [], ◌∷◌, length, drop, get_or, All, refl, ap, ap₂, sym, subst, ◌∙◌, arith}
+use Rattle.std.proofs.Common.{◌≡◌, ◌<◌, ◌≤◌, ◌+◌, ◌%◌, ℕ, zero, suc, List, [], ◌∷◌, length, drop, get_or, refl, ap, ap₂, sym, subst, ◌∙◌, arith}
 use Rattle.std.specs.Cmp.Lexicographic.{slice_cmp}
-use Rattle.std.specs.Ordering.{is_ne, nat_cmp, ordering_then}
+use Rattle.std.specs.Ordering.{nat_cmp, ordering_then}
 use Rattle.std.specs.declared.cmp.Ordering.{Ordering}
 use Rattle.std.specs.declared.cmp.Ordering.TheVariants.{Less, Equal, Greater}
 use Rattle.std.proofs.lemmas.List.{drop-drop, drop_all, get_or_past}
-use Rattle.std.proofs.lemmas.List.Elements.{All-weaker}
 use Rattle.par_model.specs.Table.{columns_cmp}
 use Rattle.gather_merge.specs.Words.{AreBytes, tail_cmp, text_at, word}
 use Rattle.gather_merge.specs.Levels.{level_cmp}

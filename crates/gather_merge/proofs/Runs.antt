@@ -1,19 +1,19 @@
 -- Pairs that are sorted level by level: a run of pairs with the same word is sorted after the other.
-use Rattle.std.proofs.Common.{◌≡◌, ◌≢◌, ◌<◌, ◌≤◌, ◌+◌, ◌*◌, ◌-◌, ◌%◌, ◌⊎◌, inl, inr, ◌++◌, ℕ, zero, suc, Bool, true, false, List, [], ◌∷◌, length, drop, take, get_or, map, min, nat_lt, All, MatchBool, refl, ap, ap₂, sym, subst, ◌∙◌, arith, length-append, length-drop, take-append-drop}
+use Rattle.std.proofs.Common.{◌≡◌, ◌≢◌, ◌<◌, ◌≤◌, ◌+◌, ◌*◌, ◌-◌, ◌%◌, ◌⊎◌, inl, inr, ◌++◌, ℕ, Bool, true, false, List, [], ◌∷◌, length, drop, take, get_or, min, nat_lt, All, MatchBool, refl, ap, ap₂, sym, subst, ◌∙◌, arith, length-append, length-drop}
 use Rattle.std.specs.Cmp.{IsTotalOrder, nat_cmp_total, on_total, then_total}
 use Rattle.std.specs.List.Sorted.{IsPermutation, IsSorted, IsSortedBy}
 use Rattle.std.specs.Ordering.{is_lt, nat_cmp, ordering_reverse, ordering_then}
 use Rattle.std.specs.declared.cmp.Ordering.{Ordering}
-use Rattle.std.specs.declared.cmp.Ordering.TheVariants.{Less, Equal, Greater}
+use Rattle.std.specs.declared.cmp.Ordering.TheVariants.{Less}
 use Rattle.std.proofs.Math.Seq.{take-add}
 use Rattle.std.proofs.lemmas.Bool.{cases_lt}
 use Rattle.std.proofs.lemmas.List.{drop-drop, drop-map, get_or_append_left, get_or-append_right, get_or-drop, get_or-map, get_or-take, get_or_default, length-map, length-take, length-take-le, map-append, take-map, take_all}
 use Rattle.std.proofs.lemmas.List.Elements.{All-drop, All-from_get_or, All-get_or, All-map, All-take, All-weaker}
-use Rattle.std.proofs.lemmas.List.Sorted.{All-permutation, IsPermutation-append, IsPermutation-map, IsPermutation-refl, IsPermutation-trans, ranks_by, sorted_far}
+use Rattle.std.proofs.lemmas.List.Sorted.{All-permutation, IsPermutation-append, IsPermutation-map, IsPermutation-refl, ranks_by, sorted_far}
 use Rattle.std.proofs.lemmas.Slice.{drop-put_mid, take-put_mid}
 use borrow.Rule.Slice.PartMut.{put_mid, same_len_mid}
 use Rattle.gather_merge.specs.declared.sorting.Keyed.{Keyed}
-use Rattle.gather_merge.specs.Words.{AreBytes, tail_cmp, text_at, word}
+use Rattle.gather_merge.specs.Words.{AreBytes, text_at, word}
 use Rattle.gather_merge.specs.Levels.{AreTied, Follows, HaveOneWord, IsWorded, Sorts, level_cmp, pair_cmp, rows_of, word_of_pair}
 use Rattle.gather_merge.proofs.Levels.{level_done, level_less, level_next, level_whole}
 

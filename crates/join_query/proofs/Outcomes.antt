@@ -1,13 +1,13 @@
 -- Outcomes of two tables that stand in bytes.
-use Rattle.std.proofs.Common.{◌≡◌, ◌≤◌, ◌+◌, ◌<◌, ℕ, List, Option, None, Some, IfSome, Result, Err, inl, inr, length, length-append, subst, sym, ap, arith, refl, drop, take}
-use Rattle.csv_rows.specs.Records.{record_at, records_of}
+use Rattle.std.proofs.Common.{◌≡◌, ◌≤◌, ◌+◌, ◌<◌, ℕ, List, Option, None, Some, IfSome, Result, Err, inl, inr, length, length-append, subst, ap, arith, refl, drop, take}
+use Rattle.csv_rows.specs.Records.{record_at}
 use Rattle.csv_rows.specs.Turns.{ReadsCount}
 use Rattle.csv_rows.specs.declared.input.ReadAnswer.{ReadAnswer}
 use Rattle.csv_rows.specs.declared.input.ReadAnswer.TheVariants as reading
 use Rattle.gather_law.specs.Tuples.{Table}
 use Rattle.par_model.specs.Named.{column_of}
-use Rattle.par_model.specs.Outcome.{most_bytes, most_rows}
-use Rattle.join_query.specs.Outcome.{Outcome, IsCut, IsOfBytes, IsOfColumns, IsOfRows, IsOfSizes, IsOfTables, IsOutcome, left_of, right_of}
+use Rattle.par_model.specs.Outcome.{most_bytes}
+use Rattle.join_query.specs.Outcome.{Outcome, IsCut, IsOfBytes, IsOfColumns, IsOfRows, IsOfTables, IsOutcome, left_of}
 use Rattle.join_query.specs.Ready.{AreColumns, AreTables, IsReady, IsTable}
 use Rattle.join_query.specs.Stops.{Explains, IsExplained, stop_of_reading}
 use Rattle.join_query.specs.Words.{Asked}

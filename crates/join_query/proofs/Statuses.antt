@@ -3,9 +3,9 @@ use Rattle.std.proofs.Common.{◌≡◌, ◌≢◌, ◌⊎◌, ℕ, List, Option
 use Rattle.std.specs.Prelude.{Contains}
 use Rattle.query_answer.specs.Lines.{line, statuses}
 use Rattle.query_answer.specs.declared.status.TheConstants.{NO_MEMORY, TABLE}
-use Rattle.join_query.specs.Lines.{IsCauseLine, IsLine, IsNoFault, cause_status, name_of, status_of}
+use Rattle.join_query.specs.Lines.{IsLine, IsNoFault, cause_status, name_of, status_of}
 use Rattle.join_query.specs.Outcome.{Outcome, Fails, IsOutcome, Joins}
-use Rattle.join_query.specs.Stops.{Explains, IsExplained, stop_status, stop_text}
+use Rattle.join_query.specs.Stops.{IsExplained, stop_status, stop_text}
 use Rattle.join_query.specs.Words.{Asked}
 use Rattle.gather_law.specs.Tuples.{Table}
 use Rattle.join_query.specs.declared.cause.Cause.{Cause}

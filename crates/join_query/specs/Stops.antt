@@ -1,5 +1,5 @@
 -- What a reason to have no table says of the outcome.
-use Rattle.std.specs.Prelude.{ℕ, List, Option, Some, IfSome, codes, ⊤}
+use Rattle.std.specs.Prelude.{ℕ, List, Option, IfSome, codes, ⊤}
 use Rattle.csv_rows.specs.declared.input.ReadAnswer.{ReadAnswer}
 use Rattle.csv_rows.specs.declared.input.ReadAnswer.TheVariants as reading
 use Rattle.query_answer.specs.declared.status.TheConstants.{NO_MEMORY, READ_FAULT, WRITE_FAULT}

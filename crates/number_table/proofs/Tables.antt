@@ -1,5 +1,5 @@
 -- The same of a table of numbers.
-use Rattle.std.proofs.Common.{◌≡◌, ◌∙◌, ℕ, ◌+◌, ◌<◌, ◌==◌, Bool, true, false, not, ◌&&◌, List, [], ◌∷◌, is_some, Option, Some, None, Result, Ok, Err, IfOk, IfErr, fold, refl, ap, sym}
+use Rattle.std.proofs.Common.{◌≡◌, ◌∙◌, ℕ, ◌+◌, ◌<◌, ◌==◌, true, not, ◌&&◌, List, [], ◌∷◌, is_some, Option, Some, None, Result, Ok, Err, IfOk, IfErr, fold, refl, ap, sym}
 use Rattle.std.specs.FinMap as fin
 use Rattle.std.specs.List.{sum_by}
 use Rattle.lock_book.specs.Shown.{number_of}
@@ -15,7 +15,7 @@ use Rattle.dshash_parts.proofs.Cells.{refused_inserts}
 use Rattle.number_table.specs.Maps.{IsMade, IsRefused, home_of, map_of}
 use Rattle.number_table.specs.Numbers.{after, stepped}
 use Rattle.number_table.specs.declared.number.NumberCall.{NumberCall}
-use Rattle.number_table.specs.declared.number.NumberCall.TheVariants.{Put, Get, Delete}
+use Rattle.number_table.specs.declared.number.NumberCall.TheVariants.{Get, Delete}
 use Rattle.number_table.specs.declared.table.NumberTable.{NumberTable}
 use Rattle.number_table.proofs.Calls.{made_now, made_others, made_was, refused_stays}
 

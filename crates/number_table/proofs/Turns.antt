@@ -1,12 +1,11 @@
 -- What turns at a partition make of its map: only a call that was made changes it.
-use Rattle.std.proofs.Common.{◌≡◌, ◌≢◌, ◌∙◌, ℕ, ◌==◌, if◌then◌else◌, ⊎_elim, Bool, true, false, List, [], ◌∷◌, ◌++◌, Option, Some, None, refl, ap, sym, subst}
-use Rattle.std.proofs.lemmas.Bool.Decides.{eqb_tells}
+use Rattle.std.proofs.Common.{◌≡◌, ◌≢◌, ◌∙◌, ℕ, ◌==◌, if◌then◌else◌, ⊎_elim, Bool, true, false, List, [], ◌∷◌, ◌++◌, Option, Some, None, refl, ap, subst}
 use Rattle.std.specs.FinMap as fin
 use Rattle.dshash_core.specs.Cells.{KeyMap}
 use Rattle.dshash_core.specs.Outcome.{changed, next_of}
 use Rattle.dshash_parts.specs.Legal.{IsTurn, PartitionLegal}
 use Rattle.dshash_parts.specs.States.{PartitionState}
-use Rattle.dshash_parts.specs.Traces.{AreGifts, Asked, Event, Gave, Got, Missed, NoneMade, Request, Turn, turns_at}
+use Rattle.dshash_parts.specs.Traces.{AreGifts, Asked, Event, Gave, Got, Missed, NoneMade, Turn, turns_at}
 use Rattle.dshash_parts.specs.declared.histories.PartitionCalls.{PartitionCalls}
 use Rattle.dshash_parts.specs.declared.histories.PartitionCalls.TheVariants.{Call, Looks, Moves, Lists}
 use Rattle.dshash_parts.specs.declared.histories.PartitionReplies.{PartitionReplies}

@@ -15,7 +15,6 @@ use Rattle.dshash_parts.specs.Tables.{Belongs, IsTable, callers_of, item_of, key
 use Rattle.dshash_scan.specs.Listings.{ListsTable}
 use Rattle.number_table.specs.Numbers.{after, stepped}
 use Rattle.number_table.specs.declared.number.NumberCall.{NumberCall}
-use Rattle.number_table.specs.declared.number.NumberCall.TheVariants.{Put, Get, Delete}
 use Rattle.number_table.specs.declared.table.NumberTable.{NumberTable}
 
 -- a table of the region whose keys are packed byte strings and whose items have one word for the number; its one caller

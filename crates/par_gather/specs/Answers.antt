@@ -1,12 +1,12 @@
 -- What a query answers: its status, and what its table is.
-use Rattle.std.specs.Prelude.{◌≡◌, ℕ, List, [], ◌∷◌, Option, None, Some, IfSome, String, length, map, string_bytes}
+use Rattle.std.specs.Prelude.{◌≡◌, ℕ, List, [], ◌∷◌, Option, None, Some, IfSome, length}
 use Rattle.csv_rows.specs.Records.{record_at, records_of}
 use Rattle.par_model.specs.Named.{NamedPlan, bound_plan}
 use Rattle.par_model.specs.Plan.{Plan}
 use Rattle.par_model.specs.Outcome.{Outcome, IsAnswer, outcome, Usage, TooManyBytes, NoHeader, TooManyRows, NoColumn, Refused, Table}
 use Rattle.plan_spec.specs.Query.{query_of}
 use Rattle.par_gather.specs.Forms.{plan_in, workers_in}
-use Rattle.query_answer.specs.declared.status.TheConstants.{MISUSED, NO_MEMORY, READ_FAULT, REFUSED, TABLE, TOO_LARGE, WRITE_FAULT}
+use Rattle.query_answer.specs.declared.status.TheConstants.{MISUSED, REFUSED, TABLE, TOO_LARGE}
 
 -- the status of an outcome
 abbrev pub status_of : Outcome → ℕ

@@ -1,8 +1,6 @@
 -- The lines that say why a query has no table.
-use Rattle.std.specs.Prelude.{◌≡◌, ◌⊎◌, ◌==◌, ◌++◌, ◌∷◌, [], ℕ, List, Option, Some, Contains, IsSomeAnd, codes, decimal, if◌then◌else◌, option_and_then, slice_get, take, unwrap_or}
-use Rattle.std.specs.Io.KnownBytes.{Appends}
+use Rattle.std.specs.Prelude.{◌≡◌, ◌⊎◌, ◌==◌, ◌++◌, ◌∷◌, [], ℕ, List, Option, Some, Contains, IsSomeAnd, codes, decimal, if◌then◌else◌, option_and_then, slice_get, unwrap_or}
 use Rattle.std.specs.Option.{option_map_or}
-use Rattle.par_io.specs.Faults.{Rose}
 use Rattle.par_model.specs.Named.{NamedPlan}
 use Rattle.par_model.specs.Outcome.{Outcome, Usage, TooManyBytes, NoHeader, TooManyRows, NoColumn, Refused, Table}
 use Rattle.par_model.specs.Refuse.{item_cause, key_cause, width_cause}

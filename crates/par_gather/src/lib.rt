@@ -266,7 +266,8 @@ pub fn pargather<R: Threads + Wait + Sync, S: Source, O: Sink, E: Sink, G: Gate 
 }
 
 /// Answers the query as [`pargather`] does with `--workers 0`, whatever number the words give: in the caller's thread
-/// alone, with no wait. Words that begin with `merge`, `join` or `gen` are no plan here. Time and memory are those of `pargather`.
+/// alone, with no wait. Words that begin with `merge`, `join` or `gen` are no plan here. Time and memory are those of
+/// `pargather`.
 pub fn aggregate_alone<S: Source, O: Sink, E: Sink>(
     alloc: Global,
     words: &[String],

@@ -1,7 +1,7 @@
 -- The clauses of a call that ended for a reason, over what words ask for.
 use Rattle.std.proofs.Common.{◌≡◌, ◌≢◌, ◌⊎◌, ℕ, List, Option, None, Some, IfSome, refl, subst, sym}
 use Rattle.query_answer.specs.Lines.{line}
-use Rattle.query_answer.specs.declared.status.TheConstants.{NO_MEMORY, TABLE}
+use Rattle.query_answer.specs.declared.status.TheConstants.{NO_MEMORY}
 use Rattle.join_query.specs.Lines.{IsLine, IsNoFault, name_of, status_of}
 use Rattle.join_query.specs.Outcome.{Outcome, IsOutcome}
 use Rattle.join_query.specs.Stops.{IsExplained, stop_status, stop_text}

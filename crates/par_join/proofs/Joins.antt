@@ -1,17 +1,17 @@
 -- What a join of two tables that are ready says of the bytes that they are from.
-use Rattle.std.proofs.Common.{◌≡◌, ◌≢◌, ◌<◌, ◌≤◌, ◌++◌, ◌∷◌, [], ◌∙◌, ℕ, zero, suc, Bool, false, true, List, Option, None, Some, IfSome, length, map, drop, filter, get_or, ap, arith, inr, nat_lt, refl, subst, sym}
+use Rattle.std.proofs.Common.{◌≡◌, ◌≢◌, ◌<◌, ◌≤◌, ◌++◌, ◌∷◌, [], ◌∙◌, ℕ, zero, suc, Bool, false, List, Option, None, Some, IfSome, length, map, drop, filter, ap, arith, inr, nat_lt, refl, subst, sym}
 use Rattle.std.specs.Prelude.{All, if◌then◌else◌}
 use Rattle.std.specs.List.{flat_map}
 use Rattle.std.proofs.lemmas.Bool.Decides.{nat_tests}
 use Rattle.std.proofs.lemmas.List.Elements.{All-append, All-filter, All-map}
 use Rattle.csv_rows.specs.Records.{record_at}
 use Rattle.gather_law.specs.Tuples.{Table}
-use Rattle.join_pairs.specs.Join.{AllAccepted, is_pair, joined_records, most_pairs, numbers_of, pairs_of, width_of}
+use Rattle.join_pairs.specs.Join.{AllAccepted, is_pair, joined_records, numbers_of, pairs_of, width_of}
 use Rattle.join_pairs.specs.declared.pairs.Pair.{Pair}
 use Rattle.scan_claim.specs.Drawing.{below}
 use Rattle.hash_join.specs.declared.Joined.{Joined}
 use Rattle.par_model.specs.Named.{column_of}
-use Rattle.join_query.specs.Outcome.{Outcome, Fails, Joins, IsOfRows, IsOutcome, by_pairs, left_of, right_of}
+use Rattle.join_query.specs.Outcome.{Outcome, Fails, Joins, IsOfRows, IsOutcome, by_pairs, left_of}
 use Rattle.join_query.specs.Ready.{IsReady}
 use Rattle.join_query.specs.Stops.{Explains, IsExplained}
 use Rattle.join_query.specs.Words.{Asked}

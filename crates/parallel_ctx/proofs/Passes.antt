@@ -1,21 +1,18 @@
 -- The passes of the table of groups: how they are dealt, and that they come home in order.
-use Rattle.std.proofs.Common.{◌≡◌, ◌<◌, ◌≤◌, ◌+◌, ◌++◌, ◌↔◌, ℕ, zero, suc, List, [], ◌∷◌, Option, Some, None, IsSome, length, map, option_map, MatchOption, IfSome, IsSomeAnd, All, refl, ap, sym, subst, ◌∙◌, arith, length-append, append-nil, append_assoc}
-use Rattle.std.specs.List.{AllZip}
-use Rattle.std.specs.Option.{option_to_list}
+use Rattle.std.proofs.Common.{◌≡◌, ◌<◌, ◌≤◌, ◌+◌, ◌++◌, ◌↔◌, ℕ, zero, suc, List, [], ◌∷◌, Option, Some, None, length, map, option_map, MatchOption, IfSome, IsSomeAnd, refl, ap, sym, subst, ◌∙◌, arith, append-nil, append_assoc}
 use Rattle.std.proofs.Math.Path.{fun_ext}
 use Rattle.std.proofs.lemmas.List.{length-map}
-use Rattle.std.proofs.lemmas.List.Elements.{All-head, All-tail}
 use Rattle.parallel_ctx.specs.Ran.{AreWhole}
-use mathlib.Core.Option.{some, none, some-injective, some-ne-none}
+use mathlib.Core.Option.{some, some-injective, some-ne-none}
 use lib.ListN.{get_elem?}
 use Rattle.atomic_table.specs.Seated.{TableId}
 use Rattle.dsa_area.specs.Shown.{pages_mine}
 use Rattle.dsa_area.specs.declared.area.AreaPass.{AreaPass}
 use Rattle.lock_book.specs.History.{calls_by}
 use Rattle.lock_book.specs.Shown.{mine_of, number_of}
-use Rattle.agg_table.specs.Calls.{AggEntry, PageEntry, Use}
+use Rattle.agg_table.specs.Calls.{AggEntry, Use}
 use Rattle.agg_table.specs.Ending.{AreSeats, IsClosed}
-use Rattle.agg_table.specs.Tokens.{AreUnusedSeats, Grew, IsHashSeat, IsPart, IsSeat, IsUnusedBy, StaysSeated, callers_of, use_in, use_of}
+use Rattle.agg_table.specs.Tokens.{IsHashSeat, IsPart, IsSeat, StaysSeated, callers_of, use_in}
 use Rattle.agg_table.specs.declared.part.HashPart.{HashPart}
 use Rattle.agg_table.specs.declared.part.HashSeat.{HashSeat}
 use Rattle.parallel_ctx.specs.Accounts.{IsUnusedTable, pages_by}

@@ -1,5 +1,5 @@
 -- Keys and bytes of the table of contents while a context is made.
-use Rattle.std.proofs.Common.{◌≡◌, ◌≤◌, ◌<◌, ◌+◌, ◌-◌, ◌*◌, ◌++◌, ◌==◌, ℕ, suc, false, cond, List, [], ◌∷◌, length, Option, None, Some, refl, ap, ◌∙◌, arith, length-append}
+use Rattle.std.proofs.Common.{◌≡◌, ◌≤◌, ◌<◌, ◌+◌, ◌-◌, ◌*◌, ◌++◌, ◌==◌, ℕ, suc, false, cond, List, [], ◌∷◌, Option, Some, refl, ap, ◌∙◌, arith, length-append}
 use Rattle.shm_toc.specs.Table.{Entry, Table, free_bytes_of, place_of, rounded}
 use Rattle.free_pages.specs.Area.{area_size}
 use Rattle.parallel_ctx.specs.Making.{IsMaking, with_queue, with_queues}

@@ -1,5 +1,4 @@
 -- The codes by which proofs tell the states of a table of groups apart.
-use Rattle.std.specs.Prelude.{ℕ, List}
 use Rattle.std.specs.Coded.{Coded, coded_list, coded_ℕ}
 use Rattle.std.specs.FinMap as fin
 use Rattle.dshash_core.specs.Cells.{KeyMap, PartitionView, partition_code}

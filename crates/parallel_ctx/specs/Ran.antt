@@ -4,7 +4,6 @@ use Rattle.std.specs.List.{AllZip}
 use Rattle.agg_cell.specs.Cell.{stepped}
 use Rattle.agg_table.specs.Calls.{AggEntry, Use}
 use Rattle.agg_table.specs.declared.part.HashPart.{HashPart}
-use Rattle.atomic_table.specs.Seated.{TableId}
 use Rattle.dshash_parts.specs.Ending.{IsOf, left_of, whole_of}
 use Rattle.dshash_parts.specs.Legal.{PartitionLegal}
 use Rattle.dshash_parts.specs.States.{fresh}

@@ -1,5 +1,5 @@
 -- What a participant is given, and what stays of it.
-use Rattle.std.specs.Prelude.{◌≡◌, ◌≤◌, ℕ, suc, List, [], ◌∷◌, All, Bool, Option, Some, None, length, map, false, ⊤}
+use Rattle.std.specs.Prelude.{◌≡◌, ◌≤◌, ℕ, suc, List, [], ◌∷◌, All, Option, Some, None, length, map, false, ⊤}
 use Rattle.std.specs.List.{AllZip}
 use Rattle.agg_table.specs.Tokens.{IsHashSeat, StaysSeated, callers_of as table_callers}
 use Rattle.agg_table.specs.declared.part.HashPart.{HashPart}

@@ -1,5 +1,5 @@
 -- Which words are a command over chunks.
-use Rattle.std.specs.Prelude.{ℕ, ◌≤◌, List, [], ◌∷◌, Option, Some, None, bytes_eq, codes, if◌then◌else◌, option_and_then, option_map}
+use Rattle.std.specs.Prelude.{ℕ, ◌≤◌, List, [], ◌∷◌, Option, None, bytes_eq, codes, if◌then◌else◌, option_and_then, option_map}
 use Rattle.shell_words.specs.Words.{name_in, number_in, word_in}
 use Rattle.shell_words.specs.declared.chunks.ChunkCommand.{ChunkCommand}
 use Rattle.shell_words.specs.declared.chunks.ChunkCommand.TheVariants as code

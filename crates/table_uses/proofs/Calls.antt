@@ -1,5 +1,5 @@
 -- What a call of a cache tells of the text under its name, and that only a call that puts in a text is refused.
-use Rattle.std.proofs.Common.{◌≡◌, ℕ, ◌<◌, Bool, true, not, ◌&&◌, is_some, List, Option, Some, None, IsSome, Result, Ok, Err, IfOk, IfErr, sym, ap, ◌∙◌}
+use Rattle.std.proofs.Common.{◌≡◌, ℕ, ◌<◌, true, not, ◌&&◌, is_some, List, Option, Some, None, IsSome, Result, Ok, Err, IfOk, IfErr, sym, ap, ◌∙◌}
 use Rattle.std.specs.FinMap as fin
 use Rattle.lock_book.specs.History.{IsLegal}
 use Rattle.lock_book.specs.Told.{Histories}

@@ -4,7 +4,7 @@ use Rattle.std.specs.FinMap as map
 use Rattle.std.specs.List.{flat_map}
 use Rattle.std.proofs.lemmas.List.Elements.{All-append, All-cons, All-nil, Contains-push}
 use Rattle.csv_rows.specs.Records.{record_at}
-use Rattle.error_queue.specs.Message.{IsMessage, encoding}
+use Rattle.error_queue.specs.Message.{encoding}
 use Rattle.error_queue.specs.declared.ErrorMessage.TheVariants as message
 use Rattle.mq_handle.specs.Messages.{whole_of}
 use Rattle.par_model.specs.Plan.{Plan}
@@ -15,12 +15,11 @@ use Rattle.partial_agg.specs.Rows.{IsAccepted, header_width}
 use Rattle.partial_agg.specs.declared.map.BlockAnswer.{BlockAnswer}
 use Rattle.partial_agg.specs.declared.map.BlockAnswer.TheVariants as answer
 use Rattle.partial_agg.proofs.Blocks.{length-block}
-use Rattle.ring_rule.specs.Ends.{publishes, sender_leaves}
 use Rattle.ring_rule.specs.Ring.{Sending}
 use Rattle.scan_claim.specs.Drawing.{is_spent}
 use Rattle.gather_law.specs.Tuples.{AreBlocks, Group, IsTupleOf, Table, groups_of}
 use Rattle.worker_run.specs.Ended.{HasEnded, IsNotice, IsOwnRow, IsRefused, found_gone, sends_of}
-use Rattle.worker_run.specs.Sent.{AreWritten, FoundGone, HasSent, HasSentAll, StoppedSending, tuples_of}
+use Rattle.worker_run.specs.Sent.{AreWritten, FoundGone, HasSent, StoppedSending, tuples_of}
 use Rattle.worker_run.specs.Steps.{Finishes, GivesUp}
 use Rattle.worker_run.specs.Working.{IsWorking}
 use Rattle.worker_run.specs.declared.WorkerEnd.{WorkerEnd}

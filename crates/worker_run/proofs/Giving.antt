@@ -1,29 +1,29 @@
 -- A worker with a table of groups: what its steps come to.
-use Rattle.std.proofs.Common.{◌≡◌, ◌<◌, ◌≤◌, ◌+◌, ◌*◌, ◌⊎◌, ◌++◌, inl, inr, ℕ, List, [], ◌∷◌, length, All, IsTrue, MatchBool, refl, ap, sym, subst, ◌∙◌, arith, append-nil, append_assoc}
+use Rattle.std.proofs.Common.{◌≡◌, ◌<◌, ◌≤◌, ◌+◌, ◌*◌, ◌⊎◌, ◌++◌, inl, inr, ℕ, List, [], ◌∷◌, length, All, IsTrue, refl, ap, sym, subst, ◌∙◌, arith, append-nil, append_assoc}
 use Rattle.std.specs.FinMap as map
-use Rattle.std.specs.List.{AllByRecursion, flat_map}
+use Rattle.std.specs.List.{AllByRecursion}
 use Rattle.std.proofs.lemmas.List.{map-append}
 use Rattle.std.proofs.lemmas.List.Concat.{flat_map-append}
 use Rattle.std.proofs.lemmas.List.Elements.{All-append, All-cons, All-nil}
-use Rattle.agg_table.specs.Calls.{HasPut, IsLeft, IsPut, Use}
+use Rattle.agg_table.specs.Calls.{HasPut, Use}
 use Rattle.agg_table.proofs.Putting.{has_left_more, has_put_more, has_put_nothing}
 use Rattle.error_queue.specs.Message.{encoding}
 use Rattle.error_queue.specs.declared.ErrorMessage.TheVariants as message
 use Rattle.mq_handle.specs.Messages.{whole_of}
 use Rattle.par_model.specs.Plan.{Plan}
 use Rattle.partial_agg.specs.Blocks.{Stopped as IsStoppedAt}
-use Rattle.partial_agg.specs.Groups.{GroupsByKey, with_rows}
+use Rattle.partial_agg.specs.Groups.{GroupsByKey}
 use Rattle.partial_agg.specs.Rows.{IsAccepted, block_rows, header_width}
 use Rattle.partial_agg.specs.declared.map.BlockAnswer.{BlockAnswer}
 use Rattle.partial_agg.specs.declared.map.BlockAnswer.TheVariants as answer
 use Rattle.ring_rule.specs.Ring.{Sending}
 use Rattle.scan_claim.specs.Drawing.{is_spent}
-use Rattle.tuple_codec.specs.Tuple.{IsTuple, tuple_bytes}
+use Rattle.tuple_codec.specs.Tuple.{tuple_bytes}
 use Rattle.gather_law.specs.Tuples.{AreBlocks, Group, IsTupleOf, Table, groups_of, rows_of_blocks}
 use Rattle.worker_run.specs.Ended.{IsNotice, sends_of}
-use Rattle.worker_run.specs.Sent.{AreWritten, FoundGone, HasSent, HasSentAll, HasZeros, IsReady, StoppedSending, tuples_of}
+use Rattle.worker_run.specs.Sent.{FoundGone, HasSent, HasSentAll, HasZeros, IsReady, tuples_of}
 use Rattle.worker_run.specs.Steps.{Finishes, GivesUp}
-use Rattle.worker_run.specs.Tabled.{GivesGroup, GivesGroups, HasEndedBy, IsFinishedBy, IsTabling, StoppedGiving, groups_of_blocks}
+use Rattle.worker_run.specs.Tabled.{GivesGroup, GivesGroups, HasEndedBy, IsTabling, StoppedGiving, groups_of_blocks}
 use Rattle.worker_run.specs.declared.WorkerEnd.{WorkerEnd}
 use Rattle.worker_run.specs.declared.WorkerEnd.TheVariants.{Finished, Stopped, Refused, NoMemory}
 use Rattle.worker_run.proofs.Ends.{gone_is, more_tuples, own_row, refused_row, silence, silent_yet, written_are}

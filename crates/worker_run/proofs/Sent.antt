@@ -1,15 +1,15 @@
 -- Groups that are sent one by one.
-use Rattle.std.proofs.Common.{◌≡◌, ◌≤◌, ◌++◌, ℕ, List, [], ◌∷◌, false, length, arith, map as map_list, refl, ap, sym, subst, ◌∙◌, append-nil, append_assoc}
+use Rattle.std.proofs.Common.{◌≡◌, ◌≤◌, ◌++◌, ℕ, List, [], ◌∷◌, length, arith, refl, ap, sym, subst, ◌∙◌, append-nil, append_assoc}
 use Rattle.std.specs.FinMap as map
 use Rattle.std.specs.List.{AllByRecursion}
 use Rattle.std.proofs.lemmas.List.{map-append}
-use Rattle.mq_handle.specs.Messages.{left_of, whole_of}
+use Rattle.mq_handle.specs.Messages.{whole_of}
 use Rattle.par_model.specs.declared.state.AggState.{AggState}
 use Rattle.partial_agg.specs.Groups.{GroupsByKey, key_cmp}
 use Rattle.ring_rule.specs.Ring.{Sending}
 use Rattle.tuple_codec.specs.Tuple.{IsTuple, tuple_bytes}
 use Rattle.gather_law.specs.Tuples.{Group}
-use Rattle.worker_run.specs.Sent.{AreWritten, FoundGone, HasSent, HasSentAll, HasSentGroups, HasZeros, IsReady, IsSending, StoppedSending, tuples_of}
+use Rattle.worker_run.specs.Sent.{AreWritten, FoundGone, HasSent, HasSentGroups, HasZeros, IsReady, IsSending, StoppedSending, tuples_of}
 
 pub has_sent_nothing : (n : ℕ) (s : Sending) → IsReady n s → HasSent s s []
 has_sent_nothing n s r = record { ring = refl; stays = r.stays; fresh = r.fresh; sent = sym (append-nil (whole_of s.put)) }

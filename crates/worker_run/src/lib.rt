@@ -203,10 +203,10 @@ fn work_by<G: Gate, R: Wait>(
 
 /// Works by the plan that stands in the table of contents until there are no more blocks, and tells how it ended. It
 /// passes the gate before each block, as participant `number`. Where there is a table of groups, it puts the groups of
-/// each block there, and a group for which there is no room goes as a tuple. Tuples are sent without flush, the notice with it; both
-/// ends are detached afterwards, the tuple queue's first. It waits where a queue is full, until the receiver takes
-/// something or is gone. Time is that of `add_block` over its blocks and of `encode` over its groups; memory is that of
-/// a map of the groups of its rows, 1,048,831 at most.
+/// each block there, and a group for which there is no room goes as a tuple. Tuples are sent without flush, the notice
+/// with it; both ends are detached afterwards, the tuple queue's first. It waits where a queue is full, until the
+/// receiver takes something or is gone. Time is that of `add_block` over its blocks and of `encode` over its groups;
+/// memory is that of a map of the groups of its rows, 1,048,831 at most.
 pub fn work<G: Gate, R: Wait>(
     rt: &R,
     alloc: Global,

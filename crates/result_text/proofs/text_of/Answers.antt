@@ -3,14 +3,11 @@ use Rattle.std.proofs.lemmas.Result.{IfOk-weaker}
 use Rattle.std.specs.List.Sorted.{IsSortedBy}
 use Rattle.par_model.specs.Plan.{Plan}
 use Rattle.par_model.specs.Table.{table_text}
-use Rattle.partial_agg.specs.declared.groups.Group.{Group}
 use Rattle.result_text.specs.Order.{is_before, line_of}
-use Rattle.result_text.specs.Printable.{IsSmallSlot}
 use Rattle.result_text.specs.Text.{line_record, shown}
 use Rattle.result_text.specs.Written.{written}
 use Rattle.result_text.specs.declared.order.GroupRef.{GroupRef}
 use Rattle.result_text.proofs.Answering.{answers}
-use Rattle.result_text.proofs.Sorting.{all_refs}
 use Rattle.result_text.proofs.Whole.{written_text}
 use Rattle.result_text.proofs.text_of.Goals as goal
 

@@ -1,4 +1,4 @@
-use Rattle.std.proofs.Common.{rules, ◌≡◌, ap, ◌∙◌, subst, sym}
+use Rattle.std.proofs.Common.{rules, ◌≡◌, ◌∙◌, subst, sym}
 use Rattle.mq_ring.specs.Ends.{SendingEnd}
 use Rattle.par_model.specs.Columns.{HasColumns}
 use Rattle.par_model.specs.Plan.{Plan}

@@ -1,5 +1,4 @@
 use Rattle.std.proofs.Common.{rules, ◌≡◌, [], subst, sym}
-use Rattle.scan_claim.specs.Shown.{draws_of}
 use Rattle.worker_run.specs.Working.{IsWorking}
 use Rattle.worker_run.proofs.Working.{fresh_ready, fresh_silent, working-start}
 use Rattle.worker_run.proofs.work_all.Goals as goal

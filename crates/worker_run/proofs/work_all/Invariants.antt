@@ -1,5 +1,5 @@
 use Rattle.std.proofs.Common.{◌≡◌}
-use Rattle.scan_claim.specs.Shown.{Belongs, blocks_of, draws_of, number_of}
+use Rattle.scan_claim.specs.Shown.{Belongs, draws_of, number_of}
 use Rattle.worker_run.specs.Working.{IsWorking}
 use Rattle.worker_run.specs.Steps.{KeepsQueues}
 use Rattle.worker_run.proofs.work_all.Given as goal

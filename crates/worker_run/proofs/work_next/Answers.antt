@@ -1,10 +1,9 @@
-use Rattle.std.proofs.Common.{rules, ◌≡◌, ◌+◌, ◌++◌, [], ◌∷◌, ℕ, ap, ◌∙◌, subst, sym, arith, inl, inr, length}
+use Rattle.std.proofs.Common.{rules, ◌≡◌, ◌+◌, ◌++◌, [], ◌∷◌, ◌∙◌, subst, sym, arith}
 use Rattle.std.specs.FinMap as map
 use Rattle.std.specs.List.{AllByRecursion}
 use Rattle.partial_agg.specs.Groups.{GroupsByKey}
 use Rattle.mq_ring.specs.Ends.{SendingEnd}
 use Rattle.scan_claim.specs.Shown.{blocks_of, draws_of}
-use Rattle.worker_run.specs.Ended.{HasEnded}
 use Rattle.worker_run.specs.Sent.{HasSentGroups, HasZeros, StoppedSending}
 use Rattle.worker_run.specs.Steps.{Finishes}
 use Rattle.worker_run.specs.Working.{IsWorking}

@@ -4,7 +4,7 @@ use Rattle.parallel_ctx.proofs.Queues.{all-same}
 use Rattle.scan_claim.specs.Shown.{blocks_of, draws_of}
 use Rattle.gather_merge.specs.Drawn.{HasDrawnAll}
 use Rattle.gather_merge.proofs.Drawn.{drawn_none}
-use Rattle.gather_merge.proofs.Led.{led_alone, led_merged, led_met, none_given, stream_drawn}
+use Rattle.gather_merge.proofs.Led.{led_merged, led_met, none_given, stream_drawn}
 use Rattle.gather_merge.proofs.leading.lead_all.Goals as goal
 
 pub draw_all-requires-clause-drawn : goal.draw_all-requires-clause-drawn

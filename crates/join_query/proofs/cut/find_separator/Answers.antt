@@ -1,6 +1,6 @@
-use Rattle.std.proofs.Common.{◌≡◌, ◌<◌, ◌≤◌, ◌+◌, ◌-◌, ◌∙◌, IsTrue, true, false, length, drop, subst, sym, arith}
+use Rattle.std.proofs.Common.{◌≡◌, ◌<◌, ◌≤◌, ◌+◌, ◌-◌, ◌∙◌, true, false, length, drop, subst, sym, arith}
 use Rattle.std.proofs.lemmas.List.{length-drop, take_rest}
-use Rattle.memchr.specs.Find.{Nowhere, NoneBefore}
+use Rattle.memchr.specs.Find.{Nowhere}
 use Rattle.join_query.specs.Outcome.{IsSeparator}
 use Rattle.join_query.proofs.Cuts.{none_further, none_here}
 use Rattle.join_query.proofs.cut.find_separator.Goals as goal

@@ -1,4 +1,4 @@
-use Rattle.std.proofs.Common.{◌≤◌, ◌-◌, ℕ, length}
+use Rattle.std.proofs.Common.{◌≤◌, ◌-◌, length}
 use Rattle.memchr.specs.Find.{Nowhere}
 use Rattle.join_query.specs.Outcome.{IsSeparator}
 use Rattle.join_query.proofs.cut.find_separator.Given as goal

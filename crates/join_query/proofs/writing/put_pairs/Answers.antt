@@ -7,7 +7,7 @@ use Rattle.par_model.specs.Table.{table_text}
 use Rattle.query_answer.specs.Held.{Puts}
 use Rattle.query_answer.proofs.Going.{puts-broken, puts-none, puts-then}
 use Rattle.query_answer.proofs.RowLines.{row-more, rows-cut, text-none}
-use Rattle.join_query.specs.Writable.{IsWritable, beside}
+use Rattle.join_query.specs.Writable.{beside}
 use Rattle.join_query.proofs.Writables.{writable_at}
 use Rattle.join_query.proofs.writing.put_pairs.Goals as goal
 

@@ -1,9 +1,8 @@
-use Rattle.std.proofs.Common.{◌*◌, ◌-◌, ◌≡◌, ◌&&◌, ◌+◌, ℕ, Bool, Option, Some, None, IfSome, is_some, leb, true, false, ◌∙◌, ◌≤◌, length, arith, subst, sym}
+use Rattle.std.proofs.Common.{◌*◌, ◌-◌, ◌≡◌, ◌&&◌, ◌+◌, ℕ, Option, Some, None, IfSome, is_some, leb, ◌∙◌, ◌≤◌, length, arith, subst, sym}
 use Rattle.plan_spec.specs.Planned.{HasPlan}
 use Rattle.parallel_ctx.specs.declared.tokens.Shared.{Shared}
 use Rattle.dsa_area.specs.Shown.{pages_of}
 use Rattle.agg_table.specs.declared.part.HashPart.{HashPart}
-use Rattle.par_model.specs.Plan.{Plan}
 use Rattle.parallel_ctx.specs.Making.{AreDealt, HasTable, hash_size}
 use Rattle.parallel_ctx.proofs.Room.{making-from}
 use Rattle.shm_toc.specs.Table.{table_of}

@@ -1,8 +1,8 @@
-use Rattle.std.proofs.Common.{rules, true, Bool, ◌≡◌, ◌+◌, ◌*◌, ◌∙◌, ℕ, ap, subst, sym, arith}
+use Rattle.std.proofs.Common.{rules, true, Bool, ◌≡◌, ◌+◌, ◌*◌, ◌∙◌, ap, subst, sym, arith}
 use Rattle.free_pages.specs.Area.{area_size}
 use Rattle.shm_toc.specs.Table.{Table, place_of, table_of}
-use Rattle.parallel_ctx.specs.Making.{IsMaking, hash_size, with_queue}
-use Rattle.parallel_ctx.proofs.Room.{making-area, making-from, same_plan}
+use Rattle.parallel_ctx.specs.Making.{IsMaking, hash_size}
+use Rattle.parallel_ctx.proofs.Room.{making-area, same_plan}
 use Rattle.parallel_ctx.proofs.hashing.open_hash.Goals as goal
 
 pub returns-clause-plan : goal.returns-clause-plan

@@ -1,7 +1,6 @@
 use Rattle.std.proofs.Common.{rules, ◌≡◌, [], List, ℕ, subst, sym}
 use Rattle.agg_table.specs.Tokens.{use_of}
 use Rattle.agg_table.proofs.Seats.{grew_itself, grew_through}
-use Rattle.scan_claim.specs.Shown.{draws_of}
 use Rattle.worker_run.specs.Tabled.{IsTabling}
 use Rattle.worker_run.proofs.Working.{fresh_ready, fresh_silent}
 use Rattle.worker_run.proofs.Giving.{tabling-start}

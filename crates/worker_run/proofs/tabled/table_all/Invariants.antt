@@ -1,7 +1,7 @@
 use Rattle.std.proofs.Common.{◌≡◌}
 use Rattle.std.specs.FinMap as map
 use Rattle.agg_table.specs.Tokens.{Grew, IsSeat, use_of}
-use Rattle.scan_claim.specs.Shown.{Belongs, blocks_of, draws_of, number_of}
+use Rattle.scan_claim.specs.Shown.{Belongs, draws_of, number_of}
 use Rattle.worker_run.specs.Tabled.{IsTabling}
 use Rattle.worker_run.specs.Steps.{KeepsQueues}
 use Rattle.worker_run.proofs.tabled.table_all.Given as goal

@@ -1,5 +1,4 @@
-use Rattle.std.proofs.Common.{◌≡◌, ℕ, List, IfErr, IfOk, refl, subst, sym}
-use Rattle.dshash_core.specs.Key.{packed_key}
+use Rattle.std.proofs.Common.{◌≡◌, ℕ, List, IfErr, IfOk, refl, subst}
 use Rattle.number_table.specs.Maps.{IsMade, IsRefused}
 use Rattle.number_table.specs.declared.table.NumberTable.{NumberTable}
 use Rattle.number_table.proofs.Tables.{made, refused}
