@@ -209,4 +209,5 @@ def main():
             json.dump(saved, out, indent=1)
 
 
-main()
+if __name__ == "__main__":
+    main()
