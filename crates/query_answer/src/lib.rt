@@ -11,6 +11,8 @@ mod held;
 mod line;
 mod record;
 mod status;
+#[cfg(test)]
+mod tests;
 
 pub use held::Held;
 pub use line::write_pieces;

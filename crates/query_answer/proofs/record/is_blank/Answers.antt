@@ -1,4 +1,4 @@
-use Rattle.std.proofs.Common.{◌≡◌, ◌∙◌, [], ℕ, List, ap, arith, false, length, sym, true}
+use Rattle.std.proofs.Common.{◌∙◌, ℕ, List, ap, arith, length, sym}
 use Rattle.std.specs.Prelude.{◌==◌}
 use Rattle.std.proofs.lemmas.Bool.{eq-eqb}
 use Rattle.query_answer.proofs.Records.{blank-none, blank-one, blank-other}

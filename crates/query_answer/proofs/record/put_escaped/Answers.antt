@@ -1,4 +1,4 @@
-use Rattle.std.proofs.Common.{◌≡◌, ◌<◌, ◌∷◌, ◌∙◌, [], ℕ, List, get_or, subst, take}
+use Rattle.std.proofs.Common.{◌∷◌, [], ℕ, List, get_or, subst, take}
 use Rattle.csv.specs.Writing.{default_writer, escaped}
 use Rattle.query_answer.specs.Held.{Puts}
 use Rattle.query_answer.proofs.Going.{puts-none, puts-then}

@@ -1,4 +1,4 @@
-use Rattle.std.proofs.Common.{◌≡◌, ◌<◌, ◌++◌, ◌∙◌, [], ℕ, List, arith, get_or, length, subst, sym, take}
+use Rattle.std.proofs.Common.{◌<◌, ◌++◌, [], ℕ, List, arith, get_or, length, subst, sym, take}
 use Rattle.csv.proofs.WriteFacts.{row-step}
 use Rattle.csv.specs.Writing.{default_writer, field_text, next_sep, row_body}
 use Rattle.query_answer.specs.Held.{Puts}
