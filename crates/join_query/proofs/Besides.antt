@@ -1,5 +1,5 @@
 -- The text of a record that has the fields of one and then those of another.
-use Rattle.std.proofs.Common.{◌≡◌, ◌≤◌, ◌<◌, ◌+◌, ◌∙◌, ℕ, Bool, false, List, [], ◌∷◌, ◌++◌, ap, append_assoc, arith, length, length-append, refl, sym}
+use Rattle.std.proofs.Common.{◌≡◌, ◌<◌, ◌∙◌, ℕ, Bool, false, List, [], ◌∷◌, ◌++◌, ap, append_assoc, arith, length, length-append, refl, sym}
 use Rattle.std.specs.Prelude.{if◌then◌else◌}
 use Rattle.csv.specs.Writing.{default_writer, field_text, fields_text, is_blank, row_body, row_text}
 use Rattle.query_answer.proofs.Records.{blank-other}

@@ -1,5 +1,5 @@
 -- There is one outcome.
-use Rattle.std.proofs.Common.{◌≡◌, ◌≢◌, ◌⊎◌, ◌<◌, ◌≤◌, ◌+◌, ◌∙◌, ℕ, Bool, true, false, List, Option, None, Some, inl, inr, length, subst, sym, ap, arith, refl}
+use Rattle.std.proofs.Common.{◌≡◌, ◌⊎◌, ◌<◌, ◌≤◌, ◌∙◌, ℕ, Bool, true, false, List, Option, None, Some, inl, inr, length, subst, sym, ap, arith, refl}
 use Rattle.csv_rows.specs.Records.{record_at}
 use Rattle.gather_law.specs.Tuples.{Table}
 use Rattle.join_pairs.specs.Join.{AllAccepted, IsAccepted, IsFirstRefused, IsNamed, IsRefused}

@@ -1,5 +1,5 @@
 -- The statuses of the outcomes, and what their lines say.
-use Rattle.std.specs.Prelude.{◌≡◌, ◌≢◌, ◌==◌, ◌++◌, ◌∷◌, [], ℕ, Bool, true, false, List, Option, None, Some, IfSome, codes, decimal, if◌then◌else◌}
+use Rattle.std.specs.Prelude.{◌≡◌, ◌≢◌, ◌==◌, ◌++◌, [], ℕ, Bool, true, false, List, Option, None, Some, IfSome, codes, decimal, if◌then◌else◌}
 use Rattle.par_model.specs.Refuse.{width_cause}
 use Rattle.query_answer.specs.Lines.{line}
 use Rattle.query_answer.specs.declared.status.TheConstants.{MISUSED, NO_MEMORY, READ_FAULT, REFUSED, TABLE, TOO_LARGE, WRITE_FAULT}

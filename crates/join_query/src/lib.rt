@@ -13,6 +13,8 @@ mod cut;
 mod ready;
 mod stop;
 mod tables;
+#[cfg(test)]
+mod tests;
 mod words;
 mod writing;
 

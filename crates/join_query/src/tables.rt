@@ -13,6 +13,7 @@ ghost use Rattle.join_query.specs.declared.stop.Stop.TheVariants as stop;
 use crate::cause::Cause;
 use crate::stop::Stop;
 use csv_rows::{RowStore, RowsAnswer, rows_in_threads};
+use plan_spec::column;
 use std::alloc::Global;
 use std::thread::Threads;
 
@@ -78,18 +79,4 @@ pub(crate) fn columns(tables: &Tables, name: &str) -> Result<(u32, u32), Stop>
         return Err(Stop::Because(Cause::NoColumn { right: true }));
     };
     Ok((left, right))
-}
-
-/// The column of a name: the first field of the header with its bytes. The time is that of the header.
-fn column(rows: &RowStore, name: &str) -> Option<u32>
-    requires { 0 < length rows.now }
-    ensures first { result ≡ column_of (record_at rows.now 0) name.now }
-    ensures below { IfSome result (λ at. at < length (record_at rows.now 0)) }
-{
-    'fields: for at in 0..rows.width(0) {
-        if name.as_bytes() == rows.field(0, at) {
-            return Some(at);
-        }
-    }
-    None
 }

@@ -1,9 +1,10 @@
 //! The words `join COLUMN N`.
 
 ghost use Rattle.std.specs.Prelude.{◌≡◌, ◌≤◌, IfSome, option_map};
-ghost use Rattle.plan_spec.specs.Grammar.{number_in};
 ghost use Rattle.query_answer.specs.Words.{texts};
 ghost use Rattle.join_query.specs.Words.{asked_by, asked_in, is_join, join_of};
+
+use plan_spec::number;
 
 /// What words ask for: the name of the column, and the number of workers, at most 64.
 #[derive(Debug, Clone, Copy)]
@@ -44,23 +45,4 @@ fn asked_in<'a>(column: &'a str, workers: &str) -> Option<JoinWords<'a>>
     }
     let workers = number(workers, 64)?;
     Some(JoinWords { column, workers })
-}
-
-/// One to five digits, with a value up to `most`.
-fn number(text: &str, most: u32) -> Option<u32>
-    requires { most ≤ 65536 }
-    ensures { result ≡ number_in most text.now }
-{
-    let digits = text.as_bytes();
-    if digits.is_empty() || digits.len() > 5 {
-        return None;
-    }
-    let mut value: u32 = 0;
-    'digits: for digit in digits {
-        if !digit.is_ascii_digit() || value > 6553 {
-            return None;
-        }
-        value = value * 10 + u32::from(*digit - b'0');
-    }
-    (value <= most).then_some(value)
 }

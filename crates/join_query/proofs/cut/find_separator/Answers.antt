@@ -1,4 +1,4 @@
-use Rattle.std.proofs.Common.{◌≡◌, ◌<◌, ◌≤◌, ◌+◌, ◌-◌, ◌∙◌, true, false, length, drop, subst, sym, arith}
+use Rattle.std.proofs.Common.{◌≡◌, ◌+◌, ◌∙◌, true, false, length, drop, subst, sym, arith}
 use Rattle.std.proofs.lemmas.List.{length-drop, take_rest}
 use Rattle.memchr.specs.Find.{Nowhere}
 use Rattle.join_query.specs.Outcome.{IsSeparator}

@@ -1,4 +1,4 @@
-use Rattle.std.proofs.Common.{Some, ◌-◌}
+use Rattle.std.proofs.Common.{Some}
 use Rattle.std.proofs.lemmas.List.{take_rest}
 use Rattle.std.proofs.lemmas.Result.{err_from_is_err_and}
 use Rattle.csv_rows.specs.Records.{record_at}
