@@ -5,8 +5,8 @@ use Rattle.par_io.specs.Faults.{Rose}
 use Rattle.query_answer.proofs.Pieces.{pieces_front, pieces_more}
 use Rattle.query_answer.proofs.line.write_pieces.Goals as goal
 
-pub returns-in_err-write_whole : goal.returns-in_err-write_whole
-returns-in_err-write_whole g c =
+pub returns-in_err-write_whole-clause-said : goal.returns-in_err-write_whole-clause-said
+returns-in_err-write_whole-clause-said g c =
     let failed = c.in_err-write_whole.ensures in
     let within : c.loop-piece.piece-index < length c.args.pieces.now = omega (arith, c.loop-piece-test.true) in
     let front = pieces_front (λ piece. piece.now) c.args.pieces.now c.loop-piece.piece-index failed.prefix.0 (record { ref_ptr = (0, 0); now = [] }) within in
