@@ -11,10 +11,11 @@ Each program runs once before any runs a second time: trust the ratios of one ru
 run takes more than 12 s runs once. Ours and a stable sort have to write exactly the rows that Python's csv module gives,
 in that order; of the others the rows are compared as a set, and the order of the keys.
 
-`sort` and `join` are those of coreutils, with LC_ALL=C. They know no quotes, so b.csv is not theirs. PostgreSQL's
-time has the COPY of the tables in it. The files and what the programs write lie in
-BENCH_DIR, or /tmp/lembokuj-bench. The program is crates/pargather/out/pargather, or the path in PARGATHER. Programs that
-are not installed are left out; `clickhouse.sh start` and `postgres.sh start` start servers of Debian's packages.
+`sort` and `join` are those of coreutils, with LC_ALL=C. They know no quotes, so b.csv is not theirs. PostgreSQL's time
+has the COPY of the tables in it; its processes are not the command's, so their time and memory are not told. The files
+and what the programs write lie in BENCH_DIR, or /tmp/lembokuj-bench. The program is crates/pargather/out/pargather, or
+the path in PARGATHER. Programs that are not installed are left out; `clickhouse.sh start` and `postgres.sh start` start
+servers of Debian's packages.
 """
 import argparse
 import csv
@@ -174,7 +175,7 @@ def programs(task, pargather, workers):
     if shutil.which("Rscript"):
         add("data.table, 4 threads", data_table(task), has_header=True)
     if os.path.exists(f"{FOLDER}/postgres/data/postmaster.pid"):
-        add("PostgreSQL, 4 workers", postgres(task))
+        add("PostgreSQL, 4 workers", postgres(task), "server")
     if clickhouse_server():
         add("ClickHouse, 4 threads", clickhouse(task), server=clickhouse_server())
     return listed
@@ -200,12 +201,13 @@ def measure(task, listed, times):
 
 def table(task, listed, runs, wrong):
     """The table of one task, as Markdown."""
-    best = min((least(runs[p.name]).wall for p, _, _ in listed if p.kind == "peer" and not wrong[p.name]), default=float("nan"))
+    best = min((least(runs[p.name]).wall for p, _, _ in listed if p.kind != "ours" and not wrong[p.name]), default=float("nan"))
     lines = [f"Task {task.name}", "", "| program | wall, least s | median s | processor s | MiB | to the best peer |", "|---|--:|--:|--:|--:|--:|"]
     for program, _, _ in sorted(listed, key=lambda it: least(runs[it[0].name]).wall):
         low, median = least(runs[program.name]), statistics.median(r.wall for r in runs[program.name])
         name = program.name + (f" (wrong: {wrong[program.name][:60]})" if wrong[program.name] else "")
-        lines.append(f"| {name} | {low.wall:.2f} | {median:.2f} | {low.processor:.2f} | {low.memory:.0f} | {low.wall / best:.2f} |")
+        used = "- | -" if program.kind == "server" else f"{low.processor:.2f} | {low.memory:.0f}"
+        lines.append(f"| {name} | {low.wall:.2f} | {median:.2f} | {used} | {low.wall / best:.2f} |")
     return "\n".join(lines) + "\n"
 
 
