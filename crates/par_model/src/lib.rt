@@ -11,17 +11,10 @@ pub mod integer;
 pub mod plan;
 pub mod refusal;
 pub mod row;
-pub mod slow;
-pub mod slow_group;
 pub mod state;
 
 pub use integer::read_integer;
 pub use plan::{BoundPlan, Filter, FilterOp, Item, ItemKind};
 pub use refusal::{FILTER_CAUSE, ITEM_CAUSE, KEY_CAUSE, LONGEST_KEY, Refusal, WIDTH_CAUSE};
 pub use row::{Field, Row};
-pub use slow::slow_refusal;
-pub use slow_group::slow_state;
 pub use state::{AggState, NO_VALUES, SlotState};
-
-#[cfg(test)]
-mod tests;

@@ -51,14 +51,14 @@ impl Row {
     }
 
     /// How many fields it has.
-    pub(crate) fn width(&self) -> usize
+    pub fn width(&self) -> usize
         ensures { result ≡ length self.now }
     {
         self.fields.len()
     }
 
     /// The bytes of the field in a column.
-    pub(crate) fn field(&self, column: u32) -> &[u8]
+    pub fn field(&self, column: u32) -> &[u8]
         requires { column < length self.now }
         ensures { result.now ≡ field_of self.now column }
     {

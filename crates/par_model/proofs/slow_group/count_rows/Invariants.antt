@@ -1,9 +1,0 @@
-use Rattle.std.proofs.Common.{◌≡◌, ◌≤◌, length, take}
-use Rattle.par_model.specs.Aggregate.{rows_of}
-use Rattle.par_model.proofs.slow_group.count_rows.Given as goal
-
-abbrev pub invariant-rows : goal.invariant-rows
-invariant-rows l = record {
-  is : l.count ≡ length (rows_of l.plan (take l.row-index l.rows) l.key);
-  few : l.count ≤ l.row-index;
-}

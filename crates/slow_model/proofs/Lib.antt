@@ -1,0 +1,6 @@
+pub mod Groups
+pub mod Keys
+pub mod Places
+pub mod Refused
+pub mod Slots
+pub mod Worked
