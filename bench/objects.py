@@ -5,7 +5,7 @@ usage: objects.py [--kinds lock,area,window,queue,puts,gets] [--times 5] [--call
 
 The loads, their peers and what the columns mean are in docs/PERFORMANCE.md, "The shared objects by themselves". `--calls 1`
 makes a hundredth of the calls, which shows that all runs and measures nothing. The program is
-crates/object_load/out/object_load, or the path in OBJECT_LOAD; the peers (objects.rs, by rustc) lie in BENCH_DIR, or
+crates/uses_load/out/uses_load, or the path in OBJECT_LOAD; the peers (objects.rs, by rustc) lie in BENCH_DIR, or
 /tmp/lembokuj-bench.
 """
 import argparse
@@ -19,7 +19,7 @@ from dataclasses import dataclass
 
 HERE = os.path.dirname(os.path.abspath(__file__))
 FOLDER = os.environ.get("BENCH_DIR", "/tmp/lembokuj-bench")
-OURS = os.environ.get("OBJECT_LOAD", os.path.normpath(f"{HERE}/../crates/object_load/out/object_load"))
+OURS = os.environ.get("OBJECT_LOAD", os.path.normpath(f"{HERE}/../crates/uses_load/out/uses_load"))
 PEERS = f"{FOLDER}/objects"
 JEMALLOC = "/usr/lib/x86_64-linux-gnu/libjemalloc.so.2"
 SEVERAL = [1, 2, 4]
@@ -147,7 +147,7 @@ def main():
     if unknown or asked.times < 1 or asked.calls < 1:
         words.error(f"no such kind: {', '.join(unknown)}" if unknown else "--times and --calls are at least 1")
     if not os.access(OURS, os.X_OK):
-        sys.exit(f"no program at {OURS}: `rt run` in crates/object_load or .ci/run builds it; OBJECT_LOAD names another place")
+        sys.exit(f"no program at {OURS}: `rt run` in crates/uses_load or .ci/run builds it; OBJECT_LOAD names another place")
     build_peers()
     print(f"{os.cpu_count()} processors, load {os.getloadavg()[0]:.1f}, {asked.times} runs each, {asked.calls} % of the calls")
     if not os.path.exists(JEMALLOC):

@@ -1,5 +1,5 @@
-//! The loads of the program `object_load`, made with what plain Rust has: `objects FORM KIND THREADS CALLS SIZE` makes
-//! one shared object, lets so many threads make so many calls each, and prints the line that `object_load` prints.
+//! The loads of the program `uses_load`, made with what plain Rust has: `objects FORM KIND THREADS CALLS SIZE` makes
+//! one shared object, lets so many threads make so many calls each, and prints the line that `uses_load` prints.
 //!
 //! The forms are `mutex` of the lock, `system` of area and window (the system's allocator, or one that is preloaded),
 //! `channel` and `ring` of the queue, `one` and `many` of puts and gets. docs/PERFORMANCE.md says what each load is.

@@ -6,7 +6,7 @@ use Rattle.agg_table.specs.Calls.{Group, Use}
 use Rattle.agg_table.specs.Drained.{HoldsAll}
 use Rattle.agg_table.specs.declared.part.HashPart.{HashPart}
 use Rattle.dsa_area.specs.declared.area.AreaPass.{AreaPass}
-use Rattle.hash_law.specs.Law.{Share, TableGathers}
+use Rattle.agg_law.specs.Law.{Share, TableGathers}
 use Rattle.lock_book.specs.History.{calls_by}
 use Rattle.par_model.specs.Plan.{Plan}
 use Rattle.partial_agg.specs.Groups.{AreGroups, GroupsByKey}

@@ -10,7 +10,7 @@ use Rattle.agg_table.specs.Calls.{AggEntry, HasPut, IsKeyed, IsMissing, Use, Was
 use Rattle.agg_table.specs.Drained.{AddsTable, HoldsAll}
 use Rattle.agg_table.proofs.Putting.{has_put_nothing}
 use Rattle.dshash_core.specs.Key.{packed_key}
-use Rattle.hash_law.specs.Law.{Share, Shares, TableGathers}
+use Rattle.agg_law.specs.Law.{Share, Shares, TableGathers}
 use Rattle.lock_book.specs.History.{calls_by}
 use Rattle.mq_handle.specs.Messages.{whole_of}
 use Rattle.par_model.specs.Plan.{Plan}

@@ -8,7 +8,7 @@
 //!
 //! With a shared table the leader and the workers put the groups of each block there. Only a group for which the table
 //! has no room goes as a tuple, or into the leader's map. When all are home, what stands in the closed table is added to
-//! the map, each key once; `hash_law` says that the map is then that of one pass.
+//! the map, each key once; `agg_law` says that the map is then that of one pass.
 
 #![tactic(auto)]
 

@@ -5,7 +5,7 @@ ghost use Rattle.gather_law.specs.Tuples.{Table};
 ghost use Rattle.join_pairs.specs.Chains.{HasChain, before_in};
 ghost use Rattle.join_pairs.specs.Gathered.{AddsRow, HasChains, HasLinks, HasPlaces, HasRoom};
 
-use key_table::KeyTable;
+use key_index::KeyTable;
 use std::alloc::{AllocError, Global};
 
 /// A row that came with its key, and the row of that key that came before it, or 0 where there was none.

@@ -2,7 +2,7 @@
 use Rattle.std.proofs.Common.{◌≡◌, ◌≢◌, ◌∙◌, ℕ, ◌<◌, ◌==◌, ◌+◌, ◌-◌, Bool, false, List, [], ◌∷◌, length, length-drop, take, drop, None, Some, refl, ap, sym, arith}
 use Rattle.std.proofs.lemmas.List.Splits.{length-slice_split, slice_split_first, slice_split_none}
 use Rattle.std.specs.List.{All, after_first, before_first, position, position_or_len, slice_split}
-use Rattle.shell_words.proofs.Cuts.{found-at, not-found, take-rest}
+use Rattle.shell_lines.proofs.Cuts.{found-at, not-found, take-rest}
 use Rattle.par_shell.specs.Scripts.{lines_of, without_empty_last}
 
 -- a line feed

@@ -6,7 +6,7 @@ use Rattle.shell_memory.specs.Chunks as chunks
 use Rattle.shell_memory.specs.Contents as contents
 use Rattle.shell_sync.specs.Rings as rings
 use Rattle.shell_memory.specs.Tables as tables
-use Rattle.shell_words.specs.Requests.{Request, OfBarriers, OfChunks, OfRings, OfTable, OfToc, request_in}
+use Rattle.shell_lines.specs.Requests.{Request, OfBarriers, OfChunks, OfRings, OfTable, OfToc, request_in}
 use Rattle.par_shell.specs.declared.shell.Shell.{Shell}
 
 -- what a shell always is

@@ -4,7 +4,7 @@ use Rattle.std.specs.List.{slice_split}
 use Rattle.std.specs.Io.KnownBytes.{Appends, Consumes}
 use Rattle.par_io.specs.Faults.{Rose}
 use Rattle.par_shell.specs.Lines.{IsAnswered, IsShell, Opens}
-use Rattle.shell_words.specs.Words.{number_in}
+use Rattle.shell_lines.specs.Words.{number_in}
 use Rattle.par_shell.specs.declared.shell.Shell.{Shell}
 use Rattle.par_shell.specs.declared.status.TheConstants.{ANSWERED, MISUSED, NO_MEMORY, READ_FAULT, TOO_LARGE, WRITE_FAULT}
 

@@ -5,7 +5,7 @@
 //! chunk, the two ends of each ring, the histories of the area, of the hash table and of each barrier, the words of the
 //! table of contents. So an answer cannot come from a copy that the shell keeps beside the region.
 //!
-//! `shell_words` tells which command a line is, and `shell` sends it to its family, of `shell_memory` or `shell_sync`;
+//! `shell_lines` tells which command a line is, and `shell` sends it to its family, of `shell_memory` or `shell_sync`;
 //! `script`, `stop` and `run` are the top call over a whole script.
 
 #![tactic(auto)]

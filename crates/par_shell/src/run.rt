@@ -17,7 +17,7 @@ use crate::shell::Shell;
 use crate::status::ANSWERED;
 use crate::stop::Stop;
 use par_io::{Sink, Source, write_whole};
-use shell_words::{number, place_of};
+use shell_lines::{number, place_of};
 use std::alloc::{AllocError, Global};
 use std::sync::Wait;
 

@@ -5,9 +5,9 @@ ghost use Rattle.par_shell.specs.Lines.{IsAnswered, IsShell, Opens};
 
 use dsa_area::area_words;
 use region_words::Region;
+use shell_lines::{Command, read_line};
 use shell_memory::{Cells, Chunks, Contents, Heap, TOC_WORDS, plain};
 use shell_sync::{Barriers, Rings};
-use shell_words::{Command, read_line};
 use std::alloc::{AllocError, Global};
 use std::sync::Wait;
 

@@ -17,7 +17,7 @@ use Rattle.std.specs.declared.cmp.Ordering.{Ordering}
 use Rattle.std.specs.declared.cmp.Ordering.TheVariants.{Less, Equal, Greater}
 use Rattle.par_model.specs.declared.state.AggState.{AggState}
 use Rattle.partial_agg.specs.Groups.{GroupsByKey, added, joined, key_cmp}
-use Rattle.key_table.specs.Keys.{key_at}
+use Rattle.key_index.specs.Keys.{key_at}
 use Rattle.partial_agg.specs.Listed.{listed_at}
 use Rattle.partial_agg.specs.declared.groups.Group.{Group}
 use Rattle.partial_agg.specs.Placed.{ArePlaces, Places, groups_at, place_of, placed}

@@ -11,7 +11,7 @@ ghost use Rattle.par_model.specs.Columns.{HasColumns};
 use crate::row::{RowBuffer, RowStatus};
 use crate::states::StateList;
 use csv_rows::NearRows;
-use key_table::{KeyTable, hash_of};
+use key_index::{KeyTable, hash_of};
 use par_model::BoundPlan;
 
 /// The fewest keys for which it pays: a table of fewer is near.

@@ -12,7 +12,7 @@
 ghost use Rattle.std.specs.Prelude.{◌≡◌, ◌<◌, ◌≤◌, ◌+◌, ◌*◌, ◌^◌, ◌∷◌, ◌++◌, ◌↔◌, [], ℕ, List, Contains, IsTrue, true, false, IfOk, IfErr, IfSome, IfNone, OnOk, OnErr, None, Some, All, length, map as map_list, reverse};
 ghost use Rattle.std.specs.FinMap as map;
 ghost use Rattle.std.specs.List.Sorted.{IsPermutation, IsSorted};
-ghost use Rattle.key_table.specs.Keys.{key_at, key_cmp};
+ghost use Rattle.key_index.specs.Keys.{key_at, key_cmp};
 ghost use Rattle.csv_rows.specs.Records.{record_at};
 ghost use Rattle.par_model.specs.Plan.{Plan};
 ghost use Rattle.par_model.specs.Columns.{HasColumns};
@@ -30,7 +30,7 @@ use crate::row::{RowBuffer, RowStatus, read_values};
 use crate::state::one_row;
 use crate::states::StateList;
 use csv_rows::{NearRows, Record, RowStore};
-use key_table::KeyTable;
+use key_index::KeyTable;
 use par_model::{AggState, BoundPlan, ITEM_CAUSE};
 use std::alloc::{AllocError, Global};
 use std::marker::Model;

@@ -3,9 +3,9 @@ use Rattle.std.proofs.Common.{◌≡◌, ℕ, suc, ◌+◌, ◌<◌, List, Optio
 use Rattle.dsa_area.specs.declared.area.Area.{Area}
 use Rattle.dsa_area.specs.declared.area.AreaPass.{AreaPass}
 use Rattle.dshash_core.specs.Key.{packed_key}
-use Rattle.number_table.specs.Maps.{IsMade, IsRefused}
-use Rattle.number_table.specs.declared.number.NumberCall.TheVariants.{Put}
-use Rattle.number_table.specs.declared.table.NumberTable.{NumberTable}
+use Rattle.dshash_numbers.specs.Maps.{IsMade, IsRefused}
+use Rattle.dshash_numbers.specs.declared.number.NumberCall.TheVariants.{Put}
+use Rattle.dshash_numbers.specs.declared.table.NumberTable.{NumberTable}
 use Rattle.shell_memory.specs.Tables.{Puts, Stops, fill_key, one_if_new}
 
 -- i puts were made, of which so many had a new key, and led from n and u to m and w. The next is of this number, under

@@ -3,9 +3,9 @@ use Rattle.std.proofs.Common.{◌≡◌, inr, ℕ, List, Option, None, Some, IfN
 use Rattle.dsa_area.specs.declared.area.Area.{Area}
 use Rattle.dsa_area.specs.declared.area.AreaPass.{AreaPass}
 use Rattle.dshash_core.specs.Key.{packed_key}
-use Rattle.number_table.specs.Maps.{IsMade}
-use Rattle.number_table.specs.declared.number.NumberCall.{NumberCall}
-use Rattle.number_table.specs.declared.table.NumberTable.{NumberTable}
+use Rattle.dshash_numbers.specs.Maps.{IsMade}
+use Rattle.dshash_numbers.specs.declared.number.NumberCall.{NumberCall}
+use Rattle.dshash_numbers.specs.declared.table.NumberTable.{NumberTable}
 use Rattle.shell_memory.specs.Tables.{Fills, Gives, Goes}
 use Rattle.shell_memory.specs.declared.heap.Heap.{Heap}
 use Rattle.shell_memory.specs.declared.table.Cells.{Cells}

@@ -13,7 +13,7 @@ use Rattle.region_words.specs.Parts.{owned}
 use Rattle.region_words.specs.declared.chunk.Chunk.{Chunk}
 use Rattle.word_map.specs.WordMap.{at as word_at}
 use Rattle.shell_memory.specs.Names.{IsFree, Puts, Stays, under}
-use Rattle.shell_words.specs.ChunkRequests.{ChunkRequest, Alloc, Free, Store, Load}
+use Rattle.shell_lines.specs.ChunkRequests.{ChunkRequest, Alloc, Free, Store, Load}
 use Rattle.shell_memory.specs.declared.chunks.ChunkAnswer.{ChunkAnswer}
 use Rattle.shell_memory.specs.declared.chunks.ChunkAnswer.TheVariants.{Named, NoName, Range, Done, Granted, NoSpace, Stranger, Value}
 use Rattle.shell_memory.specs.declared.chunks.Chunks.{Chunks}

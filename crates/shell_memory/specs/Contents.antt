@@ -12,7 +12,7 @@ use Rattle.shm_toc.specs.declared.table.TocAnswer.TheVariants as toc
 use Rattle.word_map.specs.WordMap.{WordMap}
 use Rattle.shell_memory.specs.Chunks.{chunk_of}
 use Rattle.shell_memory.specs.Names.{IsFree, Puts, Stays}
-use Rattle.shell_words.specs.TocRequests.{TocRequest, Alloc, Insert, Find, Freeze, Attach}
+use Rattle.shell_lines.specs.TocRequests.{TocRequest, Alloc, Insert, Find, Freeze, Attach}
 use Rattle.shell_memory.specs.declared.chunks.Chunks.{Chunks}
 use Rattle.shell_memory.specs.declared.contents.Contents.{Contents}
 use Rattle.shell_memory.specs.declared.contents.ContentsAnswer.{ContentsAnswer}

@@ -8,11 +8,11 @@ use Rattle.dshash_core.specs.Key.{packed_key}
 use Rattle.dshash_parts.specs.Opening.{Asks, IsNoTable}
 use Rattle.dshash_parts.specs.Traces.{Got}
 use Rattle.dshash_parts.specs.declared.open.DsNew.TheVariants as no_table
-use Rattle.number_table.specs.Maps.{IsMade, IsNew, IsNumberTable, IsRefused, IsTotal}
-use Rattle.number_table.specs.declared.number.NumberCall.{NumberCall}
-use Rattle.number_table.specs.declared.number.NumberCall.TheVariants as verb
-use Rattle.number_table.specs.declared.table.NumberTable.{NumberTable}
-use Rattle.shell_words.specs.TableRequests.{TableRequest, Table, Put, Get, Delete, Fill, Total}
+use Rattle.dshash_numbers.specs.Maps.{IsMade, IsNew, IsNumberTable, IsRefused, IsTotal}
+use Rattle.dshash_numbers.specs.declared.number.NumberCall.{NumberCall}
+use Rattle.dshash_numbers.specs.declared.number.NumberCall.TheVariants as verb
+use Rattle.dshash_numbers.specs.declared.table.NumberTable.{NumberTable}
+use Rattle.shell_lines.specs.TableRequests.{TableRequest, Table, Put, Get, Delete, Fill, Total}
 use Rattle.shell_memory.specs.declared.heap.Heap.{Heap}
 use Rattle.shell_memory.specs.declared.table.Cells.{Cells}
 use Rattle.shell_memory.specs.declared.table.TableAnswer.{TableAnswer}

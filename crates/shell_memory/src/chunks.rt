@@ -6,14 +6,14 @@
 ghost use Rattle.std.specs.Prelude.{◌≡◌, ◌≢◌, ◌<◌, ◌≤◌, ◌^◌, ℕ, List, IfNone, IfOk, IfSome, OnOk, OnSome, Some, None, is_some, option_map};
 ghost use Rattle.atomic_table.specs.Seated.{TableId};
 ghost use Rattle.shell_memory.specs.Chunks.{Allocates, AreChunks, Frees, IsAnswered, IsHeap, Loads, LoadsWord, Stores, StoresWord, chunk_of, name_beside, text_of};
-ghost use Rattle.shell_words.specs.ChunkRequests.{IsAllowed, request_of};
+ghost use Rattle.shell_lines.specs.ChunkRequests.{IsAllowed, request_of};
 ghost use Rattle.shell_memory.specs.Names.{IsFree, Puts, Stays};
 
 use crate::answers::{plain, with_number, with_numbers};
 use crate::heap::Heap;
 use dsa_area::{NoSpace, Stranger};
 use region_words::{Chunk, Region};
-use shell_words::ChunkCommand;
+use shell_lines::ChunkCommand;
 use std::alloc::{AllocError, Global};
 use std::collections::BTreeMap;
 use std::sync::Wait;

@@ -7,7 +7,7 @@ ghost use Rattle.std.specs.Prelude.{◌≡◌, ◌≤◌, ℕ, IfOk, OnOk, Some}
 ghost use Rattle.atomic_table.specs.Seated.{TableId};
 ghost use Rattle.shell_memory.specs.Chunks.{AreChunks};
 ghost use Rattle.shell_memory.specs.Contents.{Allocates, Attaches, Finds, Freezes, Goes, Inserts, IsAnswered, IsContents, IsFound, IsText, frozen_in, growing_in, opening, refusal_of, state_of};
-ghost use Rattle.shell_words.specs.TocRequests.{IsAllowed, request_of};
+ghost use Rattle.shell_lines.specs.TocRequests.{IsAllowed, request_of};
 ghost use Rattle.shell_memory.specs.declared.chunks.Chunks.{Chunks};
 ghost use Rattle.word_map.specs.WordMap.{HasJust};
 
@@ -15,7 +15,7 @@ use crate::answers::{plain, with_bytes, with_number, with_numbers};
 use crate::chunks::Chunks;
 use region_words::{Part, Region};
 use rel_pointer::RelPtr;
-use shell_words::TocCommand;
+use shell_lines::TocCommand;
 use shm_toc::{FrozenToc, Toc, TocAnswer};
 use std::alloc::{AllocError, Global};
 

@@ -6,9 +6,9 @@
 ghost use Rattle.std.specs.Prelude.{◌≡◌, ◌≤◌, ℕ, IfErr, IfNone, IfOk, IfSome, None, OnOk, Option, codes, length, take};
 ghost use Rattle.atomic_table.specs.Seated.{TableId};
 ghost use Rattle.dshash_core.specs.Key.{packed_key};
-ghost use Rattle.number_table.specs.Maps.{IsMade, IsNumberTable, IsRefused};
-ghost use Rattle.number_table.specs.declared.number.NumberCall.TheVariants as verb;
-ghost use Rattle.shell_words.specs.TableRequests.{IsAllowed, request_of};
+ghost use Rattle.dshash_numbers.specs.Maps.{IsMade, IsNumberTable, IsRefused};
+ghost use Rattle.dshash_numbers.specs.declared.number.NumberCall.TheVariants as verb;
+ghost use Rattle.shell_lines.specs.TableRequests.{IsAllowed, request_of};
 ghost use Rattle.shell_memory.specs.declared.heap.Heap.{Heap};
 ghost use Rattle.shell_memory.specs.declared.table.TableAnswer.TheVariants as answer;
 ghost use Rattle.shell_memory.specs.Chunks.{IsHeap};
@@ -17,10 +17,10 @@ ghost use Rattle.shell_memory.specs.Tables.{Fills, Gives, Goes, IsAnswered, IsCe
 use crate::answers::{plain, with_number, with_numbers};
 use crate::heap::Heap;
 use dsa_area::NoSpace;
+use dshash_numbers::{NumberTable, Total};
 use dshash_parts::DsNew;
-use number_table::{NumberTable, Total};
 use region_words::Region;
-use shell_words::TableCommand;
+use shell_lines::TableCommand;
 use std::alloc::{AllocError, Global};
 use std::sync::Wait;
 

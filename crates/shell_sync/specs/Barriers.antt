@@ -13,9 +13,9 @@ use Rattle.par_barrier.specs.declared.history.BarrierCall.TheVariants as verb
 use Rattle.par_barrier.specs.declared.history.BarrierReply.{BarrierReply}
 use Rattle.par_barrier.specs.declared.history.BarrierReply.TheVariants as reply
 use Rattle.par_barrier.specs.declared.history.BarrierState.{BarrierState}
-use Rattle.shell_words.specs.BarrierRequests.{BarrierRequest, New, Call}
-use Rattle.shell_words.specs.declared.barriers.PartyCall.{PartyCall}
-use Rattle.shell_words.specs.declared.barriers.PartyCall.TheVariants as party
+use Rattle.shell_lines.specs.BarrierRequests.{BarrierRequest, New, Call}
+use Rattle.shell_lines.specs.declared.barriers.PartyCall.{PartyCall}
+use Rattle.shell_lines.specs.declared.barriers.PartyCall.TheVariants as party
 use Rattle.shell_memory.specs.Names.{IsFree, Puts, Stays, under}
 use Rattle.shell_sync.specs.declared.barriers.Barriers.{Barriers}
 use Rattle.shell_sync.specs.declared.barriers.Party.{Party}

@@ -16,7 +16,7 @@ use Rattle.mq_ring.specs.Ends.{ring_of}
 use Rattle.ring_rule.specs.Ends.{first_receiving, first_sending, publishes, receiver_leaves, sender_leaves}
 use Rattle.ring_rule.specs.Ring.{AreEnds, Receiving, Sending}
 use Rattle.shell_memory.specs.Names.{IsFree, Puts, Stays, under}
-use Rattle.shell_words.specs.RingRequests.{RingRequest, Ring, Send, Receive, DetachSender, DetachReceiver}
+use Rattle.shell_lines.specs.RingRequests.{RingRequest, Ring, Send, Receive, DetachSender, DetachReceiver}
 use Rattle.shell_memory.specs.declared.heap.Heap.{Heap}
 use Rattle.shell_sync.specs.declared.rings.Queue.{Queue}
 use Rattle.shell_sync.specs.declared.rings.RingAnswer.{RingAnswer}

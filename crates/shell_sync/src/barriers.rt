@@ -9,7 +9,7 @@ ghost use Rattle.lock_book.specs.History.{last_of};
 ghost use Rattle.par_barrier.specs.Legal.{BarrierLegal};
 ghost use Rattle.par_barrier.specs.Parties.{nobody};
 ghost use Rattle.par_barrier.specs.Shown.{AreAll, Belongs, Called, History, arrival_reply, callers_of, detach_reply, history_of, number_of, refusal_reply};
-ghost use Rattle.shell_words.specs.BarrierRequests.{IsAllowed, request_of};
+ghost use Rattle.shell_lines.specs.BarrierRequests.{IsAllowed, request_of};
 ghost use Rattle.shell_sync.specs.Barriers.{AreBarriers, HasSeen, IsAnswered, IsCalled, IsParty, Makes, answer_of, call_of, party_of, text_of};
 ghost use Rattle.shell_sync.specs.Meetings.{IsAlike, IsBehind, IsCalledAmong, Meets};
 ghost use Rattle.shell_memory.specs.Names.{IsFree, Puts, Stays};
@@ -18,8 +18,8 @@ ghost use Rattle.par_barrier.specs.declared.history.BarrierState.{BarrierState};
 ghost use Rattle.shell_sync.specs.declared.barriers.PartyAnswer.TheVariants as answer;
 
 use par_barrier::{Arrival, Barrier, BarrierAnswer, BarrierPass, Left};
+use shell_lines::{BarrierCommand, PartyCall};
 use shell_memory::{plain, with_number};
-use shell_words::{BarrierCommand, PartyCall};
 use std::alloc::{AllocError, Global};
 use std::collections::BTreeMap;
 use std::sync::Wait;

@@ -8,7 +8,7 @@ ghost use Rattle.std.specs.Prelude.{◌≡◌, ◌≢◌, ◌⊎◌, ◌+◌, �
 ghost use Rattle.atomic_table.specs.Seated.{TableId};
 ghost use Rattle.shell_memory.specs.Chunks.{IsHeap};
 ghost use Rattle.shell_memory.specs.Names.{Puts};
-ghost use Rattle.shell_words.specs.RingRequests.{IsAllowed, request_of};
+ghost use Rattle.shell_lines.specs.RingRequests.{IsAllowed, request_of};
 ghost use Rattle.shell_sync.specs.Rings.{AreRings, At, IsAnswered, IsNew, IsNoName, IsQueue, IsReceiveTry, IsSendTry, Makes, MaySend, ReceiverLeaves, Receives, SenderLeaves, Sends, queue_of, state_of, text_of, torn_by};
 ghost use Rattle.shell_sync.specs.declared.rings.RingAnswer.{RingAnswer};
 ghost use Rattle.shell_sync.specs.declared.rings.RingAnswer.TheVariants as answer;
@@ -17,8 +17,8 @@ use dsa_area::NoSpace;
 use mq_handle::{ReceiveAnswer, Receiver, SendAnswer, Sender, attach, meet};
 use mq_ring::Ring;
 use region_words::{Chunk, Region};
+use shell_lines::RingCommand;
 use shell_memory::{Heap, plain, with_number, with_numbers};
-use shell_words::RingCommand;
 use std::alloc::{AllocError, Global};
 use std::collections::BTreeMap;
 use std::sync::Wait;

@@ -1,6 +1,6 @@
 use Rattle.std.proofs.Common.{◌≡◌, ◌≤◌, ◌-◌, take}
 use Rattle.std.specs.Prelude.{codes}
-use Rattle.number_table.specs.Maps.{IsNumberTable}
+use Rattle.dshash_numbers.specs.Maps.{IsNumberTable}
 use Rattle.shell_memory.specs.Chunks.{IsHeap}
 use Rattle.shell_memory.specs.Tables.{Puts}
 use Rattle.shell_memory.proofs.table.fill.Given as goal

@@ -2,7 +2,7 @@ use Rattle.std.proofs.Common.{refl, subst, sym}
 use Rattle.par_barrier.specs.Shown.{Called}
 use Rattle.par_barrier.specs.declared.history.BarrierReply.TheVariants as reply
 use Rattle.shell_sync.specs.Barriers.{call_of}
-use Rattle.shell_words.specs.declared.barriers.PartyCall.{PartyCall}
+use Rattle.shell_lines.specs.declared.barriers.PartyCall.{PartyCall}
 use Rattle.shell_sync.proofs.barriers.call_by.Goals as goal
 
 pub returns-in-Ok-clause-called : goal.returns-in-Ok-clause-called

@@ -1,8 +1,8 @@
 use Rattle.std.proofs.Common.{refl, subst, sym}
 use Rattle.std.proofs.lemmas.Result.{IfOk-weaker}
-use Rattle.shell_words.specs.ChunkRequests.{request_of}
+use Rattle.shell_lines.specs.ChunkRequests.{request_of}
 use Rattle.shell_memory.specs.Chunks.{Answers}
-use Rattle.shell_words.specs.declared.chunks.ChunkCommand.{ChunkCommand}
+use Rattle.shell_lines.specs.declared.chunks.ChunkCommand.{ChunkCommand}
 use Rattle.shell_memory.proofs.chunks.Chunks.answer.Goals as goal
 
 pub returns-in-Store-clause-answer : goal.returns-in-Store-clause-answer

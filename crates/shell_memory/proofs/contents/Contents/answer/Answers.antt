@@ -1,8 +1,8 @@
 use Rattle.std.proofs.Common.{subst, sym}
 use Rattle.std.proofs.lemmas.Result.{IfOk-weaker}
 use Rattle.shell_memory.specs.Contents.{Answers, Goes}
-use Rattle.shell_words.specs.TocRequests.{request_of}
-use Rattle.shell_words.specs.declared.contents.TocCommand.{TocCommand}
+use Rattle.shell_lines.specs.TocRequests.{request_of}
+use Rattle.shell_lines.specs.declared.contents.TocCommand.{TocCommand}
 use Rattle.shell_memory.proofs.contents.Contents.answer.Goals as goal
 
 pub returns-in-Insert-clause-answer : goal.returns-in-Insert-clause-answer

@@ -1,8 +1,8 @@
 use Rattle.std.proofs.Common.{subst, sym}
 use Rattle.std.proofs.lemmas.Result.{IfOk-weaker}
 use Rattle.shell_memory.specs.Tables.{Answers}
-use Rattle.shell_words.specs.TableRequests.{request_of}
-use Rattle.shell_words.specs.declared.table.TableCommand.{TableCommand}
+use Rattle.shell_lines.specs.TableRequests.{request_of}
+use Rattle.shell_lines.specs.declared.table.TableCommand.{TableCommand}
 use Rattle.shell_memory.proofs.table.Cells.answer.Goals as goal
 
 pub returns-in-Put-clause-answer : goal.returns-in-Put-clause-answer

@@ -1,4 +1,4 @@
-use Rattle.number_table.specs.declared.number.NumberCall.TheVariants as verb
+use Rattle.dshash_numbers.specs.declared.number.NumberCall.TheVariants as verb
 use Rattle.shell_memory.specs.Tables.{Gives}
 use Rattle.shell_memory.proofs.TableLaws.{gives, goes}
 use Rattle.shell_memory.proofs.table.Cells.get.Goals as goal

@@ -1,7 +1,7 @@
 use Rattle.std.proofs.Common.{ℕ, Option, subst}
 use Rattle.dshash_core.specs.Key.{packed_key}
-use Rattle.number_table.specs.Maps.{IsMade}
-use Rattle.number_table.specs.declared.number.NumberCall.TheVariants as verb
+use Rattle.dshash_numbers.specs.Maps.{IsMade}
+use Rattle.dshash_numbers.specs.declared.number.NumberCall.TheVariants as verb
 use Rattle.shell_memory.specs.Tables.{Sets}
 use Rattle.shell_memory.specs.declared.table.TableAnswer.TheVariants as answer
 use Rattle.shell_memory.proofs.TableLaws.{goes}

@@ -1,8 +1,8 @@
 use Rattle.std.proofs.Common.{subst, sym}
 use Rattle.std.proofs.lemmas.Result.{IfOk-weaker}
-use Rattle.shell_words.specs.BarrierRequests.{request_of}
+use Rattle.shell_lines.specs.BarrierRequests.{request_of}
 use Rattle.shell_sync.specs.Barriers.{Answers}
-use Rattle.shell_words.specs.declared.barriers.BarrierCommand.{BarrierCommand}
+use Rattle.shell_lines.specs.declared.barriers.BarrierCommand.{BarrierCommand}
 use Rattle.shell_sync.proofs.barriers.Barriers.answer.Goals as goal
 
 pub returns-in_ok-answer-in-New-clause-answer : goal.returns-in_ok-answer-in-New-clause-answer

@@ -1,8 +1,8 @@
 use Rattle.std.proofs.Common.{[], refl, subst, sym}
 use Rattle.std.proofs.lemmas.Result.{IfOk-weaker}
-use Rattle.shell_words.specs.RingRequests.{request_of}
+use Rattle.shell_lines.specs.RingRequests.{request_of}
 use Rattle.shell_sync.specs.Rings.{Answers}
-use Rattle.shell_words.specs.declared.rings.RingCommand.{RingCommand}
+use Rattle.shell_lines.specs.declared.rings.RingCommand.{RingCommand}
 use Rattle.shell_sync.proofs.rings.Rings.answer.Goals as goal
 
 pub returns-in_ok-answer-in-Ring-clause-answer : goal.returns-in_ok-answer-in-Ring-clause-answer

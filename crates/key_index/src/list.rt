@@ -1,0 +1,137 @@
+//! A list of keys whose bytes stand one after the other.
+
+ghost use Rattle.std.specs.Prelude.{◌≡◌, ◌<◌, ◌≤◌, ◌↔◌, ◌∷◌, ◌++◌, [], Some, IsTrue, OnOk, OnErr, get_or, length, slice_get};
+ghost use Rattle.csv.specs.Records.{prev};
+ghost use Rattle.key_index.specs.Keys.{key_at, key_cmp};
+
+use std::alloc::{AllocError, Global};
+use std::cmp::Ordering;
+use std::marker::Model;
+
+/// The bytes of all keys, and where each key ends.
+#[derive(Drop)]
+pub(crate) struct KeyList {
+    bytes: Vec<u8>,
+    ends: Vec<usize>,
+}
+
+impl Model for KeyList {
+    ghost use Rattle.std.specs.Prelude.{ℕ, List, length};
+    ghost use Rattle.csv.specs.Records.{cut_from};
+    ghost use Rattle.csv_rows.specs.Store.{Covers};
+
+    ghost Value = { List (List ℕ) };
+
+    ghost view = { λ k. cut_from 0 k.ends.items k.bytes.items };
+
+    ghost invariant = { λ k. Covers k.ends.items (length k.bytes.items) };
+}
+
+impl KeyList {
+    pub(crate) fn new(alloc: Global) -> KeyList
+        ensures { result ≡ [] }
+    {
+        KeyList {
+            bytes: Vec::new(alloc),
+            ends: Vec::new(alloc),
+        }
+    }
+
+    pub(crate) fn len(&self) -> usize
+        ensures { result ≡ length self.now }
+    {
+        self.ends.len()
+    }
+
+    pub(crate) fn get(&self, at: usize) -> &[u8]
+        requires { at < length self.now }
+        ensures { slice_get self.now at ≡ Some result.now }
+    {
+        let (start, end) = span(&self.ends, at);
+        &self.bytes.as_slice()[start..end]
+    }
+
+    /// How the keys of two places compare, byte by byte. A place of no key is as that of the key of no bytes.
+    pub(crate) fn cmp(&self, a: usize, b: usize) -> Ordering
+        ensures { result ≡ key_cmp (key_at self.now a) (key_at self.now b) }
+    {
+        self.get_or_none(a).cmp(self.get_or_none(b))
+    }
+
+    fn get_or_none(&self, at: usize) -> &[u8]
+        ensures { result.now ≡ key_at self.now at }
+    {
+        if at < self.len() { self.get(at) } else { &[] }
+    }
+
+    /// Bytes with which all keys begin, as many as there are.
+    pub(crate) fn common_front(&self) -> &[u8] {
+        let mut front = self.get_or_none(0);
+        for at in 1..self.len() {
+            front = common_front(front, self.get(at));
+        }
+        front
+    }
+
+    /// A key's 16 bytes from a place on as a number, highest byte first, that compares as those bytes do.
+    pub(crate) fn bytes_from(&self, at: usize, from: usize) -> u128 {
+        let key = self.get_or_none(at);
+        let rest = &key[from.min(key.len())..];
+        number(&rest[..rest.len().min(16)])
+    }
+
+    /// Whether this key stands there.
+    pub(crate) fn is(&self, at: usize, key: &[u8]) -> bool
+        ensures { IsTrue result ↔ (slice_get self.now at ≡ Some key.now) }
+    {
+        at < self.len() && self.get(at) == key
+    }
+
+    /// Whether a key that ends with this byte stands there.
+    pub(crate) fn ends_with(&self, at: usize, byte: u8) -> bool {
+        at < self.len() && self.get(at).last() == Some(&byte)
+    }
+
+    pub(crate) fn push(&mut self, key: &[u8]) -> Result<(), AllocError>
+        ensures ok { OnOk result (self.new ≡ self.old ++ key.now ∷ []) }
+        ensures err { OnErr result (self.new ≡ self.old) }
+    {
+        let from = self.bytes.len();
+        self.bytes.extend_from_slice(key)?;
+        match self.ends.push(self.bytes.len()) {
+            Ok(()) => Ok(()),
+            Err(_) => {
+                self.bytes.truncate(from);
+                Err(AllocError)
+            }
+        }
+    }
+}
+
+/// Where the key at this place starts and ends.
+fn span(ends: &Vec<usize>, at: usize) -> (usize, usize)
+    requires { at < length ends.now.items }
+    ensures start { result.0 ≡ prev 0 ends.now.items at }
+    ensures end { result.1 ≡ get_or ends.now.items at 0 }
+{
+    let start = if at == 0 { 0 } else { ends[at - 1] };
+    (start, ends[at])
+}
+
+/// Bytes with which both begin, as many as there are.
+fn common_front<'a>(front: &'a [u8], key: &[u8]) -> &'a [u8] {
+    if key.starts_with(front) {
+        return front;
+    }
+    let same = front.iter().zip(key).take_while(|(a, b)| a == b).count();
+    &front[..same.min(front.len())]
+}
+
+/// Up to 16 bytes as a number, highest first, with zeros behind them.
+fn number(bytes: &[u8]) -> u128
+    requires { length bytes.now ≤ 16 }
+{
+    let mut all = [0; 16];
+    all[..bytes.len()].copy_from_slice(bytes);
+    u128::from_be_bytes(all)
+}

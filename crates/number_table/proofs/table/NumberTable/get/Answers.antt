@@ -1,5 +1,0 @@
-use Rattle.number_table.proofs.Tables.{get_granted}
-use Rattle.number_table.proofs.table.NumberTable.get.Goals as goal
-
-pub unreachable-requires : goal.unreachable-requires
-unreachable-requires g c = get_granted c.args.area.now c.args.self.now c.call.new.self c.args.apass.now c.call.new.apass _ _ _ c.in-Err.ensures.refused

@@ -1,9 +1,0 @@
-use Rattle.std.proofs.Common.{◌≤◌}
-use Rattle.object_load.specs.Passes.{HasBoth}
-use Rattle.object_load.proofs.table.puts.Given as goal
-
-abbrev pub invariant-loop-at : goal.invariant-loop-at
-invariant-loop-at g l = record {
-  own : HasBoth l.table l.area l.passes;
-  few : l.new ≤ l.at;
-}

@@ -1,5 +1,0 @@
-use Rattle.std.proofs.Common.{refl, arith}
-use Rattle.region_uses.proofs.tests.a_ring_passes_the_end_of_its_counts.Goals as goal
-
-pub create-tx-requires-clause-power : goal.create-tx-requires-clause-power
-create-tx-requires-clause-power g c = (2, refl, omega arith)

@@ -1,0 +1,9 @@
+use Rattle.std.proofs.Common.{◌≤◌}
+use Rattle.uses_load.specs.Passes.{HasBoth}
+use Rattle.uses_load.proofs.table.puts.Given as goal
+
+abbrev pub invariant-loop-at : goal.invariant-loop-at
+invariant-loop-at g l = record {
+  own : HasBoth l.table l.area l.passes;
+  few : l.new ≤ l.at;
+}

@@ -1,0 +1,106 @@
+//! `uses_load KIND THREADS CALLS [SIZE]` makes one shared object and has threads call it at once.
+//!
+//! It is what `bench/objects.py` times: it takes no time itself, and prints one line that no schedule changes, with
+//! what it was asked and how many of the calls went as they have to.
+//!
+//! `words` reads what is asked; `lock`, `area`, `queue` and `table` are the loads, a file a kind of object; `counter`
+//! is what stands behind the lock, `number` what the table keeps under a key, and `counts` adds up what the threads
+//! counted.
+
+#![tactic(auto)]
+
+mod area;
+mod counter;
+mod counts;
+mod lock;
+mod number;
+mod queue;
+mod table;
+#[cfg(test)]
+mod tests;
+mod words;
+
+use crate::area::{area_load, window_load};
+use crate::lock::lock_load;
+use crate::queue::queue_load;
+use crate::table::{gets_load, puts_load};
+use crate::words::{Kind, Load, load_of};
+use std::alloc::{AllocError, Global};
+use std::env;
+use std::io::{self, ErrorKind};
+use std::process::ExitCode;
+use std::sync::Wait;
+use std::thread::Threads;
+
+/// The status of a run that was asked for nothing that there is.
+const WRONG_WORDS: u8 = 2;
+
+/// How the program is called.
+const USAGE: &str = "usage: uses_load lock|area|window|queue|puts|gets THREADS CALLS [SIZE]
+each of 1 to 64 THREADS makes CALLS calls, up to 2^32; SIZE is 8 to 1000000: the bytes of a chunk (area, window) or of a
+message (queue, which takes 2 threads), or the keys of the table (puts, gets)";
+
+/// The words after the program's name. Where one is no UTF-8 there are none.
+fn given_words(rt: &HostRuntime) -> io::Result<Vec<String>> {
+    let mut words = Vec::new(rt.alloc());
+    match env::args(rt) {
+        Ok(args) => {
+            for word in args.skip(1) {
+                words.push(word)?;
+            }
+        }
+        Err(e) if e.kind() == ErrorKind::InvalidData => {}
+        Err(e) => return Err(e),
+    }
+    Ok(words)
+}
+
+/// Makes the object, has it called, and tells what came of it.
+fn line<R: Threads + Wait + Sync>(rt: &R, alloc: Global, load: Load) -> Result<String, AllocError> {
+    let Load {
+        kind,
+        threads,
+        calls,
+        size,
+    } = load;
+    let all = u64::from(threads).saturating_mul(calls);
+    match kind {
+        Kind::Lock => {
+            let value = lock_load(rt, alloc, threads, calls)?;
+            format!(in alloc; "lock: {threads} threads, {all} calls, value {value}")
+        }
+        Kind::Area => {
+            let good = area_load(rt, alloc, threads, calls, size)?;
+            format!(in alloc; "area: {threads} threads, {all} pairs of {size} bytes, {good} good")
+        }
+        Kind::Window => {
+            let good = window_load(rt, alloc, threads, calls, size)?;
+            format!(in alloc; "window: {threads} threads, {all} pairs of {size} bytes, {good} good")
+        }
+        Kind::Queue => {
+            let came = queue_load(rt, alloc, calls, size)?;
+            format!(in alloc;
+                "queue: {threads} threads, {calls} messages of {size} bytes, {came} came"
+            )
+        }
+        Kind::Puts => {
+            let new = puts_load(rt, alloc, threads, calls, size)?;
+            format!(in alloc; "puts: {threads} threads, {all} puts on {size} keys, {new} new")
+        }
+        Kind::Gets => {
+            let found = gets_load(rt, alloc, threads, calls, size)?;
+            format!(in alloc; "gets: {threads} threads, {all} gets on {size} keys, {found} found")
+        }
+    }
+}
+
+fn main(rt: HostRuntime) -> anyhow::Result<ExitCode> {
+    let words = given_words(&rt)?;
+    let Some(load) = load_of(words.as_slice()) else {
+        eprintln!(rt; "{USAGE}")?;
+        return Ok(ExitCode::from(WRONG_WORDS));
+    };
+    let line = line(&rt, rt.alloc(), load)?;
+    println!(rt; "{line}")?;
+    Ok(ExitCode::SUCCESS)
+}

@@ -1,0 +1,312 @@
+//! A hash table of `dshash_parts`, in an area of its own, whose keys all threads put, delete and get.
+
+ghost use Rattle.std.specs.Prelude.{◌≡◌, ℕ, ◌+◌, ◌^◌, ◌<◌, ◌≤◌, length, IfOk};
+ghost use mathlib.Core.Option.{some};
+ghost use lib.ListN.{get_elem?};
+ghost use Rattle.dsa_area.specs.Shown.{Belongs as AreaBelongs, IsArea};
+ghost use Rattle.dshash_parts.specs.Tables.{IsTable, Belongs, key_words_of};
+ghost use Rattle.uses_load.specs.Passes.{AreBoth, HasBoth};
+
+use crate::area::area_for;
+use crate::counts::sum_of;
+use crate::number::{Number, NumberCall};
+use dsa_area::{Area, AreaPass};
+use dshash_parts::{DsPass, Dshash};
+use region_words::Region;
+use std::alloc::{AllocError, Global};
+use std::sync::Wait;
+use std::thread::{Threads, map_vec};
+
+/// A caller's two passes.
+#[derive(Drop)]
+pub struct Passes {
+    table: DsPass<Number>,
+    area: AreaPass,
+}
+
+/// An odd number whose multiples are spread over all words.
+const SPREAD: u64 = 0x9E37_79B9_7F4A_7C15;
+
+/// How many keys are a caller's own: those from its number times as many on.
+const KEYS_EACH: u64 = 4_294_967_296;
+
+/// Pages enough for so many items, for the bucket slices, and for the old ones beside the new while the table grows.
+fn pages_for(keys: u64) -> u32
+    requires { keys ≤ 1000000 }
+    ensures { result ≤ 65536 }
+{
+    1024 + (keys / 64) as u32
+}
+
+/// As many passes of the table as of the area, two by two.
+fn paired(
+    alloc: Global,
+    table: &Dshash<Number>,
+    area: &Area,
+    mut passes: Vec<DsPass<Number>>,
+    mut apasses: Vec<AreaPass>,
+) -> Result<Vec<Passes>, AllocError>
+    requires own { (i : ℕ) (p : _) → get_elem? passes.items i ≡ some p → Belongs table.now p }
+    requires area_own { (i : ℕ) (p : _) → get_elem? apasses.items i ≡ some p → AreaBelongs area.now p }
+    requires count { length passes.items ≡ length apasses.items }
+    ensures own { IfOk result (λ both. AreBoth table.now area.now both.items) }
+    ensures count { IfOk result (λ both. length both.items ≡ length passes.items) }
+{
+    let _ = table;
+    let _ = area;
+    let mut both = Vec::new(alloc);
+    while let Some(pass) = passes.pop() {
+        let Some(apass) = apasses.pop() else {
+            unreachable!()
+        };
+        both.push(Passes {
+            table: pass,
+            area: apass,
+        })?;
+    }
+    Ok(both)
+}
+
+/// A table of keys of one word in an area with room for so many of them; the passes of one caller, and those of the
+/// others.
+fn table_for<R: Wait>(
+    rt: &R,
+    alloc: Global,
+    keys: u64,
+    others: u32,
+) -> Result<(Region, Area, Dshash<Number>, Passes, Vec<Passes>), AllocError>
+    requires keys { keys ≤ 1000000 }
+    requires others { others ≤ 64 }
+    ensures area { IfOk result (λ t. IsArea t.0 t.1) }
+    ensures table { IfOk result (λ t. IsTable t.0 t.2) }
+    ensures keys { IfOk result (λ t. key_words_of t.2 ≡ 1) }
+    ensures first { IfOk result (λ t. HasBoth t.2 t.1 t.3) }
+    ensures rest { IfOk result (λ t. AreBoth t.2 t.1 t.4.items) }
+    ensures count { IfOk result (λ t. length t.4.items ≡ others) }
+{
+    let (region, area, mut apasses) = area_for(alloc, pages_for(keys), others + 1)?;
+    let Some(mut apass) = apasses.pop() else {
+        unreachable!()
+    };
+    let Ok((table, mut passes)) = Dshash::new(rt, alloc, &region, &area, &mut apass, 1, others + 1)
+    else {
+        return Err(AllocError);
+    };
+    let Some(pass) = passes.pop() else {
+        unreachable!()
+    };
+    let first = Passes {
+        table: pass,
+        area: apass,
+    };
+    let rest = paired(alloc, &table, &area, passes, apasses)?;
+    Ok((region, area, table, first, rest))
+}
+
+/// Makes a call of a key. Says whether the reply is this.
+fn replies<R: Wait>(
+    rt: &R,
+    table: &Dshash<Number>,
+    r: &Region,
+    area: &Area,
+    passes: &mut Passes,
+    key: u64,
+    call: NumberCall,
+    reply: Option<u64>,
+) -> bool
+    requires table { IsTable r.now table.now }
+    requires keys { key_words_of table.now ≡ 1 }
+    requires area { IsArea r.now area.now }
+    requires own { HasBoth table.now area.now passes.old }
+    ensures own { HasBoth table.now area.now passes.new }
+{
+    match table.call(
+        rt,
+        r,
+        area,
+        &mut passes.table,
+        &mut passes.area,
+        &[key],
+        &call,
+    ) {
+        Ok(given) => given == reply,
+        Err(_) => false,
+    }
+}
+
+/// Puts the caller's next key, its `at`-th. Where `most` of its keys stand before that one, the first of them goes. Says
+/// whether the one was there and the other was not.
+fn put_next<R: Wait>(
+    rt: &R,
+    table: &Dshash<Number>,
+    r: &Region,
+    area: &Area,
+    passes: &mut Passes,
+    at: u64,
+    most: u64,
+) -> bool
+    requires table { IsTable r.now table.now }
+    requires keys { key_words_of table.now ≡ 1 }
+    requires area { IsArea r.now area.now }
+    requires own { HasBoth table.now area.now passes.old }
+    requires few { at < 2 ^ 32 }
+    ensures own { HasBoth table.now area.now passes.new }
+{
+    let key = u64::from(passes.area.number()) * KEYS_EACH + at;
+    if most <= at {
+        let old = key - most;
+        if !replies(
+            rt,
+            table,
+            r,
+            area,
+            passes,
+            old,
+            NumberCall::Delete,
+            Some(old),
+        ) {
+            return false;
+        }
+    }
+    replies(rt, table, r, area, passes, key, NumberCall::Put(key), None)
+}
+
+/// Puts so many keys of the caller's own, of which `most` at most are there at once. Says how many were new.
+fn puts<R: Wait>(
+    rt: &R,
+    table: &Dshash<Number>,
+    r: &Region,
+    area: &Area,
+    mut passes: Passes,
+    calls: u64,
+    most: u64,
+) -> u64
+    requires table { IsTable r.now table.now }
+    requires keys { key_words_of table.now ≡ 1 }
+    requires area { IsArea r.now area.now }
+    requires own { HasBoth table.now area.now passes }
+    requires few { calls ≤ 2 ^ 32 }
+    ensures { result ≤ calls }
+{
+    let mut new = 0;
+    for at in 0..calls {
+        if put_next(rt, table, r, area, &mut passes, at, most) {
+            new += 1;
+        }
+    }
+    new
+}
+
+/// Puts the keys from 0 on, so many of them.
+fn fill<R: Wait>(
+    rt: &R,
+    table: &Dshash<Number>,
+    r: &Region,
+    area: &Area,
+    passes: &mut Passes,
+    keys: u64,
+)
+    requires table { IsTable r.now table.now }
+    requires keys { key_words_of table.now ≡ 1 }
+    requires area { IsArea r.now area.now }
+    requires own { HasBoth table.now area.now passes.old }
+    ensures own { HasBoth table.now area.now passes.new }
+{
+    for key in 0..keys {
+        replies(rt, table, r, area, passes, key, NumberCall::Put(key), None);
+    }
+}
+
+/// Gets so many of the keys from 0 on, in an order of the caller's own. Says how many were found.
+fn gets<R: Wait>(
+    rt: &R,
+    table: &Dshash<Number>,
+    r: &Region,
+    area: &Area,
+    mut passes: Passes,
+    calls: u64,
+    keys: u64,
+) -> u64
+    requires table { IsTable r.now table.now }
+    requires keys { key_words_of table.now ≡ 1 }
+    requires area { IsArea r.now area.now }
+    requires own { HasBoth table.now area.now passes }
+    requires some { 1 ≤ keys }
+    ensures { result ≤ calls }
+{
+    let number = u64::from(passes.area.number());
+    let mut found = 0;
+    for i in 0..calls {
+        let key = i.wrapping_add(number << 32).wrapping_mul(SPREAD) % keys;
+        if replies(
+            rt,
+            table,
+            r,
+            area,
+            &mut passes,
+            key,
+            NumberCall::Get,
+            Some(key),
+        ) {
+            found += 1;
+        }
+    }
+    found
+}
+
+/// Has so many threads put so many new keys each, of which `keys` are there at once. Says how many were new.
+pub fn puts_load<R: Threads + Wait + Sync>(
+    rt: &R,
+    alloc: Global,
+    threads: u32,
+    calls: u64,
+    keys: u64,
+) -> Result<u64, AllocError>
+    requires some { 1 ≤ threads }
+    requires threads_few { threads ≤ 64 }
+    requires calls_few { calls ≤ 2 ^ 32 }
+    requires keys_few { keys ≤ 1000000 }
+{
+    let (region, area, table, _first, passes) = table_for(rt, alloc, keys, threads)?;
+    let here = &region;
+    let shared_area = &area;
+    let shared = &table;
+    let most = keys / u64::from(threads);
+    let new = map_vec(
+        rt,
+        passes,
+        &|own: Passes| -> u64
+            requires { IsTable here.now shared.now × (key_words_of shared.now ≡ 1) × IsArea here.now shared_area.now × HasBoth shared.now shared_area.now own × (calls ≤ 2 ^ 32) }
+        { puts(rt, shared, here, shared_area, own, calls, most) },
+    )?;
+    Ok(sum_of(new.as_slice()))
+}
+
+/// Puts `keys` keys into a table, and has so many threads get one of them so many times each. Says how many were found.
+pub fn gets_load<R: Threads + Wait + Sync>(
+    rt: &R,
+    alloc: Global,
+    threads: u32,
+    calls: u64,
+    keys: u64,
+) -> Result<u64, AllocError>
+    requires some { 1 ≤ threads }
+    requires threads_few { threads ≤ 64 }
+    requires calls_few { calls ≤ 2 ^ 32 }
+    requires keys_some { 1 ≤ keys }
+    requires keys_few { keys ≤ 1000000 }
+{
+    let (region, area, table, mut first, passes) = table_for(rt, alloc, keys, threads)?;
+    fill(rt, &table, &region, &area, &mut first, keys);
+    let here = &region;
+    let shared_area = &area;
+    let shared = &table;
+    let found = map_vec(
+        rt,
+        passes,
+        &|own: Passes| -> u64
+            requires { IsTable here.now shared.now × (key_words_of shared.now ≡ 1) × IsArea here.now shared_area.now × HasBoth shared.now shared_area.now own × (1 ≤ keys) }
+        { gets(rt, shared, here, shared_area, own, calls, keys) },
+    )?;
+    Ok(sum_of(found.as_slice()))
+}
