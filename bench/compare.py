@@ -10,7 +10,7 @@ decimals, and whether the rows stand in byte order of the keys.
 
 wall        from the start of the command to its end
 processor   user and system time of the command, its children, and of a server that does the work
-memory      of the largest of its processes, in MiB
+memory      of the largest of its processes, in MiB, the command's own (starter.py)
 to the best wall time over that of the fastest peer that parses quotes and answered rightly
 
 The files (files.py), the straight Rust program (baseline.rs, by rustc) and what the programs write lie in BENCH_DIR, or
@@ -34,6 +34,8 @@ from queries import FILES, FOLDER, programs
 
 HERE = os.path.dirname(os.path.abspath(__file__))
 SLOW_SECONDS = 12
+# Started before this script grows: see there.
+STARTER = subprocess.Popen([sys.executable, "-S", f"{HERE}/starter.py"], stdin=subprocess.PIPE, stdout=subprocess.PIPE, text=True)
 
 
 @dataclass
@@ -125,17 +127,13 @@ def run(program, out):
     if program.server:
         with open(f"/proc/{program.server}/clear_refs", "w", encoding="ascii") as file:
             file.write("5")
-    with open(program.path, "rb") as source, open(out, "wb") as sink, open(f"{out}.err", "wb") as errors:
-        start = time.perf_counter()
-        process = subprocess.Popen(["sh", "-c", program.command], stdin=source, stdout=sink, stderr=errors)
-        _, status, used = os.wait4(process.pid, 0)
-        wall = time.perf_counter() - start
-    process.returncode = os.waitstatus_to_exitcode(status)
-    processor, memory = used.ru_utime + used.ru_stime, used.ru_maxrss / 1024
+    print(json.dumps([program.command, program.path, out, f"{out}.err"]), file=STARTER.stdin, flush=True)
+    wall, user, system, memory, status = json.loads(STARTER.stdout.readline())
+    processor, memory = user + system, memory / 1024
     if program.server:
         processor += processor_of(program.server) - before
         memory = largest_of(program.server)
-    return Run(wall, processor, memory), process.returncode
+    return Run(wall, processor, memory), status
 
 
 def measure(file, listed, times):
