@@ -20,8 +20,6 @@ mod records;
 mod row_ends;
 mod scan;
 mod store;
-#[cfg(test)]
-mod tests;
 
 pub use input::{MOST_BYTES, ReadAnswer, read_all};
 pub use par_model::read_integer;

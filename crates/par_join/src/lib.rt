@@ -159,5 +159,3 @@ fn stop_of(answer: JoinAnswer) -> Stop
     }
 }
 
-#[cfg(test)]
-mod tests;

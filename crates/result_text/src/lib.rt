@@ -50,5 +50,3 @@ pub fn text_of(
     table.into_text()
 }
 
-#[cfg(test)]
-mod tests;
