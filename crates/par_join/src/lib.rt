@@ -158,4 +158,3 @@ fn stop_of(answer: JoinAnswer) -> Stop
         JoinAnswer::Memory => Stop::Memory,
     }
 }
-

@@ -5,7 +5,6 @@
 
 #![tactic(auto)]
 
-
 use par_gather::{NO_MEMORY, OpenGate, pargather};
 use par_io::{StdSink, StdSource};
 use std::io::ErrorKind;
