@@ -1,11 +1,11 @@
 -- Entries that are sorted by their numbers, and by their keys where these are equal, are sorted by their keys.
-use Rattle.std.proofs.Common.{◌≡◌, ◌<◌, ◌≤◌, ◌+◌, ◌∙◌, ◌∷◌, ◌⊎◌, [], ℕ, List, false, inl, inr, ap, ap₂, arith, drop, get_or, length, map, sym, take}
+use Rattle.std.proofs.Common.{◌≡◌, ◌<◌, ◌≤◌, ◌+◌, ◌∙◌, ◌∷◌, ◌⊎◌, [], ℕ, List, inl, inr, ap, ap₂, arith, get_or, length, map, sym}
 use Rattle.std.proofs.lemmas.Bool.{cases_lt}
 use Rattle.std.proofs.lemmas.List.{get_or-map, get_or_past, length-map}
 use Rattle.std.proofs.lemmas.List.Sorted.{All-permutation}
 use Rattle.std.specs.List.Sorted.{IsPermutation, IsSorted, IsSortedBy}
 use Rattle.std.specs.Ordering.{is_lt, nat_cmp, ordering_then}
-use Rattle.key_index.specs.Front.{IsFrontOf, leading}
+use Rattle.key_index.specs.Front.{IsFrontOf}
 use Rattle.key_index.specs.Keys.{key_at, key_cmp}
 use Rattle.key_index.specs.Order.{AreNumbered, IsNumbered, key_of}
 use Rattle.key_index.specs.declared.order.Entry.{Entry}

@@ -129,6 +129,9 @@ fn common_front<'a>(front: &'a [u8], key: &[u8]) -> &'a [u8]
     ensures front { IsFrontOf result.now front.now }
     ensures key { IsFrontOf result.now key.now }
 {
+    if key.starts_with(front) {
+        return front;
+    }
     for (at, byte) in front.iter().enumerate() {
         if at >= key.len() || key[at] != *byte {
             return &front[..at];

@@ -1,4 +1,4 @@
-use Rattle.std.proofs.Common.{ℕ, ◌<◌, List, length}
+use Rattle.std.proofs.Common.{ℕ, ◌<◌, length}
 use Rattle.key_index.specs.Front.{IsFrontOf}
 use Rattle.key_index.specs.Keys.{key_at}
 use Rattle.key_index.proofs.list.KeyList.common_front.Given as goal
