@@ -2,9 +2,10 @@
 use Rattle.std.proofs.Common.{◌≡◌, ◌≤◌, ◌<◌, ◌-◌, ◌+◌, ℕ, zero, suc, List, [], ◌∷◌, ◌++◌, take, drop, length, get_or, refl, ap, arith}
 use Rattle.std.proofs.lemmas.List.{drop-append-le, get_or-drop, get_or-take, length-append, length-drop, length-take-le, take-append-le, take_all}
 use Rattle.csv.specs.Records.{Rising, cut_from, last_end, prev}
-use Rattle.csv.proofs.RecordFacts.{cut-length, field-bounds, field-cut, field-get, cut-end, cut-more, last-append, rising-end, rising-first, rising-more}
+use Rattle.csv.proofs.RecordFacts.{field-bounds, cut-end, cut-more, last-append, rising-end, rising-first, rising-more}
 use Rattle.csv_rows.specs.Records.{field_of, record_at}
-use Rattle.csv_rows.specs.Store.{Covers, IsStore, group_from, stored}
+use Rattle.csv_rows.specs.Store.{Covers, IsStore, cut_apart, field_start, group_from, stored, stored_apart}
+use Rattle.csv_rows.proofs.Gaps.{apart-length, apart-none, stands-apart}
 
 -- one group for each place
 pub group-length : {A : Type 0} (start : ℕ) (ends : List ℕ) (xs : List A) → length (group_from start ends xs) ≡ length ends
@@ -83,45 +84,54 @@ group-get s (e ∷ es) xs (suc i) lt = group-get e es xs i (omega arith)
 pub stored-length : (bytes ends row_ends : List ℕ) → length (stored bytes ends row_ends) ≡ length row_ends
 stored-length bytes ends row_ends = group-length 0 row_ends (cut_from 0 ends bytes)
 
+pub apart-stored-length : (gap : ℕ) (bytes ends row_ends : List ℕ) → length (stored_apart gap bytes ends row_ends) ≡ length row_ends
+apart-stored-length gap bytes ends row_ends = group-length 0 row_ends (cut_apart gap 0 ends bytes)
+
+-- fields with no byte between them
+pub stored-none : (bytes ends row_ends : List ℕ) → stored_apart 0 bytes ends row_ends ≡ stored bytes ends row_ends
+stored-none bytes ends row_ends = ap (λ fields. group_from 0 row_ends fields) (apart-none 0 ends bytes)
+
 -- where a record stands among the fields
-pub record RecordAt (bytes ends row_ends : List ℕ) (row : ℕ) : Type 0 where
+pub record RecordAt (gap : ℕ) (bytes ends row_ends : List ℕ) (row : ℕ) : Type 0 where
   pub there : row < length row_ends
   pub up : prev 0 row_ends row ≤ get_or row_ends row 0
   pub within : get_or row_ends row 0 ≤ length ends
-  pub width : length (record_at (stored bytes ends row_ends) row) ≡ get_or row_ends row 0 - prev 0 row_ends row
+  pub width : length (record_at (stored_apart gap bytes ends row_ends) row) ≡ get_or row_ends row 0 - prev 0 row_ends row
 
-pub record-there : (bytes ends row_ends : List ℕ) (row : ℕ) → IsStore bytes ends row_ends → row < length (stored bytes ends row_ends) → RecordAt bytes ends row_ends row
-record-there bytes ends row_ends row is lt =
-    let there : row < length row_ends = rw (stored-length bytes ends row_ends) at lt in
+pub record-there : (gap : ℕ) (bytes ends row_ends : List ℕ) (row : ℕ) → IsStore gap bytes ends row_ends → row < length (stored_apart gap bytes ends row_ends)
+    → RecordAt gap bytes ends row_ends row
+record-there gap bytes ends row_ends row is lt =
+    let cut = cut_apart gap 0 ends bytes in
+    let there : row < length row_ends = rw (apart-stored-length gap bytes ends row_ends) at lt in
     let b = field-bounds 0 row_ends (length ends) row is.rows there in
-    let cut = cut-length 0 ends bytes in
-    let size = length-drop (prev 0 row_ends row) (cut_from 0 ends bytes) in
-    let fits : get_or row_ends row 0 - prev 0 row_ends row ≤ length (drop (prev 0 row_ends row) (cut_from 0 ends bytes)) = omega (arith, b.0, b.1) in
+    let count = apart-length gap 0 ends bytes in
+    let size = length-drop (prev 0 row_ends row) cut in
+    let fits : get_or row_ends row 0 - prev 0 row_ends row ≤ length (drop (prev 0 row_ends row) cut) = omega (arith, b.0, b.1) in
     record {
       there = there;
       up = b.0;
       within = b.1;
-      width = rw (group-get 0 row_ends (cut_from 0 ends bytes) row there) (length-take-le (get_or row_ends row 0 - prev 0 row_ends row) (drop (prev 0 row_ends row) (cut_from 0 ends bytes)) fits);
+      width = rw (group-get 0 row_ends cut row there) (length-take-le (get_or row_ends row 0 - prev 0 row_ends row) (drop (prev 0 row_ends row) cut) fits);
     }
 
 -- where a field of a record stands among all fields and among the bytes
-pub record FieldAt (bytes ends row_ends : List ℕ) (row at place : ℕ) : Type 0 where
+pub record FieldAt (gap : ℕ) (bytes ends row_ends : List ℕ) (row at place : ℕ) : Type 0 where
   pub there : place < length ends
-  pub up : prev 0 ends place ≤ get_or ends place 0
+  pub up : field_start gap 0 ends place ≤ get_or ends place 0
   pub within : get_or ends place 0 ≤ length bytes
-  pub value : field_of (stored bytes ends row_ends) row at ≡ take (get_or ends place 0 - prev 0 ends place) (drop (prev 0 ends place) bytes)
+  pub value : field_of (stored_apart gap bytes ends row_ends) row at ≡ take (get_or ends place 0 - field_start gap 0 ends place) (drop (field_start gap 0 ends place) bytes)
 
-pub field-there : (bytes ends row_ends : List ℕ) (row at : ℕ) → IsStore bytes ends row_ends → row < length (stored bytes ends row_ends)
-    → at < length (record_at (stored bytes ends row_ends) row) → FieldAt bytes ends row_ends row at (prev 0 row_ends row + at)
-field-there bytes ends row_ends row at is lt in-row =
-    let r = record-there bytes ends row_ends row is lt in
+pub field-there : (gap : ℕ) (bytes ends row_ends : List ℕ) (row at : ℕ) → IsStore gap bytes ends row_ends → row < length (stored_apart gap bytes ends row_ends)
+    → at < length (record_at (stored_apart gap bytes ends row_ends) row) → FieldAt gap bytes ends row_ends row at (prev 0 row_ends row + at)
+field-there gap bytes ends row_ends row at is lt in-row =
+    let cut = cut_apart gap 0 ends bytes in
+    let r = record-there gap bytes ends row_ends row is lt in
     let short : at < get_or row_ends row 0 - prev 0 row_ends row = rw r.width at in-row in
     let there : prev 0 row_ends row + at < length ends = omega (arith, r.up, r.within, short) in
-    let b = field-bounds 0 ends (length bytes) (prev 0 row_ends row + at) is.fields there in
+    let f = stands-apart gap 0 ends bytes (prev 0 row_ends row + at) is.fields there in
     record {
       there = there;
-      up = b.0;
-      within = b.1;
-      value = rw (group-get 0 row_ends (cut_from 0 ends bytes) row r.there, get_or-take (get_or row_ends row 0 - prev 0 row_ends row) (drop (prev 0 row_ends row) (cut_from 0 ends bytes)) at [] short, get_or-drop (prev 0 row_ends row) (cut_from 0 ends bytes) at [])
-          (field-get (cut_from 0 ends bytes) (prev 0 row_ends row + at) _ (field-cut 0 ends bytes (prev 0 row_ends row + at) there));
+      up = f.up;
+      within = f.within;
+      value = rw (group-get 0 row_ends cut row r.there, get_or-take (get_or row_ends row 0 - prev 0 row_ends row) (drop (prev 0 row_ends row) cut) at [] short, get_or-drop (prev 0 row_ends row) cut at []) f.value;
     }

@@ -1,12 +1,17 @@
 pub mod AllRecords
+pub mod Bits
 pub mod Compose
 pub mod Ends
 pub mod Filled
 pub mod Follows
+pub mod Gaps
 pub mod Groups
 pub mod Joined
+pub mod LineEnds
 pub mod Machine
 pub mod Marks
 pub mod Parts
 pub mod Scans
+pub mod Splits
 pub mod Stands
+pub mod Unquoted

@@ -1,7 +1,9 @@
 pub mod Cuts
 pub mod Pieces
 pub mod Places
+pub mod Plain
 pub mod Records
 pub mod RowEnds
+pub mod Splits
 pub mod Store
 pub mod Turns

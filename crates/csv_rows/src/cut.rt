@@ -34,7 +34,7 @@ pub(crate) fn find_cut<R: Threads + Sync>(
 }
 
 /// The text after a byte order mark.
-fn without_mark(bytes: &[u8]) -> &[u8]
+pub(crate) fn without_mark(bytes: &[u8]) -> &[u8]
     ensures text { result.now ≡ strip_bom bytes.now }
     ensures length { length result.now ≤ length bytes.now }
 {

@@ -12,13 +12,17 @@
 
 mod cut;
 mod input;
+mod lines;
+mod masks;
 mod piece;
 mod pieces;
 mod place;
+mod plain;
 mod reading;
 mod records;
 mod row_ends;
 mod scan;
+mod split;
 mod store;
 
 pub use input::{MOST_BYTES, ReadAnswer, read_all};

@@ -1,13 +1,14 @@
 //! A piece of a store: records with no allocation for a record or a field.
 //!
-//! Every field's bytes stand one after the other in one list; a second list has the place where each
-//! field ends among the bytes, and [`RowEnds`] the place where each record ends among the fields. In
-//! both the places rise, so a field is a run of bytes and a record a run of fields.
+//! The bytes of the fields stand in one list; a second list has the place where each field ends among the bytes, and
+//! [`RowEnds`] the place where each record ends among the fields. In both the places rise, so a field is a run of bytes and
+//! a record a run of fields. Between two fields there is no byte where csv's machine gave them one by one, and the byte that
+//! parts them where a text was copied as it stands.
 
 ghost use Rattle.std.specs.Prelude.{◌≡◌, ◌<◌, ◌≤◌, ◌∷◌, ◌++◌, ◌+◌, ℕ, List, [], IfOk, OnOk, drop, get_or, length, take};
-ghost use Rattle.csv.specs.Records.{cut_from, fields_of, prev, text_of};
+ghost use Rattle.csv.specs.Records.{Rising, cut_from, fields_of, text_of};
 ghost use Rattle.csv_rows.specs.Records.{field_of, record_at};
-ghost use Rattle.csv_rows.specs.Store.{Covers, stored};
+ghost use Rattle.csv_rows.specs.Store.{Apart, Covers, field_start, stored, stored_apart};
 
 use crate::records::MOST_RECORDS;
 use crate::row_ends::RowEnds;
@@ -21,32 +22,34 @@ pub(crate) struct Piece {
     bytes: Vec<u8>,
     ends: Vec<u32>,
     row_ends: RowEnds,
+    gap: u8,
 }
 
 impl Model for Piece {
     ghost use Rattle.std.specs.Prelude.{ℕ, List};
-    ghost use Rattle.csv_rows.specs.Store.{IsStore, stored};
+    ghost use Rattle.csv_rows.specs.Store.{IsStore, stored_apart};
 
     ghost Value = { List (List (List ℕ)) };
 
-    ghost view = { λ s. stored s.bytes.items s.ends.items s.row_ends };
+    ghost view = { λ s. stored_apart s.gap s.bytes.items s.ends.items s.row_ends };
 
-    ghost invariant = { λ s. IsStore s.bytes.items s.ends.items s.row_ends };
+    ghost invariant = { λ s. IsStore s.gap s.bytes.items s.ends.items s.row_ends };
 }
 
 impl Piece {
-    /// The piece of these lists.
-    pub(crate) fn of_lists(bytes: Vec<u8>, ends: Vec<u32>, row_ends: RowEnds) -> Piece
-        requires fields { Covers ends.items (length bytes.items) }
-        requires rows { Covers row_ends (length ends.items) }
+    /// The piece of these lists, in which so many bytes stand between two fields.
+    pub(crate) fn of_lists(bytes: Vec<u8>, ends: Vec<u32>, row_ends: RowEnds, gap: u8) -> Piece
+        requires fields { Apart gap 0 ends.items (length bytes.items) }
+        requires rows { Rising 0 row_ends (length ends.items) }
         requires some { 0 < length row_ends }
         requires few { length row_ends ≤ MOST_RECORDS }
-        ensures { result ≡ stored bytes.items ends.items row_ends }
+        ensures { result ≡ stored_apart gap bytes.items ends.items row_ends }
     {
         Piece {
             bytes,
             ends,
             row_ends,
+            gap,
         }
     }
 
@@ -73,19 +76,23 @@ impl Piece {
         ensures { result.now ≡ field_of self.now row at }
     {
         let first = self.row_ends.start(row as usize);
-        let (start, end) = span(&self.ends, first + at as usize);
-        &self.bytes.as_slice()[start as usize..end as usize]
+        let (start, end) = span(&self.ends, first + at as usize, self.gap);
+        &self.bytes.as_slice()[start..end]
     }
 }
 
 /// Where the field at this place starts and ends.
-fn span(ends: &Vec<u32>, i: usize) -> (u32, u32)
+fn span(ends: &Vec<u32>, i: usize, gap: u8) -> (usize, usize)
     requires { i < length ends.now.items }
-    ensures start { result.0 ≡ prev 0 ends.now.items i }
+    ensures start { result.0 ≡ field_start gap 0 ends.now.items i }
     ensures end { result.1 ≡ get_or ends.now.items i 0 }
 {
-    let start = if i == 0 { 0 } else { ends[i - 1] };
-    (start, ends[i])
+    let start = if i == 0 {
+        0
+    } else {
+        ends[i - 1] as usize + gap as usize
+    };
+    (start, ends[i] as usize)
 }
 
 /// Adds a record to the lists of a piece. After a refusal they are only dropped.
@@ -165,7 +172,7 @@ fn push_field(bytes: &mut Vec<u8>, ends: &mut Vec<u32>, field: &[u8]) -> Result<
 }
 
 /// Adds the end of one field.
-fn push_end(ends: &mut Vec<u32>, end: usize) -> Result<(), AllocError>
+pub(crate) fn push_end(ends: &mut Vec<u32>, end: usize) -> Result<(), AllocError>
     ensures { OnOk result (ends.new.items ≡ ends.old.items ++ end ∷ []) }
 {
     if end > u32::MAX as usize || ends.push(end as u32).is_err() {

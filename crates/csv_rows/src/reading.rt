@@ -1,10 +1,12 @@
-//! The records of a text, as the crate `csv` reads them, put into one piece of a store.
+//! The records of a text, put into one piece of a store: by a scan where there are no quotes, and else as the crate `csv`
+//! reads them.
 
 ghost use Rattle.std.specs.Prelude.{◌≡◌, ◌<◌, ◌≤◌, [], IfOk, OnOk, length};
 ghost use Rattle.csv_rows.specs.Records.{records_of};
 ghost use Rattle.csv_rows.specs.declared.records.RowsAnswer.TheVariants as answer;
 
 use crate::piece::{Piece, push_record};
+use crate::plain::read_plain;
 use crate::records::{MOST_RECORDS, RowsAnswer};
 use crate::row_ends::RowEnds;
 use csv::{ByteRecord, ErrorKind, ReaderBuilder};
@@ -12,6 +14,21 @@ use std::alloc::Global;
 
 /// The records of bytes, in the caller's thread.
 pub(crate) fn read_records(alloc: Global, bytes: &[u8]) -> Result<Piece, RowsAnswer>
+    ensures records { IfOk result (λ piece. piece ≡ records_of bytes.now) }
+    ensures some { OnOk result (0 < length (records_of bytes.now)) }
+    ensures few { OnOk result (length (records_of bytes.now) ≤ MOST_RECORDS) }
+    ensures no_header { result ≡ Err answer.NoHeader → records_of bytes.now ≡ [] }
+    ensures too_many { result ≡ Err answer.TooManyRows → MOST_RECORDS < length (records_of bytes.now) }
+{
+    match read_plain(alloc, bytes) {
+        Ok(Some(piece)) => Ok(piece),
+        Ok(None) => read_by_csv(alloc, bytes),
+        Err(why) => Err(why),
+    }
+}
+
+/// The same by csv's machine, byte by byte.
+fn read_by_csv(alloc: Global, bytes: &[u8]) -> Result<Piece, RowsAnswer>
     ensures records { IfOk result (λ piece. piece ≡ records_of bytes.now) }
     ensures some { OnOk result (0 < length (records_of bytes.now)) }
     ensures few { OnOk result (length (records_of bytes.now) ≤ MOST_RECORDS) }
@@ -34,7 +51,7 @@ pub(crate) fn read_records(alloc: Global, bytes: &[u8]) -> Result<Piece, RowsAns
                 }
             }
             Ok(false) if row_ends.is_empty() => return Err(RowsAnswer::NoHeader),
-            Ok(false) => return Ok(Piece::of_lists(text, ends, row_ends)),
+            Ok(false) => return Ok(Piece::of_lists(text, ends, row_ends, 0)),
             Err(error) => match error.kind() {
                 // A flexible reader takes records of any length.
                 ErrorKind::UnequalLengths { .. } => unreachable!(),

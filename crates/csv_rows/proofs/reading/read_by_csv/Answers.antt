@@ -7,8 +7,9 @@ use Rattle.csv.specs.declared.parser.State.TheVariants as st
 use Rattle.csv.proofs.ReadFacts.{on-ok, rows-end, rows-more}
 use Rattle.csv_rows.specs.Store.{group_from, stored}
 use Rattle.csv_rows.proofs.AllRecords.{read-all, read-some}
-use Rattle.csv_rows.proofs.Groups.{covers-none, group-none, stored-length}
-use Rattle.csv_rows.proofs.reading.read_records.Goals as goal
+use Rattle.csv_rows.proofs.Gaps.{apart-rising}
+use Rattle.csv_rows.proofs.Groups.{apart-stored-length, covers-none, group-none, stored-length, stored-none}
+use Rattle.csv_rows.proofs.reading.read_by_csv.Goals as goal
 
 pub records-init : goal.records-init
 unfolding Reached group_from
@@ -60,6 +61,12 @@ returns-in-Ok-false-clause-no_header c =
     let all = read-all default_config c.records.rdr.state (strip_bom c.args.bytes.now) inv.left rows inv.reached end in
     λ h. all ∙ group-none 0 c.records.row_ends (cut_from 0 c.records.ends.items c.records.text.items) none
 
+pub of_lists-requires-clause-fields : goal.of_lists-requires-clause-fields
+of_lists-requires-clause-fields c = apart-rising 0 c.records.ends.items (length c.records.text.items) c.records.invariant.fields.0
+
+pub of_lists-requires-clause-rows : goal.of_lists-requires-clause-rows
+of_lists-requires-clause-rows c = c.records.invariant.rows.0
+
 pub returns-in-Ok-false-2-clause-records : goal.returns-in-Ok-false-2-clause-records
 returns-in-Ok-false-2-clause-records c =
     let inv = c.records.invariant in
@@ -67,19 +74,19 @@ returns-in-Ok-false-2-clause-records c =
     let read = rw c.in-Ok-false.field-0-test at (c.in-Ok-false.ensures.reads inv.trim inv.ready) in
     let end = rows-end (λ (s : Bor (List ℕ)). Some s.now) c.records.rdr c.read_byte_record.new.self (fields_of c.read_byte_record.new.row) default_config inv.left inv.config inv.known read in
     let all = read-all default_config c.records.rdr.state (strip_bom c.args.bytes.now) inv.left rows inv.reached end in
-    c.of_lists.ensures ∙ sym all
+    c.of_lists.ensures ∙ stored-none c.records.text.items c.records.ends.items c.records.row_ends ∙ sym all
 
 pub returns-in-Ok-false-2-clause-some : goal.returns-in-Ok-false-2-clause-some
 returns-in-Ok-false-2-clause-some c =
     let all = returns-in-Ok-false-2-clause-records c in
-    let size = stored-length c.records.text.items c.records.ends.items c.records.row_ends in
+    let size = apart-stored-length 0 c.records.text.items c.records.ends.items c.records.row_ends in
     let some : 0 < length c.records.row_ends = grind (arith, common_steps, c.if-is_empty.false) in
     rw (← all, c.of_lists.ensures, size) some
 
 pub returns-in-Ok-false-2-clause-few : goal.returns-in-Ok-false-2-clause-few
 returns-in-Ok-false-2-clause-few c =
     let all = returns-in-Ok-false-2-clause-records c in
-    let size = stored-length c.records.text.items c.records.ends.items c.records.row_ends in
+    let size = apart-stored-length 0 c.records.text.items c.records.ends.items c.records.row_ends in
     let few : length c.records.row_ends ≤ 4194305 = omega (arith, c.records.invariant.count, c.records-test.true) in
     rw (← all, c.of_lists.ensures, size) few
 

@@ -3,7 +3,7 @@ use Rattle.csv.specs.Reading.{Reached, Ready, default_config, source_of, strip_b
 use Rattle.csv.specs.declared.parser.State.TheVariants as st
 use Rattle.csv.specs.declared.reader.Trim.TheVariants as trim
 use Rattle.csv_rows.specs.Store.{Covers, stored}
-use Rattle.csv_rows.proofs.reading.read_records.Given as goal
+use Rattle.csv_rows.proofs.reading.read_by_csv.Given as goal
 
 abbrev pub invariant-records : goal.invariant-records
 invariant-records l = record {
