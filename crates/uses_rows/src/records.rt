@@ -151,7 +151,7 @@ fn odd_cuts(rt: HostRuntime) -> Result<(), Fail> {
     let half = lines(rt.alloc(), LINES / 2)?;
     for text in texts {
         let mut long = half.clone()?;
-        long.truncate(half.len() - text.len() / 2);
+        long.truncate(half.len().saturating_sub(text.len() / 2));
         long.extend_from_slice(text)?;
         long.extend_from_slice(half.as_slice())?;
         match (
