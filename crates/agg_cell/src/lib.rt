@@ -9,8 +9,6 @@
 
 mod cell;
 mod laws;
-#[cfg(test)]
-mod tests;
 mod words;
 
 pub use cell::AggObject;

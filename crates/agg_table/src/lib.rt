@@ -13,8 +13,6 @@ mod draining;
 mod opening;
 mod part;
 mod put;
-#[cfg(test)]
-mod tests;
 
 pub use draining::drain;
 pub use opening::{LEAST_PAGES, open};

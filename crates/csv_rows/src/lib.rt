@@ -24,8 +24,6 @@ mod row_ends;
 mod scan;
 mod split;
 mod store;
-#[cfg(test)]
-mod tests;
 
 pub use input::{MOST_BYTES, ReadAnswer, read_all};
 pub use par_model::read_integer;

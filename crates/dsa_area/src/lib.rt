@@ -23,8 +23,6 @@ mod pages;
 mod pools;
 mod requests;
 mod sizes;
-#[cfg(test)]
-mod tests;
 mod whole;
 
 pub use area::{Area, AreaPass};

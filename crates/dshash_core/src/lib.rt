@@ -19,8 +19,6 @@ mod object;
 mod outcome;
 mod partition;
 mod sizes;
-#[cfg(test)]
-mod tests;
 mod words;
 
 pub use buckets::Buckets;

@@ -8,8 +8,6 @@
 
 mod number;
 mod table;
-#[cfg(test)]
-mod tests;
 
 pub use number::{Number, NumberCall};
 pub use table::{MOST_KEY_BYTES, NumberTable, Total};

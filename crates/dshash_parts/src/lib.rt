@@ -23,8 +23,6 @@ mod numbered;
 mod open;
 mod requests;
 mod table;
-#[cfg(test)]
-mod tests;
 mod turns;
 
 pub use asks::{TableAnswer, TableAsk};

@@ -3,7 +3,5 @@
 #![tactic(auto)]
 
 mod moving;
-#[cfg(test)]
-mod tests;
 
 pub use moving::move_partition;

@@ -12,8 +12,6 @@
 mod histories;
 mod layout;
 mod pages;
-#[cfg(test)]
-mod tests;
 mod walk;
 
 pub use histories::{PagesCalls, PagesReplies, PagesStates};

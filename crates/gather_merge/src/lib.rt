@@ -40,8 +40,6 @@ mod order;
 mod roles;
 mod sending;
 mod sorting;
-#[cfg(test)]
-mod tests;
 mod verdicts;
 mod words;
 mod working;

@@ -44,8 +44,6 @@ mod leading;
 mod messages;
 mod roles;
 mod sharing;
-#[cfg(test)]
-mod tests;
 mod verdicts;
 
 /// Why there is no answer.

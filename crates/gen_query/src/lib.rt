@@ -19,8 +19,6 @@ ghost use Rattle.gen_query.specs.declared.GenAnswer.TheVariants as answer;
 mod gathering;
 mod generator;
 mod summary;
-#[cfg(test)]
-mod tests;
 mod words;
 
 use gather_run::Gathered;

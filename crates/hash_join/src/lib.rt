@@ -27,8 +27,6 @@ use std::thread::Threads;
 mod filling;
 mod gathering;
 mod store;
-#[cfg(test)]
-mod tests;
 
 pub use join_pairs::{LONGEST_KEY, LastRow, Link, MOST_PAIRS, Pair, Pairs};
 

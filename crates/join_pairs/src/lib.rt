@@ -17,8 +17,6 @@ mod laws;
 mod pairing;
 mod pairs;
 mod refused;
-#[cfg(test)]
-mod tests;
 
 pub use blocks::count_blocks;
 pub use chaining::chain_all;

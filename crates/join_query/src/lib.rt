@@ -13,8 +13,6 @@ mod cut;
 mod ready;
 mod stop;
 mod tables;
-#[cfg(test)]
-mod tests;
 mod words;
 mod writing;
 

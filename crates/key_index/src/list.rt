@@ -1,7 +1,8 @@
 //! A list of keys whose bytes stand one after the other.
 
-ghost use Rattle.std.specs.Prelude.{◌≡◌, ◌<◌, ◌≤◌, ◌↔◌, ◌∷◌, ◌++◌, [], Some, IsTrue, OnOk, OnErr, get_or, length, slice_get};
+ghost use Rattle.std.specs.Prelude.{◌≡◌, ◌<◌, ◌≤◌, ◌↔◌, ◌∷◌, ◌++◌, [], All, Some, IsTrue, OnOk, OnErr, drop, get_or, length, slice_get, take};
 ghost use Rattle.csv.specs.Records.{prev};
+ghost use Rattle.key_index.specs.Front.{AllBytes, IsFrontOf, leading};
 ghost use Rattle.key_index.specs.Keys.{key_at, key_cmp};
 
 use std::alloc::{AllocError, Global};
@@ -65,7 +66,9 @@ impl KeyList {
     }
 
     /// Bytes with which all keys begin, as many as there are.
-    pub(crate) fn common_front(&self) -> &[u8] {
+    pub(crate) fn common_front(&self) -> &[u8]
+        ensures { All (IsFrontOf result.now) self.now }
+    {
         let mut front = self.get_or_none(0);
         for at in 1..self.len() {
             front = common_front(front, self.get(at));
@@ -74,7 +77,10 @@ impl KeyList {
     }
 
     /// A key's 16 bytes from a place on as a number, highest byte first, that compares as those bytes do.
-    pub(crate) fn bytes_from(&self, at: usize, from: usize) -> u128 {
+    pub(crate) fn bytes_from(&self, at: usize, from: usize) -> u128
+        ensures number { result ≡ leading 16 (drop from (key_at self.now at)) }
+        ensures bytes { AllBytes (take 16 (drop from (key_at self.now at))) }
+    {
         let key = self.get_or_none(at);
         let rest = &key[from.min(key.len())..];
         number(&rest[..rest.len().min(16)])
@@ -119,17 +125,26 @@ fn span(ends: &Vec<usize>, at: usize) -> (usize, usize)
 }
 
 /// Bytes with which both begin, as many as there are.
-fn common_front<'a>(front: &'a [u8], key: &[u8]) -> &'a [u8] {
+fn common_front<'a>(front: &'a [u8], key: &[u8]) -> &'a [u8]
+    ensures front { IsFrontOf result.now front.now }
+    ensures key { IsFrontOf result.now key.now }
+{
     if key.starts_with(front) {
         return front;
     }
-    let same = front.iter().zip(key).take_while(|(a, b)| a == b).count();
-    &front[..same.min(front.len())]
+    for (at, byte) in front.iter().enumerate() {
+        if at >= key.len() || key[at] != *byte {
+            return &front[..at];
+        }
+    }
+    front
 }
 
 /// Up to 16 bytes as a number, highest first, with zeros behind them.
 fn number(bytes: &[u8]) -> u128
     requires { length bytes.now ≤ 16 }
+    ensures number { result ≡ leading 16 bytes.now }
+    ensures bytes { AllBytes bytes.now }
 {
     let mut all = [0; 16];
     all[..bytes.len()].copy_from_slice(bytes);

@@ -15,6 +15,7 @@ ghost use Rattle.key_index.specs.Keys.{key_at, key_cmp};
 ghost use Rattle.key_index.specs.Index.{IsIndexed, IsLate, IsReached, hash, late_place, probe as probed, reach as reached};
 
 use crate::list::KeyList;
+use crate::order::{in_order, write_places};
 use std::alloc::{AllocError, Global};
 use std::collections::BTreeMap;
 use std::hash::{FoldHasher, Hasher};
@@ -134,15 +135,16 @@ impl KeyTable {
     }
 
     /// Puts places in the order of their keys. A place of no key comes first. If there is memory for it, the places are
-    /// first sorted by 16 bytes of their keys, those behind the front that all keys have in common, so that hardly a
-    /// key is looked at twice; without it only takes longer.
+    /// sorted by 16 bytes of their keys, those behind the front that all keys have in common, so that hardly a key is
+    /// looked at twice; without it only takes longer.
     pub fn sort(&self, places: &mut Vec<usize>)
         ensures permutation { IsPermutation places.old.items places.new.items }
         ensures sorted { IsSorted key_cmp (map (key_at self.now) places.new.items) }
     {
-        let from = self.keys.common_front().len();
-        let _ = places.sort_by_cached_key(|place| self.keys.bytes_from(*place, from));
-        places.sort_unstable_by(|a, b| self.keys.cmp(*a, *b));
+        match in_order(*places.allocator(), &self.keys, places) {
+            Ok(entries) => write_places(&entries, places),
+            Err(_) => places.sort_unstable_by(|a, b| self.keys.cmp(*a, *b)),
+        }
     }
 
     /// Puts a key behind the others. Whether it is there already is not asked.

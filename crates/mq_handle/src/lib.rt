@@ -25,8 +25,6 @@ mod sender;
 mod sending;
 mod storing;
 mod taking;
-#[cfg(test)]
-mod tests;
 mod waiting;
 
 pub use answers::{ReceiveAnswer, ReceiveDone, SendAnswer, SendDone};

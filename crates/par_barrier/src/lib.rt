@@ -11,8 +11,6 @@ mod barrier;
 mod history;
 mod laws;
 mod parties;
-#[cfg(test)]
-mod tests;
 mod waiting;
 
 pub use answers::{Arrival, Arrived, BarrierAnswer, Left};

@@ -16,8 +16,6 @@ ghost use Rattle.par_io.specs.Faults.{HasCause};
 
 mod memory;
 mod standard;
-#[cfg(test)]
-mod tests;
 
 pub use memory::{MemSink, MemSource};
 pub use standard::{StdSink, StdSource};

@@ -158,6 +158,3 @@ fn stop_of(answer: JoinAnswer) -> Stop
         JoinAnswer::Memory => Stop::Memory,
     }
 }
-
-#[cfg(test)]
-mod tests;

@@ -15,8 +15,6 @@ mod script;
 mod shell;
 mod status;
 mod stop;
-#[cfg(test)]
-mod tests;
 
 pub use run::parsh;
 pub use shell::Shell;

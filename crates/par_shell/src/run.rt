@@ -55,6 +55,7 @@ pub fn parsh<R: Wait, S: Source, O: Sink, E: Sink>(
     // On 0 each line was answered, once and in order, `out` received the answers, and `left` holds the last shell.
     ensures answered { result ≡ ANSWERED → IfSome (S.left source.old) (λ script. IfSome (pages_in (texts words.now)) (λ pages.
         (text : List ℕ) × (last : Shell) × (left.new ≡ Some last) × IsShell last × IsRun pages script text last × Appends (O.taken out.old) (O.taken out.new) text)) }
+    ensures within { result ≡ ANSWERED → IfSome (S.left source.old) (λ script. length script ≤ 1048576) }
     ensures left { (result ≢ ANSWERED) → left.new ≡ None }
 
     // On 4 and 5 `out` received a prefix of the answers, and on 2, 3 and 6 nothing.
@@ -99,6 +100,7 @@ fn answer_script<R: Wait, S: Source, O: Sink>(
     ensures no_pages { IsNone (pages_in (texts words.now)) → (result ≡ Err stop.Usage) × (source.new ≡ source.old) }
     ensures answered { IfOk result (λ last. IfSome (S.left source.old) (λ script. IfSome (pages_in (texts words.now)) (λ pages.
         (text : List ℕ) × IsShell last × IsRun pages script text last × Appends (O.taken out.old) (O.taken out.new) text))) }
+    ensures within { OnOk result (IfSome (S.left source.old) (λ script. length script ≤ 1048576)) }
     ensures part { ((result ≡ Err stop.WriteFault) ⊎ (result ≡ Err stop.Memory)) → (out.new ≡ out.old) ⊎ IfSome (S.left source.old) (λ script. IfSome (pages_in (texts words.now)) (λ pages.
         (text : List ℕ) × IsPart pages script text × Appends (O.taken out.old) (O.taken out.new) text)) }
     ensures nothing { ((result ≡ Err stop.Usage) ⊎ ((result ≡ Err stop.ReadFault) ⊎ (result ≡ Err stop.TooLong))) → out.new ≡ out.old }

@@ -5,9 +5,6 @@
 
 #![tactic(auto)]
 
-#[cfg(test)]
-mod tests;
-
 use par_gather::{NO_MEMORY, OpenGate, pargather};
 use par_io::{StdSink, StdSource};
 use std::io::ErrorKind;

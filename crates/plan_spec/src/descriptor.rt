@@ -12,8 +12,6 @@ ghost use Rattle.shm_toc.specs.Table.{word_of};
 ghost use Rattle.word_map.specs.WordMap.{WordMap, at as word_at, values_from};
 
 mod reading;
-#[cfg(test)]
-mod tests;
 mod words;
 
 use par_model::BoundPlan;

@@ -15,8 +15,6 @@ mod merging;
 mod options;
 mod plan;
 mod read;
-#[cfg(test)]
-mod tests;
 
 pub use bind::{NoColumn, column};
 pub use descriptor::{BadDescriptor, PLAN_KEY, has_one_plan, plan_in, read_plan, write_plan};

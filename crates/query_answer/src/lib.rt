@@ -11,8 +11,6 @@ mod held;
 mod line;
 mod record;
 mod status;
-#[cfg(test)]
-mod tests;
 
 pub use held::Held;
 pub use line::write_pieces;

@@ -1,10 +1,12 @@
 -- Bytes in words.
 use Rattle.rel_pointer.specs.Bytes.{value_of, byte_of, packed, packed_words, is_of_word, AllBytes}
-use Rattle.std.proofs.Common.{◌≡◌, ℕ, suc, ◌+◌, ◌-◌, ◌*◌, ◌^◌, ◌<◌, ◌≤◌, ◌∷◌, ◌++◌, sym, ap, arith, refl, drop-drop, zero, true, subst, [], min, take, length-drop, ◌∙◌, List, length, drop, drop-cons, get_or, pow_mono, pow-add, shr-shr, mul-le-mul_right, suc-mul, ◌&&◌, leb, ltb, cond, slice_index, set, get_or-set_same, get_or-set_other, ◌%◌, ◌/◌, ◌≢◌}
-use mathlib.Core.Logic.{dite}
-use native.Mathlib.Decide.{ℕ_discrete}
+use Rattle.std.proofs.Common.{◌≡◌, ℕ, suc, ◌+◌, ◌-◌, ◌*◌, ◌^◌, ◌<◌, ◌≤◌, ◌∷◌, ◌++◌, sym, ap, arith, refl, drop-drop, zero, true, subst, [], min, take, length-drop, ◌∙◌, List, length, drop, drop-cons, get_or, inl, inr, ◌⊎◌, pow_mono, pow-add, shr-shr, mul-le-mul_right, suc-mul, cond, slice_index, ◌%◌, ◌/◌}
 use Rattle.std.proofs.lemmas.Bool.Decides.{nat_tests}
-use Rattle.std.proofs.lemmas.List.{get_or-drop, get_or-take, length-take, length-take-le, take-append-drop}
+use Rattle.std.proofs.lemmas.List.{get_or-append_right, get_or-drop, get_or-take, length-take, length-take-le, take-append-drop}
+use Rattle.std.proofs.lemmas.Bool.{cases_lt}
+use Rattle.std.proofs.Math.ListN.{get_or-append}
+use Rattle.std.specs.Int.{to_le_bytes, w64}
+use borrow.Rule.Slice.PartMut.{post_of, put_mid}
 use Rattle.std.proofs.lemmas.List.Elements.{All-take, All-drop}
 
 shifted : (n : ℕ) → 2 ^ (8 * (n + 1)) ≡ 2 ^ (8 * n) * 256
@@ -23,27 +25,58 @@ one_more s i w some h e =
     let f : value_of (drop (i - 1) s) ≡ get_or s (i - 1) 0 + 256 * value_of (drop i s) = ap value_of d ∙ ap (λ (k : ℕ). get_or s (i - 1) 0 + 256 * value_of (drop k s)) a in
     omega arith
 
-here : (at k i b old : ℕ) → i ≡ 8 * at + k → cond (leb (8 * at) i && ltb i (8 * at + (k + 1))) b old ≡ b
-here at k i b old e = grind (arith, nat_tests)
+-- the bytes of a word, the lowest first
+pub word_byte : (w j : ℕ) → j < 8 → get_or (to_le_bytes w64 w) j 0 ≡ w / 2 ^ (8 * j) % 256
+word_byte w zero h = let z : w % 256 ≡ w / 1 % 256 = omega arith in z
+word_byte w (suc zero) h = refl
+word_byte w (suc (suc zero)) h = refl
+word_byte w (suc (suc (suc zero))) h = refl
+word_byte w (suc (suc (suc (suc zero)))) h = refl
+word_byte w (suc (suc (suc (suc (suc zero))))) h = refl
+word_byte w (suc (suc (suc (suc (suc (suc zero)))))) h = refl
+word_byte w (suc (suc (suc (suc (suc (suc (suc zero))))))) h = refl
+word_byte w (suc (suc (suc (suc (suc (suc (suc (suc j)))))))) h = absurd (omega arith)
 
-elsewhere : (at k i b old : ℕ) → i ≢ 8 * at + k → cond (leb (8 * at) i && ltb i (8 * at + k)) b old ≡ cond (leb (8 * at) i && ltb i (8 * at + (k + 1))) b old
-elsewhere at k i b old n = grind (arith, nat_tests)
+outside : (at i b old : ℕ) → (i < 8 * at) ⊎ (8 * at + 8 ≤ i) → cond (is_of_word at i) b old ≡ old
+outside at i b old (inl low) = grind (arith, nat_tests)
+outside at i b old (inr high) = grind (arith, nat_tests)
 
-pub byte_skipped : (out : List ℕ) (at k word i old : ℕ) → length out ≤ 8 * at + k → i < length out → slice_index out i ≡ cond (leb (8 * at) i && ltb i (8 * at + k)) (byte_of word i) old
-    → slice_index out i ≡ cond (leb (8 * at) i && ltb i (8 * at + (k + 1))) (byte_of word i) old
-byte_skipped out at k word i old past inside h = h ∙ elsewhere at k i (byte_of word i) old (λ e. omega arith)
+within : (at i b old : ℕ) → 8 * at ≤ i → i < 8 * at + 8 → cond (is_of_word at i) b old ≡ b
+within at i b old low high = grind (arith, nat_tests)
 
-pub byte_written : (out : List ℕ) (at k word rest i old : ℕ) → k < 8 → 8 * at + k < length out → rest ≡ word / 2 ^ (8 * k) → slice_index out i ≡ cond (leb (8 * at) i && ltb i (8 * at + k)) (byte_of word i) old
-    → slice_index (set out (8 * at + k) (rest % 256)) i ≡ cond (leb (8 * at) i && ltb i (8 * at + (k + 1))) (byte_of word i) old
-byte_written out at k word rest i old small room e h = dite (ℕ_discrete i (8 * at + k))
-    (λ (f : i ≡ 8 * at + k).
-    let m : i % 8 ≡ k = omega arith in
-    ap (λ (j : ℕ). slice_index (set out (8 * at + k) (rest % 256)) j) f ∙ get_or-set_same out (8 * at + k) (rest % 256) 0 room
-    ∙ ap (λ (x : ℕ). x % 256) e ∙ ap (λ (j : ℕ). word / 2 ^ (8 * j) % 256) (sym m) ∙ sym (here at k i (byte_of word i) old f))
-    (λ (n : i ≢ 8 * at + k). get_or-set_other out (8 * at + k) i (rest % 256) 0 n ∙ h ∙ elsewhere at k i (byte_of word i) old n)
+-- after the first bytes of a word were written at its place, each byte there is one of the word's, and the others are as they were
+pub word_put : (out : List ℕ) (at a k w i : ℕ) → a ≡ 8 * at → a ≤ length out → k ≡ min (length out) (a + 8) - a → i < length out
+    → slice_index (put_mid a k out (take k (to_le_bytes w64 w))) i ≡ cond (is_of_word at i) (byte_of w i) (slice_index out i)
+word_put out at a k w i start room whole inside = by (cases_lt i a) (cases_lt i (a + k))
+  where
+    bytes : List ℕ
+    bytes = take k (to_le_bytes w64 w)
 
-pub next_rest : (word rest k : ℕ) → rest ≡ word / 2 ^ (8 * k) → rest / 256 ≡ word / 2 ^ (8 * (k + 1))
-next_rest word rest k e = ap (λ (x : ℕ). x / 256) e ∙ shr-shr word (8 * k) 8 ∙ ap (λ (j : ℕ). word / 2 ^ j) (let f : 8 * k + 8 ≡ 8 * (k + 1) = omega arith in f)
+    count : length bytes ≡ k
+    count = length-take-le k (to_le_bytes w64 w) (omega arith)
+
+    front : length (take a out) ≡ a
+    front = length-take-le a out (omega arith)
+
+    by : (i < a) ⊎ (a ≤ i) → (i < a + k) ⊎ (a + k ≤ i) → slice_index (put_mid a k out bytes) i ≡ cond (is_of_word at i) (byte_of w i) (slice_index out i)
+    by (inl low) other =
+        get_or-append (take a out) (bytes ++ post_of a k out) 0 i (omega (arith, front)) ∙ get_or-take a out i 0 low ∙ sym (outside at i (byte_of w i) (slice_index out i) (inl (omega arith)))
+    by (inr from) (inl to) =
+        let m : i % 8 ≡ i - a = omega arith in
+        get_or-append_right (take a out) (bytes ++ post_of a k out) a i 0 front from
+        ∙ get_or-append bytes (post_of a k out) 0 (i - a) (omega (arith, count))
+        ∙ get_or-take k (to_le_bytes w64 w) (i - a) 0 (omega arith)
+        ∙ word_byte w (i - a) (omega arith)
+        ∙ ap (λ (j : ℕ). w / 2 ^ (8 * j) % 256) (sym m)
+        ∙ sym (within at i (byte_of w i) (slice_index out i) (omega arith) (omega arith))
+    by (inr from) (inr past) =
+        let back : a + (k + (i - a - k)) ≡ i = omega arith in
+        get_or-append_right (take a out) (bytes ++ post_of a k out) a i 0 front from
+        ∙ get_or-append_right bytes (post_of a k out) k (i - a) 0 count (omega arith)
+        ∙ get_or-drop k (drop a out) (i - a - k) 0
+        ∙ get_or-drop a out (k + (i - a - k)) 0
+        ∙ ap (λ (j : ℕ). get_or out j 0) back
+        ∙ sym (outside at i (byte_of w i) (slice_index out i) (inr (omega arith)))
 
 -- byte j of the number that the bytes stand for
 digit : (bs : List ℕ) (j : ℕ) → ((k : ℕ) → k < length bs → get_or bs k 0 < 256) → j < length bs → value_of bs / 2 ^ (8 * j) % 256 ≡ get_or bs j 0

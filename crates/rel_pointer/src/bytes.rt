@@ -34,10 +34,9 @@ pub fn pack(bytes: &[u8], at: u64) -> u64
     }
     let start = at as usize * 8;
     let rest = &bytes[start..];
-    if rest.len() < 8 {
-        value(rest)
-    } else {
-        value(&rest[..8])
+    match rest.first_chunk() {
+        Some(word) => u64::from_le_bytes(*word),
+        None => value(rest),
     }
 }
 
@@ -49,11 +48,6 @@ pub fn unpack(word: u64, out: &mut [u8], at: u64)
     ensures len { length out.new ≡ length out.old }
 {
     let start = at as usize * 8;
-    let mut rest = word;
-    for k in 0..8 {
-        if start + k < out.len() {
-            out[start + k] = (rest % 256) as u8;
-        }
-        rest /= 256;
-    }
+    let end = out.len().min(start + 8);
+    out[start..end].copy_from_slice(&word.to_le_bytes()[..end - start]);
 }

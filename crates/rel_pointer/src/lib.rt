@@ -4,8 +4,6 @@
 
 mod bytes;
 mod pointer;
-#[cfg(test)]
-mod tests;
 
 pub use bytes::{pack, unpack, words_of};
 pub use pointer::RelPtr;

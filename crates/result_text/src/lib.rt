@@ -49,6 +49,3 @@ pub fn text_of(
     table.write_groups(bound, groups, &refs)?;
     table.into_text()
 }
-
-#[cfg(test)]
-mod tests;

@@ -7,8 +7,6 @@
 #![tactic(auto)]
 
 mod claims;
-#[cfg(test)]
-mod tests;
 mod view;
 
 pub use claims::{ClaimSeat, Claims, Drawn};

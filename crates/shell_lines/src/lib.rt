@@ -12,8 +12,6 @@ mod command;
 mod contents;
 mod rings;
 mod table;
-#[cfg(test)]
-mod tests;
 mod words;
 
 pub use barriers::{BarrierCommand, PartyCall};

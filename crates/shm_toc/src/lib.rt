@@ -12,8 +12,6 @@
 mod frozen;
 mod room;
 mod table;
-#[cfg(test)]
-mod tests;
 
 pub use frozen::{FrozenToc, WrongMagic};
 pub use room::{estimate, serves_in_any_order};

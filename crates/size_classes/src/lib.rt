@@ -10,9 +10,6 @@
 ghost use Rattle.std.specs.Prelude.{◌≡◌, ◌≢◌, ℕ, ◌%◌, ◌<◌, ◌≤◌, IfSome, IfNone};
 ghost use Rattle.size_classes.specs.Classes.{IsClass, IsLeast, class_size, class_objects, largest_size};
 
-#[cfg(test)]
-mod tests;
-
 /// The bytes of the largest objects.
 const LARGEST_SIZE: u32 = 8192;
 

@@ -7,6 +7,3 @@ pub mod slow_group;
 
 pub use slow::slow_refusal;
 pub use slow_group::slow_state;
-
-#[cfg(test)]
-mod tests;

@@ -13,8 +13,6 @@ mod layout;
 mod marks;
 mod objects;
 mod pool;
-#[cfg(test)]
-mod tests;
 
 pub use histories::{PoolCalls, PoolName, PoolReplies, PoolStates};
 pub use layout::Layout;

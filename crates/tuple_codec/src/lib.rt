@@ -11,6 +11,3 @@ mod write;
 
 pub use read::{TupleRead, decode};
 pub use write::{Tuple, encode};
-
-#[cfg(test)]
-mod tests;

@@ -1,9 +1,12 @@
 //! Callers of `lock_book`, kept so that its surface is proved where it is used: a counter that two threads add to, a
-//! drawer that holds a part of a region, behind a generic wrapper, and an object of the user's behind another.
+//! drawer that holds a part of a region, behind a generic wrapper, and an object of the user's behind another. Beside
+//! them the tests of `par_barrier`.
 
 #![tactic(auto)]
 
 mod asks;
+#[cfg(test)]
+mod barriers;
 mod counter;
 mod crossing;
 mod drawer;

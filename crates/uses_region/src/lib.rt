@@ -1,9 +1,14 @@
-//! Callers of the region and of its rings: what their calling pages show, and the tests that cross their crates.
+//! Callers of the region, of its rings and queues, and of the table of contents: what their calling pages show, and the
+//! tests of their crates.
 
 #![tactic(auto)]
 
 mod chunks;
+#[cfg(test)]
+mod contents;
 mod halves;
+#[cfg(test)]
+mod handles;
 mod rings;
 mod shares;
 #[cfg(test)]

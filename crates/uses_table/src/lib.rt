@@ -1,9 +1,22 @@
 //! Callers of `dshash_parts` and `dshash_scan`: a cache of texts under names in the shared hash table, and two threads
-//! that share it. Nothing stands on this crate.
+//! that share it. Beside it the tests of the crates of the table and of what stands in its cells. Nothing stands on this
+//! crate.
 
 #![tactic(auto)]
 
 mod cache;
+#[cfg(test)]
+mod doubling;
+#[cfg(test)]
+mod groups;
+#[cfg(test)]
+mod numbers;
+#[cfg(test)]
+mod objects;
+#[cfg(test)]
+mod parts;
+#[cfg(test)]
+mod states;
 #[cfg(test)]
 mod tests;
 mod text;

@@ -4,12 +4,12 @@ use Rattle.rel_pointer.specs.Bytes.{packed, byte_of}
 use Rattle.rel_pointer.proofs.Words.{packed_byte}
 use Rattle.rel_pointer.proofs.bytes.pack.Goals as goal
 
-pub returns-then-rest-lt8-clause-unpacks : goal.returns-then-rest-lt8-clause-unpacks
-returns-then-rest-lt8-clause-unpacks c = λ i within inside.
-    let e : c.value.result ≡ packed c.args.bytes.now c.args.at = grind (arith, common_steps) in
+pub returns-in-Some-clause-unpacks : goal.returns-in-Some-clause-unpacks
+returns-in-Some-clause-unpacks c = λ i within inside.
+    let e : c.from_le_bytes.result ≡ packed c.args.bytes.now c.args.at = grind (arith, common_steps) in
     ap (λ (w : ℕ). byte_of w i) e ∙ packed_byte c.args.bytes.now c.args.at i (λ k. omega (arith, c.type_inv.bytes k)) within inside
 
-pub returns-else-rest-lt8-clause-unpacks : goal.returns-else-rest-lt8-clause-unpacks
-returns-else-rest-lt8-clause-unpacks c = λ i within inside.
-    let e : c.value-else-rest-lt8.result ≡ packed c.args.bytes.now c.args.at = grind (arith, common_steps) in
+pub returns-in-None-clause-unpacks : goal.returns-in-None-clause-unpacks
+returns-in-None-clause-unpacks c = λ i within inside.
+    let e : c.value.result ≡ packed c.args.bytes.now c.args.at = grind (arith, common_steps) in
     ap (λ (w : ℕ). byte_of w i) e ∙ packed_byte c.args.bytes.now c.args.at i (λ k. omega (arith, c.type_inv.bytes k)) within inside

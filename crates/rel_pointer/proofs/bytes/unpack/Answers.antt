@@ -1,28 +1,15 @@
-use Rattle.rel_pointer.specs.Bytes.{byte_of}
-use Rattle.std.proofs.Common.{ℕ, leb, ltb, ◌&&◌, cond, slice_index, subst, arith, ◌≡◌, ◌+◌, ◌*◌, ◌<◌, length}
-use Rattle.rel_pointer.proofs.Words.{byte_skipped, byte_written, next_rest, written_word}
+use Rattle.rel_pointer.proofs.Words.{word_put}
+use Rattle.std.proofs.Common.{◌≡◌, ◌*◌, ◌-◌, ◌∙◌, ℕ, List, arith, take, subst, cond, slice_index, sym}
+use Rattle.rel_pointer.specs.Bytes.{byte_of, is_of_word}
+use borrow.Rule.Slice.PartMut.{put_mid}
+use Rattle.std.specs.Int.{to_le_bytes, w64}
 use Rattle.rel_pointer.proofs.bytes.unpack.Goals as goal
-use Rattle.rel_pointer.proofs.bytes.unpack.Goals.{then-start-k, else-start-k}
 
-pub loop-k-preserved : goal.loop-k-preserved
-loop-k-preserved c = record {
-  left = next_rest c.args.word c.loop-k.rest c.loop-k.k c.loop-k.invariant.left;
-  so_far = λ i h.
-      let at = c.args.at in
-      let k = c.loop-k.k in
-      let e : at * 8 + k ≡ 8 * at + k = omega arith in
-      let l : i < length c.loop-k.out = omega arith in
-      elim c.if-start-k.branch [
-        | then-start-k w ↦ rw (w.out-is, e) (byte_written c.loop-k.out at k c.args.word c.loop-k.rest i _ c.loop-k-test.true (omega arith) c.loop-k.invariant.left (c.loop-k.invariant.so_far i l))
-        | else-start-k w ↦ rw w.out-is (byte_skipped c.loop-k.out at k c.args.word i _ (omega arith) l (c.loop-k.invariant.so_far i l))
-      ];
-}
-
-pub returns-clause-packs : goal.returns-clause-packs
-returns-clause-packs c = λ room.
-    let full : c.loop-k.k ≡ 8 = omega arith in
+pub returns-clause-bytes : goal.returns-clause-bytes
+returns-clause-bytes c = λ i inside.
     let at = c.args.at in
-    let same : length c.loop-k.out ≡ length c.args.out.now = c.loop-k.auto.out in
-    written_word c.loop-k.out c.args.out.now at c.args.word (omega arith) (omega arith)
-    (λ i h. subst (λ (k : ℕ). slice_index c.loop-k.out i ≡ cond (leb (8 * at) i && ltb i (8 * at + k)) (byte_of c.args.word i) (slice_index c.args.out.now i)) full
-    (c.loop-k.invariant.so_far i h))
+    let out = c.args.out.now in
+    let k : ℕ = c.min-end.result - at * 8 in
+    let put : c.copy_from_slice.new.self ≡ take k (to_le_bytes w64 c.args.word) = c.copy_from_slice.ensures.after ∙ (λ i. take k (c.to_le_bytes.ensures i)) in
+    subst (λ (ys : List ℕ). slice_index (put_mid (at * 8) k out ys) i ≡ cond (is_of_word at i) (byte_of c.args.word i) (slice_index out i)) (sym put)
+    (word_put out at (at * 8) k c.args.word i (omega arith) (omega arith) (omega (arith, c.min-end.ensures)) inside)

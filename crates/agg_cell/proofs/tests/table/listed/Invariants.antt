@@ -1,5 +1,0 @@
-use Rattle.dshash_parts.specs.Tables.{Belongs}
-use Rattle.agg_cell.proofs.tests.table.listed.Given as goal
-
-abbrev pub invariant-loop-number : goal.invariant-loop-number
-invariant-loop-number g l = Belongs l.table l.pass

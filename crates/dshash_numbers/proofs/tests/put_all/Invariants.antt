@@ -1,9 +1,0 @@
-use Rattle.dsa_area.specs.Shown.{Belongs as AreaBelongs}
-use Rattle.dshash_numbers.specs.Maps.{IsNumberTable}
-use Rattle.dshash_numbers.proofs.tests.put_all.Given as goal
-
-abbrev pub invariant-loop-number : goal.invariant-loop-number
-invariant-loop-number g l = record {
-  table : IsNumberTable l.r l.table;
-  own : AreaBelongs l.area l.apass;
-}

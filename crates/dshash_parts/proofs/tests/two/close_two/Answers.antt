@@ -1,4 +1,0 @@
-use Rattle.dshash_parts.proofs.tests.two.close_two.Goals as goal
-
-pub returns : goal.returns
-returns c = c.close.ensures.parts c.args.region.now c.requires.table

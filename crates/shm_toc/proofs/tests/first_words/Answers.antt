@@ -1,8 +1,0 @@
-use Rattle.std.proofs.Common.{sym, subst, arith}
-use Rattle.word_map.specs.WordMap.{HasJust}
-use Rattle.region_words.specs.Parts.{Owned}
-use Rattle.word_map.proofs.Uses.{range-there}
-use Rattle.shm_toc.proofs.tests.first_words.Goals as goal
-
-pub returns-clause-owns : goal.returns-clause-owns
-returns-clause-owns c = subst (λ (o : Owned). HasJust o.words 0 c.args.words) (sym c.split.ensures.range) (range-there _ 0 c.args.words (λ k low high. c.requires.owns k (omega arith)))

@@ -1,5 +1,0 @@
-use Rattle.std.proofs.Common.{◌≡◌, length}
-use Rattle.slow_model.proofs.tests.row_of.Given as goal
-
-abbrev pub invariant-texts : goal.invariant-texts
-invariant-texts l = length l.fields.items ≡ l.text-index

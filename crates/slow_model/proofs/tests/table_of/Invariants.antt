@@ -1,5 +1,0 @@
-use Rattle.std.proofs.Common.{◌≡◌, All, length}
-use Rattle.slow_model.proofs.tests.table_of.Given as goal
-
-abbrev pub invariant-texts : goal.invariant-texts
-invariant-texts l = All (λ row. length row ≡ 3) l.rows.items

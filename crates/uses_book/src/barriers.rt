@@ -1,0 +1,206 @@
+//! The answers of a barrier in turn, and three threads that go through a hundred phases.
+
+ghost use Rattle.std.specs.Prelude.{◌≡◌, IfOk};
+ghost use Rattle.par_barrier.specs.Shown.{Belongs, number_of};
+
+use crossbeam_utils::Backoff;
+use par_barrier::{Arrival, Arrived, Barrier, BarrierAnswer, BarrierPass, Left};
+use std::alloc::{AllocError, Global};
+use std::sync::Wait;
+use std::sync::atomic::{AtomicU32, Ordering};
+use std::test::Fail;
+use std::thread::{Threads, join};
+
+/// How many phases the threads go through.
+const PHASES: u64 = 100;
+
+/// A barrier for two callers, and their passes.
+fn for_two(alloc: Global) -> Result<(Barrier, BarrierPass, BarrierPass), AllocError>
+    ensures zero { IfOk result (λ r. Belongs r.0 r.1 × (number_of r.1 ≡ 0)) }
+    ensures one { IfOk result (λ r. Belongs r.0 r.2 × (number_of r.2 ≡ 1)) }
+{
+    let (barrier, mut passes) = Barrier::new(alloc, 2)?;
+    let Some(one) = passes.pop() else {
+        unreachable!()
+    };
+    let Some(zero) = passes.pop() else {
+        unreachable!()
+    };
+    Ok((barrier, zero, one))
+}
+
+#[test]
+fn each_answer(rt: HostRuntime) -> Result<(), Fail> {
+    let (b, mut zero, mut one) = for_two(rt.alloc())?;
+    assert_eq!(rt; b.attach(&rt, &mut zero), Ok(0));
+    assert_eq!(rt; b.attach(&rt, &mut one), Ok(0));
+    assert_eq!(rt;
+        b.attach(&rt, &mut one),
+        Err(BarrierAnswer::AlreadyIn { phase: 0 })
+    );
+    assert_eq!(rt; b.arrive(&rt, &mut zero), Ok(Arrival::Waiting));
+    assert_eq!(rt;
+        b.arrive(&rt, &mut zero),
+        Err(BarrierAnswer::Twice { phase: 0 })
+    );
+    assert_eq!(rt; b.look(&rt, &mut zero), Ok(Arrival::Waiting));
+    assert_eq!(rt;
+        b.arrive(&rt, &mut one),
+        Ok(Arrival::Released {
+            phase: 1,
+            elected: true
+        })
+    );
+    assert_eq!(rt;
+        b.look(&rt, &mut zero),
+        Ok(Arrival::Released {
+            phase: 1,
+            elected: false
+        })
+    );
+    assert_eq!(rt; b.arrive(&rt, &mut zero), Ok(Arrival::Waiting));
+    assert_eq!(rt;
+        b.detach(&rt, &mut one),
+        Ok(Left {
+            phase: 2,
+            last: false
+        })
+    );
+    assert_eq!(rt;
+        b.look(&rt, &mut zero),
+        Ok(Arrival::Released {
+            phase: 2,
+            elected: true
+        })
+    );
+    assert_eq!(rt;
+        b.detach(&rt, &mut zero),
+        Ok(Left {
+            phase: 2,
+            last: true
+        })
+    );
+    assert_eq!(rt;
+        b.arrive(&rt, &mut zero),
+        Err(BarrierAnswer::NotIn { phase: 2 })
+    );
+    zero.meet(&b, &mut one);
+    Ok(())
+}
+
+/// A barrier for three callers, and their passes.
+fn for_three(alloc: Global) -> Result<(Barrier, BarrierPass, BarrierPass, BarrierPass), AllocError>
+    ensures zero { IfOk result (λ r. Belongs r.0 r.1) }
+    ensures one { IfOk result (λ r. Belongs r.0 r.2) }
+    ensures two { IfOk result (λ r. Belongs r.0 r.3) }
+{
+    let (barrier, mut passes) = Barrier::new(alloc, 3)?;
+    let Some(two) = passes.pop() else {
+        unreachable!()
+    };
+    let Some(one) = passes.pop() else {
+        unreachable!()
+    };
+    let Some(zero) = passes.pop() else {
+        unreachable!()
+    };
+    Ok((barrier, zero, one, two))
+}
+
+/// Attaches, waits until all three have, and goes through the phases: those whose end elected this thread.
+fn go_through<R: Wait>(
+    rt: &R,
+    alloc: Global,
+    barrier: &Barrier,
+    mut pass: BarrierPass,
+    attached: &AtomicU32,
+) -> Result<Vec<u64>, AllocError>
+    requires { Belongs barrier.now pass }
+{
+    let _phase = barrier.attach(rt, &mut pass);
+    let _before = attached.fetch_add(1, Ordering::SeqCst);
+    let backoff = Backoff::new();
+    while_attaching(rt, attached, &backoff);
+    let mut elected = Vec::new(alloc);
+    for _ in 0..PHASES {
+        if let Ok(
+            Arrived {
+                phase,
+                elected: true,
+            },
+        ) = barrier.arrive_and_wait(rt, &mut pass)
+        {
+            elected.push(phase)?;
+        }
+    }
+    Ok(elected)
+}
+
+/// Waits until all three threads have attached.
+fn while_attaching<R: Wait>(rt: &R, attached: &AtomicU32, backoff: &Backoff) {
+    for _ in rt.forever() {
+        if attached.load(Ordering::SeqCst) == 3 {
+            return;
+        }
+        backoff.snooze();
+    }
+}
+
+/// Two of the threads, beside each other: what each was elected in.
+fn two_threads<R: Threads + Wait + Sync>(
+    rt: &R,
+    alloc: Global,
+    barrier: &Barrier,
+    one: BarrierPass,
+    two: BarrierPass,
+    attached: &AtomicU32,
+) -> (Result<Vec<u64>, AllocError>, Result<Vec<u64>, AllocError>)
+    requires one { Belongs barrier.now one }
+    requires two { Belongs barrier.now two }
+{
+    join(
+        rt,
+        || go_through(rt, alloc, barrier, one, attached),
+        || go_through(rt, alloc, barrier, two, attached),
+    )
+}
+
+/// All three threads: what each was elected in, one after another.
+fn three_threads<R: Threads + Wait + Sync>(
+    rt: &R,
+    alloc: Global,
+    barrier: &Barrier,
+    zero: BarrierPass,
+    one: BarrierPass,
+    two: BarrierPass,
+) -> Result<Vec<u64>, AllocError>
+    requires zero { Belongs barrier.now zero }
+    requires one { Belongs barrier.now one }
+    requires two { Belongs barrier.now two }
+{
+    let attached = AtomicU32::new(0);
+    let count = &attached;
+    let (first, (second, third)) = join(
+        rt,
+        || go_through(rt, alloc, barrier, zero, count),
+        ||
+            requires { Belongs barrier.now one × Belongs barrier.now two }
+        { two_threads(rt, alloc, barrier, one, two, count) },
+    );
+    let mut all = first?;
+    all.append(&mut second?)?;
+    all.append(&mut third?)?;
+    Ok(all)
+}
+
+#[test]
+fn each_phase_elects_one(rt: HostRuntime) -> Result<(), Fail> {
+    let (barrier, zero, one, two) = for_three(rt.alloc())?;
+    let mut elected = three_threads(&rt, rt.alloc(), &barrier, zero, one, two)?;
+    elected.sort_unstable();
+    assert_eq!(rt; elected.len(), PHASES as usize);
+    for (at, phase) in elected.iter().enumerate() {
+        assert_eq!(rt; *phase, at as u64 + 1);
+    }
+    Ok(())
+}

@@ -1,0 +1,162 @@
+//! Runs over a few rows, which show what no clause says: that the calls succeed, and that threads run at once.
+
+ghost use Rattle.std.specs.Prelude.{◌≤◌, IfOk};
+ghost use Rattle.par_model.specs.Columns.{HasColumns};
+ghost use Rattle.partial_agg.specs.Rows.{header_width};
+ghost use Rattle.gather_merge.specs.Answers.{OrdersRows};
+ghost use Rattle.gather_merge.specs.Order.{IsOrder};
+
+mod meeting;
+
+use csv_rows::{RowStore, rows};
+use gather_merge::{MergeAnswer, Merged, merge};
+use par_model::{BoundPlan, Item, ItemKind};
+use std::alloc::{AllocError, Global};
+use std::sync::Wait;
+use std::test::Fail;
+use std::thread::Threads;
+use worker_run::{Gate, OpenGate, WorkerEnd};
+
+/// Rows of one field under the header `n`: row i has i modulo 7.
+fn sevens(alloc: Global, count: u64) -> Result<Vec<u8>, AllocError> {
+    let mut text = Vec::from_slice(alloc, b"n\n")?;
+    for row in 1..=count {
+        text.push(b'0' + (row % 7) as u8)?;
+        text.push(b'\n')?;
+    }
+    Ok(text)
+}
+
+/// The rows of a text whose header has two columns, and the plan that orders them by these: by the second and then the
+/// first, or by the first alone.
+fn ordered_by(
+    alloc: Global,
+    text: &[u8],
+    width: u32,
+    both: bool,
+) -> Result<(RowStore, BoundPlan), Fail>
+    ensures plan { IfOk result (λ query. OrdersRows query.1) }
+    ensures columns { IfOk result (λ query. HasColumns query.1 (header_width query.0)) }
+{
+    let store = match rows(alloc, text) {
+        Ok(store) => store,
+        Err(_) => return Err(Fail::new("no rows")),
+    };
+    if width == 0 || store.width(0) != width || both && width < 2 {
+        return Err(Fail::new("another width"));
+    }
+    let unused = Item {
+        kind: ItemKind::Rows,
+        column: 0,
+    };
+    let plan = BoundPlan {
+        groups: [if both { 1 } else { 0 }, 0, 0, 0, 0, 0, 0, 0],
+        group_count: if both { 2 } else { 1 },
+        items: [
+            unused, unused, unused, unused, unused, unused, unused, unused,
+        ],
+        item_count: 1,
+        hash: false,
+        filter: None,
+    };
+    Ok((store, plan))
+}
+
+/// A merge that has an order, which is that of the rows.
+fn merged<G: Gate + Sync, R: Threads + Wait + Sync>(
+    rt: &R,
+    alloc: Global,
+    store: &RowStore,
+    plan: &BoundPlan,
+    workers: u32,
+    gate: &G,
+) -> Result<Merged, Fail>
+    requires plan { OrdersRows plan.now }
+    requires columns { HasColumns plan.now (header_width store.now) }
+    requires workers { workers ≤ 64 }
+    ensures order { IfOk result (λ merged. IsOrder plan.now store.now merged.order) }
+{
+    match merge(rt, alloc, store, plan, workers, gate) {
+        Ok(merged) => Ok(merged),
+        Err(MergeAnswer::Memory) => Err(Fail::new("memory")),
+        Err(MergeAnswer::Row { .. }) => Err(Fail::new("a row is refused")),
+    }
+}
+
+/// Whether the order is this list.
+fn is_order(merged: &Merged, list: &[u64]) -> bool {
+    if merged.order.len() != list.len() {
+        return false;
+    }
+    for at in 0..list.len() {
+        if at >= merged.order.len() || merged.order.get(at) != list[at] {
+            return false;
+        }
+    }
+    true
+}
+
+#[test]
+fn by_one_column_and_by_two(rt: HostRuntime) -> Result<(), Fail> {
+    let text = b"g,v\nb,1\na,2\nb,0\na,1\n";
+    for workers in [0, 1, 2, 64] {
+        if workers <= 64 {
+            let (store, plan) = ordered_by(rt.alloc(), text, 2, false)?;
+            let got = merged(&rt, rt.alloc(), &store, &plan, workers, &OpenGate)?;
+            assert!(rt; is_order(&got, &[2, 4, 1, 3]));
+            let (store, plan) = ordered_by(rt.alloc(), text, 2, true)?;
+            let got = merged(&rt, rt.alloc(), &store, &plan, workers, &OpenGate)?;
+            assert!(rt; is_order(&got, &[3, 4, 1, 2]));
+        }
+    }
+    Ok(())
+}
+
+/// The place of each row of 2,000 is known: those with the digit 0 come first, each digit's in order of their numbers.
+#[test]
+fn two_thousand_rows(rt: HostRuntime) -> Result<(), Fail> {
+    let text = sevens(rt.alloc(), 2_000)?;
+    let (store, plan) = ordered_by(rt.alloc(), &text, 1, false)?;
+    let mut list = Vec::new(rt.alloc());
+    for digit in 0..7 {
+        for row in 1..=2_000 {
+            if row % 7 == digit {
+                list.push(row)?;
+            }
+        }
+    }
+    for workers in [0, 1, 3] {
+        if workers <= 64 {
+            let got = merged(&rt, rt.alloc(), &store, &plan, workers, &OpenGate)?;
+            assert!(rt; is_order(&got, &list), "with {workers} workers");
+            assert_eq!(rt; got.finished.launched, workers);
+            for worker in &got.finished.workers {
+                assert!(rt; worker.end == Some(WorkerEnd::Finished));
+            }
+        }
+    }
+    Ok(())
+}
+
+#[test]
+fn no_rows(rt: HostRuntime) -> Result<(), Fail> {
+    let (store, plan) = ordered_by(rt.alloc(), b"n\n", 1, false)?;
+    let got = merged(&rt, rt.alloc(), &store, &plan, 3, &OpenGate)?;
+    assert_eq!(rt; got.order.len(), 0);
+    Ok(())
+}
+
+/// With no workers the first refused row is named, and else one that is refused.
+#[test]
+fn a_refused_row(rt: HostRuntime) -> Result<(), Fail> {
+    let (store, plan) = ordered_by(rt.alloc(), b"g,v\na,1\nb\nc,d,e\n", 2, false)?;
+    for workers in [0, 1, 4] {
+        if workers <= 64 {
+            match merge(&rt, rt.alloc(), &store, &plan, workers, &OpenGate) {
+                Ok(_) => return Err(Fail::new("no row is refused")),
+                Err(why) => assert!(rt; why == MergeAnswer::Row { row: 2, cause: 1 }),
+            }
+        }
+    }
+    Ok(())
+}

@@ -1,0 +1,218 @@
+//! Descriptors that are written and read, through a table of contents and word by word.
+
+ghost use Rattle.std.specs.Prelude.{◌≡◌, ◌<◌, ℕ, IsSome, Some};
+ghost use Rattle.word_map.specs.WordMap.{at as word_at, HasJust};
+
+use par_model::{BoundPlan, Filter, FilterOp, Item, ItemKind};
+use plan_spec::{BadDescriptor, PLAN_KEY, plan_in, read_plan, write_plan};
+use region_words::{Chunk, Part, Region};
+use shm_toc::Toc;
+use std::test::Fail;
+
+/// An item that is not used.
+const UNUSED: Item = Item {
+    kind: ItemKind::Rows,
+    column: 0,
+};
+
+/// Writes a plan behind a table of contents, freezes it, and reads the plan that stands beside the key: the caller of
+/// CALLING.md.
+fn through_a_table(r: &Region, part: Part, plan: &BoundPlan) -> Option<BoundPlan>
+    requires here { part.region ≡ r.now }
+    requires owns { HasJust part.words 0 48 }
+    ensures { result ≡ Some plan.now }
+{
+    let mut toc = Toc::create(r, part, 48, 1601);
+    let Ok(mut chunk) = toc.allocate(r, 256) else {
+        return None;
+    };
+    write_plan(plan, r, &mut chunk);
+    let at = chunk.at;
+    let Ok(()) = toc.insert(r, PLAN_KEY, at) else {
+        return None;
+    };
+    toc.keep(r, chunk);
+    let mut toc = toc.freeze(r);
+    Some(plan_in(&mut toc, r))
+}
+
+/// The part of the first 48 words of a new region.
+fn first_words(r: &Region, part: &mut Part) -> Part
+    requires here { part.old.region ≡ r.now }
+    requires owns { (k : ℕ) → k < 48 → IsSome (word_at part.old.words k) }
+    ensures here { result.region ≡ r.now }
+    ensures owns { HasJust result.words 0 48 }
+{
+    part.split(r, 0, 48)
+}
+
+/// The plan of these words, which are stored in a chunk one by one.
+fn plan_of_words(
+    r: &Region,
+    part: Part,
+    words: &[u64; 32],
+) -> Option<Result<BoundPlan, BadDescriptor>>
+    requires here { part.region ≡ r.now }
+    requires owns { HasJust part.words 0 48 }
+{
+    let mut toc = Toc::create(r, part, 48, 1601);
+    let Ok(mut chunk) = toc.allocate(r, 256) else {
+        return None;
+    };
+    store_words(r, &mut chunk, words);
+    let at = chunk.at;
+    toc.keep(r, chunk);
+    let mut toc = toc.freeze(r);
+    Some(read_plan(&mut toc, r, at))
+}
+
+fn store_words(r: &Region, chunk: &mut Chunk, words: &[u64; 32])
+    requires here { chunk.old.part.region ≡ r.now }
+    requires room { chunk.old.bytes ≡ 256 }
+    ensures place { (chunk.new.at ≡ chunk.old.at) × (chunk.new.bytes ≡ chunk.old.bytes) }
+    ensures region { chunk.new.part.region ≡ chunk.old.part.region }
+{
+    'words: for at in 0..32 {
+        chunk.store(r, at as u64, words[at]);
+    }
+}
+
+/// Two groups, three aggregates, and a filter with this relation.
+fn plan_with(op: FilterOp, value: i64) -> BoundPlan {
+    let item = |kind, column| Item { kind, column };
+    BoundPlan {
+        groups: [3, 70000, 0, 0, 0, 0, 0, 0],
+        group_count: 2,
+        items: [
+            item(ItemKind::Count, 5),
+            UNUSED,
+            item(ItemKind::Avg, u32::MAX),
+            UNUSED,
+            UNUSED,
+            UNUSED,
+            UNUSED,
+            UNUSED,
+        ],
+        item_count: 3,
+        hash: true,
+        filter: Some(Filter {
+            column: 7,
+            op,
+            value,
+        }),
+    }
+}
+
+/// The words of `plan_with(LessEqual, -2)` in version 2.
+const WORDS: [u64; 32] = [
+    2,
+    2,
+    3,
+    1,
+    3,
+    70000,
+    0,
+    0,
+    0,
+    0,
+    0,
+    0,
+    1,
+    5,
+    0,
+    0,
+    5,
+    4294967295,
+    0,
+    0,
+    0,
+    0,
+    0,
+    0,
+    0,
+    0,
+    0,
+    0,
+    4,
+    7,
+    18446744073709551614,
+    0,
+];
+
+#[test]
+fn a_plan_reads_back(rt: HostRuntime) -> Result<(), Fail> {
+    let relations = [
+        FilterOp::Equal,
+        FilterOp::NotEqual,
+        FilterOp::Less,
+        FilterOp::LessEqual,
+        FilterOp::Greater,
+        FilterOp::GreaterEqual,
+    ];
+    for op in relations {
+        let (region, mut part) = Region::new(rt.alloc(), 64)?;
+        let words = first_words(&region, &mut part);
+        let plan = plan_with(op, i64::MIN);
+        let read = through_a_table(&region, words, &plan).expect(&rt, "a plan");
+        assert_eq!(rt; read.groups, plan.groups);
+        assert_eq!(rt; read.group_count, 2);
+        assert_eq!(rt; read.items, plan.items);
+        assert_eq!(rt; read.item_count, 3);
+        assert!(rt; read.hash);
+        assert_eq!(rt; read.filter, plan.filter);
+    }
+    Ok(())
+}
+
+#[test]
+fn words_are_read(rt: HostRuntime) -> Result<(), Fail> {
+    let table: [(usize, u64, Option<u64>); 16] = [
+        (31, 0, None),
+        (0, 1, None),
+        (0, 3, Some(0)),
+        (1, 9, Some(1)),
+        (1, 1, Some(5)),
+        (2, 0, Some(2)),
+        (2, 2, Some(16)),
+        (3, 2, Some(3)),
+        (6, 1, Some(6)),
+        (12, 6, Some(12)),
+        (15, 1, Some(15)),
+        (17, 1 << 32, Some(17)),
+        (28, 7, Some(28)),
+        (28, 0, Some(29)),
+        (29, 1 << 32, Some(29)),
+        (31, 1, Some(31)),
+    ];
+    for (place, word, want) in table {
+        let (region, mut part) = Region::new(rt.alloc(), 64)?;
+        let part = first_words(&region, &mut part);
+        let mut words = WORDS;
+        *words.get_mut(place).expect(&rt, "a place") = word;
+        let read = plan_of_words(&region, part, &words).expect(&rt, "room");
+        assert_eq!(rt; read.err().map(|bad| bad.at), want);
+    }
+    Ok(())
+}
+
+#[test]
+fn both_versions_are_read(rt: HostRuntime) -> Result<(), Fail> {
+    for version in [1, 2] {
+        let (region, mut part) = Region::new(rt.alloc(), 64)?;
+        let part = first_words(&region, &mut part);
+        let mut words = WORDS;
+        words[0] = version;
+        let read = plan_of_words(&region, part, &words).expect(&rt, "room");
+        let read = read.ok().expect(&rt, "a plan");
+        let plan = plan_with(FilterOp::LessEqual, -2);
+        assert_eq!(rt; read.groups, plan.groups);
+        assert_eq!(rt; read.items, plan.items);
+        assert_eq!(rt;
+            (read.group_count, read.item_count, read.hash),
+            (2, 3, true)
+        );
+        let filter = if version == 2 { plan.filter } else { None };
+        assert_eq!(rt; read.filter, filter);
+    }
+    Ok(())
+}

@@ -1,0 +1,95 @@
+//! What no clause says: that the calls succeed, and that keys which were chosen to collide cost little more than
+//! others.
+
+ghost use Rattle.std.specs.Prelude.{◌≡◌, IfOk, Some, slice_get};
+
+use key_index::{KeyTable, hash_of};
+use std::alloc::{AllocError, Global};
+use std::test::Fail;
+
+/// The place of a key, which is put behind the others if it is not there: the caller of CALLING.md.
+fn place_of(keys: &mut KeyTable, alloc: Global, key: &[u8]) -> Result<usize, AllocError>
+    ensures place { IfOk result (λ place. slice_get keys.new place ≡ Some key.now) }
+{
+    match keys.find(key) {
+        Some(place) => Ok(place),
+        None => {
+            let place = keys.len();
+            keys.push(alloc, key)?;
+            Ok(place)
+        }
+    }
+}
+
+#[test]
+fn places_of_keys(rt: HostRuntime) -> Result<(), Fail> {
+    let table: [(&[u8], usize); 6] = [
+        (b"pear", 0),
+        (b"", 1),
+        (b"fig", 2),
+        (b"pear", 0),
+        (b"pear\0", 3),
+        (b"fig", 2),
+    ];
+    let mut keys = KeyTable::new(rt.alloc());
+    for (key, place) in table {
+        assert_eq!(rt; place_of(&mut keys, rt.alloc(), key)?, place);
+    }
+    assert_eq!(rt; keys.len(), 4);
+    assert!(rt; keys.find(b"plum").is_none());
+    let mut places = Vec::from_slice(rt.alloc(), &[0, 1, 2, 3])?;
+    keys.sort(&mut places);
+    let sorted: [usize; 4] = [1, 2, 0, 3];
+    assert!(rt; places.as_slice() == sorted.as_slice());
+    Ok(())
+}
+
+/// Guesses at the places of keys, and that a wrong one finds the same.
+#[test]
+fn guessed_places(rt: HostRuntime) -> Result<(), Fail> {
+    let table: [(&[u8], u8, Option<usize>); 4] = [
+        (b"pear", b'r', Some(0)),
+        (b"fig", b'g', Some(1)),
+        (b"", 0, Some(2)),
+        (b"plum", b'm', None),
+    ];
+    let mut keys = KeyTable::new(rt.alloc());
+    for key in [b"pear".as_slice(), b"fig", b""] {
+        keys.push(rt.alloc(), key)?;
+    }
+    for (key, last, place) in table {
+        let mut guess = [7];
+        keys.guess(&[hash_of(key)], &[last], &mut guess);
+        assert!(rt; key.is_empty() || guess[0] == place.unwrap_or(usize::MAX));
+        for at in [guess[0], 0, 1, 9] {
+            assert_eq!(rt; keys.find_at(at, key), place);
+        }
+    }
+    Ok(())
+}
+
+/// How many keys collide: without a bound on a search they would take minutes.
+const COLLIDING: u64 = 250_000;
+
+/// A key whose hash is 0, whatever the number: the hash ends with a product, of which the last eight bytes of the key
+/// and a constant of the hasher make one factor, here 0.
+fn colliding_key(number: u64) -> [u8; 16] {
+    let mut key = [0; 16];
+    key[..8].copy_from_slice(&number.to_be_bytes());
+    key[8..].copy_from_slice(&0x9e37_79b9_7f4a_7c15_u64.to_le_bytes());
+    key
+}
+
+#[test]
+fn keys_of_one_hash(rt: HostRuntime) -> Result<(), Fail> {
+    let mut keys = KeyTable::new(rt.alloc());
+    for number in 0..COLLIDING {
+        keys.push(rt.alloc(), &colliding_key(number))?;
+    }
+    for number in 0..COLLIDING {
+        let found = keys.find(&colliding_key(number));
+        assert!(rt; found == Some(number as usize), "{number}");
+    }
+    assert!(rt; keys.find(&colliding_key(COLLIDING)).is_none());
+    Ok(())
+}

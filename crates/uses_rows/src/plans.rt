@@ -1,0 +1,142 @@
+//! What no clause says: that words are read, and what `clap` makes of them.
+
+ghost use Rattle.std.specs.Prelude.{◌≡◌, IfSome, length, map, string_bytes};
+ghost use Rattle.csv_rows.specs.Records.{record_at};
+ghost use Rattle.par_model.specs.Columns.{HasColumns};
+ghost use Rattle.par_model.specs.Named.{bound_plan};
+ghost use Rattle.plan_spec.specs.Query.{query_of};
+
+use csv_rows::{RowStore, rows};
+use par_model::BoundPlan;
+use plan_spec::{Plan, PlanAnswer, is_merge};
+use std::alloc::{AllocError, Global};
+use std::test::Fail;
+
+fn owned(alloc: Global, words: &str) -> Result<Vec<String>, AllocError> {
+    let mut list = Vec::new(alloc);
+    for word in words.split(' ') {
+        let word = String::from_str(alloc, word)?;
+        if list.push(word).is_err() {
+            return Err(AllocError);
+        }
+    }
+    Ok(list)
+}
+
+/// The plan of the words over the columns of the store's header, if there is one: the caller of
+/// CALLING.md.
+fn bound_words(alloc: Global, words: &[String], store: &RowStore) -> Option<BoundPlan>
+    ensures plan { IfSome result (λ bound. IfSome (query_of (map string_bytes words.now)) (λ query. bound ≡ bound_plan (record_at store.now 0) query.plan)) }
+    ensures columns { IfSome result (λ bound. HasColumns bound (length (record_at store.now 0))) }
+{
+    let plan = Plan::of_words(alloc, words).ok()?;
+    plan.bind(store).ok()
+}
+
+/// Words that are a plan, and words that are none.
+#[test]
+fn plans(rt: HostRuntime) -> Result<(), Fail> {
+    let table: [(&str, bool); 22] = [
+        ("--agg count", true),
+        ("--agg=count,sum:v,avg:a:b", true),
+        (
+            "--group g,h --agg count --where v>=-3 --workers 64 --plan hash --area-pages 0",
+            true,
+        ),
+        ("--where=v=9223372036854775807 --agg count", true),
+        ("--agg count --", true),
+        ("--where=-v=1 --agg count", true),
+        ("--group g", false),
+        ("", false),
+        ("--agg avg", false),
+        ("--agg sum:", false),
+        ("--agg count,", false),
+        ("--agg count --agg count", false),
+        ("--group g,,h --agg count", false),
+        ("--group a,b,c,d,e,f,g,h,i --agg count", false),
+        ("--agg count --where v=", false),
+        ("--agg count --where v==1", false),
+        ("--agg count --where =1", false),
+        ("--agg count --workers 65", false),
+        ("--agg count --workers +1", false),
+        ("--agg count --plan sort", false),
+        ("--agg count --area-pages 65537", false),
+        ("--help", false),
+    ];
+    for (words, is_plan) in table {
+        let list = owned(rt.alloc(), words)?;
+        match Plan::of_words(rt.alloc(), list.as_slice()) {
+            Ok(_plan) => assert!(rt; is_plan, "{words}"),
+            Err(PlanAnswer::Usage) => assert!(rt; !is_plan, "{words}"),
+            Err(PlanAnswer::Memory) => assert!(rt; false, "{words}"),
+        }
+    }
+    Ok(())
+}
+
+/// Words that ask for rows in order, and words that do not.
+#[test]
+fn merges(rt: HostRuntime) -> Result<(), Fail> {
+    let table: [(&str, bool, bool); 10] = [
+        ("merge g 0", true, true),
+        ("merge a,b,c,d,e,f,g,h 00064", true, true),
+        ("merge --agg 1", true, true),
+        ("merge g", true, false),
+        ("merge g 1 1", true, false),
+        ("merge g,,h 1", true, false),
+        ("merge a,b,c,d,e,f,g,h,i 1", true, false),
+        ("merge g 65", true, false),
+        ("merge g 000001", true, false),
+        ("Merge g 1", false, false),
+    ];
+    for (words, begins_so, is_plan) in table {
+        let list = owned(rt.alloc(), words)?;
+        let begins = is_merge(list.as_slice());
+        assert_eq!(rt; begins, begins_so);
+        match Plan::of_merge_words(rt.alloc(), list.as_slice()) {
+            Ok(_plan) => assert!(rt; is_plan, "{words}"),
+            Err(PlanAnswer::Usage) => assert!(rt; !is_plan, "{words}"),
+            Err(PlanAnswer::Memory) => assert!(rt; false, "{words}"),
+        }
+    }
+    Ok(())
+}
+
+/// A plan bound to a header, and one with a name that the header lacks.
+#[test]
+fn binds(rt: HostRuntime) -> Result<(), Fail> {
+    let Ok(store) = rows(rt.alloc(), b"g,v,g\n") else {
+        assert!(rt; false);
+        return Ok(());
+    };
+    let words = "--group g --agg count,sum:v --where v<2 --workers 7";
+    let list = owned(rt.alloc(), words)?;
+    if let Ok(plan) = Plan::of_words(rt.alloc(), list.as_slice()) {
+        assert_eq!(rt; plan.workers(), 7);
+        assert_eq!(rt; plan.area_pages(), 2048);
+        assert_eq!(rt; plan.item_name(0), None);
+        assert_eq!(rt; plan.item_name(1), Some("v"));
+        assert_eq!(rt; plan.item_name(2), None);
+        assert_eq!(rt; plan.filter_name(), Some("v"));
+    }
+    match bound_words(rt.alloc(), list.as_slice(), &store) {
+        Some(bound) => {
+            assert_eq!(rt; bound.groups[0], 0);
+            assert_eq!(rt; bound.items[1].column, 1);
+            assert_eq!(rt; bound.item_count, 2);
+            assert!(rt; bound.filter.is_some() && !bound.hash);
+        }
+        None => assert!(rt; false),
+    }
+    let list = owned(rt.alloc(), "--group g --agg sum:v,max:w --where u=1")?;
+    if let Ok(plan) = Plan::of_words(rt.alloc(), list.as_slice()) {
+        match plan.bind(&store) {
+            Ok(_bound) => assert!(rt; false),
+            Err(missing) => {
+                assert_eq!(rt; missing.at, 2);
+                assert_eq!(rt; plan.name(missing.at), "w");
+            }
+        }
+    }
+    Ok(())
+}

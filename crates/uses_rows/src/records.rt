@@ -1,0 +1,257 @@
+//! What no clause says: that the calls succeed, and how text that is written oddly reads.
+
+ghost use Rattle.std.specs.Prelude.{◌≡◌, IfSome};
+ghost use Rattle.csv_rows.specs.Records.{records_of};
+
+use csv_rows::{RowStore, RowsAnswer, read_all, read_integer, rows, rows_in_threads};
+use par_io::{MemSource, Source};
+use std::alloc::{AllocError, Global};
+use std::test::Fail;
+
+/// The records of what a source has left, if it can be read: the caller of CALLING.md.
+fn stored_records<S: Source>(alloc: Global, source: &mut S) -> Option<RowStore>
+    ensures { IfSome result (λ store. IfSome (S.left source.old) (λ bytes. store ≡ records_of bytes)) }
+{
+    let bytes = read_all(alloc, source).ok()?;
+    rows(alloc, bytes.as_slice()).ok()
+}
+
+/// Each field with a bar after it, and each record with a slash.
+fn shown(alloc: Global, store: &RowStore) -> Result<Vec<u8>, AllocError> {
+    let mut text = Vec::new(alloc);
+    for row in 0..=store.count() {
+        for at in 0..store.width(row) {
+            text.extend_from_slice(store.field(row, at))?;
+            text.extend_from_slice(b"|")?;
+        }
+        text.extend_from_slice(b"/")?;
+    }
+    Ok(text)
+}
+
+/// A line of eight bytes.
+const LINE: &[u8] = b"1234567\n";
+
+/// How many such lines are enough for two threads.
+const LINES: u64 = 16_384;
+
+/// So many such lines.
+fn lines(alloc: Global, count: u64) -> Result<Vec<u8>, AllocError> {
+    let mut text = Vec::new(alloc);
+    for _line in 0..count {
+        text.extend_from_slice(LINE)?;
+    }
+    Ok(text)
+}
+
+/// Whether two stores have as many records, and the same ones near the middle of [`LINES`] lines.
+fn agree(one: &RowStore, other: &RowStore) -> bool {
+    let last = one.count();
+    if other.count() != last {
+        return false;
+    }
+    let middle = last.min(LINES / 2);
+    let (one, other) = (one.near(middle), other.near(middle));
+    for row in middle.saturating_sub(20)..=last.min(middle + 20) {
+        let (record, same) = (one.find(row), other.find(row));
+        if record.width() != same.width() {
+            return false;
+        }
+        for at in 0..record.width() {
+            if record.field(at) != same.field(at) {
+                return false;
+            }
+        }
+    }
+    true
+}
+
+/// Ragged rows, the first of them early, late and in the middle; quotes in odd places and quotes left open; bytes that
+/// are no text; line ends, byte order marks, and lines and fields that are empty.
+#[test]
+fn odd_text(rt: HostRuntime) -> Result<(), Fail> {
+    let table: [(&[u8], &[u8]); 31] = [
+        (b"a,b\n1\n1,2,3", b"a|b|/1|/1|2|3|/"),
+        (b"a,b\n1,2,\n,", b"a|b|/1|2||/||/"),
+        (b"a,b\n1,2\n3,4\n5", b"a|b|/1|2|/3|4|/5|/"),
+        (
+            b"a,b\n1,2\n3\n4,5\n6,7,8\n9,0",
+            b"a|b|/1|2|/3|/4|5|/6|7|8|/9|0|/",
+        ),
+        (b"a\n1,2\n3\n4", b"a|/1|2|/3|/4|/"),
+        (b"a,b,c", b"a|b|c|/"),
+        (b"a,b,c\n,,\n1,,3\n,2,", b"a|b|c|/|||/1||3|/|2||/"),
+        (b"a,b,c\n\n,,3\n,\n1,2,", b"a|b|c|/||3|/||/1|2||/"),
+        (b"a,,c,,\n1,22,,,333\n", b"a||c|||/1|22|||333|/"),
+        (b"\"x,\"\"y\"\"\",z\r\n\r\n1,2\r\n", b"x,\"y\"|z|/1|2|/"),
+        (b"a\"b\n\"c\"d\n", b"a\"b|/cd|/"),
+        (b"\"c\"x\"y\",d\n", b"cx\"y\"|d|/"),
+        (b" \"a\",\"\"\"\"\n", b" \"a\"|\"|/"),
+        (b"\"a\" ,b\n", b"a |b|/"),
+        (b"v\n\"x\ny,z", b"v|/x\ny,z|/"),
+        (b"v\n\"", b"v|/|/"),
+        (b"v\n\"a\"\"", b"v|/a\"|/"),
+        (b"v\n\"x\r\ny\",\"\r\"\n", b"v|/x\r\ny|\r|/"),
+        (b"\xFF\xFE,\xC3\n\0\n", b"\xFF\xFE|\xC3|/\0|/"),
+        (b"v\r\n1\r\n", b"v|/1|/"),
+        (b"v\r1\r2", b"v|/1|/2|/"),
+        (b"v\n\n\n1\r\n\r\n", b"v|/1|/"),
+        (b"v\n \n\t\n", b"v|/ |/\t|/"),
+        (b"v\n\"\"\n", b"v|/|/"),
+        (b",\n", b"||/"),
+        (b"\xEF\xBB\xBFg\n5\n", b"g|/5|/"),
+        (b"\xEF\xBB\xBF\"g,h\"\n5\n", b"g,h|/5|/"),
+        (b"\xEF\xBB\xBF\xEF\xBB\xBFg\n", b"\xEF\xBB\xBFg|/"),
+        (b"g\n\xEF\xBB\xBF5\n", b"g|/\xEF\xBB\xBF5|/"),
+        (b"\xEF\xBBg\n", b"\xEF\xBBg|/"),
+        (b"\xEF\xBB\xBF\n\ng\n", b"g|/"),
+    ];
+    for (text, want) in table {
+        match rows(rt.alloc(), text) {
+            Ok(store) => {
+                let found = shown(rt.alloc(), &store)?;
+                assert!(rt;
+                    found.as_slice() == want,
+                    "{:?} of {:?}",
+                    found.as_slice(),
+                    text
+                );
+            }
+            Err(why) => assert!(rt; false, "{why:?} of {text:?}"),
+        }
+    }
+    for text in [b"".as_slice(), b"\n\r\n", b"\xEF\xBB\xBF", b"\r\r"] {
+        assert!(rt; rows(rt.alloc(), text).is_err(), "{text:?}");
+    }
+    Ok(())
+}
+
+/// Texts that stand where two threads' parts meet: empty lines, carriage returns, byte order marks, and quotes in odd
+/// places, open, doubled and with line feeds between them.
+#[test]
+fn odd_cuts(rt: HostRuntime) -> Result<(), Fail> {
+    let texts: [&[u8]; 15] = [
+        b"a,b\n1,2\n3,4\n5,6\n",
+        b"a,b\n1,2\n3,4,5\n6",
+        b"a\r\n1\r\n2\r\n3\r\n",
+        b"a\n\n\n\n1\n\n2\n",
+        b"\n\n\n\n\na\n",
+        b"a\r1\r2\r3",
+        b"\xEF\xBB\xBFg\n\xEF\xBB\xBF5\n\xEF\xBB\xBF6\n\xEF\xBB\xBF\n",
+        b"\xEF\xBB\xBF\"g\nh\"\n\xEF\xBB\xBF\"5\n6\"\n",
+        b"\xEF\xBB\n\xEF\xBB\xBF\n",
+        b"a\n\"x\ny\nz\nw\n",
+        b"a\n\"x\ny\",\"z\n\"\"\nw\"\nv\n",
+        b"a\"b\n\"c\"d\ne\"\"f\n\"\"\"\n\"\n",
+        b"\"a\",\"b\"\n\"1\n\",\"\n2\"\n3,4\n",
+        b"v\n\"\r\n\"\r\n\"\n",
+        b"a,\"\n,\",b\n,\"\"\n\"\",\n",
+    ];
+    let half = lines(rt.alloc(), LINES / 2)?;
+    let half = lines(rt.alloc(), LINES / 2)?;
+    for text in texts {
+        let mut long = half.clone()?;
+        long.truncate(half.len() - text.len() / 2);
+        long.extend_from_slice(text)?;
+        long.extend_from_slice(half.as_slice())?;
+        match (
+            rows_in_threads(&rt, rt.alloc(), long.as_slice(), 2),
+            rows(rt.alloc(), long.as_slice()),
+        ) {
+            (Ok(store), Ok(whole)) => assert!(rt; agree(&store, &whole), "{text:?}"),
+            _ => assert!(rt; false, "{text:?}"),
+        }
+    }
+    Ok(())
+}
+
+/// A table that is long enough for four threads.
+#[test]
+fn long_table(rt: HostRuntime) -> Result<(), Fail> {
+    let mut text = Vec::new(rt.alloc());
+    for _row in 0..40_000 {
+        text.extend_from_slice(b"12,\"3\n4\"\n")?;
+    }
+    match rows_in_threads(&rt, rt.alloc(), text.as_slice(), 4) {
+        Ok(store) => {
+            let last = store.count();
+            assert!(rt; last == 39_999 && store.width(last) == 2);
+            let record = store.find(last);
+            assert!(rt; record.width() == 2 && record.field(1) == b"3\n4".as_slice());
+        }
+        Err(why) => assert!(rt; false, "{why:?}"),
+    }
+    Ok(())
+}
+
+/// A longer table of one width, and then one row of another.
+#[test]
+fn even_table(rt: HostRuntime) -> Result<(), Fail> {
+    let mut text = Vec::new(rt.alloc());
+    let mut want = Vec::new(rt.alloc());
+    for _row in 0..300 {
+        text.extend_from_slice(b"12,3\n")?;
+        want.extend_from_slice(b"12|3|/")?;
+    }
+    for (line, record) in [(b"".as_slice(), b"".as_slice()), (b"4\n", b"4|/")] {
+        text.extend_from_slice(line)?;
+        want.extend_from_slice(record)?;
+        match rows(rt.alloc(), text.as_slice()) {
+            Ok(store) => {
+                let found = shown(rt.alloc(), &store)?;
+                assert!(rt; found.as_slice() == want.as_slice());
+            }
+            Err(why) => assert!(rt; false, "{why:?}"),
+        }
+    }
+    Ok(())
+}
+
+/// Fields at the limits of 64 bits and past them, with spaces and signs, and with what is neither.
+#[test]
+fn integers_of_fields(rt: HostRuntime) {
+    let table: [(&[u8], Option<i64>); 20] = [
+        (b" +9223372036854775807 ", Some(i64::MAX)),
+        (b"+9223372036854775808", None),
+        (b"18446744073709551616", None),
+        (b"  -9223372036854775808", Some(i64::MIN)),
+        (b"-9223372036854775809", None),
+        (b"-00000000000000000000000000000000009", Some(-9)),
+        (b"-0", Some(0)),
+        (b"+0 ", Some(0)),
+        (b"   ", None),
+        (b"+", None),
+        (b"-", None),
+        (b"--1", None),
+        (b"+-1", None),
+        (b"- 1", None),
+        (b"1-", None),
+        (b"1\r", None),
+        (b"1\0", None),
+        (b"0x1", None),
+        (b"1,000", None),
+        (b"\xEF\xBC\x91", None),
+    ];
+    for (field, want) in table {
+        assert_eq!(rt; read_integer(field), want, "{field:?}");
+    }
+}
+
+/// A source that gives small pieces, and one that fails.
+#[test]
+fn sources(rt: HostRuntime) -> Result<(), Fail> {
+    for (fail, is_read) in [(0, true), (2, false)] {
+        let bytes = Vec::from_slice(rt.alloc(), b"g,v\na,1\n")?;
+        let fail = vec![in rt.alloc(); fail]?;
+        let mut source = MemSource::new(bytes, 3, fail);
+        match stored_records(rt.alloc(), &mut source) {
+            Some(store) => {
+                assert!(rt; is_read);
+                let text = shown(rt.alloc(), &store)?;
+                assert_eq!(rt; text.as_slice(), b"g|v|/a|1|/".as_slice());
+            }
+            None => assert!(rt; !is_read),
+        }
+    }
+    Ok(())
+}

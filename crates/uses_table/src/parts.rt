@@ -1,0 +1,217 @@
+//! A table of numbers under keys of one word, which two threads fill.
+
+ghost use Rattle.std.specs.Prelude.{◌≡◌, ℕ, ◌+◌, ◌^◌, ◌<◌, ◌≤◌, IfOk};
+ghost use Rattle.lock_book.specs.Shown.{number_of};
+ghost use Rattle.dsa_area.specs.Shown.{AreAll as AreAllOfArea, Belongs as AreaBelongs, IsArea, callers_of as area_callers, number_of as area_number};
+ghost use Rattle.dshash_parts.specs.Tables.{IsTable, Belongs, key_words_of};
+ghost use Rattle.dshash_parts.specs.Ending.{IsOf, left_of};
+
+use dsa_area::{Area, AreaPass, area_words};
+use dshash_core::{CellObject, Entry};
+use dshash_parts::{ClosedTable, DsPass, Dshash};
+use region_words::Region;
+use std::alloc::{AllocError, Global};
+use std::sync::Wait;
+
+mod two;
+
+/// A number under a key.
+pub struct Number;
+
+#[derive(Clone, Copy)]
+pub enum NumberCall {
+    Put(u64),
+    Get,
+    Delete,
+}
+
+impl CellObject for Number {
+    ghost use Rattle.std.specs.Prelude.{ℕ, ◌<◌, ◌^◌, [], ◌∷◌, Option, Some, None, slice_index, refl};
+    ghost use Rattle.uses_table.specs.declared.parts.NumberCall.TheVariants.{Put, Get, Delete};
+
+    const VALUE_WORDS: usize = 1;
+
+    type State = u64;
+
+    type Call = NumberCall;
+
+    type Reply = Option<u64>;
+
+    ghost VALUE_WORDS = { 1 };
+
+    ghost stepped = { λ s call. (elim call as (λ _. Option ℕ) [ Put n ↦ Some n | Get ↦ s | Delete ↦ None ], s) };
+
+    ghost is_value = { λ s. s < 2 ^ 64 };
+
+    ghost encoded = { λ s. s ∷ [] };
+
+    ghost decoded = { λ words. slice_index words 0 };
+
+    ghost reads_back = { λ s h. refl };
+
+    fn step(state: Option<&u64>, call: &NumberCall) -> (Option<u64>, Option<u64>) {
+        let next = match call {
+            NumberCall::Put(n) => Some(*n),
+            NumberCall::Get => state.copied(),
+            NumberCall::Delete => None,
+        };
+        (next, state.copied())
+    }
+
+    fn encode(state: &u64, out: &mut [u64]) {
+        out[0] = *state;
+    }
+
+    fn decode(words: &[u64]) -> u64 {
+        words[0]
+    }
+}
+
+/// A region with an area of so many pages behind its first word, and a pass for each caller.
+#[tactic(auto, using(word_map::proofs::Maps::answers, std::proofs::lemmas::Bool::Decides::nat_tests))]
+fn area_for(
+    alloc: Global,
+    pages: u32,
+    callers: u32,
+) -> Result<(Region, Area, Vec<AreaPass>), AllocError>
+    requires few { pages ≤ 65536 }
+    requires callers { 1 ≤ callers }
+    ensures area { IfOk result (λ a. IsArea a.0 a.1) }
+    ensures callers { IfOk result (λ a. area_callers a.1 ≡ callers) }
+    ensures passes { IfOk result (λ a. AreAllOfArea a.1 a.2.items) }
+{
+    let words = area_words(pages);
+    let (region, mut part) = Region::new(alloc, words as usize + 1)?;
+    let chunk = part.split_chunk(&region, 1, words);
+    let (area, passes) = Area::new(alloc, &region, chunk, pages, callers)?;
+    Ok((region, area, passes))
+}
+
+/// What is done with a key. A key's number is the key itself.
+#[derive(Clone, Copy)]
+enum Work {
+    Put,
+    Get,
+}
+
+/// Does so with a key. Says whether the answer is that of a key that was not there, for `Put`, and for `Get`
+/// that of one that was.
+fn does<R: Wait>(
+    rt: &R,
+    table: &Dshash<Number>,
+    r: &Region,
+    area: &Area,
+    pass: &mut DsPass<Number>,
+    apass: &mut AreaPass,
+    key: u64,
+    work: Work,
+) -> bool
+    requires table { IsTable r.now table.now }
+    requires keys { key_words_of table.now ≡ 1 }
+    requires own { Belongs table.now pass.old }
+    requires area { IsArea r.now area.now }
+    requires area_own { AreaBelongs area.now apass.old }
+    ensures own { Belongs table.now pass.new }
+    ensures caller { number_of pass.new ≡ number_of pass.old }
+    ensures area_own { AreaBelongs area.now apass.new }
+    ensures area_caller { area_number apass.new ≡ area_number apass.old }
+{
+    let (call, before) = match work {
+        Work::Put => (NumberCall::Put(key), None),
+        Work::Get => (NumberCall::Get, Some(key)),
+    };
+    match table.call(rt, r, area, pass, apass, &[key], &call) {
+        Ok(reply) => reply == before,
+        Err(_) => false,
+    }
+}
+
+/// The same with so many keys from one on. Says how often the answer was such.
+fn does_all<R: Wait>(
+    rt: &R,
+    table: &Dshash<Number>,
+    r: &Region,
+    area: &Area,
+    pass: &mut DsPass<Number>,
+    apass: &mut AreaPass,
+    from: u64,
+    count: u64,
+    work: Work,
+) -> u64
+    requires table { IsTable r.now table.now }
+    requires keys { key_words_of table.now ≡ 1 }
+    requires own { Belongs table.now pass.old }
+    requires area { IsArea r.now area.now }
+    requires area_own { AreaBelongs area.now apass.old }
+    requires few { from + count < 2 ^ 64 }
+    ensures own { Belongs table.now pass.new }
+    ensures caller { number_of pass.new ≡ number_of pass.old }
+    ensures area_own { AreaBelongs area.now apass.new }
+    ensures area_caller { area_number apass.new ≡ area_number apass.old }
+{
+    let mut good = 0u64;
+    for i in 0..count {
+        if does(rt, table, r, area, pass, apass, from + i, work) {
+            good = good.saturating_add(1);
+        }
+    }
+    good
+}
+
+/// Puts so many keys from one on and gets them. Says how often each of the two went as it has to.
+fn put_and_get<R: Wait>(
+    rt: &R,
+    table: &Dshash<Number>,
+    r: &Region,
+    area: &Area,
+    pass: &mut DsPass<Number>,
+    apass: &mut AreaPass,
+    from: u64,
+    count: u64,
+) -> (u64, u64)
+    requires table { IsTable r.now table.now }
+    requires keys { key_words_of table.now ≡ 1 }
+    requires own { Belongs table.now pass.old }
+    requires area { IsArea r.now area.now }
+    requires area_own { AreaBelongs area.now apass.old }
+    requires few { from + count < 2 ^ 64 }
+    ensures own { Belongs table.now pass.new }
+    ensures caller { number_of pass.new ≡ number_of pass.old }
+    ensures area_own { AreaBelongs area.now apass.new }
+    ensures area_caller { area_number apass.new ≡ area_number apass.old }
+{
+    let put = does_all(rt, table, r, area, pass, apass, from, count, Work::Put);
+    let got = does_all(rt, table, r, area, pass, apass, from, count, Work::Get);
+    (put, got)
+}
+
+/// How many of these entries have the key as their number.
+fn right_of(entries: Vec<Entry<Number>>) -> u64 {
+    let mut right = 0u64;
+    for entry in entries {
+        if entry.key.words().first() == Some(&entry.state) {
+            right = right.saturating_add(1);
+        }
+    }
+    right
+}
+
+/// The keys and numbers of a closed table's partitions: how many there are, how many of them are right, and the largest
+/// size.
+fn rest_of(
+    alloc: Global,
+    r: &Region,
+    mut closed: ClosedTable<Number>,
+) -> Result<(u64, u64, u32), AllocError>
+    requires parts { (t : _) × IsOf r.now t closed }
+{
+    let mut keys = 0u64;
+    let mut right = 0u64;
+    let mut largest = 0;
+    while let Some(mut partition) = closed.take_last() {
+        largest = largest.max(partition.size());
+        keys = partition.count().saturating_add(keys);
+        right = right_of(partition.list(alloc, r)?).saturating_add(right);
+    }
+    Ok((keys, right, largest))
+}

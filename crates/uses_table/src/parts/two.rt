@@ -1,0 +1,167 @@
+//! Two threads put and get keys of their own, while the table doubles under them; then it is closed, and all keys are
+//! in its partitions.
+
+ghost use Rattle.std.specs.Prelude.{◌≡◌, ℕ, ◌+◌, ◌^◌, ◌<◌, ◌≤◌, IfOk};
+ghost use Rattle.lock_book.specs.Shown.{number_of};
+ghost use Rattle.dsa_area.specs.Shown.{Belongs as AreaBelongs, IsArea};
+ghost use Rattle.dshash_parts.specs.Tables.{IsTable, Belongs, callers_of, key_words_of};
+ghost use Rattle.dshash_parts.specs.Ending.{IsOf};
+
+use super::{Number, area_for, put_and_get, rest_of};
+use dsa_area::{Area, AreaPass};
+use dshash_parts::{ClosedTable, DsPass, Dshash};
+use region_words::Region;
+use std::alloc::{AllocError, Global};
+use std::sync::Wait;
+use std::test::Fail;
+use std::thread::{Threads, join};
+
+/// A caller's two passes.
+#[derive(Drop)]
+struct Passes {
+    table: DsPass<Number>,
+    area: AreaPass,
+}
+
+/// A table of keys of one word for two callers, in an area of its own, and the passes of the two.
+fn table_for_two<R: Wait>(
+    rt: &R,
+    alloc: Global,
+    pages: u32,
+) -> Result<(Region, Area, Dshash<Number>, Passes, Passes), Fail>
+    requires few { pages ≤ 65536 }
+    ensures area { IfOk result (λ a. IsArea a.0 a.1) }
+    ensures area_own { IfOk result (λ a. AreaBelongs a.1 a.3.area × AreaBelongs a.1 a.4.area) }
+    ensures table { IfOk result (λ a. IsTable a.0 a.2) }
+    ensures keys { IfOk result (λ a. key_words_of a.2 ≡ 1) }
+    ensures callers { IfOk result (λ a. callers_of a.2 ≡ 2) }
+    ensures zero { IfOk result (λ a. Belongs a.2 a.3.table × (number_of a.3.table ≡ 0)) }
+    ensures one { IfOk result (λ a. Belongs a.2 a.4.table × (number_of a.4.table ≡ 1)) }
+{
+    let (region, area, mut apasses) = area_for(alloc, pages, 2)?;
+    let Some(mut area_one) = apasses.pop() else {
+        unreachable!()
+    };
+    let Some(area_zero) = apasses.pop() else {
+        unreachable!()
+    };
+    let Ok((table, mut passes)) = Dshash::new(rt, alloc, &region, &area, &mut area_one, 1, 2) else {
+        return Err(Fail::new("no table"));
+    };
+    let Some(one) = passes.pop() else {
+        unreachable!()
+    };
+    let Some(zero) = passes.pop() else {
+        unreachable!()
+    };
+    let zero = Passes {
+        table: zero,
+        area: area_zero,
+    };
+    let one = Passes {
+        table: one,
+        area: area_one,
+    };
+    Ok((region, area, table, zero, one))
+}
+
+/// A caller puts so many keys from one on and gets them. Says how often each of the two went as it has to.
+fn caller<R: Wait>(
+    rt: &R,
+    table: &Dshash<Number>,
+    r: &Region,
+    area: &Area,
+    mut passes: Passes,
+    from: u64,
+    count: u64,
+) -> (DsPass<Number>, (u64, u64))
+    requires table { IsTable r.now table.now }
+    requires keys { key_words_of table.now ≡ 1 }
+    requires own { Belongs table.now passes.table }
+    requires area { IsArea r.now area.now }
+    requires area_own { AreaBelongs area.now passes.area }
+    requires few { from + count < 2 ^ 64 }
+    ensures own { Belongs table.now result.0 }
+    ensures caller { number_of result.0 ≡ number_of passes.table }
+{
+    let Passes {
+        table: mut pass,
+        area: mut apass,
+    } = passes;
+    let good = put_and_get(rt, table, r, area, &mut pass, &mut apass, from, count);
+    (pass, good)
+}
+
+/// Two threads do so, each with keys of its own, and tell each other what they have seen.
+fn two_callers<R: Threads + Wait + Sync>(
+    rt: &R,
+    table: &Dshash<Number>,
+    r: &Region,
+    area: &Area,
+    zero: Passes,
+    one: Passes,
+    count: u64,
+) -> (DsPass<Number>, DsPass<Number>, (u64, u64), (u64, u64))
+    requires table { IsTable r.now table.now }
+    requires keys { key_words_of table.now ≡ 1 }
+    requires own { Belongs table.now zero.table × Belongs table.now one.table }
+    requires area { IsArea r.now area.now }
+    requires area_own { AreaBelongs area.now zero.area × AreaBelongs area.now one.area }
+    requires few { count ≤ 1000000 }
+    ensures own { Belongs table.now result.0 × Belongs table.now result.1 }
+    ensures callers { (number_of result.0 ≡ number_of zero.table) × (number_of result.1 ≡ number_of one.table) }
+{
+    let ((mut zero, good), (mut one, also)) = join(
+        rt,
+        || caller(rt, table, r, area, zero, 0, count),
+        || caller(rt, table, r, area, one, 1_000_000, count),
+    );
+    table.meet(&mut zero, &mut one);
+    (zero, one, good, also)
+}
+
+/// Ends a table of two callers.
+fn close_two(
+    alloc: Global,
+    region: &Region,
+    table: Dshash<Number>,
+    zero: DsPass<Number>,
+    one: DsPass<Number>,
+) -> Result<ClosedTable<Number>, AllocError>
+    requires table { IsTable region.now table }
+    requires callers { callers_of table ≡ 2 }
+    requires zero { Belongs table zero × (number_of zero ≡ 0) }
+    requires one { Belongs table one × (number_of one ≡ 1) }
+    ensures { IfOk result (IsOf region.now table) }
+{
+    let _ = region;
+    let mut passes = Vec::new(alloc);
+    passes.push(zero)?;
+    passes.push(one)?;
+    Ok(table.close(passes))
+}
+
+/// Two threads put and get so many keys each. Says what is in the closed table: how many keys, how many of them with
+/// their number, and the largest size of a partition.
+fn two_threads<R: Threads + Wait + Sync>(
+    rt: &R,
+    alloc: Global,
+    count: u64,
+) -> Result<((u64, u64), (u64, u64), (u64, u64, u32)), Fail>
+    requires few { count ≤ 1000000 }
+{
+    let (region, area, table, zero, one) = table_for_two(rt, alloc, 512)?;
+    let (zero, one, good, also) = two_callers(rt, &table, &region, &area, zero, one, count);
+    let closed = close_two(alloc, &region, table, zero, one)?;
+    let rest = rest_of(alloc, &region, closed)?;
+    Ok((good, also, rest))
+}
+
+#[test]
+fn two_threads_while_the_table_doubles(rt: HostRuntime) -> Result<(), Fail> {
+    let (good, also, (keys, right, largest)) = two_threads(&rt, rt.alloc(), 500)?;
+    assert_eq!(rt; (good, also), ((500, 500), (500, 500)));
+    assert_eq!(rt; (keys, right), (1000, 1000));
+    assert!(rt; largest > 7);
+    Ok(())
+}

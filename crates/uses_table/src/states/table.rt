@@ -1,0 +1,153 @@
+//! A table of groups: what is called under a key twice stands there once, combined.
+
+ghost use Rattle.std.specs.Prelude.{◌≡◌, ◌≤◌, ◌++◌, ◌∷◌, [], ℕ, List, IfOk, OnOk, length};
+ghost use Rattle.lock_book.specs.Shown.{seen_of};
+ghost use Rattle.dsa_area.specs.Shown.{AreAll as AreAllOfArea, Belongs as AreaBelongs, IsArea, callers_of as area_callers};
+ghost use Rattle.dshash_parts.specs.Tables.{Belongs, IsTable, key_words_of};
+ghost use Rattle.par_model.specs.declared.state.AggState.{AggState};
+ghost use Rattle.agg_cell.specs.Called.{all_combined, called_in, stands};
+
+use super::{one_row, two_rows};
+use agg_cell::AggObject;
+use dsa_area::{Area, AreaPass, NoSpace, area_words};
+use dshash_core::Entry;
+use dshash_parts::{DsPass, Dshash};
+use par_model::AggState;
+use region_words::Region;
+use std::alloc::{AllocError, Global};
+use std::sync::Wait;
+use std::test::Fail;
+
+/// A region with an area of so many pages, and the pass of its one caller.
+#[tactic(auto, using(word_map::proofs::Maps::answers, std::proofs::lemmas::Bool::Decides::nat_tests))]
+fn area_for_one(alloc: Global, pages: u32) -> Result<(Region, Area, Vec<AreaPass>), AllocError>
+    requires few { pages ≤ 65536 }
+    ensures area { IfOk result (λ a. IsArea a.0 a.1) }
+    ensures callers { IfOk result (λ a. area_callers a.1 ≡ 1) }
+    ensures passes { IfOk result (λ a. AreAllOfArea a.1 a.2.items) }
+{
+    let words = area_words(pages);
+    let (region, mut part) = Region::new(alloc, words as usize + 1)?;
+    let chunk = part.split_chunk(&region, 1, words);
+    let (area, passes) = Area::new(alloc, &region, chunk, pages, 1)?;
+    Ok((region, area, passes))
+}
+
+/// A table of groups under keys of one word for one caller, in an area of its own, and the caller's two passes.
+fn table_for_one<R: Wait>(
+    rt: &R,
+    alloc: Global,
+    pages: u32,
+) -> Result<(Region, Area, Dshash<AggObject>, AreaPass, DsPass<AggObject>), Fail>
+    requires few { pages ≤ 65536 }
+    ensures area { IfOk result (λ a. IsArea a.0 a.1) }
+    ensures area_own { IfOk result (λ a. AreaBelongs a.1 a.3) }
+    ensures table { IfOk result (λ a. IsTable a.0 a.2) }
+    ensures keys { IfOk result (λ a. key_words_of a.2 ≡ 1) }
+    ensures own { IfOk result (λ a. Belongs a.2 a.4) }
+{
+    let (region, area, mut apasses) = area_for_one(alloc, pages)?;
+    let Some(mut apass) = apasses.pop() else {
+        unreachable!()
+    };
+    let Ok((table, mut passes)) = Dshash::new(rt, alloc, &region, &area, &mut apass, 1, 1) else {
+        return Err(Fail::new("no table"));
+    };
+    let Some(pass) = passes.pop() else {
+        unreachable!()
+    };
+    Ok((region, area, table, apass, pass))
+}
+
+/// Calls a key with a state. What stands under each key then, as far as the pass has seen, is all that it was called
+/// with; of a call that had room, this state is the last.
+fn add<R: Wait>(
+    rt: &R,
+    table: &Dshash<AggObject>,
+    r: &Region,
+    area: &Area,
+    pass: &mut DsPass<AggObject>,
+    apass: &mut AreaPass,
+    key: &[u64],
+    state: &AggState,
+) -> Result<(), NoSpace>
+    requires table { IsTable r.now table.now }
+    requires key { length key.now ≡ key_words_of table.now }
+    requires own { Belongs table.now pass.old }
+    requires area { IsArea r.now area.now }
+    requires area_own { AreaBelongs area.now apass.old }
+    ensures own { Belongs table.now pass.new }
+    ensures area_own { AreaBelongs area.now apass.new }
+    ensures all { (k : List ℕ) → stands (seen_of pass.new) k ≡ all_combined (called_in (seen_of pass.new) k) }
+    ensures last { OnOk result ((before : List AggState) × (called_in (seen_of pass.new) key.now ≡ before ++ state.now ∷ [])) }
+{
+    table.call(rt, r, area, pass, apass, key, state)
+}
+
+/// Calls the keys from 0 on, so many of them, with a state. Says how many calls had room.
+fn call_all<R: Wait>(
+    rt: &R,
+    table: &Dshash<AggObject>,
+    r: &Region,
+    area: &Area,
+    pass: &mut DsPass<AggObject>,
+    apass: &mut AreaPass,
+    keys: u64,
+    state: &AggState,
+) -> u64
+    requires table { IsTable r.now table.now }
+    requires keys { key_words_of table.now ≡ 1 }
+    requires own { Belongs table.now pass.old }
+    requires area { IsArea r.now area.now }
+    requires area_own { AreaBelongs area.now apass.old }
+    ensures own { Belongs table.now pass.new }
+    ensures area_own { AreaBelongs area.now apass.new }
+    ensures few { result ≤ keys }
+{
+    let mut made = 0;
+    for key in 0..keys {
+        if add(rt, table, r, area, pass, apass, &[key], state).is_ok() {
+            made += 1;
+        }
+    }
+    made
+}
+
+fn with_state(entries: &[Entry<AggObject>], state: &AggState) -> usize {
+    entries.iter().filter(|entry| entry.state == *state).count()
+}
+
+/// How many keys of the table have this state.
+fn listed<R: Wait>(
+    rt: &R,
+    alloc: Global,
+    table: &Dshash<AggObject>,
+    r: &Region,
+    pass: &mut DsPass<AggObject>,
+    state: &AggState,
+) -> Result<usize, AllocError>
+    requires table { IsTable r.now table.now }
+    requires own { Belongs table.now pass.old }
+    ensures own { Belongs table.now pass.new }
+{
+    let mut keys = 0usize;
+    for number in 0..128 {
+        let entries = table.list_one(rt, alloc, r, pass, number)?;
+        keys = keys.saturating_add(with_state(entries.as_slice(), state));
+    }
+    Ok(keys)
+}
+
+#[test]
+fn a_table_adds_up_what_is_called(rt: HostRuntime) -> Result<(), Fail> {
+    let (region, area, table, mut apass, mut pass) = table_for_one(&rt, rt.alloc(), 64)?;
+    let (one, two) = (one_row(), two_rows());
+    let first = call_all(&rt, &table, &region, &area, &mut pass, &mut apass, 60, &one);
+    let second = call_all(&rt, &table, &region, &area, &mut pass, &mut apass, 40, &two);
+    let mut both = one;
+    partial_agg::combine(&mut both, &two);
+    let added = listed(&rt, rt.alloc(), &table, &region, &mut pass, &both)?;
+    let alone = listed(&rt, rt.alloc(), &table, &region, &mut pass, &one)?;
+    assert_eq!(rt; (first, second, added, alone), (60, 40, 40, 20));
+    Ok(())
+}
