@@ -1,4 +1,5 @@
 pub mod Cuts
+pub mod Masks
 pub mod Pieces
 pub mod Places
 pub mod Plain

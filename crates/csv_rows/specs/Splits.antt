@@ -35,10 +35,10 @@ pub record IsWhole (text ends rows : List ℕ) : Type 0 where
   pub rising : Rising 0 rows (length ends)
   pub law : stored_apart 1 text ends rows ≡ plain_records text
 
--- of the 32 bytes from a place on, those that end fields, from the start of the field at hand on, are the bits of the mask,
+-- of the 64 bytes from a place on, those that end fields, from the start of the field at hand on, are the bits of the mask,
 -- and before these bytes that field does not end
 pub record Marked (text : List ℕ) (at from mask : ℕ) : Type 0 where
-  pub each : (k : ℕ) → k < 32 → from ≤ at + k → is_separator (slice_index text (at + k)) ≡ true → bit_at mask k ≡ 1
-  pub only : (k : ℕ) → bit_at mask k ≡ 1 → (k < 32) × (from ≤ at + k) × (is_separator (slice_index text (at + k)) ≡ true)
+  pub each : (k : ℕ) → k < 64 → from ≤ at + k → is_separator (slice_index text (at + k)) ≡ true → bit_at mask k ≡ 1
+  pub only : (k : ℕ) → bit_at mask k ≡ 1 → (k < 64) × (from ≤ at + k) × (is_separator (slice_index text (at + k)) ≡ true)
   pub before : NoSeparator text from at
-  pub low : from ≤ at + 32
+  pub low : from ≤ at + 64

@@ -24,9 +24,9 @@ pub enum RowsAnswer {
 /// The fewest bytes for which one more thread pays.
 const LEAST_BYTES: usize = 65_536;
 
-/// The records of bytes. The time is linear in the bytes. The memory is the bytes of the fields,
-/// four bytes for each field, and four for each record from the first one on whose width is not
-/// the header's, each at most twice over.
+/// The records of bytes. The time is linear in the bytes, and least where there is no quote among
+/// them. The memory is the bytes of the fields, at most five more for each field, and four for each
+/// record from the first one on whose width is not the header's, each at most twice over.
 pub fn rows(alloc: Global, bytes: &[u8]) -> Result<RowStore, RowsAnswer>
     ensures records { IfOk result (λ store. store ≡ records_of bytes.now) }
 

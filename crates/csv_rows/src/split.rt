@@ -44,7 +44,7 @@ pub(crate) fn split(
     Ok(true)
 }
 
-/// Goes past the next 32 bytes, unless one of them ends an empty line.
+/// Goes past the next 64 bytes, unless one of them ends an empty line.
 fn push_block(
     text: &[u8],
     ends: &mut Vec<u32>,
@@ -58,8 +58,8 @@ fn push_block(
     requires before { NoSeparator text.now start.from at }
     requires within { at ≤ length text.now }
     ensures scan { IfOk result (λ next. IfSome next (λ c. IsAt text.now ends.new.items row_ends.new c.from c.first)) }
-    ensures low { IfOk result (λ next. IfSome next (λ c. c.from ≤ at + 32)) }
-    ensures before { IfOk result (λ next. IfSome next (λ c. NoSeparator text.now c.from (at + 32))) }
+    ensures low { IfOk result (λ next. IfSome next (λ c. c.from ≤ at + 64)) }
+    ensures before { IfOk result (λ next. IfSome next (λ c. NoSeparator text.now c.from (at + 64))) }
 {
     let mut cursor = start;
     let mut mask = separators(text, at);
