@@ -8,5 +8,5 @@ mod cache;
 mod tests;
 mod text;
 
-pub use cache::{forget, recall, remember};
+pub use cache::{forget, keep, own_name, recall, remember};
 pub use text::{Text, TextCall};
