@@ -9,7 +9,7 @@ ghost use Rattle.dshash_parts.specs.Tables.{IsTable, Belongs, key_words_of};
 use crate::{Text, forget, keep, own_name, recall};
 use dsa_area::{Area, AreaPass, area_words};
 use dshash_parts::{DsPass, Dshash};
-use dshash_scan::list_all;
+use dshash_scan::{count_all, list_all};
 use region_words::Region;
 use std::alloc::{AllocError, Global};
 use std::sync::Wait;
@@ -159,6 +159,7 @@ fn two_threads_share_a_cache(rt: HostRuntime) -> Result<(), Fail> {
     } = passes;
     let entries = list_all(&rt, rt.alloc(), &cache, &region, &mut pass)?;
     assert_eq!(rt; entries.len(), 400);
+    assert_eq!(rt; count_all(&rt, &cache, &region, &mut pass), 400);
     let name = own_name(pass.number(), 7);
     let gone = forget(&rt, &cache, &region, &area, &mut pass, &mut apass, &name);
     assert!(rt; gone == Text::of(b"a text"));
