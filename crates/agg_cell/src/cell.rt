@@ -47,6 +47,10 @@ impl CellObject for AggObject {
         (Some(next), ())
     }
 
+    fn reads(_call: &AggState) -> bool {
+        false
+    }
+
     fn encode(state: &AggState, out: &mut [u64]) {
         write_state(state, out);
     }

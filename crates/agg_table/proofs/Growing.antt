@@ -103,11 +103,11 @@ module _ (a : Area) (p q : AreaPass) where
   pub requested_grew : (r : Request) → Requested a p q r → AreaGrew p q
   requested_grew (Got bytes) x = granted_grew bytes x.0 x.1
   requested_grew (Missed bytes wanted largest) x = refused_grew bytes wanted largest x
-  requested_grew Gave x = by x.2
+  requested_grew (Gave bytes) x = by x.1
     where
-      by : IsTakenBack a p q x.0 x.1 ⊎ IsHandedBack a p q x.0 x.1 → AreaGrew p q
-      by (inl y) = taken_grew x.0 x.1 y
-      by (inr y) = handed_grew x.0 x.1 y
+      by : IsTakenBack a p q x.0 bytes ⊎ IsHandedBack a p q x.0 bytes → AreaGrew p q
+      by (inl y) = taken_grew x.0 bytes y
+      by (inr y) = handed_grew x.0 bytes y
 
 -- what a pass of the table shows, before and after
 pub record SightGrew {S C R : Type 0} (v w : Sight S C R) : Type 0 where

@@ -148,17 +148,17 @@ module _ (step : Option AggState → AggState → Option AggState × Unit {0}) (
   one_lacks v w (Turn number call reply) h = let e = ap (λ (p : AreaPass). lacks (pages_mine p)) h.1 in omega (arith, e)
   one_lacks v w (Asked (Got bytes)) h = let e = granted_lacks v.area w.area bytes h.0.0 h.0.1 in omega (arith, e)
   one_lacks v w (Asked (Missed bytes wanted largest)) h = let e = refused_lacks v.area w.area bytes wanted largest h.0 in omega (arith, e)
-  one_lacks v w (Asked Gave) h = by h.0.2
+  one_lacks v w (Asked (Gave bytes)) h = by h.0.1
     where
-      by : IsTakenBack a v.area w.area h.0.0 h.0.1 ⊎ IsHandedBack a v.area w.area h.0.0 h.0.1 → lacks (pages_mine v.area) + 0 ≤ lacks (pages_mine w.area)
-      by (inl x) = let e = taken_lacks v.area w.area h.0.0 h.0.1 x in omega (arith, e)
-      by (inr x) = let e = handed_lacks v.area w.area h.0.0 h.0.1 x in omega (arith, e)
+      by : IsTakenBack a v.area w.area h.0.0 bytes ⊎ IsHandedBack a v.area w.area h.0.0 bytes → lacks (pages_mine v.area) + 0 ≤ lacks (pages_mine w.area)
+      by (inl x) = let e = taken_lacks v.area w.area h.0.0 bytes x in omega (arith, e)
+      by (inr x) = let e = handed_lacks v.area w.area h.0.0 bytes x in omega (arith, e)
 
   misses_front : (e : Event AggState AggState (Unit {0})) (es : List (Event AggState AggState (Unit {0}))) → misses (e ∷ es) ≡ misses (e ∷ []) + misses es
   misses_front (Turn number call reply) es = omega arith
   misses_front (Asked (Got bytes)) es = omega arith
   misses_front (Asked (Missed bytes wanted largest)) es = omega arith
-  misses_front (Asked Gave) es = omega arith
+  misses_front (Asked (Gave bytes)) es = omega arith
 
   pub all_lacks : (v w : Sight AggState AggState (Unit {0})) (es : List (Event AggState AggState (Unit {0}))) → Trace step a n v w es → lacks (pages_mine v.area) + misses es ≤ lacks (pages_mine w.area)
   all_lacks v w [] t = let e = ap (λ (s : Sight AggState AggState (Unit {0})). lacks (pages_mine s.area)) t in omega (arith, e)
@@ -171,7 +171,7 @@ misses_among bytes wanted largest [] after = omega arith
 misses_among bytes wanted largest (Turn number call reply ∷ es) after = misses_among bytes wanted largest es after
 misses_among bytes wanted largest (Asked (Got b) ∷ es) after = misses_among bytes wanted largest es after
 misses_among bytes wanted largest (Asked (Missed b w l) ∷ es) after = omega arith
-misses_among bytes wanted largest (Asked Gave ∷ es) after = misses_among bytes wanted largest es after
+misses_among bytes wanted largest (Asked (Gave given) ∷ es) after = misses_among bytes wanted largest es after
 
 -- a turn by which no call was made adds none
 skip : (k number : ℕ) (call : AggCall) (reply : AggReply) (es : List (Event AggState AggState (Unit {0}))) → done_of call reply ≡ [] → done_by (turns_at k es) ≡ [] → done_by (turns_at k (Turn number call reply ∷ es)) ≡ []
@@ -186,8 +186,8 @@ not_made : (call : AggCall) (reply : AggReply) → ((before : Unit {0}) (unused 
 not_made (Call key row spare) (Made before unused freed) h = absurd (h before unused freed refl)
 not_made (Call key row spare) LacksItem h = refl
 not_made (Call key row spare) (HasToGrow size back) h = refl
-not_made (Call key row spare) (HasSize size) h = refl
-not_made (Call key row spare) Moved h = refl
+not_made (Call key row spare) (HasSize size keys) h = refl
+not_made (Call key row spare) (Moved left) h = refl
 not_made (Call key row spare) (Listed entries) h = refl
 not_made Looks reply h = refl
 not_made (Moves to) reply h = refl
@@ -200,13 +200,13 @@ none_done k (Asked request ∷ es) h = none_done k es h
 none_done k (Turn number call (Made reply unused freed) ∷ es) h = absurd h
 none_done k (Turn number call LacksItem ∷ es) h = skip k number call LacksItem es (not_made call LacksItem (λ b u f e. absurd (cc))) (none_done k es h)
 none_done k (Turn number call (HasToGrow size back) ∷ es) h = skip k number call (HasToGrow size back) es (not_made call (HasToGrow size back) (λ b u f e. absurd (cc))) (none_done k es h)
-none_done k (Turn number call (HasSize size) ∷ es) h = skip k number call (HasSize size) es (not_made call (HasSize size) (λ b u f e. absurd (cc))) (none_done k es h)
-none_done k (Turn number call Moved ∷ es) h = skip k number call Moved es (not_made call Moved (λ b u f e. absurd (cc))) (none_done k es h)
+none_done k (Turn number call (HasSize size keys) ∷ es) h = skip k number call (HasSize size keys) es (not_made call (HasSize size keys) (λ b u f e. absurd (cc))) (none_done k es h)
+none_done k (Turn number call (Moved left) ∷ es) h = skip k number call (Moved left) es (not_made call (Moved left) (λ b u f e. absurd (cc))) (none_done k es h)
 none_done k (Turn number call (Listed entries) ∷ es) h = skip k number call (Listed entries) es (not_made call (Listed entries) (λ b u f e. absurd (cc))) (none_done k es h)
 
 gifts_done : (k : ℕ) (es : List (Event AggState AggState (Unit {0}))) → AreGifts es → turns_at k es ≡ []
 gifts_done k [] h = refl
-gifts_done k (Asked Gave ∷ es) h = gifts_done k es h
+gifts_done k (Asked (Gave given) ∷ es) h = gifts_done k es h
 gifts_done k (Asked (Got bytes) ∷ es) h = absurd h
 gifts_done k (Asked (Missed bytes wanted largest) ∷ es) h = absurd h
 gifts_done k (Turn number call reply ∷ es) h = absurd h

@@ -124,6 +124,14 @@ remove_missing {S} m k none = fin.same_map nat_list_cmp_total key_antisymmetric 
     (λ (n : q ≢ k). ap (λ (b : Bool). cond b None (fin.get m q)) (other_key q k n))
     (keys_same_or_not q k))
 
+-- to put in the state that stands there changes nothing
+pub insert_same : {S : Type 0} (m : KeyMap S) (k : List ℕ) (v : S) → fin.get m k ≡ Some v → fin.insert m k v ≡ m
+insert_same {S} m k v there = fin.same_map nat_list_cmp_total key_antisymmetric (fin.insert m k v) m (λ q.
+    fin.get-insert nat_list_cmp_total m k v q ∙ ⊎_elim
+    (λ (e : q ≡ k). ap (λ (b : Bool). cond b (Some v) (fin.get m q)) (same_key q k e) ∙ sym (ap (fin.get m) e ∙ there))
+    (λ (n : q ≢ k). ap (λ (b : Bool). cond b (Some v) (fin.get m q)) (other_key q k n))
+    (keys_same_or_not q k))
+
 -- keyed items stay keyed
 pub keyed_pushed : (it : Item) (xs ys : List Item) → AreKeyed (xs ++ ys) → ((x : Item) → Among x (xs ++ ys) → x.key ≢ it.key) → AreKeyed (xs ++ it ∷ ys)
 keyed_pushed it [] ys k fresh = (fresh, k)

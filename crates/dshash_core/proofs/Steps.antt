@@ -3,7 +3,7 @@ use Rattle.std.proofs.Common.{◌≡◌, ◌≢◌, ℕ, ◌+◌, ◌-◌, ◌/�
 use Rattle.std.specs.FinMap as fin
 use Rattle.std.proofs.lemmas.Nat.{mod_below, pow_pos}
 use Rattle.std.proofs.lemmas.Bool.Decides.{nat_tests}
-use Rattle.dshash_core.proofs.Maps.{remove_missing}
+use Rattle.dshash_core.proofs.Maps.{insert_same, remove_missing}
 use Rattle.dshash_core.specs.Key.{hash_of}
 use Rattle.dshash_core.specs.Chains.{Among, Item}
 use Rattle.dshash_core.specs.Hung.{Hung, chain_of, with_chain, HasNoItem, HasItem}
@@ -92,6 +92,17 @@ module _ {S C R : Type 0} (step : Option S → C → Option S × R) (decoded : L
               true
               (sym (ap (λ (g : Option S). is_some g && is_none next) found ∙ ap (λ (o : Option S). is_none o) e));
         }
+
+    -- it leaves the state that stands there: nothing has changed
+    pub left_alone : (state : S) → next ≡ Some state → next ≡ Some (decoded item.0.value) → IsCalled step decoded size count value_words h h key call spare reply spare false
+    left_alone state e same = record {
+      same = refl;
+      cells = k;
+      done = done before
+          (sym (ap (λ (o : Option S). changed before key o) same ∙ insert_same before key (decoded item.0.value) found))
+          false
+          (sym (ap (λ (g : Option S). is_some g && is_none next) found ∙ ap (λ (o : Option S). is_none o) e));
+    }
 
   -- what it makes of a key that is not
   module _ (own : i ≡ bucket_of size (hash_of key)) (none : HasNoItem h i key) (next : Option S) (reply : R) (is : (next, reply) ≡ step None call) where

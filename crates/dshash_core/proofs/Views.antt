@@ -152,6 +152,10 @@ module _ (b : Inside) (h : Stands b) where
     p.here,
   )
 
+  -- the slice has a word for each bucket
+  pub buckets_room : length value.chains ≤ value.words
+  buckets_room = omega (arith, len_is, h.room)
+
   -- all items together are at most as many as there are words
   pub are_few : length (all_items value.chains) ≤ 67108864
   are_few =

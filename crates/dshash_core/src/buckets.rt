@@ -95,9 +95,10 @@ impl Buckets {
         self.item_bytes
     }
 
-    /// Tells that an item has room for its key and its value, and that the items are at most as many as a region has
-    /// words. It does nothing.
+    /// Tells that an item has room for its key and its value, that the slice has a word for each bucket, and that the
+    /// items are at most as many as a region has words. It does nothing.
     pub(crate) fn is_sound(&self)
+        ensures room { length self.now.chains ≤ self.now.words }
         ensures fits { 2 + self.now.layout.key_words + self.now.layout.value_words ≤ self.now.layout.item_bytes / 8 }
         ensures few { length (all_items self.now.chains) ≤ 2 ^ 26 }
     {

@@ -15,7 +15,8 @@ use crate::sizes::{bucket_of_hash, is_full_at};
 use crate::words::{Spot, fill};
 use region_words::{Chunk, Region};
 
-/// Makes the call of the item at a spot: its state is changed, or the item is taken out.
+/// Makes the call of the item at a spot: its state is changed, or the item is taken out. A call that only reads stores
+/// nothing.
 pub(crate) fn change<O: CellObject>(
     buckets: &mut Buckets,
     r: &Region,
@@ -40,6 +41,9 @@ pub(crate) fn change<O: CellObject>(
     let (next, reply) = O::step(Some(&state), call);
     match next {
         Some(next) => {
+            if O::reads(call) {
+                return (reply, None);
+            }
             O::encode(&next, buffer);
             buckets.write_value(r, bucket, spot, buffer);
             (reply, None)

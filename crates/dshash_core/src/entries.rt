@@ -91,12 +91,13 @@ fn list_chain<O: CellObject>(
     Ok(())
 }
 
-/// The entries of all chains.
+/// The entries of all chains, which are so many.
 pub(crate) fn list_all<O: CellObject>(
     buckets: &mut Buckets,
     alloc: Global,
     r: &Region,
     buffer: &mut [u64],
+    count: u64,
 ) -> Result<Vec<Entry<O>>, AllocError>
     requires here { buckets.old.region ≡ r.now }
     requires buffer { length buffer.old ≡ O.VALUE_WORDS }
@@ -104,7 +105,7 @@ pub(crate) fn list_all<O: CellObject>(
     ensures same { buckets.new ≡ buckets.old }
     ensures entries { IfOk result (λ v. pairs_of v.items ≡ map (entry_of O.decoded) (all_items buckets.old.chains)) }
 {
-    let mut entries = Vec::new(alloc);
+    let mut entries = Vec::with_capacity(alloc, count as usize)?;
     for bucket in 0..buckets.len() {
         list_chain::<O>(buckets, alloc, r, buffer, bucket, &mut entries)?;
     }

@@ -6,15 +6,24 @@ ghost use Rattle.dshash_core.specs.Key.{fnv_word, finalized, hash_of, packed_key
 
 use rel_pointer::{pack, unpack};
 
+/// The prime of the hash.
+const PRIME: u32 = 0x0100_0193;
+
+/// The prime to the eighth power, modulo 2^32. Eight bytes that are 0 change the hash by this product alone, so the
+/// words of 0 behind a short packed key cost one step each and not eight.
+const PRIME_TO_THE_EIGHTH: u32 = 0x5d61_5f21;
+
 /// The hash goes on over a word's eight bytes.
 fn hash_word(hash: u32, word: u64) -> u32
     ensures { result ≡ fnv_word hash word }
 {
+    if word == 0 {
+        return hash.wrapping_mul(PRIME_TO_THE_EIGHTH);
+    }
     let bytes = word.to_le_bytes();
-    bytes.iter().fold(
-        hash,
-        |h, byte| (h ^ u32::from(*byte)).wrapping_mul(0x0100_0193),
-    )
+    bytes
+        .iter()
+        .fold(hash, |h, byte| (h ^ u32::from(*byte)).wrapping_mul(PRIME))
 }
 
 /// Spreads the hash's last bytes over all of its bits.

@@ -1,6 +1,6 @@
 //! What the cells of a table hold: states that calls change, and how a state stands in words.
 
-ghost use Rattle.std.specs.Prelude.{◌≡◌, ℕ, List, Option, length};
+ghost use Rattle.std.specs.Prelude.{◌≡◌, ℕ, List, Option, IsTrue, length};
 ghost use Rattle.std.specs.Option.{option_copied};
 
 /// The object of which a table has one under each key. A call may make it, change it or remove it.
@@ -25,6 +25,9 @@ pub trait CellObject {
     // the state that a call leaves, if any, and its reply
     ghost stepped: { Option Self.State → Self.Call → Option Self.State × Self.Reply };
 
+    // which call of which key the caller of a number may make: keys may be left to callers of their own
+    ghost may: { ℕ → List ℕ → Self.Call → Type 0 } = { λ caller key call. Unit {0} };
+
     // the states that the program's values are: their numbers are in range
     ghost is_value: { Self.State → Type 0 };
 
@@ -35,6 +38,11 @@ pub trait CellObject {
     /// What the call makes of the state, where there is one, and its reply.
     fn step(state: Option<&Self::State>, call: &Self::Call) -> (Option<Self::State>, Self::Reply)
         ensures { result ≡ stepped (option_copied state.entry) call.now };
+
+    /// Whether the call only reads: then it leaves whatever stands there, and a cell's words are neither read again nor
+    /// written. An object may answer false for each call.
+    fn reads(call: &Self::Call) -> bool
+        ensures { IsTrue result → (s : Option Self.State) → (stepped s call.now).0 ≡ s };
 
     /// Writes the state into `VALUE_WORDS` words.
     fn encode(state: &Self::State, out: &mut [u64])

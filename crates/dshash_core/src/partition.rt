@@ -87,8 +87,10 @@ impl<O: CellObject> Partition<O> {
     pub fn size(&self) -> u32
         ensures is { result ≡ self.now.size }
         ensures range { (7 ≤ result) × (result ≤ 20) }
+        ensures room { buckets_of result ≤ self.now.words }
         ensures roomy { IsRoomy result (fin.len self.now.cells) }
     {
+        self.buckets.is_sound();
         self.size
     }
 
@@ -152,14 +154,20 @@ impl<O: CellObject> Partition<O> {
         )
     }
 
-    /// Each key with its state, in no stated order. It takes memory for the entries and for each key.
+    /// Each key with its state, in no stated order. It takes memory for the entries, at once, and for each key.
     pub fn list(&mut self, alloc: Global, r: &Region) -> Result<Vec<Entry<O>>, AllocError>
         requires here { self.old.region ≡ r.now }
         ensures same { self.new ≡ self.old }
         ensures roomy { IsRoomy self.old.size (fin.len self.old.cells) }
         ensures all { IfOk result (λ v. ListsAll self.old.cells (pairs_of v.items)) }
     {
-        list_all::<O>(&mut self.buckets, alloc, r, self.buffer.as_mut_slice())
+        list_all::<O>(
+            &mut self.buckets,
+            alloc,
+            r,
+            self.buffer.as_mut_slice(),
+            self.count,
+        )
     }
 
     /// Begins a move: the partition is empty, on a new slice and with the size that it is to have. Its chains of before

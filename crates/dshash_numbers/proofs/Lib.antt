@@ -2,3 +2,4 @@ pub mod Lone
 pub mod Turns
 pub mod Calls
 pub mod Tables
+pub mod Gets

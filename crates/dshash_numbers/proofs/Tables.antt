@@ -15,7 +15,7 @@ use Rattle.dshash_parts.proofs.Cells.{refused_inserts}
 use Rattle.dshash_numbers.specs.Maps.{IsMade, IsRefused, home_of, map_of}
 use Rattle.dshash_numbers.specs.Numbers.{after, stepped}
 use Rattle.dshash_numbers.specs.declared.number.NumberCall.{NumberCall}
-use Rattle.dshash_numbers.specs.declared.number.NumberCall.TheVariants.{Get, Delete}
+use Rattle.dshash_numbers.specs.declared.number.NumberCall.TheVariants.{Delete}
 use Rattle.dshash_numbers.specs.declared.table.NumberTable.{NumberTable}
 use Rattle.dshash_numbers.proofs.Calls.{made_now, made_others, made_was, refused_stays}
 
@@ -37,24 +37,13 @@ module _ (a : Area) (t t' : NumberTable) (u u' : AreaPass) (key : List ℕ) (cal
   refused (Ok before) x = tt
   refused (Err lack) x = record { same = same; stays = λ number low. refused_stays stepped t.table t.pass t'.pass one own own' caller a u u' key call lack.pages lack.largest x number; events = x }
 
--- a look-up puts nothing in
-get_bare : (n : Option ℕ) → (not (is_some n) && is_some (after n Get)) ≡ true → ⊥
-get_bare None h = cc
-get_bare (Some n) h = cc
-
--- nor does a delete
+-- a delete puts nothing in
 delete_bare : (n : Option ℕ) → (not (is_some n) && is_some (after n Delete)) ≡ true → ⊥
 delete_bare None h = cc
 delete_bare (Some n) h = cc
 
 module _ (a : Area) (t t' : NumberTable) (u u' : AreaPass) (key : List ℕ) (wanted largest : ℕ) where
-  -- so neither is refused
-  pub get_granted : IsRefused a t t' u u' key Get wanted largest → ⊥
-  get_granted x =
-      let e = x.events in
-      let had = refused_inserts stepped a (number_of t.pass) _ _ _ _ key Get wanted largest e.0 e.1 e.2 in
-      get_bare (fin.get had.0 key) had.1
-
+  -- so it is never refused
   pub delete_granted : IsRefused a t t' u u' key Delete wanted largest → ⊥
   delete_granted x =
       let e = x.events in

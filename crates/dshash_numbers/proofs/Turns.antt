@@ -18,33 +18,33 @@ module _ {S C R : Type 0} (step : Option S → C → Option S × R) (n : ℕ) wh
   keeps number s t c (Made r u f) none h = absurd none
   keeps number s t (Call k c sp) LacksItem none h = h.1.same
   keeps number s t (Call k c sp) (HasToGrow told back) none h = h.1.same
-  keeps number s t (Call k c sp) (HasSize z) none h = absurd h
-  keeps number s t (Call k c sp) Moved none h = absurd h
+  keeps number s t (Call k c sp) (HasSize z m) none h = absurd h
+  keeps number s t (Call k c sp) (Moved left) none h = absurd h
   keeps number s t (Call k c sp) (Listed es) none h = absurd h
-  keeps number s t Looks (HasSize z) none h = ap (λ (x : PartitionState S). x.cells) h.1
+  keeps number s t Looks (HasSize z m) none h = ap (λ (x : PartitionState S). x.cells) h.1
   keeps number s t Looks LacksItem none h = absurd h
   keeps number s t Looks (HasToGrow told back) none h = absurd h
-  keeps number s t Looks Moved none h = absurd h
+  keeps number s t Looks (Moved left) none h = absurd h
   keeps number s t Looks (Listed es) none h = absurd h
-  keeps number s t (Moves to) Moved none h = h.same
+  keeps number s t (Moves to) (Moved left) none h = h.0.same
   keeps number s t (Moves to) LacksItem none h = absurd h
   keeps number s t (Moves to) (HasToGrow told back) none h = absurd h
-  keeps number s t (Moves to) (HasSize z) none h = absurd h
+  keeps number s t (Moves to) (HasSize z m) none h = absurd h
   keeps number s t (Moves to) (Listed es) none h = absurd h
   keeps number s t Lists (Listed (Some es)) none h = ap (λ (x : PartitionState S). x.cells) h.1
   keeps number s t Lists (Listed None) none h = ap (λ (x : PartitionState S). x.cells) h
   keeps number s t Lists LacksItem none h = absurd h
   keeps number s t Lists (HasToGrow told back) none h = absurd h
-  keeps number s t Lists (HasSize z) none h = absurd h
-  keeps number s t Lists Moved none h = absurd h
+  keeps number s t Lists (HasSize z m) none h = absurd h
+  keeps number s t Lists (Moved left) none h = absurd h
 
   -- the first of events, and the rest
   none-parts : (number : ℕ) (c : PartitionCalls C) (r : PartitionReplies S R) (es : List (Event S C R)) → NoneMade (Turn number c r ∷ es) → NoneMade (Turn number c r ∷ []) × NoneMade es
   none-parts number c (Made r u f) es h = absurd h
   none-parts number c LacksItem es h = (tt, h)
   none-parts number c (HasToGrow told back) es h = (tt, h)
-  none-parts number c (HasSize z) es h = (tt, h)
-  none-parts number c Moved es h = (tt, h)
+  none-parts number c (HasSize z m) es h = (tt, h)
+  none-parts number c (Moved left) es h = (tt, h)
   none-parts number c (Listed entries) es h = (tt, h)
 
   turn-keeps : (k number : ℕ) (c : PartitionCalls C) (r : PartitionReplies S R) (es : List (Event S C R)) (here : Bool) (s t : PartitionState S) → NoneMade (Turn number c r ∷ [])
@@ -79,7 +79,7 @@ module _ {S C R : Type 0} (step : Option S → C → Option S × R) (n : ℕ) wh
   -- gifts to the area are no calls
   gifts-none : (es : List (Event S C R)) → AreGifts es → NoneMade es
   gifts-none [] h = tt
-  gifts-none (Asked Gave ∷ es) h = gifts-none es h
+  gifts-none (Asked (Gave bytes) ∷ es) h = gifts-none es h
   gifts-none (Asked (Got bytes) ∷ es) h = absurd h
   gifts-none (Asked (Missed bytes wanted largest) ∷ es) h = absurd h
   gifts-none (Turn number c r ∷ es) h = absurd h

@@ -49,6 +49,13 @@ impl CellObject for Number {
         (next, state.copied())
     }
 
+    fn reads(call: &NumberCall) -> bool {
+        match call {
+            NumberCall::Get => true,
+            NumberCall::Put(_) | NumberCall::Delete => false,
+        }
+    }
+
     fn encode(state: &u64, out: &mut [u64]) {
         out[0] = *state;
     }

@@ -89,28 +89,18 @@ impl NumberTable {
         self.call(rt, r, area, apass, key, NumberCall::Put(number))
     }
 
-    /// The number under a key, if any. It asks nothing of the area, so it is never refused.
-    pub fn get<R: Wait>(
-        &mut self,
-        rt: &R,
-        r: &Region,
-        area: &Area,
-        apass: &mut AreaPass,
-        key: &[u8],
-    ) -> Option<u64>
+    /// The number under a key, if any. It is one turn, which reads: it asks nothing of any area, so it is never refused.
+    pub fn get<R: Wait>(&mut self, rt: &R, r: &Region, key: &[u8]) -> Option<u64>
         requires table { IsNumberTable r.now self.old }
-        requires area { IsArea r.now area.now }
-        requires area_own { AreaBelongs area.now apass.old }
         requires short { length key.now ≤ 248 }
         ensures table { IsNumberTable r.now self.new }
-        ensures area_own { AreaBelongs area.now apass.new }
-        ensures area_caller { area_number apass.new ≡ area_number apass.old }
-        ensures made { IsMade area.now self.old self.new apass.old apass.new (packed_key key.now) verb.Get result }
+        ensures made { (area : _) (apass : _) → IsMade area self.old self.new apass apass (packed_key key.now) verb.Get result }
     {
-        match self.call(rt, r, area, apass, key, NumberCall::Get) {
-            Ok(before) => before,
-            Err(_) => unreachable!(),
-        }
+        let Some(key) = pack_key(key) else {
+            unreachable!()
+        };
+        self.table
+            .find(rt, r, &mut self.pass, &key, &NumberCall::Get)
     }
 
     /// Takes a key out. The number that stood there, if any. Its item goes back to the area; it asks for none, so it is

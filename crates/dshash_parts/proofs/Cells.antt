@@ -12,13 +12,13 @@ use Rattle.dshash_parts.specs.States.{PartitionState, fresh}
 use Rattle.dshash_parts.specs.Legal.{PartitionLegal}
 use Rattle.dshash_parts.specs.Tables.{state_at}
 use Rattle.dshash_parts.specs.Traces.{Event, Turn, Asked, Missed, Sight, Trace}
-use Rattle.dshash_parts.specs.Promises.{HadToGrow, LackedItem, IsLastCall, IsRefused, slice_size}
+use Rattle.dshash_parts.specs.Promises.{HadToGrow, LackedItem, IsLastCall, IsRefused, SawSize, slice_size}
 use Rattle.dshash_parts.specs.declared.histories.PartitionCalls.{PartitionCalls}
 use Rattle.dshash_parts.specs.declared.histories.PartitionCalls.TheVariants.{Call, Looks}
 use Rattle.dshash_parts.specs.declared.histories.PartitionReplies.{PartitionReplies}
 use Rattle.dshash_parts.specs.declared.histories.PartitionReplies.TheVariants.{Made, LacksItem, HasToGrow, HasSize}
 use Rattle.dshash_parts.proofs.Replays.{changed_here}
-use Rattle.dshash_parts.proofs.Rounds.{among_front}
+use Rattle.dshash_parts.proofs.Sweeps.{among_front}
 use Rattle.dshash_parts.proofs.Sizes.{turn_legal}
 
 -- The reply is what the step answers from the state that stood under the key after all before the call, and the state
@@ -61,7 +61,7 @@ module _ {S C R : Type 0} (step : Option S → C → Option S × R) (a : Area) (
       (λ (l : (x.bytes ≡ item) × LackedItem number item key call x.before).
       let turn = was_taken v w number (Call key call false) LacksItem es t (there (Turn number (Call key call false) LacksItem) l.1) in
       (turn.0.cells, turn.2.is.1.inserts))
-      (λ (r : (size k found : ℕ) × HadToGrow number item key call x.before size × (x.bytes ≡ slice_size (size + 1)) × Among (Turn k Looks (HasSize found)) x.before × (found ≤ size)).
+      (λ (r : (size k found : ℕ) × HadToGrow number item key call x.before size × (x.bytes ≡ slice_size (size + 1)) × SawSize x.before k found × (found ≤ size)).
       let had = r.3 in
       let turn = was_taken v w number (Call key call had.0) (HasToGrow r.0 had.0) es t (there (Turn number (Call key call had.0) (HasToGrow r.0 had.0)) had.1) in
       (turn.0.cells, turn.2.is.1.inserts))

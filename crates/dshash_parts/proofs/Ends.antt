@@ -1,6 +1,8 @@
 -- A call of the table, turn by turn: each turn and what was asked of the area after it lead on, or end the call.
-use Rattle.std.proofs.Common.{◌≡◌, ℕ, ◌+◌, ◌<◌, ◌≤◌, Bool, true, false, ◌&&◌, List, [], ◌∷◌, ◌++◌, Option, refl, sym, ap, subst, ◌∙◌, arith, append_assoc}
+use Rattle.std.proofs.Common.{◌≡◌, ℕ, ◌+◌, ◌<◌, ◌≤◌, ⊎_elim, Bool, true, false, ◌&&◌, List, [], ◌∷◌, ◌++◌, Option, refl, sym, ap, subst, ◌∙◌, arith, append_assoc}
+use Rattle.dsa_area.specs.Sizes.{chunk_size}
 use Rattle.dsa_area.specs.declared.area.Area.{Area}
+use Rattle.dshash_core.specs.Chains.{Among}
 use Rattle.dsa_area.specs.declared.area.AreaPass.{AreaPass}
 use Rattle.dsa_area.specs.Shown.{number_of}
 use Rattle.lock_book.specs.Told.{Histories}
@@ -11,12 +13,12 @@ use Rattle.dshash_parts.specs.declared.histories.PartitionCalls.TheVariants.{Cal
 use Rattle.dshash_parts.specs.declared.histories.PartitionReplies.{PartitionReplies}
 use Rattle.dshash_parts.specs.declared.histories.PartitionReplies.TheVariants.{Made, LacksItem, HasToGrow, HasSize}
 use Rattle.dshash_parts.specs.Traces.{Event, Turn, Asked, Requested, Got, Missed, Sight, sight, Trace, fulls}
-use Rattle.dshash_parts.specs.Promises.{IsMade, IsRefused, IsLastCall, slice_size}
+use Rattle.dshash_parts.specs.Promises.{AllGrew, IsMade, IsRefused, IsLastCall, slice_size}
 use Rattle.dshash_parts.specs.Sweeps.{Swept, SweptAndGave, GaveBack}
 use Rattle.dshash_parts.specs.Rounds.{Underway}
 use Rattle.dshash_parts.proofs.Sizes.{turn_legal, grow_tells}
 use Rattle.dshash_parts.proofs.Sweeps.{trace_append}
-use Rattle.dshash_parts.proofs.Rounds.{gift, gift_trace, made_end, call_made, item_end, item_refused, slice_end, stuck, slice_refused, got_item, all_grew}
+use Rattle.dshash_parts.proofs.Rounds.{gift, gifts as both_gifts, gifts_among, grew_on, gift_trace, made_end, call_made, item_end, item_refused, slice_end, stuck, slice_refused, got_item, all_grew}
 
 first_holds : (b c : Bool) → (b && c) ≡ true → b ≡ true
 first_holds true c h = refl
@@ -26,9 +28,9 @@ same_sight : {S C R : Type 0} (v w : Sight S C R) → w.seen ≡ v.seen → w.mi
 same_sight v w s m p = ap (λ z. sight z w.mine w.area) s ∙ (ap (λ z. sight v.seen z w.area) m ∙ ap (λ z. sight v.seen v.mine z) p)
 
 -- a gift to the area, or none, between any two sights
-gift_between : {S C R : Type 0} (step : Option S → C → Option S × R) (a : Area) (n : ℕ) (v w : Sight S C R) (b : Bool) → GaveBack a v.area w.area b → number_of w.area ≡ number_of v.area → w.seen ≡ v.seen → w.mine ≡ v.mine → Trace step a n v w (gift b)
-gift_between step a n v w true g same s m = (w, (g, same, s, m), refl)
-gift_between step a n v w false g same s m = same_sight v w s m g
+gift_between : {S C R : Type 0} (step : Option S → C → Option S × R) (a : Area) (n : ℕ) (v w : Sight S C R) (bytes : ℕ) (b : Bool) → GaveBack a v.area w.area bytes b → number_of w.area ≡ number_of v.area → w.seen ≡ v.seen → w.mine ≡ v.mine → Trace step a n v w (gift bytes b)
+gift_between step a n v w bytes true g same s m = (w, (g, same, s, m), refl)
+gift_between step a n v w bytes false g same s m = same_sight v w s m g
 
 module _ {S C R : Type 0} (number item : ℕ) (key : List ℕ) (call : C) (step : Option S → C → Option S × R) (a : Area) (n : ℕ) (v : Sight S C R) where
   -- a turn of the caller at the key's partition
@@ -39,19 +41,23 @@ module _ {S C R : Type 0} (number item : ℕ) (key : List ℕ) (call : C) (step 
   module _ (at who : ℕ) (s m s' m' : Histories (PartitionState S) (PartitionCalls C) (PartitionReplies S R)) (spare : Bool) (same_at : at ≡ number) (same_who : who ≡ n) where
     -- the call was made, and what was not needed went back
     pub made : (p q u : AreaPass) (reply : R) (unused freed : Bool) → Underway number item key call step a n spare v (sight s m p) → size_at s number ≤ 20
-        → AtPartition step who s m s' m' at (Call key call spare) (Made reply unused freed) → GaveBack a p q unused → number_of q ≡ number_of p → GaveBack a q u freed → number_of u ≡ number_of q
-        → (es : List (Event S C R)) × IsMade number item key call reply es × Trace step a n v (sight s' m' u) es
-    made p q u reply unused freed x low turn gave same gave' same' =
+        → AtPartition step who s m s' m' at (Call key call spare) (Made reply unused freed) → GaveBack a p q (chunk_size item) unused → number_of q ≡ number_of p → GaveBack a q u (chunk_size item) freed → number_of u ≡ number_of q
+        → ((k : ℕ) → k < 128 → size_at s k ≤ size_at s' k)
+        → (es : List (Event S C R)) × IsMade number item key call reply es × Trace step a n v (sight s' m' u) es × AllGrew number item key call es s'
+    made p q u reply unused freed x low turn gave same gave' same' grows =
         let t = here at who s m s' m' (Call key call spare) (Made reply unused freed) same_at same_who turn in
         let l = turn_legal step n s m s' m' number (Call key call spare) (Made reply unused freed) t in
         let brought : unused ≡ true → spare ≡ true = λ h. first_holds spare _ (sym l.1.is.1.unused_is ∙ h) in
         let begun : fulls x.events + 7 ≤ size_at s number = x.rounds in
         let rounds : fulls x.events ≤ 13 = omega arith in
         let tail : List (Event S C R) = made_end number item key call spare reply unused freed in
-        let gifts : Trace step a n (sight s' m' p) (sight s' m' u) (gift unused ++ gift freed) = trace_append step a n (sight s' m' p) (sight s' m' q) (sight s' m' u) (gift unused) (gift freed) (gift_trace step a n s' m' p q unused gave same) (gift_trace step a n s' m' q u freed gave' same') in (
+        let gifts : Trace step a n (sight s' m' p) (sight s' m' u) (gift (chunk_size item) unused ++ gift (chunk_size item) freed) = trace_append step a n (sight s' m' p) (sight s' m' q) (sight s' m' u) (gift (chunk_size item) unused) (gift (chunk_size item) freed) (gift_trace step a n s' m' p q (chunk_size item) unused gave same) (gift_trace step a n s' m' q u (chunk_size item) freed gave' same') in (
           x.events ++ tail,
           call_made number item key call x.events spare reply unused freed x.is rounds brought,
           trace_append step a n v (sight s m p) (sight s' m' u) x.events tail x.trace (sight s' m' p, (t, refl), gifts),
+          grew_on number item key call step a n v s s' x.events tail x.grew
+              (λ size h k few. absurd (⊎_elim (λ e. absurd (cc)) (λ (r : Among (Turn number (Call key call h.0) (HasToGrow size h.0)) (both_gifts (chunk_size item) unused freed)). let e = gifts_among (chunk_size item) unused freed (Turn number (Call key call h.0) (HasToGrow size h.0)) r in absurd (cc)) h.1))
+              grows,
         )
 
     -- then it is the last entry of its partition's history
@@ -83,12 +89,12 @@ module _ {S C R : Type 0} (number item : ℕ) (key : List ℕ) (call : C) (step 
         )
 
     -- an item was lacked, and came
-    pub item_came : (p q : AreaPass) → Underway number item key call step a n spare v (sight s m p) → size_at s number ≤ size_at s' number
+    pub item_came : (p q : AreaPass) → Underway number item key call step a n spare v (sight s m p) → number < 128 → ((k : ℕ) → k < 128 → size_at s k ≤ size_at s' k)
         → AtPartition step who s m s' m' at (Call key call spare) LacksItem → Requested a p q (Got item) → number_of q ≡ number_of p → Underway number item key call step a n true v (sight s' m' q)
-    item_came p q x grows turn got same =
+    item_came p q x low grows turn got same =
         let b = bare turn in
         let y : Underway number item key call step a n false v (sight s m p) = subst (λ (z : Bool). Underway number item key call step a n z v (sight s m p)) b.0 x in
-        got_item number item key call step a n v s m s' m' p q y b.1 grows got same
+        got_item number item key call step a n v s m s' m' p q y b.1 low grows got same
 
     module _ (size : ℕ) (back : Bool) (turn : AtPartition step who s m s' m' at (Call key call spare) (HasToGrow size back)) (grows : size_at s number ≤ size_at s' number) where
       -- the partition has to grow, and hands the spare back
@@ -104,29 +110,29 @@ module _ {S C R : Type 0} (number item : ℕ) (key : List ℕ) (call : C) (step 
 
       -- it had to grow, and all partitions did
       pub all_came : (third : ℕ) (s'' m'' : Histories (PartitionState S) (PartitionCalls C) (PartitionReplies S R)) (p q : AreaPass) (next : Bool) → next ≡ back → third ≡ n → Underway number item key call step a n spare v (sight s m p)
-          → Swept step a third (size + 1) 128 (sight s' m' p) (sight s'' m'' q) → size + 1 ≤ size_at s'' number → Underway number item key call step a n next v (sight s'' m'' q)
-      all_came third s'' m'' p q next kept same x swept large =
+          → Swept step a third (size + 1) 128 (sight s' m' p) (sight s'' m'' q) → number < 128 → ((k : ℕ) → k < 128 → size + 1 ≤ size_at s'' k) → ((k : ℕ) → k < 128 → size_at s k ≤ size_at s'' k) → Underway number item key call step a n next v (sight s'' m'' q)
+      all_came third s'' m'' p q next kept same x swept here large rises =
           let told : size_at s' number ≡ size = full_size.0 in
           let low : size_at s number ≤ size = omega arith in
           let w : Swept step a n (size + 1) 128 (sight s' m' p) (sight s'' m'' q) = subst (λ (z : ℕ). Swept step a z (size + 1) 128 (sight s' m' p) (sight s'' m'' q)) same swept in
-          subst (λ (z : Bool). Underway number item key call step a n z v (sight s'' m'' q)) (sym (kept ∙ hands_back.0)) (all_grew number item key call step a n v s m s' m' s'' m'' p q spare size x hands_back.1 low w large)
+          subst (λ (z : Bool). Underway number item key call step a n z v (sight s'' m'' q)) (sym (kept ∙ hands_back.0)) (all_grew number item key call step a n v s m s' m' s'' m'' p q spare size x hands_back.1 here low w large rises)
 
       -- it had to grow, and there was no slice for some partition
       pub no_slice : (third wanted largest : ℕ) (p : AreaPass) (w : Sight S C R) (sent : Bool) → sent ≡ back → third ≡ n → Underway number item key call step a n spare v (sight s m p)
-          → SweptAndGave step a third (size + 1) wanted largest sent (sight s' m' p) w → (es : List (Event S C R)) × IsRefused number item key call wanted largest es × Trace step a n v w es
+          → SweptAndGave step a third (size + 1) wanted largest (chunk_size item) sent (sight s' m' p) w → (es : List (Event S C R)) × IsRefused number item key call wanted largest es × Trace step a n v w es
       no_slice third wanted largest p w sent kept same x swept =
           let told : size_at s' number ≡ size = full_size.0 in
           let small : size < 20 = full_size.2 in
           let begun : fulls x.events + 7 ≤ size_at s number = x.rounds in
           let few : fulls x.events + 1 ≤ 13 = omega arith in
-          let g : SweptAndGave step a n (size + 1) wanted largest spare (sight s' m' p) w = subst (λ (z : Bool). SweptAndGave step a n (size + 1) wanted largest z (sight s' m' p) w) (kept ∙ hands_back.0) (subst (λ (z : ℕ). SweptAndGave step a z (size + 1) wanted largest sent (sight s' m' p) w) same swept) in
+          let g : SweptAndGave step a n (size + 1) wanted largest (chunk_size item) spare (sight s' m' p) w = subst (λ (z : Bool). SweptAndGave step a n (size + 1) wanted largest (chunk_size item) z (sight s' m' p) w) (kept ∙ hands_back.0) (subst (λ (z : ℕ). SweptAndGave step a z (size + 1) wanted largest (chunk_size item) sent (sight s' m' p) w) same swept) in
           let f = g.until in
-          let look : List (Event S C R) = Turn f.number Looks (HasSize f.found) ∷ Asked (Missed (slice_size (size + 1)) wanted largest) ∷ [] in
-          let tail : List (Event S C R) = slice_end number item key call spare size f.events f.number f.found wanted largest in
-          let rest : Trace step a n (sight s' m' p) w (f.events ++ stuck number item key call size f.number f.found wanted largest spare) =
-          subst (λ (z : List (Event S C R)). Trace step a n (sight s' m' p) w z) (append_assoc f.events look (gift spare))
-          (trace_append step a n (sight s' m' p) g.between w (f.events ++ look) (gift spare) f.trace (gift_between step a n g.between w spare g.gave g.caller g.same_seen g.same_mine)) in (
+          let look : List (Event S C R) = Turn f.number Looks (HasSize f.found f.keys) ∷ Asked (Missed (slice_size (size + 1)) wanted largest) ∷ [] in
+          let tail : List (Event S C R) = slice_end number item key call spare size f.events f.number f.found f.keys wanted largest in
+          let rest : Trace step a n (sight s' m' p) w (f.events ++ stuck number item key call size f.number f.found f.keys wanted largest spare) =
+          subst (λ (z : List (Event S C R)). Trace step a n (sight s' m' p) w z) (append_assoc f.events look (gift (chunk_size item) spare))
+          (trace_append step a n (sight s' m' p) g.between w (f.events ++ look) (gift (chunk_size item) spare) f.trace (gift_between step a n g.between w (chunk_size item) spare g.gave g.caller g.same_seen g.same_mine)) in (
             x.events ++ tail,
-            slice_refused number item key call x.events spare size f.events f.number f.found wanted largest x.is few f.sweeps f.balance f.few f.small,
+            slice_refused number item key call x.events spare size f.events f.number f.found f.keys wanted largest x.is few f.sweeps f.gifts f.balance f.few f.small,
             trace_append step a n v (sight s m p) w x.events tail x.trace (sight s' m' p, (hands_back.1, refl), rest),
           )

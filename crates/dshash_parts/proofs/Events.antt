@@ -16,12 +16,14 @@ use Rattle.dshash_parts.specs.declared.asks.TableAsk.TheVariants.{Make, Look, Gr
 use Rattle.dshash_parts.specs.declared.asks.TableAnswer.{TableAnswer}
 use Rattle.dshash_parts.specs.declared.asks.TableAnswer.TheVariants.{Came, Size, LeftOver, Entries}
 use Rattle.dshash_parts.specs.Tables.{AtPartition}
+use Rattle.dshash_parts.proofs.Owners.{Taken, one_lawful}
 
-pub turn : {S C R : Type 0} (step : Option S → C → Option S × R) (opens : List (PartitionName × PartitionState S)) (n : ℕ) (seen mine seen' mine' : Histories (PartitionState S) (PartitionCalls C) (PartitionReplies S R)) (at : ℕ) (c : PartitionCalls C) (r : PartitionReplies S R) (name : PartitionName)
-    → get_elem? opens at ≡ some (name, fresh) → name.number ≡ at → Adds (λ m _ before call reply after. PartitionLegal step m.number before call reply after) opens n seen mine seen' mine' at c r → AtPartition step n seen mine seen' mine' at c r
-turn step opens n seen mine seen' mine' at c r name there same a = record {
+pub turn : {S C R : Type 0} (step : Option S → C → Option S × R) (may : ℕ → List ℕ → C → Type 0) (opens : List (PartitionName × PartitionState S)) (n : ℕ) (seen mine seen' mine' : Histories (PartitionState S) (PartitionCalls C) (PartitionReplies S R)) (at : ℕ) (c : PartitionCalls C) (r : PartitionReplies S R) (name : PartitionName)
+    → get_elem? opens at ≡ some (name, fresh) → name.number ≡ at → Adds (λ m. Taken step may m.number) opens n seen mine seen' mine' at c r → AtPartition step n seen mine seen' mine' at c r
+turn step may opens n seen mine seen' mine' at c r name there same a = record {
   here = subst (λ (z : ℕ). MakesAll (λ _. PartitionLegal step z) fresh n (seen at) (mine at) (seen' at) (mine' at) ((c, r) ∷ [])) same
-      (one_call (λ m _ before call reply after. PartitionLegal step m.number before call reply after) opens n seen mine seen' mine' at c r (name, fresh) there a);
+      (one_lawful step may name.number n (seen at) (mine at) (seen' at) (mine' at) c r
+      (one_call (λ m. Taken step may m.number) opens n seen mine seen' mine' at c r (name, fresh) there a));
   others = λ other ne. (a.others_seen other ne, a.others_mine other ne);
 }
 
@@ -29,18 +31,18 @@ module _ {O S C R : Type 0} where
   -- a call is answered by what came of it, a look by a size, a move by the slice that is left over
   pub no_other_make : (n : PartitionName) (hash : ℕ) (key : List ℕ) (call : C) (spare : Option Chunk) (answer : TableAnswer O S C R) → AnswerFits n (Make hash key call spare) answer → ((x : _) → answer ≡ Came x → ⊥) → ⊥
   no_other_make n hash key call spare (Came x) f g = g x refl
-  no_other_make n hash key call spare (Size x) f g = f
+  no_other_make n hash key call spare (Size x keys) f g = f
   no_other_make n hash key call spare (LeftOver x) f g = f
   no_other_make n hash key call spare (Entries x) f g = f
 
-  pub no_other_look : (n : PartitionName) (answer : TableAnswer O S C R) → AnswerFits {O = O} {S = S} {C = C} {R = R} n Look answer → ((x : ℕ) → answer ≡ Size x → ⊥) → ⊥
+  pub no_other_look : (n : PartitionName) (answer : TableAnswer O S C R) → AnswerFits {O = O} {S = S} {C = C} {R = R} n Look answer → ((x keys : ℕ) → answer ≡ Size x keys → ⊥) → ⊥
   no_other_look n (Came x) f g = f
-  no_other_look n (Size x) f g = g x refl
+  no_other_look n (Size x keys) f g = g x keys refl
   no_other_look n (LeftOver x) f g = f
   no_other_look n (Entries x) f g = f
 
   pub no_other_grow : (n : PartitionName) (size : ℕ) (slice : Chunk) (answer : TableAnswer O S C R) → AnswerFits n (Grow size slice) answer → ((x : Chunk) → answer ≡ LeftOver x → ⊥) → ⊥
   no_other_grow n size slice (Came x) f g = f
-  no_other_grow n size slice (Size x) f g = f
+  no_other_grow n size slice (Size x keys) f g = f
   no_other_grow n size slice (LeftOver x) f g = g x refl
   no_other_grow n size slice (Entries x) f g = f

@@ -8,3 +8,6 @@ pub mod Rounds
 pub mod Ends
 pub mod Opening
 pub mod Cells
+pub mod Owners
+pub mod Callers
+pub mod Lookups

@@ -4,6 +4,7 @@ use mathlib.Core.Option.{some}
 use lib.ListN.{get_elem?}
 use Rattle.atomic_table.specs.Seated.{TableId}
 use Rattle.region_words.specs.declared.chunk.Chunk.{Chunk}
+use Rattle.dsa_area.specs.Sizes.{chunk_size}
 use Rattle.dsa_area.specs.declared.area.Area.{Area}
 use Rattle.dsa_area.specs.declared.area.AreaPass.{AreaPass}
 use Rattle.dshash_parts.specs.declared.histories.PartitionName.{PartitionName}
@@ -31,25 +32,25 @@ pub asks_first : (a : Area) (p q u : AreaPass) (n m : ℕ) (r : Request) → m �
 asks_first a p q u n m r e y x = let more : suc n ≡ m = omega arith in subst (λ (z : ℕ). Asks a p u (replicate z r)) more (q, y, x)
 
 -- so many slices were granted, one was refused, and they went back
-pub asks_refused : (a : Area) (p q u w : AreaPass) (n m pages largest : ℕ) → m ≡ n → Asks a p q (replicate n (Got 8)) → Requested a q u (Missed 8 pages largest) → Asks a u w (replicate m Gave) → Asks a p w (refused_after n pages largest)
+pub asks_refused : (a : Area) (p q u w : AreaPass) (n m pages largest : ℕ) → m ≡ n → Asks a p q (replicate n (Got 8)) → Requested a q u (Missed 8 pages largest) → Asks a u w (replicate m (Gave (chunk_size 8))) → Asks a p w (refused_after n pages largest)
 asks_refused a p q u w n m pages largest e x y z =
-    asks_append a p q w (replicate n (Got 8)) (Missed 8 pages largest ∷ replicate n Gave) x (u, y, subst (λ (k : ℕ). Asks a u w (replicate k Gave)) e z)
+    asks_append a p q w (replicate n (Got 8)) (Missed 8 pages largest ∷ replicate n (Gave (chunk_size 8))) x (u, y, subst (λ (k : ℕ). Asks a u w (replicate k (Gave (chunk_size 8)))) e z)
 
 -- the last slice, and those before it
-pub slices_last : (region : TableId) (all xs : List Chunk) (c : Chunk) → all ≡ xs ++ c ∷ [] → AreSlices region all → AreSlices region xs × (c.part.region ≡ region)
+pub slices_last : (region : TableId) (all xs : List Chunk) (c : Chunk) → all ≡ xs ++ c ∷ [] → AreSlices region all → AreSlices region xs × (c.part.region ≡ region) × (c.bytes ≡ chunk_size 8)
 slices_last region all xs c e h = back xs (subst (λ (z : List Chunk). AreSlices region z) e h)
   where
-    back : (ys : List Chunk) → AreSlices region (ys ++ c ∷ []) → AreSlices region ys × (c.part.region ≡ region)
-    back [] x = (tt, x.0)
-    back (y ∷ ys) x = let r = back ys x.2 in ((x.0, x.1, r.0), r.1)
+    back : (ys : List Chunk) → AreSlices region (ys ++ c ∷ []) → AreSlices region ys × (c.part.region ≡ region) × (c.bytes ≡ chunk_size 8)
+    back [] x = (tt, x.0, x.2)
+    back (y ∷ ys) x = let r = back ys x.3 in ((x.0, x.1, x.2, r.0), r.1, r.2)
 
 -- one more slice at the end
-pub slices_next : (region : TableId) (all xs : List Chunk) (c : Chunk) → all ≡ xs ++ c ∷ [] → AreSlices region xs → c.part.region ≡ region → 8 ≤ c.bytes → AreSlices region all
-slices_next region all xs c e h here room = subst (λ (z : List Chunk). AreSlices region z) (sym e) (front xs h)
+pub slices_next : (region : TableId) (all xs : List Chunk) (c : Chunk) → all ≡ xs ++ c ∷ [] → AreSlices region xs → c.part.region ≡ region → 8 ≤ c.bytes → c.bytes ≡ chunk_size 8 → AreSlices region all
+slices_next region all xs c e h here room size = subst (λ (z : List Chunk). AreSlices region z) (sym e) (front xs h)
   where
     front : (ys : List Chunk) → AreSlices region ys → AreSlices region (ys ++ c ∷ [])
-    front [] x = (here, room, tt)
-    front (y ∷ ys) x = (x.0, x.1, front ys x.2)
+    front [] x = (here, room, size, tt)
+    front (y ∷ ys) x = (x.0, x.1, x.2, front ys x.3)
 
 module _ {S : Type 0} (region : TableId) (key_words item_bytes : ℕ) where
   -- what a partition of this number opens with

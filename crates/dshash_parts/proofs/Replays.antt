@@ -29,7 +29,7 @@ module _ {S C R : Type 0} (step : Option S → C → Option S × R) where
   changed_here m k (Some v) q e = fin.get-insert nat_list_cmp_total m k v q ∙ ap (λ (b : Bool). cond b (Some v) (fin.get m q)) (same_key q k e)
   changed_here m k None q e = fin.get-remove nat_list_cmp_total m k q ∙ ap (λ (b : Bool). cond b None (fin.get m q)) (same_key q k e)
 
-  changed_else : (m : KeyMap S) (k : List ℕ) (next : Option S) (q : List ℕ) → q ≢ k → fin.get (changed m k next) q ≡ fin.get m q
+  pub changed_else : (m : KeyMap S) (k : List ℕ) (next : Option S) (q : List ℕ) → q ≢ k → fin.get (changed m k next) q ≡ fin.get m q
   changed_else m k (Some v) q n = fin.get-insert nat_list_cmp_total m k v q ∙ ap (λ (b : Bool). cond b (Some v) (fin.get m q)) (other_key q k n)
   changed_else m k None q n = fin.get-remove nat_list_cmp_total m k q ∙ ap (λ (b : Bool). cond b None (fin.get m q)) (other_key q k n)
 
@@ -47,34 +47,34 @@ module _ {S C R : Type 0} (step : Option S → C → Option S × R) where
       (keys_same_or_not q k)
 
   -- one turn, and the cell of a key
-  one : (q : List ℕ) (before after : PartitionState S) (c : PartitionCalls C) (r : PartitionReplies S R) → IsTurn step before c r after → IsRun step (get before q) (made_of q c r) (get after q)
+  pub one : (q : List ℕ) (before after : PartitionState S) (c : PartitionCalls C) (r : PartitionReplies S R) → IsTurn step before c r after → IsRun step (get before q) (made_of q c r) (get after q)
   one q before after (Call k c sp) (Made r u f) h = done_cell q before after k c sp r u f h.1
   one q before after (Call k c sp) LacksItem h = ap (λ (m : KeyMap S). fin.get m q) (sym h.1.same)
   one q before after (Call k c sp) (HasToGrow told back) h = ap (λ (m : KeyMap S). fin.get m q) (sym h.1.same)
-  one q before after (Call k c sp) (HasSize n) h = absurd h
-  one q before after (Call k c sp) Moved h = absurd h
+  one q before after (Call k c sp) (HasSize n m) h = absurd h
+  one q before after (Call k c sp) (Moved left) h = absurd h
   one q before after (Call k c sp) (Listed es) h = absurd h
-  one q before after Looks (HasSize n) h = ap (λ (s : PartitionState S). get s q) (sym h.1)
+  one q before after Looks (HasSize n m) h = ap (λ (s : PartitionState S). get s q) (sym h.1)
   one q before after Looks (Made r u f) h = absurd h
   one q before after Looks LacksItem h = absurd h
   one q before after Looks (HasToGrow told back) h = absurd h
-  one q before after Looks Moved h = absurd h
+  one q before after Looks (Moved left) h = absurd h
   one q before after Looks (Listed es) h = absurd h
-  one q before after (Moves to) Moved h = ap (λ (m : KeyMap S). fin.get m q) (sym h.same)
+  one q before after (Moves to) (Moved left) h = ap (λ (m : KeyMap S). fin.get m q) (sym h.0.same)
   one q before after (Moves to) (Made r u f) h = absurd h
   one q before after (Moves to) LacksItem h = absurd h
   one q before after (Moves to) (HasToGrow told back) h = absurd h
-  one q before after (Moves to) (HasSize n) h = absurd h
+  one q before after (Moves to) (HasSize n m) h = absurd h
   one q before after (Moves to) (Listed es) h = absurd h
   one q before after Lists (Listed (Some es)) h = ap (λ (s : PartitionState S). get s q) (sym h.1)
   one q before after Lists (Listed None) h = ap (λ (s : PartitionState S). get s q) (sym h)
   one q before after Lists (Made r u f) h = absurd h
   one q before after Lists LacksItem h = absurd h
   one q before after Lists (HasToGrow told back) h = absurd h
-  one q before after Lists (HasSize n) h = absurd h
-  one q before after Lists Moved h = absurd h
+  one q before after Lists (HasSize n m) h = absurd h
+  one q before after Lists (Moved left) h = absurd h
 
-  run_append : (xs ys : List (C × R)) (s t u : Option S) → IsRun step s xs t → IsRun step t ys u → IsRun step s (xs ++ ys) u
+  pub run_append : (xs ys : List (C × R)) (s t u : Option S) → IsRun step s xs t → IsRun step t ys u → IsRun step s (xs ++ ys) u
   run_append [] ys s t u h g = subst (λ (z : Option S). IsRun step z ys u) (sym h) g
   run_append (x ∷ xs) ys s t u h g = (h.0, run_append xs ys (step s x.0).0 t u h.1 g)
 
@@ -95,30 +95,30 @@ module _ {S C R : Type 0} (step : Option S → C → Option S × R) where
   one_grows low before after (Call k c sp) (Made r u f) h p = let e = h.0 in omega arith
   one_grows low before after (Call k c sp) LacksItem h p = let e = h.0 in omega arith
   one_grows low before after (Call k c sp) (HasToGrow told back) h p = let e = h.0 in omega arith
-  one_grows low before after (Call k c sp) (HasSize n) h p = absurd h
-  one_grows low before after (Call k c sp) Moved h p = absurd h
+  one_grows low before after (Call k c sp) (HasSize n m) h p = absurd h
+  one_grows low before after (Call k c sp) (Moved left) h p = absurd h
   one_grows low before after (Call k c sp) (Listed es) h p = absurd h
-  one_grows low before after Looks (HasSize n) h p = same_size low before after h.1 p
+  one_grows low before after Looks (HasSize n m) h p = same_size low before after h.1 p
   one_grows low before after Looks (Made r u f) h p = absurd h
   one_grows low before after Looks LacksItem h p = absurd h
   one_grows low before after Looks (HasToGrow told back) h p = absurd h
-  one_grows low before after Looks Moved h p = absurd h
+  one_grows low before after Looks (Moved left) h p = absurd h
   one_grows low before after Looks (Listed es) h p = absurd h
-  one_grows low before after (Moves to) Moved h p = dite (dec_lt before.size to)
-      (λ a. dite (dec_le to 20) (λ b. let e = h.size_is a b in omega arith) (λ nb. let e = h.otherwise (λ _ b. nb b) in omega arith))
-      (λ na. let e = h.otherwise (λ a _. na a) in omega arith)
+  one_grows low before after (Moves to) (Moved left) h p = dite (dec_lt before.size to)
+      (λ a. dite (dec_le to 20) (λ b. let e = h.0.size_is a b in omega arith) (λ nb. let e = h.0.otherwise (λ _ b. nb b) in omega arith))
+      (λ na. let e = h.0.otherwise (λ a _. na a) in omega arith)
   one_grows low before after (Moves to) (Made r u f) h p = absurd h
   one_grows low before after (Moves to) LacksItem h p = absurd h
   one_grows low before after (Moves to) (HasToGrow told back) h p = absurd h
-  one_grows low before after (Moves to) (HasSize n) h p = absurd h
+  one_grows low before after (Moves to) (HasSize n m) h p = absurd h
   one_grows low before after (Moves to) (Listed es) h p = absurd h
   one_grows low before after Lists (Listed (Some es)) h p = same_size low before after h.1 p
   one_grows low before after Lists (Listed None) h p = same_size low before after h p
   one_grows low before after Lists (Made r u f) h p = absurd h
   one_grows low before after Lists LacksItem h p = absurd h
   one_grows low before after Lists (HasToGrow told back) h p = absurd h
-  one_grows low before after Lists (HasSize n) h p = absurd h
-  one_grows low before after Lists Moved h p = absurd h
+  one_grows low before after Lists (HasSize n m) h p = absurd h
+  one_grows low before after Lists (Moved left) h p = absurd h
 
   pub grows : (number low : ℕ) (s : PartitionState S) (es : List (Entry (PartitionState S) (PartitionCalls C) (PartitionReplies S R))) → low ≤ s.size → IsLegal (λ _. PartitionLegal step number) s es → low ≤ (last_of s es).size
   grows number low s es p h = kept_last (λ _. PartitionLegal step number) (λ (t : PartitionState S). low ≤ t.size) (λ n a c r b q l. one_grows low a b c r l.is q) s es p h

@@ -49,15 +49,18 @@ module _ {S C R : Type 0} (step : Option S → C → Option S × R) where
         (last_of fresh x.2.before, subst (λ (z : PartitionState S). PartitionLegal step number (last_of fresh x.2.before) call reply z) (sym left) x.2.step)
 
   module _ (n : ℕ) (seen mine seen' mine' : Histories (PartitionState S) (PartitionCalls C) (PartitionReplies S R)) (number : ℕ) where
-    -- a look tells the size
-    pub look_tells : (size : ℕ) → AtPartition step n seen mine seen' mine' number Looks (HasSize size) → size_at seen' number ≡ size
-    look_tells size a = let l = (turn_legal n seen mine seen' mine' number Looks (HasSize size) a).1 in ap (λ (s : PartitionState S). s.size) l.is.1 ∙ sym l.is.0
+    -- a look tells the size and the number of keys
+    pub look_tells : (size keys : ℕ) → AtPartition step n seen mine seen' mine' number Looks (HasSize size keys) → size_at seen' number ≡ size
+    look_tells size keys a = let l = (turn_legal n seen mine seen' mine' number Looks (HasSize size keys) a).1 in ap (λ (s : PartitionState S). s.size) l.is.1 ∙ sym l.is.0
+
+    pub look_counts : (size keys : ℕ) → AtPartition step n seen mine seen' mine' number Looks (HasSize size keys) → keys ≡ fin.len (map_at seen' number)
+    look_counts size keys a = let l = (turn_legal n seen mine seen' mine' number Looks (HasSize size keys) a).1 in l.is.2 ∙ sym (ap (λ (s : PartitionState S). fin.len s.cells) l.is.1)
 
     -- a move leaves at least its size
-    pub move_tells : (to : ℕ) → to ≤ 20 → AtPartition step n seen mine seen' mine' number (Moves to) Moved → to ≤ size_at seen' number
-    move_tells to low a =
-        let t = turn_legal n seen mine seen' mine' number (Moves to) Moved a in
-        dite (dec_lt t.0.size to) (λ lt. let e = t.1.is.size_is lt low in omega arith) (λ ge. let e = t.1.is.otherwise (λ lt _. ge lt) in omega arith)
+    pub move_tells : (to left : ℕ) → to ≤ 20 → AtPartition step n seen mine seen' mine' number (Moves to) (Moved left) → to ≤ size_at seen' number
+    move_tells to left low a =
+        let t = turn_legal n seen mine seen' mine' number (Moves to) (Moved left) a in
+        dite (dec_lt t.0.size to) (λ lt. let e = t.1.is.0.size_is lt low in omega arith) (λ ge. let e = t.1.is.0.otherwise (λ lt _. ge lt) in omega arith)
 
     -- a partition that has to grow has the size that it tells, which is not the largest
     pub grow_tells : (key : List ℕ) (call : C) (spare back : Bool) (size : ℕ) → AtPartition step n seen mine seen' mine' number (Call key call spare) (HasToGrow size back)

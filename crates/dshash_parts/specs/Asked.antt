@@ -49,8 +49,8 @@ module _ {O S C R : Type 0} where
   -- the reply of an answer
   abbrev pub reply_of : TableAnswer O S C R → PartitionReplies S R
   reply_of (Came out) = outcome_of out
-  reply_of (Size size) = HasSize size
-  reply_of (LeftOver slice) = Moved
+  reply_of (Size size keys) = HasSize size keys
+  reply_of (LeftOver slice) = Moved slice.bytes
   reply_of (Entries entries) = listed_of (λ v. pairs_of v.items) entries
 
   -- a key has the table's length, comes with its hash and belongs to the partition of this number, and a spare item has
@@ -65,7 +65,7 @@ module _ {O S C R : Type 0} where
   -- to 20
   abbrev pub AnswerFits : PartitionName → TableAsk O S C R → TableAnswer O S C R → Type 0
   AnswerFits n (Make hash key call spare) (Came out) = HandsOut n.region n.item_bytes spare out
-  AnswerFits n Look (Size size) = (7 ≤ size) × (size ≤ 20)
+  AnswerFits n Look (Size size keys) = (7 ≤ size) × (size ≤ 20)
   AnswerFits n (Grow size slice) (LeftOver left) = left.part.region ≡ n.region
   AnswerFits n (ListAll alloc) (Entries entries) = Unit {0}
   AnswerFits n ask answer = ⊥

@@ -9,3 +9,6 @@ pub mod Opening
 pub mod Promises
 pub mod Sweeps
 pub mod Rounds
+pub mod Owners
+pub mod Callers
+pub mod Lookups

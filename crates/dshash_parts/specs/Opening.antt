@@ -1,7 +1,8 @@
 -- How a table is made: the slices of its partitions, what was asked of the area for them, and how the partitions open.
-use Rattle.std.specs.Prelude.{◌≡◌, ℕ, zero, suc, ◌+◌, ◌<◌, ◌≤◌, List, [], ◌∷◌, ◌++◌, replicate}
+use Rattle.std.specs.Prelude.{◌≡◌, ℕ, zero, suc, ◌+◌, ◌<◌, ◌≤◌, ◌⊎◌, List, [], ◌∷◌, ◌++◌, replicate}
 use Rattle.atomic_table.specs.Seated.{TableId}
 use Rattle.region_words.specs.declared.chunk.Chunk.{Chunk}
+use Rattle.dsa_area.specs.Sizes.{chunk_size}
 use Rattle.dsa_area.specs.declared.area.Area.{Area}
 use Rattle.dsa_area.specs.declared.area.AreaPass.{AreaPass}
 use Rattle.dshash_parts.specs.States.{PartitionState, fresh}
@@ -15,19 +16,20 @@ abbrev pub Asks : Area → AreaPass → AreaPass → List Request → Type 0
 Asks a p q [] = q ≡ p
 Asks a p q (r ∷ rs) = (u : AreaPass) × Requested a p u r × Asks a u q rs
 
--- slices of this region, each of a word or more
+-- slices of this region, each the chunk that the area grants for a word
 abbrev pub AreSlices : TableId → List Chunk → Type 0
 AreSlices region [] = Unit {0}
-AreSlices region (c ∷ cs) = (c.part.region ≡ region) × (8 ≤ c.bytes) × AreSlices region cs
+AreSlices region (c ∷ cs) = (c.part.region ≡ region) × (8 ≤ c.bytes) × (c.bytes ≡ chunk_size 8) × AreSlices region cs
 
 -- so many slices were granted, one was refused, and they went back
 abbrev pub refused_after : ℕ → ℕ → ℕ → List Request
-refused_after n pages largest = replicate n (Got 8) ++ Missed 8 pages largest ∷ replicate n Gave
+refused_after n pages largest = replicate n (Got 8) ++ Missed 8 pages largest ∷ replicate n (Gave (chunk_size 8))
 
--- there is no table, as a slice was refused, or there was no memory
+-- There is no table. A slice was refused, and those that were granted went back; or there was no memory: before a slice
+-- was asked for, or when there were all 128, which are dropped
 abbrev pub IsNoTable : Area → AreaPass → AreaPass → DsNew → Type 0
 IsNoTable a p q (NoSpace pages largest) = (n : ℕ) × (n < 128) × Asks a p q (refused_after n pages largest)
-IsNoTable a p q Memory = Unit {0}
+IsNoTable a p q Memory = Asks a p q [] ⊎ Asks a p q (replicate 128 (Got 8))
 
 -- the names of so many partitions from this number on, each with the state of a new one
 abbrev pub opens_from : {S : Type 0} → TableId → ℕ → ℕ → ℕ → ℕ → List (PartitionName × PartitionState S)

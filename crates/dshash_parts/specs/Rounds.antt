@@ -1,18 +1,20 @@
 -- A call of the table on its way: what its turns and requests so far did.
 use Rattle.std.specs.Prelude.{◌≡◌, ℕ, ◌+◌, ◌*◌, ◌≤◌, ◌⊎◌, Bool, List, Option}
+use Rattle.dsa_area.specs.Sizes.{chunk_size}
 use Rattle.dsa_area.specs.declared.area.Area.{Area}
 use Rattle.dshash_core.specs.Chains.{Among}
 use Rattle.dshash_parts.specs.Tables.{size_at}
 use Rattle.dshash_parts.specs.declared.histories.PartitionCalls.TheVariants.{Moves}
 use Rattle.dshash_parts.specs.declared.histories.PartitionReplies.TheVariants.{Moved}
-use Rattle.dshash_parts.specs.Traces.{Event, Turn, Asked, Got, Sight, Trace, granted, given, asked, fulls, NoneMade}
-use Rattle.dshash_parts.specs.Promises.{HadToGrow, LackedItem, one_if, slice_size}
+use Rattle.dshash_parts.specs.Traces.{Event, Turn, Asked, Got, Gave, Sight, Trace, granted, given, asked, fulls, NoneMade}
+use Rattle.dshash_parts.specs.Promises.{AllGrew, HadToGrow, IsLeftOver, LackedItem, one_if, slice_size}
 
 module _ {S C R : Type 0} (number item : ℕ) (key : List ℕ) (call : C) where
-  -- each move and each grant among the events fs has its cause among the events es
+  -- each move, each grant and each gift among the events fs has its cause among the events es
   pub record AreCaused (es fs : List (Event S C R)) : Type 0 where
-    pub moves : (k to : ℕ) → Among (Turn k (Moves to) Moved) fs → (size : ℕ) × HadToGrow number item key call es size × (to ≡ size + 1)
+    pub moves : (k to left : ℕ) → Among (Turn k (Moves to) (Moved left)) fs → (size : ℕ) × HadToGrow number item key call es size × (to ≡ size + 1)
     pub grants : (bytes : ℕ) → Among (Asked (Got bytes)) fs → ((bytes ≡ item) × LackedItem number item key call es) ⊎ ((size : ℕ) × HadToGrow number item key call es size × (bytes ≡ slice_size (size + 1)))
+    pub gifts : (bytes : ℕ) → Among (Asked (Gave bytes)) fs → (bytes ≡ chunk_size item) ⊎ IsLeftOver es bytes
 
   -- the call was not made yet, and of what was granted the spare item alone is left, where there is one
   pub record IsUnderway (spare : Bool) (es : List (Event S C R)) : Type 0 where
@@ -27,3 +29,4 @@ module _ {S C R : Type 0} (number item : ℕ) (key : List ℕ) (call : C) where
     pub is : IsUnderway spare events
     pub trace : Trace step a n v w events
     pub rounds : fulls events + 7 ≤ size_at w.seen number
+    pub grew : AllGrew number item key call events w.seen

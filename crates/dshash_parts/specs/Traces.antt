@@ -19,17 +19,18 @@ use Rattle.dshash_parts.specs.declared.histories.PartitionCalls.{PartitionCalls}
 use Rattle.dshash_parts.specs.declared.histories.PartitionReplies.{PartitionReplies}
 use Rattle.dshash_parts.specs.declared.histories.PartitionReplies.TheVariants.{Made, HasToGrow}
 
--- what a call asks of the area: a chunk of so many bytes, which it gets or does not, and a chunk that it gives back
+-- what a call asks of the area: a chunk of so many bytes, which it gets or does not, and a chunk of so many that it gives
+-- back
 pub data Request : Type 0 where
   Got : ℕ → Request
   Missed : ℕ → ℕ → ℕ → Request
-  Gave : Request
+  Gave : ℕ → Request
 
 -- the pass p of the area became q by it
 abbrev pub Requested : Area → AreaPass → AreaPass → Request → Type 0
 Requested a p q (Got bytes) = (at : ℕ) × IsGranted a p q bytes at
 Requested a p q (Missed bytes wanted largest) = IsRefused a p q bytes wanted largest
-Requested a p q Gave = (at bytes : ℕ) × (IsTakenBack a p q at bytes ⊎ IsHandedBack a p q at bytes)
+Requested a p q (Gave bytes) = (at : ℕ) × (IsTakenBack a p q at bytes ⊎ IsHandedBack a p q at bytes)
 
 -- a turn at the partition of a number, or a request to the area
 pub data Event (S C R : Type 0) : Type 0 where
@@ -68,7 +69,7 @@ module _ {S C R : Type 0} where
 
   abbrev pub given : List (Event S C R) → ℕ
   given [] = 0
-  given (Asked Gave ∷ es) = 1 + given es
+  given (Asked (Gave bytes) ∷ es) = 1 + given es
   given (e ∷ es) = given es
 
   -- how many chunks the area was asked for
@@ -93,7 +94,7 @@ module _ {S C R : Type 0} where
   -- all of these events give a chunk to the area
   abbrev pub AreGifts : List (Event S C R) → Type 0
   AreGifts [] = Unit {0}
-  AreGifts (Asked Gave ∷ es) = AreGifts es
+  AreGifts (Asked (Gave bytes) ∷ es) = AreGifts es
   AreGifts (e ∷ es) = ⊥
 
   -- of these events the turns at one partition, in order: each call with its reply

@@ -10,7 +10,7 @@ use std::alloc::{AllocError, Global};
 pub enum TableAsk<O: CellObject> {
     /// A call of a key, whose hash goes with it, with a spare item or without.
     Make(u32, Key, O::Call, Option<Chunk>),
-    /// A look at the size.
+    /// A look at the size and the number of keys.
     Look,
     /// A move to this size, on this slice.
     Grow(u32, Chunk),
@@ -23,8 +23,8 @@ pub enum TableAsk<O: CellObject> {
 pub enum TableAnswer<O: CellObject> {
     /// What became of the call.
     Came(CoreOut<O>),
-    /// The size.
-    Size(u32),
+    /// The size, and the number of keys.
+    Size(u32, u64),
     /// The slice that is left over: the former one, or the new one where the partition has that size already.
     LeftOver(Chunk),
     /// The entries.

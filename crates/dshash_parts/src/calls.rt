@@ -10,8 +10,10 @@ ghost use Rattle.lock_book.specs.Shown.{number_of, seen_of, mine_of};
 ghost use Rattle.dsa_area.specs.Shown.{Belongs as AreaBelongs, IsArea, number_of as area_number};
 ghost use Rattle.dshash_core.specs.Key.{hash_of};
 ghost use Rattle.dshash_core.specs.Cells.{IsRoomy, partition_of};
+ghost use Rattle.dshash_parts.specs.Legal.{AreAllowed};
 ghost use Rattle.dshash_parts.specs.Tables.{IsTable, key_words_of, item_of, map_at, size_at, Belongs};
 ghost use Rattle.dshash_parts.specs.Traces.{sight_of};
+ghost use Rattle.dshash_parts.specs.Owners.{IsOwner, IsOwnCell};
 ghost use Rattle.dshash_parts.specs.Replays.{IsOneCell};
 ghost use Rattle.dshash_parts.specs.Promises.{CallMade, CallRefused, IsLastCall};
 ghost use Rattle.dshash_parts.specs.Sweeps.{Swept, SweptAndGave, GaveBack};
@@ -32,7 +34,7 @@ fn give_back<R: Wait>(rt: &R, area: &Area, r: &Region, apass: &mut AreaPass, chu
     requires here { IfSome chunk (λ c. c.part.region ≡ r.now) }
     ensures own { AreaBelongs area.now apass.new }
     ensures caller { area_number apass.new ≡ area_number apass.old }
-    ensures gave { GaveBack area.now apass.old apass.new (is_some chunk) }
+    ensures gave { (bytes : ℕ) → IfSome chunk (λ c. c.bytes ≡ bytes) → GaveBack area.now apass.old apass.new bytes (is_some chunk) }
 {
     if let Some(chunk) = chunk {
         give(rt, area, r, apass, chunk);
@@ -69,7 +71,7 @@ where
     ensures spare { IfOk result (λ kept. kept ≡ spare) }
     ensures swept { IfOk result (λ _. Swept O.stepped area.now (number_of pass.old) size 128 (sight_of pass.old apass.old) (sight_of pass.new apass.new)) }
     ensures refused { IfErr result (λ lack.
-        SweptAndGave O.stepped area.now (number_of pass.old) size lack.pages lack.largest (is_some spare) (sight_of pass.old apass.old) (sight_of pass.new apass.new)) }
+        (bytes : ℕ) → IfSome spare (λ c. c.bytes ≡ bytes) → SweptAndGave O.stepped area.now (number_of pass.old) size lack.pages lack.largest bytes (is_some spare) (sight_of pass.old apass.old) (sight_of pass.new apass.new)) }
 {
     match grow_all(rt, table, r, area, pass, apass, size) {
         Ok(()) => Ok(spare),
@@ -105,6 +107,7 @@ where
         requires area { IsArea r.now area.now }
         requires area_own { AreaBelongs area.now apass.old }
         requires key { length key.now ≡ key_words_of self.now }
+        requires may { O.may (number_of pass.old) key.now call.now }
         ensures own { Belongs self.now pass.new }
         ensures caller { number_of pass.new ≡ number_of pass.old }
         ensures area_own { AreaBelongs area.now apass.new }
@@ -112,6 +115,8 @@ where
         ensures made { IfOk result (CallMade O.stepped self.now area.now pass.old apass.old pass.new apass.new key.now call.now) }
         ensures refused { IfErr result (λ lack. CallRefused O.stepped self.now area.now pass.old apass.old pass.new apass.new key.now call.now lack.pages lack.largest) }
         ensures last { IfOk result (λ reply. IsLastCall (number_of pass.old) key.now call.now reply (seen_of pass.new (partition_of (hash_of key.now)))) }
+        ensures allowed { (i : ℕ) → i < 128 → AreAllowed O.may (seen_of pass.new i) }
+        ensures owned { (k : List ℕ) → IsOwner O.stepped O.may (number_of pass.old) k → IsOwnCell O.stepped (seen_of pass.new) (mine_of pass.new) k }
         ensures cells { (k : List ℕ) → IsOneCell O.stepped (seen_of pass.new) k }
         ensures roomy { (k : ℕ) → k < 128 → IsRoomy (size_at (seen_of pass.new) k) (fin.len (map_at (seen_of pass.new) k)) }
     {

@@ -1,7 +1,8 @@
 //! Passes meet, and a table ends: all passes come home, and its partitions with them.
 
-ghost use Rattle.std.specs.Prelude.{◌≡◌, ℕ, ◌+◌, ◌↔◌, IfSome, IsNone};
+ghost use Rattle.std.specs.Prelude.{◌≡◌, ℕ, ◌+◌, ◌<◌, ◌↔◌, IfSome, IsNone};
 ghost use Rattle.lock_book.specs.Shown.{Met, number_of, seen_of};
+ghost use Rattle.dshash_parts.specs.Legal.{AreAllowed};
 ghost use Rattle.dshash_parts.specs.Tables.{IsTable, Belongs, AreAll};
 ghost use Rattle.dshash_parts.specs.Ending.{Ended, IsOf, IsAt, left_of, whole_of};
 
@@ -52,6 +53,7 @@ where
         ensures left { left_of result ≡ 128 }
         ensures parts { (region : _) → IsTable region self → IsOf region self result }
         ensures ended { Ended O.stepped self passes.items result }
+        ensures allowed { (i : ℕ) → i < 128 → AreAllowed O.may (whole_of result i) }
     {
         let Dshash {
             key_words: _,

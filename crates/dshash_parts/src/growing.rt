@@ -47,7 +47,8 @@ where
         (λ _. Grew O.stepped area.now (number_of pass.old) number size (sight_of pass.old apass.old) (sight_of pass.new apass.new))
         (λ lack. Stuck O.stepped area.now (number_of pass.old) number size lack.pages lack.largest (sight_of pass.old apass.old) (sight_of pass.new apass.new)) }
 {
-    if look_at(rt, table, r, pass, number) >= size {
+    let (found, _keys) = look_at(rt, table, r, pass, number);
+    if found >= size {
         return Ok(());
     }
     match ask(rt, area, r, apass, 8 * bucket_count(size)) {

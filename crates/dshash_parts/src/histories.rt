@@ -35,7 +35,7 @@ impl<O: CellObject> Model for PartitionStates<O> {
 pub enum PartitionCalls<C> {
     /// A call of a key, and whether a spare item came with it.
     Call(LinkedList<u64>, C, bool),
-    /// A look at the size.
+    /// A look at the size and the number of keys.
     Looks,
     /// A move to this size.
     Moves(u32),
@@ -51,10 +51,10 @@ pub enum PartitionReplies<S, R> {
     LacksItem,
     /// The partition, of this size, has to grow first; whether the spare was handed back.
     HasToGrow(u32, bool),
-    /// The size.
-    HasSize(u32),
-    /// The move was made, or was not needed any more.
-    Moved,
+    /// The size, and the number of keys.
+    HasSize(u32, u64),
+    /// The move was made, or was not needed any more; the bytes of the slice that was left over.
+    Moved(u64),
     /// The entries, where there was memory for them.
     Listed(Option<LinkedList<(LinkedList<u64>, S)>>),
 }

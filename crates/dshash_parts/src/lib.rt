@@ -14,6 +14,7 @@
 mod asks;
 mod calls;
 mod close;
+mod finding;
 mod growing;
 mod histories;
 mod key;
@@ -29,7 +30,9 @@ pub use asks::{TableAnswer, TableAsk};
 pub use close::ClosedTable;
 pub use histories::{PartitionCalls, PartitionName, PartitionReplies, PartitionStates};
 pub use key::{Key, MOST_KEY_WORDS};
-pub use laws::{keys_are_cells, sizes_grow, stays_roomy};
+pub use laws::{
+    callers_make_all, cells_fold, keys_are_cells, owners_have_cells, sizes_grow, stays_roomy,
+};
 pub use numbered::Numbered;
 pub use open::DsNew;
 pub use table::{DsPass, Dshash};

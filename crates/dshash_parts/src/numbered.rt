@@ -5,7 +5,7 @@ ghost use Rattle.std.specs.FinMap as fin;
 ghost use Rattle.dshash_core.specs.Cells.{IsRoomy, buckets_of};
 ghost use Rattle.dshash_core.specs.Outcome.{IsMoved};
 ghost use Rattle.dshash_parts.specs.Asked.{name_of, state_of, call_of, reply_of, AskFits, AnswerFits};
-ghost use Rattle.dshash_parts.specs.Legal.{PartitionLegal};
+ghost use Rattle.dshash_parts.specs.Legal.{LeavesOver, MayTurn, PartitionLegal};
 
 use crate::asks::{TableAnswer, TableAsk};
 use crate::histories::{PartitionCalls, PartitionName, PartitionReplies, PartitionStates};
@@ -51,11 +51,11 @@ where
 
     ghost env_fits = { λ n r. r ≡ n.region };
 
-    ghost in_fits = { λ n _ ask. AskFits n ask };
+    ghost in_fits = { λ n caller ask. AskFits n ask × MayTurn O.may caller (call_of ask) };
 
     ghost out_fits = { AnswerFits };
 
-    ghost legal = { λ n _ before call reply after. PartitionLegal O.stepped n.number before call reply after };
+    ghost legal = { λ n caller before call reply after. PartitionLegal O.stepped n.number before call reply after × MayTurn O.may caller call };
 
     fn apply(&mut self, r: &Region, ask: TableAsk<O>) -> TableAnswer<O> {
         let partition = &mut self.partition;
@@ -63,7 +63,7 @@ where
             TableAsk::Make(hash, key, call, spare) => {
                 TableAnswer::Came(partition.try_call_with_hash(r, hash, key.words(), &call, spare))
             }
-            TableAsk::Look => TableAnswer::Size(partition.size()),
+            TableAsk::Look => TableAnswer::Size(partition.size(), partition.count()),
             TableAsk::Grow(size, slice) => TableAnswer::LeftOver(grow(partition, r, size, slice)),
             TableAsk::List(alloc) => TableAnswer::Entries(partition.list(alloc, r)),
         }
@@ -79,6 +79,7 @@ fn grow<O: CellObject>(partition: &mut Partition<O>, r: &Region, size: u32, slic
     ensures same { partition.new ≡ record partition.old { slice = partition.new.slice; words = partition.new.words; size = partition.new.size } }
     ensures roomy { IsRoomy partition.new.size (fin.len partition.new.cells) }
     ensures here { result.part.region ≡ r.now }
+    ensures left { LeavesOver partition.old.size size result.bytes }
 {
     if partition.size() < size {
         move_partition(partition, r, size, slice)

@@ -4,6 +4,7 @@ ghost use Rattle.std.specs.Prelude.{◌≡◌, ℕ, ◌≤◌, ◌^◌, [], leng
 ghost use mathlib.Core.Option.{some};
 ghost use lib.ListN.{get_elem?};
 ghost use Rattle.lock_book.specs.Shown.{mine_of, seen_of};
+ghost use Rattle.dsa_area.specs.Sizes.{chunk_size};
 ghost use Rattle.dsa_area.specs.Shown.{Belongs as AreaBelongs, IsArea, number_of as area_number};
 ghost use Rattle.dshash_core.specs.Key.{item_size};
 ghost use Rattle.dshash_parts.specs.Asked.{name_of, state_of};
@@ -27,7 +28,7 @@ pub enum DsNew {
     /// The area has no room for a slice: the pages that were wanted, and those of the longest free run. The slices that
     /// it gave went back.
     NoSpace { pages: u32, largest: u32 },
-    /// There is no memory. The slices are dropped.
+    /// There is no memory: before a slice was asked for, or with all 128 in hand, which are dropped.
     Memory,
 }
 
@@ -47,7 +48,7 @@ fn give_slices<R: Wait>(
     requires slices { AreSlices r.now slices.items }
     ensures own { AreaBelongs area.now apass.new }
     ensures caller { area_number apass.new ≡ area_number apass.old }
-    ensures gave { Asks area.now apass.old apass.new (replicate (length slices.items) Gave) }
+    ensures gave { Asks area.now apass.old apass.new (replicate (length slices.items) (Gave (chunk_size 8))) }
 {
     while let Some(slice) = slices.pop() {
         give(rt, area, r, apass, slice);

@@ -16,7 +16,7 @@ pub(crate) fn give<R: Wait>(rt: &R, area: &Area, r: &Region, apass: &mut AreaPas
     requires here { chunk.part.region ≡ r.now }
     ensures own { Belongs area.now apass.new }
     ensures caller { number_of apass.new ≡ number_of apass.old }
-    ensures gave { Requested area.now apass.old apass.new Gave }
+    ensures gave { Requested area.now apass.old apass.new (Gave chunk.bytes) }
 {
     let _refused = area.free(rt, r, apass, chunk);
 }

@@ -1,13 +1,14 @@
 //! The turns that a call of the table takes, each one event of one partition.
 
 ghost use Rattle.std.specs.Prelude.{◌≡◌, ℕ, ◌/◌, ◌<◌, ◌≤◌, length, is_some, IfSome};
+ghost use Rattle.std.specs.FinMap as fin;
 ghost use Rattle.lock_book.specs.Shown.{number_of, seen_of, mine_of};
 ghost use Rattle.dsa_area.specs.Sizes.{chunk_size};
 ghost use Rattle.dshash_core.specs.Key.{hash_of};
 ghost use Rattle.dshash_core.specs.Cells.{buckets_of, partition_of};
 ghost use Rattle.dshash_core.specs.Outcome.{HandsOut};
 ghost use Rattle.dshash_parts.specs.Asked.{outcome_of};
-ghost use Rattle.dshash_parts.specs.Tables.{IsTable, Turned, size_at, Belongs};
+ghost use Rattle.dshash_parts.specs.Tables.{IsTable, Turned, map_at, size_at, Belongs};
 ghost use Rattle.dshash_parts.specs.declared.histories.PartitionCalls.TheVariants.{Call, Looks, Moves};
 ghost use Rattle.dshash_parts.specs.declared.histories.PartitionReplies.TheVariants.{HasSize, Moved};
 
@@ -39,6 +40,7 @@ where
     requires number { number < 128 }
     requires hash { (hash ≡ hash_of key.now) × (partition_of hash ≡ number) }
     requires key { length key.now ≡ table.now.key_words }
+    requires may { O.may (number_of pass.old) key.now call.now }
     requires spare { IfSome spare (λ c. (c.part.region ≡ r.now) × (c.bytes ≡ chunk_size table.now.item_bytes)) }
     ensures own { Belongs table.now pass.new }
     ensures caller { number_of pass.new ≡ number_of pass.old }
@@ -53,14 +55,14 @@ where
     }
 }
 
-/// The size of a partition.
+/// The size of a partition, and the number of its keys.
 pub(crate) fn look_at<R: Wait, O: CellObject + Send>(
     rt: &R,
     table: &Dshash<O>,
     r: &Region,
     pass: &mut DsPass<O>,
     number: u32,
-) -> u32
+) -> (u32, u64)
 where
     O::State: Send,
     O::Call: Send,
@@ -71,15 +73,16 @@ where
     ensures own { Belongs table.now pass.new }
     ensures caller { number_of pass.new ≡ number_of pass.old }
     ensures grows { (k : ℕ) → k < 128 → size_at (seen_of pass.old) k ≤ size_at (seen_of pass.new) k }
-    ensures event { Turned O.stepped pass.old pass.new number Looks (HasSize result) }
-    ensures told { size_at (seen_of pass.new) number ≡ result }
-    ensures size { (7 ≤ result) × (result ≤ 20) }
+    ensures event { Turned O.stepped pass.old pass.new number Looks (HasSize result.0 result.1) }
+    ensures told { size_at (seen_of pass.new) number ≡ result.0 }
+    ensures keys { result.1 ≡ fin.len (map_at (seen_of pass.new) number) }
+    ensures size { (7 ≤ result.0) × (result.0 ≤ 20) }
 {
     match table
         .shelf
         .call(rt, r, pass, number as usize, TableAsk::Look)
     {
-        TableAnswer::Size(size) => size,
+        TableAnswer::Size(size, keys) => (size, keys),
         _ => unreachable!(),
     }
 }
@@ -106,7 +109,7 @@ where
     ensures own { Belongs table.now pass.new }
     ensures caller { number_of pass.new ≡ number_of pass.old }
     ensures grows { (k : ℕ) → k < 128 → size_at (seen_of pass.old) k ≤ size_at (seen_of pass.new) k }
-    ensures event { Turned O.stepped pass.old pass.new number (Moves size) Moved }
+    ensures event { Turned O.stepped pass.old pass.new number (Moves size) (Moved result.bytes) }
     ensures grown { size ≤ size_at (seen_of pass.new) number }
     ensures here { result.part.region ≡ r.now }
 {

@@ -24,7 +24,7 @@ module _ {A : Type 0} where
   joined_snoc (x ∷ xs) ys = ap (λ z. x ++ z) (joined_snoc xs ys) ∙ sym (append_assoc x (joined xs) ys)
 
   -- what stands at a place of a list with one more
-  snoc_at : (xs : List A) (x : A) (k : ℕ) (a : A) → get_elem? (xs ++ x ∷ []) k ≡ some a → ((k < length xs) × (get_elem? xs k ≡ some a)) ⊎ ((k ≡ length xs) × (x ≡ a))
+  pub snoc_at : (xs : List A) (x : A) (k : ℕ) (a : A) → get_elem? (xs ++ x ∷ []) k ≡ some a → ((k < length xs) × (get_elem? xs k ≡ some a)) ⊎ ((k ≡ length xs) × (x ≡ a))
   snoc_at [] x zero a e = inr (refl, some-injective x a e)
   snoc_at [] x (suc k) a e = absurd (cc)
   snoc_at (y ∷ ys) x zero a e = inl (omega arith, e)

@@ -3,12 +3,15 @@
 
 #![tactic(auto)]
 
+mod counting;
+
 ghost use Rattle.std.specs.Prelude.{◌≡◌, ℕ, ◌<◌, IfOk};
 ghost use Rattle.lock_book.specs.Shown.{number_of};
 ghost use Rattle.dshash_core.specs.Listing.{pairs_of};
 ghost use Rattle.dshash_parts.specs.Tables.{IsTable, Belongs};
 ghost use Rattle.dshash_scan.specs.Listings.{ListsOnce, ListsTable};
 
+pub use counting::count_all;
 use dshash_core::{CellObject, Entry};
 use dshash_parts::{DsPass, Dshash};
 use region_words::Region;

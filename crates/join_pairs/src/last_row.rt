@@ -34,6 +34,10 @@ impl CellObject for LastRow {
         (Some(*call), state.copied().unwrap_or(0))
     }
 
+    fn reads(_call: &u64) -> bool {
+        false
+    }
+
     fn encode(state: &u64, out: &mut [u64]) {
         out[0] = *state;
     }

@@ -180,7 +180,7 @@ impl Cells {
         ensures answer { Goes heap.old heap.new self.old self.new (λ a n m u v. Gives a n m u v key.now verb.Get) result }
     {
         match &mut self.table {
-            Some(table) => found(table.get(rt, r, &heap.area, &mut heap.pass, key)),
+            Some(table) => found(table.get(rt, r, key)),
             None => TableAnswer::NoTable,
         }
     }

@@ -6,8 +6,8 @@ use Rattle.dsa_area.specs.declared.area.Area.{Area}
 use Rattle.dsa_area.specs.Shown as area
 use Rattle.dshash_parts.specs.declared.table.Dshash.{Dshash}
 use Rattle.dshash_parts.specs.Tables as table
-use Rattle.uses_load.specs.declared.number.Number.{Number}
-use Rattle.uses_load.specs.declared.number.NumberCall.{NumberCall}
+use Rattle.dshash_numbers.specs.declared.number.Number.{Number}
+use Rattle.dshash_numbers.specs.declared.number.NumberCall.{NumberCall}
 use Rattle.uses_load.specs.declared.table.Passes.{Passes}
 
 -- the passes are of this table and of this area

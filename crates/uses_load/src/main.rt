@@ -4,8 +4,7 @@
 //! what it was asked and how many of the calls went as they have to.
 //!
 //! `words` reads what is asked; `lock`, `area`, `queue` and `table` are the loads, a file a kind of object; `counter`
-//! is what stands behind the lock, `number` what the table keeps under a key, and `counts` adds up what the threads
-//! counted.
+//! is what stands behind the lock, and `counts` adds up what the threads counted.
 
 #![tactic(auto)]
 
@@ -13,7 +12,6 @@ mod area;
 mod counter;
 mod counts;
 mod lock;
-mod number;
 mod queue;
 mod table;
 #[cfg(test)]

@@ -9,8 +9,8 @@ ghost use Rattle.uses_load.specs.Passes.{AreBoth, HasBoth};
 
 use crate::area::area_for;
 use crate::counts::sum_of;
-use crate::number::{Number, NumberCall};
 use dsa_area::{Area, AreaPass};
+use dshash_numbers::{Number, NumberCall};
 use dshash_parts::{DsPass, Dshash};
 use region_words::Region;
 use std::alloc::{AllocError, Global};
@@ -238,16 +238,8 @@ fn gets<R: Wait>(
     let mut found = 0;
     for i in 0..calls {
         let key = i.wrapping_add(number << 32).wrapping_mul(SPREAD) % keys;
-        if replies(
-            rt,
-            table,
-            r,
-            area,
-            &mut passes,
-            key,
-            NumberCall::Get,
-            Some(key),
-        ) {
+        let stands = table.find(rt, r, &mut passes.table, &[key], &NumberCall::Get);
+        if stands == Some(key) {
             found += 1;
         }
     }

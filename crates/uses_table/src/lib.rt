@@ -21,5 +21,5 @@ mod states;
 mod tests;
 mod text;
 
-pub use cache::{forget, recall, remember};
+pub use cache::{forget, keep, own_name, recall, remember};
 pub use text::{Text, TextCall};

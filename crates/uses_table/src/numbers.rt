@@ -63,7 +63,7 @@ fn a_hundred_numbers(rt: HostRuntime) -> Result<(), Fail> {
         return Err(Fail::new("no table"));
     };
     let key = 7u64.to_le_bytes();
-    assert_eq!(rt; table.get(&rt, &region, &area, &mut apass, &key), None);
+    assert_eq!(rt; table.get(&rt, &region, &key), None);
     assert_eq!(rt;
         put_all(&rt, &mut table, &region, &area, &mut apass, 100),
         (100, 0)
@@ -72,7 +72,7 @@ fn a_hundred_numbers(rt: HostRuntime) -> Result<(), Fail> {
         put_all(&rt, &mut table, &region, &area, &mut apass, 100),
         (0, 0)
     );
-    assert_eq!(rt; table.get(&rt, &region, &area, &mut apass, &key), Some(7));
+    assert_eq!(rt; table.get(&rt, &region, &key), Some(7));
     assert_eq!(rt; table.take(&rt, &region, &area, &mut apass, &key), Some(7));
     assert_eq!(rt; table.take(&rt, &region, &area, &mut apass, &key), None);
     let total = table.total(&rt, rt.alloc(), &region)?;

@@ -1,16 +1,15 @@
 //! Two threads share a cache of texts: each remembers texts under names of its own and recalls them, while the table
 //! doubles; then all entries are listed, and some names are forgotten.
 
-ghost use Rattle.std.specs.Prelude.{◌≡◌, ◌+◌, ◌^◌, ◌<◌, ◌≤◌, IfOk};
+ghost use Rattle.std.specs.Prelude.{◌≡◌, ◌≤◌, IfOk};
 ghost use Rattle.lock_book.specs.Shown.{number_of};
 ghost use Rattle.dsa_area.specs.Shown.{AreAll as AreAllOfArea, Belongs as AreaBelongs, IsArea, callers_of as area_callers, number_of as area_number};
 ghost use Rattle.dshash_parts.specs.Tables.{IsTable, Belongs, key_words_of};
 
-use crate::{Text, forget, recall, remember};
+use crate::{Text, forget, keep, own_name, recall};
 use dsa_area::{Area, AreaPass, area_words};
-use dshash_core::pack_key;
 use dshash_parts::{DsPass, Dshash};
-use dshash_scan::list_all;
+use dshash_scan::{count_all, list_all};
 use region_words::Region;
 use std::alloc::{AllocError, Global};
 use std::sync::Wait;
@@ -85,45 +84,14 @@ fn cache_for_two<R: Wait>(
     Ok((region, area, table, zero, one))
 }
 
-/// Remembers a number's text under the number's name and recalls it. Says whether it is the same text.
-fn keeps<R: Wait>(
-    rt: &R,
-    cache: &Dshash<Text>,
-    r: &Region,
-    area: &Area,
-    pass: &mut DsPass<Text>,
-    apass: &mut AreaPass,
-    number: u64,
-) -> bool
-    requires table { IsTable r.now cache.now }
-    requires keys { key_words_of cache.now ≡ 32 }
-    requires own { Belongs cache.now pass.old }
-    requires area { IsArea r.now area.now }
-    requires area_own { AreaBelongs area.now apass.old }
-    ensures own { Belongs cache.now pass.new }
-    ensures caller { number_of pass.new ≡ number_of pass.old }
-    ensures area_own { AreaBelongs area.now apass.new }
-    ensures area_caller { area_number apass.new ≡ area_number apass.old }
-{
-    let Some(name) = pack_key(&number.to_le_bytes()) else {
-        return false;
-    };
-    let Some(text) = Text::of(b"a text") else {
-        return false;
-    };
-    let put = remember(rt, cache, r, area, pass, apass, &name, text);
-    let got = recall(rt, cache, r, area, pass, apass, &name);
-    put.is_ok() && got == Some(text)
-}
-
-/// The same with so many numbers from one on. Says how often it was, and hands the passes back.
+/// Keeps so many texts, each under a name of the caller's own. Says for how many there was room, and hands the passes
+/// back.
 fn keeps_all<R: Wait>(
     rt: &R,
     cache: &Dshash<Text>,
     r: &Region,
     area: &Area,
     passes: Passes,
-    from: u64,
     count: u64,
 ) -> (Passes, u64)
     requires table { IsTable r.now cache.now }
@@ -131,7 +99,6 @@ fn keeps_all<R: Wait>(
     requires own { Belongs cache.now passes.table }
     requires area { IsArea r.now area.now }
     requires area_own { AreaBelongs area.now passes.area }
-    requires few { from + count < 2 ^ 64 }
     ensures own { Belongs cache.now result.0.table }
     ensures area_own { AreaBelongs area.now result.0.area }
 {
@@ -140,9 +107,12 @@ fn keeps_all<R: Wait>(
         area: mut apass,
     } = passes;
     let mut good = 0u64;
-    for i in 0..count {
-        if keeps(rt, cache, r, area, &mut pass, &mut apass, from + i) {
-            good = good.saturating_add(1);
+    if let Some(text) = Text::of(b"a text") {
+        for number in 0..count {
+            let name = own_name(pass.number(), number);
+            if keep(rt, cache, r, area, &mut pass, &mut apass, &name, text).is_ok() {
+                good = good.saturating_add(1);
+            }
         }
     }
     let passes = Passes {
@@ -152,7 +122,7 @@ fn keeps_all<R: Wait>(
     (passes, good)
 }
 
-/// Two threads do so, each with numbers of its own. The first one's passes, and how often it was for each.
+/// Two threads do so, each with names of its own. The first one's passes, and how often it was for each.
 fn two_callers<R: Threads + Wait + Sync>(
     rt: &R,
     cache: &Dshash<Text>,
@@ -167,14 +137,13 @@ fn two_callers<R: Threads + Wait + Sync>(
     requires own { Belongs cache.now zero.table × Belongs cache.now one.table }
     requires area { IsArea r.now area.now }
     requires area_own { AreaBelongs area.now zero.area × AreaBelongs area.now one.area }
-    requires few { count ≤ 1000000 }
     ensures own { Belongs cache.now result.0.table }
     ensures area_own { AreaBelongs area.now result.0.area }
 {
     let ((zero, good), (_one, also)) = join(
         rt,
-        || keeps_all(rt, cache, r, area, zero, 0, count),
-        || keeps_all(rt, cache, r, area, one, 1_000_000, count),
+        || keeps_all(rt, cache, r, area, zero, count),
+        || keeps_all(rt, cache, r, area, one, count),
     );
     (zero, good, also)
 }
@@ -190,10 +159,11 @@ fn two_threads_share_a_cache(rt: HostRuntime) -> Result<(), Fail> {
     } = passes;
     let entries = list_all(&rt, rt.alloc(), &cache, &region, &mut pass)?;
     assert_eq!(rt; entries.len(), 400);
-    let name = pack_key(&7u64.to_le_bytes()).ok_or("too long")?;
+    assert_eq!(rt; count_all(&rt, &cache, &region, &mut pass), 400);
+    let name = own_name(pass.number(), 7);
     let gone = forget(&rt, &cache, &region, &area, &mut pass, &mut apass, &name);
     assert!(rt; gone == Text::of(b"a text"));
-    let again = recall(&rt, &cache, &region, &area, &mut pass, &mut apass, &name);
+    let again = recall(&rt, &cache, &region, &mut pass, &name);
     assert!(rt; again.is_none());
     Ok(())
 }

@@ -28,7 +28,8 @@ impl Text {
     }
 }
 
-/// What is asked of the text under a name. The reply is the text that stood there.
+/// What is asked of the text under a name. The reply is the text that stood there. Every caller may get it; to set or
+/// remove it is left to the one to whom the name belongs.
 #[derive(Clone, Copy)]
 pub enum TextCall {
     Get,
@@ -39,7 +40,7 @@ pub enum TextCall {
 impl CellObject for Text {
     ghost use Rattle.std.specs.Prelude.{◌≡◌, List, ℕ, Option, Some, None, length, refl};
     ghost use Rattle.uses_table.specs.declared.text.Text.{Text};
-    ghost use Rattle.uses_table.specs.Texts.{stepped};
+    ghost use Rattle.uses_table.specs.Texts.{may, stepped};
 
     const VALUE_WORDS: usize = TEXT_WORDS;
 
@@ -52,6 +53,8 @@ impl CellObject for Text {
     ghost VALUE_WORDS = { 32 };
 
     ghost stepped = { stepped };
+
+    ghost may = { may };
 
     ghost is_value = { λ text. length text.words ≡ 32 };
 
@@ -68,6 +71,13 @@ impl CellObject for Text {
             TextCall::Remove => None,
         };
         (next, state.copied())
+    }
+
+    fn reads(call: &TextCall) -> bool {
+        match call {
+            TextCall::Get => true,
+            TextCall::Set(_) | TextCall::Remove => false,
+        }
     }
 
     fn encode(state: &Text, out: &mut [u64]) {

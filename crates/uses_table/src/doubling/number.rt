@@ -45,6 +45,10 @@ impl CellObject for Number {
         (next, state.copied())
     }
 
+    fn reads(_call: &NumberCall) -> bool {
+        false
+    }
+
     fn encode(state: &u64, out: &mut [u64]) {
         out[0] = *state;
     }

@@ -1,5 +1,6 @@
-use Rattle.std.proofs.Common.{◌≡◌, ◌+◌, length, ap, ◌∙◌, length-append}
-use Rattle.dshash_parts.specs.Traces.{Gave}
+use Rattle.std.proofs.Common.{◌≡◌, ◌+◌, ℕ, length, ap, subst, ◌∙◌, length-append}
+use Rattle.dsa_area.specs.Sizes.{chunk_size}
+use Rattle.dshash_parts.specs.Traces.{Gave, Requested}
 use Rattle.dshash_parts.proofs.Opening.{slices_last, asks_first}
 use Rattle.dshash_parts.proofs.open.give_slices.Goals as goal
 
@@ -15,5 +16,5 @@ loop-slice-preserved g c =
       own = c.give.ensures.own;
       caller = c.give.ensures.caller ∙ i.caller;
       slices = s.0;
-      gave = λ q h. i.gave q (asks_first c.args.area.now c.loop-slice.apass _ q (length c.pop.new.self.items) (length c.loop-slice.slices.items) Gave one c.give.ensures.gave h);
+      gave = λ q h. i.gave q (asks_first c.args.area.now c.loop-slice.apass _ q (length c.pop.new.self.items) (length c.loop-slice.slices.items) (Gave (chunk_size 8)) one (subst (λ (z : ℕ). Requested c.args.area.now c.loop-slice.apass c.give.new.apass (Gave z)) s.2 c.give.ensures.gave) h);
     }

@@ -1,5 +1,6 @@
 use Rattle.std.proofs.Common.{◌≡◌, length, replicate}
 use Rattle.dsa_area.specs.declared.area.AreaPass.{AreaPass}
+use Rattle.dsa_area.specs.Sizes.{chunk_size}
 use Rattle.dsa_area.specs.Shown as area
 use Rattle.dshash_parts.specs.Traces.{Gave}
 use Rattle.dshash_parts.specs.Opening.{Asks, AreSlices}
@@ -10,7 +11,7 @@ invariant-loop-slice g l = record {
   own : area.Belongs l.area l.apass;
   caller : area.number_of l.apass ≡ area.number_of l.fn.apass;
   slices : AreSlices l.r l.slices.items;
-  gave : (q : AreaPass) → Asks l.area l.apass q (replicate (length l.slices.items) Gave) → Asks l.area l.fn.apass q (replicate (length l.fn.slices.items) Gave);
+  gave : (q : AreaPass) → Asks l.area l.apass q (replicate (length l.slices.items) (Gave (chunk_size 8))) → Asks l.area l.fn.apass q (replicate (length l.fn.slices.items) (Gave (chunk_size 8)));
 }
 
 abbrev pub decreases-loop-slice : goal.decreases-loop-slice

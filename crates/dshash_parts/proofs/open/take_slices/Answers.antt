@@ -1,4 +1,4 @@
-use Rattle.std.proofs.Common.{◌≡◌, ℕ, ◌+◌, length, replicate, refl, sym, ap, subst, ◌∙◌, arith, length-append, List}
+use Rattle.std.proofs.Common.{◌≡◌, ℕ, ◌+◌, length, replicate, refl, sym, ap, subst, ◌∙◌, arith, length-append, List, inl}
 use Rattle.region_words.specs.declared.chunk.Chunk.{Chunk}
 use Rattle.dshash_parts.specs.Traces.{Got}
 use Rattle.dshash_parts.specs.Opening.{Asks, AreSlices}
@@ -24,7 +24,7 @@ loop-taken-preserved g c =
       caller = c.in-Ok-ask.ensures.caller ∙ i.caller;
       count = omega (arith, more, i.count);
       room = omega (arith, i.room, c.push_reserved.ensures.capacity);
-      slices = slices_next c.args.r.now c.push_reserved.new.self.items c.loop-taken.slices.items c.in-Ok-ask.slice c.push_reserved.ensures.items i.slices c.in-Ok-ask.ensures.here c.in-Ok-ask.ensures.holds;
+      slices = slices_next c.args.r.now c.push_reserved.new.self.items c.loop-taken.slices.items c.in-Ok-ask.slice c.push_reserved.ensures.items i.slices c.in-Ok-ask.ensures.here c.in-Ok-ask.ensures.holds c.in-Ok-ask.ensures.size;
       asked = asks_next c.args.area.now c.args.apass.now c.loop-taken.apass c.ask.new.apass c.loop-taken._taken (c.loop-taken._taken + 1) (Got 8) refl i.asked c.in-Ok-ask.ensures.asked;
     }
 
@@ -41,3 +41,6 @@ pub returns-clause-asked : goal.returns-clause-asked
 returns-clause-asked g c =
     let all : c.loop-taken._taken ≡ 128 = omega (arith, c.loop-taken-test.false, c.loop-taken.auto._taken-end) in
     subst (λ (n : ℕ). Asks c.args.area.now c.args.apass.now c.loop-taken.apass (replicate n (Got 8))) all c.loop-taken.invariant.asked
+
+pub returns-in-Err-clause-refused : goal.returns-in-Err-clause-refused
+returns-in-Err-clause-refused g c = inl refl

@@ -1,4 +1,5 @@
-use Rattle.std.proofs.Common.{◌≡◌, ℕ, ◌+◌, ◌-◌, ◌*◌, ◌<◌, ◌≤◌, Option, is_some, IfSome, refl, sym, ap, subst, ◌∙◌, arith}
+use Rattle.std.proofs.Common.{◌≡◌, ℕ, ◌+◌, ◌-◌, ◌*◌, ◌<◌, ◌≤◌, Option, Some, None, is_some, IfSome, refl, sym, ap, subst, ◌∙◌, arith}
+use Rattle.atomic_table.specs.Seated.{TableId}
 use Rattle.region_words.specs.declared.chunk.Chunk.{Chunk}
 use Rattle.dsa_area.specs.Sizes.{chunk_size}
 use Rattle.lock_book.specs.Shown.{number_of, seen_of, mine_of}
@@ -8,13 +9,29 @@ use Rattle.dshash_parts.specs.Tables.{item_of, size_at}
 use Rattle.dshash_parts.specs.Traces.{sight_of}
 use Rattle.dshash_parts.specs.Promises.{one_if}
 use Rattle.dshash_parts.proofs.Uses.{partition_low, seen_cells, seen_roomy}
+use Rattle.dshash_parts.proofs.Owners.{allowed, lawful, own_cells}
 use Rattle.dshash_parts.proofs.Rounds.{starts}
 use Rattle.dshash_parts.proofs.Ends.{made, last, no_item, item_came, full_size, all_came, no_slice}
 use Rattle.dshash_parts.proofs.table.Dshash.call.Goals as goal
 
+-- the bytes of what is handed out
+unused_bytes : (region : TableId) (n : ℕ) (spare unused : Option Chunk) → IfSome spare (λ x. (x.part.region ≡ region) × (x.bytes ≡ n)) → IfSome unused (λ x. spare ≡ Some x) → IfSome unused (λ x. x.bytes ≡ n)
+unused_bytes region n spare (Some x) h e = (subst (λ (o : Option Chunk). IfSome o (λ y. (y.part.region ≡ region) × (y.bytes ≡ n))) e h).1
+unused_bytes region n spare None h e = tt
+
+only_bytes : (region : TableId) (n : ℕ) (o : Option Chunk) → IfSome o (λ x. (x.part.region ≡ region) × (x.bytes ≡ n)) → IfSome o (λ x. x.bytes ≡ n)
+only_bytes region n (Some x) h = h.1
+only_bytes region n None h = tt
+
+kept_bytes : (region : TableId) (n : ℕ) (spare kept : Option Chunk) → IfSome spare (λ x. (x.part.region ≡ region) × (x.bytes ≡ n)) → kept ≡ spare → IfSome kept (λ x. x.bytes ≡ n)
+kept_bytes region n spare kept h e = only_bytes region n kept (subst (λ (o : Option Chunk). IfSome o (λ y. (y.part.region ≡ region) × (y.bytes ≡ n))) (sym e) h)
+
+pub try_at-requires-clause-may : goal.try_at-requires-clause-may
+try_at-requires-clause-may g c κs within = subst (λ (n : ℕ). g.O.CellObject.may n c.args.key.now c.args.call.now) (sym c.turns.invariant.caller) c.requires.may
+
 pub turns-init : goal.turns-init
 turns-init g c =
-    let low = (seen_roomy g.O.CellObject.stepped (seen_of c.args.pass.now) (λ i few. c.requires.own.stands.lawful i _ (c.requires.table.parts i few)) (partition_of (hash_of c.args.key.now)) (partition_low c.args.key.now)).from in
+    let low = (seen_roomy g.O.CellObject.stepped (seen_of c.args.pass.now) (λ i few. lawful g.O.CellObject.stepped g.O.CellObject.may i _ _ (c.requires.own.stands.lawful i _ (c.requires.table.parts i few))) (partition_of (hash_of c.args.key.now)) (partition_low c.args.key.now)).from in
     record {
       own = c.requires.own;
       caller = refl;
@@ -29,11 +46,13 @@ returns-in-Done-clause-made g c =
     let i = c.turns.invariant in
     let home = partition_of (hash_of c.args.key.now) in
     let same_at : c.partition_of_hash-number.result ≡ home = c.partition_of_hash-number.ensures.is ∙ ap partition_of c.hash_key-hash.ensures in
-    let most = (seen_roomy g.O.CellObject.stepped (seen_of c.turns.pass) (λ k few. i.own.stands.lawful k _ (c.requires.table.parts k few)) home (partition_low c.args.key.now)).to in
+    let most = (seen_roomy g.O.CellObject.stepped (seen_of c.turns.pass) (λ k few. lawful g.O.CellObject.stepped g.O.CellObject.may k _ _ (i.own.stands.lawful k _ (c.requires.table.parts k few))) home (partition_low c.args.key.now)).to in
     made home (item_of c.args.self.now) c.args.key.now c.args.call.now g.O.CellObject.stepped c.args.area.now (number_of c.args.pass.now) (sight_of c.args.pass.now c.args.apass.now)
     c.partition_of_hash-number.result (number_of c.turns.pass) (seen_of c.turns.pass) (mine_of c.turns.pass) (seen_of c.try_at.new.pass) (mine_of c.try_at.new.pass) (is_some c.turns.spare) same_at i.caller
     c.turns.apass c.give_back.new.apass c.give_back-in-Done.new.apass c.in-Done.reply (is_some c.in-Done.unused) (is_some c.in-Done.freed) i.underway most
-    c.in-Done.ensures.event c.give_back.ensures.gave c.give_back.ensures.caller c.give_back-in-Done.ensures.gave c.give_back-in-Done.ensures.caller
+    c.in-Done.ensures.event (c.give_back.ensures.gave (chunk_size (item_of c.args.self.now)) (unused_bytes c.args.r.now (chunk_size (item_of c.args.self.now)) c.turns.spare c.in-Done.unused i.spare c.in-Done.ensures.handed.0)) c.give_back.ensures.caller
+    (c.give_back-in-Done.ensures.gave (chunk_size (item_of c.args.self.now)) (only_bytes c.args.r.now (chunk_size (item_of c.args.self.now)) c.in-Done.freed c.in-Done.ensures.handed.1)) c.give_back-in-Done.ensures.caller
+    c.in-Done.ensures.grows
 
 pub returns-in-Done-clause-last : goal.returns-in-Done-clause-last
 returns-in-Done-clause-last g c =
@@ -44,10 +63,10 @@ returns-in-Done-clause-last g c =
     c.in-Done.reply (is_some c.in-Done.unused) (is_some c.in-Done.freed) c.in-Done.ensures.event
 
 pub returns-in-Done-clause-cells : goal.returns-in-Done-clause-cells
-returns-in-Done-clause-cells g c = seen_cells g.O.CellObject.stepped (seen_of c.try_at.new.pass) (λ k few. c.in-Done.ensures.own.stands.lawful k _ (c.requires.table.parts k few))
+returns-in-Done-clause-cells g c = seen_cells g.O.CellObject.stepped (seen_of c.try_at.new.pass) (λ k few. lawful g.O.CellObject.stepped g.O.CellObject.may k _ _ (c.in-Done.ensures.own.stands.lawful k _ (c.requires.table.parts k few)))
 
 pub returns-in-Done-clause-roomy : goal.returns-in-Done-clause-roomy
-returns-in-Done-clause-roomy g c = seen_roomy g.O.CellObject.stepped (seen_of c.try_at.new.pass) (λ k few. c.in-Done.ensures.own.stands.lawful k _ (c.requires.table.parts k few))
+returns-in-Done-clause-roomy g c = seen_roomy g.O.CellObject.stepped (seen_of c.try_at.new.pass) (λ k few. lawful g.O.CellObject.stepped g.O.CellObject.may k _ _ (c.in-Done.ensures.own.stands.lawful k _ (c.requires.table.parts k few)))
 
 -- no item
 pub returns-in-Err-clause-refused : goal.returns-in-Err-clause-refused
@@ -55,16 +74,16 @@ returns-in-Err-clause-refused g c =
     let i = c.turns.invariant in
     let home = partition_of (hash_of c.args.key.now) in
     let same_at : c.partition_of_hash-number.result ≡ home = c.partition_of_hash-number.ensures.is ∙ ap partition_of c.hash_key-hash.ensures in
-    let most = (seen_roomy g.O.CellObject.stepped (seen_of c.turns.pass) (λ k few. i.own.stands.lawful k _ (c.requires.table.parts k few)) home (partition_low c.args.key.now)).to in
+    let most = (seen_roomy g.O.CellObject.stepped (seen_of c.turns.pass) (λ k few. lawful g.O.CellObject.stepped g.O.CellObject.may k _ _ (i.own.stands.lawful k _ (c.requires.table.parts k few))) home (partition_low c.args.key.now)).to in
     no_item home (item_of c.args.self.now) c.args.key.now c.args.call.now g.O.CellObject.stepped c.args.area.now (number_of c.args.pass.now) (sight_of c.args.pass.now c.args.apass.now)
     c.partition_of_hash-number.result (number_of c.turns.pass) (seen_of c.turns.pass) (mine_of c.turns.pass) (seen_of c.try_at.new.pass) (mine_of c.try_at.new.pass) (is_some c.turns.spare) same_at i.caller
     c.turns.apass c.ask.new.apass c.in-Err.lack.pages c.in-Err.lack.largest i.underway most c.in-NeedItem.ensures.event c.in-Err.ensures.asked c.in-Err.ensures.caller
 
 pub returns-in-Err-clause-cells : goal.returns-in-Err-clause-cells
-returns-in-Err-clause-cells g c = seen_cells g.O.CellObject.stepped (seen_of c.try_at.new.pass) (λ k few. c.in-NeedItem.ensures.own.stands.lawful k _ (c.requires.table.parts k few))
+returns-in-Err-clause-cells g c = seen_cells g.O.CellObject.stepped (seen_of c.try_at.new.pass) (λ k few. lawful g.O.CellObject.stepped g.O.CellObject.may k _ _ (c.in-NeedItem.ensures.own.stands.lawful k _ (c.requires.table.parts k few)))
 
 pub returns-in-Err-clause-roomy : goal.returns-in-Err-clause-roomy
-returns-in-Err-clause-roomy g c = seen_roomy g.O.CellObject.stepped (seen_of c.try_at.new.pass) (λ k few. c.in-NeedItem.ensures.own.stands.lawful k _ (c.requires.table.parts k few))
+returns-in-Err-clause-roomy g c = seen_roomy g.O.CellObject.stepped (seen_of c.try_at.new.pass) (λ k few. lawful g.O.CellObject.stepped g.O.CellObject.may k _ _ (c.in-NeedItem.ensures.own.stands.lawful k _ (c.requires.table.parts k few)))
 
 -- an item came
 pub turns-preserved-in-Ok : goal.turns-preserved-in-Ok
@@ -80,7 +99,7 @@ turns-preserved-in-Ok g c =
       spare = (c.in-Ok.ensures.here, c.in-Ok.ensures.size);
       underway = item_came home (item_of c.args.self.now) c.args.key.now c.args.call.now g.O.CellObject.stepped c.args.area.now (number_of c.args.pass.now) (sight_of c.args.pass.now c.args.apass.now)
           c.partition_of_hash-number.result (number_of c.turns.pass) (seen_of c.turns.pass) (mine_of c.turns.pass) (seen_of c.try_at.new.pass) (mine_of c.try_at.new.pass) (is_some c.turns.spare) same_at i.caller
-          c.turns.apass c.ask.new.apass i.underway (c.in-NeedItem.ensures.grows home (partition_low c.args.key.now)) c.in-NeedItem.ensures.event c.in-Ok.ensures.asked c.in-Ok.ensures.caller;
+          c.turns.apass c.ask.new.apass i.underway (partition_low c.args.key.now) c.in-NeedItem.ensures.grows c.in-NeedItem.ensures.event c.in-Ok.ensures.asked c.in-Ok.ensures.caller;
     }
 
 -- no slice
@@ -93,13 +112,13 @@ returns-in-Err-double-clause-refused g c =
     c.partition_of_hash-number.result (number_of c.turns.pass) (seen_of c.turns.pass) (mine_of c.turns.pass) (seen_of c.try_at.new.pass) (mine_of c.try_at.new.pass) (is_some c.turns.spare) same_at i.caller
     c.in-TooFull.size (is_some c.in-TooFull.kept) c.in-TooFull.ensures.event (c.in-TooFull.ensures.grows home (partition_low c.args.key.now))
     (number_of c.try_at.new.pass) c.in-Err-double.lack.pages c.in-Err-double.lack.largest c.turns.apass (sight_of c.double.new.pass c.double.new.apass) (is_some c.in-TooFull.kept) refl
-    (c.in-TooFull.ensures.caller ∙ i.caller) i.underway c.in-Err-double.ensures.refused
+    (c.in-TooFull.ensures.caller ∙ i.caller) i.underway (c.in-Err-double.ensures.refused (chunk_size (item_of c.args.self.now)) (kept_bytes c.args.r.now (chunk_size (item_of c.args.self.now)) c.turns.spare c.in-TooFull.kept i.spare c.in-TooFull.ensures.handed))
 
 pub returns-in-Err-double-clause-cells : goal.returns-in-Err-double-clause-cells
-returns-in-Err-double-clause-cells g c = seen_cells g.O.CellObject.stepped (seen_of c.double.new.pass) (λ k few. c.in-Err-double.ensures.own.stands.lawful k _ (c.requires.table.parts k few))
+returns-in-Err-double-clause-cells g c = seen_cells g.O.CellObject.stepped (seen_of c.double.new.pass) (λ k few. lawful g.O.CellObject.stepped g.O.CellObject.may k _ _ (c.in-Err-double.ensures.own.stands.lawful k _ (c.requires.table.parts k few)))
 
 pub returns-in-Err-double-clause-roomy : goal.returns-in-Err-double-clause-roomy
-returns-in-Err-double-clause-roomy g c = seen_roomy g.O.CellObject.stepped (seen_of c.double.new.pass) (λ k few. c.in-Err-double.ensures.own.stands.lawful k _ (c.requires.table.parts k few))
+returns-in-Err-double-clause-roomy g c = seen_roomy g.O.CellObject.stepped (seen_of c.double.new.pass) (λ k few. lawful g.O.CellObject.stepped g.O.CellObject.may k _ _ (c.in-Err-double.ensures.own.stands.lawful k _ (c.requires.table.parts k few)))
 
 -- all partitions grew
 pub turns-preserved : goal.turns-preserved
@@ -119,7 +138,8 @@ turns-preserved g c =
           c.partition_of_hash-number.result (number_of c.turns.pass) (seen_of c.turns.pass) (mine_of c.turns.pass) (seen_of c.try_at.new.pass) (mine_of c.try_at.new.pass) (is_some c.turns.spare) same_at i.caller
           c.in-TooFull.size (is_some c.in-TooFull.kept) c.in-TooFull.ensures.event (c.in-TooFull.ensures.grows home (partition_low c.args.key.now))
           (number_of c.try_at.new.pass) (seen_of c.double.new.pass) (mine_of c.double.new.pass) c.turns.apass c.double.new.apass (is_some c.in-Ok-double.kept) (ap is_some c.in-Ok-double.ensures.spare)
-          (c.in-TooFull.ensures.caller ∙ i.caller) i.underway c.in-Ok-double.ensures.swept (c.in-Ok-double.ensures.large home (partition_low c.args.key.now));
+          (c.in-TooFull.ensures.caller ∙ i.caller) i.underway c.in-Ok-double.ensures.swept (partition_low c.args.key.now) c.in-Ok-double.ensures.large
+          (λ k few. let x = c.in-TooFull.ensures.grows k few in let y = c.in-Ok-double.ensures.grows k few in omega arith);
     }
 
 -- a size that rose, and the spare as it was
@@ -139,3 +159,21 @@ turns-smaller g c =
     let before : size_at (seen_of c.turns.pass) home ≤ c.in-TooFull.size = omega arith in
     less (size_at (seen_of c.turns.pass) home) c.in-TooFull.size (size_at (seen_of c.double.new.pass) home) (one_if (is_some c.turns.spare)) (one_if (is_some c.in-Ok-double.kept)) before full.2
     (c.in-Ok-double.ensures.large home (partition_low c.args.key.now)) (ap (λ o. one_if (is_some o)) (c.in-Ok-double.ensures.spare ∙ c.in-TooFull.ensures.handed))
+
+pub returns-in-Done-clause-allowed : goal.returns-in-Done-clause-allowed
+returns-in-Done-clause-allowed g c = λ k few. allowed g.O.CellObject.stepped g.O.CellObject.may k _ _ (c.in-Done.ensures.own.stands.lawful k _ (c.requires.table.parts k few))
+
+pub returns-in-Done-clause-owned : goal.returns-in-Done-clause-owned
+returns-in-Done-clause-owned g c = own_cells g.O.CellObject.stepped g.O.CellObject.may (number_of c.try_at.new.pass) (number_of c.args.pass.now) (seen_of c.try_at.new.pass) (mine_of c.try_at.new.pass) (c.in-Done.ensures.caller ∙ c.turns.invariant.caller) (λ k few. c.in-Done.ensures.own.stands.lawful k _ (c.requires.table.parts k few)) c.in-Done.ensures.own.stands.own
+
+pub returns-in-Err-clause-allowed : goal.returns-in-Err-clause-allowed
+returns-in-Err-clause-allowed g c = λ k few. allowed g.O.CellObject.stepped g.O.CellObject.may k _ _ (c.in-NeedItem.ensures.own.stands.lawful k _ (c.requires.table.parts k few))
+
+pub returns-in-Err-clause-owned : goal.returns-in-Err-clause-owned
+returns-in-Err-clause-owned g c = own_cells g.O.CellObject.stepped g.O.CellObject.may (number_of c.try_at.new.pass) (number_of c.args.pass.now) (seen_of c.try_at.new.pass) (mine_of c.try_at.new.pass) (c.in-NeedItem.ensures.caller ∙ c.turns.invariant.caller) (λ k few. c.in-NeedItem.ensures.own.stands.lawful k _ (c.requires.table.parts k few)) c.in-NeedItem.ensures.own.stands.own
+
+pub returns-in-Err-double-clause-allowed : goal.returns-in-Err-double-clause-allowed
+returns-in-Err-double-clause-allowed g c = λ k few. allowed g.O.CellObject.stepped g.O.CellObject.may k _ _ (c.in-Err-double.ensures.own.stands.lawful k _ (c.requires.table.parts k few))
+
+pub returns-in-Err-double-clause-owned : goal.returns-in-Err-double-clause-owned
+returns-in-Err-double-clause-owned g c = own_cells g.O.CellObject.stepped g.O.CellObject.may (number_of c.double.new.pass) (number_of c.args.pass.now) (seen_of c.double.new.pass) (mine_of c.double.new.pass) (c.in-Err-double.ensures.caller ∙ (c.in-TooFull.ensures.caller ∙ c.turns.invariant.caller)) (λ k few. c.in-Err-double.ensures.own.stands.lawful k _ (c.requires.table.parts k few)) c.in-Err-double.ensures.own.stands.own

@@ -1,5 +1,6 @@
 use Rattle.std.proofs.Common.{ℕ, ◌≤◌, sym, ap, subst, ◌∙◌, arith}
 use lib.ListN.{get_elem?}
+use Rattle.dshash_parts.proofs.Owners.{allowed, lawful}
 use Rattle.dshash_parts.proofs.table.Dshash.close.Goals as goal
 
 pub returns-clause-left : goal.returns-clause-left
@@ -14,4 +15,7 @@ returns-clause-parts g c = λ region t. record {
 pub returns-clause-ended : goal.returns-clause-ended
 returns-clause-ended g c =
     let e = c.close.ensures.ended in
-    record { lawful = λ i low. e.lawful i _ (c.requires.table.1.parts i low); begins = e.begins; mine = e.mine; no_others = e.no_others }
+    record { lawful = λ i low. lawful g.O.CellObject.stepped g.O.CellObject.may i _ _ (e.lawful i _ (c.requires.table.1.parts i low)); begins = e.begins; mine = e.mine; no_others = e.no_others }
+
+pub returns-clause-allowed : goal.returns-clause-allowed
+returns-clause-allowed g c = λ i low. allowed g.O.CellObject.stepped g.O.CellObject.may i _ _ (c.close.ensures.ended.lawful i _ (c.requires.table.1.parts i low))

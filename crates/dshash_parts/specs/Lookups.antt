@@ -1,0 +1,22 @@
+-- Calls that neither make a cell nor remove one.
+use Rattle.std.specs.Prelude.{◌≡◌, ℕ, List, Option, is_some}
+use Rattle.std.specs.FinMap as fin
+use Rattle.lock_book.specs.Told.{Histories}
+use Rattle.dshash_core.specs.Key.{hash_of}
+use Rattle.dshash_core.specs.Cells.{partition_of}
+use Rattle.dshash_parts.specs.States.{PartitionState}
+use Rattle.dshash_parts.specs.Tables.{map_at}
+use Rattle.dshash_parts.specs.declared.histories.PartitionCalls.{PartitionCalls}
+use Rattle.dshash_parts.specs.declared.histories.PartitionReplies.{PartitionReplies}
+
+module _ {S C R : Type 0} (step : Option S → C → Option S × R) where
+  -- the call leaves a state where there is one, and none where there is none
+  abbrev pub KeepsCells : C → Type 0
+  KeepsCells call = (s : Option S) → is_some (step s call).0 ≡ is_some s
+
+  -- The call was made, with this reply, from some state, which was that of the key's cell; what it leaves stands there
+  -- now
+  pub record IsFound (seen : Histories (PartitionState S) (PartitionCalls C) (PartitionReplies S R)) (key : List ℕ) (call : C) (reply : R) : Type 0 where
+    pub from : Option S
+    pub replied : reply ≡ (step from call).1
+    pub stands : fin.get (map_at seen (partition_of (hash_of key))) key ≡ (step from call).0
