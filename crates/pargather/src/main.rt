@@ -8,34 +8,51 @@
 #[cfg(test)]
 mod tests;
 
-use par_gather::{NO_MEMORY, OpenGate, pargather};
+use par_gather::{NO_MEMORY, OpenGate, misused, pargather};
 use par_io::{StdSink, StdSource};
+use std::env::Env;
 use std::io::ErrorKind;
 use std::process::ExitCode;
 use std::{env, io};
 
-/// The words after the program's name. Where one is no UTF-8 there are none, which is no plan.
-fn words(rt: &HostRuntime) -> io::Result<Vec<String>> {
+/// The longest of the first words that name a form.
+const LONGEST_NAME: usize = 5;
+
+/// The words after the program's name; none of them where one is no UTF-8.
+fn words(rt: &HostRuntime) -> io::Result<Option<Vec<String>>> {
     let mut words = Vec::new(rt.alloc());
     match env::args(rt) {
         Ok(args) => {
             for word in args.skip(1) {
                 words.push(word)?;
             }
+            Ok(Some(words))
         }
-        Err(e) if e.kind() == ErrorKind::InvalidData => {}
-        Err(e) => return Err(e),
+        Err(e) if e.kind() == ErrorKind::InvalidData => Ok(None),
+        Err(e) => Err(e),
+    }
+}
+
+/// The first word alone, where it is as short as the name of a form.
+fn first_word(rt: &HostRuntime) -> io::Result<Vec<String>> {
+    let mut bytes = [0; LONGEST_NAME];
+    let mut words = Vec::new(rt.alloc());
+    if let Ok(len) = rt.arg(1, &mut bytes) {
+        if let Ok(word) = str::from_utf8(&bytes[..len]) {
+            words.push(String::from_str(rt.alloc(), word)?)?;
+        }
     }
     Ok(words)
 }
 
-fn main(rt: HostRuntime) -> ExitCode {
-    let Ok(words) = words(&rt) else {
-        let _ = eprintln!(rt; "pargather: out of memory");
-        return ExitCode::from(NO_MEMORY);
+/// Answers the words, or says how the program is called where one of them is no UTF-8.
+fn answer(rt: &HostRuntime) -> io::Result<u8> {
+    let Some(words) = words(rt)? else {
+        let words = first_word(rt)?;
+        return Ok(misused(words.as_slice(), &mut StdSink::new(rt.stderr())));
     };
-    let status = pargather(
-        &rt,
+    Ok(pargather(
+        rt,
         rt.alloc(),
         words.as_slice(),
         &mut StdSource::new(rt.stdin()),
@@ -43,6 +60,13 @@ fn main(rt: HostRuntime) -> ExitCode {
         &mut StdSink::new(rt.stderr()),
         &OpenGate,
         &mut None,
-    );
+    ))
+}
+
+fn main(rt: HostRuntime) -> ExitCode {
+    let Ok(status) = answer(&rt) else {
+        let _ = eprintln!(rt; "pargather: out of memory");
+        return ExitCode::from(NO_MEMORY);
+    };
     ExitCode::from(status)
 }
