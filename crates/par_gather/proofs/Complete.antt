@@ -1,5 +1,5 @@
 -- Without a fault a status is that of the outcome, or there was no memory.
-use Rattle.std.proofs.Common.{◌≡◌, ◌≢◌, ◌⊎◌, Bool, inl, inr, ℕ, List, Option, None, Some, IfSome}
+use Rattle.std.proofs.Common.{◌≡◌, ◌≢◌, ◌⊎◌, inl, inr, ℕ, List, Option, None, Some, IfSome}
 use Rattle.std.proofs.lemmas.Bool.Decides.{eqb_tells}
 use Rattle.std.proofs.lemmas.Option.{IfSome_then}
 use Rattle.query_answer.specs.declared.status.TheConstants.{NO_MEMORY, READ_FAULT, WRITE_FAULT}

@@ -1,5 +1,5 @@
 -- Joins: what their ends answer.
-use Rattle.std.proofs.Common.{◌≡◌, ◌≢◌, ℕ, List, Option, None, Some, IfSome, ap, refl, take}
+use Rattle.std.proofs.Common.{◌≡◌, ◌≢◌, ℕ, List, Option, None, Some, IfSome, refl, take}
 use Rattle.std.specs.Prelude.{IsNone}
 use Rattle.std.proofs.lemmas.Option.{IfSome_then}
 use Rattle.std.specs.Io.KnownBytes.{Appends}
@@ -11,7 +11,7 @@ use Rattle.join_query.specs.Outcome.{IsOutcome, Joins}
 use Rattle.join_query.specs.Used.{IsJoinBy}
 use Rattle.join_query.specs.Words.{Asked}
 use Rattle.par_model.specs.Table.{table_text}
-use Rattle.query_answer.specs.declared.status.TheConstants.{MISUSED, REFUSED, TABLE, WRITE_FAULT}
+use Rattle.query_answer.specs.declared.status.TheConstants.{MISUSED, TABLE, WRITE_FAULT}
 use Rattle.par_gather.specs.Answers.{Answers, IsLine, IsText}
 use Rattle.par_gather.specs.Query.{OfJoin}
 use Rattle.par_gather.specs.Runs.{IsRun}

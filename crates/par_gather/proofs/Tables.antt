@@ -1,5 +1,5 @@
 -- Queries over one table: what their ends answer.
-use Rattle.std.proofs.Common.{◌≡◌, ◌≢◌, ◌⊎◌, ◌∙◌, inl, inr, ℕ, List, Option, None, Some, IfSome, ap, arith, refl, sym, take}
+use Rattle.std.proofs.Common.{◌≡◌, ◌⊎◌, inl, inr, ℕ, List, Option, Some, IfSome, ap, arith, refl, sym, take}
 use Rattle.std.specs.Prelude.{IsNone}
 use Rattle.std.proofs.lemmas.Option.{IfSome_then}
 use Rattle.std.specs.Io.KnownBytes.{Appends}
@@ -7,7 +7,7 @@ use Rattle.join_query.specs.Lines.{IsNoFault}
 use Rattle.par_model.specs.Outcome.{Table}
 use Rattle.plan_spec.specs.Query.{Query}
 use Rattle.query_answer.specs.Lines.{line}
-use Rattle.query_answer.specs.declared.status.TheConstants.{MISUSED, TABLE, WRITE_FAULT}
+use Rattle.query_answer.specs.declared.status.TheConstants.{MISUSED, TABLE}
 use Rattle.table_query.specs.Answers.{outcome_over, status_of}
 use Rattle.table_query.specs.Asked.{plan_in, workers_in}
 use Rattle.table_query.specs.Stops.{IsExplained, IsFirstStop, stop_status, stop_text}
@@ -15,34 +15,11 @@ use Rattle.table_query.specs.declared.stop.Stop.{Stop}
 use Rattle.table_query.specs.declared.stop.Stop.TheVariants as stop
 use Rattle.table_query.specs.declared.wanted.Wanted.{Wanted}
 use Rattle.table_query.specs.declared.wanted.Wanted.TheVariants.{Groups, Order}
-use Rattle.table_query.proofs.Statuses.{line_first, line_outcome, outcome_told}
+use Rattle.table_query.proofs.Statuses.{is_write_fault, line_first, line_outcome, never_table, outcome_told}
 use Rattle.par_gather.specs.Answers.{Answers, IsLine, IsText}
 use Rattle.par_gather.specs.Query.{OfTable}
 use Rattle.par_gather.specs.Runs.{IsRun}
 use Rattle.par_gather.specs.declared.Ran.{Ran}
-
--- a reason has a status of its own
-never_table : (why : Stop) → stop_status why ≢ TABLE
-never_table stop.Usage is = cc is
-never_table stop.ReadFault is = cc is
-never_table stop.TooManyBytes is = cc is
-never_table stop.NoHeader is = cc is
-never_table stop.TooManyRows is = cc is
-never_table (stop.NoColumn name) is = cc is
-never_table (stop.Refused row why) is = cc is
-never_table stop.WriteFault is = cc is
-never_table stop.Memory is = cc is
-
-pub is_write_fault : (why : Stop) → stop_status why ≡ WRITE_FAULT → why ≡ stop.WriteFault
-is_write_fault stop.Usage is = cc is
-is_write_fault stop.ReadFault is = cc is
-is_write_fault stop.TooManyBytes is = cc is
-is_write_fault stop.NoHeader is = cc is
-is_write_fault stop.TooManyRows is = cc is
-is_write_fault (stop.NoColumn name) is = cc is
-is_write_fault (stop.Refused row why) is = cc is
-is_write_fault stop.WriteFault is = refl
-is_write_fault stop.Memory is = cc is
 
 -- where there is a text, the outcome is a table
 has_table : (wanted : Wanted) (query : Option Query) (bytes text : List ℕ) → IsText (OfTable wanted query) bytes text → outcome_over (plan_in query) bytes ≡ Table

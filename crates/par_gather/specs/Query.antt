@@ -1,6 +1,6 @@
 -- What the words of a command line ask for: the groups of a table by options that name a plan, its rows in order by
 -- `merge COLUMNS N`, the join of two tables by `join COLUMN N`, or generated rows by `gen SEED ROWS`.
-use Rattle.std.specs.Prelude.{[], ◌⊎◌, ◌≡◌, ℕ, List, Option, Some, IsNone, codes, if◌then◌else◌, ⊤}
+use Rattle.std.specs.Prelude.{[], ◌⊎◌, ◌≡◌, ℕ, List, Option, Some, IsNone, if◌then◌else◌, ⊤}
 use Rattle.gen_query.specs.Words.{gen_of, is_gen}
 use Rattle.gen_query.specs.Words as gen
 use Rattle.join_query.specs.Lines.{cause_text}

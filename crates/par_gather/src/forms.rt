@@ -1,6 +1,6 @@
 //! Each form of the words, from the words to the status.
 
-ghost use Rattle.std.specs.Prelude.{◌≡◌, ◌≢◌, ℕ, List, IsNone, None, Contains};
+ghost use Rattle.std.specs.Prelude.{◌≡◌, ◌≢◌, ℕ, List, Option, IsNone, Contains};
 ghost use Rattle.gen_query.specs.Words.{gen_of};
 ghost use Rattle.join_query.specs.Words.{join_of};
 ghost use Rattle.merge_answers.specs.Ordered.{merge_plan_of};

@@ -109,13 +109,14 @@ pub fn pargather<R: Threads + Wait + Sync, S: Source, O: Sink, E: Sink, G: Gate 
 /// Answers a command line that is not the text of words, as one of which a word is no UTF-8: by the line that says how the
 /// program is called in the form that `words` begin with, which are as many of its first words as are wanted for that.
 /// It returns the exit status [`MISUSED`]. It takes no memory.
-pub fn misused<E: Sink>(words: &[String], err: &mut E) -> u8
+pub fn say_usage<E: Sink>(words: &[String], err: &mut E) -> u8
     ensures status { result ≡ MISUSED }
     ensures usage { IsSaid (E.taken err.old) (E.taken err.new) (E.faults err.old) (E.faults err.new) (line (usage_of (query_of (texts words.now)))) }
 {
     match form_of(words) {
-        Form::Plan | Form::Gen => Stop::Usage.end(Wanted::Groups, err),
+        Form::Plan => Stop::Usage.end(Wanted::Groups, err),
         Form::Merge => Stop::Usage.end(Wanted::Order, err),
         Form::Join => join_query::Stop::Because(Cause::Usage).end("", err),
+        Form::Gen => Stop::Usage.end(Wanted::Groups, err),
     }
 }

@@ -8,7 +8,7 @@
 #[cfg(test)]
 mod tests;
 
-use par_gather::{NO_MEMORY, OpenGate, misused, pargather};
+use par_gather::{NO_MEMORY, OpenGate, say_usage, pargather};
 use par_io::{StdSink, StdSource};
 use std::env::Env;
 use std::io::ErrorKind;
@@ -45,14 +45,25 @@ fn first_word(rt: &HostRuntime) -> io::Result<Vec<String>> {
     Ok(words)
 }
 
-/// Answers the words, or says how the program is called where one of them is no UTF-8.
-fn answer(rt: &HostRuntime) -> io::Result<u8> {
-    let Some(words) = words(rt)? else {
-        let words = first_word(rt)?;
-        return Ok(misused(words.as_slice(), &mut StdSink::new(rt.stderr())));
+/// Says that there was no memory.
+fn no_memory(rt: &HostRuntime) -> ExitCode {
+    let _ = eprintln!(rt; "pargather: out of memory");
+    ExitCode::from(NO_MEMORY)
+}
+
+fn main(rt: HostRuntime) -> ExitCode {
+    let Ok(words) = words(&rt) else {
+        return no_memory(&rt);
     };
-    Ok(pargather(
-        rt,
+    let Some(words) = words else {
+        let Ok(words) = first_word(&rt) else {
+            return no_memory(&rt);
+        };
+        let status = say_usage(words.as_slice(), &mut StdSink::new(rt.stderr()));
+        return ExitCode::from(status);
+    };
+    let status = pargather(
+        &rt,
         rt.alloc(),
         words.as_slice(),
         &mut StdSource::new(rt.stdin()),
@@ -60,13 +71,6 @@ fn answer(rt: &HostRuntime) -> io::Result<u8> {
         &mut StdSink::new(rt.stderr()),
         &OpenGate,
         &mut None,
-    ))
-}
-
-fn main(rt: HostRuntime) -> ExitCode {
-    let Ok(status) = answer(&rt) else {
-        let _ = eprintln!(rt; "pargather: out of memory");
-        return ExitCode::from(NO_MEMORY);
-    };
+    );
     ExitCode::from(status)
 }

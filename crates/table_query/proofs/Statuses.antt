@@ -9,7 +9,7 @@ use Rattle.table_query.specs.Asked.{usage_in}
 use Rattle.table_query.specs.Lines.{IsLine, NamesFirst, NamesRow, outcome_text, refusal_text, refused_of, row_text}
 use Rattle.table_query.specs.Stops.{Explains, IsExplained, IsFirstStop, cause_text, stop_status, stop_text}
 use Rattle.table_query.specs.declared.wanted.Wanted.{Wanted}
-use Rattle.query_answer.specs.declared.status.TheConstants.{NO_MEMORY, READ_FAULT, REFUSED, WRITE_FAULT}
+use Rattle.query_answer.specs.declared.status.TheConstants.{NO_MEMORY, READ_FAULT, REFUSED, TABLE, WRITE_FAULT}
 use Rattle.table_query.specs.declared.stop.Cause.{Cause}
 use Rattle.table_query.specs.declared.stop.Stop.{Stop}
 use Rattle.table_query.specs.declared.stop.Stop.TheVariants as stop
@@ -117,3 +117,38 @@ outcome_told plan (Some bytes) why n explained is = λ read write memory.
       | inl e ↦ absurd (memory (is ∙ e))
       | inr e ↦ is ∙ e ∙ ap status_of explained.1
     ]
+
+-- which reason has which status
+
+pub is_read_fault : (why : Stop) → stop_status why ≡ READ_FAULT → why ≡ stop.ReadFault
+is_read_fault stop.Usage is = cc is
+is_read_fault stop.ReadFault is = refl
+is_read_fault stop.TooManyBytes is = cc is
+is_read_fault stop.NoHeader is = cc is
+is_read_fault stop.TooManyRows is = cc is
+is_read_fault (stop.NoColumn name) is = cc is
+is_read_fault (stop.Refused row cause) is = cc is
+is_read_fault stop.WriteFault is = cc is
+is_read_fault stop.Memory is = cc is
+
+pub is_write_fault : (why : Stop) → stop_status why ≡ WRITE_FAULT → why ≡ stop.WriteFault
+is_write_fault stop.Usage is = cc is
+is_write_fault stop.ReadFault is = cc is
+is_write_fault stop.TooManyBytes is = cc is
+is_write_fault stop.NoHeader is = cc is
+is_write_fault stop.TooManyRows is = cc is
+is_write_fault (stop.NoColumn name) is = cc is
+is_write_fault (stop.Refused row cause) is = cc is
+is_write_fault stop.WriteFault is = refl
+is_write_fault stop.Memory is = cc is
+
+pub never_table : (why : Stop) → stop_status why ≢ TABLE
+never_table stop.Usage is = cc is
+never_table stop.ReadFault is = cc is
+never_table stop.TooManyBytes is = cc is
+never_table stop.NoHeader is = cc is
+never_table stop.TooManyRows is = cc is
+never_table (stop.NoColumn name) is = cc is
+never_table (stop.Refused row cause) is = cc is
+never_table stop.WriteFault is = cc is
+never_table stop.Memory is = cc is

@@ -1,4 +1,4 @@
-use Rattle.std.proofs.Common.{◌≡◌, ◌∙◌, Contains, List, ℕ, ap, subst, sym}
+use Rattle.std.proofs.Common.{◌≡◌, ◌∙◌, Contains, ℕ, ap, subst, sym}
 use Rattle.gen_query.specs.Words.{gen_of}
 use Rattle.gen_query.specs.declared.GenAnswer.{GenAnswer}
 use Rattle.gen_query.specs.declared.GenAnswer.TheVariants as generating

@@ -1,9 +1,9 @@
-use Rattle.std.proofs.Common.{◌≡◌, ◌∙◌, ℕ, ap, arith, inl, inr, subst, sym}
+use Rattle.std.proofs.Common.{◌≡◌, ◌∙◌, Contains, ℕ, ap, arith, inl, inr, subst, sym}
 use Rattle.std.proofs.lemmas.Option.{IfSome_then}
-use Rattle.table_query.proofs.Statuses.{line_first, line_outcome}
+use Rattle.table_query.proofs.Statuses.{complete_told, is_read_fault, is_status, is_write_fault, line_first, line_outcome, never_table, outcome_told}
 use Rattle.plan_answers.proofs.Strays.{no_plan}
 use Rattle.plan_answers.specs.Answers.{plan_of}
-use Rattle.query_answer.specs.Lines.{IsSaid, line}
+use Rattle.query_answer.specs.Lines.{IsSaid, line, statuses}
 use Rattle.query_answer.specs.Words.{texts}
 use Rattle.table_query.specs.Asked.{usage_text}
 use Rattle.table_query.specs.Lines.{IsLine}
@@ -12,6 +12,35 @@ use Rattle.table_query.specs.declared.wanted.Wanted.TheVariants as wanted
 use Rattle.table_query.specs.declared.stop.Stop.{Stop}
 use Rattle.table_query.specs.declared.stop.Stop.TheVariants as stop
 use Rattle.plan_answers.proofs.alone.aggregate_alone.Goals as goal
+
+pub returns-in-Err-clause-statuses : goal.returns-in-Err-clause-statuses
+returns-in-Err-clause-statuses g c = subst (Contains statuses) (sym c.end.ensures.status) (is_status c.in-Err.stop)
+
+pub returns-in-Err-clause-outcome : goal.returns-in-Err-clause-outcome
+returns-in-Err-clause-outcome g c = outcome_told (plan_of (texts c.args.words.now)) (g.S.Source.left c.args.source.now) c.in-Err.stop c.end.result c.in-Err.ensures.why c.end.ensures.status
+
+pub returns-in-Err-clause-complete : goal.returns-in-Err-clause-complete
+returns-in-Err-clause-complete g c = λ reads writes.
+    complete_told (plan_of (texts c.args.words.now)) (g.S.Source.left c.args.source.now) c.in-Err.stop c.end.result c.in-Err.ensures.why c.end.ensures.status (λ e. reads (c.in-Err.ensures.read_fault e))
+    (λ e. writes (c.in-Err.ensures.write_fault e))
+
+pub returns-in-Err-clause-table : goal.returns-in-Err-clause-table
+returns-in-Err-clause-table g c = λ is. absurd (never_table c.in-Err.stop (sym c.end.ensures.status ∙ is))
+
+pub returns-in-Err-clause-part : goal.returns-in-Err-clause-part
+returns-in-Err-clause-part g c = λ is. c.in-Err.ensures.part (is_write_fault c.in-Err.stop (sym c.end.ensures.status ∙ is))
+
+pub returns-in-Err-clause-nothing : goal.returns-in-Err-clause-nothing
+returns-in-Err-clause-nothing g c = λ _ writes. c.in-Err.ensures.nothing (λ e. writes (c.end.ensures.status ∙ ap stop_status e))
+
+pub returns-in-Err-clause-read_fault : goal.returns-in-Err-clause-read_fault
+returns-in-Err-clause-read_fault g c = λ is. c.in-Err.ensures.read_fault (is_read_fault c.in-Err.stop (sym c.end.ensures.status ∙ is))
+
+pub returns-in-Err-clause-write_fault : goal.returns-in-Err-clause-write_fault
+returns-in-Err-clause-write_fault g c = λ is. c.in-Err.ensures.write_fault (is_write_fault c.in-Err.stop (sym c.end.ensures.status ∙ is))
+
+pub returns-in-Err-clause-quiet : goal.returns-in-Err-clause-quiet
+returns-in-Err-clause-quiet g c = λ is. absurd (never_table c.in-Err.stop (sym c.end.ensures.status ∙ is))
 
 pub returns-in-Err-clause-line : goal.returns-in-Err-clause-line
 returns-in-Err-clause-line g c = λ _.
