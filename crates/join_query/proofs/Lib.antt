@@ -1,6 +1,8 @@
 pub mod Asked
 pub mod Besides
 pub mod Cuts
+pub mod Ends
+pub mod Joins
 pub mod Outcomes
 pub mod Statuses
 pub mod Unique

@@ -1,5 +1,5 @@
 -- The statuses of the outcomes, and what their lines say.
-use Rattle.std.specs.Prelude.{◌≡◌, ◌≢◌, ◌==◌, ◌++◌, [], ℕ, Bool, true, false, List, Option, None, Some, IfSome, codes, decimal, if◌then◌else◌}
+use Rattle.std.specs.Prelude.{◌≡◌, ◌≢◌, ◌==◌, ◌++◌, [], ℕ, Bool, true, false, List, Option, None, Some, IfSome, IsNone, codes, decimal, if◌then◌else◌}
 use Rattle.par_model.specs.Refuse.{width_cause}
 use Rattle.query_answer.specs.Lines.{line}
 use Rattle.query_answer.specs.declared.status.TheConstants.{MISUSED, NO_MEMORY, READ_FAULT, REFUSED, TABLE, TOO_LARGE, WRITE_FAULT}
@@ -49,6 +49,13 @@ abbrev pub name_of : Option Asked → List ℕ
 name_of None = []
 name_of (Some asked) = asked.column
 
+-- a status is that of what words ask for over bytes: there is one outcome, and it has this status
+pub record IsStatus (asked : Option Asked) (bytes : List ℕ) (status : ℕ) : Type 0 where
+  pub outcome : Outcome
+  pub is : IsOutcome asked bytes outcome
+  pub status_is : status_of outcome ≡ status
+  pub one : (o : Outcome) → IsOutcome asked bytes o → o ≡ outcome
+
 -- a status that tells of no fault
 pub record IsNoFault (status : ℕ) : Type 0 where
   pub read : status ≢ READ_FAULT
@@ -62,8 +69,9 @@ pub record IsCauseLine (asked : Option Asked) (left : Option (List ℕ)) (status
   pub status_is : cause_status why ≡ status
   pub says : said ≡ line (cause_text (name_of asked) why)
 
--- the line of a status
+-- the line of a status; that of words that are none is how the program is called, whatever a source tells
 pub record IsLine (asked : Option Asked) (left : Option (List ℕ)) (status : ℕ) (said : List ℕ) : Type 0 where
+  pub usage : IsNone asked → said ≡ line (cause_text [] cause.Usage)
   pub read_fault : status ≡ READ_FAULT → said ≡ line (codes "read fault")
   pub write_fault : status ≡ WRITE_FAULT → said ≡ line (codes "write fault")
   pub no_memory : status ≡ NO_MEMORY → said ≡ line (codes "out of memory")

@@ -1,6 +1,4 @@
-pub mod Inputs
-pub mod Refusals
-pub mod Statuses
-mod Ordering
-mod Ready
-mod Strays
+mod Complete
+mod Joins
+mod Rows
+mod Tables

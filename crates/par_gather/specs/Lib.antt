@@ -1,10 +1,3 @@
 pub mod Answers
-pub mod Forms
-pub mod Generated
-pub mod Grouping
-pub mod Joined
-pub mod Lines
-pub mod Ordered
-pub mod Ran
-pub mod Ready
-pub mod Stops
+pub mod Query
+pub mod Runs

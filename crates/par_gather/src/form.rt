@@ -2,10 +2,10 @@
 
 ghost use Rattle.std.specs.Prelude.{◌≡◌};
 ghost use Rattle.query_answer.specs.Words.{texts};
-ghost use Rattle.par_gather.specs.Forms.{form_of, usage_in};
+ghost use Rattle.par_gather.specs.Query.{form_of};
 
 use gen_query::is_gen;
-use par_join::is_join;
+use join_query::is_join;
 use plan_spec::is_merge;
 
 /// What the words of a command line are to be.
@@ -19,21 +19,6 @@ pub(crate) enum Form {
     Join,
     /// `gen SEED ROWS`, which makes rows.
     Gen,
-}
-
-impl Form {
-    /// What is said of words that are not so.
-    pub(crate) fn usage(self) -> &'static str
-        ensures { result.now ≡ usage_in self }
-    {
-        match self {
-            Form::Plan | Form::Gen => {
-                "usage: pargather [--group COLUMNS] --agg ITEMS [--where FILTER] [--workers N] [--plan gather|hash] [--area-pages N]"
-            }
-            Form::Merge => "usage: pargather merge COLUMNS N",
-            Form::Join => "usage: pargather join COLUMN N",
-        }
-    }
 }
 
 /// The form that words are to have, by the first of them.

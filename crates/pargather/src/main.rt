@@ -5,31 +5,59 @@
 
 #![tactic(auto)]
 
-use par_gather::{NO_MEMORY, OpenGate, pargather};
+use par_gather::{NO_MEMORY, OpenGate, pargather, say_usage};
 use par_io::{StdSink, StdSource};
+use std::env::Env;
 use std::io::ErrorKind;
 use std::process::ExitCode;
 use std::{env, io};
 
-/// The words after the program's name. Where one is no UTF-8 there are none, which is no plan.
-fn words(rt: &HostRuntime) -> io::Result<Vec<String>> {
+/// The longest of the first words that name a form.
+const LONGEST_NAME: usize = 5;
+
+/// The words after the program's name; none of them where one is no UTF-8.
+fn words(rt: &HostRuntime) -> io::Result<Option<Vec<String>>> {
     let mut words = Vec::new(rt.alloc());
     match env::args(rt) {
         Ok(args) => {
             for word in args.skip(1) {
                 words.push(word)?;
             }
+            Ok(Some(words))
         }
-        Err(e) if e.kind() == ErrorKind::InvalidData => {}
-        Err(e) => return Err(e),
+        Err(e) if e.kind() == ErrorKind::InvalidData => Ok(None),
+        Err(e) => Err(e),
+    }
+}
+
+/// The first word alone, where it is as short as the name of a form.
+fn first_word(rt: &HostRuntime) -> io::Result<Vec<String>> {
+    let mut bytes = [0; LONGEST_NAME];
+    let mut words = Vec::new(rt.alloc());
+    if let Ok(len) = rt.arg(1, &mut bytes) {
+        if let Ok(word) = str::from_utf8(&bytes[..len]) {
+            words.push(String::from_str(rt.alloc(), word)?)?;
+        }
     }
     Ok(words)
 }
 
+/// Says that there was no memory.
+fn no_memory(rt: &HostRuntime) -> ExitCode {
+    let _ = eprintln!(rt; "pargather: out of memory");
+    ExitCode::from(NO_MEMORY)
+}
+
 fn main(rt: HostRuntime) -> ExitCode {
     let Ok(words) = words(&rt) else {
-        let _ = eprintln!(rt; "pargather: out of memory");
-        return ExitCode::from(NO_MEMORY);
+        return no_memory(&rt);
+    };
+    let Some(words) = words else {
+        let Ok(words) = first_word(&rt) else {
+            return no_memory(&rt);
+        };
+        let status = say_usage(words.as_slice(), &mut StdSink::new(rt.stderr()));
+        return ExitCode::from(status);
     };
     let status = pargather(
         &rt,

@@ -1,7 +1,7 @@
 //! Worked rows: words, bytes and failing calls, and what the call answers.
 
+use join_query::{MISUSED, TABLE, join_tables};
 use par_io::{MemSink, MemSource};
-use par_join::{MISUSED, TABLE, join_tables};
 use std::alloc::{AllocError, Global};
 use std::sync::Wait;
 use std::test::Fail;

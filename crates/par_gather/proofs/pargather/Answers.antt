@@ -1,114 +1,135 @@
-use Rattle.std.proofs.Common.{◌≡◌, ◌∙◌, Contains, List, ℕ, ap, arith, inl, inr, subst, sym}
-use Rattle.std.proofs.lemmas.Option.{IfSome_then}
-use Rattle.par_gather.proofs.Statuses.{complete_told, gen_says, is_gen_status, is_status, line_first, line_outcome, outcome_told}
-use Rattle.par_gather.specs.Answers.{plan_of}
-use Rattle.query_answer.specs.Lines.{IsSaid, line, statuses}
-use Rattle.gen_query.specs.declared.GenAnswer.{GenAnswer}
+use Rattle.std.proofs.Common.{◌≡◌, ◌≢◌, ◌⊎◌, ℕ, List, IfSome, subst}
+use Rattle.query_answer.specs.Lines.{IsSaid}
 use Rattle.query_answer.specs.Words.{texts}
-use Rattle.par_gather.specs.Forms.{usage_in}
-use Rattle.par_gather.specs.Generated.{gen_statuses, gen_text}
-use Rattle.par_gather.specs.Lines.{IsLine}
-use Rattle.par_gather.specs.Ordered.{merge_plan_of}
-use Rattle.par_gather.specs.Stops.{stop_of_gen, stop_status, stop_text}
+use Rattle.query_answer.specs.declared.status.TheConstants.{NO_MEMORY, TABLE}
+use Rattle.par_gather.specs.Answers.{Answers, IsLine, IsStatus}
+use Rattle.par_gather.specs.Query.{ReadsNothing, form_of, input_of, query_in}
+use Rattle.par_gather.specs.declared.form.Form.{Form}
 use Rattle.par_gather.specs.declared.form.Form.TheVariants as form
-use Rattle.par_gather.specs.declared.stop.Stop.{Stop}
-use Rattle.par_gather.specs.declared.stop.Stop.TheVariants as stop
+use Rattle.par_gather.proofs.Complete.{complete}
 use Rattle.par_gather.proofs.pargather.Goals as goal
 
-pub returns-in-Err-clause-line : goal.returns-in-Err-clause-line
-returns-in-Err-clause-line g c = λ is _.
-    let plan = plan_of (texts c.args.words.now) in
-    let said = line_outcome form.Plan plan (g.S.Source.left c.args.source.now) c.in-Err.stop c.in-Err.ensures.why in
-    let P : ℕ → Type 0 = λ n. IsLine (usage_in form.Plan) plan n said.0 (line (stop_text form.Plan c.in-Err.stop)) in
-    (said.0, said.1, line (stop_text form.Plan c.in-Err.stop), subst P (sym c.end.ensures.status) said.2, c.end.ensures.said)
-
-pub returns-in-Err-clause-first : goal.returns-in-Err-clause-first
-returns-in-Err-clause-first g c = λ is none refused.
+pub returns-in-Plan-clause-answers : goal.returns-in-Plan-clause-answers
+returns-in-Plan-clause-answers g c =
+    let words = texts c.args.words.now in
     let left = g.S.Source.left c.args.source.now in
-    let first = line_first form.Plan (plan_of (texts c.args.words.now)) left c.in-Err.stop (c.in-Err.ensures.first none) (sym c.end.ensures.status ∙ refused) in
-    IfSome_then left first (λ bytes names. (line (stop_text form.Plan c.in-Err.stop), names, c.end.ensures.said))
+    let at : form.Plan ≡ form_of words = cc (c.form_of.ensures, c.in-Plan.is) in
+    let P : Form → Type 0 = λ f. Answers (query_in f words) left c.in_plan.result c.in_plan.new.ran (g.O.Sink.taken c.args.out.now) (g.O.Sink.taken c.in_plan.new.out) in
+    subst P at c.in_plan.ensures.answers
 
-pub returns-in-Err-clause-usage : goal.returns-in-Err-clause-usage
-returns-in-Err-clause-usage g c = λ is none misused.
-    let old = c.args.err.now in
-    let new = c.end.new.err in
-    let Said : Stop → Type 0 = λ why. IsSaid (g.E.Sink.taken old) (g.E.Sink.taken new) (g.E.Sink.faults old) (g.E.Sink.faults new) (line (stop_text form.Plan why)) in
-    let two : stop_status c.in-Err.stop ≡ 2 = sym c.end.ensures.status ∙ misused in
-    elim (c.in-Err.ensures.no_plan none) [
-      | inl usage ↦ let why : c.in-Err.stop ≡ stop.Usage = cc usage in subst Said why c.end.ensures.said
-      | inr memory ↦
-          let why : c.in-Err.stop ≡ stop.Memory = cc memory in
-          let five : stop_status c.in-Err.stop ≡ 5 = ap stop_status why in
-          absurd (omega (arith, two, five))
-    ]
-
-pub returns-in-Err-answer_merged-clause-merge_line : goal.returns-in-Err-answer_merged-clause-merge_line
-returns-in-Err-answer_merged-clause-merge_line g c = λ is _.
-    let plan = merge_plan_of (texts c.args.words.now) in
-    let said = line_outcome form.Merge plan (g.S.Source.left c.args.source.now) c.in-Err-answer_merged.stop c.in-Err-answer_merged.ensures.why in
-    let P : ℕ → Type 0 = λ n. IsLine (usage_in form.Merge) plan n said.0 (line (stop_text form.Merge c.in-Err-answer_merged.stop)) in
-    (said.0, said.1, line (stop_text form.Merge c.in-Err-answer_merged.stop), subst P (sym c.end-in-Err-answer_merged.ensures.status) said.2, c.end-in-Err-answer_merged.ensures.said)
-
-pub returns-in-Err-answer_merged-clause-merge_first : goal.returns-in-Err-answer_merged-clause-merge_first
-returns-in-Err-answer_merged-clause-merge_first g c = λ is none refused.
+pub returns-in-Plan-clause-complete : goal.returns-in-Plan-clause-complete
+returns-in-Plan-clause-complete g c = λ read write.
+    let words = texts c.args.words.now in
     let left = g.S.Source.left c.args.source.now in
-    let first = line_first form.Merge (merge_plan_of (texts c.args.words.now)) left c.in-Err-answer_merged.stop (c.in-Err-answer_merged.ensures.first none) (sym c.end-in-Err-answer_merged.ensures.status ∙ refused) in
-    IfSome_then left first (λ bytes names. (line (stop_text form.Merge c.in-Err-answer_merged.stop), names, c.end-in-Err-answer_merged.ensures.said))
+    let at : form.Plan ≡ form_of words = cc (c.form_of.ensures, c.in-Plan.is) in
+    let P : Form → Type 0 = λ f. IfSome (input_of (query_in f words) left) (λ bytes. (c.in_plan.result ≡ NO_MEMORY) ⊎ IsStatus (query_in f words) bytes c.in_plan.result) in
+    subst P at
+    (complete (query_in form.Plan words) left c.in_plan.result c.in_plan.new.ran (g.O.Sink.taken c.args.out.now) (g.O.Sink.taken c.in_plan.new.out) c.in_plan.ensures.answers (λ e. read (c.in_plan.ensures.read_fault e)) (λ e. write (c.in_plan.ensures.write_fault e)))
 
-pub returns-in-Err-answer_merged-clause-merge_usage : goal.returns-in-Err-answer_merged-clause-merge_usage
-returns-in-Err-answer_merged-clause-merge_usage g c = λ is none misused.
-    let old = c.args.err.now in
-    let new = c.end-in-Err-answer_merged.new.err in
-    let Said : Stop → Type 0 = λ why. IsSaid (g.E.Sink.taken old) (g.E.Sink.taken new) (g.E.Sink.faults old) (g.E.Sink.faults new) (line (stop_text form.Merge why)) in
-    let two : stop_status c.in-Err-answer_merged.stop ≡ 2 = sym c.end-in-Err-answer_merged.ensures.status ∙ misused in
-    elim (c.in-Err-answer_merged.ensures.no_plan none) [
-      | inl usage ↦ let why : c.in-Err-answer_merged.stop ≡ stop.Usage = cc usage in subst Said why c.end-in-Err-answer_merged.ensures.said
-      | inr memory ↦
-          let why : c.in-Err-answer_merged.stop ≡ stop.Memory = cc memory in
-          let five : stop_status c.in-Err-answer_merged.stop ≡ 5 = ap stop_status why in
-          absurd (omega (arith, two, five))
-    ]
+pub returns-in-Plan-clause-line : goal.returns-in-Plan-clause-line
+returns-in-Plan-clause-line g c =
+    let words = texts c.args.words.now in
+    let left = g.S.Source.left c.args.source.now in
+    let at : form.Plan ≡ form_of words = cc (c.form_of.ensures, c.in-Plan.is) in
+    let P : Form → Type 0 = λ f. (c.in_plan.result ≢ TABLE) → (said : List ℕ) × IsLine (query_in f words) left c.in_plan.result said
+    × IsSaid (g.E.Sink.taken c.args.err.now) (g.E.Sink.taken c.in_plan.new.err) (g.E.Sink.faults c.args.err.now) (g.E.Sink.faults c.in_plan.new.err) said in
+    subst P at c.in_plan.ensures.line
 
-pub returns-in-Err-clause-outcome : goal.returns-in-Err-clause-outcome
-returns-in-Err-clause-outcome g c = λ _.
-    outcome_told (plan_of (texts c.args.words.now)) (g.S.Source.left c.args.source.now) c.in-Err.stop c.end.result c.in-Err.ensures.why c.end.ensures.status
+pub returns-in-Plan-clause-unread : goal.returns-in-Plan-clause-unread
+returns-in-Plan-clause-unread g c =
+    let words = texts c.args.words.now in
+    let at : form.Plan ≡ form_of words = cc (c.form_of.ensures, c.in-Plan.is) in
+    let P : Form → Type 0 = λ f. ReadsNothing (query_in f words) → c.in_plan.new.source ≡ c.args.source.now in
+    subst P at c.in_plan.ensures.unread
 
-pub returns-in-Err-clause-complete : goal.returns-in-Err-clause-complete
-returns-in-Err-clause-complete g c = λ _ reads writes.
-    complete_told (plan_of (texts c.args.words.now)) (g.S.Source.left c.args.source.now) c.in-Err.stop c.end.result c.in-Err.ensures.why c.end.ensures.status
-    (λ e. reads (c.in-Err.ensures.read_fault e)) (λ e. writes (c.in-Err.ensures.write_fault e))
+pub returns-in-Merge-clause-answers : goal.returns-in-Merge-clause-answers
+returns-in-Merge-clause-answers g c =
+    let words = texts c.args.words.now in
+    let left = g.S.Source.left c.args.source.now in
+    let at : form.Merge ≡ form_of words = cc (c.form_of.ensures, c.in-Merge.is) in
+    let P : Form → Type 0 = λ f. Answers (query_in f words) left c.in_merge.result c.in_merge.new.ran (g.O.Sink.taken c.args.out.now) (g.O.Sink.taken c.in_merge.new.out) in
+    subst P at c.in_merge.ensures.answers
 
-pub returns-in-Err-answer_merged-clause-statuses : goal.returns-in-Err-answer_merged-clause-statuses
-returns-in-Err-answer_merged-clause-statuses g c = subst (Contains statuses) (sym c.end-in-Err-answer_merged.ensures.status) (is_status c.in-Err-answer_merged.stop)
+pub returns-in-Merge-clause-complete : goal.returns-in-Merge-clause-complete
+returns-in-Merge-clause-complete g c = λ read write.
+    let words = texts c.args.words.now in
+    let left = g.S.Source.left c.args.source.now in
+    let at : form.Merge ≡ form_of words = cc (c.form_of.ensures, c.in-Merge.is) in
+    let P : Form → Type 0 = λ f. IfSome (input_of (query_in f words) left) (λ bytes. (c.in_merge.result ≡ NO_MEMORY) ⊎ IsStatus (query_in f words) bytes c.in_merge.result) in
+    subst P at
+    (complete (query_in form.Merge words) left c.in_merge.result c.in_merge.new.ran (g.O.Sink.taken c.args.out.now) (g.O.Sink.taken c.in_merge.new.out) c.in_merge.ensures.answers (λ e. read (c.in_merge.ensures.read_fault e)) (λ e. write (c.in_merge.ensures.write_fault e)))
 
-pub returns-in-Err-answer_merged-clause-merge_outcome : goal.returns-in-Err-answer_merged-clause-merge_outcome
-returns-in-Err-answer_merged-clause-merge_outcome g c = λ _.
-    outcome_told (merge_plan_of (texts c.args.words.now)) (g.S.Source.left c.args.source.now) c.in-Err-answer_merged.stop c.end-in-Err-answer_merged.result c.in-Err-answer_merged.ensures.why
-    c.end-in-Err-answer_merged.ensures.status
+pub returns-in-Merge-clause-line : goal.returns-in-Merge-clause-line
+returns-in-Merge-clause-line g c =
+    let words = texts c.args.words.now in
+    let left = g.S.Source.left c.args.source.now in
+    let at : form.Merge ≡ form_of words = cc (c.form_of.ensures, c.in-Merge.is) in
+    let P : Form → Type 0 = λ f. (c.in_merge.result ≢ TABLE) → (said : List ℕ) × IsLine (query_in f words) left c.in_merge.result said
+    × IsSaid (g.E.Sink.taken c.args.err.now) (g.E.Sink.taken c.in_merge.new.err) (g.E.Sink.faults c.args.err.now) (g.E.Sink.faults c.in_merge.new.err) said in
+    subst P at c.in_merge.ensures.line
 
-pub returns-in-Err-answer_merged-clause-merge_complete : goal.returns-in-Err-answer_merged-clause-merge_complete
-returns-in-Err-answer_merged-clause-merge_complete g c = λ _ reads writes.
-    complete_told (merge_plan_of (texts c.args.words.now)) (g.S.Source.left c.args.source.now) c.in-Err-answer_merged.stop c.end-in-Err-answer_merged.result c.in-Err-answer_merged.ensures.why
-    c.end-in-Err-answer_merged.ensures.status (λ e. reads (c.in-Err-answer_merged.ensures.read_fault e)) (λ e. writes (c.in-Err-answer_merged.ensures.write_fault e))
+pub returns-in-Merge-clause-unread : goal.returns-in-Merge-clause-unread
+returns-in-Merge-clause-unread g c =
+    let words = texts c.args.words.now in
+    let at : form.Merge ≡ form_of words = cc (c.form_of.ensures, c.in-Merge.is) in
+    let P : Form → Type 0 = λ f. ReadsNothing (query_in f words) → c.in_merge.new.source ≡ c.args.source.now in
+    subst P at c.in_merge.ensures.unread
 
-pub returns-in-Err-answer_generated-clause-statuses : goal.returns-in-Err-answer_generated-clause-statuses
-returns-in-Err-answer_generated-clause-statuses g c = subst (Contains statuses) (sym c.end-in-Err-answer_generated.ensures.status) (is_status c.from.result)
+pub returns-in-Join-clause-answers : goal.returns-in-Join-clause-answers
+returns-in-Join-clause-answers g c =
+    let words = texts c.args.words.now in
+    let left = g.S.Source.left c.args.source.now in
+    let at : form.Join ≡ form_of words = cc (c.form_of.ensures, c.in-Join.is) in
+    let P : Form → Type 0 = λ f. Answers (query_in f words) left c.in_join.result c.in_join.new.ran (g.O.Sink.taken c.args.out.now) (g.O.Sink.taken c.in_join.new.out) in
+    subst P at c.in_join.ensures.answers
 
-pub returns-in-Err-answer_generated-clause-nothing : goal.returns-in-Err-answer_generated-clause-nothing
-returns-in-Err-answer_generated-clause-nothing g c = λ _ writes.
-    let status : c.end-in-Err-answer_generated.result ≡ stop_status (stop_of_gen c.in-Err-answer_generated.why) = c.end-in-Err-answer_generated.ensures.status ∙ ap stop_status c.from.ensures in
-    c.in-Err-answer_generated.ensures.nothing (λ e. writes (status ∙ ap (λ (w : GenAnswer). stop_status (stop_of_gen w)) e))
+pub returns-in-Join-clause-complete : goal.returns-in-Join-clause-complete
+returns-in-Join-clause-complete g c = λ read write.
+    let words = texts c.args.words.now in
+    let left = g.S.Source.left c.args.source.now in
+    let at : form.Join ≡ form_of words = cc (c.form_of.ensures, c.in-Join.is) in
+    let P : Form → Type 0 = λ f. IfSome (input_of (query_in f words) left) (λ bytes. (c.in_join.result ≡ NO_MEMORY) ⊎ IsStatus (query_in f words) bytes c.in_join.result) in
+    subst P at
+    (complete (query_in form.Join words) left c.in_join.result c.in_join.new.ran (g.O.Sink.taken c.args.out.now) (g.O.Sink.taken c.in_join.new.out) c.in_join.ensures.answers (λ e. read (c.in_join.ensures.read_fault e)) (λ e. write (c.in_join.ensures.write_fault e)))
 
-pub returns-in-Err-answer_generated-clause-gen_statuses : goal.returns-in-Err-answer_generated-clause-gen_statuses
-returns-in-Err-answer_generated-clause-gen_statuses g c = λ _.
-    let status : c.end-in-Err-answer_generated.result ≡ stop_status (stop_of_gen c.in-Err-answer_generated.why) = c.end-in-Err-answer_generated.ensures.status ∙ ap stop_status c.from.ensures in
-    subst (Contains gen_statuses) (sym status) (is_gen_status c.in-Err-answer_generated.why)
+pub returns-in-Join-clause-line : goal.returns-in-Join-clause-line
+returns-in-Join-clause-line g c =
+    let words = texts c.args.words.now in
+    let left = g.S.Source.left c.args.source.now in
+    let at : form.Join ≡ form_of words = cc (c.form_of.ensures, c.in-Join.is) in
+    let P : Form → Type 0 = λ f. (c.in_join.result ≢ TABLE) → (said : List ℕ) × IsLine (query_in f words) left c.in_join.result said
+    × IsSaid (g.E.Sink.taken c.args.err.now) (g.E.Sink.taken c.in_join.new.err) (g.E.Sink.faults c.args.err.now) (g.E.Sink.faults c.in_join.new.err) said in
+    subst P at c.in_join.ensures.line
 
-pub returns-in-Err-answer_generated-clause-gen_line : goal.returns-in-Err-answer_generated-clause-gen_line
-returns-in-Err-answer_generated-clause-gen_line g c = λ _ _.
-    let status : c.end-in-Err-answer_generated.result ≡ stop_status (stop_of_gen c.in-Err-answer_generated.why) = c.end-in-Err-answer_generated.ensures.status ∙ ap stop_status c.from.ensures in
-    let same : stop_text form.Gen c.from.result ≡ gen_text c.end-in-Err-answer_generated.result = ap (stop_text form.Gen) c.from.ensures ∙ sym (gen_says c.in-Err-answer_generated.why) ∙ sym (ap gen_text status) in
-    let old = c.args.err.now in
-    let new = c.end-in-Err-answer_generated.new.err in
-    let Said : List ℕ → Type 0 = λ text. IsSaid (g.E.Sink.taken old) (g.E.Sink.taken new) (g.E.Sink.faults old) (g.E.Sink.faults new) (line text) in
-    subst Said same c.end-in-Err-answer_generated.ensures.said
+pub returns-in-Join-clause-unread : goal.returns-in-Join-clause-unread
+returns-in-Join-clause-unread g c =
+    let words = texts c.args.words.now in
+    let at : form.Join ≡ form_of words = cc (c.form_of.ensures, c.in-Join.is) in
+    let P : Form → Type 0 = λ f. ReadsNothing (query_in f words) → c.in_join.new.source ≡ c.args.source.now in
+    subst P at c.in_join.ensures.unread
+
+pub returns-in-Gen-clause-answers : goal.returns-in-Gen-clause-answers
+returns-in-Gen-clause-answers g c =
+    let words = texts c.args.words.now in
+    let left = g.S.Source.left c.args.source.now in
+    let at : form.Gen ≡ form_of words = cc (c.form_of.ensures, c.in-Gen.is) in
+    let P : Form → Type 0 = λ f. Answers (query_in f words) left c.in_gen.result c.in_gen.new.ran (g.O.Sink.taken c.args.out.now) (g.O.Sink.taken c.in_gen.new.out) in
+    subst P at (c.in_gen.ensures.answers left)
+
+pub returns-in-Gen-clause-complete : goal.returns-in-Gen-clause-complete
+returns-in-Gen-clause-complete g c = λ read write.
+    let words = texts c.args.words.now in
+    let left = g.S.Source.left c.args.source.now in
+    let at : form.Gen ≡ form_of words = cc (c.form_of.ensures, c.in-Gen.is) in
+    let P : Form → Type 0 = λ f. IfSome (input_of (query_in f words) left) (λ bytes. (c.in_gen.result ≡ NO_MEMORY) ⊎ IsStatus (query_in f words) bytes c.in_gen.result) in
+    subst P at
+    (complete (query_in form.Gen words) left c.in_gen.result c.in_gen.new.ran (g.O.Sink.taken c.args.out.now) (g.O.Sink.taken c.in_gen.new.out) (c.in_gen.ensures.answers left) c.in_gen.ensures.no_read_fault (λ e. write (c.in_gen.ensures.write_fault e)))
+
+pub returns-in-Gen-clause-line : goal.returns-in-Gen-clause-line
+returns-in-Gen-clause-line g c =
+    let words = texts c.args.words.now in
+    let left = g.S.Source.left c.args.source.now in
+    let at : form.Gen ≡ form_of words = cc (c.form_of.ensures, c.in-Gen.is) in
+    let P : Form → Type 0 = λ f. (c.in_gen.result ≢ TABLE) → (said : List ℕ) × IsLine (query_in f words) left c.in_gen.result said
+    × IsSaid (g.E.Sink.taken c.args.err.now) (g.E.Sink.taken c.in_gen.new.err) (g.E.Sink.faults c.args.err.now) (g.E.Sink.faults c.in_gen.new.err) said in
+    subst P at (λ failed. c.in_gen.ensures.line failed left)

@@ -1,5 +1,5 @@
 //! What the words that begin with `merge`, `join` and `gen` answer, and that to the call in the caller's thread they are
-//! no plan. More rows of joins stand in `par_join`, and of generated rows in `gen_query`.
+//! no plan. More rows of joins stand in `joins`, and of generated rows in `generated`.
 
 use super::{Failing, LETTERS, NO_FAULTS, Pieces, USAGE, ask, ask_alone, bytes_of, check};
 use par_gather::{OpenGate, Ran};

@@ -1,0 +1,4 @@
+pub mod Answers
+pub mod Grouping
+pub mod Made
+pub mod Stops

@@ -1,0 +1,67 @@
+-- The lines that say why a query has no table.
+use Rattle.std.specs.Prelude.{[], ◌≡◌, ◌==◌, ◌++◌, ℕ, List, Option, Some, Contains, IsSomeAnd, codes, decimal, if◌then◌else◌, option_and_then, slice_get, unwrap_or}
+use Rattle.std.specs.Option.{option_map_or}
+use Rattle.par_model.specs.Named.{NamedPlan}
+use Rattle.par_model.specs.Outcome.{Outcome, Usage, TooManyBytes, NoHeader, TooManyRows, NoColumn, Refused, Table}
+use Rattle.par_model.specs.Refuse.{item_cause, key_cause, width_cause}
+use Rattle.par_model.specs.declared.refusal.Refusal.{Refusal}
+use Rattle.table_query.specs.Answers.{status_of}
+use Rattle.query_answer.specs.Lines.{line}
+use Rattle.query_answer.specs.declared.status.TheConstants.{MISUSED, NO_MEMORY, READ_FAULT, REFUSED, TOO_LARGE, WRITE_FAULT}
+
+-- what a line says of an outcome that is neither a refusal of rows nor a table, where this is said of words that are none
+abbrev pub outcome_text : List ℕ → Outcome → List ℕ
+outcome_text usage Usage = usage
+outcome_text usage TooManyBytes = codes "more than 67108864 bytes"
+outcome_text usage NoHeader = codes "no header"
+outcome_text usage TooManyRows = codes "more than 4194304 rows"
+outcome_text usage (NoColumn name) = codes "no column " ++ name
+outcome_text usage (Refused rows) = []
+outcome_text usage Table = []
+
+-- the name of the column that the aggregate at a place reads
+abbrev pub item_name : NamedPlan → ℕ → List ℕ
+item_name plan place = unwrap_or (option_and_then (λ item. item.column) (slice_get plan.items place)) []
+
+-- the name of the filter's column
+abbrev pub filter_name : NamedPlan → List ℕ
+filter_name plan = option_map_or (λ filter. filter.column) plan.filter []
+
+-- why a row is refused
+abbrev pub refusal_text : NamedPlan → Refusal → List ℕ
+refusal_text plan why =
+    if why.cause == width_cause then codes "wrong number of fields"
+    else (if why.cause == key_cause then codes "group key is longer than 248 bytes"
+    else (if why.cause == item_cause then codes "column " ++ (item_name plan why.item ++ codes " is not an integer")
+    else codes "filter column " ++ (filter_name plan ++ codes " is not an integer")))
+
+-- what a line says of a refused row
+abbrev pub row_text : NamedPlan → ℕ × Refusal → List ℕ
+row_text plan row = codes "row " ++ (decimal row.0 ++ (codes ": " ++ refusal_text plan row.1))
+
+-- the rows that an outcome refuses, each with its cause
+abbrev pub refused_of : Outcome → List (ℕ × Refusal)
+refused_of Usage = []
+refused_of TooManyBytes = []
+refused_of NoHeader = []
+refused_of TooManyRows = []
+refused_of (NoColumn name) = []
+refused_of (Refused rows) = rows
+refused_of Table = []
+
+-- the line names a row that the outcome of a plan refuses, with its cause
+abbrev pub NamesRow : Option NamedPlan → Outcome → List ℕ → Type 0
+NamesRow plan outcome said = IsSomeAnd plan (λ plan. (row : ℕ × Refusal) × Contains (refused_of outcome) row × (said ≡ line (row_text plan row)))
+
+-- the line names the first of them
+abbrev pub NamesFirst : Option NamedPlan → Outcome → List ℕ → Type 0
+NamesFirst plan outcome said = IsSomeAnd plan (λ plan. (row : ℕ × Refusal) × (slice_get (refused_of outcome) 0 ≡ Some row) × (said ≡ line (row_text plan row)))
+
+-- the line of a status. Where that is an outcome's, the outcome has it, and the line is that outcome's
+pub record IsLine (usage : List ℕ) (plan : Option NamedPlan) (status : ℕ) (outcome : Outcome) (said : List ℕ) : Type 0 where
+  pub refused : status ≡ REFUSED → NamesRow plan outcome said
+  pub misused : status ≡ MISUSED → (status_of outcome ≡ MISUSED) × (said ≡ line (outcome_text usage outcome))
+  pub read_fault : status ≡ READ_FAULT → said ≡ line (codes "read fault")
+  pub write_fault : status ≡ WRITE_FAULT → said ≡ line (codes "write fault")
+  pub no_memory : status ≡ NO_MEMORY → said ≡ line (codes "out of memory")
+  pub too_much : status ≡ TOO_LARGE → (status_of outcome ≡ TOO_LARGE) × (said ≡ line (outcome_text usage outcome))
