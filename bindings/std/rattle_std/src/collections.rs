@@ -1,0 +1,55 @@
+//! Rust's collections; a map that takes memory as an allocator's.
+
+use crate::alloc::{AllocError, Global};
+use std::borrow::Borrow;
+
+pub use std::collections::{LinkedList, VecDeque};
+
+/// An ordered map. Rust's map ends the process where there is no memory, so `insert` never answers `Err` here.
+pub struct BTreeMap<K, V>(std::collections::BTreeMap<K, V>);
+
+impl<K: Ord, V> BTreeMap<K, V> {
+    pub const fn new(_alloc: Global) -> BTreeMap<K, V> {
+        BTreeMap(std::collections::BTreeMap::new())
+    }
+
+    pub fn get<Q: Ord + ?Sized>(&self, key: &Q) -> Option<&V>
+    where
+        K: Borrow<Q>,
+    {
+        self.0.get(key)
+    }
+
+    pub fn get_mut<Q: Ord + ?Sized>(&mut self, key: &Q) -> Option<&mut V>
+    where
+        K: Borrow<Q>,
+    {
+        self.0.get_mut(key)
+    }
+
+    pub fn contains_key<Q: Ord + ?Sized>(&self, key: &Q) -> bool
+    where
+        K: Borrow<Q>,
+    {
+        self.0.contains_key(key)
+    }
+
+    /// The value that stood under the key before.
+    pub fn insert(&mut self, key: K, value: V) -> Result<Option<V>, AllocError> {
+        Ok(self.0.insert(key, value))
+    }
+
+    pub fn remove<Q: Ord + ?Sized>(&mut self, key: &Q) -> Option<V>
+    where
+        K: Borrow<Q>,
+    {
+        self.0.remove(key)
+    }
+
+    pub fn remove_entry<Q: Ord + ?Sized>(&mut self, key: &Q) -> Option<(K, V)>
+    where
+        K: Borrow<Q>,
+    {
+        self.0.remove_entry(key)
+    }
+}
