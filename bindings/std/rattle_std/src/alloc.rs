@@ -11,6 +11,14 @@ pub struct Global;
 #[derive(Clone, Copy, Debug, PartialEq, Eq)]
 pub struct AllocError;
 
+impl std::fmt::Display for AllocError {
+    fn fmt(&self, f: &mut std::fmt::Formatter<'_>) -> std::fmt::Result {
+        f.write_str("out of memory")
+    }
+}
+
+impl std::error::Error for AllocError {}
+
 impl From<TryReserveError> for AllocError {
     fn from(_: TryReserveError) -> AllocError {
         AllocError
