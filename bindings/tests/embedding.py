@@ -57,13 +57,13 @@ def main():
         command, output = wanted(consoles[2])
         same(command, run(command, f"{room}/counting"), output)
 
-        with open(f"{room}/counting.c", "w", encoding="utf-8") as file:
+        with open(f"{room}/tally.c", "w", encoding="utf-8") as file:
             file.write(c)
         plain = next(text for text in re.findall("`(cc [^`]*)`", open(f"{REPOSITORY}/docs/EMBEDDING.md", encoding="utf-8").read()))
-        run(plain.replace("bindings/out/dist", dist) + " -Wall -Wextra -Werror -o counting-plain", room)
+        run(plain.replace("bindings/out/dist", dist) + " -Wall -Wextra -Werror -o tally-plain", room)
         export, build = consoles[3].splitlines()[:2]
         output = "".join(line + "\n" for line in consoles[3].splitlines()[2:])
-        same(plain, run("./counting-plain", room), output)
+        same(plain, run("./tally-plain", room), output)
         if shutil.which("pkg-config"):
             lines = export.removeprefix("$ ").replace("$PWD/bindings/out/dist", dist) + "; " + build.removeprefix("$ ")
             same(lines, run(lines, room), output)
