@@ -16,6 +16,9 @@ use std::marker::PhantomData;
 use std::panic::{AssertUnwindSafe, catch_unwind};
 use std::sync::Arc;
 
+/// Keys of up to so many words are written to a small buffer.
+const FEW_WORDS: usize = 4;
+
 /// The most words of a value.
 const MOST_VALUE_WORDS: usize = 1 << 16;
 
@@ -230,11 +233,18 @@ impl<K: Words, V: Words> Table<K, V> {
     }
 
     fn call(&mut self, key: &K, ask: &Ask<V>) -> Result<Option<V>, NoSpace> {
-        let mut words = [0; MOST_KEY_WORDS as usize];
-        key.store(&mut words[..K::WORDS]);
+        if K::WORDS <= FEW_WORDS {
+            self.call_with(key, ask, &mut [0; FEW_WORDS])
+        } else {
+            self.call_with(key, ask, &mut [0; MOST_KEY_WORDS as usize])
+        }
+    }
+
+    fn call_with(&mut self, key: &K, ask: &Ask<V>, words: &mut [u64]) -> Result<Option<V>, NoSpace> {
+        let words = &mut words[..K::WORDS];
+        key.store(words);
         let Shared { region, area, table } = &*self.shared;
-        let passes = (&mut self.pass, &mut self.area_pass);
-        match table.call(&crate::HOST, region, area, passes.0, passes.1, &words[..K::WORDS], ask)? {
+        match table.call(&crate::HOST, region, area, &mut self.pass, &mut self.area_pass, words, ask)? {
             Reply::Before(value) => Ok(value),
             Reply::Panicked => panic!("the function that a table was given panicked"),
         }
