@@ -39,7 +39,7 @@ class Cuts(unittest.TestCase):
         text = (
             "pub struct S {\n    /// The place.\n    pub at: u64,\n    /// Where it is.\n    pub ghost valid: { 0 < at } by { it-prop },\n"
             "    pub(crate) ghost more: { ℕ },\n}\nimpl T for S {\n    ghost use A.{◌≡◌, b};\n    // of a call\n"
-            "    ghost step = { λ a. {b} };\n    type X = u64;\n}\npub ghost use A as b;\nfn f<Y>()\n    ghost g: { X → Y }\n{}"
+            "    ghost step = { λ a. {b} };\n    ghost may: { ℕ } = { λ a. b };\n    type X = u64;\n}\npub ghost use A as b;\nfn f<Y>()\n    ghost g: { X → Y }\n{}"
         )
         want = (
             "pub struct S {\n    /// The place.\n    pub at: u64,\n}\nimpl T for S {\n    // of a call\n    type X = u64;\n}\nfn f<Y>()\n{}"

@@ -28,6 +28,11 @@ pub fn memchr(needle: u8, haystack: &[u8]) -> Option<usize> {
     Some(haystack.len() - rest.len() + found)
 }
 
+/// The last place at which one of two bytes stands, if one stands anywhere.
+pub fn memrchr2(one: u8, other: u8, haystack: &[u8]) -> Option<usize> {
+    haystack.iter().rposition(|byte| *byte == one || *byte == other)
+}
+
 #[cfg(test)]
 mod tests {
     use super::memchr;

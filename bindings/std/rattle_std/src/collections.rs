@@ -34,6 +34,19 @@ impl<K: Ord, V> BTreeMap<K, V> {
         self.0.contains_key(key)
     }
 
+    pub fn len(&self) -> usize {
+        self.0.len()
+    }
+
+    pub fn is_empty(&self) -> bool {
+        self.0.is_empty()
+    }
+
+    /// The entries in order of their keys.
+    pub fn iter(&self) -> std::collections::btree_map::Iter<'_, K, V> {
+        self.0.iter()
+    }
+
     /// The value that stood under the key before.
     pub fn insert(&mut self, key: K, value: V) -> Result<Option<V>, AllocError> {
         Ok(self.0.insert(key, value))

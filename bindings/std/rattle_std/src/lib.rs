@@ -14,6 +14,7 @@ pub mod io;
 mod macros;
 pub mod marker;
 mod runtime;
+pub mod simd;
 pub mod snapshot;
 pub mod string;
 pub mod sync;

@@ -27,6 +27,13 @@ impl String {
         String(text)
     }
 
+    /// No text, with room for so many bytes.
+    pub fn with_capacity(alloc: Global, room: usize) -> Result<String, AllocError> {
+        let mut text = String::new(alloc);
+        text.0.try_reserve_exact(room)?;
+        Ok(text)
+    }
+
     pub fn push_str(&mut self, text: &str) -> Result<(), AllocError> {
         self.0.try_reserve(text.len())?;
         self.0.push_str(text);

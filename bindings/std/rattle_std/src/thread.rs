@@ -55,6 +55,22 @@ pub fn map_vec<R: Threads + Sync, J: Send, X: Send, F: Fn(J) -> X + Sync>(
     Ok(all)
 }
 
+/// Calls `f(start, chunk)` at each chunk that `items.chunks(size)` has, each in a thread of its own where one can be made,
+/// and gives the results in order. On `Err` memory ran out, and the results are dropped.
+pub fn map_chunks<R: Threads + Sync, T: Sync, X: Send, F: Fn(usize, &[T]) -> X + Sync>(
+    rt: &R,
+    alloc: Global,
+    items: &[T],
+    size: usize,
+    f: &F,
+) -> Result<Vec<X>, AllocError> {
+    let mut jobs = Vec::with_capacity(alloc, items.len().div_ceil(size))?;
+    for (number, chunk) in items.chunks(size).enumerate() {
+        jobs.push_reserved((number * size, chunk));
+    }
+    map_vec(rt, jobs, &|(start, chunk)| f(start, chunk))
+}
+
 /// Calls `f(place, item)` at each item, in at most `threads` threads.
 pub fn for_each_mut<R: Threads + Sync, T: Send, F: Fn(usize, &mut T) + Sync>(
     rt: &R,

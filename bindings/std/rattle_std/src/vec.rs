@@ -1,7 +1,8 @@
 //! A `Vec` whose calls that take memory may refuse.
 
 use crate::alloc::{AllocError, Global};
-use std::ops::{Deref, DerefMut};
+use std::cmp::Ordering;
+use std::ops::{Deref, DerefMut, RangeBounds};
 
 pub use std::vec::IntoIter;
 
@@ -20,6 +21,11 @@ impl<T> Vec<T> {
         let mut items = std::vec::Vec::new();
         items.try_reserve_exact(room)?;
         Ok(Vec(items))
+    }
+
+    /// The items of an array.
+    pub fn from_array<const N: usize>(alloc: Global, items: [T; N]) -> Result<Vec<T>, AllocError> {
+        items.into_iter().collect_in(alloc)
     }
 
     /// Rust's list as one of these, with no copy.
@@ -43,6 +49,11 @@ impl<T> Vec<T> {
     /// Makes room for so many more items.
     pub fn reserve(&mut self, more: usize) -> Result<(), AllocError> {
         Ok(self.0.try_reserve(more)?)
+    }
+
+    /// Makes room for so many more items, and for no more where that can be had.
+    pub fn reserve_exact(&mut self, more: usize) -> Result<(), AllocError> {
+        Ok(self.0.try_reserve_exact(more)?)
     }
 
     #[inline]
@@ -98,6 +109,32 @@ impl<T> Vec<T> {
         self.0.retain(is_kept);
     }
 
+    /// Sorts the items; those that are alike stay in their order. It may take memory.
+    pub fn sort(&mut self) -> Result<(), AllocError>
+    where
+        T: Ord,
+    {
+        self.0.sort();
+        Ok(())
+    }
+
+    /// The same by a comparison.
+    pub fn sort_by(&mut self, compare: impl FnMut(&T, &T) -> Ordering) -> Result<(), AllocError> {
+        self.0.sort_by(compare);
+        Ok(())
+    }
+
+    /// Makes it so long, with items that `make` gives.
+    pub fn resize_with(&mut self, len: usize, make: impl FnMut() -> T) -> Result<(), AllocError> {
+        self.0.try_reserve(len.saturating_sub(self.0.len()))?;
+        self.0.resize_with(len, make);
+        Ok(())
+    }
+
+    pub fn shrink_to_fit(&mut self) {
+        self.0.shrink_to_fit();
+    }
+
     pub fn truncate(&mut self, len: usize) {
         self.0.truncate(len);
     }
@@ -142,6 +179,14 @@ impl<T: Clone> Vec<T> {
             self.0.try_reserve(items.len())?;
         }
         self.0.extend_from_slice(items);
+        Ok(())
+    }
+
+    /// Adds a copy of a range of its own items.
+    pub fn extend_from_within(&mut self, range: impl RangeBounds<usize>) -> Result<(), AllocError> {
+        let range = (range.start_bound().cloned(), range.end_bound().cloned());
+        self.0.try_reserve(self.0[range].len())?;
+        self.0.extend_from_within(range);
         Ok(())
     }
 
