@@ -128,7 +128,6 @@ impl Area {
     /// An area of so many pages of 4 KiB, and a handle for each of its callers. It takes memory for the pages, 1.6 % of
     /// them for their records, and a few words for each caller. Chunks of up to 8,192 bytes are cut from 16 pages at a
     /// time, for each of 36 size classes, and a class keeps such 16 pages once it has some.
-    #[expect(clippy::new_ret_no_self, reason = "a handle for each caller")]
     pub fn new(pages: u32, callers: u32) -> Result<Vec<Area>, AreaError> {
         let (region, area, passes) = new_area(pages, callers)?;
         let shared = Arc::new(Shared { region, area });

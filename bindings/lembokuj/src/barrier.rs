@@ -86,7 +86,6 @@ impl fmt::Debug for Barrier {
 impl Barrier {
     /// A barrier in phase 0, and a handle for each of its callers, all of whom take part from the start. It takes a few
     /// words of memory for each; no other call takes any.
-    #[expect(clippy::new_ret_no_self, reason = "a handle for each caller")]
     pub fn new(callers: u32) -> Result<Vec<Barrier>, BarrierError> {
         if !(1..=MOST_CALLERS).contains(&callers) {
             return Err(BarrierError::Callers);

@@ -68,7 +68,7 @@ impl Region {
         Ok(Part {
             region: Arc::new(region),
             part,
-            owned: vec![0..words],
+            owned: std::iter::once(0..words).collect(),
         })
     }
 }

@@ -159,7 +159,7 @@ impl<K, V: Words> fmt::Debug for Table<K, V> {
 impl<K: Words, V: Words> Table<K, V> {
     /// A key's words, and a value's, that a table takes.
     const SIZES: () = {
-        assert!(1 <= K::WORDS && K::WORDS <= MOST_KEY_WORDS as usize, "a key has 1 to 64 words");
+        assert!(1 <= K::WORDS && K::WORDS <= MOST_KEY_WORDS, "a key has 1 to 64 words");
         assert!(V::WORDS <= MOST_VALUE_WORDS, "a value has at most 65536 words");
     };
 
@@ -236,7 +236,7 @@ impl<K: Words, V: Words> Table<K, V> {
         if K::WORDS <= FEW_WORDS {
             self.call_with(key, ask, &mut [0; FEW_WORDS])
         } else {
-            self.call_with(key, ask, &mut [0; MOST_KEY_WORDS as usize])
+            self.call_with(key, ask, &mut [0; MOST_KEY_WORDS])
         }
     }
 

@@ -9,6 +9,8 @@
 //!
 //! There are two places of `unsafe`, `impl Sync for Shared` and `Seat::slot_mut`.
 
+#![expect(clippy::type_complexity, reason = "a marker names all that it stands for")]
+
 use rattle_std::alloc::{AllocError, Global};
 use rattle_std::vec::Vec;
 use std::cell::UnsafeCell;

@@ -5,6 +5,7 @@
 //! type stands the sentence of the statement that the proofs rest on, and that this code has to meet.
 
 #![forbid(unsafe_code)]
+#![expect(clippy::should_implement_trait, reason = "a copy may be refused, so `clone` is no `Clone`")]
 
 pub mod alloc;
 pub mod collections;
