@@ -69,6 +69,19 @@ class Cuts(unittest.TestCase):
         self.assertEqual(erased(text), "mod kept;")
         self.assertEqual(tool.erase(text).modules, ["kept"])
 
+    def test_tests_of_callers_stay(self):
+        text = (
+            "#[cfg(test)]\nmod tests;\n#[test]\n#[tactic(auto)]\nfn f(\n    rt: HostRuntime,\n) -> Result<(), Fail>\n    ensures { x }\n{\n"
+            '    assert_eq!(rt; g(rt.alloc())?, 1);\n    h().expect(&rt, "h");\n    Ok(())\n}\n#[test]\nfn g() {}'
+        )
+        want = (
+            "#[cfg(test)]\nmod tests;\n#[test]\nfn f(\n)\n{ let rt = rattle_std::HostRuntime::new(); "
+            "rattle_std::test::Passes::passes((move || -> Result<(),Fail> {\n"
+            '    assert_eq!( g(rt.alloc())?, 1);\n    h().expect( "h");\n    Ok(())\n})()) }\n#[test]\n'
+            "fn g() { rattle_std::test::Passes::passes((move ||  {})()) }"
+        )
+        self.assertEqual(erased(text, "uses_some"), want)
+
     def test_promises_in_code_go(self):
         text = "fn f() {\n    prove!(a < b);\n    prove_eq!(a, (b));\n    g();\n}\nconst _: () = prove!(X == 1);"
         self.assertEqual(erased(text), "fn f() {\n    g();\n}")
@@ -137,6 +150,7 @@ class Refuses(unittest.TestCase):
         self.refused("unsafe impl<Y> Send for Noted<Y> {}", 1, "an unsafe")
         self.refused("let v = vec![1, 2];", 1, "vec! without memory")
         self.refused("use a::Drop;", 1, "the word Drop")
+        self.refused("#[test]\nfn f(n: u64) {}", 2, "something else than the runtime")
 
     def test_a_drop_that_does_something(self):
         text = "impl Drop for A {\n    fn drop(self) {\n        let A { n } = self;\n        close(n);\n    }\n}"

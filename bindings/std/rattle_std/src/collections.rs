@@ -3,7 +3,34 @@
 use crate::alloc::{AllocError, Global};
 use std::borrow::Borrow;
 
-pub use std::collections::{LinkedList, VecDeque};
+pub use std::collections::LinkedList;
+
+/// A list that grows at its end and is taken from at its front.
+pub struct VecDeque<T>(std::collections::VecDeque<T>);
+
+impl<T> VecDeque<T> {
+    pub const fn new(_alloc: Global) -> VecDeque<T> {
+        VecDeque(std::collections::VecDeque::new())
+    }
+
+    pub fn push_back(&mut self, item: T) -> Result<(), AllocError> {
+        self.0.try_reserve(1)?;
+        self.0.push_back(item);
+        Ok(())
+    }
+
+    pub fn pop_front(&mut self) -> Option<T> {
+        self.0.pop_front()
+    }
+
+    pub fn len(&self) -> usize {
+        self.0.len()
+    }
+
+    pub fn is_empty(&self) -> bool {
+        self.0.is_empty()
+    }
+}
 
 /// An ordered map. Rust's map ends the process where there is no memory, so `insert` never answers `Err` here.
 pub struct BTreeMap<K, V>(std::collections::BTreeMap<K, V>);

@@ -14,20 +14,22 @@ pub mod hash;
 pub mod io;
 mod macros;
 pub mod marker;
+pub mod process;
 mod runtime;
 pub mod simd;
 pub mod snapshot;
 pub mod string;
 pub mod sync;
+pub mod test;
 pub mod thread;
 pub mod vec;
 
 pub use runtime::HostRuntime;
-pub use std::{borrow, cell, char, cmp, convert, error, fmt, iter, mem, num, ops, option, process, result, slice, str, time};
+pub use std::{borrow, cell, char, cmp, convert, error, fmt, iter, mem, num, ops, option, result, slice, str, time};
 
 /// What each erased file has in scope.
 pub mod prelude {
     pub use crate::HostRuntime;
-    pub use crate::string::String;
+    pub use crate::string::{RepeatIn, String};
     pub use crate::vec::{CollectIn, Vec};
 }

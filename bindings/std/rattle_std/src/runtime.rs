@@ -1,6 +1,7 @@
 //! The handle that a program's `main` is given.
 
 use crate::alloc::Global;
+use crate::process::Abort;
 use crate::sync::Wait;
 use crate::thread::Threads;
 
@@ -34,3 +35,5 @@ impl HostRuntime {
 impl Wait for HostRuntime {}
 
 impl Threads for HostRuntime {}
+
+impl Abort for HostRuntime {}

@@ -100,3 +100,19 @@ impl PartialEq<&str> for String {
         self.0 == *other
     }
 }
+
+/// `repeat` with the allocator, which the eraser calls by this name.
+pub trait RepeatIn {
+    /// The text so often.
+    fn repeat_in(&self, alloc: Global, count: usize) -> Result<String, AllocError>;
+}
+
+impl RepeatIn for str {
+    fn repeat_in(&self, alloc: Global, count: usize) -> Result<String, AllocError> {
+        let mut text = String::new(alloc);
+        for _ in 0..count {
+            text.push_str(self)?;
+        }
+        Ok(text)
+    }
+}

@@ -265,3 +265,14 @@ pub trait CollectIn: Iterator + Sized {
 }
 
 impl<I: Iterator> CollectIn for I {}
+
+impl std::io::Write for Vec<u8> {
+    fn write(&mut self, bytes: &[u8]) -> std::io::Result<usize> {
+        self.extend_from_slice(bytes)?;
+        Ok(bytes.len())
+    }
+
+    fn flush(&mut self) -> std::io::Result<()> {
+        Ok(())
+    }
+}
