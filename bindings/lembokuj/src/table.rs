@@ -94,6 +94,10 @@ impl<V: Words> CellObject for Cell<V> {
         (after, Reply::Before(before))
     }
 
+    fn reads(call: &Ask<V>) -> bool {
+        matches!(call, Ask::Find)
+    }
+
     fn encode(state: &V, out: &mut [u64]) {
         state.store(out);
     }
