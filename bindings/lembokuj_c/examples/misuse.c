@@ -1,0 +1,196 @@
+/* Each code of the library once, and each call: what a wrong call is answered, and that it changed nothing. */
+#include "lembokuj.h"
+
+#include <stdio.h>
+#include <string.h>
+
+static int wrong;
+
+#define WANT(call, code)                                                                                    \
+    do {                                                                                                    \
+        int got_ = (call);                                                                                  \
+        if (got_ != (code)) {                                                                               \
+            fprintf(stderr, "misuse: line %d: %s, not %s\n", __LINE__, lk_message(got_), lk_message(code)); \
+            wrong = 1;                                                                                      \
+        }                                                                                                   \
+    } while (0)
+
+#define HOLDS(fact)                                                                \
+    do {                                                                           \
+        if (!(fact)) {                                                             \
+            fprintf(stderr, "misuse: line %d: %s does not hold\n", __LINE__, #fact); \
+            wrong = 1;                                                             \
+        }                                                                          \
+    } while (0)
+
+static void queues(void) {
+    lk_sender *tx;
+    lk_receiver *rx;
+    const uint8_t *bytes;
+    size_t len;
+    char big[2049];
+    memset(big, 7, sizeof big);
+    WANT(lk_queue_new(100, 8, &tx, &rx), LK_BAD_SIZE);
+    WANT(lk_queue_new(64, (1u << 20) + 1, &tx, &rx), LK_BAD_SIZE);
+    WANT(lk_queue_new(64, 8, NULL, &rx), LK_NULL);
+    WANT(lk_queue_new(64, 2048, &tx, &rx), LK_OK);
+    WANT(lk_queue_try_send(NULL, big, 1, 0), LK_NULL);
+    WANT(lk_queue_try_send((lk_sender *)rx, big, 1, 0), LK_KIND);
+    WANT(lk_queue_try_send(tx, NULL, 1, 0), LK_NULL);
+    WANT(lk_queue_try_receive((lk_receiver *)tx, &bytes, &len), LK_KIND);
+    WANT(lk_queue_try_receive(rx, NULL, &len), LK_NULL);
+    WANT(lk_queue_try_receive(rx, &bytes, &len), LK_WOULD_BLOCK);
+    WANT(lk_queue_try_send(tx, big, 2049, 0), LK_TOO_LONG);
+    WANT(lk_queue_try_send(tx, NULL, 0, LK_LATER), LK_OK);
+    WANT(lk_queue_flush(tx), LK_OK);
+    WANT(lk_queue_receive(rx, &bytes, &len), LK_OK);
+    HOLDS(len == 0);
+    WANT(lk_queue_try_send(tx, big, 2048, 0), LK_WOULD_BLOCK);
+    WANT(lk_queue_try_send(tx, "other", 5, 0), LK_OTHER_MESSAGE);
+    for (int tries = 0; tries < 100 && lk_queue_try_receive(rx, &bytes, &len) != LK_OK; tries++) lk_queue_try_send(tx, big, 2048, 0);
+    HOLDS(len == 2048 && memcmp(bytes, big, len) == 0);
+    WANT(lk_queue_close_receiver(&rx), LK_OK);
+    HOLDS(rx == NULL);
+    WANT(lk_queue_close_receiver(&rx), LK_OK);
+    WANT(lk_queue_receive(rx, &bytes, &len), LK_NULL);
+    WANT(lk_queue_send(tx, "x", 1, 0), LK_DETACHED);
+    WANT(lk_queue_close_sender(&tx), LK_OK);
+    WANT(lk_queue_close_sender(NULL), LK_NULL);
+}
+
+static void areas(void) {
+    lk_area *one[2], *other[1];
+    lk_chunk *chunk, *copy, *more;
+    uint64_t value;
+    WANT(lk_area_new(65537, 1, one), LK_BAD_SIZE);
+    WANT(lk_area_new(4, 0, one), LK_BAD_CALLERS);
+    WANT(lk_area_new(1, 1, NULL), LK_NULL);
+    WANT(lk_area_new(4, 2, one), LK_OK);
+    WANT(lk_area_new(4, 1, other), LK_OK);
+    WANT(lk_area_alloc(one[0], UINT64_MAX, &chunk), LK_NO_SPACE);
+    WANT(lk_area_alloc(one[0], 16384, &chunk), LK_OK);
+    WANT(lk_area_alloc(one[0], 12288, &more), LK_NO_SPACE);
+    WANT(lk_area_alloc((lk_area *)chunk, 12288, &more), LK_KIND);
+    WANT(lk_area_alloc(one[0], 12288, NULL), LK_NULL);
+    WANT(lk_chunk_words(chunk, &value), LK_OK);
+    HOLDS(value == 2048);
+    WANT(lk_chunk_store(chunk, 2047, 9), LK_OK);
+    WANT(lk_chunk_store(chunk, 2048, 9), LK_NO_WORD);
+    WANT(lk_chunk_load(chunk, UINT64_MAX, &value), LK_NO_WORD);
+    WANT(lk_chunk_load(chunk, 2047, NULL), LK_NULL);
+    WANT(lk_chunk_load((lk_chunk *)one[0], 0, &value), LK_KIND);
+    copy = chunk;
+    WANT(lk_area_free(other[0], &chunk), LK_OTHER_AREA);
+    WANT(lk_chunk_load(chunk, 2047, &value), LK_OK);
+    HOLDS(value == 9);
+    WANT(lk_area_free(one[1], &chunk), LK_OK);
+    HOLDS(chunk == NULL);
+    WANT(lk_chunk_load(chunk, 0, &value), LK_NULL);
+    WANT(lk_chunk_load(copy, 0, &value), LK_FREED);
+    WANT(lk_chunk_store(copy, 0, 1), LK_FREED);
+    WANT(lk_area_free(one[0], &copy), LK_FREED);
+    WANT(lk_chunk_close(&copy), LK_FREED);
+    WANT(lk_area_alloc(one[0], 16384, &chunk), LK_OK);
+    WANT(lk_area_close(&one[0]), LK_OK);
+    WANT(lk_area_close(&one[1]), LK_OK);
+    WANT(lk_chunk_load(chunk, 2047, &value), LK_OK);
+    WANT(lk_chunk_close(&chunk), LK_OK);
+    WANT(lk_area_close(&other[0]), LK_OK);
+}
+
+static void tables(void) {
+    lk_table *table[1];
+    uint64_t value, key;
+    int code = LK_ABSENT;
+    WANT(lk_table_new(65537, 1, table), LK_BAD_SIZE);
+    WANT(lk_table_new(64, 5000, table), LK_BAD_CALLERS);
+    WANT(lk_table_new(1, 1, table), LK_NO_SPACE);
+    WANT(lk_table_new(64, 1, NULL), LK_NULL);
+    WANT(lk_table_new(64, 1, table), LK_OK);
+    for (key = 0; code == LK_ABSENT; key++) code = lk_table_put(table[0], key, 2 * key, NULL);
+    WANT(code, LK_NO_SPACE);
+    HOLDS(lk_table_pages(key) > 64 && lk_table_pages(0) <= 64);
+    WANT(lk_table_get(table[0], key - 1, &value), LK_ABSENT);
+    WANT(lk_table_get(table[0], key - 2, &value), LK_OK);
+    HOLDS(value == 2 * (key - 2));
+    WANT(lk_table_delete(table[0], 0, &value), LK_OK);
+    WANT(lk_table_delete(table[0], 0, &value), LK_ABSENT);
+    WANT(lk_table_add(table[0], 0, 5, &value), LK_ABSENT);
+    WANT(lk_table_add(table[0], 0, UINT64_MAX, &value), LK_OK);
+    HOLDS(value == 5);
+    WANT(lk_table_get(table[0], 0, &value), LK_OK);
+    HOLDS(value == 4);
+    WANT(lk_table_each(table[0], NULL, NULL), LK_NULL);
+    WANT(lk_table_get(NULL, 0, &value), LK_NULL);
+    WANT(lk_table_close(&table[0]), LK_OK);
+}
+
+static void barriers(void) {
+    lk_barrier *two[2];
+    uint64_t phase;
+    int flag;
+    WANT(lk_barrier_new(0, two), LK_BAD_CALLERS);
+    WANT(lk_barrier_new(2, two), LK_OK);
+    WANT(lk_barrier_attach(two[0]), LK_ALREADY_IN);
+    WANT(lk_barrier_arrive(two[0], &phase, &flag), LK_WOULD_BLOCK);
+    WANT(lk_barrier_arrive(two[0], &phase, &flag), LK_TWICE);
+    WANT(lk_barrier_look(two[0], &phase, &flag), LK_WOULD_BLOCK);
+    WANT(lk_barrier_wait(two[1], &phase, &flag), LK_OK);
+    HOLDS(phase == 1);
+    WANT(lk_barrier_look(two[0], &phase, &flag), LK_OK);
+    WANT(lk_barrier_detach(two[1], &flag), LK_OK);
+    HOLDS(flag == 0);
+    WANT(lk_barrier_detach(two[1], NULL), LK_NOT_IN);
+    WANT(lk_barrier_wait(two[0], &phase, NULL), LK_OK);
+    HOLDS(phase == 2);
+    WANT(lk_barrier_wait((lk_barrier *)NULL, NULL, NULL), LK_NULL);
+    WANT(lk_barrier_close(&two[0]), LK_OK);
+    WANT(lk_barrier_close(&two[1]), LK_OK);
+}
+
+static void contents(void) {
+    lk_toc *toc, *second;
+    lk_toc_chunk *chunk;
+    lk_toc_share *share, *again;
+    uint64_t value;
+    WANT(lk_toc_new(0, &toc), LK_BAD_SIZE);
+    WANT(lk_toc_new(128, &toc), LK_OK);
+    WANT(lk_toc_new(128, &second), LK_OK);
+    WANT(lk_toc_allocate(toc, 0, &chunk), LK_BAD_SIZE);
+    WANT(lk_toc_allocate(toc, 16, &chunk), LK_OK);
+    WANT(lk_toc_store(chunk, 3, 7), LK_OK);
+    WANT(lk_toc_store(chunk, 4, 7), LK_NO_WORD);
+    WANT(lk_toc_keep(toc, 1, &chunk), LK_OK);
+    WANT(lk_toc_keep(toc, 2, &chunk), LK_NULL);
+    WANT(lk_toc_allocate(toc, 1, &chunk), LK_OK);
+    WANT(lk_toc_keep(toc, 1, &chunk), LK_KEY_THERE);
+    HOLDS(chunk == NULL);
+    WANT(lk_toc_allocate(toc, 1, &chunk), LK_FULL);
+    WANT(lk_toc_allocate(second, 8, &chunk), LK_OK);
+    WANT(lk_toc_keep(toc, 3, &chunk), LK_OTHER_AREA);
+    WANT(lk_toc_allocate(second, 8, &chunk), LK_OK);
+    WANT(lk_toc_chunk_close(&chunk), LK_OK);
+    WANT(lk_toc_freeze(&second, &share), LK_OK);
+    WANT(lk_toc_close(&share), LK_OK);
+    WANT(lk_toc_freeze(&toc, &share), LK_OK);
+    WANT(lk_toc_freeze(&toc, &share), LK_NULL);
+    WANT(lk_toc_share_again(share, &again), LK_OK);
+    WANT(lk_toc_close(&share), LK_OK);
+    WANT(lk_toc_words(again, 1, &value), LK_OK);
+    HOLDS(value == 4);
+    WANT(lk_toc_load(again, 1, 3, &value), LK_OK);
+    HOLDS(value == 7);
+    WANT(lk_toc_load(again, 1, 4, &value), LK_NO_WORD);
+    WANT(lk_toc_load(again, 2, 0, &value), LK_ABSENT);
+    WANT(lk_toc_close(&again), LK_OK);
+}
+
+int main(void) {
+    queues();
+    areas();
+    tables();
+    barriers();
+    contents();
+    if (!wrong) puts("misuse: each wrong call is told");
+    return wrong;
+}

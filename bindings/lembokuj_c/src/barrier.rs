@@ -1,0 +1,150 @@
+//! Barriers for C.
+
+use crate::codes::*;
+use crate::handle::{BARRIER, Handle, close, code, open, put, put_all};
+use lembokuj::{Arrival, Barrier, BarrierError};
+use std::ffi::c_int;
+
+fn why(error: BarrierError) -> c_int {
+    match error {
+        BarrierError::Callers => LK_BAD_CALLERS,
+        BarrierError::Memory => LK_NO_MEMORY,
+        BarrierError::AlreadyIn => LK_ALREADY_IN,
+        BarrierError::NotIn => LK_NOT_IN,
+        BarrierError::Twice => LK_TWICE,
+    }
+}
+
+/// Tells C of an arrival.
+///
+/// # Safety
+///
+/// `phase` and `elected` are null or may be written.
+unsafe fn told(arrival: Option<Arrival>, phase: *mut u64, elected: *mut c_int) -> c_int {
+    let Some(arrival) = arrival else {
+        return LK_WOULD_BLOCK;
+    };
+    // SAFETY: the places may be written.
+    unsafe {
+        if !phase.is_null() {
+            phase.write(arrival.phase);
+        }
+        if !elected.is_null() {
+            elected.write(c_int::from(arrival.is_elected));
+        }
+    }
+    LK_OK
+}
+
+/// Makes a call of a barrier.
+///
+/// # Safety
+///
+/// `barrier` is a handle that this call has alone; `phase` and `elected` are null or may be written.
+unsafe fn call(
+    barrier: *mut Handle<Barrier>,
+    phase: *mut u64,
+    elected: *mut c_int,
+    ask: impl FnOnce(&mut Barrier) -> Result<Option<Arrival>, BarrierError>,
+) -> c_int {
+    // SAFETY: the caller's duty.
+    match unsafe { open(barrier, BARRIER) }.map(ask) {
+        // SAFETY: the caller's duty.
+        Ok(Ok(arrival)) => unsafe { told(arrival, phase, elected) },
+        Ok(Err(error)) => why(error),
+        Err(code) => code,
+    }
+}
+
+/// See the header.
+///
+/// # Safety
+///
+/// `out` is null or has room for so many handles.
+#[unsafe(no_mangle)]
+pub unsafe extern "C" fn lk_barrier_new(callers: u32, out: *mut *mut Handle<Barrier>) -> c_int {
+    if out.is_null() {
+        return LK_NULL;
+    }
+    match Barrier::new(callers) {
+        // SAFETY: the caller's duty.
+        Ok(handles) => code(unsafe { put_all(out, BARRIER, handles) }.map(|()| LK_OK)),
+        Err(error) => why(error),
+    }
+}
+
+/// See the header.
+///
+/// # Safety
+///
+/// `barrier` is a handle that this call has alone; `phase` and `elected` are null or may be written.
+#[unsafe(no_mangle)]
+pub unsafe extern "C" fn lk_barrier_wait(barrier: *mut Handle<Barrier>, phase: *mut u64, elected: *mut c_int) -> c_int {
+    // SAFETY: the same duty.
+    unsafe { call(barrier, phase, elected, |barrier| barrier.wait().map(Some)) }
+}
+
+/// See the header.
+///
+/// # Safety
+///
+/// `barrier` is a handle that this call has alone; `phase` and `elected` are null or may be written.
+#[unsafe(no_mangle)]
+pub unsafe extern "C" fn lk_barrier_arrive(barrier: *mut Handle<Barrier>, phase: *mut u64, elected: *mut c_int) -> c_int {
+    // SAFETY: the same duty.
+    unsafe { call(barrier, phase, elected, Barrier::arrive) }
+}
+
+/// See the header.
+///
+/// # Safety
+///
+/// `barrier` is a handle that this call has alone; `phase` and `elected` are null or may be written.
+#[unsafe(no_mangle)]
+pub unsafe extern "C" fn lk_barrier_look(barrier: *mut Handle<Barrier>, phase: *mut u64, elected: *mut c_int) -> c_int {
+    // SAFETY: the same duty.
+    unsafe { call(barrier, phase, elected, Barrier::look) }
+}
+
+/// See the header.
+///
+/// # Safety
+///
+/// `barrier` is a handle that this call has alone.
+#[unsafe(no_mangle)]
+pub unsafe extern "C" fn lk_barrier_attach(barrier: *mut Handle<Barrier>) -> c_int {
+    // SAFETY: the caller's duty.
+    match unsafe { open(barrier, BARRIER) }.map(Barrier::attach) {
+        Ok(Ok(_)) => LK_OK,
+        Ok(Err(error)) => why(error),
+        Err(code) => code,
+    }
+}
+
+/// See the header.
+///
+/// # Safety
+///
+/// `barrier` is a handle that this call has alone; `last` is null or may be written.
+#[unsafe(no_mangle)]
+pub unsafe extern "C" fn lk_barrier_detach(barrier: *mut Handle<Barrier>, last: *mut c_int) -> c_int {
+    // SAFETY: the caller's duty.
+    match unsafe { open(barrier, BARRIER) }.map(Barrier::detach) {
+        Ok(Ok(_)) if last.is_null() => LK_OK,
+        // SAFETY: the place may be written.
+        Ok(Ok(is_last)) => code(unsafe { put(last, c_int::from(is_last)) }.map(|()| LK_OK)),
+        Ok(Err(error)) => why(error),
+        Err(code) => code,
+    }
+}
+
+/// See the header.
+///
+/// # Safety
+///
+/// `barrier` is null or points to a handle that this call has alone.
+#[unsafe(no_mangle)]
+pub unsafe extern "C" fn lk_barrier_close(barrier: *mut *mut Handle<Barrier>) -> c_int {
+    // SAFETY: the caller's duty.
+    code(unsafe { close(barrier, BARRIER) }.map(|_| LK_OK))
+}

@@ -1,0 +1,74 @@
+//! What calls answer, as numbers.
+
+use std::ffi::{CStr, c_char, c_int};
+
+macro_rules! codes {
+    ($($name:ident = $number:literal => $text:literal,)*) => {
+        $(#[doc = $text] pub const $name: c_int = $number;)*
+
+        /// The text of a code.
+        fn text_of(code: c_int) -> &'static CStr {
+            match code {
+                $($number => const { terminated(concat!($text, "\0")) },)*
+                _ => c"no code of this library",
+            }
+        }
+
+        #[cfg(test)]
+        const ALL: &[(&str, c_int)] = &[$((stringify!($name), $number),)*];
+    };
+}
+
+/// A literal that ends in a zero as C has it.
+const fn terminated(text: &'static str) -> &'static CStr {
+    match CStr::from_bytes_with_nul(text.as_bytes()) {
+        Ok(text) => text,
+        Err(_) => panic!("a text of a code has no zero in it"),
+    }
+}
+
+codes! {
+    LK_OK = 0 => "done",
+    LK_WOULD_BLOCK = 1 => "full, or nothing there yet: call again",
+    LK_DETACHED = 2 => "the other end is gone",
+    LK_ABSENT = 3 => "the key was not there",
+    LK_NULL = -1 => "a pointer is null",
+    LK_KIND = -2 => "a handle of another kind",
+    LK_FREED = -3 => "a chunk that was freed",
+    LK_NO_MEMORY = -4 => "out of memory",
+    LK_BAD_SIZE = -5 => "a size out of range",
+    LK_BAD_CALLERS = -6 => "the number of callers is out of range",
+    LK_TOO_LONG = -7 => "the message is longer than the queue's greatest",
+    LK_OTHER_MESSAGE = -8 => "a part of another message is on the ring",
+    LK_NO_SPACE = -9 => "the pages are used up",
+    LK_NO_WORD = -10 => "no such word",
+    LK_OTHER_AREA = -11 => "a chunk of another area or table",
+    LK_ALREADY_IN = -12 => "the caller takes part already",
+    LK_NOT_IN = -13 => "the caller does not take part",
+    LK_TWICE = -14 => "the caller has arrived in this phase already",
+    LK_FULL = -15 => "the table of contents is full",
+    LK_KEY_THERE = -16 => "the key is there already",
+}
+
+/// The text of a code, which lives for ever.
+#[unsafe(no_mangle)]
+pub extern "C" fn lk_message(code: c_int) -> *const c_char {
+    text_of(code).as_ptr()
+}
+
+#[cfg(test)]
+mod tests {
+    /// The header has each code with its number, and no other.
+    #[test]
+    fn the_header_has_these_codes() {
+        let header = include_str!("../include/lembokuj.h");
+        let stated: Vec<(&str, i32)> = header
+            .lines()
+            .filter_map(|line| line.trim().strip_prefix("LK_"))
+            .filter_map(|line| line.split_once(" = "))
+            .map(|(name, rest)| (name, rest.split(',').next().unwrap().trim().parse().unwrap()))
+            .collect();
+        let ours: Vec<(&str, i32)> = super::ALL.iter().map(|(name, number)| (&name[3..], *number)).collect();
+        assert_eq!(stated, ours);
+    }
+}

@@ -1,0 +1,199 @@
+//! Stands for the toolchain's `atomic_table`: words that threads change in single steps, slots that hold a value each, and
+//! seats, with which a thread steps.
+//!
+//! What the proofs take from it, and this code has to meet: each step on a word is one sequentially consistent step of an
+//! atomic `u64`; a slot is read and written by plain reads and writes, through the seat that holds it; a seat, a badge and
+//! a view have no bytes. Who may take which step, and that no slot is held by two seats, is the rule that each crate above
+//! proves; in Rust the rules are empty traits. So a caller that follows no such rule can reach one slot from two threads:
+//! this crate and those of the runtime over it are for the crate `lembokuj` alone, and are not published.
+//!
+//! There are two places of `unsafe`, `impl Sync for Shared` and `Seat::slot_mut`.
+
+#![expect(clippy::type_complexity, reason = "a marker names all that it stands for")]
+
+use rattle_std::alloc::{AllocError, Global};
+use rattle_std::vec::Vec;
+use std::cell::UnsafeCell;
+use std::marker::PhantomData;
+use std::sync::atomic::AtomicU64;
+use std::sync::atomic::Ordering::SeqCst;
+
+/// The fact about words, values at home and views that each step keeps. Proved above, empty here.
+pub trait TableRule<S, V, K> {}
+
+/// What a step tells its caller. Proved above, empty here.
+pub trait Play<S, V> {}
+
+/// How a view is cut in two. Proved above, empty here.
+pub trait Split<V> {}
+
+/// How two views are made one. Proved above, empty here.
+pub trait Join<V> {}
+
+/// A thread's place at a table, with what it knows and the slots that it holds: nothing of which has bytes.
+pub struct Seat<S, V> {
+    marker: PhantomData<(S, fn() -> V)>,
+}
+
+impl<S, V> Seat<S, V> {
+    const NEW: Seat<S, V> = Seat { marker: PhantomData };
+
+    pub fn into_badge(self) -> Badge<V> {
+        Badge::blank()
+    }
+
+    /// The value of a slot that this seat holds.
+    #[inline]
+    pub fn slot_mut<'a, K, P: TableRule<S, V, K>>(&'a mut self, table: &'a Shared<S, V, K, P>, slot: usize) -> &'a mut S {
+        // SAFETY: the call's contract is that this seat holds the slot. The crates above call it only between a
+        // compare-and-exchange that took the slot's word from 0 to 1 and the store that gives it back, and prove that no
+        // other seat holds the slot then; both are sequentially consistent, so what one holder wrote the next one sees.
+        // The borrow of the seat ends before the seat can take another step.
+        unsafe { &mut *table.slots[slot].get() }
+    }
+}
+
+/// A seat that holds no slot, in a type that does not name what the slots hold.
+pub struct Badge<V> {
+    marker: PhantomData<fn() -> V>,
+}
+
+impl<V> Badge<V> {
+    pub const fn blank() -> Badge<V> {
+        Badge { marker: PhantomData }
+    }
+
+    pub fn into_seat<S>(self) -> Seat<S, V> {
+        Seat::NEW
+    }
+}
+
+/// The words and slots, as threads see them.
+pub struct Shared<S, V, K, P: TableRule<S, V, K>> {
+    words: Box<[AtomicU64]>,
+    slots: Box<[UnsafeCell<S>]>,
+    marker: PhantomData<fn() -> (V, K, P)>,
+}
+
+// SAFETY: the words are atomic. A slot is reached only by `slot_mut`, through the one seat that holds it, so threads hand
+// its value to one another and never share it: that asks for `S: Send`.
+unsafe impl<S: Send, V, K, P: TableRule<S, V, K>> Sync for Shared<S, V, K, P> {}
+
+impl<S, V, K, P: TableRule<S, V, K>> Shared<S, V, K, P> {
+    /// A load with no seat.
+    #[inline]
+    pub fn peek(&self, word: usize) -> u64 {
+        self.words[word].load(SeqCst)
+    }
+
+    #[inline]
+    pub fn load<M: Play<S, V>>(&self, _seat: &mut Seat<S, V>, word: usize) -> u64 {
+        self.words[word].load(SeqCst)
+    }
+
+    #[inline]
+    pub fn store<M: Play<S, V>>(&self, _seat: &mut Seat<S, V>, word: usize, new: u64) {
+        self.words[word].store(new, SeqCst);
+    }
+
+    #[inline]
+    pub fn swap<M: Play<S, V>>(&self, _seat: &mut Seat<S, V>, word: usize, new: u64) -> u64 {
+        self.words[word].swap(new, SeqCst)
+    }
+
+    #[inline]
+    pub fn fetch_add<M: Play<S, V>>(&self, _seat: &mut Seat<S, V>, word: usize, more: u64) -> u64 {
+        self.words[word].fetch_add(more, SeqCst)
+    }
+
+    #[inline]
+    pub fn fetch_sub<M: Play<S, V>>(&self, _seat: &mut Seat<S, V>, word: usize, less: u64) -> u64 {
+        self.words[word].fetch_sub(less, SeqCst)
+    }
+
+    /// The word as it was, which has become `new` if it was `old`.
+    #[inline]
+    pub fn compare_exchange<M: Play<S, V>>(&self, _seat: &mut Seat<S, V>, word: usize, old: u64, new: u64) -> u64 {
+        match self.words[word].compare_exchange(old, new, SeqCst, SeqCst) {
+            Ok(found) | Err(found) => found,
+        }
+    }
+
+    /// A second seat. A view changes only at a step, so this and `join_seat` load word 0.
+    pub fn split_seat<M: Split<V>>(&self, _seat: &mut Seat<S, V>) -> Seat<S, V> {
+        self.peek(0);
+        Seat::NEW
+    }
+
+    /// Ends the other seat.
+    pub fn join_seat<M: Join<V>>(&self, _seat: &mut Seat<S, V>, _other: Seat<S, V>) {
+        self.peek(0);
+    }
+}
+
+/// Owns the words and slots. `A` is the allocator.
+pub struct Table<S, V, K, P: TableRule<S, V, K>, A> {
+    pub shared: Shared<S, V, K, P>,
+    alloc: PhantomData<A>,
+}
+
+/// The values of a table for which there was no memory.
+pub struct Refused<S> {
+    pub slots: Vec<S>,
+}
+
+impl<S, V, K, P: TableRule<S, V, K>> Table<S, V, K, P, Global> {
+    /// A table of these words and slots, with its first seat. `about` is for the proof alone.
+    pub fn new(_alloc: Global, words: &[u64], slots: Vec<S>, about: &K) -> Result<(Self, Seat<S, V>), Refused<S>> {
+        let _ = about;
+        let Ok(words) = atomic(words) else {
+            return Err(Refused { slots });
+        };
+        let table = Table {
+            shared: Shared {
+                words,
+                slots: slots.into_iter().map(UnsafeCell::new).collect(),
+                marker: PhantomData,
+            },
+            alloc: PhantomData,
+        };
+        Ok((table, Seat::NEW))
+    }
+
+    /// A table of words alone.
+    pub fn of_words(alloc: Global, words: &[u64], about: &K) -> Result<(Self, Seat<S, V>), AllocError> {
+        Self::new(alloc, words, Vec::new(alloc), about).map_err(|_| AllocError)
+    }
+
+    /// Ends the table. The values come back, each in its slot.
+    pub fn close_with(self, _seat: Seat<S, V>) -> Closed<S, Global> {
+        Closed {
+            slots: self.shared.slots.into_iter().map(|slot| Some(slot.into_inner())).collect(),
+            alloc: PhantomData,
+        }
+    }
+}
+
+/// The words as atomics.
+fn atomic(words: &[u64]) -> Result<Box<[AtomicU64]>, AllocError> {
+    let mut atomics = std::vec::Vec::new();
+    atomics.try_reserve_exact(words.len())?;
+    atomics.extend(words.iter().map(|word| AtomicU64::new(*word)));
+    Ok(atomics.into_boxed_slice())
+}
+
+/// The slots of a table that was ended. What is not taken is dropped with it.
+pub struct Closed<S, A> {
+    slots: Box<[Option<S>]>,
+    alloc: PhantomData<A>,
+}
+
+impl<S, A> Closed<S, A> {
+    /// The value of a slot, which is taken once.
+    pub fn take(&mut self, slot: usize) -> S {
+        self.slots[slot].take().expect("a slot is taken once")
+    }
+
+    /// Ends it.
+    pub fn free(self) {}
+}

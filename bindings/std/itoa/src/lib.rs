@@ -1,0 +1,108 @@
+//! Stands for the toolchain's `itoa`: integers as text.
+
+#![forbid(unsafe_code)]
+
+/// The longest text of an `i128`: a sign and 39 digits.
+const LONGEST: usize = 40;
+
+/// An integer that [`Buffer::format`] writes.
+pub trait Integer: Copy {
+    /// Whether it is below 0, and its size.
+    fn parts(self) -> (bool, u128);
+}
+
+macro_rules! integers {
+    ($($unsigned:ty, $signed:ty;)*) => {$(
+        impl Integer for $unsigned {
+            fn parts(self) -> (bool, u128) {
+                (false, self as u128)
+            }
+        }
+        impl Integer for $signed {
+            fn parts(self) -> (bool, u128) {
+                (self < 0, self.unsigned_abs() as u128)
+            }
+        }
+    )*};
+}
+
+integers! { u8, i8; u16, i16; u32, i32; u64, i64; usize, isize; }
+
+impl Integer for u128 {
+    fn parts(self) -> (bool, u128) {
+        (false, self)
+    }
+}
+
+impl Integer for i128 {
+    fn parts(self) -> (bool, u128) {
+        (self < 0, self.unsigned_abs())
+    }
+}
+
+/// Room for the text of one integer.
+#[derive(Clone, Copy, Debug)]
+pub struct Buffer {
+    bytes: [u8; LONGEST],
+}
+
+impl Default for Buffer {
+    fn default() -> Buffer {
+        Buffer::new()
+    }
+}
+
+impl Buffer {
+    pub const fn new() -> Buffer {
+        Buffer { bytes: [0; LONGEST] }
+    }
+
+    /// The integer in decimal digits, with a minus before it where it is below 0: what `to_string` gives.
+    pub fn format<I: Integer>(&mut self, n: I) -> &str {
+        let (is_negative, size) = n.parts();
+        let mut at = self.put_digits(size);
+        if is_negative {
+            at -= 1;
+            self.bytes[at] = b'-';
+        }
+        std::str::from_utf8(&self.bytes[at..]).expect("digits are ASCII")
+    }
+
+    /// Writes the digits to the end of the buffer, and says where they begin. Most numbers fit a `u64`, whose division is
+    /// fast.
+    fn put_digits(&mut self, size: u128) -> usize {
+        let (mut high, mut at) = (size, LONGEST);
+        while high > u128::from(u64::MAX) {
+            at -= 1;
+            self.bytes[at] = b'0' + (high % 10) as u8;
+            high /= 10;
+        }
+        let mut low = high as u64;
+        loop {
+            at -= 1;
+            self.bytes[at] = b'0' + (low % 10) as u8;
+            low /= 10;
+            if low == 0 {
+                return at;
+            }
+        }
+    }
+}
+
+#[cfg(test)]
+mod tests {
+    use super::Buffer;
+
+    #[test]
+    fn gives_what_to_string_gives() {
+        for n in [0, 1, -1, 9, 10, i64::MIN, i64::MAX, 1_000_000_007, -99] {
+            assert_eq!(Buffer::new().format(n), n.to_string());
+            assert_eq!(Buffer::new().format(n as u64), (n as u64).to_string());
+            assert_eq!(Buffer::new().format(i128::from(n) * 1_000_000_000_000), (i128::from(n) * 1_000_000_000_000).to_string());
+        }
+        for n in [i128::MIN, i128::MAX, -1, i128::from(u64::MAX) + 1] {
+            assert_eq!(Buffer::new().format(n), n.to_string());
+        }
+        assert_eq!(Buffer::new().format(u128::MAX), u128::MAX.to_string());
+    }
+}

@@ -1,0 +1,66 @@
+//! The fast hasher of the toolchain's std, with the same values.
+
+pub use std::hash::*;
+
+const MULTIPLIER: u64 = 0x9e37_79b9_7f4a_7c15;
+
+/// A fast hasher that is not cryptographic: 16 bytes at a time are multiplied to 128 bits, whose halves are joined by
+/// xor. Its seed is fixed, so whoever picks the keys can make them collide.
+#[derive(Clone, Copy)]
+pub struct FoldHasher {
+    state: u64,
+}
+
+impl Default for FoldHasher {
+    fn default() -> FoldHasher {
+        FoldHasher {
+            state: 0x243f_6a88_85a3_08d3,
+        }
+    }
+}
+
+fn folded_multiply(a: u64, b: u64) -> u64 {
+    let product = u128::from(a) * u128::from(b);
+    product as u64 ^ (product >> 64) as u64
+}
+
+fn read_u32(bytes: &[u8], at: usize) -> u64 {
+    u64::from(u32::from_le_bytes([bytes[at], bytes[at + 1], bytes[at + 2], bytes[at + 3]]))
+}
+
+fn read_u64(bytes: &[u8], at: usize) -> u64 {
+    read_u32(bytes, at) | read_u32(bytes, at + 4) << 32
+}
+
+/// Up to 8 bytes as one number, by reads that may overlap.
+fn read_short(bytes: &[u8]) -> u64 {
+    match bytes.len() {
+        0 => 0,
+        len @ 1..=3 => u64::from(bytes[0]) | u64::from(bytes[len / 2]) << 8 | u64::from(bytes[len - 1]) << 16,
+        len => read_u32(bytes, 0) | read_u32(bytes, len - 4) << 32,
+    }
+}
+
+impl Hasher for FoldHasher {
+    fn finish(&self) -> u64 {
+        self.state
+    }
+
+    fn write(&mut self, bytes: &[u8]) {
+        let len = bytes.len();
+        if len <= 8 {
+            self.state = folded_multiply(self.state ^ read_short(bytes), MULTIPLIER ^ (2 * len as u64));
+            return;
+        }
+        let mut state = self.state.wrapping_add(len as u64);
+        let mut at = 0;
+        while len - at > 16 {
+            state = folded_multiply(read_u64(bytes, at) ^ state, read_u64(bytes, at + 8) ^ MULTIPLIER);
+            at += 16;
+        }
+        self.state = folded_multiply(
+            read_u64(bytes, len.saturating_sub(16)) ^ state,
+            read_u64(bytes, len - 8) ^ MULTIPLIER,
+        );
+    }
+}

@@ -1,0 +1,3 @@
+//! Rust's readers, writers and errors.
+
+pub use std::io::*;

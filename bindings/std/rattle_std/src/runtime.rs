@@ -1,0 +1,39 @@
+//! The handle that a program's `main` is given.
+
+use crate::alloc::Global;
+use crate::process::Abort;
+use crate::sync::Wait;
+use crate::thread::Threads;
+
+/// The runtime: it may wait and start threads, and has the allocator and the standard streams.
+#[derive(Clone, Copy, Debug, Default)]
+pub struct HostRuntime;
+
+impl HostRuntime {
+    pub const fn new() -> HostRuntime {
+        HostRuntime
+    }
+
+    pub fn alloc(&self) -> Global {
+        Global
+    }
+
+    pub fn stdin(&self) -> std::io::Stdin {
+        std::io::stdin()
+    }
+
+    /// Without a buffer of lines, since the programs write whole pieces and flush each.
+    pub fn stdout(&self) -> std::io::Stdout {
+        std::io::stdout()
+    }
+
+    pub fn stderr(&self) -> std::io::Stderr {
+        std::io::stderr()
+    }
+}
+
+impl Wait for HostRuntime {}
+
+impl Threads for HostRuntime {}
+
+impl Abort for HostRuntime {}

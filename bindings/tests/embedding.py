@@ -1,0 +1,73 @@
+#!/usr/bin/env python3
+"""Whether docs/EMBEDDING.md is true: its Rust and its C program are built as it says, and its commands print what stands there.
+
+Takes the folder that bindings/build has laid out.
+"""
+
+import os
+import re
+import shutil
+import subprocess
+import sys
+import tempfile
+
+BINDINGS = os.path.dirname(os.path.dirname(os.path.abspath(__file__)))
+REPOSITORY = os.path.dirname(BINDINGS)
+
+
+def blocks():
+    """The page's blocks, by kind, in order."""
+    with open(os.path.join(REPOSITORY, "docs", "EMBEDDING.md"), encoding="utf-8") as page:
+        return re.findall(r"^```(\w+)\n(.*?)^```$", page.read(), re.M | re.S)
+
+
+def run(command, folder, **extra):
+    """What a command prints; the script ends where it fails."""
+    done = subprocess.run(["bash", "-ec", command], cwd=folder, text=True, capture_output=True, check=False, **extra)
+    if done.returncode:
+        sys.exit(f"embedding: {command}\n{done.stdout}{done.stderr}")
+    return done.stdout
+
+
+def wanted(block):
+    """The command of a block that shows one, and what it prints."""
+    command, _, output = block.removeprefix("$ ").partition("\n")
+    return command, output
+
+
+def same(what, got, want):
+    if got != want:
+        sys.exit(f"embedding: {what} printed\n{got}and not\n{want}")
+
+
+def main():
+    dist = os.path.abspath(sys.argv[1])
+    page = blocks()
+    consoles = [text for kind, text in page if kind == "console"]
+    rust = next(text for kind, text in page if kind == "rust")
+    c = next(text for kind, text in page if kind == "c")
+    with tempfile.TemporaryDirectory(prefix="embedding-") as room:
+        command, output = wanted(consoles[0])
+        same(command, run(command.replace("bindings/out/dist", dist), REPOSITORY), output)
+
+        new, _ = wanted(consoles[1])
+        run(new.replace("../bindings", BINDINGS), room)
+        with open(f"{room}/counting/src/main.rs", "w", encoding="utf-8") as file:
+            file.write(rust)
+        command, output = wanted(consoles[2])
+        same(command, run(command, f"{room}/counting"), output)
+
+        with open(f"{room}/tally.c", "w", encoding="utf-8") as file:
+            file.write(c)
+        plain = next(text for text in re.findall("`(cc [^`]*)`", open(f"{REPOSITORY}/docs/EMBEDDING.md", encoding="utf-8").read()))
+        run(plain.replace("bindings/out/dist", dist) + " -Wall -Wextra -Werror -o tally-plain", room)
+        export, build = consoles[3].splitlines()[:2]
+        output = "".join(line + "\n" for line in consoles[3].splitlines()[2:])
+        same(plain, run("./tally-plain", room), output)
+        if shutil.which("pkg-config"):
+            lines = export.removeprefix("$ ").replace("$PWD/bindings/out/dist", dist) + "; " + build.removeprefix("$ ")
+            same(lines, run(lines, room), output)
+    print("embedding: as docs/EMBEDDING.md says")
+
+
+main()

@@ -1,0 +1,215 @@
+"""What bindings/erase cuts, what it leaves, and what it refuses."""
+
+import importlib.machinery
+import importlib.util
+import os
+import tempfile
+import unittest
+
+HERE = os.path.dirname(os.path.abspath(__file__))
+
+
+def load():
+    """The script as a module: its name has no ending."""
+    loader = importlib.machinery.SourceFileLoader("erase", os.path.join(HERE, "..", "erase"))
+    module = importlib.util.module_from_spec(importlib.util.spec_from_loader("erase", loader))
+    loader.exec_module(module)
+    return module
+
+
+tool = load()
+
+
+def erased(text, crate="some"):
+    """The text that is left, without the spaces at the ends of lines and without empty lines."""
+    lines = tool.erase(text, "some.rt", crate).result().split("\n")
+    return "\n".join(line.rstrip() for line in lines if line.strip())
+
+
+class Cuts(unittest.TestCase):
+    def test_clauses_go(self):
+        text = "fn f(x: u64) -> u64\n    requires { x ≡ 1 }\n    ensures* it { (λ n. {n}) result ≡ x }\n{ x }"
+        self.assertEqual(erased(text), "fn f(x: u64) -> u64\n{ x }")
+
+    def test_clauses_of_closures_and_traits_go(self):
+        text = "let f = move || -> u64\n requires { a ≡ 1 }\n ensures { b } { 1 };\ntrait T { fn g(&self) requires one { x } ensures { y }; }"
+        self.assertEqual(erased(text), "let f = move || -> u64\n  { 1 };\ntrait T { fn g(&self)  ; }")
+
+    def test_ghosts_go_with_what_is_said_of_them(self):
+        text = (
+            "pub struct S {\n    /// The place.\n    pub at: u64,\n    /// Where it is.\n    pub ghost valid: { 0 < at } by { it-prop },\n"
+            "    pub(crate) ghost more: { ℕ },\n}\nimpl T for S {\n    ghost use A.{◌≡◌, b};\n    // of a call\n"
+            "    ghost step = { λ a. {b} };\n    ghost may: { ℕ } = { λ a. b };\n    type X = u64;\n}\npub ghost use A as b;\nfn f<Y>()\n    ghost g: { X → Y }\n{}"
+        )
+        want = (
+            "pub struct S {\n    /// The place.\n    pub at: u64,\n}\nimpl T for S {\n    // of a call\n    type X = u64;\n}\nfn f<Y>()\n{}"
+        )
+        self.assertEqual(erased(text), want)
+
+    def test_attributes_derives_and_bounds_of_the_prover_go(self):
+        text = (
+            "#![tactic(auto)]\n#[tactic(auto, using(a::b))]\n#[inline]\n#[derive(Debug, Drop)]\nstruct A;\n#[derive(Drop)]\nstruct B;\n"
+            "trait C: Send + Drop {}\ntrait D: Drop + Send {}\nfn f<T: Drop>() {}\n#[cycle(x)]\nfn g() {}"
+        )
+        want = (
+            "#[inline]\n#[derive(Debug)]\nstruct A;\nstruct B;\ntrait C: Send  {}\ntrait D:  Send {}\nfn f<T: >() {}\nfn g() {}"
+        )
+        self.assertEqual(erased(text), want)
+
+    def test_models_and_drops_of_parts_go(self):
+        text = (
+            "/// Said of the model.\nimpl<'a, T: X<Y>> Model for S<'a, T> {\n    ghost view = { λ s. s.x };\n}\n"
+            "impl<W: X> Drop for P<W> {\n    fn drop(self) {\n        match self {\n            P::A(it) => drop(it),\n            P::B(it) => drop(it),\n        }\n    }\n}\n"
+            "impl Drop for Q {\n    fn drop(self) {\n        let Q { a: _, b } = self;\n        drop(b);\n    }\n}\nstruct R;"
+        )
+        self.assertEqual(erased(text), "struct R;")
+
+    def test_tests_go(self):
+        text = "#[cfg(test)]\nmod tests;\n#[cfg(test)]\n#[inline]\nfn f() { {} }\nmod kept;"
+        self.assertEqual(erased(text), "mod kept;")
+        self.assertEqual(tool.erase(text).modules, ["kept"])
+
+    def test_tests_of_callers_stay(self):
+        text = (
+            "#[cfg(test)]\nmod tests;\n#[test]\n#[tactic(auto)]\nfn f(\n    rt: HostRuntime,\n) -> Result<(), Fail>\n    ensures { x }\n{\n"
+            '    assert_eq!(rt; g(rt.alloc())?, 1);\n    h().expect(&rt, "h");\n    Ok(())\n}\n#[test]\nfn g() {}'
+        )
+        want = (
+            "#[cfg(test)]\nmod tests;\n#[test]\nfn f(\n)\n{ let rt = rattle_std::HostRuntime::new(); "
+            "rattle_std::test::Passes::passes((move || -> Result<(),Fail> {\n"
+            '    assert_eq!( g(rt.alloc())?, 1);\n    h().expect( "h");\n    Ok(())\n})()) }\n#[test]\n'
+            "fn g() { rattle_std::test::Passes::passes((move ||  {})()) }"
+        )
+        self.assertEqual(erased(text, "uses_some"), want)
+
+    def test_promises_in_code_go(self):
+        text = "fn f() {\n    prove!(a < b);\n    prove_eq!(a, (b));\n    g();\n}\nconst _: () = prove!(X == 1);"
+        self.assertEqual(erased(text), "fn f() {\n    g();\n}")
+
+    def test_std_is_the_stand_in(self):
+        text = 'use std::mem;\nuse crate::std::a;\nlet v = vec![in alloc; 0u64; 3]?;\nformat!(in rt.alloc(); "{x}")?;\neprintln!(rt; "std::x");\nv.iter().collect(alloc)?; v.collect();'
+        want = (
+            "use rattle_std::mem;\nuse crate::std::a;\nlet v = rattle_std::vec_in![ alloc; 0u64; 3]?;\n"
+            'rattle_std::format_in!( rt.alloc(); "{x}")?;\nrattle_std::eprintln_to!(rt; "std::x");\nv.iter().collect_in(alloc)?; v.collect();'
+        )
+        self.assertEqual(erased(text), want)
+
+    def test_main_gets_the_runtime(self):
+        source = tool.erase("fn main(rt: HostRuntime) -> ExitCode { x }")
+        framed = tool.with_frame(source, True)
+        self.assertIn("fn main_with(rt: HostRuntime)", framed)
+        self.assertIn("fn main() -> ExitCode { main_with(", framed)
+        framed = tool.with_frame(tool.erase("fn main(rt: HostRuntime) {}"), True)
+        self.assertIn("fn main()  { main_with(", framed)
+
+
+class Leaves(unittest.TestCase):
+    def test_words_in_strings_and_comments_stay(self):
+        text = (
+            'let a = "requires { x } ghost y: {";\nlet b = r#"ensures "{" ≡"#;\nlet c = b"std::\\"{";\n// requires { no end\n'
+            "/* ghost use /* nested { */ ; */\nlet d = '{';\nlet e = '\\'';\nlet f = b'\"';\n'outer: loop { break 'outer; }\nlet g = '≡';"
+        )
+        self.assertEqual(erased(text), text)
+
+    def test_lines_keep_their_numbers(self):
+        text = "ghost use A.{\n    b,\n};\nfn f()\n    ensures {\n x\n }\n{}\n"
+        left = tool.erase(text).result()
+        self.assertEqual(left.count("\n"), text.count("\n"))
+        self.assertEqual(left.split("\n")[3], "fn f()")
+        self.assertEqual(left.split("\n")[7], "{}")
+
+    def test_documentation_stays(self):
+        text = "//! The head.\n/// What f does.\n#[tactic(auto)]\nfn f() {}"
+        self.assertEqual(erased(text), "//! The head.\n/// What f does.\nfn f() {}")
+
+    def test_the_frame_adds_no_line_before_the_end(self):
+        source = tool.erase("//! The head.\n\nfn f() {}\n")
+        self.assertEqual(tool.with_frame(source, False), "//! The head.\n\nuse rattle_std::prelude::*; fn f() {}\n")
+
+
+class Refuses(unittest.TestCase):
+    def refused(self, text, line, why, crate="some"):
+        with self.assertRaises(tool.Refused) as caught:
+            tool.erase(text, "some.rt", crate)
+        self.assertIn(f"some.rt:{line}: ", str(caught.exception))
+        self.assertIn(why, str(caught.exception))
+
+    def test_what_is_left_of_a_contract(self):
+        self.refused("fn f() {}\nlet a ≡ b;", 2, "≡ is left")
+        self.refused("fn f(ℕ: u64) {}", 1, "ℕ is left")
+        self.refused("fn f()\n    requires x;", 2, "a clause that has no block")
+        self.refused("let a = 1;\nghost let b = 2;", 2, "a ghost item that is not known")
+        self.refused("f(prove!(x))", 1, "no statement")
+        self.refused("use a::tactic;", 1, "tactic is left")
+
+    def test_what_it_does_not_know(self):
+        self.refused("#[repr(C)]\nstruct A;", 1, "the attribute repr")
+        self.refused("\n#[derive(Clone, Serialize)]\nstruct A;", 2, "the derive Serialize")
+        self.refused("#[cfg(unix)]\nfn f() {}", 1, "a cfg other")
+        self.refused("fn f() { unsafe { g() } }", 1, "an unsafe")
+        self.refused("unsafe impl<Y> Send for Noted<Y> {}", 1, "an unsafe")
+        self.refused("let v = vec![1, 2];", 1, "vec! without memory")
+        self.refused("use a::Drop;", 1, "the word Drop")
+        self.refused("#[test]\nfn f(n: u64) {}", 2, "something else than the runtime")
+
+    def test_a_drop_that_does_something(self):
+        text = "impl Drop for A {\n    fn drop(self) {\n        let A { n } = self;\n        close(n);\n    }\n}"
+        self.refused(text, 1, "has work of its own")
+        self.refused(text.replace("close(n)", "n.drop()"), 1, "has work of its own")
+
+    def test_what_is_not_closed(self):
+        self.refused("fn f() {", 1, "not closed")
+        self.refused("fn f() )", 1, "nothing opened")
+        self.refused('let a = "x;', 1, "does not end")
+        self.refused("/* /* */", 1, "does not end")
+
+    def test_what_the_lists_allow(self):
+        self.assertEqual(erased("unsafe impl<Y> Send for Noted<Y> {}", "lock_book"), "unsafe impl<Y> Send for Noted<Y> {}")
+        self.assertEqual(erased("impl<T> Drop for Closed<T> { fn drop(self) { self.go(); } }", "lock_book"), "")
+
+
+class Workspaces(unittest.TestCase):
+    def workspace(self, folder, files):
+        for path, text in files.items():
+            path = os.path.join(folder, path)
+            os.makedirs(os.path.dirname(path), exist_ok=True)
+            with open(path, "w", encoding="utf-8") as file:
+                file.write(text)
+
+    def test_crates_come_lowest_first(self):
+        crates = {"high": ["low", "csv"], "low": ["atomic_table"], "other": []}
+        self.assertEqual(tool.wanted(crates, ("high",)), ["low", "high"])
+        with self.assertRaises(tool.Refused):
+            tool.wanted({"high": ["nowhere"]}, ("high",))
+
+    def test_files_are_found_by_their_modules(self):
+        with tempfile.TemporaryDirectory() as folder:
+            self.workspace(
+                folder,
+                {
+                    "crates/low/src/lib.rt": "mod part;\n#[cfg(test)]\nmod tests;\n",
+                    "crates/low/src/part.rt": "mod deep;",
+                    "crates/low/src/part/deep.rt": "fn f() requires { x } {}",
+                    "crates/low/src/tests.rt": "no rust at all ≡",
+                },
+            )
+            files = tool.erase_crate("low", folder)
+            self.assertEqual(sorted(files), ["lib.rs", "part.rs", "part/deep.rs"])
+
+    def test_where_one_is_refused_nothing_is_written(self):
+        with tempfile.TemporaryDirectory() as folder:
+            files = {"crates.txt": "".join(f"{root}:\n" for root in tool.ROOTS)}
+            files |= {f"crates/{root}/src/lib.rt": "fn f() {}" for root in tool.ROOTS}
+            files[f"crates/{tool.ROOTS[-1]}/src/lib.rt"] = "fn f() ≡ {}"
+            self.workspace(folder, files)
+            out = os.path.join(folder, "out")
+            with self.assertRaises(tool.Refused):
+                tool.make_workspace(out, folder)
+            self.assertFalse(os.path.exists(out))
+            self.workspace(folder, {f"crates/{tool.ROOTS[-1]}/src/lib.rt": "fn f() {}"})
+            tool.make_workspace(out, folder)
+            self.assertEqual(sorted(os.listdir(os.path.join(out, "crates"))), sorted(tool.ROOTS))
+
+
+if __name__ == "__main__":
+    unittest.main()
