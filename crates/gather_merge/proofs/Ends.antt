@@ -15,7 +15,7 @@ use Rattle.scan_claim.specs.declared.claims.Claims.{Claims}
 use Rattle.gather_law.specs.Tuples.{Table}
 use Rattle.worker_run.specs.Ended.{IsNotice, found_gone, sends_of}
 use Rattle.worker_run.specs.Sent.{FoundGone, HasSent}
-use Rattle.worker_run.specs.Steps.{GivesUp}
+use Rattle.worker_run.specs.Notices.{GivesUp}
 use Rattle.worker_run.specs.declared.WorkerEnd.{WorkerEnd}
 use Rattle.worker_run.specs.declared.WorkerEnd.TheVariants.{Finished, Stopped, Refused, NoMemory}
 use Rattle.gather_merge.specs.Drawn.{HasDrawnAll, Met}
