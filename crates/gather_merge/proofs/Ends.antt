@@ -15,13 +15,15 @@ use Rattle.scan_claim.specs.declared.claims.Claims.{Claims}
 use Rattle.gather_law.specs.Tuples.{Table}
 use Rattle.worker_run.specs.Ended.{IsNotice, found_gone, sends_of}
 use Rattle.worker_run.specs.Sent.{FoundGone, HasSent}
-use Rattle.worker_run.specs.Steps.{GivesUp}
+use Rattle.ring_rule.specs.Ends.{publishes}
+use Rattle.worker_run.specs.Notices.{EndsInOrder, GivesUp}
+use Rattle.worker_run.proofs.Saying.{is_published, sent_still}
 use Rattle.worker_run.specs.declared.WorkerEnd.{WorkerEnd}
 use Rattle.worker_run.specs.declared.WorkerEnd.TheVariants.{Finished, Stopped, Refused, NoMemory}
 use Rattle.gather_merge.specs.Drawn.{HasDrawnAll, Met}
 use Rattle.gather_merge.specs.Ended.{Finishes, HasEnded}
 use Rattle.gather_merge.specs.Order.{row_cmp}
-use Rattle.gather_merge.specs.Sent.{IsRowMessage, message_of}
+use Rattle.gather_merge.specs.Sent.{HasSentRows, IsRowMessage, message_of}
 
 gone_is : (s : Sending) → s.flag_value ≡ 1 → found_gone s ≡ true
 gone_is s e = rw e refl
@@ -29,6 +31,13 @@ gone_is s e = rw e refl
 messages_are : (rows : List ℕ) → All IsRowMessage (map message_of rows)
 messages_are [] = All-nil IsRowMessage
 messages_are (r ∷ rows) = All-cons IsRowMessage (message_of r) (map message_of rows) (record { row = r; is = refl }) (messages_are rows)
+
+-- a worker that has sent its rows ends in order
+pub ends_finish : (rows : List ℕ) (errors tuples sent errors' tuples' : Sending) (end : WorkerEnd) → HasSentRows rows tuples sent → tuples' ≡ publishes sent → EndsInOrder errors errors' end → Finishes rows errors tuples errors' tuples' end
+ends_finish rows errors tuples sent errors' tuples' Finished s e f = record { sent = sent_still tuples sent tuples' _ s e; published = is_published sent tuples' e; said = f }
+ends_finish rows errors tuples sent errors' tuples' Stopped s e f = inr (sent_still tuples sent tuples' _ s e, f)
+ends_finish rows errors tuples sent errors' tuples' (Refused row cause item) s e f = absurd f
+ends_finish rows errors tuples sent errors' tuples' NoMemory s e f = absurd f
 
 module _ (plan : Plan) (records : Table) where
   silent_yet : (errors errors' : Sending) → whole_of errors.put ≡ [] → whole_of errors'.put ≡ whole_of errors.put ++ [] → whole_of errors'.put ≡ []
@@ -52,19 +61,19 @@ module _ (plan : Plan) (records : Table) where
       → IsPermutation list rows → IsSorted (row_cmp plan records) rows → whole_of errors.put ≡ [] → whole_of tuples.put ≡ [] → Finishes rows errors tuples errors' tuples' end
       → HasEnded plan records (blocks_of claims) (draws_of claim) (sends_of errors' tuples') end
   has_finished claims claim list rows errors tuples errors' tuples' Finished d p s quiet none f =
-      let said : whole_of errors'.put ≡ encoding message.End ∷ [] = f.1.sent ∙ ap (λ l. l ++ encoding message.End ∷ []) quiet in
+      let said : whole_of errors'.put ≡ encoding message.End ∷ [] = f.said.sent ∙ ap (λ l. l ++ encoding message.End ∷ []) quiet in
       record {
         ended = record {
           spent = d.spent;
           sent = record {
             rows = rows;
             stream = record { accepted = d.drawn.accepted; each = subst (λ l. IsPermutation l rows) d.drawn.numbers p; rising = s };
-            are = sent_are rows tuples tuples' none f.0.sent;
+            are = sent_are rows tuples tuples' none f.sent.sent;
           };
           said = said;
         };
         notices = subst (All (IsNotice plan records (draws_of claim))) (sym said) (All-cons (IsNotice plan records (draws_of claim)) (encoding message.End) [] (inr refl) (All-nil (IsNotice plan records (draws_of claim))));
-        tuples = rows_are rows tuples tuples' none f.0.sent;
+        tuples = rows_are rows tuples tuples' none f.sent.sent;
       }
   has_finished claims claim list rows errors tuples errors' tuples' Stopped d p s quiet none (inl f) =
       let still : whole_of errors'.put ≡ [] = ap (λ (s : Sending). whole_of s.put) f.1 ∙ quiet in

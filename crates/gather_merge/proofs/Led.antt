@@ -1,5 +1,5 @@
 -- What a leader comes to, by what it took of its sources.
-use Rattle.std.proofs.Common.{◌≡◌, inl, inr, ℕ, suc, IsTrue, List, [], ◌∷◌, length, leb, map, take, All, Any, Option, None, Some, true, refl, ap, ap₂, sym, subst, ◌∙◌, arith, append-nil}
+use Rattle.std.proofs.Common.{◌≡◌, ◌&&◌, Bool, false, inl, inr, ℕ, suc, IsTrue, List, [], ◌∷◌, length, leb, map, take, All, Any, Option, None, Some, true, refl, ap, ap₂, sym, subst, ◌∙◌, arith, append-nil}
 use Rattle.std.specs.List.Sorted.{IsPermutation, IsSorted}
 use Rattle.std.proofs.lemmas.Bool.{leb-true}
 use Rattle.std.proofs.lemmas.List.{length-map, take_all}
@@ -21,8 +21,10 @@ use Rattle.scan_claim.specs.Shown.{callers_of, draws_of}
 use Rattle.scan_claim.specs.declared.claims.ClaimSeat.{ClaimSeat}
 use Rattle.scan_claim.specs.declared.claims.Claims.{Claims}
 use Rattle.gather_merge.specs.Drawn.{HasDrawnAll, Met}
-use Rattle.gather_merge.specs.Hearing.{AreOpen, HasGivenNone, HaveGivenNone, IsOpen, ReadsRow, Source, notices_of, own_source, queue_source, rows_heard, sources_of, streams}
+use Rattle.gather_merge.specs.Hearing.{AreOpen, HasGivenNone, HaveGivenNone, IsOpen, Source, notices_of, own_source, queue_source, rows_heard, sources_of, streams}
 use Rattle.gather_merge.specs.Leading.{Answers, Drains, Led}
+use Rattle.worker_run.specs.Notices.{ReadsRow}
+use Rattle.worker_run.proofs.Judging.{all_apart}
 use Rattle.gather_merge.specs.Order.{row_cmp}
 use Rattle.gather_merge.specs.Sent.{row_of}
 use Rattle.gather_merge.specs.Streams.{IsMerge, IsStream}
@@ -38,11 +40,19 @@ notices_are : (queues : List LeaderEnds) → map notices_of queues ≡ map (λ (
 notices_are [] = refl
 notices_are (q ∷ queues) = ap (λ l. notices_of q ∷ l) (notices_are queues)
 
+both_over : (a b : Bool) → (a && b) ≡ true → (a ≡ true) × (b ≡ true)
+both_over true b e = (refl, e)
+both_over false b e = cc
+
+-- a source that is over has no more rows and no more notices
+queues_over : (queues : List LeaderEnds) → All (λ (s : Source). s.over ≡ true) (map queue_source queues) → All (λ (q : LeaderEnds). ((heard q).tuples_over ≡ true) × ((heard q).errors_over ≡ true)) queues
+queues_over queues a = All-weaker (λ (q : LeaderEnds). (queue_source q).over ≡ true) (λ (q : LeaderEnds). ((heard q).tuples_over ≡ true) × ((heard q).errors_over ≡ true)) (λ q o. both_over (heard q).tuples_over (heard q).errors_over o) queues (all_apart (λ (s : Source). s.over ≡ true) queue_source queues a)
+
 over_are : (queues : List LeaderEnds) → All (λ (s : Source). s.over ≡ true) (map queue_source queues) → All (λ (h : Heard). h.tuples_over ≡ true) (map heard queues)
-over_are [] a = All-nil (λ (h : Heard). h.tuples_over ≡ true)
-over_are (q ∷ queues) a =
-    All-cons (λ (h : Heard). h.tuples_over ≡ true) (heard q) (map heard queues) (All-head (λ (s : Source). s.over ≡ true) (queue_source q) (map queue_source queues) a)
-    (over_are queues (All-tail (λ (s : Source). s.over ≡ true) (queue_source q) (map queue_source queues) a))
+over_are queues a = All-map (λ (h : Heard). h.tuples_over ≡ true) heard queues (All-weaker (λ (q : LeaderEnds). ((heard q).tuples_over ≡ true) × ((heard q).errors_over ≡ true)) (λ (q : LeaderEnds). (heard q).tuples_over ≡ true) (λ q o. o.0) queues (queues_over queues a))
+
+notices_over : (queues : List LeaderEnds) → All (λ (s : Source). s.over ≡ true) (map queue_source queues) → All (λ (h : Heard). h.errors_over ≡ true) (map heard queues)
+notices_over queues a = All-map (λ (h : Heard). h.errors_over ≡ true) heard queues (All-weaker (λ (q : LeaderEnds). ((heard q).tuples_over ≡ true) × ((heard q).errors_over ≡ true)) (λ (q : LeaderEnds). (heard q).errors_over ≡ true) (λ q o. o.1) queues (queues_over queues a))
 
 -- a list of which nothing was given, and queues of which nothing was taken
 pub none_given : (own : OwnRows) (queues : List LeaderEnds) → own.given ≡ 0 → All HasGivenNone (map queue_source queues) → HaveGivenNone (sources_of own queues)
@@ -66,6 +76,7 @@ module _ (plan : Plan) (records : Table) where
         merge = subst (λ ss. IsMerge (row_cmp plan records) ss order) are d.merge;
         spent = spent;
         over = over_are queues (All-tail (λ (s : Source). s.over ≡ true) (own_source own) (map queue_source queues) d.over);
+        errors_over = notices_over queues (All-tail (λ (s : Source). s.over ≡ true) (own_source own) (map queue_source queues) d.over);
       }
   led_merged blocks draws rows own queues order (Some (Row row cause)) e s spent d =
       inr (record { item = d.item; named = subst (Any (λ notices. Any (ReadsRow row cause d.item) notices)) (notices_are queues) d.named })
@@ -82,6 +93,7 @@ module _ (plan : Plan) (records : Table) where
         merge = record { each = subst (λ l. IsPermutation l rows) (sym (append-nil rows)) (IsPermutation-refl rows); rising = λ a. All-head (IsSorted (row_cmp plan records)) rows [] a };
         spent = spent;
         over = All-nil (λ (h : Heard). h.tuples_over ≡ true);
+        errors_over = All-nil (λ (h : Heard). h.errors_over ≡ true);
       })
   led_alone blocks draws rows order (q ∷ queues) none e s spent = absurd (omega (arith, none))
 

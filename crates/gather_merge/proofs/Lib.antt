@@ -1,4 +1,3 @@
-pub mod Anys
 pub mod Causes
 pub mod Chunks
 pub mod Compared

@@ -1,7 +1,7 @@
 -- What the workers and the leader did, put together.
-use Rattle.std.proofs.Common.{◌≡◌, ◌<◌, ◌≤◌, ◌+◌, ◌-◌, ◌*◌, ◌^◌, ◌++◌, ◌⊎◌, inl, inr, ℕ, List, [], ◌∷◌, length, drop, map, All, IsTrue, MatchOption, Option, Some, None, true, false, zero, suc, get_or, is_some, refl, ap, sym, subst, ◌∙◌, arith, Any}
+use Rattle.std.proofs.Common.{◌≡◌, ◌<◌, ◌≤◌, ◌+◌, ◌-◌, ◌*◌, ◌^◌, ◌++◌, ◌⊎◌, inl, inr, ℕ, List, [], ◌∷◌, length, drop, map, All, IsTrue, MatchOption, Option, Some, None, true, refl, ap, sym, subst, ◌∙◌, arith, Any}
 use Rattle.std.specs.List.{AllZip}
-use Rattle.std.proofs.lemmas.List.Elements.{All-head, All-nil, All-tail}
+use Rattle.std.proofs.lemmas.List.Elements.{All-cons, All-head, All-nil, All-tail}
 use Rattle.error_queue.specs.declared.ErrorMessage.TheVariants as message
 use Rattle.mq_handle.specs.Messages.{whole_of}
 use Rattle.par_model.specs.Plan.{Plan}
@@ -19,15 +19,20 @@ use Rattle.worker_run.specs.declared.WorkerEnd.{WorkerEnd}
 use Rattle.worker_run.specs.declared.WorkerEnd.TheVariants.{Finished, Stopped, Refused, NoMemory}
 use Rattle.gather_merge.specs.Answers.{IsCause, IsFirst, IsFirstCause, OrdersRows}
 use Rattle.gather_merge.specs.Ended.{DidWork}
-use Rattle.gather_merge.specs.Hearing.{ReadsRow, rows_heard}
-use Rattle.gather_merge.specs.Leading.{HasLed, Led, NamesRow}
+use Rattle.worker_run.specs.Notices.{ReadsRow}
+use Rattle.gather_merge.specs.Hearing.{rows_heard}
+use Rattle.gather_merge.specs.Leading.{Answers, HasLed, Led, NamesRow}
 use Rattle.gather_merge.specs.Order.{IsOrder}
 use Rattle.gather_merge.specs.Sent.{row_of}
 use Rattle.gather_merge.specs.Streams.{IsStream}
-use Rattle.gather_merge.specs.Used.{AreVerdict, EndsWell, IsVerdict, SentItsRows, WasRefused}
+use Rattle.worker_run.specs.Verdicts.{AreVerdict, EndsWell}
+use Rattle.worker_run.proofs.Judging.{all_apart, any_apart}
+use Rattle.partial_agg.specs.declared.map.BlockAnswer.{BlockAnswer}
+use Rattle.partial_agg.specs.declared.map.BlockAnswer.TheVariants as block
+use Rattle.gather_merge.specs.Used.{ReadItsNotices, SentItsRows}
 use Rattle.gather_merge.specs.declared.MergeAnswer.{MergeAnswer}
 use Rattle.gather_merge.specs.declared.MergeAnswer.TheVariants.{Row, Memory}
-use Rattle.gather_merge.proofs.Anys.{any_cases, any_head, any_none, any_tail}
+use Rattle.worker_run.proofs.Anys.{any_cases, any_none}
 use Rattle.gather_merge.proofs.Causes.{no_cause}
 use Rattle.gather_merge.proofs.Law.{merges}
 use Rattle.gather_merge.proofs.Streams.{no_stream, read_rows}
@@ -35,6 +40,13 @@ use Rattle.gather_merge.proofs.Streams.{no_stream, read_rows}
 -- a row is refused, for this cause
 abbrev pub IsRefusedRow : Plan → Table → ℕ → ℕ → Type 0
 IsRefusedRow plan records row cause = (item : ℕ) × IsRefused plan records row cause item
+
+-- how some workers ended
+abbrev pub ends_of : List (Returned WorkerEnd) → List (Option WorkerEnd)
+ends_of ws = map (λ (w : Returned WorkerEnd). w.end) ws
+
+pub all_well : (ws : List (Returned WorkerEnd)) → AreVerdict (ends_of ws) None → All (λ (w : Returned WorkerEnd). EndsWell w.end) ws
+all_well ws v = all_apart EndsWell (λ (w : Returned WorkerEnd). w.end) ws v
 
 module _ (uses : ℕ → Option Use) (plan : Plan) (records : Table) (blocks : ℕ) where
   abbrev Did : Plan → ℕ → Account → WorkerEnd → Type 0
@@ -89,16 +101,16 @@ module _ (uses : ℕ → Option Use) (plan : Plan) (records : Table) (blocks : �
           any_notice ds row cause item (whole_of w.errors.receiver.taken) a (All-apart (IsNotice plan records ds) (whole_of w.errors.receiver.taken) b.0 all).0
       by (inr a) rest = rest a
 
-  ended : (draws : List (List ℕ)) (ws : List (Returned WorkerEnd)) (row cause : ℕ) → AllZip Worker draws ws → Any (λ (w : Returned WorkerEnd). WasRefused row cause w.end) ws → IsRefusedRow plan records row cause
-  ended [] [] row cause f a = absurd (any_none (λ (w : Returned WorkerEnd). WasRefused row cause w.end) a)
-  ended [] (w ∷ ws) row cause f a = absurd f
-  ended (ds ∷ draws) [] row cause f a = absurd f
-  ended (ds ∷ draws) (w ∷ ws) row cause f a =
-      by (any_cases (λ (w : Returned WorkerEnd). WasRefused row cause w.end) w ws a) (ended draws ws row cause f.1)
+  ended : (draws : List (List ℕ)) (ws : List (Returned WorkerEnd)) (row cause item : ℕ) → AllZip Worker draws ws → Any (λ (w : Returned WorkerEnd). w.end ≡ Some (Refused row cause item)) ws → IsRefusedRow plan records row cause
+  ended [] [] row cause item f a = absurd (any_none (λ (w : Returned WorkerEnd). w.end ≡ Some (Refused row cause item)) a)
+  ended [] (w ∷ ws) row cause item f a = absurd f
+  ended (ds ∷ draws) [] row cause item f a = absurd f
+  ended (ds ∷ draws) (w ∷ ws) row cause item f a =
+      by (any_cases (λ (w : Returned WorkerEnd). w.end ≡ Some (Refused row cause item)) w ws a) (ended draws ws row cause item f.1)
     where
-      by : WasRefused row cause w.end ⊎ Any (λ (w : Returned WorkerEnd). WasRefused row cause w.end) ws
-          → (Any (λ (w : Returned WorkerEnd). WasRefused row cause w.end) ws → IsRefusedRow plan records row cause) → IsRefusedRow plan records row cause
-      by (inl e) rest = (e.0, (subst (λ o. MatchOption o (IsIdle (account_of uses ds w)) (λ e. Did plan blocks (account_of uses ds w) e)) e.1 f.0.done).ended.refused)
+      by : (w.end ≡ Some (Refused row cause item)) ⊎ Any (λ (w : Returned WorkerEnd). w.end ≡ Some (Refused row cause item)) ws
+          → (Any (λ (w : Returned WorkerEnd). w.end ≡ Some (Refused row cause item)) ws → IsRefusedRow plan records row cause) → IsRefusedRow plan records row cause
+      by (inl e) rest = (item, (subst (λ o. MatchOption o (IsIdle (account_of uses ds w)) (λ e. Did plan blocks (account_of uses ds w) e)) e f.0.done).ended.refused)
       by (inr a) rest = rest a
 
   -- ---- why there is no order
@@ -111,8 +123,20 @@ module _ (uses : ℕ → Option Use) (plan : Plan) (records : Table) (blocks : �
       by (inl m) = (m.item, m.refused)
       by (inr a) = (a.item, named draws ws row cause a.item f a.named)
 
-  pub worker_row : (draws : List (List ℕ)) (ws : List (Returned WorkerEnd)) (row cause : ℕ) → AllZip Worker draws ws → AreVerdict ws (Some (Row row cause)) → IsRefusedRow plan records row cause
-  worker_row draws ws row cause f a = ended draws ws row cause f a
+  pub worker_row : (draws : List (List ℕ)) (ws : List (Returned WorkerEnd)) (row cause item : ℕ) → AllZip Worker draws ws → AreVerdict (ends_of ws) (Some (block.Row row cause item)) → IsRefusedRow plan records row cause
+  worker_row draws ws row cause item f a = ended draws ws row cause item f (any_apart (λ (e : Option WorkerEnd). e ≡ Some (Refused row cause item)) (λ (w : Returned WorkerEnd). w.end) ws a)
+
+  -- ---- the notices
+
+  pub all_read : (draws : List (List ℕ)) (ws : List (Returned WorkerEnd)) → AllZip Worker draws ws → All (λ (h : Heard). h.errors_over ≡ true) (map heard_of ws) → All ReadItsNotices ws
+  all_read [] [] f o = All-nil ReadItsNotices
+  all_read [] (v ∷ ws) f o = absurd f
+  all_read (ds ∷ draws) [] f o = absurd f
+  all_read (ds ∷ draws) (v ∷ ws) f o =
+      All-cons ReadItsNotices v ws (f.0.errors.all (All-head (λ (h : Heard). h.errors_over ≡ true) (heard_of v) (map heard_of ws) o))
+      (all_read draws ws f.1 (All-tail (λ (h : Heard). h.errors_over ≡ true) (heard_of v) (map heard_of ws) o))
+
+  -- ---- with no workers the first refused row is named
 
   pub leader_first : (own : List ℕ) (ws : List (Returned WorkerEnd)) (order : List ℕ) (failure : Option MergeAnswer) (row cause : ℕ) → length ws ≡ 0
       → Led plan records blocks own (map heard_of ws) order failure → failure ≡ Some (Row row cause) → IsFirst plan records row
@@ -122,27 +146,6 @@ module _ (uses : ℕ → Option Use) (plan : Plan) (records : Table) (blocks : �
       by (inl m) = m.first refl
       by (inr a) = absurd (any_none (λ notices. Any (ReadsRow row cause a.item) notices) a.named)
   leader_first own (w ∷ ws) order failure row cause none led e = let no : ⊥ = grind arith in absurd no
-
-  pub worker_first : (ws : List (Returned WorkerEnd)) (row cause : ℕ) → length ws ≡ 0 → AreVerdict ws (Some (Row row cause)) → IsFirst plan records row
-  worker_first [] row cause none a = absurd (any_none (λ (w : Returned WorkerEnd). WasRefused row cause w.end) a)
-  worker_first (w ∷ ws) row cause none a = let no : ⊥ = grind arith in absurd no
-
--- ---- the verdict on some workers
-
-any_get : {A : Type 0} (P : A → Type 0) (xs : List A) (k : ℕ) (d : A) → k < length xs → P (get_or xs k d) → Any P xs
-any_get P [] k d h p = absurd (omega arith)
-any_get P (x ∷ xs) zero d h p = any_head P x xs p
-any_get P (x ∷ xs) (suc k) d h p = any_tail P x xs (any_get P xs k d (omega arith) p)
-
-pub verdict_there : (ws : List (Returned WorkerEnd)) (k : ℕ) (w : Returned WorkerEnd) (r : Option MergeAnswer) → k < length ws → w ≡ get_or ws k w → is_some r ≡ true → IsVerdict w.end r → AreVerdict ws r
-verdict_there ws k w None h e some v = cc
-verdict_there ws k w (Some (Row row cause)) h e some v =
-    any_get (λ (x : Returned WorkerEnd). WasRefused row cause x.end) ws k w h (subst (λ (x : Returned WorkerEnd). WasRefused row cause x.end) e v)
-verdict_there ws k w (Some Memory) h e some v = tt
-
-pub well_there : (ws : List (Returned WorkerEnd)) (k : ℕ) (w : Returned WorkerEnd) (r : Option MergeAnswer) → w ≡ get_or ws k w → is_some r ≡ false → IsVerdict w.end r → EndsWell (get_or ws k w).end
-well_there ws k w None e none v = subst (λ (x : Returned WorkerEnd). EndsWell x.end) e v
-well_there ws k w (Some why) e none v = cc
 
 -- ---- the rows of all participants
 
@@ -223,15 +226,16 @@ module _ (uses : ℕ → Option Use) (plan : Plan) (records : Table) (blocks : �
   leader_cause own draws ws order failure (Row row cause) f led e = is_cause row cause (leader_row uses plan records blocks own draws ws order failure row cause f led e)
   leader_cause own draws ws order failure Memory f led e = tt
 
-  pub worker_cause : (draws : List (List ℕ)) (ws : List (Returned WorkerEnd)) (why : MergeAnswer) → AllZip (Worker uses plan records blocks) draws ws → AreVerdict ws (Some why) → IsCause plan records why
-  worker_cause draws ws (Row row cause) f a = is_cause row cause (worker_row uses plan records blocks draws ws row cause f a)
-  worker_cause draws ws Memory f a = tt
+  pub worker_cause : (draws : List (List ℕ)) (ws : List (Returned WorkerEnd)) (why : BlockAnswer) (answer : MergeAnswer) → AllZip (Worker uses plan records blocks) draws ws → AreVerdict (ends_of ws) (Some why) → Answers why answer → IsCause plan records answer
+  worker_cause draws ws (block.Row row cause item) answer f a is = subst (IsCause plan records) (sym is) (is_cause row cause (worker_row uses plan records blocks draws ws row cause item f a))
+  worker_cause draws ws block.Memory answer f a is = subst (IsCause plan records) (sym is) tt
 
   pub leader_first_cause : (own : List ℕ) (ws : List (Returned WorkerEnd)) (order : List ℕ) (failure : Option MergeAnswer) (why : MergeAnswer) → length ws ≡ 0
       → Led plan records blocks own (map heard_of ws) order failure → failure ≡ Some why → IsFirstCause plan records why
   leader_first_cause own ws order failure (Row row cause) none led e = leader_first uses plan records blocks own ws order failure row cause none led e
   leader_first_cause own ws order failure Memory none led e = tt
 
-  pub worker_first_cause : (ws : List (Returned WorkerEnd)) (why : MergeAnswer) → length ws ≡ 0 → AreVerdict ws (Some why) → IsFirstCause plan records why
-  worker_first_cause ws (Row row cause) none a = worker_first uses plan records blocks ws row cause none a
-  worker_first_cause ws Memory none a = tt
+  pub worker_first_cause : (ws : List (Returned WorkerEnd)) (why : BlockAnswer) (answer : MergeAnswer) → length ws ≡ 0 → AreVerdict (ends_of ws) (Some why) → Answers why answer → IsFirstCause plan records answer
+  worker_first_cause [] (block.Row row cause item) answer none a is = absurd (any_none (λ (e : Option WorkerEnd). e ≡ Some (Refused row cause item)) a)
+  worker_first_cause [] block.Memory answer none a is = subst (IsFirstCause plan records) (sym is) tt
+  worker_first_cause (w ∷ ws) why answer none a is = let no : ⊥ = grind arith in absurd no

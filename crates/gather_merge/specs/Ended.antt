@@ -8,6 +8,7 @@ use Rattle.parallel_ctx.specs.Accounts.{Account}
 use Rattle.partial_agg.specs.Rows.{header_width}
 use Rattle.scan_claim.specs.Drawing.{is_spent}
 use Rattle.ring_rule.specs.Ring.{Sending}
+use Rattle.worker_run.specs.Notices.{IsPublished}
 use Rattle.worker_run.specs.Sent.{FoundGone, HasSent}
 use Rattle.worker_run.specs.Ended.{HasRefused, IsNotice, IsStopped, Sends}
 use Rattle.worker_run.specs.declared.WorkerEnd.{WorkerEnd}
@@ -41,9 +42,15 @@ pub record HasEnded (plan : Plan) (records : Table) (blocks : ℕ) (draws : List
   pub notices : All (IsNotice plan records draws) s.errors
   pub tuples : All IsRowMessage s.tuples
 
--- a worker that finishes sends all its rows, and only then says that it ended; it stops where a receiver is gone
+-- a worker that finished has sent all its rows, which can be read, and has said that it ended
+pub record HasFinished (rows : List ℕ) (errors tuples errors' tuples' : Sending) : Type 0 where
+  pub sent : HasSentRows rows tuples tuples'
+  pub published : IsPublished tuples'
+  pub said : HasSent errors errors' (encoding message.End ∷ [])
+
+-- a worker that sends its rows finishes; it stops where a receiver is gone
 abbrev pub Finishes : List ℕ → Sending → Sending → Sending → Sending → WorkerEnd → Type 0
-Finishes rows errors tuples errors' tuples' Finished = HasSentRows rows tuples tuples' × HasSent errors errors' (encoding message.End ∷ [])
+Finishes rows errors tuples errors' tuples' Finished = HasFinished rows errors tuples errors' tuples'
 Finishes rows errors tuples errors' tuples' Stopped = (StoppedSending tuples tuples' × (errors' ≡ errors)) ⊎ (HasSentRows rows tuples tuples' × FoundGone errors errors' [])
 Finishes rows errors tuples errors' tuples' (Refused row cause item) = ⊥
 Finishes rows errors tuples errors' tuples' NoMemory = ⊥

@@ -1,13 +1,11 @@
 -- Where a leader's rows come from: its own list and the workers' queues, and what was given of each.
-use Rattle.std.specs.Prelude.{◌≡◌, ◌++◌, ℕ, Bool, List, [], ◌∷◌, All, Any, false, get_or, leb, length, map, set, take, true}
+use Rattle.std.specs.Prelude.{◌≡◌, ◌&&◌, ◌++◌, ℕ, Bool, List, [], ◌∷◌, All, Any, false, get_or, leb, length, map, set, take, true}
 use Rattle.atomic_table.specs.Seated.{TableId}
-use Rattle.error_queue.specs.Message.{IsMessage, encoding}
-use Rattle.error_queue.specs.declared.ErrorMessage.{ErrorMessage}
-use Rattle.error_queue.specs.declared.ErrorMessage.TheVariants as message
 use Rattle.mq_handle.specs.Messages.{whole_of}
 use Rattle.parallel_ctx.specs.Accounts.{Heard, is_over}
 use Rattle.parallel_ctx.specs.declared.tokens.LeaderEnds.{LeaderEnds}
 use Rattle.ring_rule.specs.Ring.{Receiving}
+use Rattle.worker_run.specs.Notices.{ReadsRow}
 use Rattle.gather_merge.specs.Sent.{row_of}
 use Rattle.gather_merge.specs.declared.hearing.Next.{Next}
 use Rattle.gather_merge.specs.declared.hearing.Next.TheVariants.{Row, Over, Names, Lost}
@@ -24,9 +22,9 @@ pub record Source : Type 0 where
 abbrev pub own_source : OwnRows → Source
 own_source own = record { rows = take own.given own.list.items; over = leb (length own.list.items) own.given }
 
--- a worker's queue
+-- a worker's queues; it is over when its last notice is read too
 abbrev pub queue_source : LeaderEnds → Source
-queue_source q = record { rows = map row_of (whole_of q.tuples.end.taken); over = is_over q.tuples.end }
+queue_source q = record { rows = map row_of (whole_of q.tuples.end.taken); over = is_over q.tuples.end && is_over q.errors.end }
 
 -- all sources: the leader's own list, and then the queues
 abbrev pub sources_of : OwnRows → List LeaderEnds → List Source
@@ -69,10 +67,6 @@ pub record IsOpen (region : TableId) (q : LeaderEnds) : Type 0 where
 abbrev pub AreOpen : TableId → List LeaderEnds → Type 0
 AreOpen region queues = All (IsOpen region) queues
 
--- the refusal that a message names, if it is a notice
-pub record ReadsRow (row cause item : ℕ) (bytes : List ℕ) : Type 0 where
-  pub each : (m : ErrorMessage) → IsMessage m → bytes ≡ encoding m → m ≡ message.Row row cause item
-
 -- a notice of some worker names a refused row
 pub record NamedBy (queues : List (List (List ℕ))) (row cause : ℕ) : Type 0 where
   pub item : ℕ
@@ -84,10 +78,10 @@ notices_of q = whole_of q.errors.end.taken
 
 -- ---- one answer
 
--- a notice that names a refused row was taken, where the answer names one
+-- the last notice is read; or one that names a refused row was taken, where the answer names one
 abbrev pub HearsEnd : Receiving → Next → Type 0
 HearsEnd new (Row row) = ⊥
-HearsEnd new Over = Unit {0}
+HearsEnd new Over = is_over new ≡ true
 HearsEnd new (Names row cause item) = Any (ReadsRow row cause item) (whole_of new.taken)
 HearsEnd new Lost = ⊥
 

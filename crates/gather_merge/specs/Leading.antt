@@ -52,18 +52,20 @@ Drains plan records sources order queues (Some Memory) = Unit {0}
 
 -- ---- the leader
 
--- why a block was not taken, as an answer
+-- why a block was not taken, or what the workers' ends mean, as an answer
 abbrev pub Answers : BlockAnswer → MergeAnswer → Type 0
 Answers (block.Row row cause item) answer = answer ≡ Row row cause
 Answers block.Memory answer = answer ≡ Memory
 
--- it has led to the end: there are no more blocks, and no more messages on the tuple queues
+-- it has led to the end: there are no more blocks, no more messages on the tuple queues, and no notice that it has not
+-- read
 pub record HasLed (plan : Plan) (records : Table) (blocks : ℕ) (draws : List ℕ) (heard : List Heard) (order : List ℕ) : Type 0 where
   pub own : List ℕ
   pub stream : IsStream plan (header_width records) records draws own
   pub merge : IsMerge (row_cmp plan records) (own ∷ map rows_heard heard) order
   pub spent : IsTrue (is_spent blocks draws)
   pub over : All (λ (h : Heard). h.tuples_over ≡ true) heard
+  pub errors_over : All (λ (h : Heard). h.errors_over ≡ true) heard
 
 -- it met a refused row, the first where it is alone
 pub record MetRow (plan : Plan) (records : Table) (alone : Type 0) (row cause : ℕ) : Type 0 where

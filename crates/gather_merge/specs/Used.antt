@@ -1,5 +1,5 @@
 -- That the rows were shared out among the participants, and that the workers' rows went through their queues.
-use Rattle.std.specs.Prelude.{◌≡◌, ◌<◌, ◌+◌, ◌*◌, ℕ, List, ◌∷◌, All, Any, Option, Some, None, count_by, is_some, length, map}
+use Rattle.std.specs.Prelude.{◌≡◌, ◌<◌, ◌+◌, ◌*◌, ℕ, List, ◌∷◌, All, count_by, is_some, length, map}
 use Rattle.std.specs.List.{AllZip}
 use Rattle.mq_handle.specs.Messages.{whole_of}
 use Rattle.par_model.specs.Plan.{Plan}
@@ -11,37 +11,9 @@ use Rattle.parallel_ctx.specs.declared.home.Finished.{Finished}
 use Rattle.parallel_ctx.specs.declared.home.Returned.{Returned}
 use Rattle.partial_agg.specs.Rows.{header_width}
 use Rattle.worker_run.specs.declared.WorkerEnd.{WorkerEnd}
-use Rattle.worker_run.specs.declared.WorkerEnd.TheVariants as ended
+use Rattle.worker_run.specs.Verdicts.{EndsWell}
 use Rattle.gather_merge.specs.Sent.{message_of}
 use Rattle.gather_merge.specs.Streams.{IsStream}
-use Rattle.gather_merge.specs.declared.MergeAnswer.{MergeAnswer}
-use Rattle.gather_merge.specs.declared.MergeAnswer.TheVariants.{Row, Memory}
-
--- ---- ends
-
--- a worker that finished, or did not start, has left out none of its rows
-abbrev pub EndsWell : Option WorkerEnd → Type 0
-EndsWell None = Unit {0}
-EndsWell (Some ended.Finished) = Unit {0}
-EndsWell (Some ended.Stopped) = ⊥
-EndsWell (Some (ended.Refused row cause item)) = ⊥
-EndsWell (Some ended.NoMemory) = ⊥
-
--- a worker was refused a row
-abbrev pub WasRefused : ℕ → ℕ → Option WorkerEnd → Type 0
-WasRefused row cause end = (item : ℕ) × (end ≡ Some (ended.Refused row cause item))
-
--- why an end leaves rows out, if it does
-abbrev pub IsVerdict : Option WorkerEnd → Option MergeAnswer → Type 0
-IsVerdict end None = EndsWell end
-IsVerdict end (Some (Row row cause)) = WasRefused row cause end
-IsVerdict end (Some Memory) = Unit {0}
-
--- likewise of some workers
-abbrev pub AreVerdict : List (Returned WorkerEnd) → Option MergeAnswer → Type 0
-AreVerdict workers None = All (λ (w : Returned WorkerEnd). EndsWell w.end) workers
-AreVerdict workers (Some (Row row cause)) = Any (λ (w : Returned WorkerEnd). WasRefused row cause w.end) workers
-AreVerdict workers (Some Memory) = Unit {0}
 
 -- ---- all participants
 
@@ -52,13 +24,18 @@ pub record SentItsRows (plan : Plan) (records : Table) (draws : List ℕ) (w : R
   pub sent : whole_of w.tuples.sender.put ≡ map message_of rows
   pub taken : whole_of w.tuples.receiver.taken ≡ map message_of rows
 
+-- each notice that a worker sent was read
+abbrev pub ReadItsNotices : Returned WorkerEnd → Type 0
+ReadItsNotices w = whole_of w.errors.receiver.taken ≡ whole_of w.errors.sender.put
+
 -- What the participants brought home where there is an order: there is one entry for each worker asked for, in order of
--- their numbers, and each that started has finished; each block with a row was drawn once, by the leader or by one of
+-- their numbers, and each that started has finished, its notices read; each block with a row was drawn once, by the leader or by one of
 -- the workers; and each worker's rows went through its queue, all of them and in order
 pub record IsUsed (plan : Plan) (records : Table) (workers : ℕ) (f : Finished WorkerEnd) : Type 0 where
   pub asked : length f.workers.items ≡ workers
   pub numbers : AreNumbered 1 (map (λ (w : Returned WorkerEnd). w.number) f.workers.items)
   pub ended : All (λ (w : Returned WorkerEnd). EndsWell w.end) f.workers.items
+  pub noticed : All ReadItsNotices f.workers.items
   pub launched : f.launched ≡ count_by (λ (w : Returned WorkerEnd). is_some w.end) f.workers.items
   pub own : List ℕ
   pub draws : List (List ℕ)

@@ -7,11 +7,11 @@ ghost use Rattle.parallel_ctx.specs.Tokens.{SameQueues};
 ghost use Rattle.gather_merge.specs.Hearing.{AreOpen, GivesOwn, Hears, HearsEnd, HearsFrom, IsOpen};
 ghost use Rattle.gather_merge.specs.Sent.{row_of};
 
-use error_queue::ErrorMessage;
 use mq_handle::{ReceiveDone, Receiver};
 use parallel_ctx::LeaderEnds;
 use region_words::Region;
 use std::sync::Wait;
+use worker_run::{News, hear_last};
 
 /// What came of asking a source for its next row.
 #[derive(Clone, Copy)]
@@ -36,8 +36,8 @@ fn read_row(message: &[u8]) -> Option<u64>
     }
 }
 
-/// Reads the notice of a worker that sends no more rows, and waits for it. One that ended early has sent none, or names
-/// a refused row.
+/// Hears the last notice of a worker that sends no more rows, and waits for it. One that ended early has sent none, or
+/// names a refused row.
 fn hear_end<R: Wait>(rt: &R, r: &Region, errors: &mut Receiver) -> Next
     requires here { errors.old.region ≡ r.now }
     requires stays { errors.old.end.gone ≡ false }
@@ -46,13 +46,10 @@ fn hear_end<R: Wait>(rt: &R, r: &Region, errors: &mut Receiver) -> Next
     ensures stays { errors.new.end.gone ≡ false }
     ensures heard { HearsEnd errors.new.end result }
 {
-    match errors.receive(rt, r) {
-        ReceiveDone::Detached => Next::Over,
-        ReceiveDone::Message => match ErrorMessage::read(errors.message()) {
-            Ok(ErrorMessage::Row { row, cause, item }) => Next::Names { row, cause, item },
-            Ok(ErrorMessage::End) => Next::Over,
-            Err(_) => Next::Over,
-        },
+    match hear_last(rt, r, errors) {
+        News::Refused { row, cause, item } => Next::Names { row, cause, item },
+        News::Over => Next::Over,
+        News::Nothing => unreachable!(),
     }
 }
 

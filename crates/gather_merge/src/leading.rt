@@ -12,7 +12,7 @@ ghost use Rattle.parallel_ctx.specs.Accounts.{heard};
 ghost use Rattle.parallel_ctx.specs.Tokens.{SameQueues};
 ghost use Rattle.gather_merge.specs.Heads.{AreFalling};
 ghost use Rattle.gather_merge.specs.Hearing.{AreOpen, HasGivenNone, HaveGivenNone, queue_source, sources_of};
-ghost use Rattle.gather_merge.specs.Leading.{Answers, Drains, Fills, IsFilled, Led, Refills};
+ghost use Rattle.gather_merge.specs.Leading.{Drains, Fills, IsFilled, Led, Refills};
 ghost use Rattle.gather_merge.specs.Order.{columns_at};
 ghost use Rattle.gather_merge.specs.Words.{AreWords};
 
@@ -21,10 +21,10 @@ use crate::drawing::draw_all;
 use crate::heads::{Head, put_head};
 use crate::hearing::{Next, OwnRows, next_of};
 use crate::sorting::sort_rows;
+use crate::verdicts::answer_of;
 use csv_rows::RowStore;
 use par_model::BoundPlan;
 use parallel_ctx::LeaderEnds;
-use partial_agg::BlockAnswer;
 use region_words::Region;
 use scan_claim::{ClaimSeat, Claims};
 use std::alloc::Global;
@@ -157,20 +157,6 @@ fn merge_all<R: Wait>(
         return failure;
     }
     drain(rt, r, plan, rows, words, own, queues, &mut heads, order)
-}
-
-/// Why a block was not taken, as an answer.
-fn answer_of(why: BlockAnswer) -> MergeAnswer
-    ensures { Answers why result }
-{
-    match why {
-        BlockAnswer::Row {
-            row,
-            cause,
-            item: _,
-        } => MergeAnswer::Row { row, cause },
-        BlockAnswer::Memory => MergeAnswer::Memory,
-    }
 }
 
 /// Draws blocks until there are no more, and merges. Where there is no order it says why, at once.

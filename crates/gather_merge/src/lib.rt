@@ -26,7 +26,7 @@ use roles::{Leader, Team};
 use std::alloc::Global;
 use std::sync::Wait;
 use std::thread::Threads;
-use verdicts::first_verdict;
+use verdicts::{answer_of, verdict};
 use words::first_words;
 use worker_run::{Gate, WorkerEnd};
 
@@ -130,8 +130,8 @@ pub fn merge<G: Gate + Sync, R: Threads + Wait + Sync>(
     if let Some(why) = failure {
         return Err(why);
     }
-    if let Some(why) = first_verdict(&finished.workers) {
-        return Err(why);
+    if let Some(why) = verdict(&finished.workers) {
+        return Err(answer_of(why));
     }
     Ok(Merged {
         order: Order::of(list),

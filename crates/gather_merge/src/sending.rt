@@ -1,36 +1,13 @@
-//! What a worker sends: its rows' numbers, one message each, and one notice. A send that finds the receiver gone ends
+//! What a worker sends on its tuple queue: its rows' numbers, one message each. A send that finds the receiver gone ends
 //! the work.
 
 ghost use Rattle.std.specs.Prelude.{◌≡◌, [], ◌∷◌, MatchBool};
-ghost use Rattle.error_queue.specs.Message.{encoding};
 ghost use Rattle.worker_run.specs.Sent.{FoundGone, HasSent, IsReady};
 ghost use Rattle.gather_merge.specs.Sent.{HasSentRows, StoppedSending, message_of};
 
-use error_queue::ErrorMessage;
 use mq_handle::{SendDone, Sender};
 use region_words::Region;
 use std::sync::Wait;
-
-/// Sends a notice on the error queue, with flush. Answers false where the receiver is gone.
-pub(crate) fn send_notice<R: Wait>(
-    rt: &R,
-    r: &Region,
-    errors: &mut Sender,
-    notice: &ErrorMessage,
-) -> bool
-    requires here { errors.old.region ≡ r.now }
-    requires ready { IsReady 14 errors.old.end }
-    ensures kept { errors.new ≡ record errors.old { end = errors.new.end } }
-    ensures sent { MatchBool result (HasSent errors.old.end errors.new.end (encoding notice.now ∷ [])) (FoundGone errors.old.end errors.new.end []) }
-{
-    let mut bytes = [0; 14];
-    let len = notice.write(&mut bytes);
-    match errors.send(rt, r, &bytes[..len], true) {
-        SendDone::Sent => true,
-        SendDone::Detached => false,
-        SendDone::TooLong { length: _ } => unreachable!(),
-    }
-}
 
 /// Sends the number of a row, without flush. Answers false where the receiver is gone.
 fn send_row<R: Wait>(rt: &R, r: &Region, tuples: &mut Sender, row: u64) -> bool

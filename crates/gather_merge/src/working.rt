@@ -2,69 +2,29 @@
 //! sends a single notice: `X` as its last act, when all its rows are sent, or `E` with the row that is refused. So
 //! whoever reads `X` knows that the messages before it are all rows of the worker's blocks, in order.
 
-ghost use Rattle.std.specs.Prelude.{◌≡◌, ◌⊎◌, [], ◌∷◌, false, true};
+ghost use Rattle.std.specs.Prelude.{◌≡◌, [], true};
 ghost use Rattle.par_model.specs.Columns.{HasColumns};
 ghost use Rattle.partial_agg.specs.Rows.{header_width};
 ghost use Rattle.scan_claim.specs.Shown.{Belongs, blocks_of, draws_of, number_of};
 ghost use Rattle.gather_law.specs.Tuples.{AreBlocks};
-ghost use Rattle.error_queue.specs.Message.{IsMessage, encoding};
-ghost use Rattle.error_queue.specs.declared.ErrorMessage.{ErrorMessage};
 ghost use Rattle.worker_run.specs.Ended.{sends_of};
-ghost use Rattle.worker_run.specs.Sent.{FoundGone, HasSent, IsFreshQueue, IsReady};
-ghost use Rattle.worker_run.specs.Steps.{GivesUp, KeepsQueues};
-ghost use Rattle.worker_run.specs.declared.WorkerEnd.{WorkerEnd};
+ghost use Rattle.worker_run.specs.Sent.{IsFreshQueue, IsReady};
+ghost use Rattle.worker_run.specs.Steps.{KeepsQueues};
 ghost use Rattle.gather_merge.specs.Ended.{Finishes, HasEnded};
 ghost use Rattle.gather_merge.specs.Order.{columns_at};
 ghost use Rattle.gather_merge.specs.Words.{AreWords};
 
 use crate::drawing::draw_all;
-use crate::sending::{send_notice, send_rows};
+use crate::sending::send_rows;
 use crate::sorting::sort_rows;
 use csv_rows::RowStore;
-use error_queue::ErrorMessage;
 use mq_handle::Sender;
 use par_model::BoundPlan;
-use partial_agg::BlockAnswer;
 use region_words::Region;
 use scan_claim::{ClaimSeat, Claims};
 use std::alloc::Global;
 use std::sync::Wait;
-use worker_run::{Gate, WorkerEnd};
-
-/// Names a refused row by an `E`.
-fn refuse<R: Wait>(
-    rt: &R,
-    r: &Region,
-    errors: &mut Sender,
-    row: u64,
-    cause: u8,
-    item: u32,
-) -> WorkerEnd
-    requires here { errors.old.region ≡ r.now }
-    requires ready { IsReady 14 errors.old.end }
-    ensures end { result ≡ WorkerEnd.Refused row cause item }
-    ensures fits { IsMessage (ErrorMessage.Row row cause item) }
-    ensures kept { errors.new ≡ record errors.old { end = errors.new.end } }
-    ensures sent { HasSent errors.old.end errors.new.end (encoding (ErrorMessage.Row row cause item) ∷ []) ⊎ FoundGone errors.old.end errors.new.end [] }
-{
-    let _told = send_notice(rt, r, errors, &ErrorMessage::Row { row, cause, item });
-    WorkerEnd::Refused { row, cause, item }
-}
-
-/// Names the refused row that stopped a block, if it was one.
-fn give_up<R: Wait>(rt: &R, r: &Region, errors: &mut Sender, why: BlockAnswer) -> WorkerEnd
-    requires here { errors.old.region ≡ r.now }
-    requires ready { IsReady 14 errors.old.end }
-    ensures kept { errors.new ≡ record errors.old { end = errors.new.end } }
-    ensures ring { errors.new.end.ring ≡ errors.old.end.ring }
-    ensures stays { errors.new.end.gone ≡ false }
-    ensures end { GivesUp errors.old.end errors.new.end why result }
-{
-    match why {
-        BlockAnswer::Row { row, cause, item } => refuse(rt, r, errors, row, cause, item),
-        BlockAnswer::Memory => WorkerEnd::NoMemory,
-    }
-}
+use worker_run::{Gate, WorkerEnd, end_in_order, give_up};
 
 /// Sends all rows, and then says by an `X` that the work is done.
 fn finish<R: Wait>(
@@ -86,11 +46,7 @@ fn finish<R: Wait>(
     if !send_rows(rt, r, tuples, list) {
         return WorkerEnd::Stopped;
     }
-    tuples.flush(r);
-    if !send_notice(rt, r, errors, &ErrorMessage::End) {
-        return WorkerEnd::Stopped;
-    }
-    WorkerEnd::Finished
+    end_in_order(rt, r, errors, tuples)
 }
 
 /// Draws blocks until there are no more, puts their rows in order, and sends them.

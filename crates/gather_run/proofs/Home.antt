@@ -1,13 +1,17 @@
 -- What came home where there is an answer, with a table of groups or without.
-use Rattle.std.proofs.Common.{◌≡◌, ◌<◌, ◌≤◌, ◌+◌, ◌-◌, ◌*◌, ◌++◌, ◌&&◌, leb, ℕ, suc, List, [], ◌∷◌, length, drop, map as map_list, All, IfSome, IsSomeAnd, Option, option_map, is_some, Some, None, refl, ap, sym, subst, arith}
+use Rattle.std.proofs.Common.{◌≡◌, ◌<◌, ◌≤◌, ◌+◌, ◌-◌, ◌*◌, ◌++◌, ◌&&◌, leb, ℕ, suc, List, [], ◌∷◌, length, drop, map as map_list, All, IfSome, IsSomeAnd, Option, option_map, is_some, Some, None, refl, ap, sym, subst, ◌∙◌, arith}
 use Rattle.std.specs.List.{AllZip}
 use Rattle.agg_cell.specs.Called.{Seen}
-use Rattle.agg_table.specs.Calls.{Group, Use}
+use Rattle.agg_cell.specs.Cell.{stepped}
+use Rattle.agg_table.specs.Calls.{AggEntry, Group, Use}
 use Rattle.agg_table.specs.Drained.{HoldsAll}
 use Rattle.agg_table.specs.declared.part.HashPart.{HashPart}
+use Rattle.dsa_area.specs.Shown.{AreAll}
 use Rattle.dsa_area.specs.declared.area.AreaPass.{AreaPass}
+use Rattle.dshash_parts.specs.Legal.{PartitionLegal}
+use Rattle.dshash_parts.specs.States.{fresh}
 use Rattle.agg_law.specs.Law.{Share, TableGathers}
-use Rattle.lock_book.specs.History.{calls_by}
+use Rattle.lock_book.specs.History.{IsLegal, calls_by}
 use Rattle.par_model.specs.Plan.{Plan}
 use Rattle.partial_agg.specs.Groups.{AreGroups, GroupsByKey}
 use Rattle.partial_agg.specs.Rows.{IsAccepted, header_width}
@@ -24,10 +28,11 @@ use Rattle.parallel_ctx.specs.declared.home.Finished.{Finished}
 use Rattle.parallel_ctx.specs.declared.home.Returned.{Returned}
 use Rattle.parallel_ctx.proofs.Zips.{AllZip-length}
 use Rattle.worker_run.specs.declared.WorkerEnd.{WorkerEnd}
-use Rattle.gather_run.specs.Did.{DidWork, EndsWell}
+use Rattle.worker_run.specs.Verdicts.{EndsWell}
+use Rattle.gather_run.specs.Did.{DidWork}
 use Rattle.gather_run.specs.Drained.{AddsAll, SameHistories}
 use Rattle.gather_run.specs.Leading.{HasLed}
-use Rattle.gather_run.specs.Used.{SentItsRows, SharedItsBlocks}
+use Rattle.gather_run.specs.Used.{ArePasses, SentItsRows, SharedItsBlocks}
 use Rattle.gather_run.proofs.Participants.{AllShared, AllTookPart, all_shared, holds_all, law_of, part_shared, workers_shared}
 use Rattle.gather_run.proofs.Together.{Plain, Worker, all_drawn, all_gathered, all_sent_rows, few_drawn, plain, spent_is}
 
@@ -169,6 +174,20 @@ pub ran_home : {L : Type 0} (did : Plan → ℕ → Account → WorkerEnd → Ty
 ran_home did leads p f lead r =
     let home = table_home (λ c. AreWhole (suc (length p.hands)) (whole_of c)) (λ c. left_of c ≡ 128) (λ part c. IsOf p.shared.region part.table c) p.shared.hash f.table r.table (λ e. (r.no_table e).0) in
     (home.0, home.2, subst (λ region. IfSome f.table (λ c. (part : HashPart) × IsOf region part.table c)) (sym r.region) home.3)
+
+-- its histories are whole as those that it showed before
+pub whole_after : {A : Type 0} (h : A → Seen) (o o' : Option A) (n : ℕ) → SameHistories (option_map h o) (option_map h o') → IfSome o (λ c. AreWhole n (h c)) → IfSome o' (λ c. AreWhole n (h c))
+whole_after h None None n same w = tt
+whole_after h None (Some d) n same w = absurd same
+whole_after h (Some c) None n same w = absurd same
+whole_after h (Some c) (Some d) n same w = record { lawful = λ i l. subst (λ (es : List AggEntry). IsLegal (λ _. PartitionLegal stepped i) fresh es) (sym (same i)) (w.lawful i l); no_others = λ i m l. ap (calls_by m) (same i) ∙ w.no_others i m l }
+
+-- the passes of its area came home
+pub passes_home : {A : Type 0} (hash : Option HashPart) (o : Option A) (n : ℕ) (areas : List AreaPass) → is_some o ≡ is_some hash → ((part : HashPart) → hash ≡ Some part → (length areas ≡ n) × AreAll part.area areas) → IfSome o (λ c. ArePasses n areas)
+passes_home None None n areas e f = tt
+passes_home None (Some c) n areas e f = cc
+passes_home (Some part) None n areas e f = tt
+passes_home (Some part) (Some c) n areas e f = let all = f part refl in record { count = all.0; of_one = (part.area, all.1) }
 
 -- a table was made exactly where the plan asks for it and its area has room for it
 pub made_where : (plan : Plan) (pages : ℕ) (o : Option HashPart) → HasTable plan pages o → is_some o ≡ (plan.hash && leb 16 pages)

@@ -1,4 +1,3 @@
-mod Anys
 pub mod Parts
 pub mod Seated
 pub mod Shares

@@ -14,11 +14,14 @@ use Rattle.parallel_ctx.specs.Accounts.{Heard, heard, is_over}
 use Rattle.parallel_ctx.specs.Tokens.{SameQueues}
 use Rattle.parallel_ctx.specs.declared.tokens.LeaderEnds.{LeaderEnds}
 use Rattle.gather_run.specs.Leading.{IsLeading, Led}
-use Rattle.gather_run.specs.Looks.{HearsOut, IsOverQueue, NamedBy, Takes, tuples_of}
+use Rattle.gather_run.specs.Looks.{Hears, HearsEnd, HearsOut, IsOverQueue, NamedBy, Takes, tuples_of}
+use Rattle.gather_run.specs.declared.messages.Hearing.{Hearing}
+use Rattle.gather_run.specs.declared.messages.Hearing.TheVariants as hearing
 use Rattle.gather_run.specs.Steps.{BlockStep, Steps}
 use Rattle.gather_law.specs.Parts.{with_all}
-use Rattle.gather_run.specs.Reading.{ReadsAs, ReadsRow}
-use Rattle.std.proofs.lemmas.List.Elements.{All-map}
+use Rattle.gather_run.specs.Reading.{ReadsAs}
+use Rattle.worker_run.specs.Notices.{HasTakenAll, ReadsRow}
+use Rattle.std.proofs.lemmas.List.Elements.{All-map, All-weaker}
 use Rattle.scan_claim.specs.Drawing.{is_spent}
 use Rattle.scan_claim.specs.Shown.{callers_of}
 use Rattle.scan_claim.specs.declared.claims.Claims.{Claims}
@@ -28,7 +31,7 @@ use Rattle.gather_run.specs.declared.GatherAnswer.{GatherAnswer}
 use Rattle.gather_run.specs.declared.GatherAnswer.TheVariants.{Row, Memory}
 use Rattle.gather_run.specs.declared.leading.Step.{Step}
 use Rattle.gather_run.specs.declared.leading.Step.TheVariants.{Failed, Next, NoMore}
-use Rattle.gather_run.proofs.Anys.{any_cases, any_head, any_none, any_tail}
+use Rattle.worker_run.proofs.Anys.{any_cases, any_head, any_none, any_tail}
 use Rattle.gather_run.proofs.Parts.{leading-hear}
 
 pub takes_none : (old new : Receiving) (before now : GroupsByKey) → whole_of new.taken ≡ whole_of old.taken → now ≡ before → Takes old new before now
@@ -48,6 +51,17 @@ takes_more a b c l m n s t = record {
 
 pub over_is : (q : Receiving) → q.final ≡ true → q.avail ≡ length q.taken → is_over q ≡ true
 over_is q f e = rw f (let same : (length q.taken == q.avail) ≡ true = grind (arith, e) in same)
+
+-- a queue of which all is taken is over
+pub over_of : (q : Receiving) → HasTakenAll q → is_over q ≡ true
+over_of q t = over_is q t.final t.all
+
+-- a worker that sends no more tuples, by its last notice
+pub hears_end : (old new : LeaderEnds) (before now : GroupsByKey) (h : Hearing) → Takes old.tuples.end new.tuples.end before now → is_over new.tuples.end ≡ true → HearsEnd new.errors.end h → Hears old new before now h
+hears_end old new before now hearing.Ended t o e = (t, record { tuples = o; errors = e })
+hears_end old new before now (hearing.Names row cause item) t o e = e
+hears_end old new before now (hearing.More took) t o e = absurd e
+hears_end old new before now hearing.NoRoom t o e = absurd e
 
 pub ok_inj : {A E : Type 0} (r : Result A E) (a b : A) → r ≡ Ok a → r ≡ Ok b → a ≡ b
 ok_inj r a b e f = cc
@@ -100,12 +114,15 @@ any_heard row cause item (q ∷ queues) a = by (any_cases (λ (q : LeaderEnds). 
     by (inr a) rest = any_tail (λ (h : Heard). Any (ReadsRow row cause item) h.errors) (heard q) (map heard queues) (rest a)
 
 over_heard : (queues : List LeaderEnds) → All IsOverQueue queues → All (λ (h : Heard). h.tuples_over ≡ true) (map heard queues)
-over_heard queues h = All-map (λ (h : Heard). h.tuples_over ≡ true) heard queues h
+over_heard queues h = All-map (λ (h : Heard). h.tuples_over ≡ true) heard queues (All-weaker IsOverQueue (λ (q : LeaderEnds). (heard q).tuples_over ≡ true) (λ q o. o.tuples) queues h)
+
+notices_heard : (queues : List LeaderEnds) → All IsOverQueue queues → All (λ (h : Heard). h.errors_over ≡ true) (map heard queues)
+notices_heard queues h = All-map (λ (h : Heard). h.errors_over ≡ true) heard queues (All-weaker IsOverQueue (λ (q : LeaderEnds). (heard q).errors_over ≡ true) (λ q o. o.errors) queues h)
 
 pub led_out : (plan : Plan) (records : Table) (blocks : ℕ) (draws : List ℕ) (used : Option Use) (old new : List LeaderEnds) (before now : GroupsByKey) (r : Option GatherAnswer)
     → IsLeading plan records draws used (map tuples_of old) before → IsTrue (is_spent blocks draws) → HearsOut old new before now r → Led plan records blocks draws used (map heard new) now r
 led_out plan records blocks draws used old new before now None l s h =
-    record { leading = subst (λ ts. IsLeading plan records draws used ts now) (tuples_heard new) (h.0 plan records draws used l); spent = s; over = over_heard new h.1 }
+    record { leading = subst (λ ts. IsLeading plan records draws used ts now) (tuples_heard new) (h.0 plan records draws used l); spent = s; over = over_heard new h.1; errors_over = notices_heard new h.1 }
 led_out plan records blocks draws used old new before now (Some (Row row cause item)) l s h = inr (any_heard row cause item new h)
 led_out plan records blocks draws used old new before now (Some Memory) l s h = tt
 

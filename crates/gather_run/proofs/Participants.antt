@@ -29,7 +29,8 @@ use Rattle.parallel_ctx.specs.declared.home.Returned.{Returned}
 use Rattle.worker_run.specs.Tabled.{groups_of_blocks}
 use Rattle.worker_run.specs.declared.WorkerEnd.{WorkerEnd}
 use Rattle.worker_run.specs.declared.WorkerEnd.TheVariants.{Finished, Stopped, Refused, NoMemory}
-use Rattle.gather_run.specs.Did.{DidWork, EndsWell}
+use Rattle.gather_run.specs.Did.{DidWork}
+use Rattle.worker_run.specs.Verdicts.{EndsWell}
 use Rattle.gather_run.specs.Leading.{HasLed}
 use Rattle.gather_run.specs.Reading.{ReadAs}
 use Rattle.gather_run.specs.Used.{AreBlockGroups, SharedItsBlocks}

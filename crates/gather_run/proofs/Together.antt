@@ -1,8 +1,8 @@
 -- What the workers and the leader did, put together.
-use Rattle.std.proofs.Common.{◌≡◌, ◌<◌, ◌≤◌, ◌+◌, ◌-◌, ◌*◌, ◌^◌, ◌++◌, ◌⊎◌, inl, inr, ℕ, List, [], ◌∷◌, length, drop, map, All, IsTrue, MatchOption, Option, Some, None, true, false, zero, suc, get_or, is_some, refl, ap, sym, subst, ◌∙◌, arith, Any, length-append}
+use Rattle.std.proofs.Common.{◌≡◌, ◌<◌, ◌≤◌, ◌+◌, ◌-◌, ◌*◌, ◌^◌, ◌++◌, ◌⊎◌, inl, inr, ℕ, List, [], ◌∷◌, length, drop, map, All, IsTrue, MatchOption, Option, Some, None, true, zero, suc, refl, ap, sym, subst, ◌∙◌, arith, Any, length-append}
 use Rattle.std.specs.List.{AllByRecursion, AllZip, flat_map}
 use Rattle.std.specs.List.Sorted.{IsPermutation}
-use Rattle.std.proofs.lemmas.List.Elements.{All-head, All-map, All-nil, All-tail, All-weaker}
+use Rattle.std.proofs.lemmas.List.Elements.{All-cons, All-head, All-map, All-nil, All-tail, All-weaker}
 use Rattle.error_queue.specs.declared.ErrorMessage.TheVariants as message
 use Rattle.mq_handle.specs.Messages.{whole_of}
 use Rattle.par_model.specs.Plan.{Plan}
@@ -25,18 +25,23 @@ use Rattle.worker_run.specs.Ended.{IsNotice, IsRefused, Sends}
 use Rattle.worker_run.specs.declared.WorkerEnd.{WorkerEnd}
 use Rattle.worker_run.specs.declared.WorkerEnd.TheVariants.{Finished, Stopped, Refused, NoMemory}
 use Rattle.parallel_ctx.proofs.Idle.{whole_nothing}
-use Rattle.gather_run.proofs.Anys.{any_cases, any_head, any_none, any_tail}
+use Rattle.worker_run.proofs.Anys.{any_cases, any_none}
 use Rattle.parallel_ctx.specs.declared.tokens.LeaderEnds.{LeaderEnds}
 use Rattle.parallel_ctx.specs.declared.tokens.Shared.{Shared}
 use Rattle.gather_run.specs.Looks.{tuples_of}
 use Rattle.gather_run.specs.declared.GatherAnswer.{GatherAnswer}
 use Rattle.gather_run.specs.declared.GatherAnswer.TheVariants.{Row, Memory}
 use Rattle.worker_run.specs.Tabled.{EndsWith}
-use Rattle.gather_run.specs.Did.{sends_in, AreVerdict, DidPlainWork, DidWork, EndsWell, IsVerdict}
+use Rattle.worker_run.specs.Verdicts.{AreVerdict, EndsWell}
+use Rattle.worker_run.specs.Notices.{ReadsRow}
+use Rattle.worker_run.proofs.Judging.{all_apart, any_apart}
+use Rattle.partial_agg.specs.declared.map.BlockAnswer.{BlockAnswer}
+use Rattle.partial_agg.specs.declared.map.BlockAnswer.TheVariants as block
+use Rattle.gather_run.specs.Did.{sends_in, Answers, DidPlainWork, DidWork}
 use Rattle.gather_run.specs.Answers.{IsCause, IsFirst, IsFirstCause}
 use Rattle.gather_run.specs.Leading.{HasLed, Led, NamesRow}
-use Rattle.gather_run.specs.Used.{SentItsRows}
-use Rattle.gather_run.specs.Reading.{ReadAs, ReadsRow}
+use Rattle.gather_run.specs.Used.{ReadItsNotices, SentItsRows}
+use Rattle.gather_run.specs.Reading.{ReadAs}
 
 -- tuples are read as the groups that they are
 pub same_groups : (plan : Plan) (hs gs : List Group) → ReadAs (map (tuple_of plan) hs) gs → AllByRecursion (HasTuple plan) hs → gs ≡ hs
@@ -50,6 +55,13 @@ same_groups plan (h ∷ hs) (g ∷ gs) r t =
 pub no_groups_read : (gs : List Group) → ReadAs [] gs → gs ≡ []
 no_groups_read [] r = refl
 no_groups_read (g ∷ gs) r = absurd r
+
+-- how some workers ended
+abbrev pub ends_of : List (Returned WorkerEnd) → List (Option WorkerEnd)
+ends_of ws = map (λ (w : Returned WorkerEnd). w.end) ws
+
+pub all_well : (ws : List (Returned WorkerEnd)) → AreVerdict (ends_of ws) None → All (λ (w : Returned WorkerEnd). EndsWell w.end) ws
+all_well ws v = all_apart EndsWell (λ (w : Returned WorkerEnd). w.end) ws v
 
 module _ (uses : ℕ → Option Use) (plan : Plan) (records : Table) (blocks : ℕ) where
   abbrev Did : Plan → ℕ → Account → WorkerEnd → Type 0
@@ -212,9 +224,10 @@ module _ (uses : ℕ → Option Use) (plan : Plan) (records : Table) (blocks : �
       by (inr a) = named draws ws row cause item f a
   leader_row own used draws ws groups failure Memory f led e = tt
 
-  pub worker_row : (draws : List (List ℕ)) (ws : List (Returned WorkerEnd)) (why : GatherAnswer) → AllZip Worker draws ws → AreVerdict ws (Some why) → IsCause plan records why
-  worker_row draws ws (Row row cause item) f a = ended draws ws row cause item f a
-  worker_row draws ws Memory f a = tt
+  pub worker_row : (draws : List (List ℕ)) (ws : List (Returned WorkerEnd)) (why : BlockAnswer) (answer : GatherAnswer) → AllZip Worker draws ws → AreVerdict (ends_of ws) (Some why) → Answers why answer → IsCause plan records answer
+  worker_row draws ws (block.Row row cause item) answer f a is =
+      subst (IsCause plan records) (sym is) (ended draws ws row cause item f (any_apart (λ (e : Option WorkerEnd). e ≡ Some (Refused row cause item)) (λ (w : Returned WorkerEnd). w.end) ws a))
+  worker_row draws ws block.Memory answer f a is = subst (IsCause plan records) (sym is) tt
 
   -- ---- with no workers the first refused row is named
 
@@ -228,10 +241,10 @@ module _ (uses : ℕ → Option Use) (plan : Plan) (records : Table) (blocks : �
   leader_first own used [] groups failure Memory none led e = tt
   leader_first own used (w ∷ ws) groups failure why none led e = let no : ⊥ = grind arith in absurd no
 
-  pub worker_first : (ws : List (Returned WorkerEnd)) (why : GatherAnswer) → length ws ≡ 0 → AreVerdict ws (Some why) → IsFirstCause plan records why
-  worker_first [] (Row row cause item) none a = absurd (any_none (λ (w : Returned WorkerEnd). w.end ≡ Some (Refused row cause item)) a)
-  worker_first [] Memory none a = tt
-  worker_first (w ∷ ws) why none a = let no : ⊥ = grind arith in absurd no
+  pub worker_first : (ws : List (Returned WorkerEnd)) (why : BlockAnswer) (answer : GatherAnswer) → length ws ≡ 0 → AreVerdict (ends_of ws) (Some why) → Answers why answer → IsFirstCause plan records answer
+  worker_first [] (block.Row row cause item) answer none a is = absurd (any_none (λ (e : Option WorkerEnd). e ≡ Some (Refused row cause item)) a)
+  worker_first [] block.Memory answer none a is = subst (IsFirstCause plan records) (sym is) tt
+  worker_first (w ∷ ws) why answer none a is = let no : ⊥ = grind arith in absurd no
 
   -- ---- the blocks and the tuples
 
@@ -268,6 +281,16 @@ module _ (uses : ℕ → Option Use) (plan : Plan) (records : Table) (blocks : �
         all_sent_rows draws ws (omega (arith, long, few)) f.1 (All-tail (λ (w : Returned WorkerEnd). EndsWell w.end) v ws w) (All-tail (λ (h : Heard). h.tuples_over ≡ true) (heard_of v) (map heard_of ws) o),
       )
 
+  -- ---- the notices
+
+  pub all_read : (draws : List (List ℕ)) (ws : List (Returned WorkerEnd)) → AllZip Worker draws ws → All (λ (h : Heard). h.errors_over ≡ true) (map heard_of ws) → All ReadItsNotices ws
+  all_read [] [] f o = All-nil ReadItsNotices
+  all_read [] (v ∷ ws) f o = absurd f
+  all_read (ds ∷ draws) [] f o = absurd f
+  all_read (ds ∷ draws) (v ∷ ws) f o =
+      All-cons ReadItsNotices v ws (f.0.errors.all (All-head (λ (h : Heard). h.errors_over ≡ true) (heard_of v) (map heard_of ws) o))
+      (all_read draws ws f.1 (All-tail (λ (h : Heard). h.errors_over ≡ true) (heard_of v) (map heard_of ws) o))
+
   few_blocks : AreBlocks records blocks → length records ≤ 4194305 → blocks ≤ 16384
   few_blocks are few = by blocks are.each
     where
@@ -295,23 +318,6 @@ module _ (uses : ℕ → Option Use) (plan : Plan) (records : Table) (blocks : �
       let parts = length-append own (flat draws) in
       let count : length (own ++ flat draws) ≡ n = drawn.draws in
       omega (arith, drawn.few, short, most, parts, count)
-
--- ---- the verdict on some workers
-
-any_get : {A : Type 0} (P : A → Type 0) (xs : List A) (k : ℕ) (d : A) → k < length xs → P (get_or xs k d) → Any P xs
-any_get P [] k d h p = absurd (omega arith)
-any_get P (x ∷ xs) zero d h p = any_head P x xs p
-any_get P (x ∷ xs) (suc k) d h p = any_tail P x xs (any_get P xs k d (omega arith) p)
-
-pub verdict_there : (ws : List (Returned WorkerEnd)) (k : ℕ) (w : Returned WorkerEnd) (r : Option GatherAnswer) → k < length ws → w ≡ get_or ws k w → is_some r ≡ true → IsVerdict w.end r → AreVerdict ws r
-verdict_there ws k w None h e some v = cc
-verdict_there ws k w (Some (Row row cause item)) h e some v =
-    any_get (λ (x : Returned WorkerEnd). x.end ≡ Some (Refused row cause item)) ws k w h (subst (λ (x : Returned WorkerEnd). x.end ≡ Some (Refused row cause item)) e v)
-verdict_there ws k w (Some Memory) h e some v = tt
-
-pub well_there : (ws : List (Returned WorkerEnd)) (k : ℕ) (w : Returned WorkerEnd) (r : Option GatherAnswer) → w ≡ get_or ws k w → is_some r ≡ false → IsVerdict w.end r → EndsWell (get_or ws k w).end
-well_there ws k w None e none v = subst (λ (x : Returned WorkerEnd). EndsWell x.end) e v
-well_there ws k w (Some why) e none v = cc
 
 -- ---- at the start
 

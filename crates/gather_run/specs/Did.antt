@@ -1,15 +1,15 @@
--- What a worker of a query did, and what its end means for the answer.
-use Rattle.std.specs.Prelude.{◌≡◌, ℕ, List, All, Any, Option, Some, None}
+-- What a worker of a query did, and answers by their reasons.
+use Rattle.std.specs.Prelude.{◌≡◌, ℕ}
 use Rattle.par_model.specs.Plan.{Plan}
 use Rattle.gather_law.specs.Tuples.{Table}
 use Rattle.parallel_ctx.specs.Accounts.{Account}
-use Rattle.parallel_ctx.specs.declared.home.Returned.{Returned}
+use Rattle.partial_agg.specs.declared.map.BlockAnswer.{BlockAnswer}
+use Rattle.partial_agg.specs.declared.map.BlockAnswer.TheVariants as block
 use Rattle.gather_run.specs.declared.GatherAnswer.{GatherAnswer}
 use Rattle.gather_run.specs.declared.GatherAnswer.TheVariants.{Row, Memory}
 use Rattle.worker_run.specs.Ended.{HasEnded, Sends}
 use Rattle.worker_run.specs.Tabled.{EndsWith}
 use Rattle.worker_run.specs.declared.WorkerEnd.{WorkerEnd}
-use Rattle.worker_run.specs.declared.WorkerEnd.TheVariants.{Finished, Stopped, Refused, NoMemory}
 
 -- what went out on a worker's queues
 abbrev pub sends_in : Account → Sends
@@ -23,22 +23,7 @@ DidWork plan records blocks a end = EndsWith plan records blocks a.draws a.used 
 abbrev pub DidPlainWork : Plan → Table → ℕ → Account → WorkerEnd → Type 0
 DidPlainWork plan records blocks a end = HasEnded plan records blocks a.draws (sends_in a) end
 
--- a worker that finished, or did not start, has left out none of its rows
-abbrev pub EndsWell : Option WorkerEnd → Type 0
-EndsWell None = Unit {0}
-EndsWell (Some Finished) = Unit {0}
-EndsWell (Some Stopped) = ⊥
-EndsWell (Some (Refused row cause item)) = ⊥
-EndsWell (Some NoMemory) = ⊥
-
--- why an end leaves rows out, if it does
-abbrev pub IsVerdict : Option WorkerEnd → Option GatherAnswer → Type 0
-IsVerdict end None = EndsWell end
-IsVerdict end (Some (Row row cause item)) = end ≡ Some (Refused row cause item)
-IsVerdict end (Some Memory) = Unit {0}
-
--- likewise of some workers
-abbrev pub AreVerdict : List (Returned WorkerEnd) → Option GatherAnswer → Type 0
-AreVerdict workers None = All (λ (w : Returned WorkerEnd). EndsWell w.end) workers
-AreVerdict workers (Some (Row row cause item)) = Any (λ (w : Returned WorkerEnd). w.end ≡ Some (Refused row cause item)) workers
-AreVerdict workers (Some Memory) = Unit {0}
+-- why a block was not added, or what the workers' ends mean, as an answer
+abbrev pub Answers : BlockAnswer → GatherAnswer → Type 0
+Answers (block.Row row cause item) answer = answer ≡ Row row cause item
+Answers block.Memory answer = answer ≡ Memory

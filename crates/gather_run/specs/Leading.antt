@@ -14,8 +14,9 @@ use Rattle.gather_law.specs.Parts.{Part, after, blocks_in, received_in}
 use Rattle.gather_law.specs.Tuples.{Group, Table, rows_of_blocks}
 use Rattle.parallel_ctx.specs.Accounts.{Heard}
 use Rattle.worker_run.specs.Ended.{IsRefused}
+use Rattle.worker_run.specs.Notices.{ReadsRow}
 use Rattle.gather_run.specs.Answers.{IsFirst}
-use Rattle.gather_run.specs.Reading.{ReadAs, ReadsRow}
+use Rattle.gather_run.specs.Reading.{ReadAs}
 use Rattle.gather_run.specs.Sharing.{DoesBlocks}
 use Rattle.gather_run.specs.declared.GatherAnswer.{GatherAnswer}
 use Rattle.gather_run.specs.declared.GatherAnswer.TheVariants.{Row, Memory}
@@ -42,11 +43,13 @@ pub record MetRow (plan : Plan) (records : Table) (alone : Type 0) (row cause it
   pub refused : IsRefused plan records row cause item
   pub first : alone → IsFirst plan records row
 
--- it has led to the end: there are no more blocks, and no more messages on the tuple queues
+-- it has led to the end: there are no more blocks, no more messages on the tuple queues, and no notice that it has not
+-- read
 pub record HasLed (plan : Plan) (records : Table) (blocks : ℕ) (draws : List ℕ) (used : Option Use) (heard : List Heard) (groups : GroupsByKey) : Type 0 where
   pub leading : IsLeading plan records draws used (map_list (λ (h : Heard). h.tuples) heard) groups
   pub spent : IsTrue (is_spent blocks draws)
   pub over : All (λ (h : Heard). h.tuples_over ≡ true) heard
+  pub errors_over : All (λ (h : Heard). h.errors_over ≡ true) heard
 
 -- it met a refused row, or a message named one
 abbrev pub NamesRow : Plan → Table → List Heard → ℕ → ℕ → ℕ → Type 0

@@ -12,15 +12,14 @@ use Rattle.gather_law.specs.Tuples.{Group, Table}
 use Rattle.parallel_ctx.specs.Accounts.{is_over}
 use Rattle.parallel_ctx.specs.declared.tokens.LeaderEnds.{LeaderEnds}
 use Rattle.gather_run.specs.Leading.{IsLeading}
-use Rattle.gather_run.specs.Reading.{ReadAs, ReadsRow}
+use Rattle.gather_run.specs.Reading.{ReadAs}
 use Rattle.gather_run.specs.declared.GatherAnswer.{GatherAnswer}
 use Rattle.gather_run.specs.declared.GatherAnswer.TheVariants.{Row, Memory}
 use Rattle.gather_run.specs.declared.messages.Hearing.{Hearing}
-use Rattle.gather_run.specs.declared.messages.Hearing.TheVariants.{Quiet, Ended, NoRoom, Names}
+use Rattle.gather_run.specs.declared.messages.Hearing.TheVariants as hearing
 use Rattle.gather_run.specs.declared.messages.Look.{Look}
-use Rattle.gather_run.specs.declared.messages.Look.TheVariants.{Took, Waits, Over, Lost}
-use Rattle.gather_run.specs.declared.messages.News.{News}
-use Rattle.gather_run.specs.declared.messages.News.TheVariants.{More, Nothing, Refused}
+use Rattle.gather_run.specs.declared.messages.Look.TheVariants.{More, Over, Lost}
+use Rattle.worker_run.specs.Notices.{HasRead}
 
 -- ---- one worker
 
@@ -32,26 +31,30 @@ pub record Takes (old new : Receiving) (before now : GroupsByKey) : Type 0 where
   pub read : ReadAs messages groups
   pub added_are : now ≡ with_all before groups
 
--- what one look comes to: a message was taken, or none is there yet, or none will come; or the map had no room
+-- what some looks come to: messages were taken, and more may come, or none will; or the map had no room
 abbrev pub LooksOnce : Receiving → Receiving → GroupsByKey → GroupsByKey → Look → Type 0
-LooksOnce old new before now Took = Takes old new before now
-LooksOnce old new before now Waits = Takes old new before now
+LooksOnce old new before now (More took) = Takes old new before now
 LooksOnce old new before now Over = Takes old new before now × (is_over new ≡ true)
 LooksOnce old new before now Lost = Unit {0}
 
--- a notice that names a refused row was taken
-abbrev pub NewsIs : Receiving → News → Type 0
-NewsIs new More = Unit {0}
-NewsIs new Nothing = Unit {0}
-NewsIs new (Refused row cause item) = Any (ReadsRow row cause item) (whole_of new.taken)
+-- what the last notice of a worker comes to: there is no other, or it names a refused row
+abbrev pub HearsEnd : Receiving → Hearing → Type 0
+HearsEnd new hearing.Ended = is_over new ≡ true
+HearsEnd new (hearing.Names row cause item) = HasRead new row cause item
+HearsEnd new (hearing.More took) = ⊥
+HearsEnd new hearing.NoRoom = ⊥
 
--- what came of hearing a worker: nothing more is there yet, or no more tuples will come; the map had no room; a refused
--- row was named
+-- no more will come of a worker: neither tuples nor notices
+pub record IsOverQueue (q : LeaderEnds) : Type 0 where
+  pub tuples : is_over q.tuples.end ≡ true
+  pub errors : is_over q.errors.end ≡ true
+
+-- what came of hearing a worker: more may come, or it has said its last; the map had no room; a refused row was named
 abbrev pub Hears : LeaderEnds → LeaderEnds → GroupsByKey → GroupsByKey → Hearing → Type 0
-Hears old new before now Quiet = Takes old.tuples.end new.tuples.end before now
-Hears old new before now Ended = Takes old.tuples.end new.tuples.end before now × (is_over new.tuples.end ≡ true)
-Hears old new before now NoRoom = Unit {0}
-Hears old new before now (Names row cause item) = Any (ReadsRow row cause item) (whole_of new.errors.end.taken)
+Hears old new before now (hearing.More took) = Takes old.tuples.end new.tuples.end before now
+Hears old new before now hearing.Ended = Takes old.tuples.end new.tuples.end before now × IsOverQueue new
+Hears old new before now hearing.NoRoom = Unit {0}
+Hears old new before now (hearing.Names row cause item) = HasRead new.errors.end row cause item
 
 -- the leader's ends of a worker's queues are of this region, and open
 pub record IsOpen (region : TableId) (q : LeaderEnds) : Type 0 where
@@ -66,11 +69,7 @@ pub record IsOpen (region : TableId) (q : LeaderEnds) : Type 0 where
 abbrev pub tuples_of : LeaderEnds → List (List ℕ)
 tuples_of q = whole_of q.tuples.end.taken
 
--- no more will come of a worker
-abbrev pub IsOverQueue : LeaderEnds → Type 0
-IsOverQueue q = is_over q.tuples.end ≡ true
-
--- whether that holds of the first so many workers
+-- whether no more will come of the first so many workers
 pub record OverSoFar (over : Bool) (queues : List LeaderEnds) (at : ℕ) : Type 0 where
   pub each : over ≡ true → AllWithin IsOverQueue queues 0 at
 
@@ -81,14 +80,14 @@ StaysLeading old new before now = (plan : Plan) (records : Table) (draws : List 
 
 -- a notice of some worker names a refused row
 abbrev pub NamedBy : List LeaderEnds → ℕ → ℕ → ℕ → Type 0
-NamedBy queues row cause item = Any (λ (q : LeaderEnds). Any (ReadsRow row cause item) (whole_of q.errors.end.taken)) queues
+NamedBy queues row cause item = Any (λ (q : LeaderEnds). HasRead q.errors.end row cause item) queues
 
 -- what came of hearing all workers
 abbrev pub HearsAll : List LeaderEnds → List LeaderEnds → GroupsByKey → GroupsByKey → Hearing → Type 0
-HearsAll old new before now Quiet = StaysLeading old new before now
-HearsAll old new before now Ended = StaysLeading old new before now × All IsOverQueue new
-HearsAll old new before now NoRoom = Unit {0}
-HearsAll old new before now (Names row cause item) = NamedBy new row cause item
+HearsAll old new before now (hearing.More took) = StaysLeading old new before now
+HearsAll old new before now hearing.Ended = StaysLeading old new before now × All IsOverQueue new
+HearsAll old new before now hearing.NoRoom = Unit {0}
+HearsAll old new before now (hearing.Names row cause item) = NamedBy new row cause item
 
 -- what hearing all workers to the end comes to
 abbrev pub HearsOut : List LeaderEnds → List LeaderEnds → GroupsByKey → GroupsByKey → Option GatherAnswer → Type 0

@@ -1,9 +1,13 @@
 -- That a query's blocks were drawn by its participants, and that their groups went through the table of groups, or the
 -- workers' through their queues.
-use Rattle.std.specs.Prelude.{◌≡◌, ◌<◌, ◌+◌, ◌*◌, ◌&&◌, leb, ℕ, List, ◌∷◌, All, IfSome, None, count_by, is_some, length, map as map_list}
+use Rattle.std.specs.Prelude.{◌≡◌, ◌<◌, ◌+◌, ◌*◌, ◌&&◌, leb, ℕ, suc, List, ◌∷◌, All, IfSome, None, count_by, is_some, length, map as map_list}
 use Rattle.std.specs.FinMap as map
 use Rattle.std.specs.List.{AllZip, flat_map}
 use Rattle.agg_table.specs.Calls.{HasPut, Use}
+use Rattle.dsa_area.specs.Shown.{AreAll}
+use Rattle.dsa_area.specs.declared.area.Area.{Area}
+use Rattle.dsa_area.specs.declared.area.AreaPass.{AreaPass}
+use Rattle.dshash_parts.specs.Ending.{whole_of as histories}
 use Rattle.mq_handle.specs.Messages.{whole_of}
 use Rattle.par_model.specs.Plan.{Plan}
 use Rattle.partial_agg.specs.Groups.{AreGroups, GroupsByKey}
@@ -13,11 +17,12 @@ use Rattle.scan_claim.specs.Shown.{lists_of}
 use Rattle.gather_law.specs.Law.{CombineTo}
 use Rattle.gather_law.specs.Tuples.{Group, Table, rows_of_blocks}
 use Rattle.parallel_ctx.specs.Accounts.{use_by}
+use Rattle.parallel_ctx.specs.Ran.{AreWhole}
 use Rattle.parallel_ctx.specs.Tokens.{AreNumbered}
 use Rattle.parallel_ctx.specs.declared.home.Finished.{Finished}
 use Rattle.parallel_ctx.specs.declared.home.Returned.{Returned}
 use Rattle.worker_run.specs.declared.WorkerEnd.{WorkerEnd}
-use Rattle.gather_run.specs.Did.{EndsWell}
+use Rattle.worker_run.specs.Verdicts.{EndsWell}
 
 -- ---- without a table
 
@@ -45,21 +50,34 @@ pub record SharedItsBlocks (plan : Plan) (records : Table) (draws : List ℕ) (u
 
 -- ---- all participants
 
+-- each notice that a worker sent was read
+abbrev pub ReadItsNotices : Returned WorkerEnd → Type 0
+ReadItsNotices w = whole_of w.errors.receiver.taken ≡ whole_of w.errors.sender.put
+
+-- the passes of some area, one for each participant, in order
+pub record ArePasses (participants : ℕ) (passes : List AreaPass) : Type 0 where
+  pub count : length passes ≡ participants
+  pub of_one : (area : Area) × AreAll area passes
+
 -- What the participants brought home where there is an answer: there is one entry for each worker asked for, in order
--- of their numbers, and each that started has finished; each block with a row was drawn once, by the leader or by one
+-- of their numbers, and each that started has finished, its notices read; each block with a row was drawn once, by the leader or by one
 -- of the workers; there is a table exactly where the plan asks for it and its area has room for it. With a table the
 -- leader and each worker have shared out the groups of their blocks; without one the tuples received of each worker
--- combine to the groups of the rows of its blocks
+-- combine to the groups of the rows of its blocks. The table's histories are legal, with no entries of others, and the
+-- passes of its area are one for each participant
 pub record IsUsed (plan : Plan) (records : Table) (workers pages : ℕ) (f : Finished WorkerEnd) : Type 0 where
   pub asked : length f.workers.items ≡ workers
   pub numbers : AreNumbered 1 (map_list (λ (w : Returned WorkerEnd). w.number) f.workers.items)
   pub ended : All (λ (w : Returned WorkerEnd). EndsWell w.end) f.workers.items
+  pub noticed : All ReadItsNotices f.workers.items
   pub launched : f.launched ≡ count_by (λ (w : Returned WorkerEnd). is_some w.end) f.workers.items
   pub own : List ℕ
   pub draws : List (List ℕ)
   pub lists : lists_of f.drawn ≡ own ∷ draws
   pub drawn : (block : ℕ) → 256 * block + 1 < length records → times block (flat (lists_of f.drawn)) ≡ 1
   pub table : is_some f.table ≡ (plan.hash && leb 16 pages)
+  pub whole : IfSome f.table (λ c. AreWhole (suc workers) (histories c))
+  pub areas : IfSome f.table (λ c. ArePasses (suc workers) f.areas.items)
   pub shared_own : IfSome (use_by f 0) (SharedItsBlocks plan records own)
   pub shared : AllZip (λ ds (w : Returned WorkerEnd). IfSome (use_by f w.number) (SharedItsBlocks plan records ds)) draws f.workers.items
   pub sent : f.table ≡ None → AllZip (SentItsRows plan records) draws f.workers.items

@@ -20,10 +20,11 @@ ghost use Rattle.gather_run.specs.Steps.{ClearsMap, Steps, StepsAlone};
 use crate::GatherAnswer;
 use crate::messages::{Hearing, hear_all, hear_out};
 use crate::sharing::do_block;
+use crate::verdicts::answer_of;
 use csv_rows::RowStore;
 use par_model::BoundPlan;
 use parallel_ctx::{HashPart, HashSeat, LeaderEnds};
-use partial_agg::{BlockAnswer, GroupMap};
+use partial_agg::GroupMap;
 use region_words::Region;
 use scan_claim::{ClaimSeat, Claims};
 use std::alloc::Global;
@@ -71,15 +72,10 @@ fn lead_block<G: Gate, R: Wait>(
         return Step::NoMore;
     };
     gate.pass(0, block);
-    match do_block(rt, r, plan, rows, block, part, seat, block_groups, groups) {
-        Ok(()) => Step::Next,
-        Err(BlockAnswer::Memory) => Step::Failed(GatherAnswer::Memory),
-        Err(BlockAnswer::Row { row, cause, item }) => Step::Failed(GatherAnswer::Row {
-            row,
-            cause,
-            item,
-        }),
+    if let Err(why) = do_block(rt, r, plan, rows, block, part, seat, block_groups, groups) {
+        return Step::Failed(answer_of(why));
     }
+    Step::Next
 }
 
 /// Hears all workers, and then does a block of its own.
@@ -114,35 +110,26 @@ fn lead_next<G: Gate, R: Wait>(
     ensures step { Steps plan.now rows.now claims.now (draws_of claim.new) (use_in seat.new) queues.new groups.new result }
 {
     match hear_all(rt, r, queues, groups) {
-        Hearing::Quiet => lead_block(
-            rt,
-            r,
-            plan,
-            rows,
-            gate,
-            claims,
-            claim,
-            part,
-            seat,
-            block_groups,
-            groups,
-        ),
-        Hearing::Ended => lead_block(
-            rt,
-            r,
-            plan,
-            rows,
-            gate,
-            claims,
-            claim,
-            part,
-            seat,
-            block_groups,
-            groups,
-        ),
-        Hearing::NoRoom => Step::Failed(GatherAnswer::Memory),
-        Hearing::Names { row, cause, item } => Step::Failed(GatherAnswer::Row { row, cause, item }),
+        Hearing::More { took: _ } => {}
+        Hearing::Ended => {}
+        Hearing::NoRoom => return Step::Failed(GatherAnswer::Memory),
+        Hearing::Names { row, cause, item } => {
+            return Step::Failed(GatherAnswer::Row { row, cause, item });
+        }
     }
+    lead_block(
+        rt,
+        r,
+        plan,
+        rows,
+        gate,
+        claims,
+        claim,
+        part,
+        seat,
+        block_groups,
+        groups,
+    )
 }
 
 /// Does blocks until there are no more, and then hears the workers to the end. Where there is no answer it says why, at

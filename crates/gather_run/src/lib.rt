@@ -37,7 +37,7 @@ use roles::{Leader, Team};
 use std::alloc::{AllocError, Global};
 use std::sync::Wait;
 use std::thread::Threads;
-use verdicts::first_verdict;
+use verdicts::{answer_of, verdict};
 use worker_run::{Gate, WorkerEnd};
 
 mod leading;
@@ -145,8 +145,8 @@ pub fn gather<G: Gate + Sync, R: Threads + Wait + Sync>(
     if let Some(why) = failure {
         return Err(why);
     }
-    if let Some(why) = first_verdict(&finished.workers) {
-        return Err(why);
+    if let Some(why) = verdict(&finished.workers) {
+        return Err(answer_of(why));
     }
     has_few_items(plan);
     if add_table(alloc, &finished.region, &mut finished.table, &mut groups).is_err() {

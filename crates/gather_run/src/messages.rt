@@ -1,29 +1,32 @@
 //! What the leader takes off the workers' queues. It reads them in turn and waits for none of them: of each worker
 //! first its notices, so that a refused row is known as soon as can be, and then its tuples, whose groups it adds to
-//! its map.
+//! its map. A worker is over when its tuple queue is, and its last notice is read: it sends that before it detaches its
+//! tuple queue, so this wait is short.
 
 ghost use Rattle.std.specs.Prelude.{◌≡◌, All, false};
 ghost use Rattle.std.specs.List.{AllZip};
 ghost use Rattle.parallel_ctx.specs.Tokens.{SameQueues};
-ghost use Rattle.gather_run.specs.Looks.{Hears, HearsAll, HearsOut, IsOpen, LooksOnce, NewsIs};
+ghost use Rattle.gather_run.specs.Looks.{Hears, HearsAll, HearsEnd, HearsOut, IsOpen, LooksOnce};
 
 use crate::GatherAnswer;
 use crossbeam_utils::Backoff;
-use error_queue::ErrorMessage;
 use mq_handle::{ReceiveAnswer, Receiver};
 use parallel_ctx::LeaderEnds;
 use partial_agg::GroupMap;
 use region_words::Region;
 use std::sync::Wait;
 use tuple_codec::decode;
+use worker_run::{News, hear_last, hear_notices};
+
+/// How many tuples are taken of a worker before the next one is heard: as many as its queue holds at most, at two words
+/// for each. So a worker that sends as fast as the leader takes holds up nobody.
+const MOST_AT_ONCE: u32 = 4096;
 
 /// What came of one look at a worker's tuple queue.
 #[derive(Clone, Copy)]
 enum Look {
-    /// A tuple was taken, and its group added.
-    Took,
-    /// None is there yet.
-    Waits,
+    /// More may come. Says whether a tuple was taken, whose group is added.
+    More { took: bool },
     /// None will come.
     Over,
     /// The map had no room for it.
@@ -33,9 +36,9 @@ enum Look {
 /// What came of hearing a worker, or all of them.
 #[derive(Clone, Copy)]
 pub(crate) enum Hearing {
-    /// All that was there is taken, and more may come.
-    Quiet,
-    /// All is taken.
+    /// More may come. Says whether something was taken.
+    More { took: bool },
+    /// All is taken, the last notice too.
     Ended,
     /// The map had no room.
     NoRoom,
@@ -53,7 +56,7 @@ fn take_tuple(r: &Region, tuples: &mut Receiver, groups: &mut GroupMap) -> Look
     ensures look { LooksOnce tuples.old.end tuples.new.end groups.old groups.new result }
 {
     match tuples.try_receive(r) {
-        ReceiveAnswer::WouldBlock => Look::Waits,
+        ReceiveAnswer::WouldBlock => Look::More { took: false },
         ReceiveAnswer::Detached => Look::Over,
         ReceiveAnswer::Message => {
             let Ok((key, state)) = decode(tuples.message()) else {
@@ -62,13 +65,13 @@ fn take_tuple(r: &Region, tuples: &mut Receiver, groups: &mut GroupMap) -> Look
             if groups.add(key, &state).is_err() {
                 return Look::Lost;
             }
-            Look::Took
+            Look::More { took: true }
         }
     }
 }
 
-/// Takes all tuples that are there.
-fn take_tuples<R: Wait>(rt: &R, r: &Region, tuples: &mut Receiver, groups: &mut GroupMap) -> Look
+/// Takes the tuples that are there, up to as many as the queue holds.
+fn take_tuples(r: &Region, tuples: &mut Receiver, groups: &mut GroupMap) -> Look
     requires here { tuples.old.region ≡ r.now }
     requires stays { tuples.old.end.gone ≡ false }
     ensures region { tuples.new.region ≡ tuples.old.region }
@@ -76,86 +79,48 @@ fn take_tuples<R: Wait>(rt: &R, r: &Region, tuples: &mut Receiver, groups: &mut 
     ensures stays { tuples.new.end.gone ≡ false }
     ensures look { LooksOnce tuples.old.end tuples.new.end groups.old groups.new result }
 {
-    for _ in rt.forever() {
+    let mut took = false;
+    for _ in 0..MOST_AT_ONCE {
         match take_tuple(r, tuples, groups) {
-            Look::Took => {}
-            Look::Waits => return Look::Waits,
+            Look::More { took: true } => took = true,
+            Look::More { took: false } => return Look::More { took },
             Look::Over => return Look::Over,
             Look::Lost => return Look::Lost,
         }
     }
-    unreachable!()
+    Look::More { took }
 }
 
-/// What came of the notices of a worker.
-#[derive(Clone, Copy)]
-enum News {
-    /// A notice that names no row was taken.
-    More,
-    /// None is there.
-    Nothing,
-    /// A notice names this row, which is refused.
-    Refused { row: u64, cause: u8, item: u32 },
-}
-
-/// Takes one notice, if one is there.
-fn take_notice(r: &Region, errors: &mut Receiver) -> News
+/// Hears the last notice of a worker that sends no more tuples.
+fn hear_end<R: Wait>(rt: &R, r: &Region, errors: &mut Receiver) -> Hearing
     requires here { errors.old.region ≡ r.now }
     requires stays { errors.old.end.gone ≡ false }
     ensures region { errors.new.region ≡ errors.old.region }
     ensures ring { errors.new.end.ring ≡ errors.old.end.ring }
     ensures stays { errors.new.end.gone ≡ false }
-    ensures refused { NewsIs errors.new.end result }
+    ensures heard { HearsEnd errors.new.end result }
 {
-    match errors.try_receive(r) {
-        ReceiveAnswer::WouldBlock => News::Nothing,
-        ReceiveAnswer::Detached => News::Nothing,
-        ReceiveAnswer::Message => {
-            let Ok(ErrorMessage::Row { row, cause, item }) = ErrorMessage::read(errors.message())
-            else {
-                return News::More;
-            };
-            News::Refused { row, cause, item }
-        }
+    match hear_last(rt, r, errors) {
+        News::Refused { row, cause, item } => Hearing::Names { row, cause, item },
+        News::Over => Hearing::Ended,
+        News::Nothing => unreachable!(),
     }
 }
 
-/// Takes notices until one names a refused row, or no more is there.
-fn take_notices<R: Wait>(rt: &R, r: &Region, errors: &mut Receiver) -> News
-    requires here { errors.old.region ≡ r.now }
-    requires stays { errors.old.end.gone ≡ false }
-    ensures region { errors.new.region ≡ errors.old.region }
-    ensures ring { errors.new.end.ring ≡ errors.old.end.ring }
-    ensures stays { errors.new.end.gone ≡ false }
-    ensures refused { NewsIs errors.new.end result }
-{
-    for _ in rt.forever() {
-        match take_notice(r, errors) {
-            News::More => {}
-            News::Nothing => return News::Nothing,
-            News::Refused { row, cause, item } => return News::Refused { row, cause, item },
-        }
-    }
-    unreachable!()
-}
-
-/// Hears a worker: its notices, and then its tuples.
+/// Hears a worker: its notices, and then its tuples. Where it sends no more tuples, its last notice is waited for.
 fn hear<R: Wait>(rt: &R, r: &Region, queue: &mut LeaderEnds, groups: &mut GroupMap) -> Hearing
     requires { IsOpen r.now queue.old }
     ensures same { SameQueues queue.old queue.new }
     ensures open { IsOpen r.now queue.new }
     ensures heard { Hears queue.old queue.new groups.old groups.new result }
 {
-    match take_notices(rt, r, &mut queue.errors) {
-        News::Refused { row, cause, item } => return Hearing::Names { row, cause, item },
-        News::Nothing => {}
-        News::More => {}
+    if let News::Refused { row, cause, item } = hear_notices(rt, r, &mut queue.errors) {
+        return Hearing::Names { row, cause, item };
     }
-    match take_tuples(rt, r, &mut queue.tuples, groups) {
+    match take_tuples(r, &mut queue.tuples, groups) {
         Look::Lost => Hearing::NoRoom,
-        Look::Over => Hearing::Ended,
-        Look::Waits => Hearing::Quiet,
-        Look::Took => Hearing::Quiet,
+        Look::More { took } => Hearing::More { took },
+        Look::Over => hear_end(rt, r, &mut queue.errors),
     }
 }
 
@@ -172,10 +137,14 @@ pub(crate) fn hear_all<R: Wait>(
     ensures heard { HearsAll queues.old queues.new groups.old groups.new result }
 {
     let mut over = true;
+    let mut took_any = false;
     for at in 0..queues.len() {
         match hear(rt, r, &mut queues[at], groups) {
             Hearing::Ended => {}
-            Hearing::Quiet => over = false,
+            Hearing::More { took } => {
+                over = false;
+                took_any |= took;
+            }
             Hearing::NoRoom => return Hearing::NoRoom,
             Hearing::Names { row, cause, item } => return Hearing::Names { row, cause, item },
         }
@@ -183,10 +152,10 @@ pub(crate) fn hear_all<R: Wait>(
     if over {
         return Hearing::Ended;
     }
-    Hearing::Quiet
+    Hearing::More { took: took_any }
 }
 
-/// Hears all workers until there are no more tuples.
+/// Hears all workers until none has more to say. It backs off while nothing comes.
 pub(crate) fn hear_out<R: Wait>(
     rt: &R,
     r: &Region,
@@ -200,7 +169,8 @@ pub(crate) fn hear_out<R: Wait>(
     let backoff = Backoff::new();
     for _ in rt.forever() {
         match hear_all(rt, r, queues, groups) {
-            Hearing::Quiet => backoff.snooze(),
+            Hearing::More { took: true } => backoff.reset(),
+            Hearing::More { took: false } => backoff.snooze(),
             Hearing::Ended => return None,
             Hearing::NoRoom => return Some(GatherAnswer::Memory),
             Hearing::Names { row, cause, item } => {

@@ -1,37 +1,31 @@
-//! What the workers' ends mean for the answer: a worker that ended early has left rows out.
+//! Why a query has no answer, in the words of this crate.
 
-ghost use Rattle.gather_run.specs.Did.{AreVerdict, IsVerdict};
+ghost use Rattle.std.specs.Prelude.{map};
+ghost use Rattle.gather_run.specs.Did.{Answers};
+ghost use Rattle.worker_run.specs.Verdicts.{AreVerdict};
 
 use crate::GatherAnswer;
 use parallel_ctx::Returned;
-use worker_run::WorkerEnd;
+use partial_agg::BlockAnswer;
+use worker_run::{WorkerEnd, verdict_with};
 
-/// Why a worker's end leaves rows out, if it does.
-fn verdict(end: &Option<WorkerEnd>) -> Option<GatherAnswer>
-    ensures { IsVerdict end.now result }
+/// A reason as an answer.
+pub(crate) fn answer_of(why: BlockAnswer) -> GatherAnswer
+    ensures { Answers why result }
 {
-    match *end {
-        None => None,
-        Some(WorkerEnd::Finished) => None,
-        Some(WorkerEnd::Stopped) => Some(GatherAnswer::Memory),
-        Some(WorkerEnd::Refused { row, cause, item }) => Some(GatherAnswer::Row {
-            row,
-            cause,
-            item,
-        }),
-        Some(WorkerEnd::NoMemory) => Some(GatherAnswer::Memory),
+    match why {
+        BlockAnswer::Row { row, cause, item } => GatherAnswer::Row { row, cause, item },
+        BlockAnswer::Memory => GatherAnswer::Memory,
     }
 }
 
-/// The first verdict of a worker that left rows out.
-pub(crate) fn first_verdict(workers: &[Returned<WorkerEnd>]) -> Option<GatherAnswer>
-    ensures { AreVerdict workers.now result }
+/// What the ends of all workers mean.
+pub(crate) fn verdict(workers: &[Returned<WorkerEnd>]) -> Option<BlockAnswer>
+    ensures { AreVerdict (map (λ w. w.end) workers.now) result }
 {
+    let mut verdict = None;
     for worker in workers {
-        let why = verdict(&worker.end);
-        if why.is_some() {
-            return why;
-        }
+        verdict = verdict_with(verdict, &worker.end);
     }
-    None
+    verdict
 }

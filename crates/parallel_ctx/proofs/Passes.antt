@@ -6,7 +6,7 @@ use Rattle.parallel_ctx.specs.Ran.{AreWhole}
 use mathlib.Core.Option.{some, some-injective, some-ne-none}
 use lib.ListN.{get_elem?}
 use Rattle.atomic_table.specs.Seated.{TableId}
-use Rattle.dsa_area.specs.Shown.{pages_mine}
+use Rattle.dsa_area.specs.Shown.{AreAll, Belongs, number_of as area_number, pages_mine}
 use Rattle.dsa_area.specs.declared.area.AreaPass.{AreaPass}
 use Rattle.lock_book.specs.History.{calls_by}
 use Rattle.lock_book.specs.Shown.{mine_of, number_of}
@@ -200,9 +200,31 @@ module _ (region : TableId) where
   settled_seats (Some p) number None x os h c ss e = absurd x
   settled_seats (Some p) number (Some s) x os h c ss e = (region, x.0, subst (AreSeats p) (sym e) (are_seats region p os h c))
 
-  pub ran_areas : (p : Option HashPart) (os : List (Option HashSeat)) → AreHome region p 0 os → (areas : List AreaPass) → areas ≡ map (λ (x : HashSeat). x.area) (there os) → (part : HashPart) → p ≡ Some part → length areas ≡ length os
-  ran_areas None os h areas a part e = absurd (cc)
-  ran_areas (Some p) os h areas a part e = ap (λ (l : List AreaPass). length l) a ∙ length-map (there os) (λ (x : HashSeat). x.area) ∙ home_count region p 0 os h
+  area_at : (ss : List HashSeat) (k : ℕ) (p : AreaPass) → get_elem? (map (λ (x : HashSeat). x.area) ss) k ≡ some p → (s : HashSeat) × (get_elem? ss k ≡ some s) × (p ≡ s.area)
+  area_at [] k p e = absurd (some-ne-none p (sym e))
+  area_at (s ∷ ss) zero p e = (s, refl, sym (some-injective s.area p e))
+  area_at (s ∷ ss) (suc k) p e = area_at ss k p e
+
+  -- so are the passes of its area
+  are_areas : (p : HashPart) (ss : List HashSeat) → IsPart region p → AreSeats p ss → AreAll p.area (map (λ (x : HashSeat). x.area) ss)
+  are_areas p ss is are = record {
+    count = length-map ss (λ (x : HashSeat). x.area) ∙ are.count ∙ sym is.callers;
+    each = λ k a e. let s = area_at ss k a e in subst (Belongs p.area) (sym s.2) (are.each k s.0 s.1).area;
+    numbers = λ k a e. let s = area_at ss k a e in ap (λ (x : AreaPass). area_number x) s.2 ∙ (are.each k s.0 s.1).same ∙ are.numbers k s.0 s.1;
+  }
+
+  areas_some : (p : HashPart) (os : List (Option HashSeat)) → AreHome region (Some p) 0 os → (n : ℕ) → length os ≡ n → (number : ℕ) (s : Option HashSeat) → IsHashSeat region number (Some p) s → callers_of p ≡ n
+      → AreAll p.area (map (λ (x : HashSeat). x.area) (there os))
+  areas_some p os h n m number None x c = absurd x
+  areas_some p os h n m number (Some s) x c = are_areas p (there os) x.0 (are_seats region p os h (c ∙ sym m))
+
+  pub ran_areas : (part : HashPart) (os : List (Option HashSeat)) (n number : ℕ) (s : Option HashSeat) (p : Option HashPart) → p ≡ Some part → AreHome region p 0 os → length os ≡ n → IsHashSeat region number p s → HasCallers n p
+      → (areas : List AreaPass) → areas ≡ map (λ (x : HashSeat). x.area) (there os) → (length areas ≡ n) × AreAll part.area areas
+  ran_areas part os n number s p e home m x c areas a =
+      let h : AreHome region (Some part) 0 os = subst (λ (q : Option HashPart). AreHome region q 0 os) e home in (
+        ap (λ (l : List AreaPass). length l) a ∙ length-map (there os) (λ (x : HashSeat). x.area) ∙ home_count region part 0 os h ∙ m,
+        subst (AreAll part.area) (sym a) (areas_some part os h n m number s (subst (λ (q : Option HashPart). IsHashSeat region number q s) e x) (subst (HasCallers n) e c)),
+      )
 
   pub ran_none : (p : Option HashPart) (os : List (Option HashSeat)) → AreHome region p 0 os → (areas : List AreaPass) → areas ≡ map (λ (x : HashSeat). x.area) (there os) → p ≡ None → areas ≡ []
   ran_none None os h areas a e = a ∙ ap (map (λ (x : HashSeat). x.area)) (none_home region 0 os h)

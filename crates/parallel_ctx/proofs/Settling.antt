@@ -21,7 +21,7 @@ use Rattle.parallel_ctx.specs.Returns.{CanSettle, IsReturned, Returns, claim_of,
 use Rattle.parallel_ctx.specs.Accounts.{Account, IsIdle, account, account_in, account_of, is_over}
 use Rattle.agg_table.specs.Calls.{Use}
 use Rattle.agg_table.specs.declared.part.HashSeat.{HashSeat}
-use Rattle.parallel_ctx.specs.Tokens.{AreNumbered, AreOneRing, AreUnheard, IsFresh, SameQueues, number_in}
+use Rattle.parallel_ctx.specs.Tokens.{AreLeftByLead, AreNumbered, AreOneRing, AreUnheard, IsFresh, SameQueues, number_in}
 use Rattle.parallel_ctx.proofs.Passes.{AreHome, IsHome, comes_home}
 use Rattle.parallel_ctx.proofs.Zips.{AllZip-flip, AllZip-length, AllZip-through}
 
@@ -32,6 +32,12 @@ all_and P R [] [] h z = tt
 all_and P R [] (y ∷ ys) h z = absurd z
 all_and P R (x ∷ xs) [] h z = absurd z
 all_and P R (x ∷ xs) (y ∷ ys) h z = ((All-head P x xs h, z.0), all_and P R xs ys (All-tail P x xs h) z.1)
+
+and_all : {A B : Type 0} (R : A → B → Type 0) (Q : B → Type 0) (xs : List A) (ys : List B) → AllZip R xs ys → All Q ys → AllZip (λ x y. R x y × Q y) xs ys
+and_all R Q [] [] z h = tt
+and_all R Q [] (y ∷ ys) z h = absurd z
+and_all R Q (x ∷ xs) [] z h = absurd z
+and_all R Q (x ∷ xs) (y ∷ ys) z h = ((z.0, All-head Q y ys h), and_all R Q xs ys z.1 (All-tail Q y ys h))
 
 images : {A B C D : Type 0} (R : A → B → Type 0) (S : C → D → Type 0) (f : A → C) (g : B → D) → ((x : A) (y : B) → R x y → S (f x) (g y)) → (xs : List A) (ys : List B) → AllZip R xs ys → AllZip S (map f xs) (map g ys)
 images R S f g h [] [] z = tt
@@ -77,20 +83,22 @@ module _ {E : Type 0} (did : Plan → ℕ → Account → E → Type 0) (uses : 
   -- ---- the queues
 
   pub can_settle : (hs : List Hand) (bs : List (Back E)) (rs qs : List LeaderEnds) → All Fresh hs → All (AreUnheard w) rs → AllZip (Returns did w) hs bs → AllZip AreOneRing hs rs → AllZip SameQueues rs qs
-      → AllZip (CanSettle w.region) bs qs
-  can_settle hs bs rs qs fresh unheard returns rings same =
+      → All AreLeftByLead qs → AllZip (CanSettle w.region) bs qs
+  can_settle hs bs rs qs fresh unheard returns rings same gone =
       let hands = all_and Fresh (Returns did w) hs bs fresh returns in
-      let queues = all_and (AreUnheard w) SameQueues rs qs unheard same in
-      AllZip-through (λ b h. Fresh h × Returns did w h b) (λ h q. (r : LeaderEnds) × AreOneRing h r × (AreUnheard w r × SameQueues r q)) (CanSettle w.region)
+      let queues = and_all (λ r q. AreUnheard w r × SameQueues r q) AreLeftByLead rs qs (all_and (AreUnheard w) SameQueues rs qs unheard same) gone in
+      AllZip-through (λ b h. Fresh h × Returns did w h b) (λ h q. (r : LeaderEnds) × AreOneRing h r × ((AreUnheard w r × SameQueues r q) × AreLeftByLead q)) (CanSettle w.region)
       (λ b h q x y. record {
         errors_here = x.1.ends.errors_region ∙ x.0.errors.here;
         tuples_here = x.1.ends.tuples_region ∙ x.0.tuples.here;
-        queues_here = record { errors = y.2.1.errors_region ∙ y.2.0.errors.here; tuples = y.2.1.tuples_region ∙ y.2.0.tuples.here };
-        errors_ring = x.1.ends.errors_ring ∙ y.1.errors ∙ sym y.2.1.errors_ring;
-        tuples_ring = x.1.ends.tuples_ring ∙ y.1.tuples ∙ sym y.2.1.tuples_ring;
+        queues_here = record { errors = y.2.0.1.errors_region ∙ y.2.0.0.errors.here; tuples = y.2.0.1.tuples_region ∙ y.2.0.0.tuples.here };
+        ends_left = x.1.left;
+        queues_left = y.2.1;
+        errors_ring = x.1.ends.errors_ring ∙ y.1.errors ∙ sym y.2.0.1.errors_ring;
+        tuples_ring = x.1.ends.tuples_ring ∙ y.1.tuples ∙ sym y.2.0.1.tuples_ring;
       })
       bs hs qs (AllZip-flip (λ h b. Fresh h × Returns did w h b) hs bs hands)
-      (AllZip-through AreOneRing (λ r q. AreUnheard w r × SameQueues r q) (λ h q. (r : LeaderEnds) × AreOneRing h r × (AreUnheard w r × SameQueues r q)) (λ h r q x y. (r, x, y)) hs rs qs rings queues)
+      (AllZip-through AreOneRing (λ r q. (AreUnheard w r × SameQueues r q) × AreLeftByLead q) (λ h q. (r : LeaderEnds) × AreOneRing h r × ((AreUnheard w r × SameQueues r q) × AreLeftByLead q)) (λ h r q x y. (r, x, y)) hs rs qs rings queues)
 
   -- ---- the workers
 

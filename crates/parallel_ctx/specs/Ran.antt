@@ -4,6 +4,7 @@ use Rattle.std.specs.List.{AllZip}
 use Rattle.agg_cell.specs.Cell.{stepped}
 use Rattle.agg_table.specs.Calls.{AggEntry, Use}
 use Rattle.agg_table.specs.declared.part.HashPart.{HashPart}
+use Rattle.dsa_area.specs.Shown.{AreAll}
 use Rattle.dshash_parts.specs.Ending.{IsOf, left_of, whole_of}
 use Rattle.dshash_parts.specs.Legal.{PartitionLegal}
 use Rattle.dshash_parts.specs.States.{fresh}
@@ -17,7 +18,8 @@ use Rattle.parallel_ctx.specs.Queues.{IsQueue}
 use Rattle.parallel_ctx.specs.Accounts.{Account, Heard, IsIdle, account_of, heard_of, use_by}
 use Rattle.parallel_ctx.specs.Tokens.{AreNumbered, Prepared}
 
--- of a worker that came home: it did nothing where it did not start, and else kept its promise; its queues are home
+-- of a worker that came home: it did nothing where it did not start, and else kept its promise; its queues are home,
+-- with all ends detached
 pub record Finishes {E : Type 0} (did : Plan → ℕ → Account → E → Type 0) (uses : ℕ → Option Use) (plan : Plan) (blocks : ℕ) (draws : List ℕ) (r : Returned E) : Type 0 where
   pub done : MatchOption r.end (IsIdle (account_of uses draws r)) (λ e. did plan blocks (account_of uses draws r) e)
   pub errors : IsQueue r.errors
@@ -29,7 +31,7 @@ pub record AreWhole (callers : ℕ) (history : ℕ → List AggEntry) : Type 0 w
   pub no_others : (i n : ℕ) → callers ≤ n → calls_by n (history i) ≡ []
 
 -- What the caller learns: of each worker asked for, in order of their numbers, and of the lead what it drew and did. No
--- number was drawn twice
+-- number was drawn twice. The passes of the table's area are one for each participant, in order
 pub record Ran {E L : Type 0} (did : Plan → ℕ → Account → E → Type 0) (leads : Plan → ℕ → List ℕ → Option Use → List Heard → L → Type 0) (p : Prepared) (f : Finished E) (lead : L) : Type 0 where
   pub region : f.region ≡ p.shared.region
   pub own : List ℕ
@@ -43,4 +45,4 @@ pub record Ran {E L : Type 0} (did : Plan → ℕ → Account → E → Type 0) 
   pub launched : f.launched ≡ count_by (λ w. is_some w.end) f.workers.items
   pub table : (part : HashPart) → p.shared.hash ≡ Some part → IsSomeAnd f.table (λ c. AreWhole (suc (length p.hands)) (whole_of c) × (left_of c ≡ 128) × IsOf p.shared.region part.table c)
   pub no_table : p.shared.hash ≡ None → (f.table ≡ None) × (f.areas.items ≡ [])
-  pub areas : (part : HashPart) → p.shared.hash ≡ Some part → length f.areas.items ≡ suc (length p.hands)
+  pub areas : (part : HashPart) → p.shared.hash ≡ Some part → (length f.areas.items ≡ suc (length p.hands)) × AreAll part.area f.areas.items

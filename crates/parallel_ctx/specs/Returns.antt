@@ -17,7 +17,7 @@ use Rattle.scan_claim.specs.declared.claims.ClaimSeat.{ClaimSeat}
 use Rattle.parallel_ctx.specs.declared.home.Returned.{Returned}
 use Rattle.parallel_ctx.specs.Queues.{IsQueue}
 use Rattle.parallel_ctx.specs.Accounts.{Account, IsIdle, account}
-use Rattle.parallel_ctx.specs.Tokens.{AreHere, IsFresh, IsFreshLead, SameEnds, SameSeats}
+use Rattle.parallel_ctx.specs.Tokens.{AreHere, AreLeft, AreLeftByLead, IsFresh, IsFreshLead, SameEnds, SameSeats}
 
 -- a worker may work with these tokens: they are fresh, and their plan is one that it can do
 abbrev pub CanWork : (Plan → ℕ → Type 0) → Shared → Hand → Type 0
@@ -28,11 +28,12 @@ abbrev pub CanLead : (Plan → ℕ → Type 0) → Shared → Seats → List Lea
 CanLead asks w s qs = (plan : Plan) × IsFreshLead plan w s qs × asks plan (blocks_of w.claims)
 
 module _ {E : Type 0} (did : Plan → ℕ → Account → E → Type 0) where
-  -- The same tokens stand in their places. Nothing was done where the worker did not start, and else it kept its
-  -- promise
+  -- The same tokens stand in their places, and its ends are detached. Nothing was done where the worker did not start,
+  -- and else it kept its promise
   pub record Returns (w : Shared) (h : Hand) (b : Back E) : Type 0 where
     pub seats : SameSeats w h.seats b.hand.seats
     pub ends : SameEnds h.ends b.hand.ends
+    pub left : AreLeft b.hand.ends
     pub done : (plan : Plan) → HasPlan h.seats.toc.words plan → MatchOption b.end (IsIdle (account b.hand.seats b.hand.ends)) (λ e. did plan (blocks_of w.claims) (account b.hand.seats b.hand.ends) e)
 
 module _ {W E : Type 0} (did : W → Plan → ℕ → Account → E → Type 0) where
@@ -50,11 +51,13 @@ module _ {W E : Type 0} (did : W → Plan → ℕ → Account → E → Type 0) 
   Brought (Running c) b = Keeps c.promise b
   Brought (Here x) b = b ≡ x
 
--- the lead's ends are those of the rings of a worker that came back
+-- the lead's ends are those of the rings of a worker that came back, and all four are detached
 pub record CanSettle {E : Type 0} (region : TableId) (b : Back E) (q : LeaderEnds) : Type 0 where
   pub errors_here : b.hand.ends.errors.region ≡ region
   pub tuples_here : b.hand.ends.tuples.region ≡ region
   pub queues_here : AreHere region q
+  pub ends_left : AreLeft b.hand.ends
+  pub queues_left : AreLeftByLead q
   pub errors_ring : b.hand.ends.errors.end.ring ≡ q.errors.end.ring
   pub tuples_ring : b.hand.ends.tuples.end.ring ≡ q.tuples.end.ring
 

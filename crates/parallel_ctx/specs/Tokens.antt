@@ -1,5 +1,5 @@
 -- What a participant is given, and what stays of it.
-use Rattle.std.specs.Prelude.{◌≡◌, ◌≤◌, ℕ, suc, List, [], ◌∷◌, All, Option, Some, None, length, map, false, ⊤}
+use Rattle.std.specs.Prelude.{◌≡◌, ◌≤◌, ℕ, suc, List, [], ◌∷◌, All, Option, Some, None, length, map, false, true, ⊤}
 use Rattle.std.specs.List.{AllZip}
 use Rattle.agg_table.specs.Tokens.{IsHashSeat, StaysSeated, callers_of as table_callers}
 use Rattle.agg_table.specs.declared.part.HashPart.{HashPart}
@@ -88,6 +88,18 @@ pub record SameQueues (q p : LeaderEnds) : Type 0 where
 pub record AreHere (region : TableId) (q : LeaderEnds) : Type 0 where
   pub errors : q.errors.region ≡ region
   pub tuples : q.tuples.region ≡ region
+
+-- ---- ends that are detached
+
+-- a worker's ends
+pub record AreLeft (e : WorkerEnds) : Type 0 where
+  pub errors : e.errors.end.gone ≡ true
+  pub tuples : e.tuples.end.gone ≡ true
+
+-- the lead's ends of a worker's queues
+pub record AreLeftByLead (q : LeaderEnds) : Type 0 where
+  pub errors : q.errors.end.gone ≡ true
+  pub tuples : q.tuples.end.gone ≡ true
 
 -- ---- the context
 

@@ -1,7 +1,7 @@
 //! The way home: both ends of each queue come together again, and the seats at the counter of blocks are gathered in
 //! order.
 
-ghost use Rattle.std.specs.Prelude.{◌≡◌, ◌≤◌, ◌<◌, ◌+◌, ◌++◌, [], ◌∷◌, count_by, is_some, map, vec_capacity, vec_len, None, IfSome, IsSomeAnd, MatchOption};
+ghost use Rattle.std.specs.Prelude.{◌≡◌, ◌≤◌, ◌<◌, ◌+◌, ◌++◌, [], ◌∷◌, count_by, is_some, map, true, vec_capacity, vec_len, None, IfSome, IsSomeAnd, MatchOption};
 ghost use Rattle.std.specs.List.{AllZip};
 ghost use Rattle.agg_table.specs.Ending.{AreSeats, IsClosed};
 ghost use Rattle.agg_table.specs.Tokens.{IsPart};
@@ -47,11 +47,13 @@ pub struct Finished<E> {
     pub areas: Vec<AreaPass>,
 }
 
-/// Brings both ends of a queue home.
+/// Brings both ends of a queue home, which are detached.
 fn bring_home(r: &Region, s: Sender, q: Receiver) -> MqDone
     requires here { s.region ≡ r.now }
     requires q_here { q.region ≡ r.now }
     requires one_ring { s.end.ring ≡ q.end.ring }
+    requires sender_left { s.end.gone ≡ true }
+    requires receiver_left { q.end.gone ≡ true }
     ensures sender { result.sender ≡ s.end }
     ensures receiver { result.receiver ≡ q.end }
     ensures queue { IsQueue result }

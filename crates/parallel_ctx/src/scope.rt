@@ -9,7 +9,7 @@ ghost use Rattle.scan_claim.specs.Shown.{blocks_of, draws_of};
 ghost use Rattle.parallel_ctx.specs.Accounts.{heard};
 ghost use Rattle.parallel_ctx.specs.Ready.{IsReady};
 ghost use Rattle.parallel_ctx.specs.Returns.{CanLead, Returns};
-ghost use Rattle.parallel_ctx.specs.Tokens.{AreHere, SameQueues, SameSeats};
+ghost use Rattle.parallel_ctx.specs.Tokens.{AreHere, AreLeftByLead, SameQueues, SameSeats};
 
 use crate::roles::{Lead, Worker};
 use crate::start::{Back, Placed, bring_all, launch_all};
@@ -25,6 +25,7 @@ fn leave_queue(r: &Region, queue: &mut LeaderEnds)
     requires errors { queue.old.errors.region ≡ r.now }
     requires tuples { queue.old.tuples.region ≡ r.now }
     ensures same { SameQueues queue.old queue.new }
+    ensures left { AreLeftByLead queue.new }
     ensures heard { heard queue.new ≡ heard queue.old }
 {
     queue.errors.detach(r);
@@ -35,6 +36,7 @@ fn leave_queue(r: &Region, queue: &mut LeaderEnds)
 fn leave_all(r: &Region, queues: &mut [LeaderEnds])
     requires { All (AreHere r.now) queues.old }
     ensures same { AllZip SameQueues queues.old queues.new }
+    ensures left { All AreLeftByLead queues.new }
     ensures heard { map heard queues.new ≡ map heard queues.old }
 {
     for at in 0..queues.len() {
@@ -53,6 +55,7 @@ fn lead_and_leave<L: Lead, R: Wait + Sync>(
     requires { CanLead (L.asks lead.old) shared.now leader.old queues.old }
     ensures seats { SameSeats shared.now leader.old leader.new }
     ensures queues { AllZip SameQueues queues.old queues.new }
+    ensures left { All AreLeftByLead queues.new }
     ensures led { (plan : Plan) → HasPlan leader.old.toc.words plan → L.led lead.old plan (blocks_of shared.now.claims) (draws_of leader.new.claim) (use_in leader.new.hash) (map heard queues.new) lead.new }
 {
     lead.lead(rt, shared, leader, queues);
@@ -87,6 +90,7 @@ where
     ensures workers { AllZip (Returns (W.did worker.now) shared.now) hands.items result.backs.items }
     ensures seats { SameSeats shared.now leader result.leader }
     ensures queues { AllZip SameQueues queues.items result.queues.items }
+    ensures left { All AreLeftByLead result.queues.items }
     ensures led { (plan : Plan) → HasPlan leader.toc.words plan → L.led lead.old plan (blocks_of shared.now.claims) (draws_of result.leader.claim) (use_in result.leader.hash) (map heard result.queues.items) lead.new }
 {
     let placed = launch_all(scope, rt, worker, shared, flags, hands, placed);
@@ -116,6 +120,7 @@ pub(crate) fn serve<W: Worker, L: Lead, R: Threads + Wait + Sync>(
     ensures workers { AllZip (Returns (W.did worker.now) shared.now) hands.items result.backs.items }
     ensures seats { SameSeats shared.now leader result.leader }
     ensures queues { AllZip SameQueues queues.items result.queues.items }
+    ensures left { All AreLeftByLead result.queues.items }
     ensures led { (plan : Plan) → HasPlan leader.toc.words plan → L.led lead.old plan (blocks_of shared.now.claims) (draws_of result.leader.claim) (use_in result.leader.hash) (map heard result.queues.items) lead.new }
 {
     let (served, lead) = thread::scope(
@@ -126,6 +131,7 @@ pub(crate) fn serve<W: Worker, L: Lead, R: Threads + Wait + Sync>(
             ensures workers { AllZip (Returns (W.did worker.entry.now) shared.entry.now) hands.items result.0.backs.items }
             ensures seats { SameSeats shared.entry.now leader result.0.leader }
             ensures queues { AllZip SameQueues queues.items result.0.queues.items }
+            ensures left { All AreLeftByLead result.0.queues.items }
             ensures led { (plan : Plan) → HasPlan leader.toc.words plan → L.led lead.entry.now plan (blocks_of shared.entry.now.claims) (draws_of result.0.leader.claim) (use_in result.0.leader.hash) (map heard result.0.queues.items) result.1.now }
             ensures lent { result.1.ghost_name ≡ lead.entry.ghost_name }
         {

@@ -7,7 +7,7 @@
 ghost use Rattle.std.specs.Prelude.{◌≡◌, ◌≤◌, [], All, length, vec_capacity, vec_len};
 ghost use Rattle.std.specs.List.{AllZip};
 ghost use Rattle.parallel_ctx.specs.Returns.{Brought, CanWork, Carries, Keeps, Returns};
-ghost use Rattle.parallel_ctx.specs.Tokens.{SameEnds};
+ghost use Rattle.parallel_ctx.specs.Tokens.{AreLeft, SameEnds};
 
 use crate::roles::Worker;
 use crate::tokens::{Hand, Shared, WorkerEnds};
@@ -65,6 +65,7 @@ fn leave(r: &Region, ends: &mut WorkerEnds)
     requires errors { ends.old.errors.region ≡ r.now }
     requires tuples { ends.old.tuples.region ≡ r.now }
     ensures ends { SameEnds ends.old ends.new }
+    ensures left { AreLeft ends.new }
     ensures errors { ends.new.errors.end.put ≡ ends.old.errors.end.put }
     ensures tuples { ends.new.tuples.end.put ≡ ends.old.tuples.end.put }
     ensures errors_flag { ends.new.errors.end.flag_value ≡ ends.old.errors.end.flag_value }

@@ -20,7 +20,8 @@ use Rattle.scan_claim.specs.Drawing.{is_spent}
 use Rattle.gather_law.specs.Tuples.{AreBlocks, Group, IsTupleOf, Table, groups_of}
 use Rattle.worker_run.specs.Ended.{HasEnded, IsNotice, IsOwnRow, IsRefused, found_gone, sends_of}
 use Rattle.worker_run.specs.Sent.{AreWritten, FoundGone, HasSent, StoppedSending, tuples_of}
-use Rattle.worker_run.specs.Steps.{Finishes, GivesUp}
+use Rattle.worker_run.specs.Notices.{GivesUp}
+use Rattle.worker_run.specs.Steps.{Finishes}
 use Rattle.worker_run.specs.Working.{IsWorking}
 use Rattle.worker_run.specs.declared.WorkerEnd.{WorkerEnd}
 use Rattle.worker_run.specs.declared.WorkerEnd.TheVariants.{Finished, Stopped, Refused, NoMemory}
@@ -58,9 +59,9 @@ module _ (plan : Plan) (records : Table) where
       → Finishes (length plan.items) groups errors tuples errors' tuples' end → HasEnded plan records blocks draws' (sends_of errors' tuples') end
   unfolding working-flush
   has_finished blocks draws draws' groups errors tuples errors' tuples' Finished a w late spent f =
-      let flushed = working-flush plan records draws groups map.empty errors tuples tuples' w (record { empty = refl; all = f.0 }) in
+      let flushed = working-flush plan records draws groups map.empty errors tuples tuples' w (record { empty = refl; all = f.sent }) in
       let same = late_draw plan records blocks draws draws' a late in
-      let said : whole_of errors'.put ≡ encoding message.End ∷ [] = f.1.sent ∙ ap (λ l. l ++ encoding message.End ∷ []) w.silent in
+      let said : whole_of errors'.put ≡ encoding message.End ∷ [] = f.said.sent ∙ ap (λ l. l ++ encoding message.End ∷ []) w.silent in
       record {
         ended = record {
           spent = spent;

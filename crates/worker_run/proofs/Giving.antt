@@ -22,7 +22,8 @@ use Rattle.tuple_codec.specs.Tuple.{tuple_bytes}
 use Rattle.gather_law.specs.Tuples.{AreBlocks, Group, IsTupleOf, Table, groups_of, rows_of_blocks}
 use Rattle.worker_run.specs.Ended.{IsNotice, sends_of}
 use Rattle.worker_run.specs.Sent.{FoundGone, HasSent, HasSentAll, HasZeros, IsReady, tuples_of}
-use Rattle.worker_run.specs.Steps.{Finishes, GivesUp}
+use Rattle.worker_run.specs.Notices.{GivesUp}
+use Rattle.worker_run.specs.Steps.{Finishes}
 use Rattle.worker_run.specs.Tabled.{GivesGroup, GivesGroups, HasEndedBy, IsTabling, StoppedGiving, groups_of_blocks}
 use Rattle.worker_run.specs.declared.WorkerEnd.{WorkerEnd}
 use Rattle.worker_run.specs.declared.WorkerEnd.TheVariants.{Finished, Stopped, Refused, NoMemory}
@@ -161,8 +162,8 @@ module _ (plan : Plan) (records : Table) where
       → (draws' ≡ draws) ⊎ ((n : ℕ) × (blocks ≤ n) × (draws' ≡ draws ++ n ∷ [])) → IsTrue (is_spent blocks draws')
       → Finishes (length plan.items) groups errors tuples errors' tuples' end → HasEndedBy plan records blocks draws' u (sends_of errors' tuples') end
   table_finished blocks draws draws' groups u errors tuples errors' tuples' Finished a none w late spent f =
-      let same = sent_none groups tuples tuples' none f.0 in
-      let said : whole_of errors'.put ≡ encoding message.End ∷ [] = f.1.sent ∙ ap (λ l. l ++ encoding message.End ∷ []) w.silent in
+      let same = sent_none groups tuples tuples' none f.sent in
+      let said : whole_of errors'.put ≡ encoding message.End ∷ [] = f.said.sent ∙ ap (λ l. l ++ encoding message.End ∷ []) w.silent in
       record {
         ended = record {
           spent = spent;

@@ -1,4 +1,7 @@
 mod Sent
+pub mod Anys
+pub mod Judging
+pub mod Saying
 pub mod Working
 pub mod Ends
 pub mod Giving

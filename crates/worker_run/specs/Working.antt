@@ -10,6 +10,10 @@ use Rattle.ring_rule.specs.Ring.{Sending}
 use Rattle.gather_law.specs.Tuples.{Table, groups_of, rows_of_blocks}
 use Rattle.worker_run.specs.Sent.{AreWritten, IsReady, tuples_of}
 
+-- a worker goes on to its next block with fewer groups than this
+abbrev pub most_kept : ℕ
+most_kept = 1048576
+
 -- Of the rows of its blocks, none of which is refused, it has sent the groups of some batches, and keeps those of the
 -- others in its map. It has sent no notice
 pub record IsWorking (plan : Plan) (records : Table) (draws : List ℕ) (groups : GroupsByKey) (errors tuples : Sending) : Type 0 where

@@ -8,7 +8,8 @@
 
 #![tactic(auto)]
 
-ghost use Rattle.std.specs.Prelude.{◌≡◌, ◌≤◌, ℕ, IfNone, IfSome, [], length, true};
+ghost use Rattle.std.specs.Prelude.{◌≡◌, ◌<◌, ◌≤◌, ℕ, IfNone, IfSome, [], length, true};
+ghost use Rattle.std.specs.FinMap as map;
 ghost use Rattle.agg_table.specs.Tokens.{IsHashSeat, StaysSeated, use_in};
 ghost use Rattle.par_model.specs.Columns.{HasColumns};
 ghost use Rattle.par_model.specs.Plan.{Plan};
@@ -20,7 +21,7 @@ ghost use Rattle.worker_run.specs.Sent.{IsFreshQueue};
 ghost use Rattle.worker_run.specs.Ended.{HasEnded, sends_of};
 ghost use Rattle.worker_run.specs.Steps.{KeepsQueues};
 ghost use Rattle.worker_run.specs.Tabled.{EndsWith};
-ghost use Rattle.worker_run.specs.Working.{IsWorking};
+ghost use Rattle.worker_run.specs.Working.{IsWorking, most_kept};
 
 use agg_table::{HashPart, HashSeat};
 use csv_rows::RowStore;
@@ -30,17 +31,21 @@ use partial_agg::GroupMap;
 use plan_spec::plan_in;
 use region_words::Region;
 use scan_claim::{ClaimSeat, Claims};
-use sending::{finish, give_up, send_groups};
+use sending::{finish, send_groups};
 use shm_toc::FrozenToc;
 use std::alloc::Global;
 use std::sync::Wait;
 use tabled::table_all;
 
 mod gate;
+mod notices;
 mod sending;
 mod tabled;
+mod verdicts;
 
 pub use gate::{Gate, OpenGate};
+pub use notices::{News, end_in_order, give_up, hear_last, hear_notices};
+pub use verdicts::verdict_with;
 
 /// A worker sends its groups once it holds so many after a block.
 const MOST_KEPT: usize = 1_048_576;
@@ -91,6 +96,7 @@ fn work_next<G: Gate, R: Wait>(
     ensures errors_kept { errors.new ≡ record errors.old { end = errors.new.end } }
     ensures tuples_kept { tuples.new ≡ record tuples.old { end = tuples.new.end } }
     ensures queues { KeepsQueues errors.old.end tuples.old.end errors.new.end tuples.new.end }
+    ensures few { IfNone result (map.len groups.new < most_kept) }
     ensures working { IfNone result (IsWorking plan.now rows.now (draws_of claim.new) groups.new errors.new.end tuples.new.end) }
     ensures ended { IfSome result (HasEnded plan.now rows.now (blocks_of claims.now) (draws_of claim.new) (sends_of errors.new.end tuples.new.end)) }
 {

@@ -15,7 +15,8 @@ ghost use Rattle.worker_run.specs.Steps.{KeepsQueues};
 ghost use Rattle.worker_run.specs.Tabled.{GivesGroup, GivesGroups, HasEndedBy, IsTabling, StoppedGiving};
 
 use crate::gate::Gate;
-use crate::sending::{finish, give_up, send_group};
+use crate::notices::give_up;
+use crate::sending::{finish, send_group};
 use crate::{WorkerEnd, slots_of};
 use agg_table::{HashPart, HashSeat};
 use csv_rows::RowStore;

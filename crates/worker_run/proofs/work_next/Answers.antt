@@ -1,12 +1,13 @@
-use Rattle.std.proofs.Common.{rules, ◌≡◌, ◌+◌, ◌++◌, [], ◌∷◌, ◌∙◌, subst, sym, arith}
+use Rattle.std.proofs.Common.{rules, ◌≡◌, ◌<◌, ℕ, List, ◌+◌, ◌++◌, [], ◌∷◌, ◌∙◌, subst, sym, arith}
 use Rattle.std.specs.FinMap as map
 use Rattle.std.specs.List.{AllByRecursion}
-use Rattle.partial_agg.specs.Groups.{GroupsByKey}
+use Rattle.par_model.specs.declared.state.AggState.{AggState}
+use Rattle.partial_agg.specs.Groups.{GroupsByKey, key_cmp}
 use Rattle.mq_ring.specs.Ends.{SendingEnd}
 use Rattle.scan_claim.specs.Shown.{blocks_of, draws_of}
 use Rattle.worker_run.specs.Sent.{HasSentGroups, HasZeros, StoppedSending}
 use Rattle.worker_run.specs.Steps.{Finishes}
-use Rattle.worker_run.specs.Working.{IsWorking}
+use Rattle.worker_run.specs.Working.{IsWorking, most_kept}
 use Rattle.worker_run.proofs.Ends.{has_finished, has_given_up, has_stopped}
 use Rattle.worker_run.proofs.Working.{working-block, working-flush, working_zeros}
 use Rattle.worker_run.proofs.work_next.Goals as goal
@@ -67,3 +68,11 @@ returns-then-not-send_groups-clause-ended g c =
     has_stopped plan records (blocks_of c.args.claims.now) (draws_of c.args.claim.now ++ c.in-Some.block ∷ []) (draws_of c.claim.new.self) c.add_block.new.self c.args.errors.now.end c.args.tuples.now.end
     c.send_groups.new.tuples.end now
     (subst (λ n. StoppedSending n c.args.tuples.now.end c.send_groups.new.tuples.end) c.slots_of-then-len-ge-MOST_KEPT.ensures.items c.if-not-send_groups.ensures.sent)
+
+pub returns-clause-few : goal.returns-clause-few
+returns-clause-few g c =
+    elim c.else-len-ge-MOST_KEPT.branch [
+      | else-len-ge-MOST_KEPT-via-then-len-ge-MOST_KEPT+else-not-send_groups w ↦
+          subst (λ (m : GroupsByKey). map.len m < most_kept) (sym (w.groups-is ∙ w.if-not-send_groups.ensures.sent.empty)) (subst (λ (n : ℕ). n < most_kept) (sym (map.len-empty key_cmp AggState)) (let some : 0 < 1048576 = omega arith in some))
+      | else-len-ge-MOST_KEPT-via-else-len-ge-MOST_KEPT w ↦ subst (λ (m : GroupsByKey). map.len m < most_kept) (sym w.groups-is) (let less = w.if-len-ge-MOST_KEPT.false in let is = c.len.ensures in omega (arith, less, is))
+    ]

@@ -3,7 +3,13 @@ use Rattle.agg_table.specs.Tokens.{use_in}
 use Rattle.scan_claim.specs.Shown.{blocks_of, draws_of}
 use Rattle.worker_run.proofs.Ends.{refused_row}
 use Rattle.gather_run.specs.Leading.{IsLeading}
-use Rattle.gather_run.specs.Sharing.{StopsAtRow}
+use Rattle.gather_run.specs.Sharing.{StopsAt}
+use Rattle.gather_run.specs.Did.{Answers}
+use Rattle.gather_run.specs.Steps.{BlockStep}
+use Rattle.gather_run.specs.declared.GatherAnswer.{GatherAnswer}
+use Rattle.gather_run.specs.declared.leading.Step.TheVariants.{Failed}
+use Rattle.partial_agg.specs.declared.map.BlockAnswer.{BlockAnswer}
+use Rattle.partial_agg.specs.declared.map.BlockAnswer.TheVariants as block
 use Rattle.gather_run.proofs.Parts.{first_row, leading-block, leading-late}
 use Rattle.gather_run.proofs.leading.lead_block.Goals as goal
 
@@ -13,18 +19,24 @@ returns-in_default-clause-step g c tuples l = (
   c.claim.ensures.none.0 (search rules),
 )
 
-pub returns-in-Ok-clause-step : goal.returns-in-Ok-clause-step
-returns-in-Ok-clause-step g c tuples l =
+pub returns-clause-step : goal.returns-clause-step
+returns-clause-step g c tuples l =
     subst (λ ds. IsLeading c.args.plan.now c.args.rows.now ds (use_in c.do_block.new.seat) tuples c.do_block.new.groups) (sym c.in-Some.ensures.drawn.1)
-    (leading-block c.args.plan.now c.args.rows.now (draws_of c.args.claim.now) c.in-Some.block (use_in c.args.seat.now) (use_in c.do_block.new.seat) tuples c.args.groups.now c.do_block.new.groups l c.in-Ok.ensures.accepted c.in-Ok.ensures.done)
+    (leading-block c.args.plan.now c.args.rows.now (draws_of c.args.claim.now) c.in-Some.block (use_in c.args.seat.now) (use_in c.do_block.new.seat) tuples c.args.groups.now c.do_block.new.groups l c.in_default-do_block.ensures.accepted c.in_default-do_block.ensures.done)
 
-pub returns-in-Err-Row-clause-step : goal.returns-in-Err-Row-clause-step
-returns-in-Err-Row-clause-step g c tuples l =
-    let e = c.in-Err-Row in
-    let s : StopsAtRow c.args.plan.now c.args.rows.now c.in-Some.block e.row e.cause e.item = rw e.field-0-is at e.ensures.stopped in
-    record {
-      refused = refused_row c.args.plan.now c.args.rows.now c.in-Some.block e.row e.cause e.item s.before s.now s.stopped;
-      first = λ alone.
-          first_row c.args.plan.now c.args.rows.now (draws_of c.args.claim.now) (draws_of c.claim.new.self) c.in-Some.block e.row e.cause e.item s.before s.now
-          (c.requires.in_order alone) (c.claim.ensures.in_order alone) c.in-Some.ensures.drawn.1 l.accepted s.stopped;
-    }
+pub returns-in-Err-clause-step : goal.returns-in-Err-clause-step
+returns-in-Err-clause-step g c tuples l =
+    by c.in-Err.why c.answer_of.result c.answer_of.ensures c.in-Err.ensures.stopped
+  where
+    After : GatherAnswer → Type 0
+    After answer = BlockStep c.args.plan.now c.args.rows.now c.args.claims.now (draws_of c.claim.new.self) (use_in c.do_block.new.seat) tuples c.do_block.new.groups (Failed answer)
+
+    by : (why : BlockAnswer) (answer : GatherAnswer) → Answers why answer → StopsAt c.args.plan.now c.args.rows.now c.in-Some.block why → After answer
+    by (block.Row row cause item) answer e s =
+        subst After (sym e) (record {
+          refused = refused_row c.args.plan.now c.args.rows.now c.in-Some.block row cause item s.before s.now s.stopped;
+          first = λ alone.
+              first_row c.args.plan.now c.args.rows.now (draws_of c.args.claim.now) (draws_of c.claim.new.self) c.in-Some.block row cause item s.before s.now
+              (c.requires.in_order alone) (c.claim.ensures.in_order alone) c.in-Some.ensures.drawn.1 l.accepted s.stopped;
+        })
+    by block.Memory answer e s = subst After (sym e) tt

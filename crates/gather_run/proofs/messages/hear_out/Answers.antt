@@ -11,7 +11,16 @@ loop-preserved g c = record {
   finite = tt;
   open_are = c.hear_all.ensures.«open»;
   same = all-trans c.args.queues.now c.loop.queues c.hear_all.new.queues c.loop.invariant.same c.hear_all.ensures.same;
-  leading = λ p r d u l. c.in-Quiet.ensures.heard p r d u (c.loop.invariant.leading p r d u l);
+  leading = λ p r d u l. c.in-More-false.ensures.heard p r d u (c.loop.invariant.leading p r d u l);
+}
+
+pub loop-preserved-in-More-true : goal.loop-preserved-in-More-true
+loop-preserved-in-More-true g c = record {
+  can_next = tt;
+  finite = tt;
+  open_are = c.hear_all.ensures.«open»;
+  same = all-trans c.args.queues.now c.loop.queues c.hear_all.new.queues c.loop.invariant.same c.hear_all.ensures.same;
+  leading = λ p r d u l. c.in-More-true.ensures.heard p r d u (c.loop.invariant.leading p r d u l);
 }
 
 pub returns-in-Ended-clause-same : goal.returns-in-Ended-clause-same

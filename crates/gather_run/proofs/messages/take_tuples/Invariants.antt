@@ -3,9 +3,7 @@ use Rattle.gather_run.specs.Looks.{Takes}
 use Rattle.gather_run.proofs.messages.take_tuples.Given as goal
 
 abbrev pub invariant-loop : goal.invariant-loop
-invariant-loop g l = record {
-  can_next : (goal.iterator-loop g).can_next l.iterator';
-  finite : (goal.iterator-loop g).is_finite l.iterator';
+invariant-loop l = record {
   region : l.tuples.region ≡ l.initial.tuples.region;
   ring : l.tuples.end.ring ≡ l.initial.tuples.end.ring;
   stays : l.tuples.end.gone ≡ false;

@@ -44,7 +44,7 @@ pub settle_all-workers-requires-clause-queues : goal.settle_all-workers-requires
 settle_all-workers-requires-clause-queues g c =
     let i = c.self.invariant in
     can_settle (g.W.Worker.did c.args.worker.now) (λ _. None) c.self.inside.shared c.self.inside.plan.value c.self.inside.hands.items c.serve-backs.result.backs.items c.self.inside.receivers.items c.serve-backs.result.queues.items
-    i.hands i.receivers c.serve-backs.ensures.workers i.rings c.serve-backs.ensures.queues
+    i.hands i.receivers c.serve-backs.ensures.workers i.rings c.serve-backs.ensures.queues c.serve-backs.ensures.left
 
 pub settle_all-workers-requires-clause-room : goal.settle_all-workers-requires-clause-room
 settle_all-workers-requires-clause-room g c =
@@ -186,5 +186,5 @@ returns-clause-ran g c =
       launched = c.count_ends-launched.ensures ∙ ap (count_by (λ r. is_some r.end)) c.deref-2.ensures.value;
       table = λ part is. ran_table w.region (λ c. whole_of c) (λ c. left_of c) (λ r p c. IsOf r p.table c) part c.self.inside.leader.number c.self.inside.leader.hash (suc (length hs)) table c.settle_all-workers.result.hashes.items w.hash is c.self.invariant.leader.hash c.self.invariant.hash t.closed;
       no_table = λ none. (t.none none, ran_none w.region w.hash os home areas areas_are none);
-      areas = λ part is. ran_areas w.region w.hash os home areas areas_are part is ∙ as_many;
+      areas = λ part is. ran_areas w.region part os (suc (length hs)) c.self.inside.leader.number c.self.inside.leader.hash w.hash is home as_many c.self.invariant.leader.hash c.self.invariant.hash areas areas_are;
     })

@@ -10,6 +10,7 @@ returns-then-load g c =
     record {
       seats = record { number = refl; toc = refl; claim = fresh.seats.claim; same = refl; hash = stays_seated c.args.shared.now.region c.args.hand.seats.number c.args.shared.now.hash c.args.hand.seats.hash fresh.seats.hash };
       ends = c.leave.ensures.ends;
+      left = c.leave.ensures.left;
       done = λ plan has. record {
         draws = fresh.seats.drawn;
         used = unused_table c.args.shared.now.region c.args.hand.seats.number c.args.shared.now.hash c.args.hand.seats.hash fresh.seats.hash;
