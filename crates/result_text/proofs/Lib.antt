@@ -10,3 +10,4 @@ mod Tables
 pub mod Uses
 mod Whole
 mod Zipped
+pub mod Ranges

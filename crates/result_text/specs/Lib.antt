@@ -3,3 +3,4 @@ pub mod Printable
 pub mod Text
 pub mod Order
 pub mod Written
+pub mod Parts

@@ -11,20 +11,24 @@ ghost use Rattle.par_model.specs.Named.{bound_plan};
 ghost use Rattle.par_model.specs.Outcome.{IsAnswer};
 ghost use Rattle.partial_agg.specs.Groups.{AreGroups, GroupsByKey};
 ghost use Rattle.partial_agg.specs.Listed.{listed};
+ghost use Rattle.result_text.specs.Parts.{joined};
 ghost use Rattle.result_text.specs.Printable.{ArePrintable, IsBoundFrom};
 ghost use Rattle.result_text.specs.Text.{IsTextOf};
 
 mod decimal;
 mod order;
+mod parts;
 mod table;
 mod values;
 
 use crate::order::in_order;
+use crate::parts::{behind, lines_in_threads};
 use crate::table::TableWriter;
 use par_model::BoundPlan;
 use partial_agg::Groups;
 use plan_spec::Plan;
 use std::alloc::{AllocError, Global};
+use std::thread::Threads;
 
 /// The text of the table of some groups, under the plan that they were made by and its columns. The groups are only
 /// read. An error is want of memory. It takes memory for the text and 24 bytes a group; the time is that of the text,
@@ -49,3 +53,37 @@ pub fn text_of(
     table.write_groups(bound, groups, &refs)?;
     table.into_text()
 }
+
+/// The same text in pieces, one behind the other, made by at most so many threads, the caller's among them. It takes the
+/// memory that [`text_of`] takes; the text is never in one list. The lines are shared out, not the sort.
+pub fn text_in_threads<R: Threads + Sync>(
+    rt: &R,
+    alloc: Global,
+    plan: &Plan,
+    bound: &BoundPlan,
+    groups: &Groups,
+    threads: usize,
+) -> Result<Vec<Vec<u8>>, AllocError>
+    requires bound { IsBoundFrom plan.now.plan bound.now }
+    requires printable { ArePrintable bound.now groups.now }
+    ensures text { IfOk result (λ pieces. IsTextOf plan.now.plan bound.now groups.now (joined pieces.items)) }
+
+    // Where the groups are those of some rows under a header, the text answers the plan over them.
+    ensures answer { IfOk result (λ pieces. (header : List (List ℕ)) (rows : List (List (List ℕ))) (m : GroupsByKey)
+        → bound.now ≡ bound_plan header plan.now.plan → AreGroups bound.now rows m → groups.now ≡ listed m → IsAnswer plan.now.plan (header ∷ rows) (joined pieces.items)) }
+{
+    let paying = threads.min(groups.len() / FEWEST_GROUPS);
+    if bound.group_count == 0 || paying < 2 {
+        let text = text_of(alloc, plan, bound, groups)?;
+        return behind(alloc, text, Vec::new(alloc));
+    }
+    let refs = in_order(alloc, groups, bound.group_count)?;
+    let mut table = TableWriter::new(alloc);
+    table.write_header(plan, bound)?;
+    let header = table.into_text()?;
+    let parts = lines_in_threads(rt, alloc, bound, groups, &refs, paying)?;
+    behind(alloc, header, parts)
+}
+
+/// The fewest groups for which one more thread pays.
+const FEWEST_GROUPS: usize = 2048;

@@ -73,7 +73,7 @@ impl TableWriter {
     }
 
     /// A line for each group.
-    fn write_each(
+    pub(crate) fn write_each(
         &mut self,
         bound: &BoundPlan,
         groups: &Groups,
