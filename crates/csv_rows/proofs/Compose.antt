@@ -23,7 +23,7 @@ IsSane st.InEscape fields field = ⊥
 IsSane st.InComment fields field = ⊥
 
 -- what a step makes of a record at hand, where it ends none
-abbrev Steps : State × Action → ℕ → List (List ℕ) → List ℕ → Type 0
+abbrev pub Steps : State × Action → ℕ → List (List ℕ) → List ℕ → Type 0
 Steps p c fields field = IsSane p.0 [] [] × (is_end p.1 ≡ false → IsSane p.0 (fields_after p.1 fields field) (field_after p.1 c field))
 
 in_field-steps : (c : ℕ) (fields : List (List ℕ)) (field : List ℕ) → Steps (in_field default_config c) c fields field
@@ -44,7 +44,7 @@ start_record-steps c = elim (cases_Bool (c == 13)) [
   | inr r ↦ elim (cases_Bool (c == 10)) [ inl l ↦ rw (r, l) ((refl, refl), λ h. (refl, refl)) | inr l ↦ rw (r, l) (rw (r, l) at (start_field-steps c [] [])) ]
 ]
 
-step-steps : (s : State) (c : ℕ) (fields : List (List ℕ)) (field : List ℕ) → IsSane s fields field → Steps (step default_config s c) c fields field
+pub step-steps : (s : State) (c : ℕ) (fields : List (List ℕ)) (field : List ℕ) → IsSane s fields field → Steps (step default_config s c) c fields field
 step-steps st.StartRecord c fields field h = rw (h.0, h.1) (start_record-steps c)
 step-steps st.StartField c fields field h = start_field-steps c fields field
 step-steps st.InField c fields field h = in_field-steps c fields field
@@ -90,7 +90,7 @@ state-append s [] b = refl
 state-append s (c ∷ a) b = state-append (step default_config s c).0 a b
 
 -- a byte order mark is at the front of the first piece alone
-strip-front : (a b : List ℕ) → strip_bom (a ++ (10 ∷ b)) ≡ strip_bom a ++ (10 ∷ b)
+pub strip-front : (a b : List ℕ) → strip_bom (a ++ (10 ∷ b)) ≡ strip_bom a ++ (10 ∷ b)
 unfolding strip_bom
 strip-front [] [] = refl
 strip-front [] (x ∷ []) = refl

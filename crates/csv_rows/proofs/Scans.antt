@@ -29,10 +29,10 @@ other-other place.Quoted x y = refl
 other-other place.Opens x y = elim (cases_Bool ((x == 44) || (x == 13) || (x == 10))) [ inl e ↦ rw e refl | inr e ↦ rw e refl ]
 other-other place.Inside x y = elim (cases_Bool ((x == 44) || (x == 13) || (x == 10))) [ inl e ↦ rw e refl | inr e ↦ rw e refl ]
 
-no-quote-head : (x : ℕ) (xs : List ℕ) → NoQuote (x ∷ xs) → (x == 34) ≡ false
+pub no-quote-head : (x : ℕ) (xs : List ℕ) → NoQuote (x ∷ xs) → (x == 34) ≡ false
 no-quote-head x xs h = elim (cases_Bool (x == 34)) [ inl e ↦ absurd (h 0 (omega arith) (eqb-true x 34 e)) | inr e ↦ e ]
 
-no-quote-tail : (x : ℕ) (xs : List ℕ) → NoQuote (x ∷ xs) → NoQuote xs
+pub no-quote-tail : (x : ℕ) (xs : List ℕ) → NoQuote (x ∷ xs) → NoQuote xs
 no-quote-tail x xs h = λ k lt. h (suc k) (omega arith)
 
 pub others-last : (p : Place) (xs : List ℕ) → NoQuote xs → 0 < length xs → place_after p xs ≡ after_other p (slice_index xs (length xs - 1))

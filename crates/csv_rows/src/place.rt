@@ -11,14 +11,14 @@ use memchr::memchr;
 
 /// Between quotes, where a quote would begin such a text, or where it would be a byte as any other.
 #[derive(Clone, Copy, Drop, PartialEq, Eq)]
-pub(crate) enum Place {
+pub enum Place {
     Quoted,
     Opens,
     Inside,
 }
 
-/// Where a scan stands after these bytes, from a place before them.
-pub(crate) fn scanned(bytes: &[u8], start: Place) -> Place
+/// Where a scan stands after these bytes, from a place before them. In linear time.
+pub fn scanned(bytes: &[u8], start: Place) -> Place
     ensures { result ≡ place_after start bytes.now }
 {
     let mut place = start;
@@ -31,7 +31,7 @@ pub(crate) fn scanned(bytes: &[u8], start: Place) -> Place
 }
 
 /// After a quote.
-pub(crate) fn past_quote(place: Place) -> Place
+pub fn past_quote(place: Place) -> Place
     ensures { result ≡ after_quote place }
 {
     match place {
@@ -41,8 +41,8 @@ pub(crate) fn past_quote(place: Place) -> Place
     }
 }
 
-/// After bytes of which none is a quote.
-pub(crate) fn past_others(bytes: &[u8], start: Place) -> Place
+/// After bytes of which none is a quote. In constant time.
+pub fn past_others(bytes: &[u8], start: Place) -> Place
     requires { NoQuote bytes.now }
     ensures { result ≡ place_after start bytes.now }
 {

@@ -34,7 +34,7 @@ filter_twice p (x ∷ xs) = by (filter_twice p xs) (p x) refl
     by h true e = rw e (ap (λ l. x ∷ l) h)
     by h false e = h
 
-filter_apart : {X : Type 0} (p q : X → Bool) (apart : (x : X) → p x ≡ true → q x ≡ false) (xs : List X) → filter q (filter p xs) ≡ []
+pub filter_apart : {X : Type 0} (p q : X → Bool) (apart : (x : X) → p x ≡ true → q x ≡ false) (xs : List X) → filter q (filter p xs) ≡ []
 filter_apart p q apart [] = refl
 filter_apart p q apart (x ∷ xs) = by (filter_apart p q apart xs) (p x) refl
   where

@@ -1,0 +1,5 @@
+pub mod Seams
+pub mod Places
+pub mod Stretches
+pub mod Later
+pub mod Cuts

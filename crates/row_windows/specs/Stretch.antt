@@ -1,0 +1,29 @@
+-- A stretch of the text of a source.
+use Rattle.std.specs.Prelude.{◌≡◌, ◌≤◌, ◌+◌, ◌-◌, ◌++◌, ℕ, List, Option, drop, length, take}
+use Rattle.std.specs.Io.KnownBytes.{Consumes}
+use Rattle.row_windows.specs.declared.window.TheConstants.{MOST_RECORD_BYTES}
+
+-- the line of the header, whole lines, and what was read behind them
+pub record Stretch : Type 0 where
+  pub header : List ℕ
+  pub lines : List ℕ
+  pub rest : List ℕ
+
+-- the bytes from one place of a text to another
+abbrev pub between : ℕ → ℕ → List ℕ → List ℕ
+between from to text = take (to - from) (drop from text)
+
+-- a text that is cut at these places
+abbrev pub stretch_of : List ℕ → ℕ → ℕ → ℕ → Stretch
+stretch_of text header end filled = record { header = take header text; lines = between header end text; rest = between end filled text }
+
+-- the places rise and stand within the text; behind the header there are at most a record and a byte
+pub record IsWindow (text : List ℕ) (header end filled : ℕ) : Type 0 where
+  pub low : header ≤ end
+  pub high : end ≤ filled
+  pub within : filled ≤ length text
+  pub most : filled ≤ header + (MOST_RECORD_BYTES + 1)
+
+-- a text is what was there, and what was then read of a source
+abbrev pub Fills : Option (List ℕ) → Option (List ℕ) → List ℕ → List ℕ → Type 0
+Fills old new rest text = (more : List ℕ) × Consumes old new more × (text ≡ rest ++ more)

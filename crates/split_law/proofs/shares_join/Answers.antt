@@ -1,0 +1,5 @@
+use Rattle.split_law.proofs.Shares.{shares_join}
+use Rattle.split_law.proofs.shares_join.Goals as goal
+
+pub returns : goal.returns
+returns c = shares_join
