@@ -55,11 +55,11 @@ none_each plan (suc count) = (no_groups plan, none_each plan count)
 
 pub shares_begin : SharesBegin
 shares_begin plan width count = record {
-    shares = replicate count [];
-    each = none_each plan count;
-    accepted = All-nil (IsAccepted plan width);
-    same = subst (λ l. IsPermutation l []) (sym (none_together count)) (IsPermutation-refl []);
-  }
+  shares = replicate count [];
+  each = none_each plan count;
+  accepted = All-nil (IsAccepted plan width);
+  same = subst (λ l. IsPermutation l []) (sym (none_together count)) (IsPermutation-refl []);
+}
 
 -- ---- more rows
 
