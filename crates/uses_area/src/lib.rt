@@ -10,7 +10,7 @@ mod areas;
 mod arena;
 mod blocks;
 #[cfg(test)]
-mod pools;
+mod objects;
 #[cfg(test)]
 mod runs;
 #[cfg(test)]

@@ -1,4 +1,4 @@
-use Rattle.uses_area.proofs.pools.+fill.Given as goal
+use Rattle.uses_area.proofs.objects.+fill.Given as goal
 
 abbrev pub decreases-fill : goal.decreases-fill
 decreases-fill l = l.n

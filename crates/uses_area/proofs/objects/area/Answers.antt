@@ -5,7 +5,7 @@ use Rattle.word_map.proofs.Maps.{at-rest_cond, within_is}
 use Rattle.free_pages.specs.Area.{class_count, class_end, control_words, front, head_words, mark_words, page_words}
 use Rattle.free_pages.proofs.AreaWords.{cut_just, cut_owns}
 use Rattle.span_pools.proofs.Fits.{bits_before}
-use Rattle.uses_area.proofs.pools.area.Goals as goal
+use Rattle.uses_area.proofs.objects.area.Goals as goal
 
 cut_front : (m : WordMap) (from len k : ℕ) → k < from → IsSome (at m k) → IsSome (at (rest_of m from len) k)
 cut_front m from len k h s = ap is_some (at-rest_cond m from len k ∙ ap (λ (b : Bool). cond b None (at m k)) (false_from_ne_true (is_within from len k) (λ e. let i = within_is from len k e in omega (arith, i.0)))) ∙ s
