@@ -1,7 +1,9 @@
 """What bindings/erase cuts, what it leaves, and what it refuses."""
 
+import contextlib
 import importlib.machinery
 import importlib.util
+import io
 import os
 import tempfile
 import unittest
@@ -82,6 +84,21 @@ class Cuts(unittest.TestCase):
         )
         self.assertEqual(erased(text, "uses_some"), want)
 
+    def test_clauses_whose_text_holds_brackets_in_strings_and_chars_go(self):
+        text = "fn f()\n    requires a { it ≡ '{' }\n    ensures b { it ≡ \"}\" /* } /* } */ } */ } // }\n{ g('}', b'{', \"{\", r#\"\"}\"#) }"
+        self.assertEqual(erased(text), "fn f()\n     // }\n{ g('}', b'{', \"{\", r#\"\"}\"#) }")
+
+    def test_clauses_of_a_closure_with_moves_and_patterns_go(self):
+        text = "f(|(a, b): (u64, u64)| -> bool requires { a < b } ensures two { result ≡ true } { a < b }, |x| x)"
+        self.assertEqual(erased(text), "f(|(a, b): (u64, u64)| -> bool   { a < b }, |x| x)")
+
+    def test_items_of_tests_go_up_to_their_end(self):
+        text = (
+            "#[cfg(test)]\nuse a::{b, c};\n#[cfg(test)]\npub(crate) const X: S = S { a: { 1 } };\n#[cfg(test)]\nconst fn f() -> u8 { 1 }\n"
+            "#[cfg(test)]\npub struct T(u8);\n#[cfg(test)]\nimpl A for T { const B: u8 = 1; }\nstruct R;"
+        )
+        self.assertEqual(erased(text), "struct R;")
+
     def test_promises_in_code_go(self):
         text = "fn f() {\n    prove!(a < b);\n    prove_eq!(a, (b));\n    g();\n}\nconst _: () = prove!(X == 1);"
         self.assertEqual(erased(text), "fn f() {\n    g();\n}")
@@ -92,6 +109,11 @@ class Cuts(unittest.TestCase):
             "use rattle_std::mem;\nuse crate::std::a;\nlet v = rattle_std::vec_in![ alloc; 0u64; 3]?;\n"
             'rattle_std::format_in!( rt.alloc(); "{x}")?;\nrattle_std::eprintln_to!(rt; "std::x");\nv.iter().collect_in(alloc)?; v.collect();'
         )
+        self.assertEqual(erased(text), want)
+
+    def test_std_is_the_stand_in_from_the_root_too(self):
+        text = "let a = ::std::mem::take(x);\nuse ::std::mem;\nlet b = <T as std::A>::std::c;\nf::<::std::B>();"
+        want = "let a = ::rattle_std::mem::take(x);\nuse ::rattle_std::mem;\nlet b = <T as rattle_std::A>::std::c;\nf::<::rattle_std::B>();"
         self.assertEqual(erased(text), want)
 
     def test_main_gets_the_runtime(self):
@@ -110,6 +132,32 @@ class Leaves(unittest.TestCase):
             "/* ghost use /* nested { */ ; */\nlet d = '{';\nlet e = '\\'';\nlet f = b'\"';\n'outer: loop { break 'outer; }\nlet g = '≡';"
         )
         self.assertEqual(erased(text), text)
+
+    def test_raw_strings_of_every_kind_stay(self):
+        text = (
+            'let a = r"requires \\";\nlet b = br"ensures { \\";\nlet c = cr"ghost \\";\nlet d = r##"a "# requires { "##;\n'
+            'let e = br#"" } "#;\nlet f = cr#"" } "#;\nlet g = c"\\" }";\nlet h = r"";\nlet i = "\\\\";\nlet j = "two\n  requires lines {";'
+        )
+        self.assertEqual(erased(text), text)
+
+    def test_raw_names_stay(self):
+        text = "let r#requires = r#ghost + r#ensures;\nr#type.r#match();\nlet r = r#fn;"
+        self.assertEqual(erased(text), text)
+
+    def test_chars_and_labels_stay(self):
+        text = (
+            "m('{', '}', '(', '\\\\', '\\'', '\"', '\\n', '\\x7b', '\\u{7b}', b'\\\\', b'\\'', b'}', '≡', ' ');\n"
+            "fn f<'a, 'b: 'a>(x: &'a str, y: &'_ u8) -> &'static str { 'c: loop { break 'c 'x' } }"
+        )
+        self.assertEqual(erased(text), text)
+
+    def test_comments_that_nest_stay(self):
+        text = "/* a /* requires { */ /** ghost use */ \" */\n// \" requires {\n/// it's {\nfn f() {} // '{' */ ghost\n/**/ fn g() {}"
+        self.assertEqual(erased(text), text)
+
+    def test_what_a_file_says_of_itself_stays(self):
+        text = "//! The head.\n\nghost use A.{b};\n/// Of the ghosts.\npub ghost use B as c;\nfn f() {}"
+        self.assertEqual(erased(text), "//! The head.\nfn f() {}")
 
     def test_lines_keep_their_numbers(self):
         text = "ghost use A.{\n    b,\n};\nfn f()\n    ensures {\n x\n }\n{}\n"
@@ -151,6 +199,24 @@ class Refuses(unittest.TestCase):
         self.refused("let v = vec![1, 2];", 1, "vec! without memory")
         self.refused("use a::Drop;", 1, "the word Drop")
         self.refused("#[test]\nfn f(n: u64) {}", 2, "something else than the runtime")
+
+    def test_items_that_do_not_end_where_they_stand(self):
+        self.refused("struct S {\n    #[cfg(test)]\n    probe: u64,\n    rest: u64,\n}\nfn g() {}", 5, "an item that does not end")
+        self.refused("fn f() { ghost use A }\nfn g() {}", 1, "an item that does not end")
+        self.refused("prove!;", 1, "no statement")
+
+    def test_other_crates_of_rust(self):
+        self.refused("use core::mem;", 1, "a path of the crate core")
+        self.refused("let a = ::alloc::vec::Vec::new();", 1, "a path of the crate alloc")
+        self.refused("use std as s;", 1, "the crate std as a whole")
+        self.refused("extern crate std;", 1, "the crate std as a whole")
+
+    def test_a_model_with_code(self):
+        self.refused("struct S;\nimpl Model for S {\n    ghost view = { x };\n    fn f() {}\n}", 2, "more than ghosts")
+
+    def test_a_clause_without_its_block(self):
+        self.refused("fn f()\n    ensures it\n    requires { x } {}", 2, "a clause that has no block")
+        self.refused("let a = S { requires: 1 };", 1, "a clause that has no block")
 
     def test_a_drop_that_does_something(self):
         text = "impl Drop for A {\n    fn drop(self) {\n        let A { n } = self;\n        close(n);\n    }\n}"
@@ -209,6 +275,22 @@ class Workspaces(unittest.TestCase):
             self.workspace(folder, {f"crates/{tool.ROOTS[-1]}/src/lib.rt": "fn f() {}"})
             tool.make_workspace(out, folder)
             self.assertEqual(sorted(os.listdir(os.path.join(out, "crates"))), sorted(tool.ROOTS))
+
+    def test_only_what_an_earlier_run_made_is_removed(self):
+        with tempfile.TemporaryDirectory() as folder:
+            files = {"crates.txt": "".join(f"{root}:\n" for root in tool.ROOTS)}
+            files |= {f"crates/{root}/src/lib.rt": "fn f() {}" for root in tool.ROOTS}
+            self.workspace(folder, files | {"crates/other/src/lib.rt": ""})
+            with self.assertRaises(tool.Refused):
+                tool.make_workspace(folder, folder)
+            self.assertTrue(all(os.path.exists(os.path.join(folder, path)) for path in [*files, "crates/other/src/lib.rt"]))
+            self.workspace(folder, {"out/crates/former/Cargo.toml": "", f"out/crates/{tool.ROOTS[0]}/Cargo.toml": ""})
+            tool.make_workspace(os.path.join(folder, "out"), folder)
+            self.assertEqual(sorted(os.listdir(os.path.join(folder, "out", "crates"))), sorted(tool.ROOTS))
+
+    def test_options_are_refused(self):
+        with contextlib.redirect_stderr(io.StringIO()):
+            self.assertEqual((tool.main(["--help"]), tool.main(["a", "b"])), (2, 2))
 
 
 if __name__ == "__main__":

@@ -8,7 +8,7 @@ use crate::{AreaError, NoSpace, Words, errors};
 use dsa_area::{Area, AreaPass, chunk_bytes};
 use dshash_core::{CellObject, PARTITIONS, item_bytes};
 use dshash_parts::{DsNew, DsPass, Dshash, MOST_KEY_WORDS};
-use dshash_scan::list_all;
+use dshash_scan::{count_all, list_all};
 use rattle_std::alloc::{AllocError, Global};
 use region_words::Region;
 use std::fmt;
@@ -16,8 +16,10 @@ use std::marker::PhantomData;
 use std::panic::{AssertUnwindSafe, catch_unwind};
 use std::sync::Arc;
 
-/// Keys of up to so many words are written to a small buffer.
+/// A key's words are written to a buffer on the stack, of one of these sizes or of the largest: what is cleared for a small
+/// key is small.
 const FEW_WORDS: usize = 4;
+const SOME_WORDS: usize = 16;
 
 /// The most words of a value.
 const MOST_VALUE_WORDS: usize = 1 << 16;
@@ -70,6 +72,16 @@ enum Ask<V> {
 enum Reply<V> {
     Before(Option<V>),
     Panicked,
+}
+
+impl<V> Reply<V> {
+    /// The value before the call. The caller's panic goes on here, where no lock is held.
+    fn before(self) -> Option<V> {
+        match self {
+            Reply::Before(value) => value,
+            Reply::Panicked => panic!("the function that a table was given panicked"),
+        }
+    }
 }
 
 impl<V: Words> CellObject for Cell<V> {
@@ -136,6 +148,7 @@ struct Shared<V: Words> {
 /// workers.into_iter().for_each(|worker| worker.join().unwrap());
 /// assert_eq!(last.find(&3), Some(200));
 /// assert_eq!(last.entries().unwrap().len(), 10);
+/// assert_eq!(last.count(), 10);
 /// assert_eq!(last.insert(&3, 5), Ok(Some(200)));
 /// assert_eq!(last.remove(&3), Some(5));
 /// assert_eq!(last.find(&3), None);
@@ -200,10 +213,13 @@ impl<K: Words, V: Words> Table<K, V> {
         Ok(handles.collect())
     }
 
-    /// The value of a key.
+    /// The value of a key. It takes nothing of the pages, so it answers where the table is full too, and it is one turn at
+    /// the key's partition.
     pub fn find(&mut self, key: &K) -> Option<V> {
-        // A call that puts in no key is never refused.
-        self.call(key, &Ask::Find).unwrap_or(None)
+        let Shared { region, table, .. } = &*self.shared;
+        let pass = &mut self.pass;
+        let reply = with_words(key, |words| table.find(&crate::HOST, region, pass, words, &Ask::Find));
+        reply.before()
     }
 
     /// Puts a value under a key, and gives the one that stood there.
@@ -213,6 +229,7 @@ impl<K: Words, V: Words> Table<K, V> {
 
     /// Takes a key out, and gives the value that stood there.
     pub fn remove(&mut self, key: &K) -> Option<V> {
+        // A call that puts in no key is never refused.
         self.call(key, &Ask::Remove).unwrap_or(None)
     }
 
@@ -236,22 +253,36 @@ impl<K: Words, V: Words> Table<K, V> {
         Ok(listed.into_iter().map(|entry| (K::load(entry.key.words()), entry.state)).collect())
     }
 
-    fn call(&mut self, key: &K, ask: &Ask<V>) -> Result<Option<V>, NoSpace> {
-        if K::WORDS <= FEW_WORDS {
-            self.call_with(key, ask, &mut [0; FEW_WORDS])
-        } else {
-            self.call_with(key, ask, &mut [0; MOST_KEY_WORDS])
-        }
+    /// How many keys there are: the sum over the partitions, each at a moment of its own. It looks at one number in each of
+    /// the 128, whatever the table holds, and takes no memory.
+    pub fn count(&mut self) -> u64 {
+        let Shared { region, table, .. } = &*self.shared;
+        let keys = count_all(&crate::HOST, table, region, &mut self.pass);
+        // There are fewer keys than words of the region.
+        u64::try_from(keys).unwrap_or(u64::MAX)
     }
 
-    fn call_with(&mut self, key: &K, ask: &Ask<V>, words: &mut [u64]) -> Result<Option<V>, NoSpace> {
-        let words = &mut words[..K::WORDS];
-        key.store(words);
+    fn call(&mut self, key: &K, ask: &Ask<V>) -> Result<Option<V>, NoSpace> {
         let Shared { region, area, table } = &*self.shared;
-        match table.call(&crate::HOST, region, area, &mut self.pass, &mut self.area_pass, words, ask)? {
-            Reply::Before(value) => Ok(value),
-            Reply::Panicked => panic!("the function that a table was given panicked"),
-        }
+        let (pass, area_pass) = (&mut self.pass, &mut self.area_pass);
+        let reply = with_words(key, |words| table.call(&crate::HOST, region, area, pass, area_pass, words, ask))?;
+        Ok(reply.before())
+    }
+}
+
+/// Makes a call with a key's words. Which buffer they stand in is known when it is compiled.
+fn with_words<K: Words, R>(key: &K, call: impl FnOnce(&[u64]) -> R) -> R {
+    fn written<'a, K: Words>(key: &K, buffer: &'a mut [u64]) -> &'a [u64] {
+        let words = &mut buffer[..K::WORDS];
+        key.store(words);
+        words
+    }
+    if K::WORDS <= FEW_WORDS {
+        call(written(key, &mut [0; FEW_WORDS]))
+    } else if K::WORDS <= SOME_WORDS {
+        call(written(key, &mut [0; SOME_WORDS]))
+    } else {
+        call(written(key, &mut [0; MOST_KEY_WORDS]))
     }
 }
 

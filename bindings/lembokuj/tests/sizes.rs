@@ -55,12 +55,34 @@ fn a_table_that_is_full_says_so_and_stays() {
     assert_eq!(Table::<u64, u64>::with_pages(0, 1).unwrap_err(), TableError::NoSpace);
     let mut table = Table::<u64, u64>::with_pages(64, 1).unwrap().pop().unwrap();
     let refused = (0..).find(|key| table.insert(key, 2 * key).is_err()).unwrap();
+    assert_eq!(table.count(), refused);
     assert!((0..refused).all(|key| table.find(&key) == Some(2 * key)));
     assert_eq!(table.find(&refused), None);
     assert_eq!(table.remove(&0), Some(0));
+    assert_eq!(table.count(), refused - 1);
     assert_eq!(table.insert(&0, 1), Ok(None));
     assert_eq!(table.entries().unwrap().len() as u64, refused);
     assert!(table_pages(refused, 1, 1) >= 64);
+}
+
+/// Keys that differ in their last word alone, of each number of words at which another buffer is taken.
+fn keys_of<const N: usize>() {
+    let mut table = Table::<[u64; N], u64>::for_keys(100, 1).unwrap().pop().unwrap();
+    let key = |n: u64| std::array::from_fn(|at| if at == N - 1 { n } else { 7 });
+    assert!((0..100).all(|n| table.insert(&key(n), n) == Ok(None)));
+    assert!((0..100).all(|n| table.find(&key(n)) == Some(n)));
+    assert_eq!((table.find(&key(100)), table.remove(&key(42)), table.count()), (None, Some(42), 99));
+    assert!(table.entries().unwrap().iter().all(|entry| entry.0 == key(entry.1)));
+}
+
+#[test]
+fn keys_have_up_to_64_words() {
+    keys_of::<1>();
+    keys_of::<4>();
+    keys_of::<5>();
+    keys_of::<16>();
+    keys_of::<17>();
+    keys_of::<64>();
 }
 
 #[test]

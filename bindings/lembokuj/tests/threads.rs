@@ -50,6 +50,37 @@ fn four_threads_count_in_one_table() {
     assert_eq!(entries.iter().map(|entry| entry.1).sum::<u64>(), 4 * CALLS);
 }
 
+/// While keys come in, one after another, who finds the last of them finds the others, and no count is less than one before.
+#[test]
+fn finds_and_counts_go_on_while_keys_come_in() {
+    let keys = CALLS / 10;
+    let mut tables = Table::<u64, u64>::for_keys(keys, 5).unwrap();
+    let mut writer = tables.pop().unwrap();
+    let mut last = tables.pop().unwrap();
+    thread::scope(|scope| {
+        scope.spawn(move || {
+            for key in 0..keys {
+                assert_eq!(writer.insert(&key, 2 * key), Ok(None));
+            }
+        });
+        for mut reader in tables {
+            scope.spawn(move || {
+                let mut counted = 0;
+                for key in (0..keys).rev().step_by(97) {
+                    let there = reader.find(&key).is_some();
+                    let before = reader.find(&(key / 2));
+                    assert!(before.is_none_or(|value| value == 2 * (key / 2)));
+                    assert!(!there || before.is_some());
+                    let now = reader.count();
+                    assert!(counted <= now && (!there || key < now));
+                    counted = now;
+                }
+            });
+        }
+    });
+    assert_eq!((last.count(), last.find(&(keys - 1))), (keys, Some(2 * (keys - 1))));
+}
+
 #[test]
 fn texts_are_keys() {
     let mut tables = Table::<Text<4>, (u64, Text<2>)>::for_keys(100, 2).unwrap();

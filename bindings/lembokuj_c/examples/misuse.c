@@ -110,6 +110,10 @@ static void tables(void) {
     for (key = 0; code == LK_ABSENT; key++) code = lk_table_put(table[0], key, 2 * key, NULL);
     WANT(code, LK_NO_SPACE);
     HOLDS(lk_table_pages(key) > 64 && lk_table_pages(0) <= 64);
+    WANT(lk_table_count(table[0], &value), LK_OK);
+    HOLDS(value == key - 1);
+    WANT(lk_table_count(table[0], NULL), LK_NULL);
+    WANT(lk_table_count(NULL, &value), LK_NULL);
     WANT(lk_table_get(table[0], key - 1, &value), LK_ABSENT);
     WANT(lk_table_get(table[0], key - 2, &value), LK_OK);
     HOLDS(value == 2 * (key - 2));

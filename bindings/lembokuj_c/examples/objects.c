@@ -58,9 +58,15 @@ static void *work(void *given) {
     return NULL;
 }
 
+struct totals {
+    uint64_t entries, sum;
+};
+
 static void sum_up(uint64_t key, uint64_t value, void *with) {
+    struct totals *totals = with;
     (void)key;
-    *(uint64_t *)with += value;
+    totals->entries++;
+    totals->sum += value;
 }
 
 int main(int argc, char **argv) {
@@ -85,13 +91,16 @@ int main(int argc, char **argv) {
         pthread_join(threads[n], NULL);
         elected += workers[n].elected;
     }
-    uint64_t sum = 0;
-    must(lk_table_each(tables[THREADS], sum_up, &sum), "each");
+    struct totals totals = {0, 0};
+    uint64_t found = 0;
+    must(lk_table_each(tables[THREADS], sum_up, &totals), "each");
+    must(lk_table_count(tables[THREADS], &found), "count");
     must(lk_table_close(&tables[THREADS]), "close");
-    if (sum != THREADS * count || elected != 3) {
-        fprintf(stderr, "objects: the sum is %llu, %d were elected\n", (unsigned long long)sum, elected);
+    if (totals.sum != THREADS * count || totals.entries != found || elected != 3) {
+        fprintf(stderr, "objects: the sum is %llu, of %llu keys %llu were seen, %d were elected\n", (unsigned long long)totals.sum,
+                (unsigned long long)found, (unsigned long long)totals.entries, elected);
         return 1;
     }
-    printf("objects: %llu adds, 3 phases, no chunk twice\n", (unsigned long long)sum);
+    printf("objects: %llu adds, 3 phases, no chunk twice\n", (unsigned long long)totals.sum);
     return 0;
 }

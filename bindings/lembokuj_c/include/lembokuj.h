@@ -122,11 +122,16 @@ uint32_t lk_table_pages(uint64_t keys);
 int lk_table_new(uint32_t pages, uint32_t callers, lk_table **out);
 
 /* LK_OK: the key was there, and *old (which may be NULL) is its value before. LK_ABSENT: it was not. LK_NO_SPACE: a new
- * key found no room. A call takes the lock of one of 128 partitions. add wraps around at 2^64. */
+ * key found no room, which only put and add can meet; get takes nothing of the pages. A call takes the lock of one of 128
+ * partitions. add wraps around at 2^64. */
 int lk_table_put(lk_table *table, uint64_t key, uint64_t value, uint64_t *old);
 int lk_table_add(lk_table *table, uint64_t key, uint64_t more, uint64_t *old);
 int lk_table_get(lk_table *table, uint64_t key, uint64_t *value);
 int lk_table_delete(lk_table *table, uint64_t key, uint64_t *old);
+
+/* How many keys there are: the sum over the partitions, each at a moment of its own. It costs 128 looks at a number,
+ * whatever the table holds. */
+int lk_table_count(lk_table *table, uint64_t *out);
 
 /* Calls each(key, value, with) at each entry, in no order. The entries of one partition are those of one moment; they are
  * copied before the first call, so the table may change meanwhile. LK_NO_MEMORY: each was not called. */

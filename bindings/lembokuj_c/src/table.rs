@@ -110,6 +110,17 @@ pub unsafe extern "C" fn lk_table_delete(table: *mut Handle<Numbers>, key: u64, 
 ///
 /// # Safety
 ///
+/// `table` is a handle that this call has alone; `out` is null or may be written.
+#[unsafe(no_mangle)]
+pub unsafe extern "C" fn lk_table_count(table: *mut Handle<Numbers>, out: *mut u64) -> c_int {
+    // SAFETY: the caller's duty.
+    code(unsafe { open(table, TABLE).and_then(|table| put(out, table.count())).map(|()| LK_OK) })
+}
+
+/// See the header.
+///
+/// # Safety
+///
 /// `table` is a handle that this call has alone; `each` may be called with `with`.
 #[unsafe(no_mangle)]
 pub unsafe extern "C" fn lk_table_each(
