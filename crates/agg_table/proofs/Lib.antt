@@ -1,4 +1,3 @@
-pub mod Anys
 pub mod Traced
 pub mod Putting
 pub mod Growing

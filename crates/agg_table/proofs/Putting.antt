@@ -15,7 +15,7 @@ use Rattle.dshash_parts.specs.declared.histories.PartitionCalls.TheVariants.{Cal
 use Rattle.dshash_parts.specs.declared.histories.PartitionReplies.TheVariants.{LacksItem, HasToGrow}
 use Rattle.par_model.specs.declared.state.AggState.{AggState}
 use Rattle.agg_table.specs.Calls.{AggCall, AggEntry, AggReply, Group, HasPut, IsKeyed, IsLeft, IsMissing, IsPut, Use, WasMissed, called, calls_at, done_in, done_of, partition_at}
-use Rattle.agg_table.proofs.Anys.{any_cases, any_head, any_left, any_none, any_right, any_tail}
+use Rattle.row_blocks.proofs.Elements.{any_cases, any_head, any_left, any_none, any_right, any_tail}
 use Rattle.agg_table.proofs.Traced.{all_grew, all_lacks, done_by, done_map, made_done, misses, misses_among, none_done, pair_of, turns_append, turns_at}
 
 -- ---- lists

@@ -14,14 +14,13 @@ use Rattle.dshash_parts.specs.declared.histories.PartitionCalls.{PartitionCalls}
 use Rattle.dshash_parts.specs.declared.histories.PartitionCalls.TheVariants.{Call}
 use Rattle.dshash_parts.specs.declared.histories.PartitionReplies.{PartitionReplies}
 use Rattle.dshash_parts.specs.declared.histories.PartitionReplies.TheVariants.{LacksItem, HasToGrow}
-use Rattle.gather_law.specs.Tuples.{Table}
+use Rattle.row_blocks.specs.Blocks.{Table, numbers_of_blocks}
 use Rattle.par_model.specs.Record.{is_null}
 use Rattle.join_pairs.specs.Chains.{last_step}
 use Rattle.hash_join.specs.Filled.{HasPut, IsMissing, PageEntry, RowEntry, WasMissed, calls_at, done_in, done_of, key_of, partition_at}
 use Rattle.join_pairs.specs.Join.{keyed}
-use Rattle.join_pairs.specs.Blocks.{numbers_of_blocks}
 use Rattle.join_pairs.specs.declared.chains.Link.{Link}
-use Rattle.join_pairs.proofs.Anys.{any_cases, any_head, any_left, any_none, any_right, any_tail}
+use Rattle.row_blocks.proofs.Elements.{any_cases, any_head, any_left, any_none, any_right, any_tail}
 use Rattle.join_pairs.proofs.Filters.{filter-not_one, filter-one}
 use Rattle.hash_join.proofs.Traced.{all_grew, all_lacks, done_by, done_map, made_done, misses, misses_among, none_done, turns_append}
 

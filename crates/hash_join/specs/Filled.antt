@@ -12,7 +12,7 @@ use Rattle.dshash_parts.specs.declared.histories.PartitionReplies.{PartitionRepl
 use Rattle.dshash_parts.specs.declared.histories.PartitionReplies.TheVariants.{Made, LacksItem, HasToGrow}
 use Rattle.free_pages.specs.Legal.{PagesCall, PagesReply, PagesState}
 use Rattle.free_pages.specs.Legal as pages
-use Rattle.gather_law.specs.Tuples.{Table}
+use Rattle.row_blocks.specs.Blocks.{Table}
 use Rattle.lock_book.specs.declared.view.Entry.{Entry}
 use Rattle.join_pairs.specs.Join.{keyed}
 use Rattle.join_pairs.specs.declared.chains.Link.{Link}

@@ -4,7 +4,7 @@ use Rattle.csv_rows.specs.Records.{record_at}
 use Rattle.csv_rows.specs.Turns.{ReadsCount}
 use Rattle.csv_rows.specs.declared.input.ReadAnswer.{ReadAnswer}
 use Rattle.csv_rows.specs.declared.input.ReadAnswer.TheVariants as reading
-use Rattle.gather_law.specs.Tuples.{Table}
+use Rattle.row_blocks.specs.Blocks.{Table}
 use Rattle.par_model.specs.Named.{column_of}
 use Rattle.par_model.specs.Outcome.{most_bytes}
 use Rattle.join_query.specs.Outcome.{Outcome, IsCut, IsOfBytes, IsOfColumns, IsOfRows, IsOfTables, IsOutcome, left_of}
