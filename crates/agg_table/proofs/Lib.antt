@@ -1,4 +1,3 @@
-pub mod Traced
 pub mod Putting
 pub mod Growing
 pub mod Asking

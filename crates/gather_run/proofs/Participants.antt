@@ -6,7 +6,8 @@ use Rattle.std.specs.List.Sorted.{IsPermutation}
 use Rattle.std.proofs.lemmas.List.{length-map}
 use Rattle.std.proofs.lemmas.List.Elements.{All-head, All-nil, All-tail, All-weaker}
 use Rattle.agg_cell.specs.Called.{Seen}
-use Rattle.agg_table.specs.Calls.{AggEntry, HasPut, IsKeyed, IsMissing, Use, WasMissed, calls_at, done_in, lacks, partition_at}
+use Rattle.agg_table.specs.Calls.{AggEntry, HasPut, IsKeyed, Use, WasMissed, calls_at, done_in, partition_at}
+use Rattle.dshash_parts.specs.Done.{IsMissing, lacks}
 use Rattle.agg_table.specs.Drained.{AddsTable, HoldsAll}
 use Rattle.agg_table.proofs.Putting.{has_put_nothing}
 use Rattle.dshash_core.specs.Key.{packed_key}

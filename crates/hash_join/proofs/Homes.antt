@@ -24,7 +24,8 @@ use Rattle.join_pairs.specs.Gathered.{IsCovered}
 use Rattle.join_pairs.specs.Join.{AllAccepted, IsRow, keyed}
 use Rattle.join_pairs.specs.declared.chains.Link.{Link}
 use Rattle.row_blocks.proofs.Elements.{any_left}
-use Rattle.hash_join.specs.Filled.{HasPut, IsMissing, PageEntry, RowEntry, WasMissed, calls_at, done_in, key_of, partition_at}
+use Rattle.hash_join.specs.Filled.{HasPut, RowEntry, WasMissed, calls_at, done_in, key_of, partition_at}
+use Rattle.dshash_parts.specs.Done.{IsMissing, PageEntry}
 use Rattle.hash_join.specs.Home.{IsClosed, IsHome}
 use Rattle.hash_join.specs.Stores.{HasFilled}
 use Rattle.hash_join.specs.Used.{IsShared, WerePut}

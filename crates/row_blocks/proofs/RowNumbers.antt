@@ -3,7 +3,7 @@ use Rattle.std.proofs.Common.{◌≡◌, ◌<◌, ◌≤◌, ◌+◌, ◌*◌, �
 use Rattle.std.specs.List.{flat_map}
 use Rattle.std.specs.List.Sorted.{IsPermutation}
 use Rattle.std.proofs.lemmas.Bool.{cases_lt}
-use Rattle.std.proofs.lemmas.List.{drop-drop, drop_all, get_or-drop, get_or-take, get_or_append_left, get_or_push, take_all, take_more}
+use Rattle.std.proofs.lemmas.List.{drop_all, get_or-drop, get_or-take, get_or_append_left, get_or_push, take_all, take_more}
 use Rattle.std.proofs.lemmas.List.Concat.{flat_map-append}
 use Rattle.scan_claim.specs.Drawing.{below, flat, once_below, times}
 use Rattle.row_blocks.specs.Blocks.{AreBlocks, Table, block_numbers, numbers_of, numbers_of_blocks}
