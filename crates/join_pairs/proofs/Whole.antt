@@ -20,7 +20,8 @@ use Rattle.join_pairs.specs.declared.pairing.NoPairs.TheVariants.{TooMany}
 use Rattle.join_pairs.specs.declared.pairs.Pair.{Pair}
 use Rattle.row_blocks.proofs.Elements.{any_cases, any_none}
 use Rattle.join_pairs.proofs.Joining.{joins, same_count}
-use Rattle.row_blocks.proofs.RowNumbers.{cut_below, drawn_numbers}
+use Rattle.row_blocks.proofs.BlockRows.{cut_below}
+use Rattle.row_blocks.proofs.RowNumbers.{drawn_numbers}
 
 -- ---- how many blocks were drawn
 
