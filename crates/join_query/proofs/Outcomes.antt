@@ -1,7 +1,7 @@
 -- Outcomes of two tables that stand in bytes.
 use Rattle.std.proofs.Common.{◌≡◌, ◌≤◌, ◌+◌, ◌<◌, ℕ, List, Option, None, Some, IfSome, Result, Err, inl, inr, length, length-append, subst, ap, arith, refl, drop, take}
 use Rattle.csv_rows.specs.Records.{record_at}
-use Rattle.csv_rows.specs.Turns.{ReadsCount}
+use Rattle.par_io.specs.Reads.{ReadsCount}
 use Rattle.csv_rows.specs.declared.input.ReadAnswer.{ReadAnswer}
 use Rattle.csv_rows.specs.declared.input.ReadAnswer.TheVariants as reading
 use Rattle.row_blocks.specs.Blocks.{Table}
