@@ -254,6 +254,7 @@ pub record Refitted (layout : Layout) (rows : List ℕ) (lanes : List SlotState)
   pub whole : length lanes ≡ length rows * layout.width
   pub here : at < length rows
   pub there : at * width + width ≤ length lanes
+  pub start : at * width ≡ at * layout.width
 
 pub refitted : (old new : Layout) (rows same_rows : List ℕ) (lanes more : List SlotState) (states : List AggState) (at width : ℕ) → same_rows ≡ rows → states_in new same_rows more ≡ states_in old same_rows lanes → states_in old rows lanes ≡ states
     → length more ≡ length same_rows * new.width → at < length states → width ≡ new.width → Refitted new rows more states at width
@@ -261,7 +262,7 @@ refitted old new rows same_rows lanes more states at width is same are all low w
     let view = laid_anew old new rows same_rows lanes more states is same are in
     let whole = whole_anew new rows same_rows more is all in
     let here = place_within new rows more states at view low in
-    record { view = view; whole = whole; here = here; there = lanes_within new rows more at width wide here whole }
+    record { view = view; whole = whole; here = here; there = lanes_within new rows more at width wide here whole; start = ap (λ (n : ℕ). at * n) wide }
 
 -- the lanes of slots are the first of a longer list
 pub record AreFirst (layout : Layout) (slots all : List SlotState) (width : ℕ) : Type 0 where

@@ -37,11 +37,10 @@ returns-clause-ok c =
     let fit = refitted c.self.inside.layout layout rows c.deref.result.now c.self.inside.lanes.items lanes c.args.self.now c.args.at c.width-width.result c.deref.ensures.value c.make_fit.ensures.same c.self.view_is c.make_fit.ensures.whole c.requires c.width-width.ensures.width in
     let theirs = take c.width-width.result c.lanes-lanes.result in
     let first_are = are_first layout c.args.state.now.slots c.lanes-lanes.result c.width-width.result c.width-width.ensures.width c.lanes-lanes.ensures.lanes c.lanes-lanes.ensures.width in
-    let first : c.args.at * c.width-width.result ≡ c.args.at * layout.width = ap (λ (n : ℕ). c.args.at * n) c.width-width.ensures.width in
     let r = (c.index.result.now + c.args.state.now.rows) % 2 ^ 64 in
     let sum : r ≡ (get_or rows c.args.at 0 + c.args.state.now.rows) % 2 ^ 64 = ap (λ (n : ℕ). (n + c.args.state.now.rows) % 2 ^ 64) (c.index.ensures ∙ sym (get_or_default rows c.args.at 0 c.index.result.now fit.here)) in
     let wrote : (with_items c.make_fit.new.lanes c.combine_lanes.new.lanes).items ≡ with_lanes lanes (c.args.at * c.width-width.result) (combined_slots (take (length theirs) (drop (c.args.at * c.width-width.result) lanes)) theirs) =
     with_items_is c.make_fit.new.lanes c.combine_lanes.new.lanes (omega arith) ∙ c.combine_lanes.ensures ∙ ap (λ (ls : List SlotState). with_lanes ls (c.args.at * c.width-width.result) (combined_slots (take (length theirs) (drop (c.args.at * c.width-width.result) ls)) theirs)) c.deref_mut.ensures.value in
     ap (states_in layout (set rows c.args.at r)) wrote
-    ∙ combine-states_in layout rows lanes theirs r c.args.at (c.args.at * c.width-width.result) (length theirs) c.args.state.now first first_are.long first_are.are sum c.in_ok-make_fit.ensures.fits first_are.long fit.here fit.whole
+    ∙ combine-states_in layout rows lanes theirs r c.args.at (c.args.at * c.width-width.result) (length theirs) c.args.state.now fit.start first_are.long first_are.are sum c.in_ok-make_fit.ensures.fits first_are.long fit.here fit.whole
     ∙ ap (λ (states : List AggState). set states c.args.at (combined (get_or states c.args.at empty_state) c.args.state.now)) fit.view
