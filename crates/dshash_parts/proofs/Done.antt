@@ -217,6 +217,11 @@ module _ {S C R X : Type 0} (of : List ℕ → C → R → X) where
 
 -- ---- calls that were not made
 
+among_front : {A : Type 0} (x : A) (xs ys : List A) → Among x xs → Among x (xs ++ ys)
+among_front x [] ys h = absurd h
+among_front x (z ∷ zs) ys (inl e) = inl e
+among_front x (z ∷ zs) ys (inr r) = inr (among_front x zs ys r)
+
 module _ {S C R : Type 0} where
   -- a turn that stands among the events stands among those at its partition
   turn_there : (k : ℕ) (call : PartitionCalls C) (reply : PartitionReplies S R) (es : List (Event S C R)) → Among (Turn k call reply) es → Among (call, reply) (turns_at k es)
@@ -235,11 +240,6 @@ module _ {S C R : Type 0} where
       by : (b : Bool) → Among (call, reply) (turns_at k es) → Among (call, reply) (cond {A = List (PartitionCalls C × PartitionReplies S R)} b ((c, t) ∷ turns_at k es) (turns_at k es))
       by true a = inr a
       by false a = a
-
-  among_front : {A : Type 0} (x : A) (xs ys : List A) → Among x xs → Among x (xs ++ ys)
-  among_front x [] ys h = absurd h
-  among_front x (z ∷ zs) ys (inl e) = inl e
-  among_front x (z ∷ zs) ys (inr r) = inr (among_front x zs ys r)
 
   -- a call with its reply that stands among those of some entries is one of them
   entry_there : (P : PartitionCalls C → PartitionReplies S R → Type 0) (call : PartitionCalls C) (reply : PartitionReplies S R) (es : List (Entry (PartitionState S) (PartitionCalls C) (PartitionReplies S R))) → Among (call, reply) (map pair_of es) → P call reply
