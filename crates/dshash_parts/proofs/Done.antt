@@ -24,6 +24,7 @@ use Rattle.dshash_parts.specs.declared.histories.PartitionCalls.{PartitionCalls}
 use Rattle.dshash_parts.specs.declared.histories.PartitionCalls.TheVariants.{Call, Looks, Moves, Lists}
 use Rattle.dshash_parts.specs.declared.histories.PartitionReplies.{PartitionReplies}
 use Rattle.dshash_parts.specs.declared.histories.PartitionReplies.TheVariants.{Made, LacksItem, HasToGrow, HasSize, Moved, Listed}
+use Rattle.dshash_parts.proofs.Sweeps.{among_front}
 use Rattle.dshash_parts.proofs.Uses.{did_turns}
 
 -- ---- own calls at one value
@@ -216,11 +217,6 @@ module _ {S C R X : Type 0} (of : List ℕ → C → R → X) where
       by false = ap done_by (gifts_done k m.after m.gifts_after)
 
 -- ---- calls that were not made
-
-among_front : {A : Type 0} (x : A) (xs ys : List A) → Among x xs → Among x (xs ++ ys)
-among_front x [] ys h = absurd h
-among_front x (z ∷ zs) ys (inl e) = inl e
-among_front x (z ∷ zs) ys (inr r) = inr (among_front x zs ys r)
 
 module _ {S C R : Type 0} where
   -- a turn that stands among the events stands among those at its partition
