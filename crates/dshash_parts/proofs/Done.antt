@@ -255,6 +255,7 @@ module _ {S C R : Type 0} where
       there made reply among m =
           let whole : Among (Turn number made reply) es = subst (Among (Turn number made reply)) (sym r.is) (among_front (Turn number made reply) r.before (Asked (Missed r.bytes wanted largest) ∷ r.after) among) in
           entry_there (IsMissing key call) made reply more (subst (Among (made, reply)) (sym are) (turn_there number made reply es whole)) m
+
       by : IsCause number item key call r.before r.bytes → Any (λ (e : Entry (PartitionState S) (PartitionCalls C) (PartitionReplies S R)). IsMissing key call e.call e.reply) more
       by (inl x) = there (Call key call false) LacksItem x.1 (refl, refl)
       by (inr x) = there (Call key call x.3.0) (HasToGrow x.0 x.3.0) x.3.1 (refl, refl)
