@@ -1,4 +1,4 @@
-//! Callers of the crates from bytes to rows and back: records, keys, partial aggregates, tuples, plans and their
+//! Callers of the crates from bytes to rows and back: records, windows, keys, partial aggregates, tuples, plans and their
 //! descriptors, texts of tables, and the lines on the error stream. A module for each crate.
 
 #![tactic(auto)]
@@ -21,3 +21,5 @@ mod slow;
 mod texts;
 #[cfg(test)]
 mod tuples;
+#[cfg(test)]
+mod windows;
