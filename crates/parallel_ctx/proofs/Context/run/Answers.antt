@@ -33,10 +33,8 @@ serve-backs-requires-clause-ready g c κs within =
     record {
       fresh = All-weaker (λ (h : Hand). IsFresh plan w h.seats h.ends) (CanWork asks w) (λ h f. (plan, f, can)) c.self.inside.hands.items c.self.invariant.hands;
       flags_each = search rules;
-      placed_empty = c.in_ok-placed.ensures.items;
-      placed_room = search rules;
-      backs_empty = c.in_ok-backs.ensures.items;
-      backs_room = search rules;
+      placed = subst (λ (n : ℕ). HasRoom n c.in_ok-placed.field-0.placed) c.len-asked.ensures c.in_ok-placed.ensures.placed;
+      backs = subst (λ (n : ℕ). HasRoom n c.in_ok-placed.field-0.backs) c.len-asked.ensures c.in_ok-placed.ensures.backs;
       lead = (plan, record { seats = c.self.invariant.leader; unheard = c.self.invariant.receivers; count = count }, leads);
     }
 
