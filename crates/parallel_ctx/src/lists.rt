@@ -1,7 +1,7 @@
 //! The lists that a run fills, and a flag for each worker. They are taken before any worker starts, so that nothing is
 //! asked for while threads run.
 
-ghost use Rattle.std.specs.Prelude.{◌≡◌, ◌+◌, IfOk, vec_len};
+ghost use Rattle.std.specs.Prelude.{◌≡◌, ◌≤◌, ◌+◌, [], IfOk, vec_capacity, vec_len};
 ghost use Rattle.parallel_ctx.specs.Ready.{HasRoom};
 
 use crate::home::Returned;
