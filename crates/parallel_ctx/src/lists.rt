@@ -45,7 +45,10 @@ fn lowered(alloc: Global, count: usize) -> Result<Vec<AtomicBool>, AllocError>
 }
 
 /// The lists of so many threads.
-pub(crate) fn thread_lists<P: Drop, B: Drop>(alloc: Global, asked: usize) -> Result<ThreadLists<P, B>, AllocError>
+pub(crate) fn thread_lists<P: Drop, B: Drop>(
+    alloc: Global,
+    asked: usize,
+) -> Result<ThreadLists<P, B>, AllocError>
     ensures placed { IfOk result (λ l. HasRoom asked l.placed) }
     ensures backs { IfOk result (λ l. HasRoom asked l.backs) }
     ensures flags { IfOk result (λ l. vec_len l.flags ≡ asked) }
