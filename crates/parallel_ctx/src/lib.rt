@@ -17,6 +17,7 @@ ghost use Rattle.parallel_ctx.specs.Ran.{Ran};
 
 mod hashing;
 mod home;
+mod lists;
 mod making;
 mod roles;
 mod scope;
@@ -27,6 +28,7 @@ pub use agg_table::{HashPart, HashSeat};
 use hashing::{hash_words, open_hash, wants_table};
 pub use home::{Finished, Returned};
 use home::{AllSettled, close_table, count_ends, keep_seat, settle_all};
+use lists::{HomeLists, ThreadLists, home_lists, thread_lists};
 use making::{Dealt, Planned, Queues, deal, keep_plan, new_queues, new_toc, words_for};
 use par_model::BoundPlan;
 use region_words::Region;
@@ -37,7 +39,6 @@ use std::alloc::{AllocError, Global};
 use std::marker::Model;
 use std::snapshot::Snapshot;
 use std::sync::Wait;
-use std::sync::atomic::AtomicBool;
 use std::thread::Threads;
 use tokens::Hand;
 pub use tokens::{LeaderEnds, Seats, Shared, WorkerEnds};
@@ -75,17 +76,6 @@ impl Model for Context {
     ghost invariant = { λ c. IsPrepared (record { plan = c.plan.value; shared = c.shared; leader = c.leader; hands = c.hands.items; receivers = c.receivers.items }) };
 }
 
-/// One flag for each worker.
-fn lowered(alloc: Global, count: usize) -> Result<Vec<AtomicBool>, AllocError>
-    ensures { IfOk result (λ v. vec_len v ≡ count) }
-{
-    let mut flags = Vec::with_capacity(alloc, count)?;
-    for _i in 0..count {
-        flags.push_reserved(AtomicBool::new(false));
-    }
-    Ok(flags)
-}
-
 impl Context {
     /// Makes the region, the table of contents with the plan, the queues, and the tokens of the lead and of the workers
     /// asked for. Want of memory is its only answer beside `Ok`. It takes 82 KB for each worker and the receivers'
@@ -106,6 +96,9 @@ impl Context {
         ensures asked { IfOk result (λ c. length c.hands ≡ workers) }
         ensures hash { IfOk result (λ c. HasTable plan.now area_pages c.shared.hash) }
     {
+        let ends = Vec::with_capacity(alloc, workers as usize)?;
+        let receivers = Vec::with_capacity(alloc, workers as usize)?;
+        let hands = Vec::with_capacity(alloc, workers as usize)?;
         let with_table = wants_table(plan, area_pages);
         let words = words_for(workers, hash_words(with_table, area_pages));
         let (region, part) = Region::new(alloc, words as usize)?;
@@ -119,14 +112,11 @@ impl Context {
             area_pages,
             workers + 1,
         )?;
-        let ends = Vec::with_capacity(alloc, workers as usize)?;
-        let receivers = Vec::with_capacity(alloc, workers as usize)?;
         let Queues { ends, receivers } = new_queues(
             alloc, &region, &mut toc, workers, ends, receivers,
         )?;
         let toc = keep_plan(&region, toc, chunk, plan);
         let (claims, seats) = Claims::new(alloc, blocks, workers + 1)?;
-        let hands = Vec::with_capacity(alloc, workers as usize)?;
         let Dealt { leader, hands } = deal(&region, toc, seats, hash_seats, ends, hands);
         Ok(Context {
             plan: Snapshot::of(plan),
@@ -166,14 +156,18 @@ impl Context {
             receivers,
         } = self;
         let asked = hands.len();
-        let placed = Vec::with_capacity(alloc, asked)?;
-        let backs = Vec::with_capacity(alloc, asked)?;
-        let workers = Vec::with_capacity(alloc, asked)?;
-        let mut claims = Vec::with_capacity(alloc, asked + 1)?;
-        let mut hashes = Vec::with_capacity(alloc, asked + 1)?;
-        let tables = Vec::with_capacity(alloc, asked + 1)?;
-        let areas = Vec::with_capacity(alloc, asked + 1)?;
-        let flags = lowered(alloc, asked)?;
+        let ThreadLists {
+            placed,
+            backs,
+            flags,
+        } = thread_lists(alloc, asked)?;
+        let HomeLists {
+            workers,
+            mut claims,
+            mut hashes,
+            tables,
+            areas,
+        } = home_lists(alloc, asked)?;
         let Served {
             backs,
             leader,

@@ -14,7 +14,7 @@ pub bring_all-backs-requires-clause-room : goal.bring_all-backs-requires-clause-
 bring_all-backs-requires-clause-room g c κs within =
     let h = c.args.hands in let p = c.launch_all-placed.result in
     let e : length h.items ≡ length p.items = AllZip-length (Carries g.W.Worker.did c.args.worker.now c.args.shared.now) _ _ c.launch_all-placed.ensures in
-    omega (arith, e, h.ok.0, p.ok.0, c.requires.ready.backs_room)
+    omega (arith, e, h.ok.0, p.ok.0, c.requires.ready.backs_room.1)
 
 pub returns-clause-workers : goal.returns-clause-workers
 returns-clause-workers g c = all_carried g.W.Worker.did c.args.worker.now c.args.shared.now _ _ _ c.launch_all-placed.ensures c.bring_all-backs.ensures

@@ -1,0 +1,79 @@
+//! The lists that a run fills, and a flag for each worker. They are taken before any worker starts, so that nothing is
+//! asked for while threads run.
+
+ghost use Rattle.std.specs.Prelude.{◌≡◌, ◌≤◌, ◌+◌, [], IfOk, vec_capacity, vec_len};
+ghost use Rattle.parallel_ctx.specs.Ready.{HasRoom};
+
+use crate::home::Returned;
+use crate::roles::Worker;
+use crate::start::{Back, Placed};
+use agg_cell::AggObject;
+use agg_table::HashSeat;
+use dsa_area::AreaPass;
+use dshash_parts::DsPass;
+use scan_claim::ClaimSeat;
+use std::alloc::{AllocError, Global};
+use std::sync::atomic::AtomicBool;
+
+/// The lists of the threads: those that were started, what they bring back, and a flag for each.
+#[derive(Drop)]
+pub(crate) struct ThreadLists<P, B> {
+    pub(crate) placed: Vec<P>,
+    pub(crate) backs: Vec<B>,
+    pub(crate) flags: Vec<AtomicBool>,
+}
+
+/// The lists of what comes home: the workers', and the seats of all participants.
+#[derive(Drop)]
+pub(crate) struct HomeLists<E> {
+    pub(crate) workers: Vec<Returned<E>>,
+    pub(crate) claims: Vec<ClaimSeat>,
+    pub(crate) hashes: Vec<HashSeat>,
+    pub(crate) tables: Vec<DsPass<AggObject>>,
+    pub(crate) areas: Vec<AreaPass>,
+}
+
+/// One flag for each worker.
+fn lowered(alloc: Global, count: usize) -> Result<Vec<AtomicBool>, AllocError>
+    ensures { IfOk result (λ v. vec_len v ≡ count) }
+{
+    let mut flags = Vec::with_capacity(alloc, count)?;
+    for _i in 0..count {
+        flags.push_reserved(AtomicBool::new(false));
+    }
+    Ok(flags)
+}
+
+/// The lists of so many threads.
+pub(crate) fn thread_lists<P: Drop, B: Drop>(
+    alloc: Global,
+    asked: usize,
+) -> Result<ThreadLists<P, B>, AllocError>
+    ensures placed { IfOk result (λ l. HasRoom asked l.placed) }
+    ensures backs { IfOk result (λ l. HasRoom asked l.backs) }
+    ensures flags { IfOk result (λ l. vec_len l.flags ≡ asked) }
+{
+    Ok(ThreadLists {
+        placed: Vec::with_capacity(alloc, asked)?,
+        backs: Vec::with_capacity(alloc, asked)?,
+        flags: lowered(alloc, asked)?,
+    })
+}
+
+/// The lists of so many workers and a lead.
+pub(crate) fn home_lists<E: Drop>(alloc: Global, asked: usize) -> Result<HomeLists<E>, AllocError>
+    requires { asked ≤ 64 }
+    ensures workers { IfOk result (λ l. HasRoom asked l.workers) }
+    ensures claims { IfOk result (λ l. HasRoom (asked + 1) l.claims) }
+    ensures hashes { IfOk result (λ l. HasRoom (asked + 1) l.hashes) }
+    ensures tables { IfOk result (λ l. HasRoom (asked + 1) l.tables) }
+    ensures areas { IfOk result (λ l. HasRoom (asked + 1) l.areas) }
+{
+    Ok(HomeLists {
+        workers: Vec::with_capacity(alloc, asked)?,
+        claims: Vec::with_capacity(alloc, asked + 1)?,
+        hashes: Vec::with_capacity(alloc, asked + 1)?,
+        tables: Vec::with_capacity(alloc, asked + 1)?,
+        areas: Vec::with_capacity(alloc, asked + 1)?,
+    })
+}
