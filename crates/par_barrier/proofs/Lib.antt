@@ -4,3 +4,5 @@ pub mod Steps
 pub mod Turns
 pub mod Histories
 pub mod Calls
+pub mod Endings
+pub mod Attached

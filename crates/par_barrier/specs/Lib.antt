@@ -3,3 +3,4 @@ pub mod Legal
 pub mod Kept
 pub mod Phases
 pub mod Shown
+pub mod Ending

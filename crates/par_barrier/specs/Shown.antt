@@ -1,14 +1,15 @@
 -- What a contract sees of a barrier and of its passes.
-use Rattle.std.specs.Prelude.{◌≡◌, ℕ, List, [], ◌∷◌, ◌++◌, replicate, length}
+use Rattle.std.specs.Prelude.{◌≡◌, ℕ, true, List, [], ◌∷◌, ◌++◌, replicate, length}
 use Rattle.std.specs.Prelude.{Result, Ok, Err}
 use mathlib.Core.Option.{some}
 use lib.ListN.{get_elem?}
 use Rattle.lock_book.specs.declared.view.Entry.{Entry}
+use Rattle.lock_book.specs.History.{last_of}
 use Rattle.lock_book.specs.Told.{Makes, MakesAll}
 use Rattle.lock_book.specs.Shown.{Belongs as BelongsToShelf, callers_of as callers_of_shelf, mine_of, number_of as number_of_pass, seen_of}
 use Rattle.par_barrier.specs.declared.history.BarrierState.{BarrierState}
 use Rattle.par_barrier.specs.declared.history.BarrierCall.{BarrierCall}
-use Rattle.par_barrier.specs.declared.history.BarrierCall.TheVariants.{Arrive, Look}
+use Rattle.par_barrier.specs.declared.history.BarrierCall.TheVariants.{Arrive, Attach, Look}
 use Rattle.par_barrier.specs.declared.history.BarrierReply.{BarrierReply}
 use Rattle.par_barrier.specs.declared.history.BarrierReply.TheVariants as reply
 use Rattle.par_barrier.specs.declared.answers.Arrival.{Arrival}
@@ -19,7 +20,7 @@ use Rattle.par_barrier.specs.declared.answers.BarrierAnswer.{BarrierAnswer}
 use Rattle.par_barrier.specs.declared.answers.BarrierAnswer.TheVariants as refused
 use Rattle.par_barrier.specs.declared.barrier.Barrier.{Barrier}
 use Rattle.par_barrier.specs.declared.barrier.BarrierPass.{BarrierPass}
-use Rattle.par_barrier.specs.Parties.{nobody}
+use Rattle.par_barrier.specs.Parties.{is_among, nobody}
 use Rattle.par_barrier.specs.Legal.{BarrierLegal}
 
 -- a list of calls with their replies and the states after them
@@ -71,6 +72,14 @@ refusal_reply (refused.Twice p) = reply.Twice p
 abbrev pub attach_reply : Result ℕ BarrierAnswer → BarrierReply
 attach_reply (Ok p) = reply.Attached p
 attach_reply (Err why) = refusal_reply why
+
+-- one call to attach, whatever it was answered
+abbrev pub HasAttached : BarrierPass → BarrierPass → Type 0
+HasAttached old new = (answer : Result ℕ BarrierAnswer) × Called old new Attach (attach_reply answer)
+
+-- the pass's caller takes part, in the state that the pass saw last
+abbrev pub TakesPart : BarrierPass → Type 0
+TakesPart p = is_among (number_of p) (last_of nobody (history_of p)).attached ≡ true
 
 -- of `arrive` and `look`
 abbrev pub arrival_reply : Result Arrival BarrierAnswer → BarrierReply

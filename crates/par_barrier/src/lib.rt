@@ -1,13 +1,16 @@
 //! A barrier with phases, for parties that come and go, as PostgreSQL's barrier.c has it.
 //!
 //! `parties` is the value behind the lock, with a function for each call; `history` says what its history is made of,
-//! `barrier` has the calls, `waiting` the one that waits for the others, `answers` what they answer, and `laws` what is
-//! true of every history. It is one shelf of `lock_book` with one value, and so a pattern for shared objects.
+//! `barrier` has the calls, `attaching` the one by which all take part, `waiting` the one that waits for the others,
+//! `answers` what they answer, `close` how a barrier ends, and `laws` what is true of every history. It is one shelf of
+//! `lock_book` with one value, and so a pattern for shared objects.
 
 #![tactic(auto)]
 
 mod answers;
+mod attaching;
 mod barrier;
+mod close;
 mod history;
 mod laws;
 mod parties;
@@ -15,5 +18,6 @@ mod waiting;
 
 pub use answers::{Arrival, Arrived, BarrierAnswer, Left};
 pub use barrier::{Barrier, BarrierPass};
+pub use close::ClosedBarrier;
 pub use history::{BarrierCall, BarrierReply, BarrierState};
 pub use laws::{arrives_once, elects_one, tells_elected, tells_phases};

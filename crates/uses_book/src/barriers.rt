@@ -1,13 +1,14 @@
 //! The answers of a barrier in turn, and three threads that go through a hundred phases.
 
 ghost use Rattle.std.specs.Prelude.{◌≡◌, IfOk};
-ghost use Rattle.par_barrier.specs.Shown.{Belongs, number_of};
+ghost use Rattle.lock_book.specs.History.{calls_by};
+ghost use Rattle.par_barrier.specs.Ending.{whole_of};
+ghost use Rattle.par_barrier.specs.Phases.{IsHistory};
+ghost use Rattle.par_barrier.specs.Shown.{Belongs, callers_of, number_of, own_of};
 
-use crossbeam_utils::Backoff;
-use par_barrier::{Arrival, Arrived, Barrier, BarrierAnswer, BarrierPass, Left};
+use par_barrier::{Arrival, Arrived, Barrier, BarrierAnswer, BarrierPass, ClosedBarrier, Left};
 use std::alloc::{AllocError, Global};
 use std::sync::Wait;
-use std::sync::atomic::{AtomicU32, Ordering};
 use std::test::Fail;
 use std::thread::{Threads, join};
 
@@ -16,6 +17,7 @@ const PHASES: u64 = 100;
 
 /// A barrier for two callers, and their passes.
 fn for_two(alloc: Global) -> Result<(Barrier, BarrierPass, BarrierPass), AllocError>
+    ensures callers { IfOk result (λ r. callers_of r.0 ≡ 2) }
     ensures zero { IfOk result (λ r. Belongs r.0 r.1 × (number_of r.1 ≡ 0)) }
     ensures one { IfOk result (λ r. Belongs r.0 r.2 × (number_of r.2 ≡ 1)) }
 {
@@ -27,6 +29,26 @@ fn for_two(alloc: Global) -> Result<(Barrier, BarrierPass, BarrierPass), AllocEr
         unreachable!()
     };
     Ok((barrier, zero, one))
+}
+
+/// Ends a barrier of two callers: its history has the calls of each, as its pass shows them.
+fn close_two(
+    alloc: Global,
+    barrier: Barrier,
+    zero: BarrierPass,
+    one: BarrierPass,
+) -> Result<ClosedBarrier, AllocError>
+    requires callers { callers_of barrier ≡ 2 }
+    requires zero { Belongs barrier zero × (number_of zero ≡ 0) }
+    requires one { Belongs barrier one × (number_of one ≡ 1) }
+    ensures lawful { IfOk result (λ c. IsHistory (whole_of c)) }
+    ensures zero { IfOk result (λ c. calls_by 0 (whole_of c) ≡ own_of zero) }
+    ensures one { IfOk result (λ c. calls_by 1 (whole_of c) ≡ own_of one) }
+{
+    let mut passes = Vec::new(alloc);
+    passes.push(zero)?;
+    passes.push(one)?;
+    Ok(barrier.close(passes))
 }
 
 #[test]
@@ -85,16 +107,21 @@ fn each_answer(rt: HostRuntime) -> Result<(), Fail> {
         Err(BarrierAnswer::NotIn { phase: 2 })
     );
     zero.meet(&b, &mut one);
+    let _closed = close_two(rt.alloc(), b, zero, one)?;
     Ok(())
 }
 
-/// A barrier for three callers, and their passes.
-fn for_three(alloc: Global) -> Result<(Barrier, BarrierPass, BarrierPass, BarrierPass), AllocError>
+/// A barrier for three callers, who all take part, and their passes.
+fn for_three<R: Wait>(
+    rt: &R,
+    alloc: Global,
+) -> Result<(Barrier, BarrierPass, BarrierPass, BarrierPass), AllocError>
     ensures zero { IfOk result (λ r. Belongs r.0 r.1) }
     ensures one { IfOk result (λ r. Belongs r.0 r.2) }
     ensures two { IfOk result (λ r. Belongs r.0 r.3) }
 {
     let (barrier, mut passes) = Barrier::new(alloc, 3)?;
+    barrier.attach_all(rt, passes.as_mut_slice());
     let Some(two) = passes.pop() else {
         unreachable!()
     };
@@ -107,20 +134,15 @@ fn for_three(alloc: Global) -> Result<(Barrier, BarrierPass, BarrierPass, Barrie
     Ok((barrier, zero, one, two))
 }
 
-/// Attaches, waits until all three have, and goes through the phases: those whose end elected this thread.
+/// Goes through the phases: those whose end elected this thread.
 fn go_through<R: Wait>(
     rt: &R,
     alloc: Global,
     barrier: &Barrier,
     mut pass: BarrierPass,
-    attached: &AtomicU32,
 ) -> Result<Vec<u64>, AllocError>
     requires { Belongs barrier.now pass }
 {
-    let _phase = barrier.attach(rt, &mut pass);
-    let _before = attached.fetch_add(1, Ordering::SeqCst);
-    let backoff = Backoff::new();
-    while_attaching(rt, attached, &backoff);
     let mut elected = Vec::new(alloc);
     for _ in 0..PHASES {
         if let Ok(
@@ -136,16 +158,6 @@ fn go_through<R: Wait>(
     Ok(elected)
 }
 
-/// Waits until all three threads have attached.
-fn while_attaching<R: Wait>(rt: &R, attached: &AtomicU32, backoff: &Backoff) {
-    for _ in rt.forever() {
-        if attached.load(Ordering::SeqCst) == 3 {
-            return;
-        }
-        backoff.snooze();
-    }
-}
-
 /// Two of the threads, beside each other: what each was elected in.
 fn two_threads<R: Threads + Wait + Sync>(
     rt: &R,
@@ -153,15 +165,14 @@ fn two_threads<R: Threads + Wait + Sync>(
     barrier: &Barrier,
     one: BarrierPass,
     two: BarrierPass,
-    attached: &AtomicU32,
 ) -> (Result<Vec<u64>, AllocError>, Result<Vec<u64>, AllocError>)
     requires one { Belongs barrier.now one }
     requires two { Belongs barrier.now two }
 {
     join(
         rt,
-        || go_through(rt, alloc, barrier, one, attached),
-        || go_through(rt, alloc, barrier, two, attached),
+        || go_through(rt, alloc, barrier, one),
+        || go_through(rt, alloc, barrier, two),
     )
 }
 
@@ -178,14 +189,12 @@ fn three_threads<R: Threads + Wait + Sync>(
     requires one { Belongs barrier.now one }
     requires two { Belongs barrier.now two }
 {
-    let attached = AtomicU32::new(0);
-    let count = &attached;
     let (first, (second, third)) = join(
         rt,
-        || go_through(rt, alloc, barrier, zero, count),
+        || go_through(rt, alloc, barrier, zero),
         ||
             requires { Belongs barrier.now one × Belongs barrier.now two }
-        { two_threads(rt, alloc, barrier, one, two, count) },
+        { two_threads(rt, alloc, barrier, one, two) },
     );
     let mut all = first?;
     all.append(&mut second?)?;
@@ -195,7 +204,7 @@ fn three_threads<R: Threads + Wait + Sync>(
 
 #[test]
 fn each_phase_elects_one(rt: HostRuntime) -> Result<(), Fail> {
-    let (barrier, zero, one, two) = for_three(rt.alloc())?;
+    let (barrier, zero, one, two) = for_three(&rt, rt.alloc())?;
     let mut elected = three_threads(&rt, rt.alloc(), &barrier, zero, one, two)?;
     elected.sort_unstable();
     assert_eq!(rt; elected.len(), PHASES as usize);
