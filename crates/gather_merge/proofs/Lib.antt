@@ -12,7 +12,6 @@ pub mod Refilling
 pub mod Stopping
 pub mod Led
 pub mod Merging
-pub mod Numbers
 pub mod Ordered
 pub mod Runs
 pub mod Sent

@@ -2,7 +2,8 @@
 use Rattle.std.proofs.Common.{◌≡◌, ◌⊎◌, inl, inr, ℕ, List, [], ◌∷◌, length, map, All, Any, subst, sym}
 use Rattle.std.specs.List.{AllZip}
 use Rattle.std.proofs.lemmas.List.Elements.{All-nil}
-use Rattle.gather_law.specs.Tuples.{Table}
+use Rattle.row_blocks.specs.Blocks.{Table}
+use Rattle.row_blocks.proofs.Elements.{any_cases, any_head, any_none, any_tail}
 use Rattle.par_model.specs.Plan.{Plan}
 use Rattle.parallel_ctx.specs.Tokens.{SameQueues}
 use Rattle.parallel_ctx.specs.declared.tokens.LeaderEnds.{LeaderEnds}
@@ -11,7 +12,6 @@ use Rattle.partial_agg.specs.declared.map.BlockAnswer.TheVariants as answer
 use Rattle.scan_claim.specs.declared.claims.ClaimSeat.{ClaimSeat}
 use Rattle.scan_claim.specs.declared.claims.Claims.{Claims}
 use Rattle.worker_run.specs.Notices.{ReadsRow}
-use Rattle.worker_run.proofs.Anys.{any_cases, any_head, any_none, any_tail}
 use Rattle.gather_merge.specs.Drawn.{Draws, DrawsNext, Met, StopsDrawing}
 use Rattle.gather_merge.specs.Hearing.{IsNamedIn, NamedBy, notices_of}
 use Rattle.gather_merge.specs.declared.drawing.Step.{Step}

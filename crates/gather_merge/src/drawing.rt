@@ -4,19 +4,20 @@
 ghost use Rattle.std.specs.Prelude.{◌≡◌, ◌<◌, ◌+◌, ◌*◌, ◌++◌, OnOk, IfErr, All, length};
 ghost use Rattle.std.specs.List.{AllZip};
 ghost use Rattle.par_model.specs.Columns.{HasColumns};
-ghost use Rattle.partial_agg.specs.Rows.{IsAccepted, block_rows, header_width};
+ghost use Rattle.partial_agg.specs.Rows.{IsAccepted, header_width};
+ghost use Rattle.row_blocks.specs.Blocks.{block_numbers, block_rows};
 ghost use Rattle.scan_claim.specs.Shown.{Belongs, number_of};
 ghost use Rattle.parallel_ctx.specs.Tokens.{SameQueues};
 ghost use Rattle.worker_run.specs.Job.{IsJob};
 ghost use Rattle.gather_merge.specs.Drawn.{Draws, DrawsNext, Drew, HasDrawn, Stops};
 ghost use Rattle.gather_merge.specs.Hearing.{AreOpen, HasGivenNoRow};
-ghost use Rattle.gather_merge.specs.Streams.{block_numbers};
 
 use crate::hearing::hear_early;
 use csv_rows::RowStore;
 use par_model::{BoundPlan, Refusal};
 use parallel_ctx::LeaderEnds;
-use partial_agg::{BLOCK_ROWS, BlockAnswer, refusal};
+use partial_agg::{BlockAnswer, refusal};
+use row_blocks::BLOCK_ROWS;
 use scan_claim::ClaimSeat;
 use std::sync::Wait;
 use worker_run::{Gate, Job};

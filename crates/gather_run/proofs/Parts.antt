@@ -11,11 +11,12 @@ use Rattle.agg_table.specs.Calls.{HasPut, Use}
 use Rattle.agg_table.proofs.Putting.{has_put_nothing}
 use Rattle.par_model.specs.Plan.{Plan}
 use Rattle.partial_agg.specs.Groups.{GroupsByKey, with_rows}
-use Rattle.partial_agg.specs.Rows.{IsAccepted, block_rows, header_width}
+use Rattle.partial_agg.specs.Rows.{IsAccepted, header_width}
+use Rattle.row_blocks.specs.Blocks.{AreBlocks, Table, block_rows, rows_of_blocks}
+use Rattle.row_blocks.proofs.Permute.{AllZip-at, AllZip-join, AllZip-long, AllZip-put, same-permutation}
 use Rattle.gather_law.specs.Parts.{Block, Part, Received, after, blocks_in, received_in, with_all, with_part}
-use Rattle.gather_law.specs.Tuples.{AreBlocks, Group, Table, groups_of, rows_of_blocks}
+use Rattle.gather_law.specs.Tuples.{Group, groups_of}
 use Rattle.gather_law.proofs.Gathering.{all_added}
-use Rattle.gather_law.proofs.Permute.{AllZip-at, AllZip-join, AllZip-long, AllZip-put, same-permutation}
 use Rattle.gather_run.specs.Leading.{IsLeading}
 use Rattle.gather_run.specs.Reading.{ReadAs}
 use Rattle.gather_run.proofs.Shares.{no_entries}

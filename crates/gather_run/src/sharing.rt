@@ -5,15 +5,17 @@
 ghost use Rattle.std.specs.Prelude.{◌≡◌, ◌<◌, ◌+◌, ◌*◌, All, IfErr, OnOk, length};
 ghost use Rattle.std.specs.FinMap as map;
 ghost use Rattle.agg_table.specs.Tokens.{Grew, IsPart, IsSeat, StaysSeated, use_in, use_of};
-ghost use Rattle.partial_agg.specs.Rows.{IsAccepted, block_rows, header_width};
+ghost use Rattle.partial_agg.specs.Rows.{IsAccepted, header_width};
+ghost use Rattle.row_blocks.specs.Blocks.{block_rows};
 ghost use Rattle.gather_law.specs.Tuples.{groups_of};
 ghost use Rattle.worker_run.specs.Job.{IsJob, IsSeated};
 ghost use Rattle.gather_run.specs.Sharing.{DoesBlock, SharesGroup, SharesGroups, StopsAt};
 
 use par_model::AggState;
 use parallel_ctx::{HashPart, HashSeat};
-use partial_agg::{BLOCK_ROWS, BlockAnswer, GroupKey, GroupMap};
+use partial_agg::{BlockAnswer, GroupKey, GroupMap};
 use region_words::Region;
+use row_blocks::BLOCK_ROWS;
 use std::alloc::AllocError;
 use std::sync::Wait;
 use worker_run::Job;

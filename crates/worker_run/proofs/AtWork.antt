@@ -12,13 +12,14 @@ use Rattle.par_model.specs.Plan.{Plan}
 use Rattle.par_model.specs.declared.state.AggState.{AggState}
 use Rattle.partial_agg.specs.Blocks.{Stopped as IsStoppedAt}
 use Rattle.partial_agg.specs.Groups.{GroupsByKey, key_cmp, with_rows}
-use Rattle.partial_agg.specs.Rows.{IsAccepted, block_rows, header_width}
+use Rattle.partial_agg.specs.Rows.{IsAccepted, header_width}
+use Rattle.row_blocks.specs.Blocks.{AreBlocks, Table, block_rows}
 use Rattle.partial_agg.specs.declared.map.BlockAnswer.{BlockAnswer}
 use Rattle.partial_agg.specs.declared.map.BlockAnswer.TheVariants as answer
 use Rattle.partial_agg.proofs.Rest.{rest_is_empty}
 use Rattle.ring_rule.specs.Ring.{Sending}
 use Rattle.scan_claim.specs.Drawing.{is_spent}
-use Rattle.gather_law.specs.Tuples.{AreBlocks, Group, IsTupleOf, Table, groups_of}
+use Rattle.gather_law.specs.Tuples.{Group, IsTupleOf, groups_of}
 use Rattle.worker_run.specs.Ended.{HasEnded, sends_of}
 use Rattle.worker_run.specs.Job.{DrawsNone}
 use Rattle.worker_run.specs.Notices.{GivesUp}

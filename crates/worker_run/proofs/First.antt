@@ -3,10 +3,10 @@ use Rattle.std.proofs.Common.{◌≡◌, ◌≤◌, ◌+◌, ◌-◌, ◌*◌, �
 use Rattle.std.proofs.lemmas.List.{take-take}
 use Rattle.std.proofs.lemmas.List.Elements.{All-append}
 use Rattle.par_model.specs.Plan.{Plan}
-use Rattle.partial_agg.specs.Rows.{IsAccepted, block_rows, header_width}
+use Rattle.partial_agg.specs.Rows.{IsAccepted, header_width}
+use Rattle.row_blocks.specs.Blocks.{Table, block_rows, rows_of_blocks}
+use Rattle.row_blocks.proofs.BlockRows.{block_of, rows_below, take_on}
 use Rattle.scan_claim.specs.Drawing.{below}
-use Rattle.gather_law.proofs.Draws.{block_of, rows_below, take_on}
-use Rattle.gather_law.specs.Tuples.{Table, rows_of_blocks}
 use Rattle.worker_run.specs.Ended.{IsFirst}
 
 last_same : (xs : List ℕ) (a b : ℕ) → xs ++ a ∷ [] ≡ xs ++ b ∷ [] → a ≡ b

@@ -4,7 +4,7 @@ use Rattle.agg_table.specs.Tokens.{IsPart, IsSeat}
 use Rattle.agg_table.specs.declared.part.HashPart.{HashPart}
 use Rattle.agg_table.specs.declared.part.HashSeat.{HashSeat}
 use Rattle.atomic_table.specs.Seated.{TableId}
-use Rattle.gather_law.specs.Tuples.{AreBlocks}
+use Rattle.row_blocks.specs.Blocks.{AreBlocks}
 use Rattle.mq_ring.specs.Ends.{SendingEnd}
 use Rattle.par_model.specs.Columns.{HasColumns}
 use Rattle.partial_agg.specs.Rows.{header_width}

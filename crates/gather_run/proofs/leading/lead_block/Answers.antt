@@ -10,7 +10,7 @@ use Rattle.gather_run.specs.declared.GatherAnswer.{GatherAnswer}
 use Rattle.gather_run.specs.declared.leading.Step.TheVariants.{Failed}
 use Rattle.partial_agg.specs.declared.map.BlockAnswer.{BlockAnswer}
 use Rattle.partial_agg.specs.declared.map.BlockAnswer.TheVariants as block
-use Rattle.partial_agg.proofs.Blocks.{length-block}
+use Rattle.row_blocks.proofs.BlockRows.{length-block}
 use Rattle.worker_run.proofs.First.{first_row}
 use Rattle.gather_run.proofs.Parts.{leading-block, leading-late}
 use Rattle.gather_run.proofs.leading.lead_block.Goals as goal
