@@ -1,7 +1,8 @@
 -- Why a participant stopped drawing.
-use Rattle.std.proofs.Common.{◌≡◌, ◌⊎◌, inl, inr, ℕ, List, [], ◌∷◌, length, map, All, Any, subst, sym}
+use Rattle.std.proofs.Common.{◌≡◌, ◌<◌, ◌⊎◌, inl, inr, ℕ, List, [], ◌∷◌, Option, None, Some, IfSome, length, map, set, All, Any, subst, sym}
 use Rattle.std.specs.List.{AllZip}
 use Rattle.std.proofs.lemmas.List.Elements.{All-nil}
+use Rattle.std.proofs.lemmas.List.Quantifiers.{any-set}
 use Rattle.row_blocks.specs.Blocks.{Table}
 use Rattle.row_blocks.proofs.Elements.{any_cases, any_head, any_none, any_tail}
 use Rattle.par_model.specs.Plan.{Plan}
@@ -19,6 +20,11 @@ use Rattle.gather_merge.specs.declared.drawing.Step.TheVariants.{Next, NoMore, S
 
 pub none_all : (P : LeaderEnds → Type 0) (queues : List LeaderEnds) → queues ≡ [] → All P queues
 none_all P queues e = subst (All P) (sym e) (All-nil P)
+
+-- what one of the queues names, some queue names
+pub named_of : (queues : List LeaderEnds) (k : ℕ) (q : LeaderEnds) (named : Option BlockAnswer) → k < length queues → IfSome named (IsNamedIn q) → IfSome named (λ why. Any (λ (p : LeaderEnds). IsNamedIn p why) (set queues k q))
+named_of queues k q None l h = tt
+named_of queues k q (Some why) l h = any-set (λ (p : LeaderEnds). IsNamedIn p why) queues k q l h
 
 module _ (plan : Plan) (records : Table) (claims : Claims) (claim : ClaimSeat) where
   met_stops : (queues : List LeaderEnds) (why : BlockAnswer) → Met plan records claims claim why → StopsDrawing plan records claims claim queues why

@@ -72,10 +72,11 @@ fn hear<R: Wait>(rt: &R, r: &Region, queue: &mut LeaderEnds) -> Next
 
 /// Hears the notices of a worker that are there.
 fn hear_notice<R: Wait>(rt: &R, r: &Region, queue: &mut LeaderEnds) -> Option<BlockAnswer>
-    requires { IsOpen r.now queue.old }
+    requires open { IsOpen r.now queue.old }
+    requires unheard { HasGivenNoRow queue.old }
     ensures same { SameQueues queue.old queue.new }
     ensures open { IsOpen r.now queue.new }
-    ensures tuples { queue.new.tuples ≡ queue.old.tuples }
+    ensures unheard { HasGivenNoRow queue.new }
     ensures named { IfSome result (IsNamedIn queue.new) }
 {
     match hear_notices(rt, r, &mut queue.errors) {

@@ -2,9 +2,11 @@
 //!
 //! A worker draws blocks of rows until there are no more, adds the rows of each to a map of groups, and sends these as
 //! tuples on its tuple queue: all of them where they are many, and the rest at the end. On its error queue it sends a
-//! single notice: `X` as its last act, when all its tuples are sent, or `E` with the row that is refused. Between two
-//! blocks one thing holds (`IsWorking`): the rows of its blocks are those of the batches that it has sent and of the
-//! map that it keeps. So whoever reads `X` knows that the tuples before it stand for all rows of the worker's blocks.
+//! single notice: `X` as its last act, when all its tuples are sent, or `E` with the row that is refused. So whoever
+//! reads `X` knows that the tuples before it stand for all rows of the worker's blocks.
+//!
+//! What leaders and other workers share with it stands here too: what a participant works on and how it draws blocks
+//! (`Job`), what is said and heard by notices, and what the workers' ends mean.
 
 #![tactic(auto)]
 
