@@ -1,5 +1,5 @@
 -- The leader's steps, by the parts that it has put into its map.
-use Rattle.std.proofs.Common.{◌≡◌, ◌<◌, ◌≤◌, ◌+◌, ◌-◌, ◌*◌, ◌++◌, ◌⊎◌, inl, inr, ℕ, zero, suc, List, [], ◌∷◌, length, set, get_or, take, drop, map as map_list, All, Option, None, Some, refl, length-append, ap, sym, subst, ◌∙◌, arith, append-nil, append_assoc}
+use Rattle.std.proofs.Common.{◌≡◌, ◌<◌, ◌++◌, ℕ, zero, suc, List, [], ◌∷◌, length, set, get_or, map as map_list, All, Option, None, Some, refl, ap, sym, subst, ◌∙◌, arith, append-nil, append_assoc}
 use Rattle.std.specs.FinMap as map
 use Rattle.std.specs.List.{AllZip, flat_map}
 use Rattle.std.specs.List.Sorted.{IsPermutation}
@@ -19,7 +19,6 @@ use Rattle.gather_law.specs.Tuples.{Group, groups_of}
 use Rattle.gather_law.proofs.Gathering.{all_added}
 use Rattle.gather_run.specs.Leading.{IsLeading}
 use Rattle.gather_run.specs.Reading.{ReadAs}
-use Rattle.gather_run.proofs.Shares.{no_entries}
 use Rattle.gather_run.specs.Sharing.{DoesBlock, DoesBlocks, SharesGroups}
 use Rattle.parallel_ctx.specs.Accounts.{IsUnusedTable}
 use Rattle.worker_run.specs.Tabled.{groups_of_blocks}
