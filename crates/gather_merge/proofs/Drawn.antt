@@ -1,6 +1,6 @@
 -- What a block adds to what a participant has drawn.
-use Rattle.std.proofs.Common.{◌≡◌, ◌≤◌, ◌+◌, ◌-◌, ◌*◌, ◌++◌, ◌⊎◌, inl, inr, ℕ, suc, List, [], ◌∷◌, length, take, drop, All, Contains, IsTrue, ap, sym, subst, ◌∙◌, arith, append-nil, length-append}
-use Rattle.std.proofs.lemmas.List.{drop_all, take-take}
+use Rattle.std.proofs.Common.{◌≡◌, ◌≤◌, ◌+◌, ◌-◌, ◌*◌, ◌++◌, inl, inr, ℕ, List, [], ◌∷◌, length, take, All, Contains, IsTrue, ap, sym, subst, ◌∙◌, arith, append-nil}
+use Rattle.std.proofs.lemmas.List.{drop_all}
 use Rattle.std.proofs.lemmas.List.Concat.{flat_map-append}
 use Rattle.std.proofs.lemmas.List.Elements.{All-append, All-nil, Contains-push}
 use Rattle.par_model.specs.Plan.{Plan}
@@ -16,7 +16,7 @@ use Rattle.scan_claim.specs.declared.claims.Claims.{Claims}
 use Rattle.worker_run.specs.Job.{DrawsNone}
 use Rattle.worker_run.proofs.First.{first_row}
 use Rattle.worker_run.proofs.Working.{late_draw, more_blocks}
-use Rattle.gather_merge.specs.Drawn.{HasDrawn, HasDrawnAll, Met, Stops, StopsAt}
+use Rattle.gather_merge.specs.Drawn.{HasDrawn, HasDrawnAll, Met, Stops}
 
 module _ (plan : Plan) (records : Table) where
   pub more_numbers : (draws : List ℕ) (b : ℕ) → numbers_of_blocks records (draws ++ b ∷ []) ≡ numbers_of_blocks records draws ++ block_numbers records b

@@ -1,5 +1,5 @@
 -- What a worker has done and said when it ends.
-use Rattle.std.proofs.Common.{◌≡◌, ◌⊎◌, ◌++◌, inl, inr, ℕ, List, [], ◌∷◌, map, All, true, refl, ap, sym, subst, ◌∙◌, append-nil}
+use Rattle.std.proofs.Common.{◌≡◌, ◌++◌, inl, inr, ℕ, List, [], ◌∷◌, map, All, refl, ap, sym, subst, ◌∙◌}
 use Rattle.std.specs.List.Sorted.{IsPermutation, IsSorted}
 use Rattle.std.proofs.lemmas.List.Elements.{All-cons, All-nil}
 use Rattle.error_queue.specs.Message.{encoding}
@@ -13,8 +13,7 @@ use Rattle.scan_claim.specs.Shown.{blocks_of, draws_of}
 use Rattle.scan_claim.specs.declared.claims.ClaimSeat.{ClaimSeat}
 use Rattle.scan_claim.specs.declared.claims.Claims.{Claims}
 use Rattle.row_blocks.specs.Blocks.{Table}
-use Rattle.worker_run.specs.Ended.{IsNotice, found_gone, sends_of}
-use Rattle.worker_run.specs.Sent.{FoundGone, HasSent}
+use Rattle.worker_run.specs.Ended.{IsNotice, sends_of}
 use Rattle.ring_rule.specs.Ends.{publishes}
 use Rattle.worker_run.specs.Notices.{EndsInOrder, GivesUp}
 use Rattle.worker_run.proofs.Ends.{gone_is, names_row, silence, silent_yet}

@@ -123,15 +123,7 @@ pub(crate) fn lead_all<G: Gate, R: Wait>(
 {
     let mut block_groups = GroupMap::new(alloc);
     for _ in rt.forever() {
-        match lead_next(
-            rt,
-            job,
-            claim,
-            seat,
-            queues,
-            &mut block_groups,
-            groups,
-        ) {
+        match lead_next(rt, job, claim, seat, queues, &mut block_groups, groups) {
             Step::Next => {}
             Step::NoMore => return hear_out(rt, job.region, queues, groups),
             Step::Failed(why) => return Some(why),

@@ -126,8 +126,8 @@ module _ (plan : Plan) (records : Table) where
       let said : whole_of errors'.put ≡ encoding (message.Row row cause item) ∷ [] = sent.sent ∙ ap (λ l. l ++ encoding (message.Row row cause item) ∷ []) silent in (
         record { refused = refused; own = own; said = inl said },
         subst (All (IsNotice plan records draws)) (sym said)
-        (All-cons (IsNotice plan records draws) (encoding (message.Row row cause item)) []
-        (inl (record { row = row; cause = cause; item = item; is = refl; fits = fits; refused = refused; own = own })) (All-nil (IsNotice plan records draws))),
+            (All-cons (IsNotice plan records draws) (encoding (message.Row row cause item)) []
+            (inl (record { row = row; cause = cause; item = item; is = refl; fits = fits; refused = refused; own = own })) (All-nil (IsNotice plan records draws))),
       )
   names_row draws row cause item errors errors' tuples silent refused own fits (inr found) =
       let quiet = silent_yet errors errors' silent found.sent in (record { refused = refused; own = own; said = inr (quiet, gone_is errors' found.flag) }, silence draws errors' quiet)

@@ -1,5 +1,4 @@
 use Rattle.gather_merge.proofs.Stopping.{step_alone, stops_heard}
-use Rattle.std.proofs.Common.{sym, ◌∙◌}
 use Rattle.gather_merge.proofs.drawing.draw_next.Goals as goal
 
 pub returns-in-Some-clause-step : goal.returns-in-Some-clause-step

@@ -1,4 +1,4 @@
-use Rattle.std.proofs.Common.{◌<◌, arith, length, sym, ◌∙◌}
+use Rattle.std.proofs.Common.{◌<◌, arith, length}
 use Rattle.std.proofs.lemmas.List.Elements.{All-set}
 use Rattle.parallel_ctx.proofs.Queues.{all-same, same-put}
 use Rattle.gather_merge.specs.Hearing.{HasGivenNoRow, IsOpen}

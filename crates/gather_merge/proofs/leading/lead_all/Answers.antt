@@ -10,7 +10,7 @@ use Rattle.gather_merge.proofs.Led.{led_merged, led_met, none_given, stream_draw
 use Rattle.gather_merge.proofs.leading.lead_all.Goals as goal
 
 pub draw_all-requires-clause-drawn : goal.draw_all-requires-clause-drawn
-draw_all-requires-clause-drawn g c = drawn_none c.args.job.now.plan.now c.args.job.now.rows.now c.args.job.now.claims.now c.args.claim.now c.new-list.result.items c.requires.seat.1 (search rules)
+draw_all-requires-clause-drawn g c = drawn_none c.args.job.now.plan.now c.args.job.now.rows.now c.args.job.now.claims.now c.args.claim.now c.new-list.result.items c.requires.seat.1 c.new-list.ensures.items
 
 pub merge_all-requires-clause-fresh : goal.merge_all-requires-clause-fresh
 merge_all-requires-clause-fresh g c = none_given (record { list = c.sort_rows.new.list; given = 0 }) c.draw_all.new.queues refl c.draw_all.ensures.unheard
