@@ -1,5 +1,5 @@
 -- What a worker has done and said when it ends.
-use Rattle.std.proofs.Common.{◌≡◌, ◌⊎◌, ◌++◌, inl, inr, ℕ, List, [], ◌∷◌, map, All, true, refl, ap, sym, subst, ◌∙◌, append-nil}
+use Rattle.std.proofs.Common.{◌≡◌, ◌++◌, inl, inr, ℕ, List, [], ◌∷◌, map, All, refl, ap, sym, subst, ◌∙◌}
 use Rattle.std.specs.List.Sorted.{IsPermutation, IsSorted}
 use Rattle.std.proofs.lemmas.List.Elements.{All-cons, All-nil}
 use Rattle.error_queue.specs.Message.{encoding}
@@ -13,10 +13,10 @@ use Rattle.scan_claim.specs.Shown.{blocks_of, draws_of}
 use Rattle.scan_claim.specs.declared.claims.ClaimSeat.{ClaimSeat}
 use Rattle.scan_claim.specs.declared.claims.Claims.{Claims}
 use Rattle.row_blocks.specs.Blocks.{Table}
-use Rattle.worker_run.specs.Ended.{IsNotice, found_gone, sends_of}
-use Rattle.worker_run.specs.Sent.{FoundGone, HasSent}
+use Rattle.worker_run.specs.Ended.{IsNotice, sends_of}
 use Rattle.ring_rule.specs.Ends.{publishes}
 use Rattle.worker_run.specs.Notices.{EndsInOrder, GivesUp}
+use Rattle.worker_run.proofs.Ends.{gone_is, names_row, silence, silent_yet}
 use Rattle.worker_run.proofs.Saying.{is_published, sent_still}
 use Rattle.worker_run.specs.declared.WorkerEnd.{WorkerEnd}
 use Rattle.worker_run.specs.declared.WorkerEnd.TheVariants.{Finished, Stopped, Refused, NoMemory}
@@ -24,9 +24,6 @@ use Rattle.gather_merge.specs.Drawn.{HasDrawnAll, Met}
 use Rattle.gather_merge.specs.Ended.{Finishes, HasEnded}
 use Rattle.gather_merge.specs.Order.{row_cmp}
 use Rattle.gather_merge.specs.Sent.{HasSentRows, IsRowMessage, message_of}
-
-gone_is : (s : Sending) → s.flag_value ≡ 1 → found_gone s ≡ true
-gone_is s e = rw e refl
 
 messages_are : (rows : List ℕ) → All IsRowMessage (map message_of rows)
 messages_are [] = All-nil IsRowMessage
@@ -40,12 +37,6 @@ ends_finish rows errors tuples sent errors' tuples' (Refused row cause item) s e
 ends_finish rows errors tuples sent errors' tuples' NoMemory s e f = absurd f
 
 module _ (plan : Plan) (records : Table) where
-  silent_yet : (errors errors' : Sending) → whole_of errors.put ≡ [] → whole_of errors'.put ≡ whole_of errors.put ++ [] → whole_of errors'.put ≡ []
-  silent_yet errors errors' e f = f ∙ append-nil (whole_of errors.put) ∙ e
-
-  silence : (draws : List ℕ) (errors : Sending) → whole_of errors.put ≡ [] → All (IsNotice plan records draws) (whole_of errors.put)
-  silence draws errors e = subst (All (IsNotice plan records draws)) (sym e) (All-nil (IsNotice plan records draws))
-
   sent_are : (rows : List ℕ) (old new : Sending) → whole_of old.put ≡ [] → whole_of new.put ≡ whole_of old.put ++ map message_of rows → whole_of new.put ≡ map message_of rows
   sent_are rows old new e f = f ∙ ap (λ l. l ++ map message_of rows) e
 
@@ -79,14 +70,14 @@ module _ (plan : Plan) (records : Table) where
       let still : whole_of errors'.put ≡ [] = ap (λ (s : Sending). whole_of s.put) f.1 ∙ quiet in
       record {
         ended = record { silent = still; found = inr (gone_is tuples' f.0.found.flag) };
-        notices = silence (draws_of claim) errors' still;
+        notices = silence plan records (draws_of claim) errors' still;
         tuples = rows_are f.0.done tuples tuples' none f.0.found.sent;
       }
   has_finished claims claim list rows errors tuples errors' tuples' Stopped d p s quiet none (inr f) =
-      let still = silent_yet errors errors' quiet f.1.sent in
+      let still = silent_yet plan records errors errors' quiet f.1.sent in
       record {
         ended = record { silent = still; found = inl (gone_is errors' f.1.flag) };
-        notices = silence (draws_of claim) errors' still;
+        notices = silence plan records (draws_of claim) errors' still;
         tuples = rows_are rows tuples tuples' none f.0.sent;
       }
   has_finished claims claim list rows errors tuples errors' tuples' (Refused row cause item) d p s quiet none f = absurd f
@@ -99,20 +90,7 @@ module _ (plan : Plan) (records : Table) where
   has_given_up claims claim errors tuples errors' answer.Memory end m quiet none g =
       let still : whole_of errors'.put ≡ [] = ap (λ (s : Sending). whole_of s.put) g.1 ∙ quiet in
       subst (HasEnded plan records (blocks_of claims) (draws_of claim) (sends_of errors' tuples)) (sym g.0)
-      (record { ended = still; notices = silence (draws_of claim) errors' still; tuples = no_rows_sent tuples none })
+      (record { ended = still; notices = silence plan records (draws_of claim) errors' still; tuples = no_rows_sent tuples none })
   has_given_up claims claim errors tuples errors' (answer.Row row cause item) end m quiet none g =
-      subst (HasEnded plan records (blocks_of claims) (draws_of claim) (sends_of errors' tuples)) (sym g.0) (by g.2)
-    where
-      by : HasSent errors errors' (encoding (message.Row row cause item) ∷ []) ⊎ FoundGone errors errors' [] → HasEnded plan records (blocks_of claims) (draws_of claim) (sends_of errors' tuples) (Refused row cause item)
-      by (inl sent) =
-          let said : whole_of errors'.put ≡ encoding (message.Row row cause item) ∷ [] = sent.sent ∙ ap (λ l. l ++ encoding (message.Row row cause item) ∷ []) quiet in
-          record {
-            ended = record { refused = m.refused; own = m.own; said = inl said };
-            notices = subst (All (IsNotice plan records (draws_of claim))) (sym said)
-                (All-cons (IsNotice plan records (draws_of claim)) (encoding (message.Row row cause item)) []
-                (inl (record { row = row; cause = cause; item = item; is = refl; fits = g.1; refused = m.refused; own = m.own })) (All-nil (IsNotice plan records (draws_of claim))));
-            tuples = no_rows_sent tuples none;
-          }
-      by (inr found) =
-          let still = silent_yet errors errors' quiet found.sent in
-          record { ended = record { refused = m.refused; own = m.own; said = inr (still, gone_is errors' found.flag) }; notices = silence (draws_of claim) errors' still; tuples = no_rows_sent tuples none }
+      let said = names_row plan records (draws_of claim) row cause item errors errors' tuples quiet m.refused m.own g.1 g.2 in
+      subst (HasEnded plan records (blocks_of claims) (draws_of claim) (sends_of errors' tuples)) (sym g.0) (record { ended = said.0; notices = said.1; tuples = no_rows_sent tuples none })

@@ -20,11 +20,12 @@ use Rattle.scan_claim.specs.Drawing.{is_spent}
 use Rattle.scan_claim.specs.Shown.{callers_of, draws_of}
 use Rattle.scan_claim.specs.declared.claims.ClaimSeat.{ClaimSeat}
 use Rattle.scan_claim.specs.declared.claims.Claims.{Claims}
-use Rattle.gather_merge.specs.Drawn.{HasDrawnAll, Met}
-use Rattle.gather_merge.specs.Hearing.{AreOpen, HasGivenNone, HaveGivenNone, IsOpen, Source, notices_of, own_source, queue_source, rows_heard, sources_of, streams}
+use Rattle.gather_merge.specs.Drawn.{HasDrawnAll, StopsDrawing}
+use Rattle.gather_merge.specs.Hearing.{AreOpen, HasGivenNoRow, HasGivenNone, HaveGivenNone, IsOpen, Source, notices_of, own_source, queue_source, rows_heard, sources_of, streams}
 use Rattle.gather_merge.specs.Leading.{Answers, Drains, Led}
 use Rattle.worker_run.specs.Notices.{ReadsRow}
 use Rattle.worker_run.proofs.Judging.{all_apart}
+use Rattle.gather_merge.proofs.Stopping.{named_early}
 use Rattle.gather_merge.specs.Order.{row_cmp}
 use Rattle.gather_merge.specs.Sent.{row_of}
 use Rattle.gather_merge.specs.Streams.{IsMerge, IsStream}
@@ -55,8 +56,8 @@ notices_over : (queues : List LeaderEnds) → All (λ (s : Source). s.over ≡ t
 notices_over queues a = All-map (λ (h : Heard). h.errors_over ≡ true) heard queues (All-weaker (λ (q : LeaderEnds). ((heard q).tuples_over ≡ true) × ((heard q).errors_over ≡ true)) (λ (q : LeaderEnds). (heard q).errors_over ≡ true) (λ q o. o.1) queues (queues_over queues a))
 
 -- a list of which nothing was given, and queues of which nothing was taken
-pub none_given : (own : OwnRows) (queues : List LeaderEnds) → own.given ≡ 0 → All HasGivenNone (map queue_source queues) → HaveGivenNone (sources_of own queues)
-none_given own queues e h = All-cons HasGivenNone (own_source own) (map queue_source queues) (ap (λ (n : ℕ). take n own.list.items) e) h
+pub none_given : (own : OwnRows) (queues : List LeaderEnds) → own.given ≡ 0 → All HasGivenNoRow queues → HaveGivenNone (sources_of own queues)
+none_given own queues e h = All-cons HasGivenNone (own_source own) (map queue_source queues) (ap (λ (n : ℕ). take n own.list.items) e) (All-map HasGivenNone queue_source queues h)
 
 module _ (plan : Plan) (records : Table) where
   pub stream_drawn : (claims : Claims) (claim : ClaimSeat) (list rows : List ℕ) → HasDrawnAll plan records claims claim list → IsPermutation list rows → IsSorted (row_cmp plan records) rows
@@ -101,10 +102,14 @@ module _ (plan : Plan) (records : Table) where
   alone_is callers queues e none = let long = ap (λ (l : List Heard). length l) none in omega (arith, e, long, length-map queues heard)
 
   pub led_met : (claims : Claims) (claim : ClaimSeat) (blocks : ℕ) (draws : List ℕ) (queues : List LeaderEnds) (order : List ℕ) (why : BlockAnswer) (answer : MergeAnswer)
-      → callers_of claims ≡ suc (length queues) → Met plan records claims claim why → Answers why answer → Led plan records blocks draws (map heard queues) order (Some answer)
-  led_met claims claim blocks draws queues order (block.Row row cause item) answer n m e =
+      → callers_of claims ≡ suc (length queues) → StopsDrawing plan records claims claim queues why → Answers why answer → Led plan records blocks draws (map heard queues) order (Some answer)
+  led_met claims claim blocks draws queues order (block.Row row cause item) answer n (inl m) e =
       subst (λ (a : MergeAnswer). Led plan records blocks draws (map heard queues) order (Some a)) (sym e)
       (inl (record { item = item; refused = m.refused; first = λ none. m.first (alone_is (callers_of claims) queues n none) }))
+  led_met claims claim blocks draws queues order (block.Row row cause item) answer n (inr a) e =
+      let named = named_early queues row cause item a in
+      subst (λ (a : MergeAnswer). Led plan records blocks draws (map heard queues) order (Some a)) (sym e)
+      (inr (record { item = named.item; named = subst (Any (λ notices. Any (ReadsRow row cause named.item) notices)) (notices_are queues) named.named }))
   led_met claims claim blocks draws queues order block.Memory answer n m e = subst (λ (a : MergeAnswer). Led plan records blocks draws (map heard queues) order (Some a)) (sym e) tt
 
 -- ---- fresh queues
@@ -113,6 +118,6 @@ pub opens : (w : Shared) (queues : List LeaderEnds) → All (AreUnheard w) queue
 opens w queues h =
     All-weaker (AreUnheard w) (IsOpen w.region) (λ q u. record { errors_here = u.errors.here; errors_stays = u.errors.stays; tuples_here = u.tuples.here; tuples_stays = u.tuples.stays }) queues h
 
-pub unheard : (w : Shared) (queues : List LeaderEnds) → All (AreUnheard w) queues → All HasGivenNone (map queue_source queues)
+pub unheard : (w : Shared) (queues : List LeaderEnds) → All (AreUnheard w) queues → All HasGivenNoRow queues
 unheard w queues h =
-    All-map HasGivenNone queue_source queues (All-weaker (AreUnheard w) (λ (q : LeaderEnds). HasGivenNone (queue_source q)) (λ q u. ap (λ l. map row_of (whole_of l)) u.tuples.taken ∙ ap (map row_of) whole_nothing) queues h)
+    All-weaker (AreUnheard w) HasGivenNoRow (λ q u. ap (λ l. map row_of (whole_of l)) u.tuples.taken ∙ ap (map row_of) whole_nothing) queues h

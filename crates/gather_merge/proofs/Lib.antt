@@ -9,6 +9,7 @@ pub mod Law
 pub mod Levels
 pub mod Loading
 pub mod Refilling
+pub mod Stopping
 pub mod Led
 pub mod Merging
 pub mod Ordered

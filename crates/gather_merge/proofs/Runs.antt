@@ -1,5 +1,5 @@
 -- Pairs that are sorted level by level: a run of pairs with the same word is sorted after the other.
-use Rattle.std.proofs.Common.{◌≡◌, ◌≢◌, ◌<◌, ◌≤◌, ◌+◌, ◌*◌, ◌-◌, ◌%◌, ◌⊎◌, inl, inr, ◌++◌, ℕ, Bool, true, false, List, [], ◌∷◌, length, drop, take, get_or, min, nat_lt, All, MatchBool, refl, ap, ap₂, sym, subst, ◌∙◌, arith, length-append, length-drop}
+use Rattle.std.proofs.Common.{◌≡◌, ◌≢◌, ◌<◌, ◌≤◌, ◌+◌, ◌*◌, ◌-◌, ◌%◌, ◌⊎◌, inl, inr, ◌++◌, ℕ, Bool, true, false, List, [], length, drop, take, get_or, min, nat_lt, All, MatchBool, refl, ap, ap₂, sym, subst, ◌∙◌, arith, length-append, length-drop}
 use Rattle.std.specs.Cmp.{IsTotalOrder, nat_cmp_total, on_total, then_total}
 use Rattle.std.specs.List.Sorted.{IsPermutation, IsSorted, IsSortedBy}
 use Rattle.std.specs.Ordering.{is_lt, nat_cmp, ordering_reverse, ordering_then}

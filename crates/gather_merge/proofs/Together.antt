@@ -14,10 +14,10 @@ use Rattle.agg_table.specs.Calls.{Use}
 use Rattle.parallel_ctx.specs.Ran.{Finishes}
 use Rattle.parallel_ctx.specs.Accounts.{Account, Heard, IsIdle, account_of, heard_of}
 use Rattle.parallel_ctx.specs.declared.home.Returned.{Returned}
-use Rattle.worker_run.specs.Ended.{IsNotice, IsRefused}
+use Rattle.worker_run.specs.Ended.{IsFirst, IsNotice, IsRefused}
 use Rattle.worker_run.specs.declared.WorkerEnd.{WorkerEnd}
 use Rattle.worker_run.specs.declared.WorkerEnd.TheVariants.{Finished, Stopped, Refused, NoMemory}
-use Rattle.gather_merge.specs.Answers.{IsCause, IsFirst, IsFirstCause, OrdersRows}
+use Rattle.gather_merge.specs.Answers.{IsCause, IsFirstCause, OrdersRows}
 use Rattle.gather_merge.specs.Ended.{DidWork}
 use Rattle.worker_run.specs.Notices.{ReadsRow}
 use Rattle.gather_merge.specs.Hearing.{rows_heard}

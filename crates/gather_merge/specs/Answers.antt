@@ -1,11 +1,10 @@
 -- What the answers say of the rows.
-use Rattle.std.specs.Prelude.{◌≡◌, ◌<◌, ◌-◌, ℕ, [], ◌∷◌, All, None, drop, false, length, take}
+use Rattle.std.specs.Prelude.{◌≡◌, ◌<◌, [], ◌∷◌, None, false, length}
 use Rattle.row_blocks.specs.Blocks.{Table}
 use Rattle.par_model.specs.Plan.{Plan}
 use Rattle.par_model.specs.declared.plan.ItemKind.TheVariants.{Rows}
 use Rattle.par_model.specs.declared.plan.Item.{Item}
-use Rattle.partial_agg.specs.Rows.{IsAccepted, header_width}
-use Rattle.worker_run.specs.Ended.{IsRefused}
+use Rattle.worker_run.specs.Ended.{IsFirst, IsRefused}
 use Rattle.gather_merge.specs.declared.MergeAnswer.{MergeAnswer}
 use Rattle.gather_merge.specs.declared.MergeAnswer.TheVariants.{Row, Memory}
 
@@ -17,10 +16,6 @@ pub record OrdersRows (plan : Plan) : Type 0 where
   pub counts : item.kind ≡ Rows
   pub gather : plan.hash ≡ false
   pub whole : plan.filter ≡ None
-
--- no row before this one is refused
-abbrev pub IsFirst : Plan → Table → ℕ → Type 0
-IsFirst plan records row = All (IsAccepted plan (header_width records)) (take (row - 1) (drop 1 records))
 
 -- an answer that names a row names a refused one, for its cause, which is no aggregate's; want of memory says nothing
 abbrev pub IsCause : Plan → Table → MergeAnswer → Type 0

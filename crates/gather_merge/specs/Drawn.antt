@@ -1,7 +1,8 @@
 -- What a participant has drawn: the numbers of the rows of its blocks, none of which is refused.
-use Rattle.std.specs.Prelude.{◌≡◌, ◌≤◌, ◌+◌, ◌*◌, ◌-◌, ℕ, IsTrue, List, All, Option, Some, None, length, take}
+use Rattle.std.specs.Prelude.{◌≡◌, ◌≤◌, ◌+◌, ◌*◌, ◌-◌, ◌⊎◌, ℕ, IsTrue, List, All, Any, Option, Some, None, length, take}
 use Rattle.row_blocks.specs.Blocks.{Table, block_rows, numbers_of_blocks, rows_of_blocks}
 use Rattle.par_model.specs.Plan.{Plan}
+use Rattle.parallel_ctx.specs.declared.tokens.LeaderEnds.{LeaderEnds}
 use Rattle.partial_agg.specs.Rows.{IsAccepted, header_width}
 use Rattle.partial_agg.specs.declared.map.BlockAnswer.{BlockAnswer}
 use Rattle.partial_agg.specs.declared.map.BlockAnswer.TheVariants as answer
@@ -9,8 +10,8 @@ use Rattle.scan_claim.specs.Drawing.{below, is_spent}
 use Rattle.scan_claim.specs.Shown.{blocks_of, callers_of, draws_of}
 use Rattle.scan_claim.specs.declared.claims.ClaimSeat.{ClaimSeat}
 use Rattle.scan_claim.specs.declared.claims.Claims.{Claims}
-use Rattle.worker_run.specs.Ended.{IsOwnRow, IsRefused}
-use Rattle.gather_merge.specs.Answers.{IsFirst}
+use Rattle.worker_run.specs.Ended.{IsFirst, IsOwnRow, IsRefused}
+use Rattle.gather_merge.specs.Hearing.{IsNamedIn}
 use Rattle.gather_merge.specs.declared.drawing.Step.{Step}
 use Rattle.gather_merge.specs.declared.drawing.Step.TheVariants.{Next, NoMore, Stopped}
 
@@ -55,7 +56,18 @@ Draws plan records claims claim list Next = HasDrawn plan records claims claim l
 Draws plan records claims claim list NoMore = HasDrawnAll plan records claims claim list
 Draws plan records claims claim list (Stopped why) = Met plan records claims claim why
 
+-- why a participant stopped drawing: it met a refused row, or a notice of a worker names one; or it had no memory
+abbrev pub StopsDrawing : Plan → Table → Claims → ClaimSeat → List LeaderEnds → BlockAnswer → Type 0
+StopsDrawing plan records claims claim queues (answer.Row row cause item) = MetRow plan records claims claim row cause item ⊎ Any (λ (q : LeaderEnds). IsNamedIn q (answer.Row row cause item)) queues
+StopsDrawing plan records claims claim queues answer.Memory = Unit {0}
+
+-- what came of hearing the workers, and of one block
+abbrev pub DrawsNext : Plan → Table → Claims → ClaimSeat → List LeaderEnds → List ℕ → Step → Type 0
+DrawsNext plan records claims claim queues list Next = HasDrawn plan records claims claim list
+DrawsNext plan records claims claim queues list NoMore = HasDrawnAll plan records claims claim list
+DrawsNext plan records claims claim queues list (Stopped why) = StopsDrawing plan records claims claim queues why
+
 -- what came of all blocks
-abbrev pub Drew : Plan → Table → Claims → ClaimSeat → List ℕ → Option BlockAnswer → Type 0
-Drew plan records claims claim list None = HasDrawnAll plan records claims claim list
-Drew plan records claims claim list (Some why) = Met plan records claims claim why
+abbrev pub Drew : Plan → Table → Claims → ClaimSeat → List LeaderEnds → List ℕ → Option BlockAnswer → Type 0
+Drew plan records claims claim queues list None = HasDrawnAll plan records claims claim list
+Drew plan records claims claim queues list (Some why) = StopsDrawing plan records claims claim queues why

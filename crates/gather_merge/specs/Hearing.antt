@@ -4,6 +4,8 @@ use Rattle.atomic_table.specs.Seated.{TableId}
 use Rattle.mq_handle.specs.Messages.{whole_of}
 use Rattle.parallel_ctx.specs.Accounts.{Heard, is_over}
 use Rattle.parallel_ctx.specs.declared.tokens.LeaderEnds.{LeaderEnds}
+use Rattle.partial_agg.specs.declared.map.BlockAnswer.{BlockAnswer}
+use Rattle.partial_agg.specs.declared.map.BlockAnswer.TheVariants as answer
 use Rattle.ring_rule.specs.Ring.{Receiving}
 use Rattle.worker_run.specs.Notices.{ReadsRow}
 use Rattle.gather_merge.specs.Sent.{row_of}
@@ -37,6 +39,10 @@ no_source = record { rows = []; over = false }
 -- a source has given nothing
 abbrev pub HasGivenNone : Source → Type 0
 HasGivenNone s = s.rows ≡ []
+
+-- no row was taken of a worker
+abbrev pub HasGivenNoRow : LeaderEnds → Type 0
+HasGivenNoRow q = HasGivenNone (queue_source q)
 
 -- none has given anything
 abbrev pub HaveGivenNone : List Source → Type 0
@@ -75,6 +81,11 @@ pub record NamedBy (queues : List (List (List ℕ))) (row cause : ℕ) : Type 0 
 -- the notices that were taken of a worker
 abbrev pub notices_of : LeaderEnds → List (List ℕ)
 notices_of q = whole_of q.errors.end.taken
+
+-- a notice that was taken of a worker names this refused row; want of memory names none
+abbrev pub IsNamedIn : LeaderEnds → BlockAnswer → Type 0
+IsNamedIn q (answer.Row row cause item) = Any (ReadsRow row cause item) (notices_of q)
+IsNamedIn q answer.Memory = ⊥
 
 -- ---- one answer
 

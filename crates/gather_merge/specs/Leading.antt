@@ -8,8 +8,7 @@ use Rattle.partial_agg.specs.Rows.{header_width}
 use Rattle.partial_agg.specs.declared.map.BlockAnswer.{BlockAnswer}
 use Rattle.partial_agg.specs.declared.map.BlockAnswer.TheVariants as block
 use Rattle.scan_claim.specs.Drawing.{is_spent}
-use Rattle.worker_run.specs.Ended.{IsRefused}
-use Rattle.gather_merge.specs.Answers.{IsFirst}
+use Rattle.worker_run.specs.Ended.{IsFirst, IsRefused}
 use Rattle.gather_merge.specs.Hearing.{NamedBy, notices_of, rows_heard, streams, Source}
 use Rattle.gather_merge.specs.Heads.{AreFalling}
 use Rattle.gather_merge.specs.Merging.{IsCovered, IsMerging, Refilled}

@@ -4,11 +4,11 @@ pub mod Levels
 pub mod Streams
 pub mod Law
 pub mod Answers
-pub mod Drawn
 pub mod Sent
 pub mod Ended
 pub mod Heads
 pub mod Hearing
+pub mod Drawn
 pub mod Merging
 pub mod Leading
 pub mod Used

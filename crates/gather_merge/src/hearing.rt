@@ -1,17 +1,18 @@
 //! Where the leader's rows come from: its own list, and the workers' queues. Source 0 is its own, and source n that of
 //! worker n. Each gives its rows in order, one after the other.
 
-ghost use Rattle.std.specs.Prelude.{◌≡◌, ◌≤◌, IfSome, false, length};
+ghost use Rattle.std.specs.Prelude.{◌≡◌, ◌≤◌, All, Any, IfSome, false, length};
 ghost use Rattle.std.specs.List.{AllZip};
 ghost use Rattle.parallel_ctx.specs.Tokens.{SameQueues};
-ghost use Rattle.gather_merge.specs.Hearing.{AreOpen, GivesOwn, Hears, HearsEnd, HearsFrom, IsOpen};
+ghost use Rattle.gather_merge.specs.Hearing.{AreOpen, GivesOwn, HasGivenNoRow, Hears, HearsEnd, HearsFrom, IsNamedIn, IsOpen};
 ghost use Rattle.gather_merge.specs.Sent.{row_of};
 
 use mq_handle::{ReceiveDone, Receiver};
 use parallel_ctx::LeaderEnds;
+use partial_agg::BlockAnswer;
 use region_words::Region;
 use std::sync::Wait;
-use worker_run::{News, hear_last};
+use worker_run::{News, hear_last, hear_notices};
 
 /// What came of asking a source for its next row.
 #[derive(Clone, Copy)]
@@ -67,6 +68,44 @@ fn hear<R: Wait>(rt: &R, r: &Region, queue: &mut LeaderEnds) -> Next
             None => Next::Lost,
         },
     }
+}
+
+/// Hears the notices of a worker that are there.
+fn hear_notice<R: Wait>(rt: &R, r: &Region, queue: &mut LeaderEnds) -> Option<BlockAnswer>
+    requires open { IsOpen r.now queue.old }
+    requires unheard { HasGivenNoRow queue.old }
+    ensures same { SameQueues queue.old queue.new }
+    ensures open { IsOpen r.now queue.new }
+    ensures unheard { HasGivenNoRow queue.new }
+    ensures named { IfSome result (IsNamedIn queue.new) }
+{
+    match hear_notices(rt, r, &mut queue.errors) {
+        News::Refused { row, cause, item } => Some(BlockAnswer::Row { row, cause, item }),
+        News::Over => None,
+        News::Nothing => None,
+    }
+}
+
+/// Hears the notices of all workers that are there, up to one that names a refused row. It waits for none.
+pub(crate) fn hear_early<R: Wait>(
+    rt: &R,
+    r: &Region,
+    queues: &mut [LeaderEnds],
+) -> Option<BlockAnswer>
+    requires open { AreOpen r.now queues.old }
+    requires unheard { All HasGivenNoRow queues.old }
+    ensures same { AllZip SameQueues queues.old queues.new }
+    ensures open { AreOpen r.now queues.new }
+    ensures unheard { All HasGivenNoRow queues.new }
+    ensures named { IfSome result (λ why. Any (λ queue. IsNamedIn queue why) queues.new) }
+{
+    for at in 0..queues.len() {
+        let named = hear_notice(rt, r, &mut queues[at]);
+        if named.is_some() {
+            return named;
+        }
+    }
+    None
 }
 
 /// The leader's own rows, in order, of which the first so many were given.

@@ -4,14 +4,12 @@
 
 ghost use Rattle.std.specs.Prelude.{◌≡◌, ◌≤◌, [], suc, All, IfNone, length, map};
 ghost use Rattle.std.specs.List.{AllZip};
-ghost use Rattle.par_model.specs.Columns.{HasColumns};
-ghost use Rattle.partial_agg.specs.Rows.{header_width};
 ghost use Rattle.scan_claim.specs.Shown.{Belongs, blocks_of, callers_of, draws_of, number_of};
-ghost use Rattle.row_blocks.specs.Blocks.{AreBlocks};
 ghost use Rattle.parallel_ctx.specs.Accounts.{heard};
 ghost use Rattle.parallel_ctx.specs.Tokens.{SameQueues};
+ghost use Rattle.worker_run.specs.Job.{IsJob};
 ghost use Rattle.gather_merge.specs.Heads.{AreFalling};
-ghost use Rattle.gather_merge.specs.Hearing.{AreOpen, HasGivenNone, HaveGivenNone, queue_source, sources_of};
+ghost use Rattle.gather_merge.specs.Hearing.{AreOpen, HasGivenNoRow, HaveGivenNone, sources_of};
 ghost use Rattle.gather_merge.specs.Leading.{Drains, Fills, IsFilled, Led, Refills};
 ghost use Rattle.gather_merge.specs.Order.{columns_at};
 ghost use Rattle.gather_merge.specs.Words.{AreWords};
@@ -26,10 +24,10 @@ use csv_rows::RowStore;
 use par_model::BoundPlan;
 use parallel_ctx::LeaderEnds;
 use region_words::Region;
-use scan_claim::{ClaimSeat, Claims};
+use scan_claim::ClaimSeat;
 use std::alloc::Global;
 use std::sync::Wait;
-use worker_run::Gate;
+use worker_run::{Gate, Job};
 
 /// Gets the next row of a stream, and makes it the stream's head. It says why there is no order, if it learns that.
 fn refill<R: Wait>(
@@ -163,34 +161,28 @@ fn merge_all<R: Wait>(
 pub(crate) fn lead_all<G: Gate, R: Wait>(
     rt: &R,
     alloc: Global,
-    r: &Region,
-    plan: &BoundPlan,
-    rows: &RowStore,
+    job: &Job<'_, G>,
     words: &[u64],
-    gate: &G,
-    claims: &Claims,
     claim: &mut ClaimSeat,
     queues: &mut [LeaderEnds],
     order: &mut Vec<u64>,
 ) -> Option<MergeAnswer>
-    requires words { AreWords (columns_at plan.now rows.now) words.now }
-    requires seat { Belongs claims.now claim.old }
-    requires fresh { draws_of claim.old ≡ [] }
-    requires callers { callers_of claims.now ≡ suc (length queues.old) }
-    requires blocks { AreBlocks rows.now (blocks_of claims.now) }
-    requires columns { HasColumns plan.now (header_width rows.now) }
-    requires open { AreOpen r.now queues.old }
-    requires unheard { All HasGivenNone (map queue_source queues.old) }
+    requires job { IsJob job.now }
+    requires words { AreWords (columns_at job.now.plan.now job.now.rows.now) words.now }
+    requires seat { Belongs job.now.claims.now claim.old × (draws_of claim.old ≡ []) }
+    requires callers { callers_of job.now.claims.now ≡ suc (length queues.old) }
+    requires open { AreOpen job.now.region.now queues.old }
+    requires unheard { All HasGivenNoRow queues.old }
     requires empty { order.old.items ≡ [] }
-    ensures seat { Belongs claims.now claim.new × (number_of claim.new ≡ number_of claim.old) }
+    ensures seat { Belongs job.now.claims.now claim.new × (number_of claim.new ≡ number_of claim.old) }
     ensures same { AllZip SameQueues queues.old queues.new }
-    ensures led { Led plan.now rows.now (blocks_of claims.now) (draws_of claim.new) (map heard queues.new) order.new.items result }
+    ensures led { Led job.now.plan.now job.now.rows.now (blocks_of job.now.claims.now) (draws_of claim.new) (map heard queues.new) order.new.items result }
 {
     let mut list = Vec::new(alloc);
-    if let Some(why) = draw_all(rt, 0, plan, rows, gate, claims, claim, &mut list) {
+    if let Some(why) = draw_all(rt, job, claim, queues, &mut list) {
         return Some(answer_of(why));
     }
-    let Ok(()) = sort_rows(alloc, rows, plan, words, &mut list) else {
+    let Ok(()) = sort_rows(alloc, job.rows, job.plan, words, &mut list) else {
         return Some(MergeAnswer::Memory);
     };
     if queues.is_empty() {
@@ -198,5 +190,7 @@ pub(crate) fn lead_all<G: Gate, R: Wait>(
         return None;
     }
     let mut own = OwnRows { list, given: 0 };
-    merge_all(rt, alloc, r, plan, rows, words, &mut own, queues, order)
+    merge_all(
+        rt, alloc, job.region, job.plan, job.rows, words, &mut own, queues, order,
+    )
 }

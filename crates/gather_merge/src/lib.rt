@@ -9,11 +9,9 @@
 
 #![tactic(auto)]
 
-ghost use Rattle.std.specs.Prelude.{◌≡◌, ◌≤◌, ◌^◌, IfErr, IfOk, OnOk, All, drop, length};
-ghost use Rattle.csv_rows.specs.declared.records.TheConstants.{MOST_RECORDS};
+ghost use Rattle.std.specs.Prelude.{◌≡◌, ◌≤◌, IfErr, IfOk, OnOk, All, drop, length};
 ghost use Rattle.par_model.specs.Columns.{HasColumns};
 ghost use Rattle.partial_agg.specs.Rows.{IsAccepted, header_width};
-ghost use Rattle.row_blocks.specs.Blocks.{AreBlocks};
 ghost use Rattle.gather_merge.specs.Answers.{IsCause, IsFirstCause, OrdersRows};
 ghost use Rattle.gather_merge.specs.Order.{IsOrder};
 ghost use Rattle.gather_merge.specs.Used.{IsUsed};
@@ -22,7 +20,7 @@ use csv_rows::RowStore;
 use par_model::BoundPlan;
 use parallel_ctx::{Context, Finished};
 use roles::{Leader, Team};
-use row_blocks::BLOCK_ROWS;
+use row_blocks::count_blocks;
 use std::alloc::Global;
 use std::sync::Wait;
 use std::thread::Threads;
@@ -54,15 +52,6 @@ pub enum MergeAnswer {
     Row { row: u64, cause: u8 },
     /// There was no memory.
     Memory,
-}
-
-/// How many blocks the rows make. Tells too that there are few.
-fn count_blocks(rows: &RowStore) -> u64
-    ensures blocks { AreBlocks rows.now result }
-    ensures few { result ≤ 2 ^ 32 }
-    ensures short { length rows.now ≤ MOST_RECORDS }
-{
-    rows.count().div_ceil(BLOCK_ROWS)
 }
 
 /// What a merge comes to.

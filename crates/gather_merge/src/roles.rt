@@ -10,7 +10,7 @@ use parallel_ctx::{Lead, LeaderEnds, Seats, Shared, Worker, WorkerEnds};
 use plan_spec::plan_in;
 use std::alloc::Global;
 use std::sync::Wait;
-use worker_run::{Gate, WorkerEnd};
+use worker_run::{Gate, Job, WorkerEnd};
 
 /// The workers of a merge: each takes its list to memory of `alloc` and passes the gate.
 pub(crate) struct Team<'a, G: Gate + Sync> {
@@ -53,19 +53,23 @@ impl<'a, G: Gate + Sync> Worker for Team<'a, G> {
         ends: &mut WorkerEnds,
     ) -> WorkerEnd {
         let plan = plan_in(&mut seats.toc, &shared.region);
+        let job = Job {
+            region: &shared.region,
+            rows: self.rows,
+            plan: &plan,
+            claims: &shared.claims,
+            table: &shared.hash,
+            gate: self.gate,
+            number: seats.number,
+        };
         work(
             rt,
             self.alloc,
-            &shared.region,
-            seats.number,
-            &plan,
-            &shared.claims,
-            &mut seats.claim,
-            self.rows,
+            &job,
             self.words,
+            &mut seats.claim,
             &mut ends.errors,
             &mut ends.tuples,
-            self.gate,
         )
     }
 }
@@ -115,15 +119,20 @@ impl<'a, G: Gate> Lead for Leader<'a, G> {
         queues: &mut [LeaderEnds],
     ) {
         let plan = plan_in(&mut seats.toc, &shared.region);
+        let job = Job {
+            region: &shared.region,
+            rows: self.rows,
+            plan: &plan,
+            claims: &shared.claims,
+            table: &shared.hash,
+            gate: self.gate,
+            number: 0,
+        };
         self.failure = lead_all(
             rt,
             self.alloc,
-            &shared.region,
-            &plan,
-            self.rows,
+            &job,
             self.words,
-            self.gate,
-            &shared.claims,
             &mut seats.claim,
             queues,
             &mut self.order,

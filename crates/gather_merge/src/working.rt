@@ -2,13 +2,11 @@
 //! sends a single notice: `X` as its last act, when all its rows are sent, or `E` with the row that is refused. So
 //! whoever reads `X` knows that the messages before it are all rows of the worker's blocks, in order.
 
-ghost use Rattle.std.specs.Prelude.{◌≡◌, [], true};
-ghost use Rattle.par_model.specs.Columns.{HasColumns};
-ghost use Rattle.partial_agg.specs.Rows.{header_width};
+ghost use Rattle.std.specs.Prelude.{◌≡◌, true};
 ghost use Rattle.scan_claim.specs.Shown.{Belongs, blocks_of, draws_of, number_of};
-ghost use Rattle.row_blocks.specs.Blocks.{AreBlocks};
 ghost use Rattle.worker_run.specs.Ended.{sends_of};
-ghost use Rattle.worker_run.specs.Sent.{IsFreshQueue, IsReady};
+ghost use Rattle.worker_run.specs.Job.{AreFreshHands, IsJob, KeepsHands};
+ghost use Rattle.worker_run.specs.Sent.{IsReady};
 ghost use Rattle.worker_run.specs.Steps.{KeepsQueues};
 ghost use Rattle.gather_merge.specs.Ended.{Finishes, HasEnded};
 ghost use Rattle.gather_merge.specs.Order.{columns_at};
@@ -17,14 +15,12 @@ ghost use Rattle.gather_merge.specs.Words.{AreWords};
 use crate::drawing::draw_all;
 use crate::sending::send_rows;
 use crate::sorting::sort_rows;
-use csv_rows::RowStore;
 use mq_handle::Sender;
-use par_model::BoundPlan;
 use region_words::Region;
-use scan_claim::{ClaimSeat, Claims};
+use scan_claim::ClaimSeat;
 use std::alloc::Global;
 use std::sync::Wait;
-use worker_run::{Gate, WorkerEnd, end_in_order, give_up};
+use worker_run::{Gate, Job, WorkerEnd, end_in_order, give_up};
 
 /// Sends all rows, and then says by an `X` that the work is done.
 fn finish<R: Wait>(
@@ -53,79 +49,53 @@ fn finish<R: Wait>(
 fn work_rows<G: Gate, R: Wait>(
     rt: &R,
     alloc: Global,
-    r: &Region,
-    number: u32,
-    plan: &BoundPlan,
-    claims: &Claims,
-    claim: &mut ClaimSeat,
-    rows: &RowStore,
+    job: &Job<'_, G>,
     words: &[u64],
+    claim: &mut ClaimSeat,
     errors: &mut Sender,
     tuples: &mut Sender,
-    gate: &G,
 ) -> WorkerEnd
-    requires words { AreWords (columns_at plan.now rows.now) words.now }
-    requires seat { Belongs claims.now claim.old }
-    requires fresh { draws_of claim.old ≡ [] }
-    requires blocks { AreBlocks rows.now (blocks_of claims.now) }
-    requires columns { HasColumns plan.now (header_width rows.now) }
-    requires errors_here { errors.old.region ≡ r.now }
-    requires here { tuples.old.region ≡ r.now }
-    requires errors_fresh { IsFreshQueue 14 errors.old.end }
-    requires tuples_fresh { IsFreshQueue 8 tuples.old.end }
-    ensures seat { Belongs claims.now claim.new × (number_of claim.new ≡ number_of claim.old) }
-    ensures errors_kept { errors.new ≡ record errors.old { end = errors.new.end } }
-    ensures tuples_kept { tuples.new ≡ record tuples.old { end = tuples.new.end } }
-    ensures queues { KeepsQueues errors.old.end tuples.old.end errors.new.end tuples.new.end }
-    ensures ended { HasEnded plan.now rows.now (blocks_of claims.now) (draws_of claim.new) (sends_of errors.new.end tuples.new.end) result }
+    requires job { IsJob job.now }
+    requires words { AreWords (columns_at job.now.plan.now job.now.rows.now) words.now }
+    requires hands { AreFreshHands job.now 8 claim.old errors.old tuples.old }
+    ensures hands { KeepsHands job.now claim.old errors.old tuples.old claim.new errors.new tuples.new }
+    ensures ended { HasEnded job.now.plan.now job.now.rows.now (blocks_of job.now.claims.now) (draws_of claim.new) (sends_of errors.new.end tuples.new.end) result }
 {
     let mut list = Vec::new(alloc);
-    if let Some(why) = draw_all(rt, number, plan, rows, gate, claims, claim, &mut list) {
-        return give_up(rt, r, errors, why);
+    let mut nobody = Vec::new(alloc);
+    if let Some(why) = draw_all(rt, job, claim, &mut nobody, &mut list) {
+        return give_up(rt, job.region, errors, why);
     }
-    let Ok(()) = sort_rows(alloc, rows, plan, words, &mut list) else {
+    let Ok(()) = sort_rows(alloc, job.rows, job.plan, words, &mut list) else {
         return WorkerEnd::NoMemory;
     };
-    finish(rt, r, errors, tuples, &list)
+    finish(rt, job.region, errors, tuples, &list)
 }
 
-/// Draws blocks until there are no more, puts their rows in order, and sends them. It passes the gate before each block,
-/// as participant `number`. Both ends are detached afterwards, the tuple queue's first. It waits where a queue is full,
-/// until the receiver takes something or is gone.
+/// Draws blocks until there are no more, puts their rows in order, and sends them. It passes the gate before each
+/// block. Both ends are detached afterwards, the tuple queue's first. It waits where a queue is full, until the receiver
+/// takes something or is gone.
 pub(crate) fn work<G: Gate, R: Wait>(
     rt: &R,
     alloc: Global,
-    r: &Region,
-    number: u32,
-    plan: &BoundPlan,
-    claims: &Claims,
-    claim: &mut ClaimSeat,
-    rows: &RowStore,
+    job: &Job<'_, G>,
     words: &[u64],
+    claim: &mut ClaimSeat,
     errors: &mut Sender,
     tuples: &mut Sender,
-    gate: &G,
 ) -> WorkerEnd
-    requires words { AreWords (columns_at plan.now rows.now) words.now }
-    requires seat { Belongs claims.now claim.old }
-    requires fresh { draws_of claim.old ≡ [] }
-    requires blocks { AreBlocks rows.now (blocks_of claims.now) }
-    requires columns { HasColumns plan.now (header_width rows.now) }
-    requires errors_here { errors.old.region ≡ r.now }
-    requires here { tuples.old.region ≡ r.now }
-    requires errors_fresh { IsFreshQueue 14 errors.old.end }
-    requires tuples_fresh { IsFreshQueue 8 tuples.old.end }
-    ensures seat { Belongs claims.now claim.new × (number_of claim.new ≡ number_of claim.old) }
+    requires job { IsJob job.now }
+    requires words { AreWords (columns_at job.now.plan.now job.now.rows.now) words.now }
+    requires hands { AreFreshHands job.now 8 claim.old errors.old tuples.old }
+    ensures seat { Belongs job.now.claims.now claim.new × (number_of claim.new ≡ number_of claim.old) }
     ensures errors_kept { errors.new ≡ record errors.old { end = errors.new.end } }
     ensures tuples_kept { tuples.new ≡ record tuples.old { end = tuples.new.end } }
     ensures errors { (errors.new.end.ring ≡ errors.old.end.ring) × (errors.new.end.gone ≡ true) }
     ensures tuples { (tuples.new.end.ring ≡ tuples.old.end.ring) × (tuples.new.end.gone ≡ true) }
-    ensures ended { HasEnded plan.now rows.now (blocks_of claims.now) (draws_of claim.new) (sends_of errors.new.end tuples.new.end) result }
+    ensures ended { HasEnded job.now.plan.now job.now.rows.now (blocks_of job.now.claims.now) (draws_of claim.new) (sends_of errors.new.end tuples.new.end) result }
 {
-    let end = work_rows(
-        rt, alloc, r, number, plan, claims, claim, rows, words, errors, tuples, gate,
-    );
-    tuples.detach(r);
-    errors.detach(r);
+    let end = work_rows(rt, alloc, job, words, claim, errors, tuples);
+    tuples.detach(job.region);
+    errors.detach(job.region);
     end
 }

@@ -1,9 +1,8 @@
 -- The leader's steps, by the parts that it has put into its map.
-use Rattle.std.proofs.Common.{◌≡◌, ◌<◌, ◌≤◌, ◌+◌, ◌-◌, ◌*◌, ◌++◌, ◌⊎◌, inl, inr, ℕ, zero, suc, List, [], ◌∷◌, length, set, get_or, take, drop, map as map_list, All, Option, None, Some, refl, length-append, ap, sym, subst, ◌∙◌, arith, append-nil, append_assoc}
+use Rattle.std.proofs.Common.{◌≡◌, ◌<◌, ◌++◌, ℕ, zero, suc, List, [], ◌∷◌, length, set, get_or, map as map_list, All, Option, None, Some, refl, ap, sym, subst, ◌∙◌, arith, append-nil, append_assoc}
 use Rattle.std.specs.FinMap as map
 use Rattle.std.specs.List.{AllZip, flat_map}
 use Rattle.std.specs.List.Sorted.{IsPermutation}
-use Rattle.std.proofs.lemmas.List.{take-take}
 use Rattle.std.proofs.lemmas.List.Concat.{flat_map-append}
 use Rattle.std.proofs.lemmas.List.Elements.{All-append, All-nil}
 use Rattle.std.proofs.lemmas.List.Sums.{fold-append}
@@ -11,25 +10,21 @@ use Rattle.std.proofs.lemmas.List.Sorted.{IsPermutation-append_comm, IsPermutati
 use Rattle.agg_table.specs.Calls.{HasPut, Use}
 use Rattle.agg_table.proofs.Putting.{has_put_nothing}
 use Rattle.par_model.specs.Plan.{Plan}
-use Rattle.partial_agg.specs.Blocks.{Stopped as IsStoppedAt}
 use Rattle.partial_agg.specs.Groups.{GroupsByKey, with_rows}
-use Rattle.partial_agg.specs.declared.map.BlockAnswer.TheVariants as answer
-use Rattle.row_blocks.proofs.BlockRows.{block_of, length-block, rows_below, take_on}
-use Rattle.scan_claim.specs.Drawing.{below}
 use Rattle.partial_agg.specs.Rows.{IsAccepted, header_width}
 use Rattle.row_blocks.specs.Blocks.{AreBlocks, Table, block_rows, rows_of_blocks}
+use Rattle.row_blocks.proofs.Permute.{AllZip-at, AllZip-join, AllZip-long, AllZip-put, same-permutation}
 use Rattle.gather_law.specs.Parts.{Block, Part, Received, after, blocks_in, received_in, with_all, with_part}
 use Rattle.gather_law.specs.Tuples.{Group, groups_of}
 use Rattle.gather_law.proofs.Gathering.{all_added}
-use Rattle.row_blocks.proofs.Permute.{AllZip-at, AllZip-join, AllZip-long, AllZip-put, same-permutation}
-use Rattle.gather_run.specs.Answers.{IsFirst}
 use Rattle.gather_run.specs.Leading.{IsLeading}
 use Rattle.gather_run.specs.Reading.{ReadAs}
-use Rattle.gather_run.proofs.Shares.{no_entries}
 use Rattle.gather_run.specs.Sharing.{DoesBlock, DoesBlocks, SharesGroups}
 use Rattle.parallel_ctx.specs.Accounts.{IsUnusedTable}
 use Rattle.worker_run.specs.Tabled.{groups_of_blocks}
-use Rattle.worker_run.proofs.Working.{late_draw, more_blocks, no_rows}
+use Rattle.worker_run.specs.Job.{DrawsNone}
+use Rattle.worker_run.proofs.Giving.{late_groups}
+use Rattle.worker_run.proofs.Working.{late_draw, more_blocks}
 
 blocks-append : (xs ys : List Part) → blocks_in (xs ++ ys) ≡ blocks_in xs ++ blocks_in ys
 blocks-append [] ys = refl
@@ -66,10 +61,6 @@ behind (x ∷ xs) (suc k) gs h =
     let after_it = flat_map (λ l. l) (set xs k (get_or xs k [] ++ gs)) in
     subst (λ l. IsPermutation l (x ++ after_it)) (sym (append_assoc x rest gs))
     (IsPermutation-append_right x (rest ++ gs) after_it (behind xs k gs (omega arith)))
-
-last_same : (xs : List ℕ) (a b : ℕ) → xs ++ a ∷ [] ≡ xs ++ b ∷ [] → a ≡ b
-last_same [] a b e = cc
-last_same (x ∷ xs) a b e = last_same xs a b (let rest : xs ++ a ∷ [] ≡ xs ++ b ∷ [] = cc in rest)
 
 -- some more behind the first of two lists
 behind_first : {X : Type 0} (xs ys zs : List X) → IsPermutation ((xs ++ ys) ++ zs) ((xs ++ zs) ++ ys)
@@ -150,20 +141,13 @@ module _ (plan : Plan) (records : Table) where
   leading-block draws b (Some u) (Some v) tuples groups groups' l h d = shared-block draws b u v tuples groups groups' l h d
 
   -- a draw past the last block
-  late_groups : (blocks : ℕ) (draws draws' : List ℕ) → AreBlocks records blocks → (draws' ≡ draws) ⊎ ((n : ℕ) × (blocks ≤ n) × (draws' ≡ draws ++ n ∷ [])) → groups_of_blocks plan records draws' ≡ groups_of_blocks plan records draws
-  late_groups blocks draws draws' a (inl e) = ap (groups_of_blocks plan records) e
-  late_groups blocks draws draws' a (inr p) =
-      ap (groups_of_blocks plan records) p.2 ∙ more_groups draws p.0
-      ∙ ap (λ (rows : Table). groups_of_blocks plan records draws ++ groups_of plan rows) (no_rows plan records blocks p.0 a p.1)
-      ∙ ap (λ (l : List Group). groups_of_blocks plan records draws ++ l) no_entries ∙ append-nil (groups_of_blocks plan records draws)
-
   late_own : (blocks : ℕ) (draws draws' : List ℕ) (used : Option Use) (mine : List ℕ) (left : List Group) → AreBlocks records blocks
-      → (draws' ≡ draws) ⊎ ((n : ℕ) × (blocks ≤ n) × (draws' ≡ draws ++ n ∷ [])) → DoesBlocks plan records draws used mine left → DoesBlocks plan records draws' used mine left
+      → DrawsNone blocks draws draws' → DoesBlocks plan records draws used mine left → DoesBlocks plan records draws' used mine left
   late_own blocks draws draws' None mine left a late d = (d.0 ∙ sym (late_draw plan records blocks draws draws' a late), d.1)
-  late_own blocks draws draws' (Some u) mine left a late d = record { none = d.none; put = d.put; has = subst (λ (gs : List Group). HasPut gs u d.put left) (sym (late_groups blocks draws draws' a late)) d.has }
+  late_own blocks draws draws' (Some u) mine left a late d = record { none = d.none; put = d.put; has = subst (λ (gs : List Group). HasPut gs u d.put left) (sym (late_groups plan records blocks draws draws' a late)) d.has }
 
   pub leading-late : (blocks : ℕ) (draws draws' : List ℕ) (used : Option Use) (tuples : List (List (List ℕ))) (groups : GroupsByKey) → AreBlocks records blocks
-      → (draws' ≡ draws) ⊎ ((n : ℕ) × (blocks ≤ n) × (draws' ≡ draws ++ n ∷ [])) → IsLeading plan records draws used tuples groups → IsLeading plan records draws' used tuples groups
+      → DrawsNone blocks draws draws' → IsLeading plan records draws used tuples groups → IsLeading plan records draws' used tuples groups
   leading-late blocks draws draws' used tuples groups a late l = record {
     parts = l.parts;
     left = l.left;
@@ -174,25 +158,6 @@ module _ (plan : Plan) (records : Table) where
     read = l.read;
     received = l.received;
   }
-
-  -- a block that stopped is the next one where the leader draws alone, so all rows before the refused one are accepted
-  pub first_row : (draws draws' : List ℕ) (block row cause item : ℕ) (old new : GroupsByKey) → draws ≡ below (length draws) → draws' ≡ below (length draws') → draws' ≡ draws ++ block ∷ []
-      → All (IsAccepted plan (header_width records)) (rows_of_blocks records draws) → IsStoppedAt plan records block old new (answer.Row row cause item) → IsFirst plan records row
-  first_row draws draws' block row cause item old new up up' more accepted s =
-      let n = length draws in
-      let longer : length draws' ≡ suc n = ap (λ l. length l) more ∙ length-append draws (block ∷ []) ∙ (let e : n + 1 ≡ suc n = omega arith in e) in
-      let ends : draws ++ block ∷ [] ≡ draws ++ n ∷ [] = sym more ∙ up' ∙ ap below longer ∙ ap (λ l. l ++ n ∷ []) (sym up) in
-      let is : block ≡ n = last_same draws block n ends in
-      let rows = drop 1 records in
-      let before : All (IsAccepted plan (header_width records)) (take (256 * block) rows) =
-      subst (λ k. All (IsAccepted plan (header_width records)) (take (256 * k) rows)) (sym is)
-      (subst (All (IsAccepted plan (header_width records))) (ap (rows_of_blocks records) up ∙ rows_below records n) accepted) in
-      let short = length-block records block in
-      let front : take (256 * block + s.count) rows ≡ take (256 * block) rows ++ take s.count (block_rows records block) =
-      cc (block_of records block, take-take s.count 256 (drop (256 * block) rows) (omega (arith, s.stops, short)), take_on (256 * block) s.count rows) in
-      let place : row - 1 ≡ 256 * block + s.count = omega (arith, s.explains.0) in
-      subst (λ k. All (IsAccepted plan (header_width records)) (take k rows)) (sym place)
-      (subst (All (IsAccepted plan (header_width records))) (sym front) (All-append (IsAccepted plan (header_width records)) (take (256 * block) rows) (take s.count (block_rows records block)) before s.before.accepted))
 
   -- a worker's messages were taken, and their groups added
   pub leading-hear : (draws : List ℕ) (used : Option Use) (tuples : List (List (List ℕ))) (k : ℕ) (messages : List (List ℕ)) (gs : List Group) (groups groups' : GroupsByKey) → IsLeading plan records draws used tuples groups

@@ -23,7 +23,7 @@ use Rattle.parallel_ctx.specs.Ran.{Finishes}
 use Rattle.parallel_ctx.specs.Accounts.{Account, Heard, IsIdle, account_of, heard_of}
 use Rattle.parallel_ctx.specs.Tokens.{AreUnheard}
 use Rattle.parallel_ctx.specs.declared.home.Returned.{Returned}
-use Rattle.worker_run.specs.Ended.{IsNotice, IsRefused, Sends}
+use Rattle.worker_run.specs.Ended.{IsFirst, IsNotice, IsRefused, Sends}
 use Rattle.worker_run.specs.declared.WorkerEnd.{WorkerEnd}
 use Rattle.worker_run.specs.declared.WorkerEnd.TheVariants.{Finished, Stopped, Refused, NoMemory}
 use Rattle.parallel_ctx.proofs.Idle.{whole_nothing}
@@ -39,7 +39,7 @@ use Rattle.worker_run.proofs.Judging.{all_apart, any_apart}
 use Rattle.partial_agg.specs.declared.map.BlockAnswer.{BlockAnswer}
 use Rattle.partial_agg.specs.declared.map.BlockAnswer.TheVariants as block
 use Rattle.gather_run.specs.Did.{sends_in, Answers, DidPlainWork, DidWork}
-use Rattle.gather_run.specs.Answers.{IsCause, IsFirst, IsFirstCause}
+use Rattle.gather_run.specs.Answers.{IsCause, IsFirstCause}
 use Rattle.gather_run.specs.Leading.{HasLed, Led, NamesRow}
 use Rattle.gather_run.specs.Used.{ReadItsNotices, SentItsRows}
 use Rattle.gather_run.specs.Reading.{ReadAs}

@@ -1,12 +1,12 @@
 -- What the answers say of the rows.
-use Rattle.std.specs.Prelude.{◌≡◌, ◌-◌, ℕ, List, All, drop, take}
+use Rattle.std.specs.Prelude.{◌≡◌, List, All, drop}
 use Rattle.par_model.specs.Plan.{Plan}
 use Rattle.partial_agg.specs.Groups.{AreGroups, GroupsByKey}
 use Rattle.partial_agg.specs.Listed.{listed}
 use Rattle.partial_agg.specs.Rows.{IsAccepted, header_width}
 use Rattle.partial_agg.specs.declared.groups.Group.{Group}
 use Rattle.row_blocks.specs.Blocks.{Table}
-use Rattle.worker_run.specs.Ended.{IsRefused}
+use Rattle.worker_run.specs.Ended.{IsFirst, IsRefused}
 use Rattle.gather_run.specs.declared.GatherAnswer.{GatherAnswer}
 use Rattle.gather_run.specs.declared.GatherAnswer.TheVariants.{Row, Memory}
 
@@ -16,10 +16,6 @@ pub record AreAllGroups (plan : Plan) (records : Table) (groups : List Group) : 
   pub whole : GroupsByKey
   pub are : AreGroups plan (drop 1 records) whole
   pub in_order : groups ≡ listed whole
-
--- no row before this one is refused
-abbrev pub IsFirst : Plan → Table → ℕ → Type 0
-IsFirst plan records row = All (IsAccepted plan (header_width records)) (take (row - 1) (drop 1 records))
 
 -- an answer that names a row names a refused one; want of memory says nothing
 abbrev pub IsCause : Plan → Table → GatherAnswer → Type 0

@@ -14,9 +14,8 @@ use Rattle.gather_law.specs.Parts.{Part, after, blocks_in, received_in}
 use Rattle.gather_law.specs.Tuples.{Group}
 use Rattle.row_blocks.specs.Blocks.{Table, rows_of_blocks}
 use Rattle.parallel_ctx.specs.Accounts.{Heard}
-use Rattle.worker_run.specs.Ended.{IsRefused}
+use Rattle.worker_run.specs.Ended.{IsFirst, IsRefused}
 use Rattle.worker_run.specs.Notices.{ReadsRow}
-use Rattle.gather_run.specs.Answers.{IsFirst}
 use Rattle.gather_run.specs.Reading.{ReadAs}
 use Rattle.gather_run.specs.Sharing.{DoesBlocks}
 use Rattle.gather_run.specs.declared.GatherAnswer.{GatherAnswer}

@@ -2,10 +2,6 @@
 -- groups is put into the table, or goes into the map where the table has no room.
 use Rattle.std.specs.Prelude.{◌≡◌, ◌⊎◌, ◌++◌, ℕ, List, [], Option, Some, None}
 use Rattle.agg_table.specs.Calls.{HasPut, IsLeft, IsPut, Use}
-use Rattle.agg_table.specs.Tokens.{IsPart, IsSeat}
-use Rattle.agg_table.specs.declared.part.HashPart.{HashPart}
-use Rattle.agg_table.specs.declared.part.HashSeat.{HashSeat}
-use Rattle.atomic_table.specs.Seated.{TableId}
 use Rattle.par_model.specs.Plan.{Plan}
 use Rattle.partial_agg.specs.Blocks.{Stopped}
 use Rattle.partial_agg.specs.Groups.{GroupsByKey, added, with_rows}
@@ -15,13 +11,6 @@ use Rattle.partial_agg.specs.declared.map.BlockAnswer.TheVariants as answer
 use Rattle.gather_law.specs.Parts.{with_all}
 use Rattle.gather_law.specs.Tuples.{Group, groups_of}
 use Rattle.worker_run.specs.Tabled.{groups_of_blocks}
-
--- the leader's passes are there exactly where the table is, and are of it
-abbrev pub IsSeated : TableId → Option HashPart → Option HashSeat → Type 0
-IsSeated region None None = Unit {0}
-IsSeated region None (Some s) = ⊥
-IsSeated region (Some p) None = ⊥
-IsSeated region (Some p) (Some s) = IsPart region p × IsSeat p s
 
 -- ---- groups
 

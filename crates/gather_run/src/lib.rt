@@ -12,15 +12,13 @@
 
 #![tactic(auto)]
 
-ghost use Rattle.std.specs.Prelude.{◌≡◌, ◌≤◌, ◌^◌, IfErr, IfOk, IfSome, List, OnOk, length, option_map};
+ghost use Rattle.std.specs.Prelude.{◌≡◌, ◌≤◌, IfErr, IfOk, IfSome, List, OnOk, length, option_map};
 ghost use Rattle.agg_table.specs.Calls.{Group};
 ghost use Rattle.agg_table.specs.Drained.{HoldsAll};
 ghost use Rattle.agg_table.specs.declared.part.HashPart.{HashPart};
 ghost use Rattle.dshash_parts.specs.Ending.{IsOf, left_of, whole_of};
-ghost use Rattle.csv_rows.specs.declared.records.TheConstants.{MOST_RECORDS};
 ghost use Rattle.par_model.specs.Columns.{HasColumns};
 ghost use Rattle.partial_agg.specs.Rows.{header_width};
-ghost use Rattle.row_blocks.specs.Blocks.{AreBlocks};
 ghost use Rattle.gather_run.specs.Answers.{AreAllGroups, IsCause, IsFirstCause};
 ghost use Rattle.gather_run.specs.Drained.{AddsAll, SameHistories};
 ghost use Rattle.gather_run.specs.Used.{IsUsed};
@@ -31,9 +29,10 @@ use csv_rows::RowStore;
 use dshash_parts::ClosedTable;
 use par_model::BoundPlan;
 use parallel_ctx::{Context, Finished};
-use partial_agg::{BLOCK_ROWS, GroupMap, Groups};
+use partial_agg::{GroupMap, Groups};
 use region_words::Region;
 use roles::{Leader, Team};
+use row_blocks::count_blocks;
 use std::alloc::{AllocError, Global};
 use std::sync::Wait;
 use std::thread::Threads;
@@ -53,15 +52,6 @@ pub enum GatherAnswer {
     Row { row: u64, cause: u8, item: u32 },
     /// There was no memory.
     Memory,
-}
-
-/// How many blocks the rows make. Tells too that there are few.
-fn count_blocks(rows: &RowStore) -> u64
-    ensures blocks { AreBlocks rows.now result }
-    ensures few { result ≤ 2 ^ 32 }
-    ensures short { length rows.now ≤ MOST_RECORDS }
-{
-    rows.count().div_ceil(BLOCK_ROWS)
 }
 
 /// A plan has few aggregates. It does nothing when it runs.

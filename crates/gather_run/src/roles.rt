@@ -10,7 +10,7 @@ use partial_agg::GroupMap;
 use plan_spec::plan_in;
 use std::alloc::Global;
 use std::sync::Wait;
-use worker_run::{Gate, WorkerEnd, work};
+use worker_run::{Gate, Job, WorkerEnd, work};
 
 /// The workers of a query: each takes its groups to memory of `alloc` and passes the gate.
 pub(crate) struct Team<'a, G: Gate + Sync> {
@@ -108,16 +108,20 @@ impl<'a, G: Gate> Lead for Leader<'a, G> {
         queues: &mut [LeaderEnds],
     ) {
         let plan = plan_in(&mut seats.toc, &shared.region);
+        let job = Job {
+            region: &shared.region,
+            rows: self.rows,
+            plan: &plan,
+            claims: &shared.claims,
+            table: &shared.hash,
+            gate: self.gate,
+            number: 0,
+        };
         self.failure = lead_all(
             rt,
             self.alloc,
-            &shared.region,
-            &plan,
-            self.rows,
-            self.gate,
-            &shared.claims,
+            &job,
             &mut seats.claim,
-            &shared.hash,
             &mut seats.hash,
             queues,
             &mut self.groups,

@@ -5,19 +5,20 @@
 ghost use Rattle.std.specs.Prelude.{◌≡◌, ◌<◌, ◌+◌, ◌*◌, All, IfErr, OnOk, length};
 ghost use Rattle.std.specs.FinMap as map;
 ghost use Rattle.agg_table.specs.Tokens.{Grew, IsPart, IsSeat, StaysSeated, use_in, use_of};
-ghost use Rattle.par_model.specs.Columns.{HasColumns};
 ghost use Rattle.partial_agg.specs.Rows.{IsAccepted, header_width};
 ghost use Rattle.row_blocks.specs.Blocks.{block_rows};
 ghost use Rattle.gather_law.specs.Tuples.{groups_of};
-ghost use Rattle.gather_run.specs.Sharing.{DoesBlock, IsSeated, SharesGroup, SharesGroups, StopsAt};
+ghost use Rattle.worker_run.specs.Job.{IsJob, IsSeated};
+ghost use Rattle.gather_run.specs.Sharing.{DoesBlock, SharesGroup, SharesGroups, StopsAt};
 
-use csv_rows::RowStore;
-use par_model::{AggState, BoundPlan};
+use par_model::AggState;
 use parallel_ctx::{HashPart, HashSeat};
-use partial_agg::{BLOCK_ROWS, BlockAnswer, GroupKey, GroupMap};
+use partial_agg::{BlockAnswer, GroupKey, GroupMap};
 use region_words::Region;
+use row_blocks::BLOCK_ROWS;
 use std::alloc::AllocError;
 use std::sync::Wait;
+use worker_run::Job;
 
 /// Puts a group into the table, or adds it to the map where the table has no room.
 fn share_group<R: Wait>(
@@ -65,64 +66,59 @@ fn share_groups<R: Wait>(
 }
 
 /// Shares out the groups of a block. Their map is empty before, and afterwards where the block was done.
-fn share_block<R: Wait>(
+fn share_block<G, R: Wait>(
     rt: &R,
-    r: &Region,
-    plan: &BoundPlan,
-    rows: &RowStore,
+    job: &Job<'_, G>,
     block: u64,
     part: &HashPart,
     seat: &mut HashSeat,
     block_groups: &mut GroupMap,
     groups: &mut GroupMap,
 ) -> Result<(), BlockAnswer>
-    requires block { BLOCK_ROWS * block + 1 < length rows.now }
-    requires columns { HasColumns plan.now (header_width rows.now) }
-    requires part { IsPart r.now part.now }
+    requires job { IsJob job.now }
+    requires block { BLOCK_ROWS * block + 1 < length job.now.rows.now }
+    requires part { IsPart job.now.region.now part.now }
     requires seat { IsSeat part.now seat.old }
     requires empty { block_groups.old ≡ map.empty }
     ensures seat { IsSeat part.now seat.new × Grew seat.old seat.new }
     ensures empty { OnOk result (block_groups.new ≡ map.empty) }
-    ensures accepted { OnOk result (All (IsAccepted plan.now (header_width rows.now)) (block_rows rows.now block)) }
-    ensures shared { OnOk result (SharesGroups (groups_of plan.now (block_rows rows.now block)) (use_of seat.old) (use_of seat.new) groups.old groups.new) }
-    ensures stopped { IfErr result (StopsAt plan.now rows.now block) }
+    ensures accepted { OnOk result (All (IsAccepted job.now.plan.now (header_width job.now.rows.now)) (block_rows job.now.rows.now block)) }
+    ensures shared { OnOk result (SharesGroups (groups_of job.now.plan.now (block_rows job.now.rows.now block)) (use_of seat.old) (use_of seat.new) groups.old groups.new) }
+    ensures stopped { IfErr result (StopsAt job.now.plan.now job.now.rows.now block) }
 {
-    if let Err(why) = block_groups.add_block(rows, plan, block) {
+    if let Err(why) = block_groups.add_block(job.rows, job.plan, block) {
         return Err(why);
     }
-    if share_groups(rt, r, part, seat, block_groups, groups).is_err() {
+    if share_groups(rt, job.region, part, seat, block_groups, groups).is_err() {
         return Err(BlockAnswer::Memory);
     }
     Ok(())
 }
 
 /// Does a block of the leader's: shares out its groups where there is a table, and else adds its rows to the map.
-pub(crate) fn do_block<R: Wait>(
+pub(crate) fn do_block<G, R: Wait>(
     rt: &R,
-    r: &Region,
-    plan: &BoundPlan,
-    rows: &RowStore,
+    job: &Job<'_, G>,
     block: u64,
-    part: &Option<HashPart>,
     seat: &mut Option<HashSeat>,
     block_groups: &mut GroupMap,
     groups: &mut GroupMap,
 ) -> Result<(), BlockAnswer>
-    requires block { BLOCK_ROWS * block + 1 < length rows.now }
-    requires columns { HasColumns plan.now (header_width rows.now) }
-    requires seat { IsSeated r.now part.now seat.old }
+    requires job { IsJob job.now }
+    requires block { BLOCK_ROWS * block + 1 < length job.now.rows.now }
+    requires seat { IsSeated job.now.region.now job.now.table.now seat.old }
     requires empty { block_groups.old ≡ map.empty }
-    ensures seat { StaysSeated part.now seat.old seat.new }
+    ensures seat { StaysSeated job.now.table.now seat.old seat.new }
     ensures empty { OnOk result (block_groups.new ≡ map.empty) }
-    ensures accepted { OnOk result (All (IsAccepted plan.now (header_width rows.now)) (block_rows rows.now block)) }
-    ensures done { OnOk result (DoesBlock plan.now rows.now block (use_in seat.old) (use_in seat.new) groups.old groups.new) }
-    ensures stopped { IfErr result (StopsAt plan.now rows.now block) }
+    ensures accepted { OnOk result (All (IsAccepted job.now.plan.now (header_width job.now.rows.now)) (block_rows job.now.rows.now block)) }
+    ensures done { OnOk result (DoesBlock job.now.plan.now job.now.rows.now block (use_in seat.old) (use_in seat.new) groups.old groups.new) }
+    ensures stopped { IfErr result (StopsAt job.now.plan.now job.now.rows.now block) }
 {
     match seat {
-        None => groups.add_block(rows, plan, block),
-        Some(seat) => match part {
+        None => groups.add_block(job.rows, job.plan, block),
+        Some(seat) => match job.table {
             None => unreachable!(),
-            Some(part) => share_block(rt, r, plan, rows, block, part, seat, block_groups, groups),
+            Some(part) => share_block(rt, job, block, part, seat, block_groups, groups),
         },
     }
 }

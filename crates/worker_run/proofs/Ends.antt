@@ -1,10 +1,10 @@
 -- What a worker has done and said when it ends.
-use Rattle.std.proofs.Common.{◌≡◌, ◌==◌, ◌<◌, ◌≤◌, ◌+◌, ◌*◌, ◌⊎◌, ◌++◌, inl, inr, ℕ, List, [], ◌∷◌, length, All, Contains, IsTrue, true, refl, ap, sym, subst, ◌∙◌, arith, append-nil}
+use Rattle.std.proofs.Common.{◌≡◌, ◌⊎◌, ◌++◌, inl, inr, ℕ, List, [], ◌∷◌, length, All, Contains, IsTrue, true, refl, ap, sym, subst, ◌∙◌, arith, append-nil}
 use Rattle.std.specs.FinMap as map
 use Rattle.std.specs.List.{flat_map}
 use Rattle.std.proofs.lemmas.List.Elements.{All-append, All-cons, All-nil, Contains-push}
 use Rattle.csv_rows.specs.Records.{record_at}
-use Rattle.error_queue.specs.Message.{encoding}
+use Rattle.error_queue.specs.Message.{IsMessage, encoding}
 use Rattle.error_queue.specs.declared.ErrorMessage.TheVariants as message
 use Rattle.mq_handle.specs.Messages.{whole_of}
 use Rattle.par_model.specs.Plan.{Plan}
@@ -15,17 +15,18 @@ use Rattle.partial_agg.specs.Rows.{IsAccepted, header_width}
 use Rattle.partial_agg.specs.declared.map.BlockAnswer.{BlockAnswer}
 use Rattle.partial_agg.specs.declared.map.BlockAnswer.TheVariants as answer
 use Rattle.row_blocks.proofs.BlockRows.{length-block}
+use Rattle.row_blocks.specs.Blocks.{AreBlocks, Table}
 use Rattle.ring_rule.specs.Ring.{Sending}
 use Rattle.scan_claim.specs.Drawing.{is_spent}
 use Rattle.gather_law.specs.Tuples.{Group, IsTupleOf, groups_of}
-use Rattle.row_blocks.specs.Blocks.{AreBlocks, Table}
-use Rattle.worker_run.specs.Ended.{HasEnded, IsNotice, IsOwnRow, IsRefused, found_gone, sends_of}
+use Rattle.worker_run.specs.Ended.{HasEnded, HasRefused, IsNotice, IsOwnRow, IsRefused, found_gone, sends_of}
 use Rattle.worker_run.specs.Sent.{AreWritten, FoundGone, HasSent, StoppedSending, tuples_of}
 use Rattle.worker_run.specs.Notices.{GivesUp}
-use Rattle.worker_run.specs.Steps.{Finishes}
+use Rattle.worker_run.specs.Job.{DrawsNone}
+use Rattle.worker_run.specs.Steps.{Finishes, HasFinished}
 use Rattle.worker_run.specs.Working.{IsWorking}
 use Rattle.worker_run.specs.declared.WorkerEnd.{WorkerEnd}
-use Rattle.worker_run.specs.declared.WorkerEnd.TheVariants.{Finished, Stopped, Refused, NoMemory}
+use Rattle.worker_run.specs.declared.WorkerEnd.TheVariants.{Finished, Stopped}
 use Rattle.worker_run.proofs.Working.{late_draw, working-flush}
 
 pub gone_is : (s : Sending) → s.flag_value ≡ 1 → found_gone s ≡ true
@@ -39,7 +40,7 @@ module _ (plan : Plan) (records : Table) where
   written_are (g ∷ groups) w =
       All-cons (IsTupleOf plan) _ (tuples_of (length plan.items) groups) (record { group = g; has = w.0; is = refl }) (written_are groups w.1)
 
-  working_tuples : (draws : List ℕ) (groups : GroupsByKey) (errors tuples : Sending) → IsWorking plan records draws groups errors tuples → All (IsTupleOf plan) (whole_of tuples.put)
+  pub working_tuples : (draws : List ℕ) (groups : GroupsByKey) (errors tuples : Sending) → IsWorking plan records draws groups errors tuples → All (IsTupleOf plan) (whole_of tuples.put)
   working_tuples draws groups errors tuples w = subst (All (IsTupleOf plan)) (sym w.sent) (written_are (flat_map (groups_of plan) w.batches) w.written)
 
   pub more_tuples : (gs : List Group) (old new : Sending) → All (IsTupleOf plan) (whole_of old.put) → AreWritten (length plan.items) gs → whole_of new.put ≡ whole_of old.put ++ tuples_of (length plan.items) gs
@@ -54,12 +55,11 @@ module _ (plan : Plan) (records : Table) where
 
   -- ---- no more blocks
 
-  pub has_finished : (blocks : ℕ) (draws draws' : List ℕ) (groups : GroupsByKey) (errors tuples errors' tuples' : Sending) (end : WorkerEnd) → AreBlocks records blocks
-      → IsWorking plan records draws groups errors tuples
-      → (draws' ≡ draws) ⊎ ((n : ℕ) × (blocks ≤ n) × (draws' ≡ draws ++ n ∷ [])) → IsTrue (is_spent blocks draws')
-      → Finishes (length plan.items) groups errors tuples errors' tuples' end → HasEnded plan records blocks draws' (sends_of errors' tuples') end
+  pub has_finished : (blocks : ℕ) (draws draws' : List ℕ) (groups : GroupsByKey) (errors tuples errors' tuples' : Sending) → AreBlocks records blocks → IsWorking plan records draws groups errors tuples
+      → DrawsNone blocks draws draws' → IsTrue (is_spent blocks draws') → HasFinished (length plan.items) groups errors tuples errors' tuples'
+      → HasEnded plan records blocks draws' (sends_of errors' tuples') Finished
   unfolding working-flush
-  has_finished blocks draws draws' groups errors tuples errors' tuples' Finished a w late spent f =
+  has_finished blocks draws draws' groups errors tuples errors' tuples' a w late spent f =
       let flushed = working-flush plan records draws groups map.empty errors tuples tuples' w (record { empty = refl; all = f.sent }) in
       let same = late_draw plan records blocks draws draws' a late in
       let said : whole_of errors'.put ≡ encoding message.End ∷ [] = f.said.sent ∙ ap (λ l. l ++ encoding message.End ∷ []) w.silent in
@@ -78,22 +78,24 @@ module _ (plan : Plan) (records : Table) where
         notices = subst (All (IsNotice plan records draws')) (sym said) (All-cons (IsNotice plan records draws') (encoding message.End) [] (inr refl) (All-nil (IsNotice plan records draws')));
         tuples = working_tuples draws map.empty errors tuples' flushed;
       }
-  has_finished blocks draws draws' groups errors tuples errors' tuples' Stopped a w late spent (inl f) =
-      let quiet : whole_of errors'.put ≡ [] = ap (λ (s : Sending). whole_of s.put) f.1 ∙ w.silent in
+
+  -- a worker that has said nothing yet, and all of whose messages are tuples, finds a receiver gone as it finishes
+  pub stopped_finishing : (blocks : ℕ) (draws : List ℕ) (groups : GroupsByKey) (errors tuples errors' tuples' : Sending) → whole_of errors.put ≡ [] → All (IsTupleOf plan) (whole_of tuples.put)
+      → Finishes (length plan.items) groups errors tuples errors' tuples' Stopped → HasEnded plan records blocks draws (sends_of errors' tuples') Stopped
+  stopped_finishing blocks draws groups errors tuples errors' tuples' e t (inl f) =
+      let quiet : whole_of errors'.put ≡ [] = ap (λ (s : Sending). whole_of s.put) f.1 ∙ e in
       record {
         ended = record { silent = quiet; found = inr (gone_is tuples' f.0.found.flag) };
-        notices = silence draws' errors' quiet;
-        tuples = more_tuples f.0.done tuples tuples' (working_tuples draws groups errors tuples w) f.0.written f.0.found.sent;
+        notices = silence draws errors' quiet;
+        tuples = more_tuples f.0.done tuples tuples' t f.0.written f.0.found.sent;
       }
-  has_finished blocks draws draws' groups errors tuples errors' tuples' Stopped a w late spent (inr f) =
-      let quiet = silent_yet errors errors' w.silent f.1.sent in
+  stopped_finishing blocks draws groups errors tuples errors' tuples' e t (inr f) =
+      let quiet = silent_yet errors errors' e f.1.sent in
       record {
         ended = record { silent = quiet; found = inl (gone_is errors' f.1.flag) };
-        notices = silence draws' errors' quiet;
-        tuples = more_tuples (map.entries groups) tuples tuples' (working_tuples draws groups errors tuples w) f.0.written f.0.sent.sent;
+        notices = silence draws errors' quiet;
+        tuples = more_tuples (map.entries groups) tuples tuples' t f.0.written f.0.sent.sent;
       }
-  has_finished blocks draws draws' groups errors tuples errors' tuples' (Refused row cause item) a w late spent f = absurd f
-  has_finished blocks draws draws' groups errors tuples errors' tuples' NoMemory a w late spent f = absurd f
 
   -- ---- a block that was not added whole
 
@@ -116,46 +118,36 @@ module _ (plan : Plan) (records : Table) where
         to = omega (arith, at, s.stops, length-block records block);
       }
 
-  pub has_given_up : (blocks : ℕ) (draws draws' : List ℕ) (block : ℕ) (groups old new : GroupsByKey) (errors tuples errors' : Sending) (why : BlockAnswer) (end : WorkerEnd)
-      → draws' ≡ draws ++ block ∷ [] → IsWorking plan records draws groups errors tuples → IsStoppedAt plan records block old new why → GivesUp errors errors' why end
+  -- a worker that has said nothing yet names a refused row of its own, or finds the receiver gone
+  pub names_row : (draws : List ℕ) (row cause item : ℕ) (errors errors' tuples : Sending) → whole_of errors.put ≡ [] → IsRefused plan records row cause item → IsOwnRow draws row → IsMessage (message.Row row cause item)
+      → HasSent errors errors' (encoding (message.Row row cause item) ∷ []) ⊎ FoundGone errors errors' []
+      → HasRefused plan records draws (sends_of errors' tuples) row cause item × All (IsNotice plan records draws) (whole_of errors'.put)
+  names_row draws row cause item errors errors' tuples silent refused own fits (inl sent) =
+      let said : whole_of errors'.put ≡ encoding (message.Row row cause item) ∷ [] = sent.sent ∙ ap (λ l. l ++ encoding (message.Row row cause item) ∷ []) silent in (
+        record { refused = refused; own = own; said = inl said },
+        subst (All (IsNotice plan records draws)) (sym said)
+            (All-cons (IsNotice plan records draws) (encoding (message.Row row cause item)) []
+            (inl (record { row = row; cause = cause; item = item; is = refl; fits = fits; refused = refused; own = own })) (All-nil (IsNotice plan records draws))),
+      )
+  names_row draws row cause item errors errors' tuples silent refused own fits (inr found) =
+      let quiet = silent_yet errors errors' silent found.sent in (record { refused = refused; own = own; said = inr (quiet, gone_is errors' found.flag) }, silence draws errors' quiet)
+
+  pub has_given_up : (blocks : ℕ) (draws draws' : List ℕ) (block : ℕ) (old new : GroupsByKey) (errors tuples errors' : Sending) (why : BlockAnswer) (end : WorkerEnd)
+      → draws' ≡ draws ++ block ∷ [] → whole_of errors.put ≡ [] → All (IsTupleOf plan) (whole_of tuples.put) → IsStoppedAt plan records block old new why → GivesUp errors errors' why end
       → HasEnded plan records blocks draws' (sends_of errors' tuples) end
-  has_given_up blocks draws draws' block groups old new errors tuples errors' answer.Memory end e w s g =
-      let quiet : whole_of errors'.put ≡ [] = ap (λ (s : Sending). whole_of s.put) g.1 ∙ w.silent in
-      subst (HasEnded plan records blocks draws' (sends_of errors' tuples)) (sym g.0)
-      (record { ended = quiet; notices = silence draws' errors' quiet; tuples = working_tuples draws groups errors tuples w })
-  has_given_up blocks draws draws' block groups old new errors tuples errors' (answer.Row row cause item) end e w s g =
-      subst (HasEnded plan records blocks draws' (sends_of errors' tuples)) (sym g.0) (by g.2)
-    where
-      refused : IsRefused plan records row cause item
-      refused = refused_row block row cause item old new s
-
-      own : IsOwnRow draws' row
-      own = own_row draws draws' block row cause item old new e s
-
-      by : HasSent errors errors' (encoding (message.Row row cause item) ∷ []) ⊎ FoundGone errors errors' [] → HasEnded plan records blocks draws' (sends_of errors' tuples) (Refused row cause item)
-      by (inl sent) =
-          let said : whole_of errors'.put ≡ encoding (message.Row row cause item) ∷ [] = sent.sent ∙ ap (λ l. l ++ encoding (message.Row row cause item) ∷ []) w.silent in
-          record {
-            ended = record { refused = refused; own = own; said = inl said };
-            notices = subst (All (IsNotice plan records draws')) (sym said)
-                (All-cons (IsNotice plan records draws') (encoding (message.Row row cause item)) []
-                (inl (record { row = row; cause = cause; item = item; is = refl; fits = g.1; refused = refused; own = own })) (All-nil (IsNotice plan records draws')));
-            tuples = working_tuples draws groups errors tuples w;
-          }
-      by (inr found) =
-          let quiet = silent_yet errors errors' w.silent found.sent in
-          record {
-            ended = record { refused = refused; own = own; said = inr (quiet, gone_is errors' found.flag) };
-            notices = silence draws' errors' quiet;
-            tuples = working_tuples draws groups errors tuples w;
-          }
+  has_given_up blocks draws draws' block old new errors tuples errors' answer.Memory end e silent t s g =
+      let quiet : whole_of errors'.put ≡ [] = ap (λ (s : Sending). whole_of s.put) g.1 ∙ silent in
+      subst (HasEnded plan records blocks draws' (sends_of errors' tuples)) (sym g.0) (record { ended = quiet; notices = silence draws' errors' quiet; tuples = t })
+  has_given_up blocks draws draws' block old new errors tuples errors' (answer.Row row cause item) end e silent t s g =
+      let said = names_row draws' row cause item errors errors' tuples silent (refused_row block row cause item old new s) (own_row draws draws' block row cause item old new e s) g.1 g.2 in
+      subst (HasEnded plan records blocks draws' (sends_of errors' tuples)) (sym g.0) (record { ended = said.0; notices = said.1; tuples = t })
 
   -- ---- a receiver that is gone
 
-  pub has_stopped : (blocks : ℕ) (draws draws' : List ℕ) (groups : GroupsByKey) (errors tuples tuples' : Sending) → IsWorking plan records draws groups errors tuples
-      → StoppedSending (length plan.items) tuples tuples' → HasEnded plan records blocks draws' (sends_of errors tuples') Stopped
-  has_stopped blocks draws draws' groups errors tuples tuples' w s = record {
-    ended = record { silent = w.silent; found = inr (gone_is tuples' s.found.flag) };
-    notices = silence draws' errors w.silent;
-    tuples = more_tuples s.done tuples tuples' (working_tuples draws groups errors tuples w) s.written s.found.sent;
+  pub has_stopped : (blocks : ℕ) (draws : List ℕ) (errors tuples tuples' : Sending) → whole_of errors.put ≡ [] → All (IsTupleOf plan) (whole_of tuples.put)
+      → StoppedSending (length plan.items) tuples tuples' → HasEnded plan records blocks draws (sends_of errors tuples') Stopped
+  has_stopped blocks draws errors tuples tuples' silent t s = record {
+    ended = record { silent = silent; found = inr (gone_is tuples' s.found.flag) };
+    notices = silence draws errors silent;
+    tuples = more_tuples s.done tuples tuples' t s.written s.found.sent;
   }

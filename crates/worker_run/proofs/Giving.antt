@@ -1,5 +1,5 @@
 -- A worker with a table of groups: what its steps come to.
-use Rattle.std.proofs.Common.{◌≡◌, ◌<◌, ◌≤◌, ◌+◌, ◌*◌, ◌⊎◌, ◌++◌, inl, inr, ℕ, List, [], ◌∷◌, length, All, IsTrue, refl, ap, sym, subst, ◌∙◌, arith, append-nil, append_assoc}
+use Rattle.std.proofs.Common.{◌≡◌, ◌++◌, inl, inr, ℕ, List, [], ◌∷◌, length, All, IsTrue, refl, ap, sym, subst, ◌∙◌, append-nil, append_assoc}
 use Rattle.std.specs.FinMap as map
 use Rattle.std.specs.List.{AllByRecursion}
 use Rattle.std.proofs.lemmas.List.{map-append}
@@ -11,24 +11,20 @@ use Rattle.error_queue.specs.Message.{encoding}
 use Rattle.error_queue.specs.declared.ErrorMessage.TheVariants as message
 use Rattle.mq_handle.specs.Messages.{whole_of}
 use Rattle.par_model.specs.Plan.{Plan}
-use Rattle.partial_agg.specs.Blocks.{Stopped as IsStoppedAt}
 use Rattle.partial_agg.specs.Groups.{GroupsByKey}
 use Rattle.partial_agg.specs.Rows.{IsAccepted, header_width}
 use Rattle.row_blocks.specs.Blocks.{AreBlocks, Table, block_rows, rows_of_blocks}
-use Rattle.partial_agg.specs.declared.map.BlockAnswer.{BlockAnswer}
-use Rattle.partial_agg.specs.declared.map.BlockAnswer.TheVariants as answer
 use Rattle.ring_rule.specs.Ring.{Sending}
 use Rattle.scan_claim.specs.Drawing.{is_spent}
 use Rattle.tuple_codec.specs.Tuple.{tuple_bytes}
 use Rattle.gather_law.specs.Tuples.{Group, IsTupleOf, groups_of}
 use Rattle.worker_run.specs.Ended.{IsNotice, sends_of}
-use Rattle.worker_run.specs.Sent.{FoundGone, HasSent, HasSentAll, HasZeros, IsReady, tuples_of}
-use Rattle.worker_run.specs.Notices.{GivesUp}
-use Rattle.worker_run.specs.Steps.{Finishes}
-use Rattle.worker_run.specs.Tabled.{GivesGroup, GivesGroups, HasEndedBy, IsTabling, StoppedGiving, groups_of_blocks}
-use Rattle.worker_run.specs.declared.WorkerEnd.{WorkerEnd}
-use Rattle.worker_run.specs.declared.WorkerEnd.TheVariants.{Finished, Stopped, Refused, NoMemory}
-use Rattle.worker_run.proofs.Ends.{gone_is, more_tuples, own_row, refused_row, silence, silent_yet, written_are}
+use Rattle.worker_run.specs.Job.{DrawsNone}
+use Rattle.worker_run.specs.Sent.{HasSent, HasSentAll, HasZeros, IsReady, StoppedSending, tuples_of}
+use Rattle.worker_run.specs.Steps.{HasFinished}
+use Rattle.worker_run.specs.Tabled.{GivesGroup, GivesGroups, HasEndedBy, IsTabling, groups_of_blocks}
+use Rattle.worker_run.specs.declared.WorkerEnd.TheVariants.{Finished}
+use Rattle.worker_run.proofs.Ends.{written_are}
 use Rattle.worker_run.proofs.Sent.{has_sent_more, has_sent_nothing, no_entries, still_ready, written-join}
 use Rattle.worker_run.proofs.Working.{late_draw, more_blocks, no_rows}
 
@@ -89,7 +85,7 @@ giving-end slots groups left u v old new i e =
     let all : map.entries groups ≡ i.done = i.split ∙ ap (λ (m : GroupsByKey). i.done ++ map.entries m) e ∙ ap (λ l. i.done ++ l) no_entries ∙ append-nil i.done in
     subst (λ (gs : List Group). GivesGroups slots gs u v old new) (sym all) i.gives
 
-pub stopped_giving : (slots : ℕ) (groups left : GroupsByKey) (u v : Use) (old mid new : Sending) → IsGiving slots groups left u v old mid → StoppedGiving slots mid new → StoppedGiving slots old new
+pub stopped_giving : (slots : ℕ) (groups left : GroupsByKey) (u v : Use) (old mid new : Sending) → IsGiving slots groups left u v old mid → StoppedSending slots mid new → StoppedSending slots old new
 stopped_giving slots groups left u v old mid new i s = record {
   done = i.gives.left ++ s.done;
   written = written-join slots i.gives.left s.done i.gives.written s.written;
@@ -143,10 +139,10 @@ module _ (plan : Plan) (records : Table) where
 
   -- ---- the ends
 
-  tabling_tuples : (draws : List ℕ) (u : Use) (errors tuples : Sending) → IsTabling plan records draws u errors tuples → All (IsTupleOf plan) (whole_of tuples.put)
+  pub tabling_tuples : (draws : List ℕ) (u : Use) (errors tuples : Sending) → IsTabling plan records draws u errors tuples → All (IsTupleOf plan) (whole_of tuples.put)
   tabling_tuples draws u errors tuples w = subst (All (IsTupleOf plan)) (sym w.sent) (written_are plan records w.left w.written)
 
-  late_groups : (blocks : ℕ) (draws draws' : List ℕ) → AreBlocks records blocks → (draws' ≡ draws) ⊎ ((n : ℕ) × (blocks ≤ n) × (draws' ≡ draws ++ n ∷ [])) → groups_of_blocks plan records draws' ≡ groups_of_blocks plan records draws
+  pub late_groups : (blocks : ℕ) (draws draws' : List ℕ) → AreBlocks records blocks → DrawsNone blocks draws draws' → groups_of_blocks plan records draws' ≡ groups_of_blocks plan records draws
   late_groups blocks draws draws' a (inl e) = ap (groups_of_blocks plan records) e
   late_groups blocks draws draws' a (inr p) =
       ap (groups_of_blocks plan records) p.2 ∙ block_groups draws p.0
@@ -158,11 +154,10 @@ module _ (plan : Plan) (records : Table) where
   sent_none groups tuples tuples' e h =
       h.sent.sent ∙ ap (λ (gs : List Group). whole_of tuples.put ++ tuples_of (length plan.items) gs) (ap map.entries e ∙ no_entries) ∙ append-nil (whole_of tuples.put)
 
-  pub table_finished : (blocks : ℕ) (draws draws' : List ℕ) (groups : GroupsByKey) (u : Use) (errors tuples errors' tuples' : Sending) (end : WorkerEnd) → AreBlocks records blocks → groups ≡ map.empty
-      → IsTabling plan records draws u errors tuples
-      → (draws' ≡ draws) ⊎ ((n : ℕ) × (blocks ≤ n) × (draws' ≡ draws ++ n ∷ [])) → IsTrue (is_spent blocks draws')
-      → Finishes (length plan.items) groups errors tuples errors' tuples' end → HasEndedBy plan records blocks draws' u (sends_of errors' tuples') end
-  table_finished blocks draws draws' groups u errors tuples errors' tuples' Finished a none w late spent f =
+  pub table_finished : (blocks : ℕ) (draws draws' : List ℕ) (groups : GroupsByKey) (u : Use) (errors tuples errors' tuples' : Sending) → AreBlocks records blocks → groups ≡ map.empty
+      → IsTabling plan records draws u errors tuples → DrawsNone blocks draws draws' → IsTrue (is_spent blocks draws')
+      → HasFinished (length plan.items) groups errors tuples errors' tuples' → HasEndedBy plan records blocks draws' u (sends_of errors' tuples') Finished
+  table_finished blocks draws draws' groups u errors tuples errors' tuples' a none w late spent f =
       let same = sent_none groups tuples tuples' none f.sent in
       let said : whole_of errors'.put ≡ encoding message.End ∷ [] = f.said.sent ∙ ap (λ l. l ++ encoding message.End ∷ []) w.silent in
       record {
@@ -179,57 +174,3 @@ module _ (plan : Plan) (records : Table) where
         notices = subst (All (IsNotice plan records draws')) (sym said) (All-cons (IsNotice plan records draws') (encoding message.End) [] (inr refl) (All-nil (IsNotice plan records draws')));
         tuples = subst (All (IsTupleOf plan)) (sym same) (tabling_tuples draws u errors tuples w);
       }
-  table_finished blocks draws draws' groups u errors tuples errors' tuples' Stopped a none w late spent (inl f) =
-      let quiet : whole_of errors'.put ≡ [] = ap (λ (s : Sending). whole_of s.put) f.1 ∙ w.silent in
-      record {
-        ended = record { silent = quiet; found = inr (gone_is tuples' f.0.found.flag) };
-        notices = silence plan records draws' errors' quiet;
-        tuples = more_tuples plan records f.0.done tuples tuples' (tabling_tuples draws u errors tuples w) f.0.written f.0.found.sent;
-      }
-  table_finished blocks draws draws' groups u errors tuples errors' tuples' Stopped a none w late spent (inr f) =
-      let quiet = silent_yet plan records errors errors' w.silent f.1.sent in
-      record {
-        ended = record { silent = quiet; found = inl (gone_is errors' f.1.flag) };
-        notices = silence plan records draws' errors' quiet;
-        tuples = more_tuples plan records (map.entries groups) tuples tuples' (tabling_tuples draws u errors tuples w) f.0.written f.0.sent.sent;
-      }
-  table_finished blocks draws draws' groups u errors tuples errors' tuples' (Refused row cause item) a none w late spent f = absurd f
-  table_finished blocks draws draws' groups u errors tuples errors' tuples' NoMemory a none w late spent f = absurd f
-
-  pub table_given_up : (blocks : ℕ) (draws draws' : List ℕ) (block : ℕ) (u : Use) (old new : GroupsByKey) (errors tuples errors' : Sending) (why : BlockAnswer) (end : WorkerEnd)
-      → draws' ≡ draws ++ block ∷ [] → IsTabling plan records draws u errors tuples → IsStoppedAt plan records block old new why → GivesUp errors errors' why end
-      → HasEndedBy plan records blocks draws' u (sends_of errors' tuples) end
-  table_given_up blocks draws draws' block u old new errors tuples errors' answer.Memory end e w s g =
-      let quiet : whole_of errors'.put ≡ [] = ap (λ (s : Sending). whole_of s.put) g.1 ∙ w.silent in
-      subst (HasEndedBy plan records blocks draws' u (sends_of errors' tuples)) (sym g.0)
-      (record { ended = quiet; notices = silence plan records draws' errors' quiet; tuples = tabling_tuples draws u errors tuples w })
-  table_given_up blocks draws draws' block u old new errors tuples errors' (answer.Row row cause item) end e w s g =
-      subst (HasEndedBy plan records blocks draws' u (sends_of errors' tuples)) (sym g.0) (by g.2)
-    where
-      by : HasSent errors errors' (encoding (message.Row row cause item) ∷ []) ⊎ FoundGone errors errors' [] → HasEndedBy plan records blocks draws' u (sends_of errors' tuples) (Refused row cause item)
-      by (inl sent) =
-          let refused = refused_row plan records block row cause item old new s in
-          let own = own_row plan records draws draws' block row cause item old new e s in
-          let said : whole_of errors'.put ≡ encoding (message.Row row cause item) ∷ [] = sent.sent ∙ ap (λ l. l ++ encoding (message.Row row cause item) ∷ []) w.silent in
-          record {
-            ended = record { refused = refused; own = own; said = inl said };
-            notices = subst (All (IsNotice plan records draws')) (sym said)
-                (All-cons (IsNotice plan records draws') (encoding (message.Row row cause item)) []
-                (inl (record { row = row; cause = cause; item = item; is = refl; fits = g.1; refused = refused; own = own })) (All-nil (IsNotice plan records draws')));
-            tuples = tabling_tuples draws u errors tuples w;
-          }
-      by (inr found) =
-          let quiet = silent_yet plan records errors errors' w.silent found.sent in
-          record {
-            ended = record { refused = refused_row plan records block row cause item old new s; own = own_row plan records draws draws' block row cause item old new e s; said = inr (quiet, gone_is errors' found.flag) };
-            notices = silence plan records draws' errors' quiet;
-            tuples = tabling_tuples draws u errors tuples w;
-          }
-
-  pub table_stopped : (blocks : ℕ) (draws draws' : List ℕ) (u v : Use) (errors tuples tuples' : Sending) → IsTabling plan records draws u errors tuples
-      → StoppedGiving (length plan.items) tuples tuples' → HasEndedBy plan records blocks draws' v (sends_of errors tuples') Stopped
-  table_stopped blocks draws draws' u v errors tuples tuples' w s = record {
-    ended = record { silent = w.silent; found = inr (gone_is tuples' s.found.flag) };
-    notices = silence plan records draws' errors w.silent;
-    tuples = more_tuples plan records s.done tuples tuples' (tabling_tuples draws u errors tuples w) s.written s.found.sent;
-  }

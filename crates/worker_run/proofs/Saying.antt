@@ -1,5 +1,5 @@
 -- A worker that has sent all it had ends in order.
-use Rattle.std.proofs.Common.{◌≡◌, ◌⊎◌, inr, ℕ, List, refl, subst, sym}
+use Rattle.std.proofs.Common.{◌≡◌, inr, ℕ, List, refl, subst, sym}
 use Rattle.partial_agg.specs.Groups.{GroupsByKey}
 use Rattle.ring_rule.specs.Ends.{publishes}
 use Rattle.ring_rule.specs.Ring.{Sending}

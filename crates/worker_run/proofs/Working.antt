@@ -1,5 +1,5 @@
 -- What a worker's steps come to.
-use Rattle.std.proofs.Common.{◌≡◌, ◌<◌, ◌≤◌, ◌+◌, ◌*◌, ◌^◌, ◌⊎◌, ◌++◌, inl, inr, ℕ, List, [], ◌∷◌, length, take, All, refl, ap, sym, subst, ◌∙◌, arith, append-nil, append_assoc}
+use Rattle.std.proofs.Common.{◌≡◌, ◌≤◌, ◌+◌, ◌*◌, ◌++◌, inl, inr, ℕ, List, [], ◌∷◌, length, take, All, refl, ap, sym, subst, ◌∙◌, arith, append-nil, append_assoc}
 use Rattle.std.specs.FinMap as map
 use Rattle.std.specs.List.{AllByRecursion, flat_map}
 use Rattle.std.proofs.lemmas.List.{drop_all, map-append}
@@ -16,6 +16,7 @@ use Rattle.partial_agg.proofs.Rest.{rest_is_empty}
 use Rattle.ring_rule.specs.Ring.{Sending}
 use Rattle.tuple_codec.specs.Tuple.{tuple_bytes}
 use Rattle.gather_law.specs.Tuples.{groups_of}
+use Rattle.worker_run.specs.Job.{DrawsNone}
 use Rattle.worker_run.specs.Sent.{AreWritten, HasSentGroups, HasZeros, IsFreshQueue, IsReady, tuples_of}
 use Rattle.worker_run.specs.Working.{IsWorking}
 use Rattle.worker_run.proofs.Sent.{still_ready, written-join}
@@ -97,6 +98,6 @@ module _ (plan : Plan) (records : Table) where
   pub no_rows : (blocks n : ℕ) → AreBlocks records blocks → blocks ≤ n → block_rows records n ≡ []
   no_rows blocks n a h = ap (take 256) (drop_all (256 * n + 1) records (omega (arith, a.all, h)))
 
-  pub late_draw : (blocks : ℕ) (draws draws' : List ℕ) → AreBlocks records blocks → (draws' ≡ draws) ⊎ ((n : ℕ) × (blocks ≤ n) × (draws' ≡ draws ++ n ∷ [])) → rows_of_blocks records draws' ≡ rows_of_blocks records draws
+  pub late_draw : (blocks : ℕ) (draws draws' : List ℕ) → AreBlocks records blocks → DrawsNone blocks draws draws' → rows_of_blocks records draws' ≡ rows_of_blocks records draws
   late_draw blocks draws draws' a (inl e) = ap (rows_of_blocks records) e
   late_draw blocks draws draws' a (inr p) = ap (rows_of_blocks records) p.2 ∙ more_blocks draws p.0 ∙ ap (λ l. rows_of_blocks records draws ++ l) (no_rows blocks p.0 a p.1) ∙ append-nil (rows_of_blocks records draws)

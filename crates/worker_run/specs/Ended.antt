@@ -1,5 +1,5 @@
 -- What a worker has done and said when it ends.
-use Rattle.std.specs.Prelude.{◌≡◌, ◌==◌, ◌<◌, ◌≤◌, ◌+◌, ◌*◌, ◌⊎◌, ℕ, Bool, List, [], ◌∷◌, All, Contains, IsTrue, Some, length, true}
+use Rattle.std.specs.Prelude.{◌≡◌, ◌==◌, ◌<◌, ◌≤◌, ◌+◌, ◌-◌, ◌*◌, ◌⊎◌, ℕ, Bool, List, [], ◌∷◌, All, Contains, IsTrue, Some, drop, length, take, true}
 use Rattle.csv_rows.specs.Records.{record_at}
 use Rattle.error_queue.specs.Message.{IsMessage, encoding}
 use Rattle.error_queue.specs.declared.ErrorMessage.TheVariants as message
@@ -38,6 +38,10 @@ pub record IsRefused (plan : Plan) (records : Table) (row cause item : ℕ) : Ty
   pub first : 1 ≤ row
   pub within : row < length records
   pub cause_is : refusal plan (header_width records) (record_at records row) ≡ Some (record { cause = cause; item = item })
+
+-- no row before this one is refused
+abbrev pub IsFirst : Plan → Table → ℕ → Type 0
+IsFirst plan records row = All (IsAccepted plan (header_width records)) (take (row - 1) (drop 1 records))
 
 -- a row is one of the 256 of a block that was drawn
 pub record IsOwnRow (draws : List ℕ) (row : ℕ) : Type 0 where

@@ -1,5 +1,5 @@
 -- A worker with a table of groups: the groups of its blocks that it put into the table, and those that it sent.
-use Rattle.std.specs.Prelude.{◌≡◌, ◌⊎◌, ◌++◌, ℕ, List, [], ◌∷◌, All, IsTrue, Option, Some, None, length}
+use Rattle.std.specs.Prelude.{◌≡◌, ◌<◌, ◌⊎◌, ◌++◌, ℕ, List, [], ◌∷◌, All, IsTrue, Option, Some, None, length}
 use Rattle.std.specs.FinMap as map
 use Rattle.std.specs.List.{flat_map}
 use Rattle.agg_table.specs.Calls.{HasPut, IsLeft, IsPut, Use}
@@ -7,6 +7,7 @@ use Rattle.error_queue.specs.Message.{encoding}
 use Rattle.error_queue.specs.declared.ErrorMessage.TheVariants as message
 use Rattle.mq_handle.specs.Messages.{whole_of}
 use Rattle.par_model.specs.Plan.{Plan}
+use Rattle.partial_agg.specs.Groups.{GroupsByKey}
 use Rattle.partial_agg.specs.Rows.{IsAccepted, header_width}
 use Rattle.row_blocks.specs.Blocks.{Table, block_rows, rows_of_blocks}
 use Rattle.ring_rule.specs.Ring.{Sending}
@@ -14,7 +15,8 @@ use Rattle.scan_claim.specs.Drawing.{is_spent}
 use Rattle.tuple_codec.specs.Tuple.{IsTuple, tuple_bytes}
 use Rattle.gather_law.specs.Tuples.{Group, IsTupleOf, groups_of}
 use Rattle.worker_run.specs.Ended.{Ended, HasEnded, IsNotice, Sends}
-use Rattle.worker_run.specs.Sent.{AreWritten, FoundGone, HasSent, IsReady, tuples_of}
+use Rattle.worker_run.specs.Sent.{AreWritten, HasSent, HasSentGroups, IsReady, tuples_of}
+use Rattle.worker_run.specs.Working.{IsWorking, most_kept}
 use Rattle.worker_run.specs.declared.WorkerEnd.{WorkerEnd}
 use Rattle.worker_run.specs.declared.WorkerEnd.TheVariants.{Finished, Stopped, Refused, NoMemory}
 
@@ -36,12 +38,6 @@ pub record GivesGroups (slots : ℕ) (groups : List Group) (u v : Use) (old new 
   pub written : AreWritten slots left
   pub sent : HasSent old new (tuples_of slots left)
 
--- a send found that the receiver is gone; before it some groups were sent
-pub record StoppedGiving (slots : ℕ) (old new : Sending) : Type 0 where
-  pub done : List Group
-  pub written : AreWritten slots done
-  pub found : FoundGone old new (tuples_of slots done)
-
 -- ---- between two blocks
 
 -- Of the groups of its blocks, whose rows are not refused, it has put each into the table, or has sent it as a tuple of
@@ -56,6 +52,23 @@ pub record IsTabling (plan : Plan) (records : Table) (draws : List ℕ) (u : Use
   pub silent : whole_of errors.put ≡ []
   pub errors_ready : IsReady 14 errors
   pub tuples_ready : IsReady 581 tuples
+
+-- a worker between two blocks, with a table or without; with one it keeps no groups
+abbrev pub IsAtWork : Plan → Table → List ℕ → Option Use → GroupsByKey → Sending → Sending → Type 0
+IsAtWork plan records draws None groups errors tuples = IsWorking plan records draws groups errors tuples
+IsAtWork plan records draws (Some u) groups errors tuples = (groups ≡ map.empty) × IsTabling plan records draws u errors tuples
+
+-- the groups of a map were kept, if they are few, or all were sent
+pub record SendsMany (slots : ℕ) (groups left : GroupsByKey) (old new : Sending) : Type 0 where
+  pub few : map.len left < most_kept
+  pub sent : ((left ≡ groups) × (new ≡ old)) ⊎ HasSentGroups slots groups left old new
+
+-- the groups of a map were passed on: with a table they were given out, and without one they were sent if they are many
+abbrev pub PassesOn : ℕ → Option Use → Option Use → GroupsByKey → GroupsByKey → Sending → Sending → Type 0
+PassesOn slots None None groups left old new = SendsMany slots groups left old new
+PassesOn slots (Some u) (Some v) groups left old new = (left ≡ map.empty) × GivesGroups slots (map.entries groups) u v old new
+PassesOn slots None (Some v) groups left old new = ⊥
+PassesOn slots (Some u) None groups left old new = ⊥
 
 -- ---- the ends
 

@@ -1,4 +1,4 @@
-use Rattle.std.proofs.Common.{◌≡◌, ◌∙◌, All, List, length, ◌<◌, ap, arith, refl, subst, get_or}
+use Rattle.std.proofs.Common.{◌∙◌, All, List, length, ◌<◌, ap, arith, refl, subst, get_or}
 use Rattle.std.proofs.lemmas.List.{take_all}
 use Rattle.gather_merge.specs.declared.sorting.Keyed.{Keyed}
 use Rattle.gather_merge.specs.Levels.{IsWorded}

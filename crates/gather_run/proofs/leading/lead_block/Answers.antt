@@ -1,4 +1,4 @@
-use Rattle.std.proofs.Common.{rules, subst, sym}
+use Rattle.std.proofs.Common.{arith, subst, sym}
 use Rattle.agg_table.specs.Tokens.{use_in}
 use Rattle.scan_claim.specs.Shown.{blocks_of, draws_of}
 use Rattle.worker_run.proofs.Ends.{refused_row}
@@ -10,33 +10,35 @@ use Rattle.gather_run.specs.declared.GatherAnswer.{GatherAnswer}
 use Rattle.gather_run.specs.declared.leading.Step.TheVariants.{Failed}
 use Rattle.partial_agg.specs.declared.map.BlockAnswer.{BlockAnswer}
 use Rattle.partial_agg.specs.declared.map.BlockAnswer.TheVariants as block
-use Rattle.gather_run.proofs.Parts.{first_row, leading-block, leading-late}
+use Rattle.row_blocks.proofs.BlockRows.{length-block}
+use Rattle.worker_run.proofs.First.{first_row}
+use Rattle.gather_run.proofs.Parts.{leading-block, leading-late}
 use Rattle.gather_run.proofs.leading.lead_block.Goals as goal
 
 pub returns-in_default-clause-step : goal.returns-in_default-clause-step
 returns-in_default-clause-step g c tuples l = (
-  leading-late c.args.plan.now c.args.rows.now (blocks_of c.args.claims.now) (draws_of c.args.claim.now) (draws_of c.claim.new.self) (use_in c.args.seat.now) tuples c.args.groups.now c.requires.blocks c.in_default.ensures.too_many l,
-  c.claim.ensures.none.0 (search rules),
+  leading-late c.args.job.now.plan.now c.args.job.now.rows.now (blocks_of c.args.job.now.claims.now) (draws_of c.args.claim.now) (draws_of c.draw.new.claim) (use_in c.args.seat.now) tuples c.args.groups.now c.requires.job.blocks c.in_default.ensures.none l,
+  c.in_default.ensures.spent,
 )
 
 pub returns-clause-step : goal.returns-clause-step
 returns-clause-step g c tuples l =
-    subst (λ ds. IsLeading c.args.plan.now c.args.rows.now ds (use_in c.do_block.new.seat) tuples c.do_block.new.groups) (sym c.in-Some.ensures.drawn.1)
-    (leading-block c.args.plan.now c.args.rows.now (draws_of c.args.claim.now) c.in-Some.block (use_in c.args.seat.now) (use_in c.do_block.new.seat) tuples c.args.groups.now c.do_block.new.groups l c.in_default-do_block.ensures.accepted c.in_default-do_block.ensures.done)
+    subst (λ ds. IsLeading c.args.job.now.plan.now c.args.job.now.rows.now ds (use_in c.do_block.new.seat) tuples c.do_block.new.groups) (sym c.in-Some.ensures.drawn)
+    (leading-block c.args.job.now.plan.now c.args.job.now.rows.now (draws_of c.args.claim.now) c.in-Some.block (use_in c.args.seat.now) (use_in c.do_block.new.seat) tuples c.args.groups.now c.do_block.new.groups l c.in_default-do_block.ensures.accepted c.in_default-do_block.ensures.done)
 
 pub returns-in-Err-clause-step : goal.returns-in-Err-clause-step
 returns-in-Err-clause-step g c tuples l =
     by c.in-Err.why c.answer_of.result c.answer_of.ensures c.in-Err.ensures.stopped
   where
     After : GatherAnswer → Type 0
-    After answer = BlockStep c.args.plan.now c.args.rows.now c.args.claims.now (draws_of c.claim.new.self) (use_in c.do_block.new.seat) tuples c.do_block.new.groups (Failed answer)
+    After answer = BlockStep c.args.job.now.plan.now c.args.job.now.rows.now c.args.job.now.claims.now (draws_of c.draw.new.claim) (use_in c.do_block.new.seat) tuples c.do_block.new.groups (Failed answer)
 
-    by : (why : BlockAnswer) (answer : GatherAnswer) → Answers why answer → StopsAt c.args.plan.now c.args.rows.now c.in-Some.block why → After answer
+    by : (why : BlockAnswer) (answer : GatherAnswer) → Answers why answer → StopsAt c.args.job.now.plan.now c.args.job.now.rows.now c.in-Some.block why → After answer
     by (block.Row row cause item) answer e s =
         subst After (sym e) (record {
-          refused = refused_row c.args.plan.now c.args.rows.now c.in-Some.block row cause item s.before s.now s.stopped;
+          refused = refused_row c.args.job.now.plan.now c.args.job.now.rows.now c.in-Some.block row cause item s.before s.now s.stopped;
           first = λ alone.
-              first_row c.args.plan.now c.args.rows.now (draws_of c.args.claim.now) (draws_of c.claim.new.self) c.in-Some.block row cause item s.before s.now
-              (c.requires.in_order alone) (c.claim.ensures.in_order alone) c.in-Some.ensures.drawn.1 l.accepted s.stopped;
+              first_row c.args.job.now.plan.now c.args.job.now.rows.now (draws_of c.args.claim.now) (draws_of c.draw.new.claim) c.in-Some.block row s.stopped.count (c.requires.claim.1 alone) (c.draw.ensures.in_order alone)
+              c.in-Some.ensures.drawn l.accepted s.stopped.explains.0 (omega (arith, s.stopped.stops, length-block c.args.job.now.rows.now c.in-Some.block)) s.stopped.before.accepted;
         })
     by block.Memory answer e s = subst After (sym e) tt

@@ -9,5 +9,5 @@ use Rattle.gather_run.proofs.leading.lead_next.Goals.{in-Ended, in-More}
 pub returns-clause-step : goal.returns-clause-step
 returns-clause-step g c =
     let stays : StaysLeading c.args.queues.now c.hear_all.new.queues c.args.groups.now c.hear_all.new.groups = elim c.match-hear_all.branch [ in-Ended w ↦ w.in-Ended.ensures.heard.0 | in-More w ↦ w.in-More.ensures.heard ] in
-    step_of c.args.plan.now c.args.rows.now c.args.claims.now (draws_of c.lead_block.new.claim) (use_in c.lead_block.new.seat) c.hear_all.new.queues c.lead_block.new.groups c.lead_block.result
-    (c.lead_block.ensures.step (map tuples_of c.hear_all.new.queues) (stays c.args.plan.now c.args.rows.now (draws_of c.args.claim.now) (use_in c.args.seat.now) c.requires.leading))
+    step_of c.args.job.now.plan.now c.args.job.now.rows.now c.args.job.now.claims.now (draws_of c.lead_block.new.claim) (use_in c.lead_block.new.seat) c.hear_all.new.queues c.lead_block.new.groups c.lead_block.result
+    (c.lead_block.ensures.step (map tuples_of c.hear_all.new.queues) (stays c.args.job.now.plan.now c.args.job.now.rows.now (draws_of c.args.claim.now) (use_in c.args.seat.now) c.requires.leading))

@@ -1,4 +1,4 @@
-use Rattle.std.proofs.Common.{rules, ◌≡◌, ◌∙◌, subst, sym}
+use Rattle.std.proofs.Common.{rules, ◌∙◌, subst, sym}
 use Rattle.worker_run.specs.Sent.{IsSending}
 use Rattle.worker_run.proofs.Sent.{head_zeros, sending-end, sending-start, sending-step, still_ready, stopped_sending}
 use Rattle.worker_run.proofs.sending.send_groups.Goals as goal

@@ -1,4 +1,4 @@
-use Rattle.std.proofs.Common.{◌≡◌, ◌≤◌}
+use Rattle.std.proofs.Common.{◌≡◌}
 use Rattle.worker_run.specs.Sent.{IsReady, IsSending}
 use Rattle.worker_run.proofs.sending.send_groups.Given as goal
 

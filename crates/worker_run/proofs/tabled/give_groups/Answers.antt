@@ -1,4 +1,4 @@
-use Rattle.std.proofs.Common.{rules, ◌≡◌, ◌∙◌, subst}
+use Rattle.std.proofs.Common.{rules, ◌∙◌, subst}
 use Rattle.std.specs.List.{AllByRecursion}
 use Rattle.agg_table.specs.Tokens.{use_of}
 use Rattle.agg_table.proofs.Seats.{grew_itself, grew_through}

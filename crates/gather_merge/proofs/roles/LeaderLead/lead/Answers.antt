@@ -11,9 +11,11 @@ use Rattle.gather_merge.specs.Words.{AreWords}
 use Rattle.gather_merge.proofs.Led.{opens, unheard}
 use Rattle.gather_merge.proofs.roles.LeaderLead.lead.Goals as goal
 
-pub lead_all-self-requires-clause-columns : goal.lead_all-self-requires-clause-columns
-lead_all-self-requires-clause-columns g c =
-    subst (λ (p : Plan). HasColumns p (header_width c.args.self.now.rows.now)) (sym (c.plan_in-plan.ensures.plan c.requires.0 c.requires.1.seats.plan_is)) c.requires.2.0
+pub lead_all-self-requires-clause-job : goal.lead_all-self-requires-clause-job
+lead_all-self-requires-clause-job g c = record {
+  blocks = c.requires.2.1;
+  columns = subst (λ (p : Plan). HasColumns p (header_width c.args.self.now.rows.now)) (sym (c.plan_in-plan.ensures.plan c.requires.0 c.requires.1.seats.plan_is)) c.requires.2.0;
+}
 
 pub lead_all-self-requires-clause-open : goal.lead_all-self-requires-clause-open
 lead_all-self-requires-clause-open g c = opens c.args.shared.now c.args.queues.now c.requires.1.unheard

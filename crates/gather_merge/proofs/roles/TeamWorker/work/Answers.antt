@@ -12,9 +12,19 @@ use Rattle.gather_merge.specs.Order.{columns_at}
 use Rattle.gather_merge.specs.Words.{AreWords}
 use Rattle.gather_merge.proofs.roles.TeamWorker.work.Goals as goal
 
-pub work-requires-clause-columns : goal.work-requires-clause-columns
-work-requires-clause-columns g c =
-    subst (λ (p : Plan). HasColumns p (header_width c.args.self.now.rows.now)) (sym (c.plan_in-plan.ensures.plan c.requires.0 c.requires.1.seats.plan_is)) c.requires.2.0
+pub work-requires-clause-job : goal.work-requires-clause-job
+work-requires-clause-job g c = record {
+  blocks = c.requires.2.1;
+  columns = subst (λ (p : Plan). HasColumns p (header_width c.args.self.now.rows.now)) (sym (c.plan_in-plan.ensures.plan c.requires.0 c.requires.1.seats.plan_is)) c.requires.2.0;
+}
+
+pub work-requires-clause-hands : goal.work-requires-clause-hands
+work-requires-clause-hands g c = record {
+  hands = record { seat = c.requires.1.seats.claim; errors_here = c.requires.1.errors.here; tuples_here = c.requires.1.tuples.here };
+  fresh = c.requires.1.seats.drawn;
+  errors_fresh = search rules;
+  tuples_fresh = search rules;
+}
 
 pub work-requires-clause-words : goal.work-requires-clause-words
 work-requires-clause-words g c =

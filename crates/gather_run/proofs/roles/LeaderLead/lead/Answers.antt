@@ -5,19 +5,22 @@ use Rattle.par_model.specs.Plan.{Plan}
 use Rattle.partial_agg.specs.Rows.{header_width}
 use Rattle.scan_claim.specs.Shown.{blocks_of, draws_of}
 use Rattle.parallel_ctx.specs.Accounts.{heard}
+use Rattle.worker_run.proofs.Seated.{seated_at_first}
 use Rattle.gather_run.specs.Leading.{IsLeading, Led}
 use Rattle.gather_run.specs.Looks.{tuples_of}
 use Rattle.gather_run.proofs.Parts.{leading-start}
-use Rattle.gather_run.proofs.Seated.{seated_at_first, unused_at_first}
+use Rattle.gather_run.proofs.Seated.{unused_at_first}
 use Rattle.gather_run.proofs.Together.{unheard}
 use Rattle.gather_run.proofs.roles.LeaderLead.lead.Goals as goal
 
-pub lead_all-self-requires-clause-columns : goal.lead_all-self-requires-clause-columns
-lead_all-self-requires-clause-columns g c =
-    subst (λ (p : Plan). HasColumns p (header_width c.args.self.now.rows.now)) (sym (c.plan_in-plan.ensures.plan c.requires.0 c.requires.1.seats.plan_is)) c.requires.2.0
+pub lead_all-self-requires-clause-job : goal.lead_all-self-requires-clause-job
+lead_all-self-requires-clause-job g c = record {
+  blocks = c.requires.2.1;
+  columns = subst (λ (p : Plan). HasColumns p (header_width c.args.self.now.rows.now)) (sym (c.plan_in-plan.ensures.plan c.requires.0 c.requires.1.seats.plan_is)) c.requires.2.0;
+}
 
-pub lead_all-self-requires-clause-hash : goal.lead_all-self-requires-clause-hash
-lead_all-self-requires-clause-hash g c = seated_at_first c.args.shared.now.region c.args.seats.now.number c.args.shared.now.hash c.args.seats.now.hash c.requires.1.seats.hash
+pub lead_all-self-requires-clause-seat : goal.lead_all-self-requires-clause-seat
+lead_all-self-requires-clause-seat g c = seated_at_first c.args.shared.now.region c.args.seats.now.number c.args.shared.now.hash c.args.seats.now.hash c.requires.1.seats.hash
 
 pub lead_all-self-requires-clause-leading : goal.lead_all-self-requires-clause-leading
 lead_all-self-requires-clause-leading g c =
@@ -36,5 +39,5 @@ returns-clause-seats g c = record {
   toc = search rules;
   claim = search rules;
   same = search rules;
-  hash = c.lead_all-self.ensures.hash;
+  hash = c.lead_all-self.ensures.seat;
 }
