@@ -12,3 +12,5 @@ pub mod Rounds
 pub mod Owners
 pub mod Callers
 pub mod Lookups
+pub mod Takes
+pub mod Uses

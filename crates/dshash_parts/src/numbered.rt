@@ -1,10 +1,11 @@
 //! A partition behind a lock.
 
-ghost use Rattle.std.specs.Prelude.{◌≡◌, ◌/◌, ◌≤◌};
+ghost use Rattle.std.specs.Prelude.{◌≡◌, ℕ, ◌/◌, ◌≤◌, List, true};
 ghost use Rattle.std.specs.FinMap as fin;
-ghost use Rattle.dshash_core.specs.Cells.{IsRoomy, buckets_of};
+ghost use Rattle.dshash_core.specs.Key.{hash_of};
+ghost use Rattle.dshash_core.specs.Cells.{IsRoomy, buckets_of, partition_of};
 ghost use Rattle.dshash_core.specs.Outcome.{IsMoved};
-ghost use Rattle.dshash_parts.specs.Asked.{name_of, state_of, call_of, reply_of, AskFits, AnswerFits};
+ghost use Rattle.dshash_parts.specs.Asked.{name_of, state_of, asked_of, call_of, reply_of, AskFits, AnswerFits, MayAsk};
 ghost use Rattle.dshash_parts.specs.Legal.{LeavesOver, MayTurn, PartitionLegal};
 
 use crate::asks::{TableAnswer, TableAsk};
@@ -14,11 +15,12 @@ use dshash_resize::move_partition;
 use lock_book::Kept;
 use region_words::{Chunk, Region};
 
-/// The partition of this number.
+/// The partition of this number: its keys belong there.
 #[derive(Drop)]
 pub struct Numbered<O: CellObject> {
     pub number: u32,
     pub partition: Partition<O>,
+    pub ghost ours: { (key : List ℕ) → fin.contains_key partition.cells key ≡ true → partition_of (hash_of key) ≡ number },
 }
 
 impl<O: CellObject + Send> Kept for Numbered<O>
@@ -45,13 +47,15 @@ where
 
     ghost state = { λ v. state_of v.partition };
 
-    ghost call = { call_of };
+    ghost call = { asked_of };
 
     ghost reply = { reply_of };
 
+    ghost made = { call_of };
+
     ghost env_fits = { λ n r. r ≡ n.region };
 
-    ghost in_fits = { λ n caller ask. AskFits n ask × MayTurn O.may caller (call_of ask) };
+    ghost in_fits = { λ n caller ask. AskFits n ask × MayAsk O.stepped O.may n.number caller ask };
 
     ghost out_fits = { AnswerFits };
 
@@ -66,6 +70,10 @@ where
             TableAsk::Look => TableAnswer::Size(partition.size(), partition.count()),
             TableAsk::Grow(size, slice) => TableAnswer::LeftOver(grow(partition, r, size, slice)),
             TableAsk::List(alloc) => TableAnswer::Entries(partition.list(alloc, r)),
+            TableAsk::Take(call, words) => match partition.take_any(r, &call, words) {
+                Some(taken) => TableAnswer::Took(taken),
+                None => TableAnswer::Size(partition.size(), partition.count()),
+            },
         }
     }
 }

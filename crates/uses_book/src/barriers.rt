@@ -4,6 +4,7 @@ ghost use Rattle.std.specs.Prelude.{◌≡◌, IfOk};
 ghost use Rattle.par_barrier.specs.Shown.{Belongs, number_of};
 
 use crossbeam_utils::Backoff;
+use lock_book::two_of;
 use par_barrier::{Arrival, Arrived, Barrier, BarrierAnswer, BarrierPass, Left};
 use std::alloc::{AllocError, Global};
 use std::sync::Wait;
@@ -19,13 +20,8 @@ fn for_two(alloc: Global) -> Result<(Barrier, BarrierPass, BarrierPass), AllocEr
     ensures zero { IfOk result (λ r. Belongs r.0 r.1 × (number_of r.1 ≡ 0)) }
     ensures one { IfOk result (λ r. Belongs r.0 r.2 × (number_of r.2 ≡ 1)) }
 {
-    let (barrier, mut passes) = Barrier::new(alloc, 2)?;
-    let Some(one) = passes.pop() else {
-        unreachable!()
-    };
-    let Some(zero) = passes.pop() else {
-        unreachable!()
-    };
+    let (barrier, passes) = Barrier::new(alloc, 2)?;
+    let (zero, one) = two_of(passes);
     Ok((barrier, zero, one))
 }
 
@@ -98,12 +94,7 @@ fn for_three(alloc: Global) -> Result<(Barrier, BarrierPass, BarrierPass, Barrie
     let Some(two) = passes.pop() else {
         unreachable!()
     };
-    let Some(one) = passes.pop() else {
-        unreachable!()
-    };
-    let Some(zero) = passes.pop() else {
-        unreachable!()
-    };
+    let (zero, one) = two_of(passes);
     Ok((barrier, zero, one, two))
 }
 

@@ -1,17 +1,7 @@
-use Rattle.std.proofs.Common.{◌∙◌}
-use Rattle.lock_book.proofs.Uses.{both}
 use Rattle.uses_book.proofs.barriers.for_two.Goals as goal
 
 pub returns-clause-zero : goal.returns-clause-zero
-returns-clause-zero c =
-    let s = c.in_ok-barrier.ensures in
-    let all = s.passes in
-    let at = (both _ _ _ _ _ c.in-Some.ensures.items c.in-Some-pop.ensures.items (all.count ∙ s.callers)).0 in
-    all.each 0 c.in-Some-pop.zero at
+returns-clause-zero c = c.in_ok-barrier.ensures.passes.each 0 _ c.two_of.ensures.zero
 
 pub returns-clause-one : goal.returns-clause-one
-returns-clause-one c =
-    let s = c.in_ok-barrier.ensures in
-    let all = s.passes in
-    let at = (both _ _ _ _ _ c.in-Some.ensures.items c.in-Some-pop.ensures.items (all.count ∙ s.callers)).1 in
-    all.each 1 c.in-Some.one at
+returns-clause-one c = c.in_ok-barrier.ensures.passes.each 1 _ c.two_of.ensures.one
