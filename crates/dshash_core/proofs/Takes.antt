@@ -1,11 +1,11 @@
 -- Taking an entry out, whichever comes next: there is none only where the map is empty, and a call that removes frees
 -- the item of its key.
-use Rattle.std.proofs.Common.{◌≡◌, ℕ, zero, suc, ◌+◌, ◌<◌, true, List, [], ◌∷◌, ◌++◌, map, length, get_or, Option, is_some, refl, sym, ap, ◌∙◌, arith}
+use Rattle.std.proofs.Common.{◌≡◌, ℕ, suc, ◌<◌, ◌&&◌, true, List, [], ◌∷◌, ◌++◌, map, length, get_or, Option, Some, is_some, is_none, refl, sym, ap, ◌∙◌, arith}
 use Rattle.std.specs.FinMap as fin
 use Rattle.dshash_core.specs.Chains.{Item}
-use Rattle.dshash_core.specs.Hung.{Hung, IsSpot}
-use Rattle.dshash_core.specs.Cells.{AreCells, all_items, cells_of, entry_of}
-use Rattle.dshash_core.proofs.Flats.{spot_get}
+use Rattle.dshash_core.specs.Hung.{Hung}
+use Rattle.dshash_core.specs.Cells.{AreCells, KeyMap, all_items, cells_of, entry_of}
+use Rattle.dshash_core.specs.Outcome.{AlwaysRemoves, next_of, removes}
 
 -- chains without items have none together
 pub all_empty : (chains : List (List Item)) → ((i : ℕ) → i < length chains → get_or chains i [] ≡ []) → all_items chains ≡ []
@@ -24,6 +24,6 @@ module _ {S : Type 0} (decoded : List ℕ → S) (size count value_words : ℕ) 
   pub none_counted : count ≡ 0 → cells_of decoded h.chains ≡ fin.empty
   none_counted e = no_cells decoded h.chains (none_of (all_items h.chains) (sym k.counted ∙ e))
 
-  -- the key of an item is there
-  pub key_there : (i : ℕ) → i < length h.chains → (link : ℕ) (it : Item) → IsSpot h i link it → (key : List ℕ) → key ≡ it.key → fin.contains_key (cells_of decoded h.chains) key ≡ true
-  key_there i l link it s key e = ap (λ (q : List ℕ). fin.contains_key (cells_of decoded h.chains) q) e ∙ ap (λ (o : Option S). is_some o) (spot_get size count value_words h k i l link it s decoded)
+-- a call that removes whatever stands under a key frees the item of one that is there
+pub frees : {S C R : Type 0} (step : Option S → C → Option S × R) (call : C) → AlwaysRemoves step call → (m : KeyMap S) (key : List ℕ) (state : S) → fin.get m key ≡ Some state → removes m key (next_of step m key call) ≡ true
+frees {S} step call gone m key state e = ap (λ (o : Option S). is_some o && is_none (step o call).0) e ∙ ap (λ (o : Option S). is_none o) (gone state)

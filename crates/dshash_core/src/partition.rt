@@ -176,7 +176,9 @@ impl<O: CellObject> Partition<O> {
         if self.count == 0 {
             return None;
         }
-        let (bucket, spot) = spot_at_hand(&mut self.buckets, r, self.hand)?;
+        let Some((bucket, spot)) = spot_at_hand(&mut self.buckets, r, self.hand) else {
+            return None;
+        };
         self.hand = bucket;
         Some(take_at::<O>(
             &mut self.buckets,

@@ -1,8 +1,9 @@
 -- A turn at a partition is an event of the table.
-use Rattle.std.proofs.Common.{◌≡◌, ℕ, List, [], ◌∷◌, Option, refl, subst}
+use Rattle.std.proofs.Common.{◌≡◌, ℕ, List, [], ◌∷◌, Option, Vec, Global, refl, subst}
 use mathlib.Core.Option.{some}
 use lib.ListN.{get_elem?}
 use Rattle.region_words.specs.declared.chunk.Chunk.{Chunk}
+use Rattle.lock_book.specs.History.{IsLegal}
 use Rattle.lock_book.specs.Told.{Histories, Adds}
 use Rattle.lock_book.specs.Told.{MakesAll}
 use Rattle.lock_book.proofs.Uses.{one_call}
@@ -19,10 +20,10 @@ use Rattle.dshash_parts.specs.Tables.{AtPartition}
 use Rattle.dshash_parts.proofs.Owners.{Taken, one_lawful}
 
 pub turn : {S C R : Type 0} (step : Option S → C → Option S × R) (may : ℕ → List ℕ → C → Type 0) (opens : List (PartitionName × PartitionState S)) (n : ℕ) (seen mine seen' mine' : Histories (PartitionState S) (PartitionCalls C) (PartitionReplies S R)) (at : ℕ) (c : PartitionCalls C) (r : PartitionReplies S R) (name : PartitionName)
-    → get_elem? opens at ≡ some (name, fresh) → name.number ≡ at → Adds (λ m. Taken step may m.number) opens n seen mine seen' mine' at c r → AtPartition step n seen mine seen' mine' at c r
-turn step may opens n seen mine seen' mine' at c r name there same a = record {
+    → get_elem? opens at ≡ some (name, fresh) → name.number ≡ at → IsLegal (Taken step may name.number) fresh (seen' at) → Adds (λ m. Taken step may m.number) opens n seen mine seen' mine' at c r → AtPartition step n seen mine seen' mine' at c r
+turn step may opens n seen mine seen' mine' at c r name there same legal a = record {
   here = subst (λ (z : ℕ). MakesAll (λ _. PartitionLegal step z) fresh n (seen at) (mine at) (seen' at) (mine' at) ((c, r) ∷ [])) same
-      (one_lawful step may name.number n (seen at) (mine at) (seen' at) (mine' at) c r
+      (one_lawful step may name.number n (seen at) (mine at) (seen' at) (mine' at) c r legal
       (one_call (λ m. Taken step may m.number) opens n seen mine seen' mine' at c r (name, fresh) there a));
   others = λ other ne. (a.others_seen other ne, a.others_mine other ne);
 }
@@ -51,7 +52,7 @@ module _ {O S C R : Type 0} where
   no_other_grow n size slice (Entries x) f g = f
   no_other_grow n size slice (Took x) f g = f
 
-  pub no_other_take : {W : Type 0} (n : PartitionName) (call : C) (words : W) (answer : TableAnswer O S C R) → AnswerFits n (Take call words) answer → ((x : _) → answer ≡ Took x → ⊥) → ((x keys : ℕ) → answer ≡ Size x keys → ⊥) → ⊥
+  pub no_other_take : (n : PartitionName) (call : C) (words : Vec ℕ Global) (answer : TableAnswer O S C R) → AnswerFits n (Take call words) answer → ((x : _) → answer ≡ Took x → ⊥) → ((x keys : ℕ) → answer ≡ Size x keys → ⊥) → ⊥
   no_other_take n call words (Came x) f g h = f
   no_other_take n call words (Size x keys) f g h = h x keys refl
   no_other_take n call words (LeftOver x) f g h = f

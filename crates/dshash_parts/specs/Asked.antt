@@ -33,19 +33,18 @@ listed_of pairs (Err e) = Listed None
 
 -- S, C and R are the states, calls and replies of the object O
 module _ {O S C R : Type 0} where
-  -- the call of an ask, as far as the ask tells it
-  abbrev pub asked_of : TableAsk O S C R → PartitionCalls C
-  asked_of (Make hash key call spare) = Call key call (is_some spare)
-  asked_of Look = Looks
-  asked_of (Grow size slice) = Moves size
-  asked_of (ListAll alloc) = Lists
-  asked_of (Take call words) = Looks
+  -- the call of an ask. Where a key is to come and none does, it was a look
+  abbrev pub call_of : TableAsk O S C R → PartitionCalls C
+  call_of (Make hash key call spare) = Call key call (is_some spare)
+  call_of Look = Looks
+  call_of (Grow size slice) = Moves size
+  call_of (ListAll alloc) = Lists
+  call_of (Take call words) = Looks
 
-  -- the call of an ask that got an answer. Where a key was to come, the answer tells which came, and the call was made of
-  -- it; where none came, it was a look
-  abbrev pub call_of : TableAsk O S C R → TableAnswer O S C R → PartitionCalls C
-  call_of (Take call words) (Took taken) = Call taken.key call false
-  call_of ask answer = asked_of ask
+  -- the call that the partition chose: of the key that came
+  abbrev pub chosen_of : TableAsk O S C R → TableAnswer O S C R → Option (PartitionCalls C)
+  chosen_of (Take call words) (Took taken) = Some (Call taken.key call false)
+  chosen_of ask answer = None
 
   -- the reply of what became of a call
   abbrev pub outcome_of : CoreOut O S C R → PartitionReplies S R
@@ -72,13 +71,13 @@ module _ {O S C R : Type 0} where
   AskFits n (Take call words) = length words.items ≡ n.key_words
 
   -- what is handed out are the spare itself or an item; a slice that is left over is of this region; a size is from 7
-  -- to 20. A key that came is one of this partition, and where none came there are no keys
+  -- to 20. Where no key came there are none
   abbrev pub AnswerFits : PartitionName → TableAsk O S C R → TableAnswer O S C R → Type 0
   AnswerFits n (Make hash key call spare) (Came out) = HandsOut n.region n.item_bytes spare out
   AnswerFits n Look (Size size keys) = (7 ≤ size) × (size ≤ 20)
   AnswerFits n (Grow size slice) (LeftOver left) = left.part.region ≡ n.region
   AnswerFits n (ListAll alloc) (Entries entries) = Unit {0}
-  AnswerFits n (Take call words) (Took taken) = (length taken.key ≡ n.key_words) × (partition_of (hash_of taken.key) ≡ n.number) × (taken.item.part.region ≡ n.region) × (taken.item.bytes ≡ n.item_bytes)
+  AnswerFits n (Take call words) (Took taken) = (length taken.key ≡ n.key_words) × (taken.item.part.region ≡ n.region) × (taken.item.bytes ≡ n.item_bytes)
   AnswerFits n (Take call words) (Size size keys) = keys ≡ 0
   AnswerFits n ask answer = ⊥
 

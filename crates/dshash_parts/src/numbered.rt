@@ -1,12 +1,11 @@
 //! A partition behind a lock.
 
-ghost use Rattle.std.specs.Prelude.{◌≡◌, ℕ, ◌/◌, ◌≤◌, List, true};
+ghost use Rattle.std.specs.Prelude.{◌≡◌, ◌/◌, ◌≤◌};
 ghost use Rattle.std.specs.FinMap as fin;
-ghost use Rattle.dshash_core.specs.Key.{hash_of};
-ghost use Rattle.dshash_core.specs.Cells.{IsRoomy, buckets_of, partition_of};
+ghost use Rattle.dshash_core.specs.Cells.{IsRoomy, buckets_of};
 ghost use Rattle.dshash_core.specs.Outcome.{IsMoved};
-ghost use Rattle.dshash_parts.specs.Asked.{name_of, state_of, asked_of, call_of, reply_of, AskFits, AnswerFits, MayAsk};
-ghost use Rattle.dshash_parts.specs.Legal.{LeavesOver, MayTurn, PartitionLegal};
+ghost use Rattle.dshash_parts.specs.Asked.{name_of, state_of, call_of, chosen_of, reply_of, AskFits, AnswerFits, MayAsk};
+ghost use Rattle.dshash_parts.specs.Legal.{AreOurs, LeavesOver, MayTurn, PartitionLegal};
 
 use crate::asks::{TableAnswer, TableAsk};
 use crate::histories::{PartitionCalls, PartitionName, PartitionReplies, PartitionStates};
@@ -15,12 +14,11 @@ use dshash_resize::move_partition;
 use lock_book::Kept;
 use region_words::{Chunk, Region};
 
-/// The partition of this number: its keys belong there.
+/// The partition of this number.
 #[derive(Drop)]
 pub struct Numbered<O: CellObject> {
     pub number: u32,
     pub partition: Partition<O>,
-    pub ghost ours: { (key : List ℕ) → fin.contains_key partition.cells key ≡ true → partition_of (hash_of key) ≡ number },
 }
 
 impl<O: CellObject + Send> Kept for Numbered<O>
@@ -47,11 +45,11 @@ where
 
     ghost state = { λ v. state_of v.partition };
 
-    ghost call = { asked_of };
+    ghost call = { call_of };
 
     ghost reply = { reply_of };
 
-    ghost made = { call_of };
+    ghost chosen = { chosen_of };
 
     ghost env_fits = { λ n r. r ≡ n.region };
 
@@ -59,7 +57,8 @@ where
 
     ghost out_fits = { AnswerFits };
 
-    ghost legal = { λ n caller before call reply after. PartitionLegal O.stepped n.number before call reply after × MayTurn O.may caller call };
+    // a partition can't tell whose keys it has: that they are its own follows from its history
+    ghost legal = { λ n caller before call reply after. AreOurs n.number before.cells → PartitionLegal O.stepped n.number before call reply after × MayTurn O.may caller call };
 
     fn apply(&mut self, r: &Region, ask: TableAsk<O>) -> TableAnswer<O> {
         let partition = &mut self.partition;

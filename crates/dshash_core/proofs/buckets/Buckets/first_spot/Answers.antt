@@ -1,4 +1,4 @@
-use Rattle.std.proofs.Common.{◌≡◌, ◌<◌, ◌+◌, [], length, ap, sym, subst, ◌∙◌}
+use Rattle.std.proofs.Common.{◌<◌, ◌+◌, [], length, ap, sym, subst, ◌∙◌}
 use Rattle.dshash_core.specs.Hung.{Hung, IsSpot, chain_of}
 use Rattle.dshash_core.proofs.Views.{bucket_in, link_fits, first_item}
 use Rattle.dshash_core.proofs.buckets.Buckets.first_spot.Goals as goal
