@@ -1,5 +1,5 @@
 -- Turns that are legal and that their callers may take, and keys that belong to a caller.
-use Rattle.std.proofs.Common.{◌≡◌, ◌≢◌, ℕ, ◌<◌, ◌*◌, ◌-◌, ◌^◌, ◌≤◌, ◌==◌, Bool, true, false, cond, List, [], ◌∷◌, ◌++◌, Option, Some, None, is_some, refl, sym, ap, subst, ◌∙◌, arith, ⊎_elim}
+use Rattle.std.proofs.Common.{◌≡◌, ◌≢◌, ℕ, ◌<◌, ◌*◌, ◌-◌, ◌^◌, ◌≤◌, ◌==◌, Bool, true, false, cond, List, [], ◌∷◌, Option, None, is_some, refl, sym, ap, subst, ◌∙◌, arith, ⊎_elim}
 use mathlib.Core.Logic.{dite}
 use native.Mathlib.Decide.{dec_lt}
 use Rattle.std.proofs.lemmas.Nat.{pow_below}
@@ -7,12 +7,12 @@ use Rattle.std.specs.FinMap as fin
 use Rattle.std.proofs.lemmas.Bool.Decides.{eqb_tells}
 use Rattle.lock_book.specs.declared.view.Entry.{Entry}
 use Rattle.lock_book.specs.History.{entry, calls_by, last_of, IsLegal}
-use Rattle.lock_book.specs.Told.{Histories, Makes, MakesAll}
+use Rattle.lock_book.specs.Told.{Histories, MakesAll}
 use Rattle.lock_book.proofs.Uses.{legal_front}
 use Rattle.dshash_core.specs.Key.{hash_of}
 use Rattle.dshash_core.specs.Cells.{buckets_of, partition_of}
 use Rattle.dshash_core.proofs.Maps.{keys_same_or_not}
-use Rattle.dshash_core.specs.Outcome.{changed, next_of, IsDone}
+use Rattle.dshash_core.specs.Outcome.{next_of, IsDone}
 use Rattle.dshash_parts.specs.States.{PartitionState, fresh}
 use Rattle.dshash_parts.specs.Legal.{AreAllowed, AreOurs, IsOurs, IsTurn, MayTurn, PartitionLegal}
 use Rattle.dshash_parts.specs.Owners.{IsOwner, IsOwnCell, OwnersHaveCells}
@@ -30,7 +30,7 @@ module _ {S C R : Type 0} (step : Option S → C → Option S × R) (number : �
   kept q before after same ours there = ours q (ap (λ (o : Option S). is_some o) same ∙ there)
 
   -- the keys of a partition stay its own
-  turn_ours : (before after : PartitionState S) (c : PartitionCalls C) (r : PartitionReplies S R) → IsTurn step before c r after → IsOurs number c → AreOurs number before.cells → AreOurs number after.cells
+  turn_ours : (before after : PartitionState S) (c : PartitionCalls C) (r : PartitionReplies S R) → IsTurn step before c r after → IsOurs step number c → AreOurs number before.cells → AreOurs number after.cells
   turn_ours before after (Call k c sp) (Made r u f) h own ours q there = ⊎_elim
       (λ (e : q ≡ k). ap (λ (z : List ℕ). partition_of (hash_of z)) e ∙ own)
       (λ (ne : q ≢ k). kept q before after (sym (ap (λ m. fin.get m q) h.1.steps ∙ changed_else step before.cells k (next_of step before.cells k c) q ne)) ours there)
@@ -45,7 +45,7 @@ module _ {S C R : Type 0} (step : Option S → C → Option S × R) (number : �
   turn_ours before after Lists r h own ours q there = kept q before after (one step q before after Lists r h) ours there
 
   -- a new partition has none
-  fresh_ours : AreOurs {S} number (fresh {S}).cells
+  fresh_ours : AreOurs {S = S} number (fresh {S = S}).cells
   fresh_ours key there = let none : true ≡ false = sym there ∙ ap (λ (o : Option S). is_some o) (fin.get-empty {X = S} _ key) in absurd (cc)
 
 module _ {S C R : Type 0} (step : Option S → C → Option S × R) (may : ℕ → List ℕ → C → Type 0) (number : ℕ) where

@@ -1,5 +1,5 @@
 -- What a call tells that took an entry out: its key had a state, and has none.
-use Rattle.std.proofs.Common.{◌≡◌, ℕ, ◌&&◌, Bool, true, false, List, Option, Some, None, is_some, is_none, refl, sym, ap, ◌∙◌}
+use Rattle.std.proofs.Common.{◌≡◌, ℕ, ◌&&◌, true, false, List, Option, Some, None, is_some, is_none, refl, sym, ap, ◌∙◌}
 use Rattle.std.specs.FinMap as fin
 use Rattle.lock_book.specs.History.{last_of}
 use Rattle.lock_book.specs.Told.{Histories}
