@@ -10,3 +10,4 @@ pub mod Maps
 pub mod Flats
 pub mod Steps
 pub mod Moves
+pub mod Takes

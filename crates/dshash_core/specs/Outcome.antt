@@ -22,6 +22,10 @@ would_insert m key next = not (fin.contains_key m key) && is_some next
 abbrev pub removes : {S : Type 0} → KeyMap S → List ℕ → Option S → Bool
 removes m key next = fin.contains_key m key && is_none next
 
+-- the call takes out whatever stands under a key
+abbrev pub AlwaysRemoves : {S C R : Type 0} → (Option S → C → Option S × R) → C → Type 0
+AlwaysRemoves {S} step call = (s : S) → (step (Some s) call).0 ≡ None
+
 -- the partition has to grow before it inserts (dshash.c, dshash_find_or_insert: its count exceeds
 -- MAX_COUNT_PER_PARTITION); at size 20 it grows no more
 abbrev pub is_full : {S : Type 0} → KeyMap S → ℕ → Bool

@@ -205,6 +205,22 @@ impl Buckets {
         self.part.load(r, item)
     }
 
+    /// Where the first item of a bucket stands, where it has one.
+    pub(crate) fn first_spot(&mut self, r: &Region, bucket: u64) -> Option<Spot>
+        requires here { self.old.region ≡ r.now }
+        requires bucket { bucket < length self.old.chains }
+        ensures same { self.new ≡ self.old }
+        ensures none { IfNone result (chain_of self.old bucket ≡ []) }
+        ensures some { IfSome result (λ s. (it : Item) × IsSpot self.old bucket s.link it × (it.at ≡ s.item)) }
+    {
+        let item = self.first(r, bucket);
+        if item == 0 {
+            return None;
+        }
+        let link = self.slice + bucket;
+        Some(Spot { link, item })
+    }
+
     /// Takes the first item of a bucket out, whole.
     pub fn pop(&mut self, r: &Region, bucket: u64) -> Option<Chunk>
         requires here { self.old.region ≡ r.now }

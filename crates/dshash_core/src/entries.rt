@@ -27,6 +27,13 @@ impl Model for KeyWords {
 }
 
 impl KeyWords {
+    /// The key of these words.
+    pub(crate) fn of(words: Vec<u64>) -> KeyWords
+        ensures { result ≡ words.items }
+    {
+        KeyWords { words }
+    }
+
     /// The key's words, in order.
     pub fn words(&self) -> &[u64]
         ensures { result.now ≡ self.now }

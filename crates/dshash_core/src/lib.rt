@@ -5,8 +5,8 @@
 //! words of one bucket are a chain of items; moves along it, and stores in it, are on the words of one part (`words`).
 //! The buckets of a slice own the words of their chains and show them as lists of items (`buckets`); how many there
 //! are, and when there are too few, goes by the partition's size (`sizes`). A call finds its key's item and changes it,
-//! takes it out, or hangs a new one in (`calls`), and its answer says what it lacked (`outcome`). A listing walks all
-//! chains (`entries`). The partition puts these together, and shows one map (`partition`): `IsPartition` of specs/Cells
+//! takes it out, or hangs a new one in (`calls`), and its answer says what it lacked (`outcome`); or the partition
+//! chooses the key that goes (`taking`). A listing walks all chains (`entries`). The partition puts these together, and shows one map (`partition`): `IsPartition` of specs/Cells
 //! is its invariant.
 
 #![tactic(auto)]
@@ -19,6 +19,7 @@ mod object;
 mod outcome;
 mod partition;
 mod sizes;
+mod taking;
 mod words;
 
 pub use buckets::Buckets;
@@ -28,3 +29,4 @@ pub use object::CellObject;
 pub use outcome::CoreOut;
 pub use partition::Partition;
 pub use sizes::{PARTITIONS, bucket_count, partition_of_hash};
+pub use taking::Taken;

@@ -7,11 +7,11 @@
 //! its key's hash, each key once, the count is the number of keys, and there are at most three quarters as many keys as
 //! buckets and one more, or the size is 20.
 
-ghost use Rattle.std.specs.Prelude.{◌≡◌, false, ◌+◌, ◌*◌, ◌/◌, ◌<◌, ◌≤◌, length, is_some, IfOk, IfSome, MatchOption};
+ghost use Rattle.std.specs.Prelude.{◌≡◌, true, false, ◌+◌, ◌*◌, ◌/◌, ◌<◌, ◌≤◌, length, is_some, IfOk, IfNone, IfSome, MatchOption};
 ghost use Rattle.std.specs.FinMap as fin;
 ghost use Rattle.dshash_core.specs.Key.{hash_of, item_size};
 ghost use Rattle.dshash_core.specs.Cells.{IsRoomy, AreCells, buckets_of, cells_of, layout_of};
-ghost use Rattle.dshash_core.specs.Outcome.{IsOutcome, HandsOut, ListsAll};
+ghost use Rattle.dshash_core.specs.Outcome.{AlwaysRemoves, IsDone, IsOutcome, HandsOut, ListsAll};
 ghost use Rattle.dshash_core.specs.Listing.{pairs_of};
 ghost use Rattle.dshash_core.specs.Chains.{Item};
 ghost use Rattle.dshash_core.specs.Hung.{IsItemChunk};
@@ -23,6 +23,7 @@ use crate::key::hash_key;
 use crate::object::CellObject;
 use crate::outcome::CoreOut;
 use crate::sizes::{LEAST_SIZE, bucket_count, bucket_of_hash};
+use crate::taking::{Taken, spot_at_hand, take_at};
 use region_words::{Chunk, Region};
 use std::alloc::{AllocError, Global};
 use std::marker::{Model, PhantomData};
@@ -35,6 +36,8 @@ pub struct Partition<O: CellObject> {
     size: u32,
     count: u64,
     buffer: Vec<u64>,
+    /// The bucket from which `take_any` took last. It goes on from there.
+    hand: u64,
     object: PhantomData<O>,
 }
 
@@ -79,6 +82,7 @@ impl<O: CellObject> Partition<O> {
             size: LEAST_SIZE,
             count: 0,
             buffer,
+            hand: 0,
             object: PhantomData,
         })
     }
@@ -152,6 +156,40 @@ impl<O: CellObject> Partition<O> {
             call,
             spare,
         )
+    }
+
+    /// Takes an entry out, whichever comes next, by a call of its key; None where there is no key. `words` is memory for
+    /// the key. It goes round the buckets, each time on from the one where it was last, over those that are empty: to
+    /// take one key after another until none is left takes some steps for each key and for each bucket. It takes no
+    /// memory.
+    pub fn take_any(&mut self, r: &Region, call: &O::Call, words: Vec<u64>) -> Option<Taken<O>>
+        requires here { self.old.region ≡ r.now }
+        requires words { length words.items ≡ self.old.key_words }
+        requires removes { AlwaysRemoves O.stepped call.now }
+        ensures none { IfNone result ((self.old.cells ≡ fin.empty) × (self.new ≡ self.old)) }
+        ensures taken { IfSome result (λ t. IsDone O.stepped self.old.size self.old.cells t.key call.now false t.reply false true self.new.cells) }
+        ensures same { self.new ≡ record self.old { cells = self.new.cells } }
+        ensures key { IfSome result (λ t. length t.key ≡ self.old.key_words) }
+        ensures item { IfSome result (λ t. (t.item.part.region ≡ self.old.region) × (t.item.bytes ≡ self.old.item_bytes)) }
+        ensures roomy { IsRoomy self.new.size (fin.len self.new.cells) }
+    {
+        if self.count == 0 {
+            return None;
+        }
+        let Some((bucket, spot)) = spot_at_hand(&mut self.buckets, r, self.hand) else {
+            return None;
+        };
+        self.hand = bucket;
+        Some(take_at::<O>(
+            &mut self.buckets,
+            r,
+            &mut self.count,
+            self.buffer.as_mut_slice(),
+            bucket,
+            spot,
+            call,
+            words,
+        ))
     }
 
     /// Each key with its state, in no stated order. It takes memory for the entries, at once, and for each key.

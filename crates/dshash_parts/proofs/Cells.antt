@@ -14,9 +14,9 @@ use Rattle.dshash_parts.specs.Tables.{state_at}
 use Rattle.dshash_parts.specs.Traces.{Event, Turn, Asked, Missed, Sight, Trace}
 use Rattle.dshash_parts.specs.Promises.{HadToGrow, LackedItem, IsLastCall, IsRefused, SawSize, slice_size}
 use Rattle.dshash_parts.specs.declared.histories.PartitionCalls.{PartitionCalls}
-use Rattle.dshash_parts.specs.declared.histories.PartitionCalls.TheVariants.{Call, Looks}
+use Rattle.dshash_parts.specs.declared.histories.PartitionCalls.TheVariants.{Call}
 use Rattle.dshash_parts.specs.declared.histories.PartitionReplies.{PartitionReplies}
-use Rattle.dshash_parts.specs.declared.histories.PartitionReplies.TheVariants.{Made, LacksItem, HasToGrow, HasSize}
+use Rattle.dshash_parts.specs.declared.histories.PartitionReplies.TheVariants.{Made, LacksItem, HasToGrow}
 use Rattle.dshash_parts.proofs.Replays.{changed_here}
 use Rattle.dshash_parts.proofs.Sweeps.{among_front}
 use Rattle.dshash_parts.proofs.Sizes.{turn_legal}

@@ -12,3 +12,4 @@ pub mod Owners
 pub mod Callers
 pub mod Lookups
 pub mod Done
+pub mod Takings

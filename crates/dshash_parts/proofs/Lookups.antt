@@ -1,12 +1,11 @@
 -- A call that neither makes nor removes a cell is made by its first turn, and hands nothing out.
-use Rattle.std.proofs.Common.{◌≡◌, ℕ, ◌&&◌, not, Bool, true, false, List, Option, Some, None, is_some, is_none, IfSome, refl, sym, ap, subst, ◌∙◌}
+use Rattle.std.proofs.Common.{◌≡◌, ℕ, ◌&&◌, not, Bool, true, false, List, Option, Some, None, is_some, is_none, refl, sym, ap, subst, ◌∙◌}
 use Rattle.std.specs.FinMap as fin
-use Rattle.atomic_table.specs.Seated.{TableId}
 use Rattle.region_words.specs.declared.chunk.Chunk.{Chunk}
 use Rattle.lock_book.specs.Told.{Histories}
 use Rattle.dshash_core.specs.Cells.{KeyMap, partition_of}
 use Rattle.dshash_core.specs.Key.{hash_of}
-use Rattle.dshash_core.specs.Outcome.{HandsOut, changed, next_of, removes, would_insert}
+use Rattle.dshash_core.specs.Outcome.{next_of, removes, would_insert}
 use Rattle.dshash_core.specs.declared.outcome.CoreOut.{CoreOut}
 use Rattle.dshash_core.specs.declared.outcome.CoreOut.TheVariants.{Done, NeedItem, TooFull}
 use Rattle.dshash_parts.specs.Asked.{outcome_of}

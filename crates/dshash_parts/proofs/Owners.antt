@@ -1,19 +1,20 @@
 -- Turns that are legal and that their callers may take, and keys that belong to a caller.
-use Rattle.std.proofs.Common.{◌≡◌, ◌≢◌, ℕ, ◌<◌, ◌*◌, ◌-◌, ◌^◌, ◌≤◌, ◌==◌, Bool, true, false, cond, List, [], ◌∷◌, ◌++◌, Option, Some, None, refl, sym, ap, subst, ◌∙◌, arith, ⊎_elim}
+use Rattle.std.proofs.Common.{◌≡◌, ◌≢◌, ℕ, ◌<◌, ◌*◌, ◌-◌, ◌^◌, ◌≤◌, ◌==◌, Bool, true, false, cond, List, [], ◌∷◌, Option, None, is_some, refl, sym, ap, subst, ◌∙◌, arith, ⊎_elim}
 use mathlib.Core.Logic.{dite}
 use native.Mathlib.Decide.{dec_lt}
 use Rattle.std.proofs.lemmas.Nat.{pow_below}
 use Rattle.std.specs.FinMap as fin
 use Rattle.std.proofs.lemmas.Bool.Decides.{eqb_tells}
 use Rattle.lock_book.specs.declared.view.Entry.{Entry}
-use Rattle.lock_book.specs.History.{calls_by, last_of, IsLegal}
-use Rattle.lock_book.specs.Told.{Histories, Makes, MakesAll}
+use Rattle.lock_book.specs.History.{entry, calls_by, last_of, IsLegal}
+use Rattle.lock_book.specs.Told.{Histories, MakesAll}
+use Rattle.lock_book.proofs.Uses.{legal_front}
 use Rattle.dshash_core.specs.Key.{hash_of}
 use Rattle.dshash_core.specs.Cells.{buckets_of, partition_of}
 use Rattle.dshash_core.proofs.Maps.{keys_same_or_not}
-use Rattle.dshash_core.specs.Outcome.{changed, next_of, IsDone}
+use Rattle.dshash_core.specs.Outcome.{next_of, IsDone}
 use Rattle.dshash_parts.specs.States.{PartitionState, fresh}
-use Rattle.dshash_parts.specs.Legal.{AreAllowed, IsTurn, MayTurn, PartitionLegal}
+use Rattle.dshash_parts.specs.Legal.{AreAllowed, AreOurs, IsOurs, IsTurn, MayTurn, PartitionLegal}
 use Rattle.dshash_parts.specs.Owners.{IsOwner, IsOwnCell, OwnersHaveCells}
 use Rattle.dshash_parts.specs.Replays.{calls_of_key, made_of, IsRun}
 use Rattle.dshash_parts.specs.declared.histories.PartitionCalls.{PartitionCalls}
@@ -23,22 +24,65 @@ use Rattle.dshash_parts.specs.declared.histories.PartitionReplies.TheVariants.{M
 use Rattle.dshash_parts.proofs.Uses.{partition_low}
 use Rattle.dshash_parts.proofs.Replays.{changed_else, changed_here, one, run_append}
 
+module _ {S C R : Type 0} (step : Option S → C → Option S × R) (number : ℕ) where
+  -- a turn by which no call of the key was made leaves it where it was
+  kept : (q : List ℕ) (before after : PartitionState S) → fin.get before.cells q ≡ fin.get after.cells q → AreOurs number before.cells → fin.contains_key after.cells q ≡ true → partition_of (hash_of q) ≡ number
+  kept q before after same ours there = ours q (ap (λ (o : Option S). is_some o) same ∙ there)
+
+  -- the keys of a partition stay its own
+  turn_ours : (before after : PartitionState S) (c : PartitionCalls C) (r : PartitionReplies S R) → IsTurn step before c r after → IsOurs step number c → AreOurs number before.cells → AreOurs number after.cells
+  turn_ours before after (Call k c sp) (Made r u f) h own ours q there = ⊎_elim
+      (λ (e : q ≡ k). ap (λ (z : List ℕ). partition_of (hash_of z)) e ∙ own)
+      (λ (ne : q ≢ k). kept q before after (sym (ap (λ m. fin.get m q) h.1.steps ∙ changed_else step before.cells k (next_of step before.cells k c) q ne)) ours there)
+      (keys_same_or_not q k)
+  turn_ours before after (Call k c sp) LacksItem h own ours q there = kept q before after (one step q before after (Call k c sp) LacksItem h) ours there
+  turn_ours before after (Call k c sp) (HasToGrow told back) h own ours q there = kept q before after (one step q before after (Call k c sp) (HasToGrow told back) h) ours there
+  turn_ours before after (Call k c sp) (HasSize size keys) h own ours q there = absurd h
+  turn_ours before after (Call k c sp) (Moved left) h own ours q there = absurd h
+  turn_ours before after (Call k c sp) (Listed es) h own ours q there = absurd h
+  turn_ours before after Looks r h own ours q there = kept q before after (one step q before after Looks r h) ours there
+  turn_ours before after (Moves to) r h own ours q there = kept q before after (one step q before after (Moves to) r h) ours there
+  turn_ours before after Lists r h own ours q there = kept q before after (one step q before after Lists r h) ours there
+
+  -- a new partition has none
+  fresh_ours : AreOurs {S = S} number (fresh {S = S}).cells
+  fresh_ours key there = let none : true ≡ false = sym there ∙ ap (λ (o : Option S). is_some o) (fin.get-empty {X = S} _ key) in absurd (cc)
+
 module _ {S C R : Type 0} (step : Option S → C → Option S × R) (may : ℕ → List ℕ → C → Type 0) (number : ℕ) where
   -- what a locked partition calls legal
   abbrev pub Taken : ℕ → PartitionState S → PartitionCalls C → PartitionReplies S R → PartitionState S → Type 0
-  Taken caller before call reply after = PartitionLegal step number before call reply after × MayTurn may caller call
+  Taken caller before call reply after = AreOurs number before.cells → PartitionLegal step number before call reply after × MayTurn may caller call
 
-  pub lawful : (s : PartitionState S) (es : List (Entry (PartitionState S) (PartitionCalls C) (PartitionReplies S R))) → IsLegal Taken s es → IsLegal (λ _. PartitionLegal step number) s es
-  lawful s [] h = tt
-  lawful s (e ∷ es) h = (h.0.0, lawful e.after es h.1)
+  module _ (s : PartitionState S) (e : Entry (PartitionState S) (PartitionCalls C) (PartitionReplies S R)) (ours : AreOurs number s.cells) (h : Taken e.by s e.call e.reply e.after) where
+    after_ours : AreOurs number e.after.cells
+    after_ours = let turn = (h ours).0 in turn_ours step number s e.after e.call e.reply turn.is turn.ours ours
 
-  pub allowed : (s : PartitionState S) (es : List (Entry (PartitionState S) (PartitionCalls C) (PartitionReplies S R))) → IsLegal Taken s es → AreAllowed may es
-  allowed s [] h = tt
-  allowed s (e ∷ es) h = (h.0.1, allowed e.after es h.1)
+  lawful_from : (s : PartitionState S) (es : List (Entry (PartitionState S) (PartitionCalls C) (PartitionReplies S R))) → AreOurs number s.cells → IsLegal Taken s es → IsLegal (λ _. PartitionLegal step number) s es
+  lawful_from s [] ours h = tt
+  lawful_from s (e ∷ es) ours h = ((h.0 ours).0, lawful_from e.after es (after_ours s e ours h.0) h.1)
 
-  pub one_lawful : (n : ℕ) (s m s' m' : List (Entry (PartitionState S) (PartitionCalls C) (PartitionReplies S R))) (c : PartitionCalls C) (r : PartitionReplies S R) → MakesAll Taken fresh n s m s' m' ((c, r) ∷ [])
+  allowed_from : (s : PartitionState S) (es : List (Entry (PartitionState S) (PartitionCalls C) (PartitionReplies S R))) → AreOurs number s.cells → IsLegal Taken s es → AreAllowed may es
+  allowed_from s [] ours h = tt
+  allowed_from s (e ∷ es) ours h = ((h.0 ours).1, allowed_from e.after es (after_ours s e ours h.0) h.1)
+
+  ours_from : (s : PartitionState S) (es : List (Entry (PartitionState S) (PartitionCalls C) (PartitionReplies S R))) → AreOurs number s.cells → IsLegal Taken s es → AreOurs number (last_of s es).cells
+  ours_from s [] ours h = ours
+  ours_from s (e ∷ es) ours h = ours_from e.after es (after_ours s e ours h.0) h.1
+
+  -- a history from a new partition on: each turn is legal, and one that its caller may take
+  pub lawful : (es : List (Entry (PartitionState S) (PartitionCalls C) (PartitionReplies S R))) → IsLegal Taken fresh es → IsLegal (λ _. PartitionLegal step number) fresh es
+  lawful es h = lawful_from fresh es (fresh_ours step number) h
+
+  pub allowed : (es : List (Entry (PartitionState S) (PartitionCalls C) (PartitionReplies S R))) → IsLegal Taken fresh es → AreAllowed may es
+  allowed es h = allowed_from fresh es (fresh_ours step number) h
+
+  pub one_lawful : (n : ℕ) (s m s' m' : List (Entry (PartitionState S) (PartitionCalls C) (PartitionReplies S R))) (c : PartitionCalls C) (r : PartitionReplies S R) → IsLegal Taken fresh s' → MakesAll Taken fresh n s m s' m' ((c, r) ∷ [])
       → MakesAll (λ _. PartitionLegal step number) fresh n s m s' m' ((c, r) ∷ [])
-  one_lawful n s m s' m' c r x = (x.0, x.1, record { before = x.2.before; after = x.2.after; ends = x.2.ends; begins = x.2.begins; step = x.2.step.0; own = x.2.own }, x.3)
+  one_lawful n s m s' m' c r legal x =
+      let made = x.2 in
+      let end = entry n c r made.after ∷ [] in
+      let front : IsLegal Taken fresh made.before = legal_front Taken fresh made.before end (subst (IsLegal Taken fresh) (x.3.0 ∙ made.ends) legal) in
+      (x.0, x.1, record { before = made.before; after = made.after; ends = made.ends; begins = made.begins; step = (made.step (ours_from fresh made.before (fresh_ours step number) front)).0; own = made.own }, x.3)
 
 module _ {S C R : Type 0} (step : Option S → C → Option S × R) (may : ℕ → List ℕ → C → Type 0) (n : ℕ) (key : List ℕ) (owner : IsOwner step may n key) where
   abbrev get : PartitionState S → Option S
@@ -89,7 +133,7 @@ pub own_cells : {S C R : Type 0} (step : Option S → C → Option S × R) (may 
 own_cells step may who n seen mine same taken own key owner =
     let home : ℕ = partition_of (hash_of key) in
     let legal = taken home (partition_low key) in
-    let run = owners_have_cells step may home n key (seen home) (lawful step may home fresh (seen home) legal) (allowed step may home fresh (seen home) legal) owner in
+    let run = owners_have_cells step may home n key (seen home) (lawful step may home (seen home) legal) (allowed step may home (seen home) legal) owner in
     subst (λ es. IsRun step None (calls_of_key key es) (fin.get (last_of fresh (seen home)).cells key)) (ap (λ (m : ℕ). calls_by m (seen home)) (sym same) ∙ own home) run
 
 -- a larger size has as many buckets at least

@@ -1,5 +1,5 @@
 -- The rounds of a call, one after another, and its end.
-use Rattle.std.proofs.Common.{◌≡◌, ℕ, ◌+◌, ◌<◌, ◌≤◌, ◌⊎◌, ⊎_elim, inl, inr, Bool, true, false, not, ◌&&◌, List, [], ◌∷◌, ◌++◌, Option, refl, sym, ap, subst, ◌∙◌, arith, append_assoc}
+use Rattle.std.proofs.Common.{◌≡◌, ℕ, ◌+◌, ◌<◌, ◌≤◌, ⊎_elim, inl, inr, Bool, true, false, not, ◌&&◌, List, [], ◌∷◌, ◌++◌, Option, refl, sym, ap, subst, ◌∙◌, arith, append_assoc}
 use Rattle.dsa_area.specs.Sizes.{chunk_size}
 use Rattle.dsa_area.specs.declared.area.Area.{Area}
 use Rattle.dsa_area.specs.declared.area.AreaPass.{AreaPass}

@@ -1,9 +1,9 @@
 -- What a turn at a partition may reply, and what it does to the state.
-use Rattle.std.specs.Prelude.{◌≡◌, ℕ, ◌*◌, ◌≤◌, List, [], ◌∷◌, Option, Some, None}
+use Rattle.std.specs.Prelude.{◌≡◌, ℕ, ◌*◌, ◌≤◌, true, List, [], ◌∷◌, Option, Some, None}
 use Rattle.std.specs.FinMap as fin
 use Rattle.lock_book.specs.declared.view.Entry.{Entry}
 use Rattle.dshash_core.specs.Key.{hash_of}
-use Rattle.dshash_core.specs.Cells.{IsRoomy, buckets_of, partition_of}
+use Rattle.dshash_core.specs.Cells.{IsRoomy, KeyMap, buckets_of, partition_of}
 use Rattle.dshash_core.specs.Outcome.{IsDone, IsNeedItem, IsTooFull, ListsAll, IsMoved}
 use Rattle.dshash_parts.specs.States.{PartitionState}
 use Rattle.dshash_parts.specs.declared.histories.PartitionCalls.{PartitionCalls}
@@ -40,6 +40,10 @@ module _ {S C R : Type 0} (step : Option S → C → Option S × R) where
     pub is : IsTurn before call reply after
     pub ours : IsOurs number call
     pub roomy : IsRoomy after.size (fin.len after.cells)
+
+-- the keys of the map belong to the partition of this number
+abbrev pub AreOurs : {S : Type 0} → ℕ → KeyMap S → Type 0
+AreOurs number m = (key : List ℕ) → fin.contains_key m key ≡ true → partition_of (hash_of key) ≡ number
 
 -- may tells which call of which key the caller of a number may make
 module _ {C : Type 0} (may : ℕ → List ℕ → C → Type 0) where

@@ -13,3 +13,5 @@ pub mod Owners
 pub mod Callers
 pub mod Lookups
 pub mod Done
+pub mod Takes
+pub mod Uses

@@ -1,7 +1,7 @@
 //! What a locked partition is asked, and what it answers.
 
 use crate::key::Key;
-use dshash_core::{CellObject, CoreOut, Entry};
+use dshash_core::{CellObject, CoreOut, Entry, Taken};
 use region_words::Chunk;
 use std::alloc::{AllocError, Global};
 
@@ -16,6 +16,8 @@ pub enum TableAsk<O: CellObject> {
     Grow(u32, Chunk),
     /// A listing, with memory for the entries.
     List(Global),
+    /// A call that removes whatever stands there, of whichever key comes next, with memory for the key's words.
+    Take(O::Call, Vec<u64>),
 }
 
 /// What a partition answers.
@@ -29,4 +31,6 @@ pub enum TableAnswer<O: CellObject> {
     LeftOver(Chunk),
     /// The entries.
     Entries(Result<Vec<Entry<O>>, AllocError>),
+    /// The key that was taken out, and what the call replied. Where there is no key, the size and the number come.
+    Took(Taken<O>),
 }

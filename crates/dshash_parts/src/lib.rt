@@ -6,8 +6,8 @@
 //! again; each turn at a lock is an event of its own in the history of that partition (`specs/Legal.antt`). So the
 //! calls of a key are, in one history, those of one cell, while partitions move between any two of them (`laws`).
 //!
-//! `numbered` is the locked value, `turns` one event at it, `requests` one request to the area; `growing` and `calls`
-//! put these together. `open`, `close` and `listing` are how a table begins and ends, and how its entries are told.
+//! `numbered` is the locked value, `turns` one event at it, `requests` one request to the area; `growing`, `calls`,
+//! `finding` and `taking` put these together. `open`, `close` and `listing` are how a table begins and ends, and how its entries are told.
 
 #![tactic(auto)]
 
@@ -24,6 +24,7 @@ mod numbered;
 mod open;
 mod requests;
 mod table;
+mod taking;
 mod turns;
 
 pub use asks::{TableAnswer, TableAsk};

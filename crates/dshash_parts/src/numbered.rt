@@ -4,8 +4,8 @@ ghost use Rattle.std.specs.Prelude.{◌≡◌, ◌/◌, ◌≤◌};
 ghost use Rattle.std.specs.FinMap as fin;
 ghost use Rattle.dshash_core.specs.Cells.{IsRoomy, buckets_of};
 ghost use Rattle.dshash_core.specs.Outcome.{IsMoved};
-ghost use Rattle.dshash_parts.specs.Asked.{name_of, state_of, call_of, reply_of, AskFits, AnswerFits};
-ghost use Rattle.dshash_parts.specs.Legal.{LeavesOver, MayTurn, PartitionLegal};
+ghost use Rattle.dshash_parts.specs.Asked.{name_of, state_of, call_of, chosen_of, reply_of, AskFits, AnswerFits, MayAsk};
+ghost use Rattle.dshash_parts.specs.Legal.{AreOurs, LeavesOver, MayTurn, PartitionLegal};
 
 use crate::asks::{TableAnswer, TableAsk};
 use crate::histories::{PartitionCalls, PartitionName, PartitionReplies, PartitionStates};
@@ -49,13 +49,16 @@ where
 
     ghost reply = { reply_of };
 
+    ghost chosen = { chosen_of };
+
     ghost env_fits = { λ n r. r ≡ n.region };
 
-    ghost in_fits = { λ n caller ask. AskFits n ask × MayTurn O.may caller (call_of ask) };
+    ghost in_fits = { λ n caller ask. AskFits n ask × MayAsk O.stepped O.may n.number caller ask };
 
     ghost out_fits = { AnswerFits };
 
-    ghost legal = { λ n caller before call reply after. PartitionLegal O.stepped n.number before call reply after × MayTurn O.may caller call };
+    // a partition can't tell whose keys it has: that they are its own follows from its history
+    ghost legal = { λ n caller before call reply after. AreOurs n.number before.cells → PartitionLegal O.stepped n.number before call reply after × MayTurn O.may caller call };
 
     fn apply(&mut self, r: &Region, ask: TableAsk<O>) -> TableAnswer<O> {
         let partition = &mut self.partition;
@@ -66,6 +69,10 @@ where
             TableAsk::Look => TableAnswer::Size(partition.size(), partition.count()),
             TableAsk::Grow(size, slice) => TableAnswer::LeftOver(grow(partition, r, size, slice)),
             TableAsk::List(alloc) => TableAnswer::Entries(partition.list(alloc, r)),
+            TableAsk::Take(call, words) => match partition.take_any(r, &call, words) {
+                Some(taken) => TableAnswer::Took(taken),
+                None => TableAnswer::Size(partition.size(), partition.count()),
+            },
         }
     }
 }

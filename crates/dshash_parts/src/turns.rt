@@ -1,21 +1,21 @@
 //! The turns that a call of the table takes, each one event of one partition.
 
-ghost use Rattle.std.specs.Prelude.{◌≡◌, ℕ, ◌/◌, ◌<◌, ◌≤◌, length, is_some, IfSome};
+ghost use Rattle.std.specs.Prelude.{◌≡◌, ℕ, ◌/◌, ◌<◌, ◌≤◌, true, false, List, length, is_some, IfNone, IfSome};
 ghost use Rattle.std.specs.FinMap as fin;
 ghost use Rattle.lock_book.specs.Shown.{number_of, seen_of, mine_of};
 ghost use Rattle.dsa_area.specs.Sizes.{chunk_size};
 ghost use Rattle.dshash_core.specs.Key.{hash_of};
 ghost use Rattle.dshash_core.specs.Cells.{buckets_of, partition_of};
-ghost use Rattle.dshash_core.specs.Outcome.{HandsOut};
+ghost use Rattle.dshash_core.specs.Outcome.{AlwaysRemoves, HandsOut};
 ghost use Rattle.dshash_parts.specs.Asked.{outcome_of};
 ghost use Rattle.dshash_parts.specs.Tables.{IsTable, Turned, map_at, size_at, Belongs};
 ghost use Rattle.dshash_parts.specs.declared.histories.PartitionCalls.TheVariants.{Call, Looks, Moves};
-ghost use Rattle.dshash_parts.specs.declared.histories.PartitionReplies.TheVariants.{HasSize, Moved};
+ghost use Rattle.dshash_parts.specs.declared.histories.PartitionReplies.TheVariants.{HasSize, Made, Moved};
 
 use crate::asks::{TableAnswer, TableAsk};
 use crate::key::Key;
 use crate::table::{DsPass, Dshash};
-use dshash_core::{CellObject, CoreOut};
+use dshash_core::{CellObject, CoreOut, Taken};
 use region_words::{Chunk, Region};
 use std::sync::Wait;
 
@@ -116,6 +116,41 @@ where
     let ask = TableAsk::Grow(size, slice);
     match table.shelf.call(rt, r, pass, number as usize, ask) {
         TableAnswer::LeftOver(left) => left,
+        _ => unreachable!(),
+    }
+}
+
+/// An entry is taken out of a partition, whichever comes next. Where there is none, the turn was a look.
+pub(crate) fn take_turn<R: Wait, O: CellObject + Send>(
+    rt: &R,
+    table: &Dshash<O>,
+    r: &Region,
+    pass: &mut DsPass<O>,
+    number: u32,
+    call: &O::Call,
+    words: Vec<u64>,
+) -> Option<Taken<O>>
+where
+    O::State: Send,
+    O::Call: Send,
+    O::Reply: Send,
+    requires table { IsTable r.now table.now }
+    requires own { Belongs table.now pass.old }
+    requires number { number < 128 }
+    requires removes { AlwaysRemoves O.stepped call.now }
+    requires may { (key : List ℕ) → partition_of (hash_of key) ≡ number → O.may (number_of pass.old) key call.now }
+    requires words { length words.items ≡ table.now.key_words }
+    ensures own { Belongs table.now pass.new }
+    ensures caller { number_of pass.new ≡ number_of pass.old }
+    ensures event { IfSome result (λ t. Turned O.stepped pass.old pass.new number (Call t.key call.now false) (Made t.reply false true)) }
+    ensures look { IfNone result ((size : ℕ) × Turned O.stepped pass.old pass.new number Looks (HasSize size 0)) }
+    ensures key { IfSome result (λ t. (length t.key ≡ table.now.key_words) × (partition_of (hash_of t.key) ≡ number)) }
+    ensures item { IfSome result (λ t. (t.item.part.region ≡ r.now) × (t.item.bytes ≡ chunk_size table.now.item_bytes)) }
+{
+    let ask = TableAsk::Take(*call, words);
+    match table.shelf.call(rt, r, pass, number as usize, ask) {
+        TableAnswer::Took(taken) => Some(taken),
+        TableAnswer::Size(_, _) => None,
         _ => unreachable!(),
     }
 }

@@ -11,6 +11,7 @@ use Rattle.dshash_core.specs.Cells.{KeyMap, PartitionView, IsRoomy, AreCells, al
 use Rattle.dshash_core.proofs.Chains.{same_or_not}
 use Rattle.dshash_core.proofs.Maps.{same_key, other_key, keys_same_or_not}
 use Rattle.dshash_core.proofs.Flats.{spot_get, spot_counted, taken_cells, taken_map}
+use Rattle.dshash_core.proofs.Takes.{all_empty}
 use Rattle.dshash_resize.specs.Moving.{either_of, IsMoving, IsMovedOn}
 
 key_antisymmetric : fin.IsAntisymmetric (slice_cmp nat_cmp)
@@ -104,16 +105,12 @@ begins {S} decoded value_words former all p from chains is empty roomy kw ib =
       item_bytes = ib;
     }
 
-nothing_left : (chains : List (List Item)) → ((i : ℕ) → i < length chains → get_or chains i [] ≡ []) → all_items chains ≡ []
-nothing_left [] h = refl
-nothing_left (c ∷ cs) h = (λ t. h 0 (omega arith) t ++ all_items cs) ∙ nothing_left cs (λ i l. h (suc i) (omega arith))
-
 -- and ends when no chain has an item left
 pub ends : {S : Type 0} (decoded : List ℕ → S) (value_words former total : ℕ) (all : KeyMap S) (p : PartitionView S) (from : Hung) → IsMoving decoded value_words former total all p from
     → ((i : ℕ) → i < length from.chains → chain_of from i ≡ []) → p.cells ≡ all
 ends {S} decoded value_words former total all p from m none =
     let gone : (q : List ℕ) → fin.get (cells_of decoded from.chains) q ≡ None = λ q.
-    ap (λ (items : List Item). fin.get {R = slice_cmp nat_cmp} (fin.from_entries (map (entry_of decoded) items)) q) (nothing_left from.chains none) ∙ fin.get-empty (slice_cmp nat_cmp) q in
+    ap (λ (items : List Item). fin.get {R = slice_cmp nat_cmp} (fin.from_entries (map (entry_of decoded) items)) q) (all_empty from.chains none) ∙ fin.get-empty (slice_cmp nat_cmp) q in
     fin.same_map nat_list_cmp_total key_antisymmetric p.cells all (λ q. sym (m.whole q ∙ ap (λ (o : Option S). either_of (fin.get p.cells q) o) (gone q) ∙ or_none (fin.get p.cells q)))
   where
     or_none : (o : Option S) → either_of o None ≡ o

@@ -1,5 +1,5 @@
 -- Histories: lists of entries, and what a caller has seen of them.
-use Rattle.std.specs.Prelude.{◌≡◌, ℕ, zero, suc, ◌==◌, ltb, if◌then◌else◌, List, [], ◌∷◌, ◌++◌, length, Option, Some, None}
+use Rattle.std.specs.Prelude.{◌≡◌, ℕ, zero, suc, ◌==◌, ltb, if◌then◌else◌, List, [], ◌∷◌, ◌++◌, length, Option, Some, None, unwrap_or}
 use Rattle.lock_book.specs.declared.noted.Noted.{Noted}
 use Rattle.lock_book.specs.declared.view.Entry.{Entry}
 
@@ -66,6 +66,6 @@ longer_rows (x ∷ xs) [] = x ∷ xs
 longer_rows (x ∷ xs) (y ∷ ys) = longer x y ∷ longer_rows xs ys
 
 -- the call and the reply of a slot's last turn
-abbrev pub made_of : {I O C R : Type 0} → (I → C) → (O → R) → Option (Noted I × Noted O) → Option (C × R)
-made_of call reply None = None
-made_of call reply (Some p) = Some (call p.0.value, reply p.1.value)
+abbrev pub made_of : {I O C R : Type 0} → (I → C) → (I → O → Option C) → (O → R) → Option (Noted I × Noted O) → Option (C × R)
+made_of call chosen reply None = None
+made_of call chosen reply (Some p) = Some (unwrap_or (chosen p.0.value p.1.value) (call p.0.value), reply p.1.value)

@@ -1,11 +1,11 @@
 //! What a locked value is.
 
-ghost use Rattle.std.specs.Prelude.{◌≡◌, ℕ};
+ghost use Rattle.std.specs.Prelude.{◌≡◌, ℕ, Option, None, unwrap_or};
 
 /// A value that threads take turns at. Its name never changes; its state is what a call may change.
 ///
-/// The members say what a contract sees. Only `call` and `reply` of an input and an output stand in a history, so they
-/// have to say all that is to be told of a call; what goes in and comes out whole, as a token, is said by `out_fits`.
+/// The members say what a contract sees. Only the call and the `reply` of an input and an output stand in a history,
+/// so they have to say all that is to be told of a call; what goes in and comes out whole, as a token, is said by `out_fits`.
 pub trait Kept: Send + Drop {
     /// What `apply` may use besides the value, by reference.
     type Env;
@@ -33,6 +33,9 @@ pub trait Kept: Send + Drop {
 
     ghost reply: { Self.Out → Self.Reply };
 
+    // the call that the value chose, where it did, as the output tells; where none is told, the input's was made
+    ghost chosen: { Self.In → Self.Out → Option Self.Call } = { λ input output. None };
+
     // the environments that may be used at a value of this name
     ghost env_fits: { Self.Name → Self.Env → Type 0 };
 
@@ -49,7 +52,7 @@ pub trait Kept: Send + Drop {
     fn apply(&mut self, env: &Self::Env, input: Self::In) -> Self::Out
         requires env { env_fits (name self.old) env.now }
         requires input { (n : ℕ) × in_fits (name self.old) n input }
-        ensures legal { (n : ℕ) → in_fits (name self.old) n input → legal (name self.old) n (state self.old) (call input) (reply result) (state self.new) }
+        ensures legal { (n : ℕ) → in_fits (name self.old) n input → legal (name self.old) n (state self.old) (unwrap_or (chosen input result) (call input)) (reply result) (state self.new) }
         ensures name { name self.new ≡ name self.old }
         ensures output { out_fits (name self.old) input result };
 }

@@ -19,6 +19,7 @@ mod shelf;
 mod steps;
 mod table;
 mod turn;
+mod two;
 mod view;
 
 pub use close::Closed;
@@ -26,4 +27,5 @@ pub use joined::Joined;
 pub use kept::Kept;
 pub use laws::calls_of_all;
 pub use shelf::{Pass, Shelf};
+pub use two::two_of;
 pub use view::Entry;

@@ -3,7 +3,7 @@
 //! A pass keeps its seat in a badge, which names no slot, so that it may go to another thread. Between two calls the
 //! seat stands for the pass's one caller and has no value.
 
-ghost use Rattle.std.specs.Prelude.{◌≡◌, ℕ, ◌+◌, ◌*◌, ◌^◌, ◌<◌, ◌≤◌, [], ◌∷◌, length};
+ghost use Rattle.std.specs.Prelude.{◌≡◌, ℕ, ◌+◌, ◌*◌, ◌^◌, ◌<◌, ◌≤◌, [], ◌∷◌, length, unwrap_or};
 ghost use mathlib.Core.Option.{some};
 ghost use lib.ListN.{get_elem?};
 ghost use Rattle.lock_book.specs.declared.view.Stage.TheVariants.{Idle};
@@ -101,7 +101,7 @@ impl<T: Kept> Shelf<T> {
         requires place { at < count_of self.now }
         requires input { (o : _) → get_elem? (opens_of self.now) at ≡ some o → T.env_fits o.0 env.now × T.in_fits o.0 (number_of pass.old) input }
         ensures own { Belongs self.now pass.new × (number_of pass.new ≡ number_of pass.old) }
-        ensures called { Called self.now pass.old pass.new at (T.call input) (T.reply result) }
+        ensures called { Called self.now pass.old pass.new at (unwrap_or (T.chosen input result) (T.call input)) (T.reply result) }
         ensures output { (o : _) → get_elem? (opens_of self.now) at ≡ some o → T.out_fits o.0 input result }
     {
         let mut seat = lend(&mut pass.badge);

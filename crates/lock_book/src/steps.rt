@@ -1,7 +1,7 @@
 //! The moves of the lock, one by one: take the value, apply the call, commit it, give the value back.
 //! What is known between two of them is the stage of the seat and the value that it carries.
 
-ghost use Rattle.std.specs.Prelude.{◌≡◌, ℕ, ◌+◌, ◌*◌, ◌^◌, ◌<◌, ◌≤◌, true, false, [], ◌∷◌, length, Some};
+ghost use Rattle.std.specs.Prelude.{◌≡◌, ℕ, ◌+◌, ◌*◌, ◌^◌, ◌<◌, ◌≤◌, true, false, [], ◌∷◌, length, Some, unwrap_or};
 ghost use mathlib.Core.Option.{some};
 ghost use lib.ListN.{get_elem?};
 ghost use Rattle.lock_book.specs.declared.view.Stage.TheVariants.{Idle, Holding};
@@ -57,10 +57,10 @@ impl<T: Kept> Held<T> {
     fn apply(&mut self, env: &T::Env, input: T::In) -> T::Out
         requires env { T.env_fits (T.name self.old.value) env.now }
         requires input { (n : ℕ) × T.in_fits (T.name self.old.value) n input }
-        ensures legal { (n : ℕ) → T.in_fits (T.name self.old.value) n input → T.legal (T.name self.old.value) n (T.state self.old.value) (T.call input) (T.reply result) (T.state self.new.value) }
+        ensures legal { (n : ℕ) → T.in_fits (T.name self.old.value) n input → T.legal (T.name self.old.value) n (T.state self.old.value) (unwrap_or (T.chosen input result) (T.call input)) (T.reply result) (T.state self.new.value) }
         ensures name { T.name self.new.value ≡ T.name self.old.value }
         ensures output { T.out_fits (T.name self.old.value) input result }
-        ensures noted { made_of T.call T.reply self.new.made ≡ Some (T.call input, T.reply result) }
+        ensures noted { made_of T.call T.chosen T.reply self.new.made ≡ Some (unwrap_or (T.chosen input result) (T.call input), T.reply result) }
     {
         let asked: Noted<T::In> = Noted::of(&input);
         let output = self.value.apply(env, input);
@@ -82,8 +82,8 @@ pub(crate) fn serve<T: Kept>(
     requires held { (x : _) × (seat.old.me.1 ≡ (at, x) ∷ []) × T.env_fits (T.name x.value) env.now × T.in_fits (T.name x.value) seat.old.me.0.from input }
     ensures own { (seat.new.table_id ≡ seat.old.table_id) × (seat.new.me.0 ≡ seat.old.me.0) }
     ensures served { (x : _) × (y : _) × (seat.old.me.1 ≡ (at, x) ∷ []) × (seat.new.me.1 ≡ (at, y) ∷ [])
-        × T.legal (T.name x.value) seat.old.me.0.from (T.state x.value) (T.call input) (T.reply result) (T.state y.value) × (T.name y.value ≡ T.name x.value) × T.out_fits (T.name x.value) input result
-        × (made_of T.call T.reply y.made ≡ Some (T.call input, T.reply result)) }
+        × T.legal (T.name x.value) seat.old.me.0.from (T.state x.value) (unwrap_or (T.chosen input result) (T.call input)) (T.reply result) (T.state y.value) × (T.name y.value ≡ T.name x.value) × T.out_fits (T.name x.value) input result
+        × (made_of T.call T.chosen T.reply y.made ≡ Some (unwrap_or (T.chosen input result) (T.call input), T.reply result)) }
 {
     seat.slot_mut(&board.shared, at).apply(env, input)
 }
@@ -93,10 +93,10 @@ pub(crate) fn commit_call<T: Kept>(board: &Board<T>, seat: &mut Place<T>, at: us
     requires own { seat.old.table_id ≡ board.now.shared.table_id }
     requires word { (WORDS * at + WORDS ≤ board.now.shared.table_id.words) × (WORDS * at + WORDS < 2 ^ 64) }
     requires holding { seat.old.me.0.stage ≡ Holding at }
-    requires held { (x : _) × (c : _) × (r : _) × (seat.old.me.1 ≡ (at, x) ∷ []) × (made_of T.call T.reply x.made ≡ Some (c, r))
+    requires held { (x : _) × (c : _) × (r : _) × (seat.old.me.1 ≡ (at, x) ∷ []) × (made_of T.call T.chosen T.reply x.made ≡ Some (c, r))
         × ((o : _) → get_elem? seat.old.me.0.opens at ≡ some o → T.legal o.0 seat.old.me.0.from (last_of o.1 (seen_at seat.old.me.0 at)) c r (T.state x.value)) }
     ensures own { seat.new.table_id ≡ seat.old.table_id }
-    ensures added { (x : _) (c : _) (r : _) → seat.old.me.1 ≡ (at, x) ∷ [] → made_of T.call T.reply x.made ≡ Some (c, r)
+    ensures added { (x : _) (c : _) (r : _) → seat.old.me.1 ≡ (at, x) ∷ [] → made_of T.call T.chosen T.reply x.made ≡ Some (c, r)
         → (seat.new.me.1 ≡ seat.old.me.1) × (seat.new.me.0 ≡ with_entry seat.old.me.0 at (entry seat.old.me.0.from c r (T.state x.value))) }
 {
     board.shared.fetch_add::<Commit>(seat, WORDS * at + 1, 1);

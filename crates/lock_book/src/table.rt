@@ -71,7 +71,7 @@ impl<T: Kept> Play<Held<T>, Known<T>> for Take {
 pub struct Commit;
 
 impl<T: Kept> Play<Held<T>, Known<T>> for Commit {
-    ghost then = { committed (λ x. T.name x.value) (λ x. T.state x.value) T.legal (λ x. made_of T.call T.reply x.made) };
+    ghost then = { committed (λ x. T.name x.value) (λ x. T.state x.value) T.legal (λ x. made_of T.call T.chosen T.reply x.made) };
 }
 
 /// The value goes back.

@@ -1,7 +1,7 @@
 //! A whole turn at one value, from taking it to giving it back.
 //! The invariant is `IsPass` of specs/Told: what is always true of a pass holds again after its call.
 
-ghost use Rattle.std.specs.Prelude.{◌≡◌, ◌+◌, ◌*◌, ◌^◌, ◌<◌, ◌≤◌, [], length};
+ghost use Rattle.std.specs.Prelude.{◌≡◌, ◌+◌, ◌*◌, ◌^◌, ◌<◌, ◌≤◌, [], length, unwrap_or};
 ghost use mathlib.Core.Option.{some};
 ghost use lib.ListN.{get_elem?};
 ghost use Rattle.lock_book.specs.Ruled.{IsFree, IsSame, mine_at, seen_at};
@@ -29,7 +29,7 @@ pub(crate) fn take_turn<T: Kept, R: Wait>(
     requires input { (o : _) → get_elem? seat.old.me.0.opens at ≡ some o → T.env_fits o.0 env.now × T.in_fits o.0 seat.old.me.0.from input }
     ensures own { (seat.new.table_id ≡ seat.old.table_id) × (seat.new.me.1 ≡ []) }
     ensures same { IsSame seat.old.me.0 seat.new.me.0 }
-    ensures called { Adds T.legal seat.old.me.0.opens seat.old.me.0.from (seen_at seat.old.me.0) (mine_at seat.old.me.0 0) (seen_at seat.new.me.0) (mine_at seat.new.me.0 0) at (T.call input) (T.reply result) }
+    ensures called { Adds T.legal seat.old.me.0.opens seat.old.me.0.from (seen_at seat.old.me.0) (mine_at seat.old.me.0 0) (seen_at seat.new.me.0) (mine_at seat.new.me.0 0) at (unwrap_or (T.chosen input result) (T.call input)) (T.reply result) }
     ensures stands { IsPass T.legal seat.old.me.0.opens seat.old.me.0.callers seat.old.me.0.from (seen_at seat.new.me.0) (mine_at seat.new.me.0 0) }
     ensures output { (o : _) → get_elem? seat.old.me.0.opens at ≡ some o → T.out_fits o.0 input result }
 {

@@ -11,7 +11,7 @@ use crate::{
     Guarded, Numbered, Object, Tag, added_by_two, called_by_two, called_once, end_two, put_in,
     round_trip, take_out,
 };
-use lock_book::{Pass, Shelf};
+use lock_book::{Pass, Shelf, two_of};
 use region_words::{Part, Region};
 use std::alloc::{AllocError, Global};
 use std::test::Fail;
@@ -112,13 +112,8 @@ fn one_most(
 {
     let mut values = Vec::new(alloc);
     values.push(Guarded::new(3))?;
-    let (shelf, mut passes) = Shelf::new(alloc, values, 2)?;
-    let Some(one) = passes.pop() else {
-        unreachable!()
-    };
-    let Some(zero) = passes.pop() else {
-        unreachable!()
-    };
+    let (shelf, passes) = Shelf::new(alloc, values, 2)?;
+    let (zero, one) = two_of(passes);
     Ok((shelf, zero, one))
 }
 

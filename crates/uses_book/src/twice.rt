@@ -6,7 +6,7 @@ ghost use Rattle.lock_book.specs.Shown.{Belongs, callers_of, count_of, left_of, 
 ghost use Rattle.uses_book.specs.Counting.{IsCount, total_of};
 
 use crate::Counter;
-use lock_book::{Closed, Pass, Shelf};
+use lock_book::{Closed, Pass, Shelf, two_of};
 use std::alloc::{AllocError, Global};
 use std::sync::Wait;
 use std::thread::{Threads, join};
@@ -19,13 +19,8 @@ fn for_two(alloc: Global) -> Result<(Shelf<Counter>, Pass<Counter>, Pass<Counter
 {
     let mut values = Vec::new(alloc);
     values.push(Counter { value: 0 })?;
-    let (shelf, mut passes) = Shelf::new(alloc, values, 2)?;
-    let Some(one) = passes.pop() else {
-        unreachable!()
-    };
-    let Some(zero) = passes.pop() else {
-        unreachable!()
-    };
+    let (shelf, passes) = Shelf::new(alloc, values, 2)?;
+    let (zero, one) = two_of(passes);
     Ok((shelf, zero, one))
 }
 

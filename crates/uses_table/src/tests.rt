@@ -10,6 +10,7 @@ use crate::{Text, forget, keep, own_name, recall};
 use dsa_area::{Area, AreaPass, area_words};
 use dshash_parts::{DsPass, Dshash};
 use dshash_scan::{count_all, list_all};
+use lock_book::two_of;
 use region_words::Region;
 use std::alloc::{AllocError, Global};
 use std::sync::Wait;
@@ -56,23 +57,13 @@ fn cache_for_two<R: Wait>(
     ensures keys { IfOk result (λ a. key_words_of a.2 ≡ 32) }
     ensures own { IfOk result (λ a. Belongs a.2 a.3.table × Belongs a.2 a.4.table) }
 {
-    let (region, area, mut apasses) = area_for(alloc, pages, 2)?;
-    let Some(mut area_one) = apasses.pop() else {
-        unreachable!()
-    };
-    let Some(area_zero) = apasses.pop() else {
-        unreachable!()
-    };
-    let Ok((table, mut passes)) = Dshash::new(rt, alloc, &region, &area, &mut area_one, 32, 2)
+    let (region, area, apasses) = area_for(alloc, pages, 2)?;
+    let (area_zero, mut area_one) = two_of(apasses);
+    let Ok((table, passes)) = Dshash::new(rt, alloc, &region, &area, &mut area_one, 32, 2)
     else {
         return Err(Fail::new("no table"));
     };
-    let Some(one) = passes.pop() else {
-        unreachable!()
-    };
-    let Some(zero) = passes.pop() else {
-        unreachable!()
-    };
+    let (zero, one) = two_of(passes);
     let zero = Passes {
         table: zero,
         area: area_zero,

@@ -7,6 +7,7 @@ ghost use Rattle.dsa_area.specs.Ending.{Ended};
 
 use super::area_for;
 use dsa_area::{Area, AreaPass, ClosedArea};
+use lock_book::two_of;
 use region_words::{Chunk, Region};
 use std::alloc::{AllocError, Global};
 use std::sync::Wait;
@@ -21,13 +22,8 @@ fn area_for_two(alloc: Global, pages: u32) -> Result<(Region, Area, AreaPass, Ar
     ensures zero { IfOk result (λ a. Belongs a.1 a.2 × (number_of a.2 ≡ 0)) }
     ensures one { IfOk result (λ a. Belongs a.1 a.3 × (number_of a.3 ≡ 1)) }
 {
-    let (region, area, mut passes) = area_for(alloc, pages, 2)?;
-    let Some(one) = passes.pop() else {
-        unreachable!()
-    };
-    let Some(zero) = passes.pop() else {
-        unreachable!()
-    };
+    let (region, area, passes) = area_for(alloc, pages, 2)?;
+    let (zero, one) = two_of(passes);
     Ok((region, area, zero, one))
 }
 

@@ -8,6 +8,7 @@ ghost use Rattle.dshash_parts.specs.Tables.{IsTable, Belongs, callers_of, key_wo
 use super::{Number, area_for, put_and_get};
 use dsa_area::{Area, AreaPass};
 use dshash_parts::{DsPass, Dshash};
+use lock_book::two_of;
 use region_words::Region;
 use std::alloc::{AllocError, Global};
 use std::sync::Wait;
@@ -36,22 +37,12 @@ fn table_for_two<R: Wait>(
     ensures zero { IfOk result (λ a. Belongs a.2 a.3.table × (number_of a.3.table ≡ 0)) }
     ensures one { IfOk result (λ a. Belongs a.2 a.4.table × (number_of a.4.table ≡ 1)) }
 {
-    let (region, area, mut apasses) = area_for(alloc, pages, 2)?;
-    let Some(mut area_one) = apasses.pop() else {
-        unreachable!()
-    };
-    let Some(area_zero) = apasses.pop() else {
-        unreachable!()
-    };
-    let Ok((table, mut passes)) = Dshash::new(rt, alloc, &region, &area, &mut area_one, 1, 2) else {
+    let (region, area, apasses) = area_for(alloc, pages, 2)?;
+    let (area_zero, mut area_one) = two_of(apasses);
+    let Ok((table, passes)) = Dshash::new(rt, alloc, &region, &area, &mut area_one, 1, 2) else {
         return Err(Fail::new("no table"));
     };
-    let Some(one) = passes.pop() else {
-        unreachable!()
-    };
-    let Some(zero) = passes.pop() else {
-        unreachable!()
-    };
+    let (zero, one) = two_of(passes);
     let zero = Passes {
         table: zero,
         area: area_zero,

@@ -1,4 +1,4 @@
-use Rattle.std.proofs.Common.{◌≡◌, ℕ, ◌*◌, ◌/◌, ◌≤◌, arith}
+use Rattle.std.proofs.Common.{arith}
 use Rattle.dshash_parts.proofs.Owners.{buckets_grow}
 use Rattle.dshash_parts.proofs.numbered.grow.Goals as goal
 

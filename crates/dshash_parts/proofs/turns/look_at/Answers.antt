@@ -10,10 +10,10 @@ pub unreachable-requires : goal.unreachable-requires
 unreachable-requires g c = no_other_look (name_in c.args.r.now c.args.table.now c.args.number) c.call.result (c.call.ensures.output _ (c.requires.table.parts c.args.number c.requires.number)) c.in_default.not-Size
 
 pub returns-clause-event : goal.returns-clause-event
-returns-clause-event g c = turn g.O.CellObject.stepped g.O.CellObject.may (opens_of c.args.table.now.shelf) _ _ _ _ _ c.args.number _ _ (name_in c.args.r.now c.args.table.now c.args.number) (c.requires.table.parts c.args.number c.requires.number) refl c.in-Size.ensures.called
+returns-clause-event g c = turn g.O.CellObject.stepped g.O.CellObject.may (opens_of c.args.table.now.shelf) _ _ _ _ _ c.args.number _ _ (name_in c.args.r.now c.args.table.now c.args.number) (c.requires.table.parts c.args.number c.requires.number) refl (c.in-Size.ensures.own.0.stands.lawful c.args.number _ (c.requires.table.parts c.args.number c.requires.number)) c.in-Size.ensures.called
 
 pub returns-clause-grows : goal.returns-clause-grows
-returns-clause-grows g c = λ k low. turn_grows g.O.CellObject.stepped _ _ _ _ _ c.args.number _ _ k (lawful g.O.CellObject.stepped g.O.CellObject.may k _ _ (c.in-Size.ensures.own.0.stands.lawful k _ (c.requires.table.parts k low))) (returns-clause-event g c)
+returns-clause-grows g c = λ k low. turn_grows g.O.CellObject.stepped _ _ _ _ _ c.args.number _ _ k (lawful g.O.CellObject.stepped g.O.CellObject.may k _ (c.in-Size.ensures.own.0.stands.lawful k _ (c.requires.table.parts k low))) (returns-clause-event g c)
 
 pub returns-clause-told : goal.returns-clause-told
 returns-clause-told g c = look_tells g.O.CellObject.stepped _ _ _ _ _ c.args.number _ _ (returns-clause-event g c)

@@ -13,8 +13,8 @@ unreachable-requires g c = no_other_make (name_in c.args.r.now c.args.table.now 
 
 pub returns-clause-event : goal.returns-clause-event
 returns-clause-event g c =
-    let event = turn g.O.CellObject.stepped g.O.CellObject.may (opens_of c.args.table.now.shelf) _ _ _ _ _ c.args.number _ _ (name_in c.args.r.now c.args.table.now c.args.number) (c.requires.table.parts c.args.number c.requires.number) refl c.in-Came.ensures.called in
+    let event = turn g.O.CellObject.stepped g.O.CellObject.may (opens_of c.args.table.now.shelf) _ _ _ _ _ c.args.number _ _ (name_in c.args.r.now c.args.table.now c.args.number) (c.requires.table.parts c.args.number c.requires.number) refl (c.in-Came.ensures.own.0.stands.lawful c.args.number _ (c.requires.table.parts c.args.number c.requires.number)) c.in-Came.ensures.called in
     subst (λ (z : List ℕ). AtPartition g.O.CellObject.stepped (number_of c.args.pass.now) (seen_of c.args.pass.now) (mine_of c.args.pass.now) (seen_of c.call.new.pass) (mine_of c.call.new.pass) c.args.number (Call z c.args.call.now (is_some c.args.spare)) (outcome_of c.in-Came.out)) c.of.ensures event
 
 pub returns-clause-grows : goal.returns-clause-grows
-returns-clause-grows g c = λ k low. turn_grows g.O.CellObject.stepped _ _ _ _ _ c.args.number _ _ k (lawful g.O.CellObject.stepped g.O.CellObject.may k _ _ (c.in-Came.ensures.own.0.stands.lawful k _ (c.requires.table.parts k low))) (returns-clause-event g c)
+returns-clause-grows g c = λ k low. turn_grows g.O.CellObject.stepped _ _ _ _ _ c.args.number _ _ k (lawful g.O.CellObject.stepped g.O.CellObject.may k _ (c.in-Came.ensures.own.0.stands.lawful k _ (c.requires.table.parts k low))) (returns-clause-event g c)

@@ -1,4 +1,4 @@
-use Rattle.std.proofs.Common.{◌∙◌, sym, ap, subst}
+use Rattle.std.proofs.Common.{◌∙◌, sym, ap, subst, unwrap_or}
 use lib.ListN.{get_elem?}
 use Rattle.lock_book.specs.History.{last_of}
 use Rattle.lock_book.specs.Ruled.{seen_at}
@@ -30,15 +30,15 @@ commit_call-requires-clause-held g c κs within =
     let y = s.1 in
     let seen = ap (λ v. seen_at v c.args.at) same ∙ seen_now (λ x. K.name x.value) (λ x. K.state x.value) K.legal c.args.at _ _ none d in (
       y,
-      K.call c.args.input,
+      unwrap_or (K.chosen c.args.input c.serve-output.result) (K.call c.args.input),
       K.reply c.serve-output.result,
       s.3,
       s.7,
       λ o eo.
-          let h = legal_now (λ x. K.name x.value) (λ x. K.state x.value) K.legal c.args.at _ _ none d x s.2 c.acquire.new.seat.me.0.from (K.call c.args.input) (K.reply c.serve-output.result) (K.state y.value) s.4 o
+          let h = legal_now (λ x. K.name x.value) (λ x. K.state x.value) K.legal c.args.at _ _ none d x s.2 c.acquire.new.seat.me.0.from (unwrap_or (K.chosen c.args.input c.serve-output.result) (K.call c.args.input)) (K.reply c.serve-output.result) (K.state y.value) s.4 o
           (sym (ap (λ v. get_elem? v.opens c.args.at) (same ∙ d.view)) ∙ eo) in
-          subst (λ q. K.legal o.0 q (last_of o.1 (seen_at c.serve-output.new.seat.me.0 c.args.at)) (K.call c.args.input) (K.reply c.serve-output.result) (K.state y.value)) (sym (ap (λ v. v.from) same))
-          (subst (λ m. K.legal o.0 c.acquire.new.seat.me.0.from (last_of o.1 m) (K.call c.args.input) (K.reply c.serve-output.result) (K.state y.value)) (sym seen) h),
+          subst (λ q. K.legal o.0 q (last_of o.1 (seen_at c.serve-output.new.seat.me.0 c.args.at)) (unwrap_or (K.chosen c.args.input c.serve-output.result) (K.call c.args.input)) (K.reply c.serve-output.result) (K.state y.value)) (sym (ap (λ v. v.from) same))
+          (subst (λ m. K.legal o.0 c.acquire.new.seat.me.0.from (last_of o.1 m) (unwrap_or (K.chosen c.args.input c.serve-output.result) (K.call c.args.input)) (K.reply c.serve-output.result) (K.state y.value)) (sym seen) h),
     )
 
 pub release-requires-clause-holding : goal.release-requires-clause-holding
@@ -46,7 +46,7 @@ release-requires-clause-holding g c κs within =
     let K = g.T.Kept in
     let d = c.acquire.ensures.taken in
     let s = c.serve-output.ensures.served in
-    let a = c.commit_call.ensures.added s.1 (K.call c.args.input) (K.reply c.serve-output.result) s.3 s.7 in
+    let a = c.commit_call.ensures.added s.1 (unwrap_or (K.chosen c.args.input c.serve-output.result) (K.call c.args.input)) (K.reply c.serve-output.result) s.3 s.7 in
     ap (λ v. v.stage) a.1 ∙ (ap (λ v. v.stage) c.serve-output.ensures.own.1 ∙ ap (λ v. v.stage) d.view)
 
 pub release-requires-clause-held : goal.release-requires-clause-held
@@ -56,7 +56,7 @@ release-requires-clause-held g c κs within =
     let s = c.serve-output.ensures.served in
     let same = c.serve-output.ensures.own.1 in
     let none = c.requires.own.1 in
-    let a = c.commit_call.ensures.added s.1 (K.call c.args.input) (K.reply c.serve-output.result) s.3 s.7 in (
+    let a = c.commit_call.ensures.added s.1 (unwrap_or (K.chosen c.args.input c.serve-output.result) (K.call c.args.input)) (K.reply c.serve-output.result) s.3 s.7 in (
       s.1,
       a.0 ∙ s.3,
       λ o eo.
@@ -69,14 +69,14 @@ pub returns-clause-own : goal.returns-clause-own
 returns-clause-own g c =
     let K = g.T.Kept in
     let s = c.serve-output.ensures.served in
-    let a = c.commit_call.ensures.added s.1 (K.call c.args.input) (K.reply c.serve-output.result) s.3 s.7 in
+    let a = c.commit_call.ensures.added s.1 (unwrap_or (K.chosen c.args.input c.serve-output.result) (K.call c.args.input)) (K.reply c.serve-output.result) s.3 s.7 in
     (c.release.ensures.own ∙ (c.commit_call.ensures.own ∙ (c.serve-output.ensures.own.0 ∙ c.acquire.ensures.own)), c.release.ensures.free s.1 (a.0 ∙ s.3))
 
 pub returns-clause-same : goal.returns-clause-same
 returns-clause-same g c =
     let K = g.T.Kept in
     let s = c.serve-output.ensures.served in
-    let a = c.commit_call.ensures.added s.1 (K.call c.args.input) (K.reply c.serve-output.result) s.3 s.7 in
+    let a = c.commit_call.ensures.added s.1 (unwrap_or (K.chosen c.args.input c.serve-output.result) (K.call c.args.input)) (K.reply c.serve-output.result) s.3 s.7 in
     same_pass (λ x. K.name x.value) (λ x. K.state x.value) K.legal c.args.at _ _ c.requires.own.1 c.acquire.ensures.taken
     c.serve-output.new.seat.me.0 c.commit_call.new.seat.me.0 c.release.new.seat.me.0 _ _ _ c.serve-output.ensures.own.1 a.1 c.release.ensures.view
 
@@ -85,22 +85,22 @@ returns-clause-called g c =
     let K = g.T.Kept in
     let d = c.acquire.ensures.taken in
     let s = c.serve-output.ensures.served in
-    let a = c.commit_call.ensures.added s.1 (K.call c.args.input) (K.reply c.serve-output.result) s.3 s.7 in
+    let a = c.commit_call.ensures.added s.1 (unwrap_or (K.chosen c.args.input c.serve-output.result) (K.call c.args.input)) (K.reply c.serve-output.result) s.3 s.7 in
     whole (λ x. K.name x.value) (λ x. K.state x.value) K.legal c.args.at _ _ c.requires.own.1 d
-    c.serve-output.new.seat.me.0 c.commit_call.new.seat.me.0 c.release.new.seat.me.0 s.0 (K.call c.args.input) (K.reply c.serve-output.result) (K.state s.1.value)
+    c.serve-output.new.seat.me.0 c.commit_call.new.seat.me.0 c.release.new.seat.me.0 s.0 (unwrap_or (K.chosen c.args.input c.serve-output.result) (K.call c.args.input)) (K.reply c.serve-output.result) (K.state s.1.value)
     c.serve-output.ensures.own.1 a.1 c.release.ensures.view s.2
-    (subst (λ q. K.legal (K.name s.0.value) q (K.state s.0.value) (K.call c.args.input) (K.reply c.serve-output.result) (K.state s.1.value)) (ap (λ v. v.from) d.view) s.4)
+    (subst (λ q. K.legal (K.name s.0.value) q (K.state s.0.value) (unwrap_or (K.chosen c.args.input c.serve-output.result) (K.call c.args.input)) (K.reply c.serve-output.result) (K.state s.1.value)) (ap (λ v. v.from) d.view) s.4)
 
 pub returns-clause-stands : goal.returns-clause-stands
 returns-clause-stands g c =
     let K = g.T.Kept in
     let d = c.acquire.ensures.taken in
     let s = c.serve-output.ensures.served in
-    let a = c.commit_call.ensures.added s.1 (K.call c.args.input) (K.reply c.serve-output.result) s.3 s.7 in
+    let a = c.commit_call.ensures.added s.1 (unwrap_or (K.chosen c.args.input c.serve-output.result) (K.call c.args.input)) (K.reply c.serve-output.result) s.3 s.7 in
     whole_stands (λ x. K.name x.value) (λ x. K.state x.value) K.legal c.args.at _ _ c.requires.own.1 d
-    c.serve-output.new.seat.me.0 c.commit_call.new.seat.me.0 c.release.new.seat.me.0 s.0 (K.call c.args.input) (K.reply c.serve-output.result) (K.state s.1.value)
+    c.serve-output.new.seat.me.0 c.commit_call.new.seat.me.0 c.release.new.seat.me.0 s.0 (unwrap_or (K.chosen c.args.input c.serve-output.result) (K.call c.args.input)) (K.reply c.serve-output.result) (K.state s.1.value)
     c.serve-output.ensures.own.1 a.1 c.release.ensures.view s.2
-    (subst (λ q. K.legal (K.name s.0.value) q (K.state s.0.value) (K.call c.args.input) (K.reply c.serve-output.result) (K.state s.1.value)) (ap (λ v. v.from) d.view) s.4)
+    (subst (λ q. K.legal (K.name s.0.value) q (K.state s.0.value) (unwrap_or (K.chosen c.args.input c.serve-output.result) (K.call c.args.input)) (K.reply c.serve-output.result) (K.state s.1.value)) (ap (λ v. v.from) d.view) s.4)
     c.requires.stands
 
 pub returns-clause-output : goal.returns-clause-output

@@ -31,7 +31,7 @@ try_at-requires-clause-may g c κs within = subst (λ (n : ℕ). g.O.CellObject.
 
 pub turns-init : goal.turns-init
 turns-init g c =
-    let low = (seen_roomy g.O.CellObject.stepped (seen_of c.args.pass.now) (λ i few. lawful g.O.CellObject.stepped g.O.CellObject.may i _ _ (c.requires.own.stands.lawful i _ (c.requires.table.parts i few))) (partition_of (hash_of c.args.key.now)) (partition_low c.args.key.now)).from in
+    let low = (seen_roomy g.O.CellObject.stepped (seen_of c.args.pass.now) (λ i few. lawful g.O.CellObject.stepped g.O.CellObject.may i _ (c.requires.own.stands.lawful i _ (c.requires.table.parts i few))) (partition_of (hash_of c.args.key.now)) (partition_low c.args.key.now)).from in
     record {
       own = c.requires.own;
       caller = refl;
@@ -46,7 +46,7 @@ returns-in-Done-clause-made g c =
     let i = c.turns.invariant in
     let home = partition_of (hash_of c.args.key.now) in
     let same_at : c.partition_of_hash-number.result ≡ home = c.partition_of_hash-number.ensures.is ∙ ap partition_of c.hash_key-hash.ensures in
-    let most = (seen_roomy g.O.CellObject.stepped (seen_of c.turns.pass) (λ k few. lawful g.O.CellObject.stepped g.O.CellObject.may k _ _ (i.own.stands.lawful k _ (c.requires.table.parts k few))) home (partition_low c.args.key.now)).to in
+    let most = (seen_roomy g.O.CellObject.stepped (seen_of c.turns.pass) (λ k few. lawful g.O.CellObject.stepped g.O.CellObject.may k _ (i.own.stands.lawful k _ (c.requires.table.parts k few))) home (partition_low c.args.key.now)).to in
     made home (item_of c.args.self.now) c.args.key.now c.args.call.now g.O.CellObject.stepped c.args.area.now (number_of c.args.pass.now) (sight_of c.args.pass.now c.args.apass.now)
     c.partition_of_hash-number.result (number_of c.turns.pass) (seen_of c.turns.pass) (mine_of c.turns.pass) (seen_of c.try_at.new.pass) (mine_of c.try_at.new.pass) (is_some c.turns.spare) same_at i.caller
     c.turns.apass c.give_back.new.apass c.give_back-in-Done.new.apass c.in-Done.reply (is_some c.in-Done.unused) (is_some c.in-Done.freed) i.underway most
@@ -63,10 +63,10 @@ returns-in-Done-clause-last g c =
     c.in-Done.reply (is_some c.in-Done.unused) (is_some c.in-Done.freed) c.in-Done.ensures.event
 
 pub returns-in-Done-clause-cells : goal.returns-in-Done-clause-cells
-returns-in-Done-clause-cells g c = seen_cells g.O.CellObject.stepped (seen_of c.try_at.new.pass) (λ k few. lawful g.O.CellObject.stepped g.O.CellObject.may k _ _ (c.in-Done.ensures.own.stands.lawful k _ (c.requires.table.parts k few)))
+returns-in-Done-clause-cells g c = seen_cells g.O.CellObject.stepped (seen_of c.try_at.new.pass) (λ k few. lawful g.O.CellObject.stepped g.O.CellObject.may k _ (c.in-Done.ensures.own.stands.lawful k _ (c.requires.table.parts k few)))
 
 pub returns-in-Done-clause-roomy : goal.returns-in-Done-clause-roomy
-returns-in-Done-clause-roomy g c = seen_roomy g.O.CellObject.stepped (seen_of c.try_at.new.pass) (λ k few. lawful g.O.CellObject.stepped g.O.CellObject.may k _ _ (c.in-Done.ensures.own.stands.lawful k _ (c.requires.table.parts k few)))
+returns-in-Done-clause-roomy g c = seen_roomy g.O.CellObject.stepped (seen_of c.try_at.new.pass) (λ k few. lawful g.O.CellObject.stepped g.O.CellObject.may k _ (c.in-Done.ensures.own.stands.lawful k _ (c.requires.table.parts k few)))
 
 -- no item
 pub returns-in-Err-clause-refused : goal.returns-in-Err-clause-refused
@@ -74,16 +74,16 @@ returns-in-Err-clause-refused g c =
     let i = c.turns.invariant in
     let home = partition_of (hash_of c.args.key.now) in
     let same_at : c.partition_of_hash-number.result ≡ home = c.partition_of_hash-number.ensures.is ∙ ap partition_of c.hash_key-hash.ensures in
-    let most = (seen_roomy g.O.CellObject.stepped (seen_of c.turns.pass) (λ k few. lawful g.O.CellObject.stepped g.O.CellObject.may k _ _ (i.own.stands.lawful k _ (c.requires.table.parts k few))) home (partition_low c.args.key.now)).to in
+    let most = (seen_roomy g.O.CellObject.stepped (seen_of c.turns.pass) (λ k few. lawful g.O.CellObject.stepped g.O.CellObject.may k _ (i.own.stands.lawful k _ (c.requires.table.parts k few))) home (partition_low c.args.key.now)).to in
     no_item home (item_of c.args.self.now) c.args.key.now c.args.call.now g.O.CellObject.stepped c.args.area.now (number_of c.args.pass.now) (sight_of c.args.pass.now c.args.apass.now)
     c.partition_of_hash-number.result (number_of c.turns.pass) (seen_of c.turns.pass) (mine_of c.turns.pass) (seen_of c.try_at.new.pass) (mine_of c.try_at.new.pass) (is_some c.turns.spare) same_at i.caller
     c.turns.apass c.ask.new.apass c.in-Err.lack.pages c.in-Err.lack.largest i.underway most c.in-NeedItem.ensures.event c.in-Err.ensures.asked c.in-Err.ensures.caller
 
 pub returns-in-Err-clause-cells : goal.returns-in-Err-clause-cells
-returns-in-Err-clause-cells g c = seen_cells g.O.CellObject.stepped (seen_of c.try_at.new.pass) (λ k few. lawful g.O.CellObject.stepped g.O.CellObject.may k _ _ (c.in-NeedItem.ensures.own.stands.lawful k _ (c.requires.table.parts k few)))
+returns-in-Err-clause-cells g c = seen_cells g.O.CellObject.stepped (seen_of c.try_at.new.pass) (λ k few. lawful g.O.CellObject.stepped g.O.CellObject.may k _ (c.in-NeedItem.ensures.own.stands.lawful k _ (c.requires.table.parts k few)))
 
 pub returns-in-Err-clause-roomy : goal.returns-in-Err-clause-roomy
-returns-in-Err-clause-roomy g c = seen_roomy g.O.CellObject.stepped (seen_of c.try_at.new.pass) (λ k few. lawful g.O.CellObject.stepped g.O.CellObject.may k _ _ (c.in-NeedItem.ensures.own.stands.lawful k _ (c.requires.table.parts k few)))
+returns-in-Err-clause-roomy g c = seen_roomy g.O.CellObject.stepped (seen_of c.try_at.new.pass) (λ k few. lawful g.O.CellObject.stepped g.O.CellObject.may k _ (c.in-NeedItem.ensures.own.stands.lawful k _ (c.requires.table.parts k few)))
 
 -- an item came
 pub turns-preserved-in-Ok : goal.turns-preserved-in-Ok
@@ -115,10 +115,10 @@ returns-in-Err-double-clause-refused g c =
     (c.in-TooFull.ensures.caller ∙ i.caller) i.underway (c.in-Err-double.ensures.refused (chunk_size (item_of c.args.self.now)) (kept_bytes c.args.r.now (chunk_size (item_of c.args.self.now)) c.turns.spare c.in-TooFull.kept i.spare c.in-TooFull.ensures.handed))
 
 pub returns-in-Err-double-clause-cells : goal.returns-in-Err-double-clause-cells
-returns-in-Err-double-clause-cells g c = seen_cells g.O.CellObject.stepped (seen_of c.double.new.pass) (λ k few. lawful g.O.CellObject.stepped g.O.CellObject.may k _ _ (c.in-Err-double.ensures.own.stands.lawful k _ (c.requires.table.parts k few)))
+returns-in-Err-double-clause-cells g c = seen_cells g.O.CellObject.stepped (seen_of c.double.new.pass) (λ k few. lawful g.O.CellObject.stepped g.O.CellObject.may k _ (c.in-Err-double.ensures.own.stands.lawful k _ (c.requires.table.parts k few)))
 
 pub returns-in-Err-double-clause-roomy : goal.returns-in-Err-double-clause-roomy
-returns-in-Err-double-clause-roomy g c = seen_roomy g.O.CellObject.stepped (seen_of c.double.new.pass) (λ k few. lawful g.O.CellObject.stepped g.O.CellObject.may k _ _ (c.in-Err-double.ensures.own.stands.lawful k _ (c.requires.table.parts k few)))
+returns-in-Err-double-clause-roomy g c = seen_roomy g.O.CellObject.stepped (seen_of c.double.new.pass) (λ k few. lawful g.O.CellObject.stepped g.O.CellObject.may k _ (c.in-Err-double.ensures.own.stands.lawful k _ (c.requires.table.parts k few)))
 
 -- all partitions grew
 pub turns-preserved : goal.turns-preserved
@@ -161,19 +161,19 @@ turns-smaller g c =
     (c.in-Ok-double.ensures.large home (partition_low c.args.key.now)) (ap (λ o. one_if (is_some o)) (c.in-Ok-double.ensures.spare ∙ c.in-TooFull.ensures.handed))
 
 pub returns-in-Done-clause-allowed : goal.returns-in-Done-clause-allowed
-returns-in-Done-clause-allowed g c = λ k few. allowed g.O.CellObject.stepped g.O.CellObject.may k _ _ (c.in-Done.ensures.own.stands.lawful k _ (c.requires.table.parts k few))
+returns-in-Done-clause-allowed g c = λ k few. allowed g.O.CellObject.stepped g.O.CellObject.may k _ (c.in-Done.ensures.own.stands.lawful k _ (c.requires.table.parts k few))
 
 pub returns-in-Done-clause-owned : goal.returns-in-Done-clause-owned
 returns-in-Done-clause-owned g c = own_cells g.O.CellObject.stepped g.O.CellObject.may (number_of c.try_at.new.pass) (number_of c.args.pass.now) (seen_of c.try_at.new.pass) (mine_of c.try_at.new.pass) (c.in-Done.ensures.caller ∙ c.turns.invariant.caller) (λ k few. c.in-Done.ensures.own.stands.lawful k _ (c.requires.table.parts k few)) c.in-Done.ensures.own.stands.own
 
 pub returns-in-Err-clause-allowed : goal.returns-in-Err-clause-allowed
-returns-in-Err-clause-allowed g c = λ k few. allowed g.O.CellObject.stepped g.O.CellObject.may k _ _ (c.in-NeedItem.ensures.own.stands.lawful k _ (c.requires.table.parts k few))
+returns-in-Err-clause-allowed g c = λ k few. allowed g.O.CellObject.stepped g.O.CellObject.may k _ (c.in-NeedItem.ensures.own.stands.lawful k _ (c.requires.table.parts k few))
 
 pub returns-in-Err-clause-owned : goal.returns-in-Err-clause-owned
 returns-in-Err-clause-owned g c = own_cells g.O.CellObject.stepped g.O.CellObject.may (number_of c.try_at.new.pass) (number_of c.args.pass.now) (seen_of c.try_at.new.pass) (mine_of c.try_at.new.pass) (c.in-NeedItem.ensures.caller ∙ c.turns.invariant.caller) (λ k few. c.in-NeedItem.ensures.own.stands.lawful k _ (c.requires.table.parts k few)) c.in-NeedItem.ensures.own.stands.own
 
 pub returns-in-Err-double-clause-allowed : goal.returns-in-Err-double-clause-allowed
-returns-in-Err-double-clause-allowed g c = λ k few. allowed g.O.CellObject.stepped g.O.CellObject.may k _ _ (c.in-Err-double.ensures.own.stands.lawful k _ (c.requires.table.parts k few))
+returns-in-Err-double-clause-allowed g c = λ k few. allowed g.O.CellObject.stepped g.O.CellObject.may k _ (c.in-Err-double.ensures.own.stands.lawful k _ (c.requires.table.parts k few))
 
 pub returns-in-Err-double-clause-owned : goal.returns-in-Err-double-clause-owned
 returns-in-Err-double-clause-owned g c = own_cells g.O.CellObject.stepped g.O.CellObject.may (number_of c.double.new.pass) (number_of c.args.pass.now) (seen_of c.double.new.pass) (mine_of c.double.new.pass) (c.in-Err-double.ensures.caller ∙ (c.in-TooFull.ensures.caller ∙ c.turns.invariant.caller)) (λ k few. c.in-Err-double.ensures.own.stands.lawful k _ (c.requires.table.parts k few)) c.in-Err-double.ensures.own.stands.own

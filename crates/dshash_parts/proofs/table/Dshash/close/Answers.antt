@@ -15,7 +15,7 @@ returns-clause-parts g c = λ region t. record {
 pub returns-clause-ended : goal.returns-clause-ended
 returns-clause-ended g c =
     let e = c.close.ensures.ended in
-    record { lawful = λ i low. lawful g.O.CellObject.stepped g.O.CellObject.may i _ _ (e.lawful i _ (c.requires.table.1.parts i low)); begins = e.begins; mine = e.mine; no_others = e.no_others }
+    record { lawful = λ i low. lawful g.O.CellObject.stepped g.O.CellObject.may i _ (e.lawful i _ (c.requires.table.1.parts i low)); begins = e.begins; mine = e.mine; no_others = e.no_others }
 
 pub returns-clause-allowed : goal.returns-clause-allowed
-returns-clause-allowed g c = λ i low. allowed g.O.CellObject.stepped g.O.CellObject.may i _ _ (c.close.ensures.ended.lawful i _ (c.requires.table.1.parts i low))
+returns-clause-allowed g c = λ i low. allowed g.O.CellObject.stepped g.O.CellObject.may i _ (c.close.ensures.ended.lawful i _ (c.requires.table.1.parts i low))

@@ -32,10 +32,10 @@ returns-clause-last g c =
     record { before = x.2.before; after = x.2.after; spare = false; unused = false; freed = false; ends = x.3.0 ∙ x.2.ends }
 
 pub returns-clause-allowed : goal.returns-clause-allowed
-returns-clause-allowed g c = λ k few. allowed g.O.CellObject.stepped g.O.CellObject.may k _ _ (c.in-Done.ensures.own.stands.lawful k _ (c.requires.table.parts k few))
+returns-clause-allowed g c = λ k few. allowed g.O.CellObject.stepped g.O.CellObject.may k _ (c.in-Done.ensures.own.stands.lawful k _ (c.requires.table.parts k few))
 
 pub returns-clause-owned : goal.returns-clause-owned
 returns-clause-owned g c = own_cells g.O.CellObject.stepped g.O.CellObject.may (number_of c.try_at.new.pass) (number_of c.args.pass.now) (seen_of c.try_at.new.pass) (mine_of c.try_at.new.pass) c.in-Done.ensures.caller (λ k few. c.in-Done.ensures.own.stands.lawful k _ (c.requires.table.parts k few)) c.in-Done.ensures.own.stands.own
 
 pub returns-clause-cells : goal.returns-clause-cells
-returns-clause-cells g c = seen_cells g.O.CellObject.stepped (seen_of c.try_at.new.pass) (λ k few. lawful g.O.CellObject.stepped g.O.CellObject.may k _ _ (c.in-Done.ensures.own.stands.lawful k _ (c.requires.table.parts k few)))
+returns-clause-cells g c = seen_cells g.O.CellObject.stepped (seen_of c.try_at.new.pass) (λ k few. lawful g.O.CellObject.stepped g.O.CellObject.may k _ (c.in-Done.ensures.own.stands.lawful k _ (c.requires.table.parts k few)))

@@ -14,7 +14,7 @@ use Rattle.dshash_parts.proofs.Events.{turn}
 use Rattle.dshash_parts.proofs.table.Dshash.list_one.Goals as goal
 
 pub returns-clause-event : goal.returns-clause-event
-returns-clause-event g c = turn g.O.CellObject.stepped g.O.CellObject.may (opens_of c.args.self.now.shelf) _ _ _ _ _ c.args.partition _ _ (name_in c.args.r.now c.args.self.now c.args.partition) (c.requires.table.parts c.args.partition c.requires.number) refl c.in-Entries.ensures.called
+returns-clause-event g c = turn g.O.CellObject.stepped g.O.CellObject.may (opens_of c.args.self.now.shelf) _ _ _ _ _ c.args.partition _ _ (name_in c.args.r.now c.args.self.now c.args.partition) (c.requires.table.parts c.args.partition c.requires.number) refl (c.in-Entries.ensures.own.0.stands.lawful c.args.partition _ (c.requires.table.parts c.args.partition c.requires.number)) c.in-Entries.ensures.called
 
 all_listed : {S C R V E : Type 0} (step : Option S → C → Option S × R) (pairs : V → List (List ℕ × S)) (n : ℕ) (seen mine seen' mine' : Histories (PartitionState S) (PartitionCalls C) (PartitionReplies S R)) (number : ℕ) (entries : Result V E)
     → AtPartition step n seen mine seen' mine' number Lists (listed_of pairs entries) → IfOk entries (λ v. ListsAll (map_at seen' number) (pairs v))
