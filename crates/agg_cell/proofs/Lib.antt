@@ -1,5 +1,5 @@
 pub mod Written
-pub mod Runs
+pub mod CellRuns
 pub mod Combining
 pub mod Permuted
 pub mod Orders

@@ -20,7 +20,7 @@ use Rattle.partial_agg.proofs.Adding.{both-none, both-some, groups_add}
 use Rattle.partial_agg.proofs.Combining.{settles}
 use Rattle.agg_cell.specs.Called.{GroupsCombine, all_rows, count_at, groups_in}
 use Rattle.agg_cell.proofs.Orders.{any_order}
-use Rattle.agg_cell.proofs.Runs.{more, more-none}
+use Rattle.agg_cell.proofs.CellRuns.{more, more-none}
 
 abbrev Table : Type 0
 Table = List (List (List ℕ))

@@ -6,7 +6,7 @@ use Rattle.std.proofs.lemmas.List.Folds.{concat-append}
 use Rattle.std.proofs.lemmas.Slice.{take-put_mid}
 use Rattle.par_model.specs.Aggregate.{no_values}
 use Rattle.par_model.specs.declared.state.SlotState.{SlotState}
-use Rattle.agg_cell.specs.Words.{slot_words}
+use Rattle.agg_cell.specs.StateWords.{slot_words}
 use borrow.Rule.Slice.PartMut.{put_mid}
 
 slots_words-push : (slots : List SlotState) (s : SlotState) → concat (map slot_words (slots ++ s ∷ [])) ≡ concat (map slot_words slots) ++ slot_words s

@@ -1,4 +1,4 @@
-pub mod Words
+pub mod StateWords
 pub mod ReadBack
 pub mod Cell
 pub mod Called

@@ -5,7 +5,7 @@ use Rattle.std.specs.List.{AllByRecursion, concat, range_with_len}
 use Rattle.std.proofs.lemmas.Int.{to_z-of_z}
 use Rattle.par_model.specs.declared.state.AggState.{AggState}
 use Rattle.par_model.specs.declared.state.SlotState.{SlotState}
-use Rattle.agg_cell.specs.Words.{IsSlot, IsState, joined_sum, slot_at, slot_start, slot_words, state_of_words, state_words}
+use Rattle.agg_cell.specs.StateWords.{IsSlot, IsState, joined_sum, slot_at, slot_start, slot_words, state_of_words, state_words}
 
 -- a sum is that of its two words
 halves : (z : ℤ) → FitsSigned w128 z → joined_sum (cast_unsigned w128 z % 2 ^ 64) (cast_unsigned w128 z / 2 ^ 64) ≡ z

@@ -12,7 +12,7 @@ pub struct AggObject;
 impl CellObject for AggObject {
     ghost use Rattle.agg_cell.specs.declared.words.TheConstants.{STATE_WORDS};
     ghost use Rattle.agg_cell.specs.Cell.{stepped};
-    ghost use Rattle.agg_cell.specs.Words.{IsState, state_of_words, state_words};
+    ghost use Rattle.agg_cell.specs.StateWords.{IsState, state_of_words, state_words};
     ghost use Rattle.agg_cell.specs.ReadBack.{reads_back};
 
     const VALUE_WORDS: usize = STATE_WORDS;

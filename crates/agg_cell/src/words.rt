@@ -5,7 +5,7 @@
 
 ghost use Rattle.std.specs.Prelude.{◌≡◌, ◌+◌, ◌*◌, ◌≤◌, length, map};
 ghost use Rattle.std.specs.List.{AllByRecursion, concat, range_with_len};
-ghost use Rattle.agg_cell.specs.Words.{IsSlot, IsState, joined_sum, slot_at, slot_start, slot_words, state_of_words, state_words};
+ghost use Rattle.agg_cell.specs.StateWords.{IsSlot, IsState, joined_sum, slot_at, slot_start, slot_words, state_of_words, state_words};
 
 use par_model::{AggState, NO_VALUES, SlotState};
 

@@ -10,7 +10,7 @@ use Rattle.std.proofs.lemmas.List.Elements.{recursion_from_All}
 use Rattle.std.proofs.lemmas.Option.{slice_get-get_or}
 use Rattle.agg_cell.specs.Called.{Seen, all_combined, called as called_states, called_below, stands}
 use Rattle.agg_cell.proofs.Callers.{callers}
-use Rattle.agg_cell.proofs.Runs.{cells}
+use Rattle.agg_cell.proofs.CellRuns.{cells}
 use Rattle.agg_table.specs.Calls.{Group, IsKeyed, called, calls_at, partition_at}
 use Rattle.agg_table.specs.Drained.{HoldsAll}
 use Rattle.agg_table.proofs.Listed.{packed_once}

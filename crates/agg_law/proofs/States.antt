@@ -7,7 +7,7 @@ use Rattle.std.specs.Ordering.{eq_by_cmp, nat_cmp}
 use Rattle.std.proofs.lemmas.List.{map-append}
 use Rattle.std.proofs.lemmas.List.Elements.{filter-append}
 use Rattle.agg_cell.specs.Called.{all_combined, groups_in}
-use Rattle.agg_cell.proofs.Runs.{more, more-none}
+use Rattle.agg_cell.proofs.CellRuns.{more, more-none}
 use Rattle.agg_table.proofs.Standing.{is_key, states_of}
 use Rattle.dshash_core.proofs.Maps.{keys_same_or_not, other_key, same_key}
 use Rattle.gather_law.specs.Parts.{with_all}

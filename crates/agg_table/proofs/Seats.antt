@@ -1,6 +1,6 @@
 -- Passes that stay in their places.
 use Rattle.std.proofs.Common.{ℕ, [], Option, Some, None, refl, sym, ◌∙◌, append-nil}
-use Rattle.agg_table.specs.Tokens.{Grew, IsHashSeat, StaysSeated}
+use Rattle.agg_table.specs.Shown.{Grew, IsHashSeat, StaysSeated}
 use Rattle.agg_table.specs.declared.part.HashPart.{HashPart}
 use Rattle.agg_table.specs.declared.part.HashSeat.{HashSeat}
 use Rattle.atomic_table.specs.Seated.{TableId}

@@ -12,7 +12,7 @@ use Rattle.std.proofs.lemmas.Option.{slice_get_cases}
 use Rattle.std.proofs.lemmas.Map.Lookups.{exact_bytes}
 use Rattle.std.proofs.lemmas.Map.Views.{tells_apart}
 use Rattle.agg_cell.specs.Called.{all_combined, called as called_states}
-use Rattle.agg_cell.proofs.Runs.{cells}
+use Rattle.agg_cell.proofs.CellRuns.{cells}
 use Rattle.dshash_core.specs.Cells.{partition_of}
 use Rattle.dshash_core.specs.Key.{IsPackedKey, hash_of, packed_key}
 use Rattle.dshash_core.proofs.Keys.{is_packed}

@@ -8,7 +8,7 @@ use Rattle.lock_book.specs.Shown.{mine_of, seen_of}
 use Rattle.dshash_parts.specs.Legal.{PartitionLegal}
 use Rattle.dshash_parts.specs.States.{fresh}
 use Rattle.agg_table.specs.Calls.{AggEntry}
-use Rattle.agg_table.specs.Tokens.{IsSeat, callers_of, number_at}
+use Rattle.agg_table.specs.Shown.{IsSeat, callers_of, number_at}
 use Rattle.agg_table.specs.declared.part.HashPart.{HashPart}
 use Rattle.agg_table.specs.declared.part.HashSeat.{HashSeat}
 

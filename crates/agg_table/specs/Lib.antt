@@ -1,4 +1,4 @@
 pub mod Calls
-pub mod Tokens
+pub mod Shown
 pub mod Ending
 pub mod Drained

@@ -3,7 +3,7 @@
 ghost use Rattle.std.specs.Prelude.{◌≡◌, ◌≤◌, [], map, vec_capacity, vec_len};
 ghost use Rattle.dshash_parts.specs.Ending.{IsOf, left_of, whole_of};
 ghost use Rattle.agg_table.specs.Ending.{AreSeats, IsClosed};
-ghost use Rattle.agg_table.specs.Tokens.{IsPart};
+ghost use Rattle.agg_table.specs.Shown.{IsPart};
 
 use crate::part::{HashPart, HashSeat};
 use agg_cell::AggObject;

@@ -4,7 +4,7 @@ ghost use Rattle.std.specs.Prelude.{◌≡◌, ◌≤◌, ◌*◌, IfOk, map, le
 ghost use Rattle.std.specs.List.{zip};
 ghost use Rattle.free_pages.specs.Area.{area_size};
 ghost use Rattle.dsa_area.specs.Shown.{pages_of};
-ghost use Rattle.agg_table.specs.Tokens.{AreUnusedSeats, IsPart, callers_of};
+ghost use Rattle.agg_table.specs.Shown.{AreUnusedSeats, IsPart, callers_of};
 
 use crate::part::{HashPart, HashSeat};
 use agg_cell::AggObject;

@@ -4,7 +4,7 @@ ghost use Rattle.std.specs.Prelude.{◌≡◌, ◌≤◌, MatchBool, length};
 ghost use Rattle.dshash_core.specs.Key.{packed_key};
 ghost use Rattle.rel_pointer.specs.Bytes.{AllBytes};
 ghost use Rattle.agg_table.specs.Calls.{IsLeft, IsPut};
-ghost use Rattle.agg_table.specs.Tokens.{Grew, IsPart, IsSeat, use_of};
+ghost use Rattle.agg_table.specs.Shown.{Grew, IsPart, IsSeat, use_of};
 
 use crate::part::{HashPart, HashSeat};
 use dshash_core::pack_key;

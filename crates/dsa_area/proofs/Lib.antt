@@ -3,4 +3,4 @@ pub mod Chunks
 pub mod Openings
 pub mod Uses
 pub mod Exact
-pub mod Endings
+pub mod Popped

@@ -19,7 +19,7 @@ use Rattle.dshash_numbers.specs.Numbers.{after, stepped}
 use Rattle.dshash_numbers.specs.declared.number.NumberCall.{NumberCall}
 use Rattle.dshash_numbers.specs.declared.number.NumberCall.TheVariants.{Get}
 use Rattle.dshash_numbers.specs.declared.table.NumberTable.{NumberTable}
-use Rattle.dshash_numbers.proofs.Calls.{made_now, made_others, made_was}
+use Rattle.dshash_numbers.proofs.MapCalls.{made_now, made_others, made_was}
 
 module _ {S C R : Type 0} (number item : ℕ) (key : List ℕ) (call : C) (reply : R) where
   -- the events of a look-up

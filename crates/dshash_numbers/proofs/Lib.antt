@@ -1,5 +1,5 @@
 pub mod Lone
-pub mod Turns
-pub mod Calls
+pub mod MapTurns
+pub mod MapCalls
 pub mod Tables
 pub mod Gets

@@ -17,7 +17,7 @@ use Rattle.dshash_numbers.specs.Numbers.{after, stepped}
 use Rattle.dshash_numbers.specs.declared.number.NumberCall.{NumberCall}
 use Rattle.dshash_numbers.specs.declared.number.NumberCall.TheVariants.{Delete}
 use Rattle.dshash_numbers.specs.declared.table.NumberTable.{NumberTable}
-use Rattle.dshash_numbers.proofs.Calls.{made_now, made_others, made_was, refused_stays}
+use Rattle.dshash_numbers.proofs.MapCalls.{made_now, made_others, made_was, refused_stays}
 
 -- the same table, t and t', before and after a call of a key
 module _ (a : Area) (t t' : NumberTable) (u u' : AreaPass) (key : List ℕ) (call : NumberCall) (same : t'.table ≡ t.table) (one : callers_of t.table ≡ 1) (own : Belongs t.table t.pass) (own' : Belongs t.table t'.pass) (caller : number_of t'.pass ≡ number_of t.pass) where

@@ -7,7 +7,7 @@ use Rattle.std.proofs.Math.Nat.{mul_assoc, pow-le-pow_right, pow-suc}
 use Rattle.std.proofs.lemmas.Bool.{cases_lt}
 use Rattle.std.proofs.lemmas.List.{drop_all}
 use Rattle.std.proofs.lemmas.Nat.{mod-mul-add, mul-le}
-use Rattle.gather_merge.specs.Words.{AreBytes, chunk, word}
+use Rattle.gather_merge.specs.RowWords.{AreBytes, chunk, word}
 
 -- ---- digits
 

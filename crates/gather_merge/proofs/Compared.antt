@@ -11,7 +11,7 @@ use Rattle.row_blocks.specs.Blocks.{Table}
 use Rattle.par_model.specs.Plan.{Plan}
 use Rattle.par_model.specs.Record.{field_of}
 use Rattle.gather_merge.specs.Order.{columns_at, row_cmp}
-use Rattle.gather_merge.specs.Words.{AreWords, tail_cmp}
+use Rattle.gather_merge.specs.RowWords.{AreWords, tail_cmp}
 use Rattle.gather_merge.proofs.Levels.{level_less, level_whole, tail_level}
 use Rattle.gather_merge.proofs.Ordered.{rows_total}
 

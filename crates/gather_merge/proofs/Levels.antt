@@ -6,7 +6,7 @@ use Rattle.std.specs.declared.cmp.Ordering.{Ordering}
 use Rattle.std.specs.declared.cmp.Ordering.TheVariants.{Less, Equal, Greater}
 use Rattle.std.proofs.lemmas.List.{drop-drop, drop_all, get_or_past}
 use Rattle.par_model.specs.Table.{columns_cmp}
-use Rattle.gather_merge.specs.Words.{AreBytes, tail_cmp, text_at, word}
+use Rattle.gather_merge.specs.RowWords.{AreBytes, tail_cmp, text_at, word}
 use Rattle.gather_merge.specs.Levels.{level_cmp}
 use Rattle.gather_merge.proofs.Chunks.{whole_same, word_less, word_same}
 

@@ -9,7 +9,7 @@ use Rattle.par_model.specs.Record.{field_of}
 use Rattle.gather_merge.specs.declared.sorting.Keyed.{Keyed}
 use Rattle.gather_merge.specs.Levels.{rows_of}
 use Rattle.gather_merge.specs.Order.{columns_at}
-use Rattle.gather_merge.specs.Words.{AreBytes, AreWords, text_at, word}
+use Rattle.gather_merge.specs.RowWords.{AreBytes, AreWords, text_at, word}
 
 -- ---- the words of the first column
 

@@ -13,7 +13,7 @@ use Rattle.std.proofs.lemmas.List.Sorted.{All-permutation, IsPermutation-append,
 use Rattle.std.proofs.lemmas.Slice.{drop-put_mid, take-put_mid}
 use borrow.Rule.Slice.PartMut.{put_mid, same_len_mid}
 use Rattle.gather_merge.specs.declared.sorting.Keyed.{Keyed}
-use Rattle.gather_merge.specs.Words.{AreBytes, text_at, word}
+use Rattle.gather_merge.specs.RowWords.{AreBytes, text_at, word}
 use Rattle.gather_merge.specs.Levels.{AreTied, Follows, HaveOneWord, IsWorded, Sorts, level_cmp, pair_cmp, rows_of, word_of_pair}
 use Rattle.gather_merge.proofs.Levels.{level_done, level_less, level_next, level_whole}
 

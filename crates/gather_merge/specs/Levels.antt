@@ -4,7 +4,7 @@ use Rattle.std.specs.Cmp.Lexicographic.{slice_cmp}
 use Rattle.std.specs.List.Sorted.{IsPermutation, IsSorted}
 use Rattle.std.specs.Ordering.{nat_cmp, ordering_then}
 use Rattle.std.specs.declared.cmp.Ordering.{Ordering}
-use Rattle.gather_merge.specs.Words.{AreBytes, tail_cmp, text_at, word}
+use Rattle.gather_merge.specs.RowWords.{AreBytes, tail_cmp, text_at, word}
 use Rattle.gather_merge.specs.declared.sorting.Keyed.{Keyed}
 
 -- how rows compare by what is left of a column from a byte on, by the columns behind it, and then by their numbers

@@ -1,5 +1,5 @@
 pub mod Order
-pub mod Words
+pub mod RowWords
 pub mod Levels
 pub mod Streams
 pub mod Law

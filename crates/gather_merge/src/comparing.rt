@@ -5,7 +5,7 @@ ghost use Rattle.std.specs.Prelude.{◌≡◌, [], unwrap_or};
 ghost use Rattle.csv_rows.specs.Records.{record_at};
 ghost use Rattle.par_model.specs.Record.{field_of};
 ghost use Rattle.gather_merge.specs.Order.{columns_at, row_cmp};
-ghost use Rattle.gather_merge.specs.Words.{AreWords, tail_cmp};
+ghost use Rattle.gather_merge.specs.RowWords.{AreWords, tail_cmp};
 
 use crate::words::{is_whole, word_at};
 use csv_rows::{Record, RowStore};

@@ -6,7 +6,7 @@
 ghost use Rattle.std.specs.Prelude.{◌≡◌, ◌≤◌, ℕ, OnOk, length};
 ghost use Rattle.gather_merge.specs.Heads.{AreFalling, IsPlace, put_at};
 ghost use Rattle.gather_merge.specs.Order.{columns_at};
-ghost use Rattle.gather_merge.specs.Words.{AreWords};
+ghost use Rattle.gather_merge.specs.RowWords.{AreWords};
 
 use crate::comparing::compare;
 use csv_rows::RowStore;

@@ -12,7 +12,7 @@ ghost use Rattle.gather_merge.specs.Heads.{AreFalling};
 ghost use Rattle.gather_merge.specs.Hearing.{AreOpen, HasGivenNoRow, HaveGivenNone, sources_of};
 ghost use Rattle.gather_merge.specs.Leading.{Drains, Fills, IsFilled, Led, Refills};
 ghost use Rattle.gather_merge.specs.Order.{columns_at};
-ghost use Rattle.gather_merge.specs.Words.{AreWords};
+ghost use Rattle.gather_merge.specs.RowWords.{AreWords};
 
 use crate::MergeAnswer;
 use crate::drawing::draw_all;

@@ -37,7 +37,7 @@ impl<'a, G: Gate + Sync> Worker for Team<'a, G> {
     ghost use Rattle.row_blocks.specs.Blocks.{AreBlocks};
     ghost use Rattle.gather_merge.specs.Ended.{DidWork};
     ghost use Rattle.gather_merge.specs.Order.{columns_at};
-    ghost use Rattle.gather_merge.specs.Words.{AreWords};
+    ghost use Rattle.gather_merge.specs.RowWords.{AreWords};
 
     type End = WorkerEnd;
 
@@ -105,7 +105,7 @@ impl<'a, G: Gate> Lead for Leader<'a, G> {
     ghost use Rattle.row_blocks.specs.Blocks.{AreBlocks};
     ghost use Rattle.gather_merge.specs.Leading.{Led};
     ghost use Rattle.gather_merge.specs.Order.{columns_at};
-    ghost use Rattle.gather_merge.specs.Words.{AreWords};
+    ghost use Rattle.gather_merge.specs.RowWords.{AreWords};
 
     ghost asks = { λ leader plan blocks. HasColumns plan (header_width leader.rows.now) × AreBlocks leader.rows.now blocks × AreWords (columns_at plan leader.rows.now) leader.words.now × (leader.order.items ≡ []) };
 

@@ -6,7 +6,7 @@ ghost use Rattle.std.specs.Prelude.{◌≡◌, ◌≢◌, ◌<◌, ◌≤◌, �
 ghost use Rattle.std.specs.List.Sorted.{IsPermutation, IsSorted};
 ghost use Rattle.gather_merge.specs.Levels.{AreTied, Follows, HaveOneWord, IsWorded, Sorts, pair_cmp, rows_of, word_of_pair};
 ghost use Rattle.gather_merge.specs.Order.{columns_at, row_cmp};
-ghost use Rattle.gather_merge.specs.Words.{AreWords};
+ghost use Rattle.gather_merge.specs.RowWords.{AreWords};
 
 use crate::comparing::compare;
 use crate::words::{is_whole, text_from, word_at, word_of};

@@ -5,7 +5,7 @@
 
 ghost use Rattle.std.specs.Prelude.{◌≡◌, ◌<◌, ◌%◌, IfOk, get_or, nat_lt};
 ghost use Rattle.gather_merge.specs.Order.{columns_at};
-ghost use Rattle.gather_merge.specs.Words.{AreBytes, AreWords, text_at, word};
+ghost use Rattle.gather_merge.specs.RowWords.{AreBytes, AreWords, text_at, word};
 
 use crate::comparing::{field_or_none, find_row};
 use csv_rows::RowStore;

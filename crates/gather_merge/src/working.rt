@@ -10,7 +10,7 @@ ghost use Rattle.worker_run.specs.Sent.{IsReady};
 ghost use Rattle.worker_run.specs.Steps.{KeepsQueues};
 ghost use Rattle.gather_merge.specs.Ended.{Finishes, HasEnded};
 ghost use Rattle.gather_merge.specs.Order.{columns_at};
-ghost use Rattle.gather_merge.specs.Words.{AreWords};
+ghost use Rattle.gather_merge.specs.RowWords.{AreWords};
 
 use crate::drawing::draw_all;
 use crate::sending::send_rows;

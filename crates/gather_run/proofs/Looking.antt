@@ -18,7 +18,7 @@ use Rattle.gather_run.specs.Leading.{IsLeading, Led}
 use Rattle.gather_run.specs.Looks.{Hears, HearsEnd, HearsOut, IsOverQueue, NamedBy, Takes, tuples_of}
 use Rattle.gather_run.specs.declared.messages.Hearing.{Hearing}
 use Rattle.gather_run.specs.declared.messages.Hearing.TheVariants as hearing
-use Rattle.gather_run.specs.Steps.{BlockStep, Steps}
+use Rattle.gather_run.specs.BlockSteps.{BlockStep, Steps}
 use Rattle.gather_law.specs.Parts.{with_all}
 use Rattle.gather_run.specs.Reading.{ReadsAs}
 use Rattle.worker_run.specs.Notices.{HasTakenAll, ReadsRow}

@@ -1,6 +1,6 @@
 -- The leader has not used its passes of the table of groups at first.
 use Rattle.std.proofs.Common.{ℕ, Option, Some, None}
-use Rattle.agg_table.specs.Tokens.{IsHashSeat, use_in}
+use Rattle.agg_table.specs.Shown.{IsHashSeat, use_in}
 use Rattle.agg_table.specs.declared.part.HashPart.{HashPart}
 use Rattle.agg_table.specs.declared.part.HashSeat.{HashSeat}
 use Rattle.atomic_table.specs.Seated.{TableId}

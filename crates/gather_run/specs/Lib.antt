@@ -4,6 +4,6 @@ pub mod Did
 pub mod Leading
 pub mod Sharing
 pub mod Looks
-pub mod Steps
+pub mod BlockSteps
 pub mod Used
 pub mod Drained

@@ -5,14 +5,14 @@
 ghost use Rattle.std.specs.Prelude.{◌≡◌, suc, All, length, map};
 ghost use Rattle.std.specs.FinMap as fin;
 ghost use Rattle.std.specs.List.{AllZip};
-ghost use Rattle.agg_table.specs.Tokens.{StaysSeated, use_in};
+ghost use Rattle.agg_table.specs.Shown.{StaysSeated, use_in};
 ghost use Rattle.scan_claim.specs.Shown.{Belongs, blocks_of, callers_of, draws_of, number_of};
 ghost use Rattle.parallel_ctx.specs.Accounts.{heard};
 ghost use Rattle.parallel_ctx.specs.Tokens.{SameQueues};
 ghost use Rattle.worker_run.specs.Job.{IsJob, IsSeated};
 ghost use Rattle.gather_run.specs.Leading.{DrawsInOrder, IsLeading, Led};
 ghost use Rattle.gather_run.specs.Looks.{IsOpen, tuples_of};
-ghost use Rattle.gather_run.specs.Steps.{ClearsMap, Steps, StepsAlone};
+ghost use Rattle.gather_run.specs.BlockSteps.{ClearsMap, Steps, StepsAlone};
 
 use crate::GatherAnswer;
 use crate::messages::{Hearing, hear_all, hear_out};

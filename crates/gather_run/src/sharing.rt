@@ -4,7 +4,7 @@
 
 ghost use Rattle.std.specs.Prelude.{◌≡◌, ◌<◌, ◌+◌, ◌*◌, All, IfErr, OnOk, length};
 ghost use Rattle.std.specs.FinMap as map;
-ghost use Rattle.agg_table.specs.Tokens.{Grew, IsPart, IsSeat, StaysSeated, use_in, use_of};
+ghost use Rattle.agg_table.specs.Shown.{Grew, IsPart, IsSeat, StaysSeated, use_in, use_of};
 ghost use Rattle.partial_agg.specs.Rows.{IsAccepted, header_width};
 ghost use Rattle.row_blocks.specs.Blocks.{block_rows};
 ghost use Rattle.gather_law.specs.Tuples.{groups_of};

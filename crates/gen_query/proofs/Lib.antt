@@ -1,8 +1,8 @@
 pub mod Adding
 pub mod Grouped
 pub mod Numbers
-pub mod Rows
+pub mod NumberRows
 pub mod Texts
 pub mod Steps
-pub mod Asked
+pub mod AskedRows
 pub mod Summed

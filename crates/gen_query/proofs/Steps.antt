@@ -13,7 +13,7 @@ use Rattle.par_model.specs.Table.{table_text}
 use Rattle.par_model.specs.declared.state.AggState.{AggState}
 use Rattle.partial_agg.proofs.Ideal.{total-cons}
 use Rattle.partial_agg.specs.declared.groups.Group.{Group}
-use Rattle.gen_query.proofs.Rows.{row_is}
+use Rattle.gen_query.proofs.NumberRows.{row_is}
 use Rattle.gen_query.specs.Generator.{generated, next_of, numbers, record_of, value_of}
 use Rattle.gen_query.specs.Totals.{IsSmall, all_rows, all_sums, rows_of, sum_of}
 

@@ -8,7 +8,7 @@ use Rattle.gather_run.specs.Answers.{AreAllGroups}
 use Rattle.partial_agg.specs.Rows.{IsAccepted}
 use Rattle.partial_agg.specs.declared.groups.Group.{Group}
 use Rattle.gen_query.proofs.Grouped.{AreOf, groups_are}
-use Rattle.gen_query.proofs.Rows.{accepted}
+use Rattle.gen_query.proofs.NumberRows.{accepted}
 use Rattle.gen_query.proofs.Texts.{numbers_long}
 use Rattle.gen_query.specs.Generator.{generated, numbers, record_of}
 use Rattle.gen_query.specs.Plan.{bound_gen}

@@ -35,7 +35,7 @@ use Rattle.merge_answers.specs.Stops.{RestatesMerge}
 use Rattle.table_query.specs.declared.input.Ready.{Ready}
 use Rattle.table_query.specs.declared.stop.Stop.{Stop}
 use Rattle.table_query.proofs.Outcomes.{memory_explained, memory_first, plan_is, refused_explained, refused_first_stop}
-use Rattle.table_query.proofs.Refusals.{refused_first, refused_in-has}
+use Rattle.table_query.proofs.RefusedRows.{refused_first, refused_in-has}
 
 -- ---- the plan of the words
 

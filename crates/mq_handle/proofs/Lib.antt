@@ -1,7 +1,7 @@
 pub mod Decoding
 pub mod Whole
 pub mod Filling
-pub mod Sends
+pub mod SendTries
 pub mod Hands
 pub mod Receipts
 pub mod Uses

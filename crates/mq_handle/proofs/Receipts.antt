@@ -16,7 +16,7 @@ use Rattle.mq_handle.specs.declared.answers.ReceiveAnswer.TheVariants.{Message, 
 use Rattle.mq_handle.proofs.Decoding.{unpacked}
 use Rattle.mq_handle.proofs.Whole.{whole_is, left_is}
 use Rattle.mq_handle.proofs.Filling.{length-frame}
-use Rattle.mq_handle.proofs.Sends.{append_nothing, frames_more, fit_more, bytes_of_all, part_torn}
+use Rattle.mq_handle.proofs.SendTries.{append_nothing, frames_more, fit_more, bytes_of_all, part_torn}
 use Rattle.mq_handle.proofs.Hands.{length-bytes, hand_low, base_same}
 
 hand_torn : (max : ℕ) (base taken buffer : List ℕ) (words len : ℕ) (h : InHand max base taken buffer words len) → IsOpen words len → IsTorn max h.part

@@ -1,4 +1,4 @@
-pub mod Counts
+pub mod Distances
 pub mod SenderSteps
 pub mod ReceiverSteps
 pub mod Meetings

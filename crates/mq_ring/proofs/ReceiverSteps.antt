@@ -10,7 +10,7 @@ use Rattle.region_rule.specs.Steps.{Ruled}
 use Rattle.region_rule.specs.Tells.{TellsLookWritten, TellsTake, TellsGiveBack, TellsLeave, TellsFlag}
 use Rattle.region_rule.proofs.RingSteps.{look_written_allowed, take_allowed, give_back_allowed, receiver_leaves_allowed, receiver_flag_allowed}
 use Rattle.mq_ring.specs.Ends.{ReceivingEnd, receiving_end, rx_of, rx_told, IsReceiver}
-use Rattle.mq_ring.proofs.Counts.{in_region, place_is, behind}
+use Rattle.mq_ring.proofs.Distances.{in_region, place_is, behind}
 
 abbrev pub Mine : Type 0
 Mine = Me (Unit {0}) View

@@ -10,7 +10,7 @@ use Rattle.region_rule.specs.Steps.{Ruled}
 use Rattle.region_rule.specs.Tells.{TellsPut, TellsPublish, TellsLookRead, TellsLeave, TellsFlag}
 use Rattle.region_rule.proofs.RingSteps.{put_allowed, publish_allowed, look_read_allowed, sender_leaves_allowed, sender_flag_allowed}
 use Rattle.mq_ring.specs.Ends.{SendingEnd, sending_end, tx_of, tx_told, IsSender}
-use Rattle.mq_ring.proofs.Counts.{in_region, place_is}
+use Rattle.mq_ring.proofs.Distances.{in_region, place_is}
 
 abbrev pub Mine : Type 0
 Mine = Me (Unit {0}) View

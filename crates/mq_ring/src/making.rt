@@ -20,7 +20,7 @@ use std::marker::Brand;
 pub struct Ring;
 
 /// Whether a ring may have that many cells: a power of two, up to 2^20. At most 21 steps.
-#[tactic(auto, using(crate::proofs::Counts::power_few))]
+#[tactic(auto, using(crate::proofs::Distances::power_few))]
 pub fn is_ring_size(words: u64) -> bool
     ensures allowed { IsTrue result → (e : ℕ) × (words ≡ 2 ^ e) × (e ≤ 20) }
     ensures few { IsTrue result → words ≤ 2 ^ 20 }

@@ -1,6 +1,6 @@
 pub mod Members
 pub mod Rooms
-pub mod Steps
+pub mod Ways
 pub mod Turns
 pub mod Histories
 pub mod Calls

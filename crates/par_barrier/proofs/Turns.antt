@@ -9,7 +9,7 @@ use Rattle.par_barrier.specs.Parties.{is_among, without, are_among, next_phase, 
 use Rattle.par_barrier.specs.Legal.{BarrierLegal, Attaches, Arrives, Looks, Detaches}
 use Rattle.par_barrier.specs.Phases.{phase_told, is_detach}
 use Rattle.par_barrier.proofs.Members.{among-push, among-pushed, among-kept, among-without, among-first, both_are, and_true}
-use Rattle.par_barrier.proofs.Steps.{none_arrived}
+use Rattle.par_barrier.proofs.Ways.{none_arrived}
 
 -- who has arrived takes part
 abbrev pub IsSound : BarrierState → Type 0

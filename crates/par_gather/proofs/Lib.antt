@@ -1,4 +1,4 @@
 mod Complete
 mod Joins
 mod Rows
-mod Tables
+mod OneTable

@@ -1,5 +1,5 @@
 -- What the participants are given.
-use Rattle.agg_table.specs.Tokens.{IsHashSeat}
+use Rattle.agg_table.specs.Shown.{IsHashSeat}
 use Rattle.std.proofs.Common.{◌≡◌, ◌≤◌, ◌+◌, ◌++◌, ℕ, suc, List, [], ◌∷◌, length, map, refl, subst, sym, ap, ◌∙◌, append_assoc, arith}
 use Rattle.std.specs.List.{All, AllZip}
 use Rattle.std.proofs.lemmas.List.{map-append}

@@ -12,7 +12,7 @@ use Rattle.lock_book.specs.History.{calls_by}
 use Rattle.lock_book.specs.Shown.{mine_of, number_of}
 use Rattle.agg_table.specs.Calls.{AggEntry, Use}
 use Rattle.agg_table.specs.Ending.{AreSeats, IsClosed}
-use Rattle.agg_table.specs.Tokens.{IsHashSeat, IsPart, IsSeat, StaysSeated, callers_of, use_in}
+use Rattle.agg_table.specs.Shown.{IsHashSeat, IsPart, IsSeat, StaysSeated, callers_of, use_in}
 use Rattle.agg_table.specs.declared.part.HashPart.{HashPart}
 use Rattle.agg_table.specs.declared.part.HashSeat.{HashSeat}
 use Rattle.parallel_ctx.specs.Accounts.{IsUnusedTable, pages_by}

@@ -1,5 +1,5 @@
 -- What the caller learns once all tokens are home.
-use Rattle.agg_table.specs.Tokens.{use_in}
+use Rattle.agg_table.specs.Shown.{use_in}
 use Rattle.std.proofs.Common.{◌+◌, ◌≡◌, ◌&&◌, ◌==◌, ℕ, zero, suc, Bool, List, [], ◌∷◌, Option, MatchOption, true, false, length, map, All, refl, subst, sym, ap, ◌∙◌, arith}
 use Rattle.std.specs.List.{AllZip}
 use Rattle.std.proofs.lemmas.List.Elements.{All-head, All-tail}

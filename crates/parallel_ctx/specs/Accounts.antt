@@ -3,7 +3,7 @@
 use Rattle.std.specs.Prelude.{◌≡◌, ◌&&◌, ◌==◌, ℕ, zero, suc, Bool, List, [], ◌∷◌, Option, Some, None, length, option_map}
 use Rattle.agg_table.specs.Calls.{Use}
 use Rattle.dshash_parts.specs.Done.{PageEntry}
-use Rattle.agg_table.specs.Tokens.{use_in}
+use Rattle.agg_table.specs.Shown.{use_in}
 use Rattle.dsa_area.specs.Shown.{pages_mine}
 use Rattle.dsa_area.specs.declared.area.AreaPass.{AreaPass}
 use Rattle.dshash_parts.specs.Ending.{whole_of as history_of}

@@ -1,6 +1,6 @@
 -- A context while it is made.
 use Rattle.std.specs.Prelude.{◌≡◌, ◌≤◌, ◌+◌, ◌*◌, ◌&&◌, ℕ, zero, suc, Bool, true, false, cond, leb, List, [], ◌∷◌, Option, Some, None}
-use Rattle.agg_table.specs.Tokens.{AreUnusedSeats, IsPart, callers_of}
+use Rattle.agg_table.specs.Shown.{AreUnusedSeats, IsPart, callers_of}
 use Rattle.agg_table.specs.declared.part.HashPart.{HashPart}
 use Rattle.agg_table.specs.declared.part.HashSeat.{HashSeat}
 use Rattle.dsa_area.specs.Shown.{pages_of}

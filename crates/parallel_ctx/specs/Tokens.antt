@@ -1,7 +1,7 @@
 -- What a participant is given, and what stays of it.
 use Rattle.std.specs.Prelude.{◌≡◌, ◌≤◌, ℕ, suc, List, [], ◌∷◌, All, Option, Some, None, length, map, false, true, ⊤}
 use Rattle.std.specs.List.{AllZip}
-use Rattle.agg_table.specs.Tokens.{IsHashSeat, StaysSeated, callers_of as table_callers}
+use Rattle.agg_table.specs.Shown.{IsHashSeat, StaysSeated, callers_of as table_callers}
 use Rattle.agg_table.specs.declared.part.HashPart.{HashPart}
 use Rattle.atomic_table.specs.Seated.{TableId}
 use Rattle.mq_handle.specs.Receives.{Incoming}

@@ -4,7 +4,7 @@
 ghost use Rattle.std.specs.Prelude.{◌≡◌, ◌≤◌, ◌<◌, ◌+◌, ◌++◌, [], ◌∷◌, count_by, is_some, map, true, vec_capacity, vec_len, None, IfSome, IsSomeAnd, MatchOption};
 ghost use Rattle.std.specs.List.{AllZip};
 ghost use Rattle.agg_table.specs.Ending.{AreSeats, IsClosed};
-ghost use Rattle.agg_table.specs.Tokens.{IsPart};
+ghost use Rattle.agg_table.specs.Shown.{IsPart};
 ghost use Rattle.dshash_parts.specs.Ending.{IsOf, left_of, whole_of};
 ghost use Rattle.parallel_ctx.specs.Accounts.{heard, heard_of};
 ghost use Rattle.parallel_ctx.specs.Queues.{IsQueue};

@@ -2,7 +2,7 @@
 //! what it promises of its draws and its messages; `Context::run` gives these promises to its caller. They speak of
 //! lists alone, so what happens to an end after the call, as its detaching, does not touch them.
 
-ghost use Rattle.agg_table.specs.Tokens.{use_in};
+ghost use Rattle.agg_table.specs.Shown.{use_in};
 ghost use Rattle.std.specs.Prelude.{◌≡◌, map};
 ghost use Rattle.std.specs.List.{AllZip};
 ghost use Rattle.par_model.specs.Plan.{Plan};

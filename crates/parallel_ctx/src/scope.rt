@@ -1,6 +1,6 @@
 //! The scope in which the workers run beside the lead.
 
-ghost use Rattle.agg_table.specs.Tokens.{use_in};
+ghost use Rattle.agg_table.specs.Shown.{use_in};
 ghost use Rattle.std.specs.Prelude.{◌≡◌, All, map};
 ghost use Rattle.std.specs.List.{AllZip};
 ghost use Rattle.par_model.specs.Plan.{Plan};

@@ -15,7 +15,7 @@ use Rattle.partial_agg.specs.Rows.{IsAccepted, header_width}
 use Rattle.row_blocks.specs.Blocks.{block_rows}
 use Rattle.plan_answers.specs.Grouping.{NamesRefused}
 use Rattle.table_query.specs.Refused.{refused_in}
-use Rattle.table_query.proofs.Refusals.{refused_first}
+use Rattle.table_query.proofs.RefusedRows.{refused_first}
 
 -- a front, and what comes next
 pub take_on : {X : Type 0} (n m : ℕ) (xs : List X) → take n xs ++ take m (drop n xs) ≡ take (n + m) xs

@@ -31,7 +31,7 @@ use Rattle.plan_answers.specs.Stops.{Restates, RestatesGather}
 use Rattle.table_query.specs.declared.input.Ready.{Ready}
 use Rattle.table_query.specs.declared.stop.Stop.{Stop}
 use Rattle.table_query.proofs.Outcomes.{memory_explained, memory_first, plan_is, refused_explained, refused_first_stop}
-use Rattle.table_query.proofs.Refusals.{refused_first, refused_in-has}
+use Rattle.table_query.proofs.RefusedRows.{refused_first, refused_in-has}
 
 module _ (asked : Option Query) where
   pub table_text : (left : Option (List ℕ)) (r : Ready) (groups : List Group) (text : List ℕ) → IsReady asked left r → refused_in r.bound r.rows ≡ [] → IsGroupsText r groups text

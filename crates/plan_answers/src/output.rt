@@ -5,7 +5,7 @@ ghost use Rattle.std.specs.Prelude.{◌≡◌, ◌≢◌, ◌⊎◌, ℕ, List, 
 ghost use Rattle.std.specs.Io.KnownBytes.{Appends};
 ghost use Rattle.par_io.specs.Faults.{HasCause, Rose};
 ghost use Rattle.plan_answers.specs.Grouping.{ListsGroups};
-ghost use Rattle.result_text.specs.Parts.{joined};
+ghost use Rattle.result_text.specs.Pieces.{joined};
 ghost use Rattle.table_query.specs.Ready.{IsBound};
 ghost use Rattle.plan_answers.specs.Grouping.{IsGroupsText};
 ghost use Rattle.table_query.specs.declared.stop.Stop.TheVariants as stop;

@@ -1,8 +1,8 @@
 pub mod Allowed
-pub mod Columns
+pub mod ItemNames
 pub mod Fills
 pub mod Filters
-pub mod Lists
+pub mod Present
 pub mod Merges
 pub mod Numbers
 pub mod Padded

@@ -6,7 +6,7 @@ use Rattle.std.specs.Ordering.{nat_cmp, ordering_then}
 use Rattle.std.specs.declared.cmp.Ordering.{Ordering}
 use Rattle.std.specs.declared.cmp.Ordering.TheVariants.{Equal, Greater, Less}
 use Rattle.par_model.specs.Table.{columns_cmp}
-use Rattle.result_text.specs.Keys.{after_first_column, columns_in, first_column}
+use Rattle.result_text.specs.KeyColumns.{after_first_column, columns_in, first_column}
 
 -- where one column more is to be read
 pub columns_in-more : (count at : ℕ) (key : List ℕ) → at < count → columns_in (count - at) key ≡ first_column key ∷ columns_in (count - (at + 1)) (after_first_column key)

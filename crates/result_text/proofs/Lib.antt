@@ -1,7 +1,7 @@
 mod Answering
 mod Averages
 mod Columns
-mod Keys
+mod KeyColumns
 mod Occurring
 mod Small
 mod Sorting

@@ -9,8 +9,8 @@ use Rattle.std.specs.declared.alloc.AllocError.{AllocError}
 use Rattle.par_model.specs.Plan.{Plan}
 use Rattle.par_model.specs.Table.{table_text}
 use Rattle.partial_agg.specs.declared.groups.Group.{Group}
-use Rattle.result_text.specs.Order.{line_of}
-use Rattle.result_text.specs.Parts.{AreParts, joined, lines_text}
+use Rattle.result_text.specs.GroupOrder.{line_of}
+use Rattle.result_text.specs.Pieces.{AreParts, joined, lines_text}
 use Rattle.result_text.specs.Text.{Line, line_record, shown}
 use Rattle.result_text.specs.declared.order.GroupRef.{GroupRef}
 use Rattle.result_text.proofs.Tables.{table_text-append, table_text-nil}

@@ -17,13 +17,13 @@ use Rattle.par_model.specs.Named.{NamedPlan}
 use Rattle.par_model.specs.Plan.{Plan}
 use Rattle.par_model.specs.Table.{columns_cmp, table_header}
 use Rattle.partial_agg.specs.declared.groups.Group.{Group}
-use Rattle.result_text.specs.Keys.{columns_in}
-use Rattle.result_text.specs.Order.{group_of, is_before, line_of, state_in}
+use Rattle.result_text.specs.KeyColumns.{columns_in}
+use Rattle.result_text.specs.GroupOrder.{group_of, is_before, line_of, state_in}
 use Rattle.result_text.specs.Printable.{ArePrintable}
 use Rattle.result_text.specs.Text.{IsGroupsTable, Line, group_of_line, line_record, shown}
 use Rattle.result_text.specs.declared.order.GroupRef.{GroupRef}
 use Rattle.result_text.proofs.Columns.{columns_total}
-use Rattle.result_text.proofs.Keys.{encoded-columns_in}
+use Rattle.result_text.proofs.KeyColumns.{encoded-columns_in}
 
 -- of an order that is total: what is not before another and not equal to it comes after it
 after : {K : Type 0} (R : K → K → Ordering) → IsTotalOrder R → (x y : K) → is_lt (R y x) ≡ false → (R x y ≡ Equal → ⊥) → R x y ≡ Less

@@ -7,7 +7,7 @@ use Rattle.par_model.specs.Plan.{Plan}
 use Rattle.par_model.specs.Table.{table_text, values_text}
 use Rattle.par_model.specs.declared.state.AggState.{AggState}
 use Rattle.partial_agg.specs.State.{empty_state}
-use Rattle.result_text.specs.Keys.{columns_in}
+use Rattle.result_text.specs.KeyColumns.{columns_in}
 use Rattle.result_text.specs.Text.{Line, line_record, shown}
 
 pub table_text-nil : table_text [] ≡ []

@@ -6,7 +6,7 @@ use Rattle.par_model.specs.Named.{NamedPlan}
 use Rattle.par_model.specs.Plan.{Plan}
 use Rattle.par_model.specs.Table.{table_header, table_text}
 use Rattle.partial_agg.specs.declared.groups.Group.{Group}
-use Rattle.result_text.specs.Order.{group_of, is_before, line_of}
+use Rattle.result_text.specs.GroupOrder.{group_of, is_before, line_of}
 use Rattle.result_text.specs.Printable.{ArePrintable}
 use Rattle.result_text.specs.Text.{IsTextOf, line_record, shown}
 use Rattle.result_text.specs.declared.order.GroupRef.{GroupRef}

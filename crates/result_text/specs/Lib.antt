@@ -1,6 +1,6 @@
-pub mod Keys
+pub mod KeyColumns
 pub mod Printable
 pub mod Text
-pub mod Order
+pub mod GroupOrder
 pub mod Written
-pub mod Parts
+pub mod Pieces

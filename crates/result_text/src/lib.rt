@@ -11,7 +11,7 @@ ghost use Rattle.par_model.specs.Named.{bound_plan};
 ghost use Rattle.par_model.specs.Outcome.{IsAnswer};
 ghost use Rattle.partial_agg.specs.Groups.{AreGroups, GroupsByKey};
 ghost use Rattle.partial_agg.specs.Listed.{listed};
-ghost use Rattle.result_text.specs.Parts.{joined};
+ghost use Rattle.result_text.specs.Pieces.{joined};
 ghost use Rattle.result_text.specs.Printable.{ArePrintable, IsBoundFrom};
 ghost use Rattle.result_text.specs.Text.{IsTextOf};
 

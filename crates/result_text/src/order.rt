@@ -6,8 +6,8 @@
 ghost use Rattle.std.specs.Prelude.{◌≡◌, ◌<◌, ◌≤◌, All, IfOk, OnOk, length, map};
 ghost use Rattle.std.specs.List.Sorted.{IsPermutation, IsSortedBy};
 ghost use Rattle.par_model.specs.Table.{columns_cmp};
-ghost use Rattle.result_text.specs.Keys.{after_first_column, columns_in, first_column};
-ghost use Rattle.result_text.specs.Order.{group_of, is_before};
+ghost use Rattle.result_text.specs.KeyColumns.{after_first_column, columns_in, first_column};
+ghost use Rattle.result_text.specs.GroupOrder.{group_of, is_before};
 
 use partial_agg::Groups;
 use std::alloc::{AllocError, Global};

@@ -3,7 +3,7 @@
 //! that of its records one behind the other.
 
 ghost use Rattle.std.specs.Prelude.{◌≡◌, ◌∷◌, ◌<◌, All, IfOk, Ok, length, map};
-ghost use Rattle.result_text.specs.Parts.{AreParts, lines_text};
+ghost use Rattle.result_text.specs.Pieces.{AreParts, lines_text};
 ghost use Rattle.result_text.specs.Printable.{IsSmallSlot};
 
 use crate::order::GroupRef;

@@ -6,9 +6,9 @@ ghost use Rattle.std.specs.Prelude.{◌≡◌, ◌<◌, ◌++◌, [], All, IfOk,
 ghost use Rattle.csv.specs.Records.{fields_of};
 ghost use Rattle.csv.specs.Writing.{default_writer, row_text};
 ghost use Rattle.par_model.specs.Table.{table_header, table_text, values_text};
-ghost use Rattle.result_text.specs.Keys.{columns_in};
+ghost use Rattle.result_text.specs.KeyColumns.{columns_in};
 ghost use Rattle.result_text.specs.Printable.{IsBoundFrom, IsSmallSlot};
-ghost use Rattle.result_text.specs.Order.{line_of};
+ghost use Rattle.result_text.specs.GroupOrder.{line_of};
 ghost use Rattle.result_text.specs.Text.{line_record, shown};
 ghost use Rattle.result_text.specs.Written.{IsBetween, written};
 

@@ -3,7 +3,7 @@
 ghost use Rattle.std.specs.Prelude.{◌≡◌, ◌≤◌, ◌++◌, ◌∷◌, [], All, OnOk, length, map};
 ghost use Rattle.csv.specs.Records.{fields_of, partial_of};
 ghost use Rattle.par_model.specs.Table.{item_text, table_header, value_text, values_text};
-ghost use Rattle.result_text.specs.Keys.{columns_in};
+ghost use Rattle.result_text.specs.KeyColumns.{columns_in};
 ghost use Rattle.result_text.specs.Printable.{IsBoundFrom, IsSmallSlot};
 
 use crate::decimal::push_average;

@@ -12,7 +12,7 @@ use Rattle.csv_rows.specs.declared.place.Place.TheVariants as place
 use Rattle.row_windows.specs.Ends.{IsLastBelow, IsOpenEnd, NoneBelow}
 use Rattle.row_windows.specs.Seams.{is_line_end}
 use Rattle.row_windows.specs.Stretch.{between}
-use Rattle.row_windows.proofs.Places.{outside-on, quoted-on}
+use Rattle.row_windows.proofs.QuoteScans.{outside-on, quoted-on}
 
 pub is-quoted : (p : Place) → sameb the_type p place.Quoted ≡ true → p ≡ place.Quoted
 is-quoted place.Quoted h = refl

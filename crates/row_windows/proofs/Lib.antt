@@ -1,5 +1,5 @@
 pub mod Seams
-pub mod Places
+pub mod QuoteScans
 pub mod Stretches
 pub mod Later
 pub mod Cuts

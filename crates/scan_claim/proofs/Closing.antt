@@ -11,7 +11,7 @@ use Rattle.scan_claim.specs.declared.claims.ClaimSeat.{ClaimSeat}
 use Rattle.scan_claim.specs.Drawing.{late, flat, times, once_below, is_spent, IsDrawn}
 use Rattle.scan_claim.specs.Shown.{draws_of}
 use Rattle.scan_claim.proofs.Totals.{late-append}
-use Rattle.scan_claim.proofs.Moves.{one_list}
+use Rattle.scan_claim.proofs.CounterSteps.{one_list}
 
 pub lists_step : (all xs : List ClaimSeat) (x : ClaimSeat) (ls ks : List (List ℕ)) → all ≡ xs ++ x ∷ [] → ls ≡ x.seat.me.0.lists → length ls ≡ 1 → map draws_of xs ++ (ls ++ ks) ≡ map draws_of all ++ ks
 lists_step all xs x ls ks e is one =

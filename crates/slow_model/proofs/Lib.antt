@@ -1,6 +1,6 @@
-pub mod Groups
-pub mod Keys
+pub mod GroupRows
+pub mod KeyFields
 pub mod Places
 pub mod Refused
-pub mod Slots
+pub mod FilledSlots
 pub mod Worked

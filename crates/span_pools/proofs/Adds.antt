@@ -13,10 +13,10 @@ use Rattle.span_pools.specs.Places.{base, place, record_at, covers, IsLayout}
 use Rattle.span_pools.specs.Legal.{AllLive, HasFree, IsAdd}
 use Rattle.span_pools.specs.View.{mark_of, owns, first_word, state_of, IsRecordOf, HasRoom, IsMarked, IsAdmitted, IsPool}
 use Rattle.span_pools.specs.PoolView.{IsSuperblock}
-use Rattle.span_pools.proofs.Lists.{new_listed}
+use Rattle.span_pools.proofs.FreeLists.{new_listed}
 use Rattle.span_pools.proofs.Covers.{place_in, place_covers, no_common, in_object, other_object, size_small}
 use Rattle.span_pools.proofs.Shapes.{shape_added, records_added}
-use Rattle.span_pools.proofs.Steps.{union_keys, union_else, union_has}
+use Rattle.span_pools.proofs.RecordStores.{union_keys, union_else, union_has}
 use Rattle.span_pools.proofs.Views.{seen_there, seen_none}
 use Rattle.span_pools.proofs.Pools.{no_bool, book_same, rest_keys, no_room, seen_same, settled_now}
 

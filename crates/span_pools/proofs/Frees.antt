@@ -12,10 +12,10 @@ use Rattle.span_pools.specs.Places.{base, place, record_at, covers, IsLayout}
 use Rattle.span_pools.specs.Shape.{IsShape}
 use Rattle.span_pools.specs.Legal.{PoolState, object_in, IsFreed, IsEmptied, IsStranger}
 use Rattle.span_pools.specs.View.{mark_of, owns, first_word, state_of, IsRecordOf, IsMarked, IsPutBack, IsReleased, IsPool}
-use Rattle.span_pools.proofs.Lists.{has_live, room_most, rest_free}
+use Rattle.span_pools.proofs.FreeLists.{has_live, room_most, rest_free}
 use Rattle.span_pools.proofs.Covers.{place_in, place_covers, no_common, in_object, other_object, parted}
 use Rattle.span_pools.proofs.Shapes.{shape_more, shape_given, shape_whole, records_given}
-use Rattle.span_pools.proofs.Steps.{union_any, union_keys, union_else, apart_none}
+use Rattle.span_pools.proofs.RecordStores.{union_any, union_keys, union_else, apart_none}
 use Rattle.span_pools.proofs.Views.{seen_there, seen_past, seen_none}
 use Rattle.span_pools.proofs.Pools.{no_bool, book_same, records_same, rest_keys, seen_same, settled_now, elsewhere, record_apart}
 

@@ -1,14 +1,14 @@
 pub mod Counts
-pub mod Lists
+pub mod FreeLists
 pub mod Covers
 pub mod Shapes
 pub mod Bits
 pub mod Views
 pub mod Fits
-pub mod Steps
+pub mod RecordStores
 pub mod Pools
 pub mod Adds
 pub mod Empty
 pub mod Frees
 pub mod Offers
-pub mod Totals
+pub mod FreeCounts

@@ -12,7 +12,7 @@ use Rattle.span_pools.specs.Places.{place, record_at, IsLayout}
 use Rattle.span_pools.specs.Shape.{IsShape, IsRecords}
 use Rattle.span_pools.specs.Legal.{object_in, AllLive, HasFree, IsSettled, IsAlloc}
 use Rattle.span_pools.specs.View.{mark_of, owns, first_word, live_of, state_of, IsRecordOf, HasRoom, IsTakenOut, IsPool}
-use Rattle.span_pools.proofs.Lists.{listed_same, each_live, has_free}
+use Rattle.span_pools.proofs.FreeLists.{listed_same, each_live, has_free}
 use Rattle.span_pools.proofs.Covers.{place_in, place_positive, place_covers, no_common, in_object, other_object, parted}
 use Rattle.span_pools.proofs.Shapes.{shape_less, object_owned}
 use Rattle.span_pools.proofs.Views.{seen_there, seen_past, seen_none, of_seen, spans_apart, flags_length}

@@ -1,2 +1,2 @@
-pub mod Shares
-pub mod Parts
+pub mod RowShares
+pub mod KeyParts

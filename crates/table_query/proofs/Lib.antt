@@ -1,4 +1,4 @@
 pub mod Inputs
 pub mod Outcomes
-pub mod Refusals
+pub mod RefusedRows
 pub mod Statuses

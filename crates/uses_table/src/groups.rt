@@ -2,7 +2,7 @@
 
 ghost use Rattle.std.specs.Prelude.{◌≡◌, ◌≤◌, [], IfOk, List, OnOk};
 ghost use Rattle.agg_table.specs.Calls.{Group, HasPut};
-ghost use Rattle.agg_table.specs.Tokens.{AreUnusedSeats, IsPart, IsSeat, IsUnusedBy, callers_of, number_at, use_of};
+ghost use Rattle.agg_table.specs.Shown.{AreUnusedSeats, IsPart, IsSeat, IsUnusedBy, callers_of, number_at, use_of};
 
 use agg_table::{HashPart, HashSeat, drain, open};
 use dsa_area::area_words;

@@ -3,7 +3,7 @@ use Rattle.std.proofs.Common.{◌≡◌, ◌<◌, ◌++◌, ◌⊎◌, inl, inr,
 use Rattle.std.specs.FinMap as map
 use Rattle.std.specs.List.{AllByRecursion}
 use Rattle.agg_table.specs.Calls.{Use}
-use Rattle.agg_table.specs.Tokens.{IsHashSeat, use_in, use_of}
+use Rattle.agg_table.specs.Shown.{IsHashSeat, use_in, use_of}
 use Rattle.agg_table.specs.declared.part.HashPart.{HashPart}
 use Rattle.agg_table.specs.declared.part.HashSeat.{HashSeat}
 use Rattle.atomic_table.specs.Seated.{TableId}

@@ -1,6 +1,6 @@
 -- A participant's passes of the table of groups stay in their places.
 use Rattle.std.proofs.Common.{ℕ, Option, Some, None}
-use Rattle.agg_table.specs.Tokens.{IsHashSeat, StaysSeated}
+use Rattle.agg_table.specs.Shown.{IsHashSeat, StaysSeated}
 use Rattle.agg_table.specs.declared.part.HashPart.{HashPart}
 use Rattle.agg_table.specs.declared.part.HashSeat.{HashSeat}
 use Rattle.agg_table.proofs.Seats.{grew_itself, grew_through}

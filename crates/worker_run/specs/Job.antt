@@ -1,6 +1,6 @@
 -- A participant of a query: what it works on, and what it holds while it works.
 use Rattle.std.specs.Prelude.{◌≡◌, ◌≤◌, ◌++◌, ◌⊎◌, ◌∷◌, [], ℕ, List, Option, Some, None}
-use Rattle.agg_table.specs.Tokens.{IsPart, IsSeat}
+use Rattle.agg_table.specs.Shown.{IsPart, IsSeat}
 use Rattle.agg_table.specs.declared.part.HashPart.{HashPart}
 use Rattle.agg_table.specs.declared.part.HashSeat.{HashSeat}
 use Rattle.atomic_table.specs.Seated.{TableId}

@@ -11,7 +11,7 @@
 #![tactic(auto)]
 
 ghost use Rattle.std.specs.Prelude.{◌≡◌, [], true};
-ghost use Rattle.agg_table.specs.Tokens.{IsHashSeat, StaysSeated, use_in};
+ghost use Rattle.agg_table.specs.Shown.{IsHashSeat, StaysSeated, use_in};
 ghost use Rattle.par_model.specs.Columns.{HasColumns};
 ghost use Rattle.par_model.specs.Plan.{Plan};
 ghost use Rattle.partial_agg.specs.Rows.{header_width};

@@ -4,7 +4,7 @@
 ghost use Rattle.std.specs.Prelude.{◌≡◌, ◌≤◌, MatchBool};
 ghost use Rattle.std.specs.FinMap as map;
 ghost use Rattle.std.specs.List.{AllByRecursion};
-ghost use Rattle.agg_table.specs.Tokens.{Grew, IsPart, IsSeat, use_of};
+ghost use Rattle.agg_table.specs.Shown.{Grew, IsPart, IsSeat, use_of};
 ghost use Rattle.worker_run.specs.Sent.{HasZeros, IsReady, StoppedSending};
 ghost use Rattle.worker_run.specs.Tabled.{GivesGroup, GivesGroups};
 

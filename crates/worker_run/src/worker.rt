@@ -5,7 +5,7 @@
 ghost use Rattle.std.specs.Prelude.{◌≡◌, ◌<◌, ◌≤◌, ◌⊎◌, true, IfNone, IfSome, MatchBool, length};
 ghost use Rattle.std.specs.FinMap as map;
 ghost use Rattle.std.specs.List.{AllByRecursion};
-ghost use Rattle.agg_table.specs.Tokens.{IsHashSeat, StaysSeated, use_in};
+ghost use Rattle.agg_table.specs.Shown.{IsHashSeat, StaysSeated, use_in};
 ghost use Rattle.scan_claim.specs.Shown.{blocks_of, draws_of};
 ghost use Rattle.worker_run.specs.Ended.{sends_of};
 ghost use Rattle.worker_run.specs.Job.{AreFreshHands, AreHands, IsJob, IsSeated, KeepsHands};

@@ -11,7 +11,7 @@ use Rattle.table_query.specs.Stops.{IsExplained}
 use Rattle.table_query.specs.declared.stop.Stop.TheVariants as stop
 use Rattle.merge_answers.proofs.Ordering.{merge_explained, merge_first, merged_written, orders_rows, rows_part}
 use Rattle.table_query.proofs.Outcomes.{no_workers, unwritten_explained}
-use Rattle.table_query.proofs.Refusals.{refused_in-none}
+use Rattle.table_query.proofs.RefusedRows.{refused_in-none}
 use Rattle.merge_answers.proofs.answer_merge.Goals as goal
 
 pub merge-requires-clause-plan : goal.merge-requires-clause-plan

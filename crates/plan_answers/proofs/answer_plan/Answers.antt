@@ -10,7 +10,7 @@ use Rattle.table_query.specs.Stops.{IsExplained}
 use Rattle.table_query.specs.declared.stop.Stop.TheVariants as stop
 use Rattle.plan_answers.proofs.Tables.{gather_explained, gather_first, made_written, part_written}
 use Rattle.table_query.proofs.Outcomes.{no_workers, unwritten_explained}
-use Rattle.table_query.proofs.Refusals.{refused_in-none}
+use Rattle.table_query.proofs.RefusedRows.{refused_in-none}
 use Rattle.plan_answers.proofs.answer_plan.Goals as goal
 
 pub returns-in-Err-clause-why : goal.returns-in-Err-clause-why

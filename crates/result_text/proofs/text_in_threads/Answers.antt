@@ -6,8 +6,8 @@ use Rattle.std.specs.declared.alloc.AllocError.{AllocError}
 use Rattle.par_model.specs.Outcome.{IsAnswer}
 use Rattle.par_model.specs.Plan.{Plan}
 use Rattle.par_model.specs.Table.{table_text}
-use Rattle.result_text.specs.Order.{is_before, line_of}
-use Rattle.result_text.specs.Parts.{AreParts}
+use Rattle.result_text.specs.GroupOrder.{is_before, line_of}
+use Rattle.result_text.specs.Pieces.{AreParts}
 use Rattle.result_text.specs.Text.{IsTextOf, Line, line_record, shown}
 use Rattle.result_text.specs.Written.{written}
 use Rattle.result_text.specs.declared.order.GroupRef.{GroupRef}

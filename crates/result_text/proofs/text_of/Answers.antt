@@ -3,7 +3,7 @@ use Rattle.std.proofs.lemmas.Result.{IfOk-weaker}
 use Rattle.std.specs.List.Sorted.{IsSortedBy}
 use Rattle.par_model.specs.Plan.{Plan}
 use Rattle.par_model.specs.Table.{table_text}
-use Rattle.result_text.specs.Order.{is_before, line_of}
+use Rattle.result_text.specs.GroupOrder.{is_before, line_of}
 use Rattle.result_text.specs.Text.{line_record, shown}
 use Rattle.result_text.specs.Written.{written}
 use Rattle.result_text.specs.declared.order.GroupRef.{GroupRef}

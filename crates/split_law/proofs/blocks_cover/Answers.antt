@@ -1,4 +1,4 @@
-use Rattle.split_law.proofs.Shares.{blocks_cover}
+use Rattle.split_law.proofs.RowShares.{blocks_cover}
 use Rattle.split_law.proofs.blocks_cover.Goals as goal
 
 pub returns : goal.returns

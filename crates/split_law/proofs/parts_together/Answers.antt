@@ -1,4 +1,4 @@
-use Rattle.split_law.proofs.Parts.{parts_together}
+use Rattle.split_law.proofs.KeyParts.{parts_together}
 use Rattle.split_law.proofs.parts_together.Goals as goal
 
 pub returns : goal.returns

@@ -1,4 +1,4 @@
-use Rattle.split_law.proofs.Shares.{shares_begin}
+use Rattle.split_law.proofs.RowShares.{shares_begin}
 use Rattle.split_law.proofs.shares_begin.Goals as goal
 
 pub returns : goal.returns

@@ -1,4 +1,4 @@
-use Rattle.split_law.proofs.Shares.{shares_grow}
+use Rattle.split_law.proofs.RowShares.{shares_grow}
 use Rattle.split_law.proofs.shares_grow.Goals as goal
 
 pub returns : goal.returns

@@ -1,4 +1,4 @@
-use Rattle.split_law.proofs.Shares.{shares_join}
+use Rattle.split_law.proofs.RowShares.{shares_join}
 use Rattle.split_law.proofs.shares_join.Goals as goal
 
 pub returns : goal.returns

@@ -5,7 +5,7 @@ use Rattle.par_model.specs.Plan.{Plan}
 use Rattle.partial_agg.specs.Rows.{header_width}
 use Rattle.ring_rule.specs.Ends.{publishes, sender_leaves}
 use Rattle.scan_claim.specs.Shown.{blocks_of, draws_of}
-use Rattle.agg_table.specs.Tokens.{use_in}
+use Rattle.agg_table.specs.Shown.{use_in}
 use Rattle.worker_run.specs.Ended.{sends_of}
 use Rattle.worker_run.specs.Tabled.{EndsWith}
 use Rattle.worker_run.proofs.work.Goals as goal

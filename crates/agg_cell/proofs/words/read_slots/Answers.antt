@@ -1,7 +1,7 @@
 use Rattle.std.proofs.Common.{arith}
 use Rattle.std.proofs.lemmas.List.FromFn.{fill_by_all}
 use Rattle.par_model.specs.Aggregate.{no_values}
-use Rattle.agg_cell.specs.Words.{slot_at, slot_start}
+use Rattle.agg_cell.specs.StateWords.{slot_at, slot_start}
 use Rattle.agg_cell.proofs.words.read_slots.Goals as goal
 
 pub returns : goal.returns

@@ -1,6 +1,6 @@
 use Rattle.std.proofs.Common.{◌≡◌, ◌<◌, ℕ, get_or, length}
 use Rattle.par_model.specs.Aggregate.{no_values}
-use Rattle.agg_cell.specs.Words.{slot_at, slot_start}
+use Rattle.agg_cell.specs.StateWords.{slot_at, slot_start}
 use Rattle.agg_cell.proofs.words.read_slots.Given as goal
 
 abbrev pub invariant-loop-i : goal.invariant-loop-i

@@ -2,7 +2,7 @@ use Rattle.std.proofs.Common.{◌∙◌, sym, arith, take}
 use Rattle.std.proofs.lemmas.List.{take_all}
 use Rattle.std.proofs.lemmas.List.Elements.{All-more, All-same, recursion_from_All}
 use Rattle.par_model.specs.Aggregate.{no_values}
-use Rattle.agg_cell.specs.Words.{IsSlot}
+use Rattle.agg_cell.specs.StateWords.{IsSlot}
 use Rattle.agg_cell.proofs.Written.{written_more}
 use Rattle.agg_cell.proofs.words.write_slots.Goals as goal
 

@@ -1,6 +1,6 @@
 use Rattle.std.proofs.Common.{◌≡◌, ◌*◌, All, length, map, take}
 use Rattle.std.specs.List.{concat}
-use Rattle.agg_cell.specs.Words.{IsSlot, slot_words}
+use Rattle.agg_cell.specs.StateWords.{IsSlot, slot_words}
 use Rattle.agg_cell.proofs.words.write_slots.Given as goal
 
 abbrev pub invariant-loop-i : goal.invariant-loop-i

@@ -1,7 +1,7 @@
 use Rattle.std.proofs.Common.{◌≡◌, List, [], ◌∷◌, ◌++◌, refl, ap, ◌∙◌}
 use Rattle.std.proofs.lemmas.List.{append_assoc}
 use Rattle.dsa_area.specs.declared.area.AreaPass.{AreaPass}
-use Rattle.dsa_area.proofs.Endings.{last_pages, last_pools, pass_here, pages_before, pools_before}
+use Rattle.dsa_area.proofs.Popped.{last_pages, last_pools, pass_here, pages_before, pools_before}
 use Rattle.dsa_area.proofs.close.join_passes.Goals as goal
 
 -- one more pass was taken from those that are left

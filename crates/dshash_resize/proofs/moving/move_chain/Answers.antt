@@ -1,6 +1,6 @@
 use Rattle.std.proofs.Common.{◌<◌, ℕ, length, sym, subst}
 use Rattle.dshash_core.specs.Hung.{Layout, IsItemChunk}
-use Rattle.dshash_resize.proofs.Steps.{new_here, has_room, moved_on, still_empty, layout_is}
+use Rattle.dshash_resize.proofs.MoveSteps.{new_here, has_room, moved_on, still_empty, layout_is}
 use Rattle.dshash_resize.proofs.moving.move_chain.Goals as goal
 
 pub take_in-requires-clause-item : goal.take_in-requires-clause-item

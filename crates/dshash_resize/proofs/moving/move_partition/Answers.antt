@@ -1,7 +1,7 @@
 use Rattle.std.proofs.Common.{ℕ, arith, ap, sym, subst, ◌∙◌}
 use Rattle.std.specs.FinMap as fin
 use Rattle.dshash_core.specs.Cells.{PartitionView, IsRoomy}
-use Rattle.dshash_resize.proofs.Steps.{begins, ends, grows}
+use Rattle.dshash_resize.proofs.MoveSteps.{begins, ends, grows}
 use Rattle.dshash_resize.proofs.moving.move_partition.Goals as goal
 
 pub move_chain-requires-clause-moving : goal.move_chain-requires-clause-moving

@@ -2,7 +2,7 @@ use Rattle.std.proofs.Common.{◌≡◌, ◌<◌, ◌%◌, ◌∙◌, ℕ, get_o
 use Rattle.std.specs.Ordering.{is_ne, nat_cmp}
 use Rattle.std.specs.declared.cmp.Ordering.{Ordering}
 use Rattle.gather_merge.specs.Order.{columns_at}
-use Rattle.gather_merge.specs.Words.{tail_cmp}
+use Rattle.gather_merge.specs.RowWords.{tail_cmp}
 use Rattle.gather_merge.proofs.Compared.{by_tail, tied_numbers, words_decide, words_tie}
 use Rattle.gather_merge.proofs.comparing.compare.Goals.{else-is_whole, then-is_whole}
 use Rattle.gather_merge.proofs.comparing.compare.Goals as goal

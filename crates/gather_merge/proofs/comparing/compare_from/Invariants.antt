@@ -1,6 +1,6 @@
 use Rattle.std.proofs.Common.{◌≡◌}
 use Rattle.gather_merge.specs.Order.{columns_at}
-use Rattle.gather_merge.specs.Words.{tail_cmp}
+use Rattle.gather_merge.specs.RowWords.{tail_cmp}
 use Rattle.gather_merge.proofs.comparing.compare_from.Given as goal
 
 abbrev pub invariant-loop-at : goal.invariant-loop-at

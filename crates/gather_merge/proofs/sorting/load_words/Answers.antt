@@ -3,7 +3,7 @@ use Rattle.std.proofs.lemmas.List.{take_all}
 use Rattle.gather_merge.specs.declared.sorting.Keyed.{Keyed}
 use Rattle.gather_merge.specs.Levels.{IsWorded}
 use Rattle.gather_merge.specs.Order.{columns_at}
-use Rattle.gather_merge.specs.Words.{AreBytes, word}
+use Rattle.gather_merge.specs.RowWords.{AreBytes, word}
 use Rattle.gather_merge.proofs.Loading.{all_set, rows_set}
 use Rattle.gather_merge.proofs.Runs.{none}
 use Rattle.gather_merge.proofs.sorting.load_words.Goals as goal

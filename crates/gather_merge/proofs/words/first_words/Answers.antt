@@ -1,6 +1,6 @@
 use Rattle.std.proofs.Common.{◌≡◌, ◌∙◌, ◌++◌, ◌∷◌, ◌+◌, [], ap, arith, rules, subst, sym}
 use Rattle.gather_merge.specs.Order.{columns_at}
-use Rattle.gather_merge.specs.Words.{AreBytes, word}
+use Rattle.gather_merge.specs.RowWords.{AreBytes, word}
 use Rattle.gather_merge.proofs.Loading.{AreWordsBelow, words_all, words_more}
 use Rattle.gather_merge.proofs.words.first_words.Goals as goal
 

@@ -1,5 +1,5 @@
 use Rattle.std.proofs.Common.{◌≡◌, ◌∙◌, ap, ap₂, ◌+◌, ◌*◌, arith, sym}
-use Rattle.gather_merge.specs.Words.{AreBytes, chunk}
+use Rattle.gather_merge.specs.RowWords.{AreBytes, chunk}
 use Rattle.gather_merge.proofs.Chunks.{chunk_more, word_is, word_room}
 use Rattle.gather_merge.proofs.words.word_of.Goals as goal
 

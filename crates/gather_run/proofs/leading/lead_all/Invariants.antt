@@ -1,7 +1,7 @@
 use Rattle.std.proofs.Common.{◌≡◌, map}
 use Rattle.std.specs.FinMap as fin
 use Rattle.std.specs.List.{All, AllZip}
-use Rattle.agg_table.specs.Tokens.{StaysSeated, use_in}
+use Rattle.agg_table.specs.Shown.{StaysSeated, use_in}
 use Rattle.parallel_ctx.specs.Tokens.{SameQueues}
 use Rattle.scan_claim.specs.Shown.{Belongs, draws_of, number_of}
 use Rattle.worker_run.specs.Job.{IsSeated}

@@ -1,11 +1,11 @@
 use Rattle.std.proofs.Common.{arith, subst, sym}
-use Rattle.agg_table.specs.Tokens.{use_in}
+use Rattle.agg_table.specs.Shown.{use_in}
 use Rattle.scan_claim.specs.Shown.{blocks_of, draws_of}
 use Rattle.worker_run.proofs.Ends.{refused_row}
 use Rattle.gather_run.specs.Leading.{IsLeading}
 use Rattle.gather_run.specs.Sharing.{StopsAt}
 use Rattle.gather_run.specs.Did.{Answers}
-use Rattle.gather_run.specs.Steps.{BlockStep}
+use Rattle.gather_run.specs.BlockSteps.{BlockStep}
 use Rattle.gather_run.specs.declared.GatherAnswer.{GatherAnswer}
 use Rattle.gather_run.specs.declared.leading.Step.TheVariants.{Failed}
 use Rattle.partial_agg.specs.declared.map.BlockAnswer.{BlockAnswer}

@@ -1,5 +1,5 @@
 use Rattle.std.proofs.Common.{map}
-use Rattle.agg_table.specs.Tokens.{use_in}
+use Rattle.agg_table.specs.Shown.{use_in}
 use Rattle.scan_claim.specs.Shown.{draws_of}
 use Rattle.gather_run.specs.Looks.{StaysLeading, tuples_of}
 use Rattle.gather_run.proofs.Looking.{step_of}

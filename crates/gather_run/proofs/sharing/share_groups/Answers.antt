@@ -1,4 +1,4 @@
-use Rattle.agg_table.specs.Tokens.{use_of}
+use Rattle.agg_table.specs.Shown.{use_of}
 use Rattle.agg_table.proofs.Seats.{grew_itself, grew_through}
 use Rattle.gather_run.proofs.Shares.{sharing-end, sharing-start, sharing-step}
 use Rattle.gather_run.proofs.sharing.share_groups.Goals as goal

@@ -1,4 +1,4 @@
-use Rattle.agg_table.specs.Tokens.{Grew, IsSeat, use_of}
+use Rattle.agg_table.specs.Shown.{Grew, IsSeat, use_of}
 use Rattle.gather_run.proofs.Shares.{IsSharing}
 use Rattle.gather_run.proofs.sharing.share_groups.Given as goal
 

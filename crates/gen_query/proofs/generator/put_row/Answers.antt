@@ -1,5 +1,5 @@
 use Rattle.std.proofs.Common.{◌∙◌, ℤ, ap, of_z, to_z, w64}
-use Rattle.gen_query.proofs.Rows.{value_kept}
+use Rattle.gen_query.proofs.NumberRows.{value_kept}
 use Rattle.gen_query.proofs.Steps.{row_put}
 use Rattle.gen_query.proofs.generator.put_row.Goals as goal
 

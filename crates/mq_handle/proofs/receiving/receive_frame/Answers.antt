@@ -9,7 +9,7 @@ use Rattle.mq_handle.specs.Taking.{InHand, before_of}
 use Rattle.mq_handle.specs.declared.answers.ReceiveAnswer.TheVariants.{Message, WouldBlock, Detached}
 use Rattle.mq_handle.specs.ReceiveAnswers.{HasPlace, steps_beside}
 use Rattle.mq_handle.proofs.Hands.{Grows, hand_low}
-use Rattle.mq_handle.proofs.Sends.{chosen_true, chosen_false}
+use Rattle.mq_handle.proofs.SendTries.{chosen_true, chosen_false}
 use Rattle.mq_handle.proofs.Receipts.{came, same_whole, gives_on, received_is, few_words, finds_same, finds_ring, hand_same}
 use Rattle.mq_handle.proofs.receiving.receive_frame.Goals as goal
 

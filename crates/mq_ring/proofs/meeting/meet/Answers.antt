@@ -1,6 +1,6 @@
 use Rattle.std.proofs.Common.{ap, sym, ◌∙◌, arith}
 use Rattle.mq_ring.specs.Ends.{SendingEnd, ReceivingEnd}
-use Rattle.mq_ring.proofs.Counts.{in_region}
+use Rattle.mq_ring.proofs.Distances.{in_region}
 use Rattle.mq_ring.proofs.Meetings.{join_allows, joined, load_allows, told, part_allows}
 use Rattle.mq_ring.proofs.meeting.meet.Goals as goal
 

@@ -1,5 +1,5 @@
 use Rattle.std.proofs.Common.{ap, ◌+◌}
-use Rattle.mq_ring.proofs.Counts.{masked}
+use Rattle.mq_ring.proofs.Distances.{masked}
 use Rattle.mq_ring.proofs.place.place_at.Goals as goal
 
 pub returns : goal.returns

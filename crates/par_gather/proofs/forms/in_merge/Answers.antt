@@ -8,7 +8,7 @@ use Rattle.table_query.proofs.Statuses.{is_read_fault, is_status, is_write_fault
 use Rattle.par_gather.specs.Answers.{Answers, IsLine}
 use Rattle.par_gather.specs.Query.{OfTable}
 use Rattle.par_gather.specs.declared.Ran.TheVariants as ran
-use Rattle.par_gather.proofs.Tables.{answered, said, stopped}
+use Rattle.par_gather.proofs.OneTable.{answered, said, stopped}
 use Rattle.par_gather.proofs.forms.in_merge.Goals as goal
 
 pub returns-in-Ok-clause-answers : goal.returns-in-Ok-clause-answers

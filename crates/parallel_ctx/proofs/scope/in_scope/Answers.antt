@@ -1,4 +1,4 @@
-use Rattle.agg_table.specs.Tokens.{use_in}
+use Rattle.agg_table.specs.Shown.{use_in}
 use Rattle.std.proofs.Common.{◌≡◌, length, arith}
 use Rattle.parallel_ctx.specs.Returns.{Carries}
 use Rattle.parallel_ctx.proofs.Zips.{AllZip-length}

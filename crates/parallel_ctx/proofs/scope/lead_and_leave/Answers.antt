@@ -1,4 +1,4 @@
-use Rattle.agg_table.specs.Tokens.{use_in}
+use Rattle.agg_table.specs.Shown.{use_in}
 use Rattle.std.proofs.Common.{subst, sym, List}
 use Rattle.scan_claim.specs.Shown.{blocks_of, draws_of}
 use Rattle.parallel_ctx.specs.Accounts.{Heard}

@@ -6,7 +6,7 @@ use Rattle.partial_agg.specs.Groups.{AreGroups}
 use Rattle.partial_agg.specs.Rows.{IsAccepted, header_width}
 use Rattle.row_blocks.specs.Blocks.{block_rows}
 use Rattle.plan_answers.proofs.Blocks.{NamesRefused-stopped, block_more}
-use Rattle.table_query.proofs.Refusals.{refused_in-none}
+use Rattle.table_query.proofs.RefusedRows.{refused_in-none}
 use Rattle.plan_answers.proofs.groups.groups_of.Goals as goal
 
 pub loop-block-init : goal.loop-block-init

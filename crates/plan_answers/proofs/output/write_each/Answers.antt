@@ -3,7 +3,7 @@ use Rattle.std.proofs.KnownBytes.{Appends-trans}
 use Rattle.std.specs.Global.{Vec}
 use Rattle.std.specs.Io.KnownBytes.{Appends}
 use Rattle.query_answer.proofs.Pieces.{pieces_front, pieces_more}
-use Rattle.result_text.specs.Parts.{joined}
+use Rattle.result_text.specs.Pieces.{joined}
 use Rattle.plan_answers.proofs.output.write_each.Goals as goal
 
 abbrev bytes_of : Vec ℕ → List ℕ

@@ -1,6 +1,6 @@
 use Rattle.std.proofs.Common.{◌≤◌, take}
 use Rattle.std.specs.Io.KnownBytes.{Appends}
-use Rattle.result_text.specs.Parts.{joined}
+use Rattle.result_text.specs.Pieces.{joined}
 use Rattle.plan_answers.proofs.output.write_each.Given as goal
 
 -- the sink has the pieces so far

@@ -5,7 +5,7 @@ use Rattle.std.specs.Prelude.{None, Some, is_none}
 use Rattle.csv_rows.specs.Records.{record_at}
 use Rattle.par_model.specs.Named.{bound_column, column_of}
 use Rattle.plan_spec.proofs.Fills.{filled-more}
-use Rattle.plan_spec.proofs.Lists.{get-map}
+use Rattle.plan_spec.proofs.Present.{get-map}
 use Rattle.plan_spec.proofs.Places.{place-here, place-more}
 use Rattle.plan_spec.proofs.bind.bind_groups.Goals as goal
 

@@ -7,7 +7,7 @@ use Rattle.par_model.specs.Columns.{reads_column}
 use Rattle.par_model.specs.Named.{bound_item, column_of}
 use Rattle.par_model.specs.PlanLayout.{unused}
 use Rattle.plan_spec.proofs.Fills.{filled-more}
-use Rattle.plan_spec.proofs.Lists.{filter_map-split, filter_map-take}
+use Rattle.plan_spec.proofs.Present.{filter_map-split, filter_map-take}
 use Rattle.plan_spec.proofs.Places.{place-first, place-next, place-next-none}
 use Rattle.plan_spec.proofs.bind.bind_items.Goals as goal
 

@@ -5,7 +5,7 @@ use Rattle.std.specs.Prelude.{◌==◌, Err}
 use Rattle.std.specs.Result.{is_ok}
 use Rattle.plan_spec.specs.Grammar.{all_some, item_in}
 use Rattle.plan_spec.specs.declared.plan.PlanAnswer.TheVariants as answer
-use Rattle.plan_spec.proofs.Lists.{if-none, more-read, none-read}
+use Rattle.plan_spec.proofs.Present.{if-none, more-read, none-read}
 use Rattle.plan_spec.proofs.grammar.items.Goals as goal
 
 pub returns-in-Err-clause-none : goal.returns-in-Err-clause-none

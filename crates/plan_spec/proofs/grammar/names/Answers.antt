@@ -2,7 +2,7 @@ use Rattle.std.proofs.Common.{◌≡◌, ◌<◌, ◌≤◌, ◌∙◌, arith, f
 use Rattle.std.proofs.lemmas.List.{length-map}
 use Rattle.std.specs.Prelude.{◌==◌, not}
 use Rattle.std.specs.List.{list_any}
-use Rattle.plan_spec.proofs.Lists.{all-there, any-map, has-empty, too-many}
+use Rattle.plan_spec.proofs.Present.{all-there, any-map, has-empty, too-many}
 use Rattle.plan_spec.proofs.grammar.names.Goals as goal
 
 pub returns-then-len-gt8-clause-none : goal.returns-then-len-gt8-clause-none

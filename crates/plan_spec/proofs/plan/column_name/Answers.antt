@@ -1,6 +1,6 @@
 use Rattle.std.proofs.Common.{◌≡◌, Some, None, suc, string_bytes, refl, arith}
 use Rattle.std.specs.Prelude.{option_map, option_to_list}
-use Rattle.plan_spec.proofs.Columns.{drop-none, drop-some}
+use Rattle.plan_spec.proofs.ItemNames.{drop-none, drop-some}
 use Rattle.plan_spec.proofs.plan.column_name.Goals.{in-None, in-Some-2}
 use Rattle.plan_spec.proofs.plan.column_name.Goals as goal
 

@@ -5,7 +5,7 @@ use Rattle.std.proofs.lemmas.Option.{get_or_from_slice_get}
 use Rattle.std.specs.List.{slice_get}
 use Rattle.partial_agg.specs.State.{empty_state}
 use Rattle.partial_agg.specs.declared.groups.Group.{Group}
-use Rattle.result_text.specs.Order.{group_of}
+use Rattle.result_text.specs.GroupOrder.{group_of}
 use Rattle.result_text.specs.declared.order.GroupRef.{GroupRef}
 use Rattle.result_text.proofs.order.as_they_are.Goals as goal
 

@@ -1,5 +1,5 @@
 use Rattle.std.proofs.Common.{◌≡◌, ◌<◌, ◌≤◌, All, length, map, take}
-use Rattle.result_text.specs.Order.{group_of}
+use Rattle.result_text.specs.GroupOrder.{group_of}
 use Rattle.result_text.proofs.order.as_they_are.Given as goal
 
 abbrev pub invariant-loop-at : goal.invariant-loop-at

@@ -1,6 +1,6 @@
 use Rattle.std.proofs.Common.{◌≡◌, ◌-◌}
 use Rattle.par_model.specs.Table.{columns_cmp}
-use Rattle.result_text.specs.Keys.{columns_in}
+use Rattle.result_text.specs.KeyColumns.{columns_in}
 use Rattle.result_text.proofs.order.compare.Given as goal
 
 -- the columns that are left decide

@@ -1,8 +1,8 @@
 use Rattle.std.proofs.Common.{◌<◌, length, rules}
 use Rattle.std.proofs.lemmas.Fn.{always_returns_same}
 use Rattle.std.proofs.lemmas.List.Sorted.{All-permutation, IsPermutation-map, ranks_by}
-use Rattle.result_text.specs.Keys.{columns_in}
-use Rattle.result_text.specs.Order.{group_of, is_before}
+use Rattle.result_text.specs.KeyColumns.{columns_in}
+use Rattle.result_text.specs.GroupOrder.{group_of, is_before}
 use Rattle.result_text.specs.declared.order.GroupRef.{GroupRef}
 use Rattle.result_text.proofs.Columns.{columns_total}
 use Rattle.result_text.proofs.order.in_order.Goals as goal

@@ -1,6 +1,6 @@
 use Rattle.std.proofs.Common.{◌≡◌, ◌∙◌, ◌-◌, ◌+◌, ◌++◌, ◌∷◌, [], List, ℕ, ap, sym, append_assoc, append-nil}
 use Rattle.csv.specs.Records.{fields_of}
-use Rattle.result_text.specs.Keys.{after_first_column, columns_in}
+use Rattle.result_text.specs.KeyColumns.{after_first_column, columns_in}
 use Rattle.result_text.proofs.Columns.{columns_in-end, columns_in-more, columns_in-start}
 use Rattle.result_text.proofs.values.push_columns.Goals as goal
 

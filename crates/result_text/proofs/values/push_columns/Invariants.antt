@@ -1,6 +1,6 @@
 use Rattle.std.proofs.Common.{◌≡◌, ◌++◌, ◌-◌, []}
 use Rattle.csv.specs.Records.{fields_of, partial_of}
-use Rattle.result_text.specs.Keys.{columns_in}
+use Rattle.result_text.specs.KeyColumns.{columns_in}
 use Rattle.result_text.proofs.values.push_columns.Given as goal
 
 -- what the record has, and then the columns that are left

@@ -1,7 +1,7 @@
 use Rattle.std.proofs.Common.{◌∙◌, sym, arith}
 use Rattle.csv_rows.specs.declared.place.Place.TheVariants as place
 use Rattle.csv_rows.proofs.Scans.{place-none}
-use Rattle.row_windows.proofs.Places.{one-more}
+use Rattle.row_windows.proofs.QuoteScans.{one-more}
 use Rattle.row_windows.proofs.header.first_end.Goals as goal
 
 pub bytes-init : goal.bytes-init

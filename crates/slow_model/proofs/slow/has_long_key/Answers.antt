@@ -1,7 +1,7 @@
 use Rattle.std.proofs.Common.{◌≡◌, ◌≤◌, length, take, sym, ap, arith}
 use Rattle.std.proofs.lemmas.Bool.Decides.{nat_tests}
 use Rattle.std.proofs.lemmas.List.{length-take}
-use Rattle.slow_model.proofs.Keys.{length-encoded_at, length-encoded_end}
+use Rattle.slow_model.proofs.KeyFields.{length-encoded_at, length-encoded_end}
 use Rattle.slow_model.proofs.Places.{front_at}
 use Rattle.par_model.specs.Record.{field_of}
 use Rattle.slow_model.proofs.slow.has_long_key.Goals.{then-room-lt4-via-then-room-lt4, then-room-lt4-via-else-room-lt4+then-room-length}

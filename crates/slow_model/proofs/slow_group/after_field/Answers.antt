@@ -2,7 +2,7 @@ use Rattle.std.proofs.Common.{◌≡◌, ◌++◌, Some, length, take}
 use Rattle.std.proofs.lemmas.Bool.Decides.{Decides-eqb}
 use Rattle.std.proofs.lemmas.Slice.Eq.{strip_prefix_is}
 use Rattle.std.specs.Int.{to_le_bytes, w32}
-use Rattle.slow_model.proofs.Keys.{behind_both}
+use Rattle.slow_model.proofs.KeyFields.{behind_both}
 use Rattle.slow_model.proofs.slow_group.after_field.Goals as goal
 
 pub returns : goal.returns

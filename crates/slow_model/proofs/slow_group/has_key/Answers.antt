@@ -1,6 +1,6 @@
 use Rattle.std.proofs.Common.{◌≡◌, ◌≤◌, ◌+◌, ◌++◌, ◌∙◌, bytes_eq, drop, get_or, length, map, sym, ap, arith, take}
 use Rattle.std.proofs.lemmas.List.{length-take}
-use Rattle.slow_model.proofs.Keys.{bytes_eq-behind, bytes_eq-empty, bytes_eq-other, encoded_at, encoded_end}
+use Rattle.slow_model.proofs.KeyFields.{bytes_eq-behind, bytes_eq-empty, bytes_eq-other, encoded_at, encoded_end}
 use Rattle.slow_model.proofs.Places.{front_at}
 use Rattle.par_model.specs.Key.{encoded, encoded_field}
 use Rattle.par_model.specs.Record.{field_of}

@@ -1,7 +1,7 @@
 use Rattle.std.proofs.Common.{◌∙◌, FitsSigned, append-nil, ap, sym, take, w64}
 use Rattle.std.specs.Int.{int_min}
 use Rattle.par_model.proofs.Folds.{chosen_is, extreme_next, least_so_far}
-use Rattle.slow_model.proofs.Groups.{in_group, numbers, numbers_next}
+use Rattle.slow_model.proofs.GroupRows.{in_group, numbers, numbers_next}
 use Rattle.par_model.specs.Record.{field_of}
 use Rattle.slow_model.proofs.slow_group.least.Goals.{in-Some, in_default}
 use Rattle.slow_model.proofs.slow_group.least.Goals as goal

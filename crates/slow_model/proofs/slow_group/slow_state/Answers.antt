@@ -1,7 +1,7 @@
 use Rattle.std.proofs.Common.{◌≡◌, ◌∙◌, List, ap, arith, length, set, sym, take}
 use Rattle.std.proofs.lemmas.List.{length-take}
 use Rattle.slow_model.proofs.Places.{front_at}
-use Rattle.slow_model.proofs.Slots.{slots_end, slots_next}
+use Rattle.slow_model.proofs.FilledSlots.{slots_end, slots_next}
 use Rattle.par_model.specs.Aggregate.{rows_of, slot_of, state_of_rows}
 use Rattle.par_model.specs.PlanLayout.{unused}
 use Rattle.par_model.specs.declared.state.SlotState.{SlotState}

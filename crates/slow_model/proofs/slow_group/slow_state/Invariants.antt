@@ -1,5 +1,5 @@
 use Rattle.std.proofs.Common.{◌≡◌, ◌≤◌, length}
-use Rattle.slow_model.proofs.Slots.{filled}
+use Rattle.slow_model.proofs.FilledSlots.{filled}
 use Rattle.par_model.specs.Aggregate.{rows_of, slot_of}
 use Rattle.slow_model.proofs.slow_group.slow_state.Given as goal
 

@@ -2,7 +2,7 @@ use Rattle.std.proofs.Common.{◌∙◌, ◌+ℤ◌, append-nil, ap, arith, sym,
 use Rattle.std.proofs.lemmas.Int.{ints}
 use Rattle.std.specs.Int.{w128}
 use Rattle.par_model.proofs.Folds.{chosen_is, sum_with, total-push}
-use Rattle.slow_model.proofs.Groups.{in_group, numbers, numbers_next}
+use Rattle.slow_model.proofs.GroupRows.{in_group, numbers, numbers_next}
 use Rattle.par_model.specs.Aggregate.{total}
 use Rattle.par_model.specs.Record.{field_of}
 use Rattle.slow_model.proofs.slow_group.sum.Goals.{in-Some, in_default}

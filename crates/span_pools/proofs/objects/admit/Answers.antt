@@ -2,7 +2,7 @@ use Rattle.std.proofs.Common.{◌+◌, arith, refl}
 use Rattle.word_map.proofs.Maps.{within_true}
 use Rattle.span_pools.specs.Places.{base, record_at}
 use Rattle.span_pools.proofs.Covers.{size_small, record_in}
-use Rattle.span_pools.proofs.Steps.{union_has, keep_has, admitted}
+use Rattle.span_pools.proofs.RecordStores.{union_has, keep_has, admitted}
 use Rattle.span_pools.proofs.objects.admit.Goals as goal
 
 pub store-requires-clause-owns : goal.store-requires-clause-owns

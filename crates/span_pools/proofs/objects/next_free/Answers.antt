@@ -1,5 +1,5 @@
 use Rattle.std.proofs.Common.{arith}
-use Rattle.span_pools.proofs.Steps.{listed_owned, next_listed, next_fresh}
+use Rattle.span_pools.proofs.RecordStores.{listed_owned, next_listed, next_fresh}
 use Rattle.span_pools.proofs.objects.next_free.Goals as goal
 
 pub load-next-requires-clause-owns : goal.load-next-requires-clause-owns

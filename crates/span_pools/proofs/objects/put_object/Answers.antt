@@ -1,7 +1,7 @@
 use Rattle.std.proofs.Common.{◌≡◌, ◌≤◌, ℕ, is_some, arith, sym, ap, ◌∙◌}
 use Rattle.word_map.proofs.Maps.{within_true}
-use Rattle.span_pools.proofs.Lists.{room_most}
-use Rattle.span_pools.proofs.Steps.{union_has, put_back, some_same, keep_has}
+use Rattle.span_pools.proofs.FreeLists.{room_most}
+use Rattle.span_pools.proofs.RecordStores.{union_has, put_back, some_same, keep_has}
 use Rattle.span_pools.proofs.Covers.{objects_small}
 use Rattle.span_pools.specs.Places.{record_at}
 use Rattle.span_pools.proofs.objects.put_object.Goals as goal

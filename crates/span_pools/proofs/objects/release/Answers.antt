@@ -1,7 +1,7 @@
 use Rattle.std.proofs.Common.{◌∙◌}
 use Rattle.word_map.proofs.Maps.{within_true}
 use Rattle.span_pools.specs.Places.{base}
-use Rattle.span_pools.proofs.Steps.{union_any}
+use Rattle.span_pools.proofs.RecordStores.{union_any}
 use Rattle.span_pools.proofs.objects.release.Goals as goal
 
 pub split-run-requires-clause-owns : goal.split-run-requires-clause-owns

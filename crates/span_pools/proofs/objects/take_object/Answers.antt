@@ -1,7 +1,7 @@
 use Rattle.std.proofs.Common.{◌≡◌, ℕ, true, subst}
 use Rattle.word_map.specs.WordMap.{is_within}
 use Rattle.word_map.proofs.Maps.{within_true}
-use Rattle.span_pools.proofs.Steps.{taken_out}
+use Rattle.span_pools.proofs.RecordStores.{taken_out}
 use Rattle.span_pools.proofs.objects.take_object.Goals as goal
 
 pub split-requires-clause-owns : goal.split-requires-clause-owns

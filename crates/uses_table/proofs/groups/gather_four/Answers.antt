@@ -7,7 +7,7 @@ use Rattle.lock_book.proofs.Uses.{only}
 use Rattle.agg_table.specs.Calls.{AggEntry, Group, HasPut, IsKeyed, calls_at, done_in}
 use Rattle.agg_table.specs.Drained.{HoldsAll}
 use Rattle.agg_table.specs.Ending.{IsClosed}
-use Rattle.agg_table.specs.Tokens.{callers_of, use_of}
+use Rattle.agg_table.specs.Shown.{callers_of, use_of}
 use Rattle.agg_table.specs.declared.part.HashPart.{HashPart}
 use Rattle.agg_table.specs.declared.part.HashSeat.{HashSeat}
 use Rattle.uses_table.proofs.groups.gather_four.Goals as goal

@@ -1,5 +1,5 @@
 use Rattle.std.proofs.Common.{◌++◌, [], ◌∷◌, ◌∙◌}
-use Rattle.agg_table.specs.Tokens.{use_of}
+use Rattle.agg_table.specs.Shown.{use_of}
 use Rattle.agg_table.proofs.Putting.{has_put_more, has_put_nothing}
 use Rattle.uses_table.proofs.groups.put_four.Goals as goal
 

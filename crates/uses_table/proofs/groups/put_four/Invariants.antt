@@ -1,6 +1,6 @@
 use Rattle.std.proofs.Common.{◌≡◌, [], List}
 use Rattle.agg_table.specs.Calls.{Group, HasPut}
-use Rattle.agg_table.specs.Tokens.{IsSeat, number_at, use_of}
+use Rattle.agg_table.specs.Shown.{IsSeat, number_at, use_of}
 use Rattle.uses_table.proofs.groups.put_four.Given as goal
 
 abbrev pub invariant-loop-number : goal.invariant-loop-number

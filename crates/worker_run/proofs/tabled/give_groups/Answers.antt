@@ -1,6 +1,6 @@
 use Rattle.std.proofs.Common.{rules, ◌∙◌, subst}
 use Rattle.std.specs.List.{AllByRecursion}
-use Rattle.agg_table.specs.Tokens.{use_of}
+use Rattle.agg_table.specs.Shown.{use_of}
 use Rattle.agg_table.proofs.Seats.{grew_itself, grew_through}
 use Rattle.worker_run.specs.Sent.{HasZeros}
 use Rattle.worker_run.proofs.Giving.{given_ready, giving-end, giving-start, giving-step, stopped_giving}

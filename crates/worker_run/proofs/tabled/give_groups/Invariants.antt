@@ -1,5 +1,5 @@
 use Rattle.std.proofs.Common.{◌≡◌}
-use Rattle.agg_table.specs.Tokens.{Grew, IsSeat, use_of}
+use Rattle.agg_table.specs.Shown.{Grew, IsSeat, use_of}
 use Rattle.worker_run.specs.Sent.{IsReady}
 use Rattle.worker_run.proofs.Giving.{IsGiving}
 use Rattle.worker_run.proofs.tabled.give_groups.Given as goal

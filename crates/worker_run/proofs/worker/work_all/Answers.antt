@@ -1,5 +1,5 @@
 use Rattle.std.proofs.Common.{List, ℕ, subst, sym}
-use Rattle.agg_table.specs.Tokens.{use_in}
+use Rattle.agg_table.specs.Shown.{use_in}
 use Rattle.worker_run.specs.Tabled.{IsAtWork}
 use Rattle.worker_run.proofs.AtWork.{at_work-start}
 use Rattle.worker_run.proofs.Hands.{hands_then, keeps_fresh, keeps_through}

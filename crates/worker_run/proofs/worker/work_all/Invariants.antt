@@ -1,4 +1,4 @@
-use Rattle.agg_table.specs.Tokens.{StaysSeated, use_in}
+use Rattle.agg_table.specs.Shown.{StaysSeated, use_in}
 use Rattle.scan_claim.specs.Shown.{draws_of}
 use Rattle.worker_run.specs.Job.{AreHands, IsSeated, KeepsHands}
 use Rattle.worker_run.specs.Tabled.{IsAtWork}

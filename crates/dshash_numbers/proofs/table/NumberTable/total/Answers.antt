@@ -3,7 +3,7 @@ use Rattle.std.proofs.lemmas.List.{length-map}
 use Rattle.std.specs.List.{sum_by}
 use Rattle.dshash_core.specs.Listing.{pairs_of}
 use Rattle.dshash_numbers.specs.Numbers.{stepped}
-use Rattle.dshash_numbers.proofs.Calls.{listed_stays}
+use Rattle.dshash_numbers.proofs.MapCalls.{listed_stays}
 use Rattle.dshash_numbers.proofs.Tables.{sum_pairs}
 use Rattle.dshash_numbers.proofs.table.NumberTable.total.Goals as goal
 

@@ -7,7 +7,7 @@ use Rattle.scan_claim.specs.Shown.{blocks_of, draws_of}
 use Rattle.parallel_ctx.specs.Accounts.{heard}
 use Rattle.gather_merge.specs.Leading.{Led}
 use Rattle.gather_merge.specs.Order.{columns_at}
-use Rattle.gather_merge.specs.Words.{AreWords}
+use Rattle.gather_merge.specs.RowWords.{AreWords}
 use Rattle.gather_merge.proofs.Led.{opens, unheard}
 use Rattle.gather_merge.proofs.roles.LeaderLead.lead.Goals as goal
 

@@ -1,5 +1,5 @@
 use Rattle.std.proofs.Common.{rules, subst, sym}
-use Rattle.agg_table.specs.Tokens.{use_in}
+use Rattle.agg_table.specs.Shown.{use_in}
 use Rattle.agg_table.proofs.Seats.{stays_itself}
 use Rattle.par_model.specs.Columns.{HasColumns}
 use Rattle.par_model.specs.Plan.{Plan}
@@ -9,7 +9,7 @@ use Rattle.parallel_ctx.specs.Accounts.{account_in}
 use Rattle.scan_claim.specs.Shown.{draws_of}
 use Rattle.gather_merge.specs.Ended.{DidWork}
 use Rattle.gather_merge.specs.Order.{columns_at}
-use Rattle.gather_merge.specs.Words.{AreWords}
+use Rattle.gather_merge.specs.RowWords.{AreWords}
 use Rattle.gather_merge.proofs.roles.TeamWorker.work.Goals as goal
 
 pub work-requires-clause-job : goal.work-requires-clause-job

@@ -1,5 +1,5 @@
 use Rattle.std.proofs.Common.{rules, List, ℕ, map, sym, subst}
-use Rattle.agg_table.specs.Tokens.{use_in}
+use Rattle.agg_table.specs.Shown.{use_in}
 use Rattle.par_model.specs.Columns.{HasColumns}
 use Rattle.par_model.specs.Plan.{Plan}
 use Rattle.partial_agg.specs.Rows.{header_width}

@@ -1,4 +1,4 @@
-use Rattle.mq_handle.proofs.Sends.{stays_on}
+use Rattle.mq_handle.proofs.SendTries.{stays_on}
 use Rattle.mq_handle.proofs.sender.Sender.send.Goals as goal
 
 pub returns-in-Sent-clause-stays : goal.returns-in-Sent-clause-stays

@@ -3,7 +3,7 @@ use Rattle.atomic_table.specs.Seated.{TableId}
 use Rattle.region_rule.specs.RingMap.{ring_map}
 use Rattle.region_words.specs.Parts.{Owned, owned, own_map, IsBelow}
 use Rattle.mq_ring.specs.Ends.{EndsHome, tx_of, rx_of}
-use Rattle.mq_ring.proofs.Counts.{in_region}
+use Rattle.mq_ring.proofs.Distances.{in_region}
 use Rattle.mq_ring.proofs.Meetings.{Mine, end_allows, ended}
 use Rattle.mq_ring.proofs.Makings.{ring_below, chunk_just}
 use Rattle.mq_ring.proofs.done.RingDone.into_chunk.Goals as goal

@@ -7,8 +7,8 @@ use Rattle.par_model.specs.Table.{values_text}
 use Rattle.par_model.specs.declared.state.AggState.{AggState}
 use Rattle.partial_agg.specs.State.{empty_state}
 use Rattle.partial_agg.specs.declared.groups.Group.{Group}
-use Rattle.result_text.specs.Keys.{columns_in}
-use Rattle.result_text.specs.Order.{line_of, state_in}
+use Rattle.result_text.specs.KeyColumns.{columns_in}
+use Rattle.result_text.specs.GroupOrder.{line_of, state_in}
 use Rattle.result_text.specs.Printable.{IsSmallSlot}
 use Rattle.result_text.specs.Text.{line_record}
 use Rattle.result_text.specs.Written.{written}

@@ -1,6 +1,6 @@
 use Rattle.std.proofs.Common.{◌≡◌, ◌++◌, length, map, take}
 use Rattle.par_model.specs.Table.{table_text}
-use Rattle.result_text.specs.Order.{line_of}
+use Rattle.result_text.specs.GroupOrder.{line_of}
 use Rattle.result_text.specs.Text.{line_record}
 use Rattle.result_text.specs.Written.{IsBetween, written}
 use Rattle.result_text.proofs.table.TableWriter.write_each.Given as goal

@@ -2,7 +2,7 @@ use Rattle.std.proofs.Common.{◌≡◌, ◌∙◌, ◌++◌, OnOk, ℕ, List, a
 use Rattle.std.proofs.lemmas.Bool.{eqb-true}
 use Rattle.std.proofs.lemmas.List.{length-map}
 use Rattle.par_model.specs.Plan.{Plan}
-use Rattle.result_text.specs.Order.{line_of}
+use Rattle.result_text.specs.GroupOrder.{line_of}
 use Rattle.result_text.specs.Written.{written}
 use Rattle.result_text.proofs.Tables.{shown-none}
 use Rattle.result_text.proofs.table.TableWriter.write_groups.Goals as goal

@@ -4,7 +4,7 @@ use mathlib.Core.Option.{some}
 use lib.ListN.{get_elem?}
 use Rattle.scan_claim.specs.declared.claims.ClaimSeat.{ClaimSeat}
 use Rattle.scan_claim.specs.Shown.{Belongs, draws_of}
-use Rattle.scan_claim.proofs.Moves.{joins, counts}
+use Rattle.scan_claim.proofs.CounterSteps.{joins, counts}
 use Rattle.scan_claim.proofs.Closing.{lists_step, left_front, left_last, drawn_all, all_drawn}
 use Rattle.scan_claim.proofs.claims.Claims.close.Goals as goal
 

@@ -4,7 +4,7 @@ use Rattle.scan_claim.specs.declared.claims.ClaimSeat.{ClaimSeat}
 use mathlib.Core.Option.{some}
 use lib.ListN.{get_elem?}
 use Rattle.scan_claim.specs.Drawing.{drawn}
-use Rattle.scan_claim.proofs.Moves.{opens, splits}
+use Rattle.scan_claim.proofs.CounterSteps.{opens, splits}
 use Rattle.scan_claim.proofs.Made.{IsMade, made_first, made_rest, each_snoc}
 use Rattle.scan_claim.proofs.claims.Claims.new.Goals as goal
 

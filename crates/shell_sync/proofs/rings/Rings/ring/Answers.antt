@@ -1,5 +1,5 @@
 use Rattle.std.proofs.Common.{List, ℕ, Some, arith, subst}
-use Rattle.mq_ring.proofs.Counts.{power_few}
+use Rattle.mq_ring.proofs.Distances.{power_few}
 use Rattle.shell_memory.proofs.Named.{all_after, not-there}
 use Rattle.shell_memory.specs.Names.{Puts, under}
 use Rattle.shell_sync.specs.Rings.{IsQueue}

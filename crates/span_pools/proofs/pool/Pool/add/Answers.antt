@@ -7,7 +7,7 @@ use Rattle.span_pools.specs.PoolView.{PoolView, IsSuperblock}
 use Rattle.span_pools.proofs.Pools.{all_live, some_free, chunk_bytes}
 use Rattle.span_pools.proofs.Covers.{objects_small}
 use Rattle.span_pools.proofs.Adds.{coming, after_add, add_legal, part_just}
-use Rattle.span_pools.proofs.Totals.{count_active, count_add, count_few}
+use Rattle.span_pools.proofs.FreeCounts.{count_active, count_add, count_few}
 use Rattle.span_pools.proofs.pool.Pool.add.Goals as goal
 
 pub overflow_add-self : goal.overflow_add-self

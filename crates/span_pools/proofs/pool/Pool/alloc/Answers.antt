@@ -6,7 +6,7 @@ use Rattle.span_pools.specs.View.{free_objects, mark_of, owns, state_of, IsTaken
 use Rattle.span_pools.specs.PoolView.{PoolView}
 use Rattle.span_pools.proofs.Shapes.{object_owned}
 use Rattle.span_pools.proofs.Pools.{after_alloc, alloc_legal, all_live, chunk_just, chunk_bytes}
-use Rattle.span_pools.proofs.Totals.{count_alloc, count_none}
+use Rattle.span_pools.proofs.FreeCounts.{count_alloc, count_none}
 use Rattle.span_pools.proofs.pool.Pool.alloc.Goals as goal
 
 one_less : (after before left : ℕ) → after + 1 ≡ before → left ≡ before → left - 1 ≡ after

@@ -2,7 +2,7 @@ use Rattle.std.proofs.Common.{◌∙◌, ap, sym}
 use Rattle.region_words.specs.Parts.{Owned}
 use Rattle.span_pools.specs.PoolView.{pool_view}
 use Rattle.span_pools.proofs.Empty.{rest_none, empty_pool, empty_state}
-use Rattle.span_pools.proofs.Totals.{count_empty}
+use Rattle.span_pools.proofs.FreeCounts.{count_empty}
 use Rattle.span_pools.proofs.pool.Pool.empty.Goals as goal
 
 pub clear_marks-requires-clause-bits : goal.clear_marks-requires-clause-bits

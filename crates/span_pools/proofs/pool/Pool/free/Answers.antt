@@ -5,11 +5,11 @@ use Rattle.span_pools.specs.View.{free_objects, state_of, IsMarked, IsReleased, 
 use Rattle.span_pools.specs.PoolView.{PoolView, IsSuperblock}
 use Rattle.word_map.specs.WordMap.{HasJust}
 use Rattle.span_pools.proofs.Pools.{no_bool}
-use Rattle.span_pools.proofs.Lists.{room_most}
+use Rattle.span_pools.proofs.FreeLists.{room_most}
 use Rattle.span_pools.proofs.Covers.{objects_small}
-use Rattle.span_pools.proofs.Steps.{some_same}
+use Rattle.span_pools.proofs.RecordStores.{some_same}
 use Rattle.span_pools.proofs.Frees.{is_last, after_free, free_legal, last_whole, after_emptied, emptied_legal, run_just, stranger_is}
-use Rattle.span_pools.proofs.Totals.{count_emptied, count_few, count_free}
+use Rattle.span_pools.proofs.FreeCounts.{count_emptied, count_few, count_free}
 use Rattle.span_pools.proofs.pool.Pool.free.Goals as goal
 use Rattle.span_pools.proofs.pool.Pool.free.Goals.{else-free-self-via-then-free-self+else-not-is_page, else-free-self-via-else-free-self}
 

@@ -1,5 +1,5 @@
 use Rattle.lock_book.specs.Shown.{number_of, seen_of}
-use Rattle.agg_cell.proofs.Runs.{seen_is, seen_last}
+use Rattle.agg_cell.proofs.CellRuns.{seen_is, seen_last}
 use Rattle.uses_table.proofs.states.table.add.Goals as goal
 
 pub returns-clause-all : goal.returns-clause-all

@@ -10,7 +10,7 @@ use Rattle.span_pools.specs.declared.layout.Layout.{Layout}
 use Rattle.span_pools.specs.Places.{base, place, record_at, IsLayout}
 use Rattle.span_pools.specs.Listed.{IsListed}
 use Rattle.span_pools.specs.View.{owns, first_word, IsRecordOf, IsPopped, SameRecords, IsNext, IsTakenOut, IsPutBack, IsAdmitted}
-use Rattle.span_pools.proofs.Lists.{pop_listed, pop_fresh, push_listed}
+use Rattle.span_pools.proofs.FreeLists.{pop_listed, pop_fresh, push_listed}
 use Rattle.span_pools.proofs.Covers.{other_object, place_in, place_positive, record_in}
 
 pub some_same : (x y : ℕ) → Some x ≡ Some y → x ≡ y

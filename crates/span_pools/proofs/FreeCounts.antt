@@ -9,7 +9,7 @@ use Rattle.region_words.specs.Parts.{Owned}
 use Rattle.span_pools.specs.declared.layout.Layout.{Layout}
 use Rattle.span_pools.specs.Places.{record_at}
 use Rattle.span_pools.specs.View.{mark_of, owns, room_at, total, free_objects, HasRoom, IsMarked, IsTakenOut, IsPutBack, IsAdmitted, IsReleased, IsPool}
-use Rattle.span_pools.proofs.Lists.{room_most}
+use Rattle.span_pools.proofs.FreeLists.{room_most}
 use Rattle.span_pools.proofs.Covers.{objects_small, parted}
 use Rattle.span_pools.proofs.Adds.{NowActive, apart_new, unlike_new}
 

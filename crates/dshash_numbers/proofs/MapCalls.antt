@@ -32,7 +32,7 @@ use Rattle.dshash_parts.specs.declared.histories.PartitionReplies.TheVariants.{L
 use Rattle.dshash_parts.proofs.Uses.{did_turns}
 use Rattle.dshash_scan.specs.Listings.{ListsTable}
 use Rattle.dshash_numbers.proofs.Lone.{Steps, lone-steps}
-use Rattle.dshash_numbers.proofs.Turns.{all-keep, keeps, made-else, made-here}
+use Rattle.dshash_numbers.proofs.MapTurns.{all-keep, keeps, made-else, made-here}
 
 -- a place within a list
 at_within : {X : Type 0} (xs : List X) (k : ℕ) → k < length xs → (x : X) × (get_elem? xs k ≡ some x)

@@ -4,7 +4,7 @@ use Rattle.std.proofs.Math.Seq.{drop-append_seam, take-append_seam}
 use Rattle.std.proofs.lemmas.Nat.{from_le_bytes-to_le_bytes_4}
 use Rattle.std.specs.Int.{to_le_bytes, w32}
 use Rattle.par_model.specs.Key.{encoded}
-use Rattle.result_text.specs.Keys.{after_first_column, columns_in, first_column, first_size}
+use Rattle.result_text.specs.KeyColumns.{after_first_column, columns_in, first_column, first_size}
 use Rattle.result_text.specs.Printable.{IsKeyOf}
 
 encoded-cons : (column : List ℕ) (columns : List (List ℕ)) → encoded (column ∷ columns) ≡ to_le_bytes w32 (length column) ++ (column ++ encoded columns)

@@ -7,7 +7,7 @@ use Rattle.std.specs.declared.alloc.AllocError.{AllocError}
 use Rattle.par_model.specs.Plan.{Plan}
 use Rattle.par_model.specs.Table.{table_text}
 use Rattle.partial_agg.specs.declared.groups.Group.{Group}
-use Rattle.result_text.specs.Order.{line_of}
+use Rattle.result_text.specs.GroupOrder.{line_of}
 use Rattle.result_text.specs.Text.{line_record}
 use Rattle.result_text.specs.declared.order.GroupRef.{GroupRef}
 

@@ -5,7 +5,7 @@ use Rattle.par_model.specs.Table.{columns_cmp}
 use Rattle.par_model.specs.declared.state.AggState.{AggState}
 use Rattle.partial_agg.specs.State.{empty_state}
 use Rattle.partial_agg.specs.declared.groups.Group.{Group}
-use Rattle.result_text.specs.Keys.{columns_in}
+use Rattle.result_text.specs.KeyColumns.{columns_in}
 use Rattle.result_text.specs.Text.{Line}
 use Rattle.result_text.specs.declared.order.GroupRef.{GroupRef}
 
