@@ -16,7 +16,7 @@ pub length-slots_words : (slots : List SlotState) → length (concat (map slot_w
 length-slots_words [] = refl
 length-slots_words (s ∷ slots) = length-append (slot_words s) (concat (map slot_words slots)) ∙ omega (arith, length-slots_words slots)
 
--- one slot more, where so many were written
+-- one slot more, where this many were written
 pub written_more : (words part : List ℕ) (i k : ℕ) (slots : List SlotState) → length words ≡ 40 → length slots ≡ 8 → i < 8 → part ≡ slot_words (get_or slots i no_values) → take (5 * i) words ≡ concat (map slot_words (take i slots))
     → take (5 * (i + 1)) (put_mid (5 * i) k words part) ≡ concat (map slot_words (take (i + 1) slots))
 written_more words part i k slots size long below is so_far =

@@ -45,6 +45,7 @@ Seen = Histories (PartitionState AggState) (PartitionCalls AggState) (PartitionR
 abbrev pub stands : Seen → List ℕ → Option AggState
 stands seen key = fin.get (map_at seen (partition_of (hash_of key))) key
 
+-- with what a pass has seen a key called
 abbrev pub called_in : Seen → List ℕ → List AggState
 called_in seen key = called key (seen (partition_of (hash_of key)))
 

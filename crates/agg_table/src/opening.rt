@@ -35,9 +35,9 @@ fn pair_up(
         .collect(alloc)
 }
 
-/// An empty table in an area of so many pages, in a chunk of `8 * area_words(pages)` bytes, and the passes of so many
-/// participants, in order of their numbers from 0. It takes memory for the locks and the passes. An area of 16 pages or
-/// more has room for the slices, so a refusal of theirs is want of memory too.
+/// An empty table in an area of this many pages, in a chunk of `8 * area_words(pages)` bytes, and the passes of this
+/// many participants, in order of their numbers from 0. It takes memory for the locks and the passes. An area of 16
+/// pages or more has room for the slices, so a refusal of theirs is want of memory too.
 pub fn open<R: Wait>(
     rt: &R,
     alloc: Global,

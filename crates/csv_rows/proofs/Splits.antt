@@ -18,7 +18,7 @@ split-none : (text : List ℕ) → IsSplit text [] [] 0
 unfolding next_start Apart Rising last_end group_from cut_apart
 split-none text = record { start = refl; apart = omega arith; rising = omega arith; within = omega arith; law = refl }
 
--- what one more place, so many bytes behind the start of the field at hand, adds to the fields
+-- what one more place, this many bytes behind the start of the field at hand, adds to the fields
 field-push : (text ends : List ℕ) (from count : ℕ) → next_start 1 0 ends ≡ from
     → cut_apart 1 0 (ends ++ ((from + count) ∷ [])) text ≡ cut_apart 1 0 ends text ++ (take count (drop from text) ∷ [])
 field-push text ends from count at =

@@ -37,7 +37,7 @@ impl Model for Piece {
 }
 
 impl Piece {
-    /// The piece of these lists, in which so many bytes stand between two fields.
+    /// The piece of these lists, in which this many bytes stand between two fields.
     pub(crate) fn of_lists(bytes: Vec<u8>, ends: Vec<u32>, row_ends: RowEnds, gap: u8) -> Piece
         requires fields { Apart gap 0 ends.items (length bytes.items) }
         requires rows { Rising 0 row_ends (length ends.items) }

@@ -17,7 +17,7 @@ use crate::records::{MOST_RECORDS, RowsAnswer};
 use std::alloc::Global;
 use std::thread::{Threads, join};
 
-/// The pieces of a text, at most so many, of which none is empty.
+/// The pieces of a text, at most this many, of which none is empty.
 pub(crate) fn read_pieces<R: Threads + Sync>(
     rt: &R,
     alloc: Global,

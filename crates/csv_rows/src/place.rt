@@ -30,7 +30,7 @@ pub fn scanned(bytes: &[u8], start: Place) -> Place
     past_others(&bytes[at..], place)
 }
 
-/// After a quote.
+/// The place behind a quote.
 pub fn past_quote(place: Place) -> Place
     ensures { result ≡ after_quote place }
 {
@@ -52,7 +52,7 @@ pub fn past_others(bytes: &[u8], start: Place) -> Place
     past_other(start, bytes[bytes.len() - 1])
 }
 
-/// After a byte that is no quote.
+/// The place behind a byte that is no quote.
 fn past_other(start: Place, byte: u8) -> Place
     ensures { result ≡ after_other start byte }
 {

@@ -12,7 +12,7 @@ use Rattle.dsa_area.specs.declared.pools.LockedPool.{LockedPool}
 abbrev pub HasWords : WordMap → ℕ → ℕ → Type 0
 HasWords m from to = (k : ℕ) → from ≤ k → k < to → IsSome (at m k)
 
--- the pool of a class, without a superblock, over so many pages of this region whose page 0 begins at word `first`
+-- the pool of a class, without a superblock, over this many pages of this region whose page 0 begins at word `first`
 abbrev pub empty_pool : TableId → ℕ → ℕ → ℕ → PoolView
 empty_pool region first pages class = pool_view region (layout_of class first pages) (record { spans = []; active = None })
 

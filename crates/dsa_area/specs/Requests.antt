@@ -44,7 +44,7 @@ module _ (a : Area) (p q : AreaPass) where
       ⊎ (((class run : ℕ) × IsLeast bytes class × Events class ((Alloc, Full) ∷ (Add run, Object at) ∷ []) ((Take superblock_pages true, Gets run) ∷ []))
       ⊎ ((largest_size < bytes) × PageEvents ((Take (pages_for bytes) false, Gets at) ∷ [])))
 
-  -- The request is refused: a run of so many pages was asked for, and these were not there, nor, for an object, a
+  -- The request is refused: a run of this many pages was asked for, and these were not there, nor, for an object, a
   -- free one
   abbrev pub IsRefused : ℕ → ℕ → ℕ → Type 0
   IsRefused bytes wanted largest =

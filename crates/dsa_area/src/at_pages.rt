@@ -12,7 +12,7 @@ use free_pages::NoRun;
 use region_words::{Region, Run};
 use std::sync::Wait;
 
-/// A run of so many pages. It waits for the pages' lock.
+/// A run of this many pages. It waits for the pages' lock.
 pub(crate) fn take_run<R: Wait>(
     rt: &R,
     area: &Area,

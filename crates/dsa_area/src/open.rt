@@ -113,7 +113,7 @@ fn pair_up(
 }
 
 impl Area {
-    /// An area of so many pages in a chunk of `8 * area_words(pages)` bytes, which it owns from then on, and a pass
+    /// An area of this many pages in a chunk of `8 * area_words(pages)` bytes, which it owns from then on, and a pass
     /// for each caller, in order of their numbers from 0. No page is granted, and no pool has a superblock. It takes
     /// memory for its locks and its passes; where there is none, the chunk is dropped. Writes each run word and each
     /// word of bits once.

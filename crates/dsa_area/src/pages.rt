@@ -23,7 +23,7 @@ pub(crate) struct PagesName {
 /// What the locked pages are asked.
 #[derive(Drop)]
 pub(crate) enum PagesAsk {
-    /// A run of so many pages, with their control records or without.
+    /// A run of this many pages, with their control records or without.
     TakeRun(u32, bool),
     /// A run comes back.
     GiveRun(Run),

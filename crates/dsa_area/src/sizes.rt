@@ -15,7 +15,8 @@ pub(crate) const LARGEST_SIZE: u64 = 8192;
 /// The number of the first size class.
 pub(crate) const FIRST_CLASS: u8 = 2;
 
-/// The bytes of the chunk that a request of so many bytes gets: those of the least class that holds it, or whole pages.
+/// The bytes of the chunk that a request of this many bytes gets: those of the least class that holds it, or whole
+/// pages.
 pub fn chunk_bytes(bytes: u64) -> u64
     requires some { (1 ≤ bytes) × (bytes ≤ 2 ^ 30) }
     ensures size { result ≡ chunk_size bytes }
@@ -27,7 +28,7 @@ pub fn chunk_bytes(bytes: u64) -> u64
     }
 }
 
-/// The pages that hold so many bytes.
+/// The pages that hold this many bytes.
 pub(crate) fn page_count(bytes: u64) -> u32
     requires { (1 ≤ bytes) × (bytes ≤ 2 ^ 30) }
     ensures pages { result ≡ pages_for bytes }

@@ -14,7 +14,7 @@ use crate::sizes::PAGE_BYTES;
 use region_words::{Chunk, Region, Run, same_chunk};
 use std::sync::Wait;
 
-/// So many whole pages.
+/// This many whole pages.
 pub(crate) fn grant_pages<R: Wait>(
     rt: &R,
     area: &Area,

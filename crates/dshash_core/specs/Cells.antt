@@ -24,7 +24,7 @@ pub record PartitionView (S : Type 0) : Type 0 where
   pub size : ℕ
   pub cells : KeyMap S
 
--- the shape of a partition's items, with values of so many words
+-- the shape of a partition's items, with values of this many words
 abbrev pub layout_of : {S : Type 0} → PartitionView S → ℕ → Layout
 layout_of p value_words = record { key_words = p.key_words; value_words = value_words; item_bytes = p.item_bytes }
 
@@ -53,8 +53,8 @@ buckets_of size = 2 ^ (size - 7)
 abbrev pub full_above : ℕ → ℕ
 full_above size = buckets_of size / 2 + buckets_of size / 4
 
--- a partition of that size can have so many keys: a size is from 7 to 20, and only at 20 it may hold more than one key
--- too many
+-- a partition of that size can have this many keys: a size is from 7 to 20, and only at 20 it may hold more than one
+-- key too many
 pub record IsRoomy (size keys : ℕ) : Type 0 where
   pub from : 7 ≤ size
   pub to : size ≤ 20

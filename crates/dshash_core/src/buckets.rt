@@ -1,10 +1,10 @@
 //! A bucket slice and its chains: a word for each bucket, which links to the first item of its chain, and each item's
 //! first word, which links to the next one. A link of 0 ends the chain.
 //!
-//! Who holds the `Buckets` owns the words of the slice and of all items, and he alone changes them, at any time: a link
-//! when an item is hung in or taken out, an item's value when it is written. An item's hash and key never change while
-//! it hangs. `AreHung` says how the words stand for the chains; no two items have a word in common, and no item hangs
-//! twice.
+//! Whoever holds the `Buckets` owns the words of the slice and of all items, and alone changes them, at any time: a
+//! link when an item is hung in or taken out, an item's value when it is written. An item's hash and key never change
+//! while it hangs. `AreHung` says how the words stand for the chains; no two items have a word in common, and no item
+//! hangs twice.
 
 ghost use Rattle.std.specs.Prelude.{◌≡◌, ◌≢◌, ℕ, ◌+◌, ◌*◌, ◌/◌, ◌<◌, ◌≤◌, List, [], ◌∷◌, ◌++◌, ◌^◌, length, replicate, MatchOption, IfSome, IfNone};
 ghost use Rattle.dshash_core.specs.Key.{hash_of};

@@ -98,7 +98,7 @@ fn list_chain<O: CellObject>(
     Ok(())
 }
 
-/// The entries of all chains, which are so many.
+/// The entries of all chains, which are this many.
 pub(crate) fn list_all<O: CellObject>(
     buckets: &mut Buckets,
     alloc: Global,

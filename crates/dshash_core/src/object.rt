@@ -6,7 +6,7 @@ ghost use Rattle.std.specs.Option.{option_copied};
 /// The object of which a table has one under each key. A call may make it, change it or remove it.
 ///
 /// A partition crosses threads, and may stand behind a lock, where `O: CellObject + Send`, `O::State: Send`, `O::Call:
-/// Send` and `O::Reply: Send`: who keeps it there asks for these four.
+/// Send` and `O::Reply: Send`: whoever keeps it there asks for these four.
 pub trait CellObject {
     /// The words that a state takes.
     const VALUE_WORDS: usize;

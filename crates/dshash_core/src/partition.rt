@@ -2,10 +2,10 @@
 //! chains of items in the region, one chain a bucket, and it has a size of its own, from 7 to 20, which says how many
 //! buckets it has.
 //!
-//! Who holds the partition owns the words of its bucket slice and of its items, so a call is one step of one thread:
-//! behind a lock it is one event of the table. `IsPartition` says what is always so: each item hangs in the bucket of
-//! its key's hash, each key once, the count is the number of keys, and there are at most three quarters as many keys as
-//! buckets and one more, or the size is 20.
+//! Whoever holds the partition owns the words of its bucket slice and of its items, so a call is one step of one
+//! thread: behind a lock it is one event of the table. `IsPartition` says what is always so: each item hangs in the
+//! bucket of its key's hash, each key once, the count is the number of keys, and there are at most three quarters as
+//! many keys as buckets and one more, or the size is 20.
 
 ghost use Rattle.std.specs.Prelude.{◌≡◌, true, false, ◌+◌, ◌*◌, ◌/◌, ◌<◌, ◌≤◌, length, is_some, IfOk, IfNone, IfSome, MatchOption};
 ghost use Rattle.std.specs.FinMap as fin;

@@ -19,7 +19,7 @@ pub(crate) const LEAST_SIZE: u32 = PARTITION_BITS;
 /// A partition of this size grows no more.
 pub(crate) const MOST_SIZE: u32 = 20;
 
-/// The buckets of a partition of a size: so many words its slice has at least.
+/// The buckets of a partition of a size: its slice has at least as many words.
 pub fn bucket_count(size: u32) -> u64
     requires { (7 ≤ size) × (size ≤ 20) }
     ensures { result ≡ buckets_of size }
@@ -43,7 +43,7 @@ pub fn partition_of_hash(hash: u32) -> u32
     hash >> (HASH_BITS - PARTITION_BITS)
 }
 
-/// Whether a partition of so many keys has to grow before it inserts.
+/// Whether a partition of this many keys has to grow before it inserts.
 pub(crate) fn is_full_at(size: u32, count: u64) -> bool
     requires { (7 ≤ size) × (size ≤ 20) }
     ensures { result ≡ (nat_lt (full_above size) count && nat_lt size 20) }

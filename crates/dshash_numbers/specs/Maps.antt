@@ -63,8 +63,8 @@ module _ (a : Area) (t t' : NumberTable) (u u' : AreaPass) where
     pub stays : MapsStay t t'
     pub events : CallRefused stepped t.table a t.pass u t'.pass u' key call wanted largest
 
--- A table t becomes t' by a listing of each partition; its entries, each once, are so many, and their numbers have this
--- sum
+-- A table t becomes t' by a listing of each partition; its entries, each once, are this many, and their numbers have
+-- this sum
 pub record IsTotal (t t' : NumberTable) (count sum : ℕ) : Type 0 where
   pub same : t'.table ≡ t.table
   pub pairs : List (List ℕ × ℕ)

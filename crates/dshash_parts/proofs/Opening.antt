@@ -21,17 +21,17 @@ replicate_snoc : {A : Type 0} (n : ℕ) (x : A) → replicate n x ++ x ∷ [] �
 replicate_snoc zero x = refl
 replicate_snoc (suc n) x = ap (λ z. x ∷ z) (replicate_snoc n x)
 
--- so many requests of one kind, and one more
+-- this many requests of one kind, and one more
 pub asks_next : (a : Area) (p q u : AreaPass) (n m : ℕ) (r : Request) → m ≡ n + 1 → Asks a p q (replicate n r) → Requested a q u r → Asks a p u (replicate m r)
 asks_next a p q u n m r e x y =
     let more : suc n ≡ m = omega arith in
     subst (λ (z : ℕ). Asks a p u (replicate z r)) more (subst (λ (z : List Request). Asks a p u z) (replicate_snoc n r) (asks_append a p q u (replicate n r) (r ∷ []) x (u, y, refl)))
 
--- one request, and so many of the same kind
+-- one request, and this many of the same kind
 pub asks_first : (a : Area) (p q u : AreaPass) (n m : ℕ) (r : Request) → m ≡ n + 1 → Requested a p q r → Asks a q u (replicate n r) → Asks a p u (replicate m r)
 asks_first a p q u n m r e y x = let more : suc n ≡ m = omega arith in subst (λ (z : ℕ). Asks a p u (replicate z r)) more (q, y, x)
 
--- so many slices were granted, one was refused, and they went back
+-- this many slices were granted, one was refused, and they went back
 pub asks_refused : (a : Area) (p q u w : AreaPass) (n m pages largest : ℕ) → m ≡ n → Asks a p q (replicate n (Got 8)) → Requested a q u (Missed 8 pages largest) → Asks a u w (replicate m (Gave (chunk_size 8))) → Asks a p w (refused_after n pages largest)
 asks_refused a p q u w n m pages largest e x y z =
     asks_append a p q w (replicate n (Got 8)) (Missed 8 pages largest ∷ replicate n (Gave (chunk_size 8))) x (u, y, subst (λ (k : ℕ). Asks a u w (replicate k (Gave (chunk_size 8)))) e z)

@@ -68,7 +68,7 @@ module _ {S C R : Type 0} where
   sweep_among size e [] h x = absurd x
   sweep_among size e (z ∷ zs) h x = ⊎_elim (λ (same : e ≡ z). subst (λ (y : Event S C R). IsSweep size y) (sym same) h.0) (λ (r : Among e zs). sweep_among size e zs h.1 r) x
 
-  -- a gift of so many bytes to the area, or none
+  -- a gift of this many bytes to the area, or none
   abbrev pub gift : ℕ → Bool → List (Event S C R)
   gift bytes true = Asked (Gave bytes) ∷ []
   gift bytes false = []

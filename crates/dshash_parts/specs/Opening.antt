@@ -21,7 +21,7 @@ abbrev pub AreSlices : TableId → List Chunk → Type 0
 AreSlices region [] = Unit {0}
 AreSlices region (c ∷ cs) = (c.part.region ≡ region) × (8 ≤ c.bytes) × (c.bytes ≡ chunk_size 8) × AreSlices region cs
 
--- so many slices were granted, one was refused, and they went back
+-- this many slices were granted, one was refused, and they went back
 abbrev pub refused_after : ℕ → ℕ → ℕ → List Request
 refused_after n pages largest = replicate n (Got 8) ++ Missed 8 pages largest ∷ replicate n (Gave (chunk_size 8))
 
@@ -31,7 +31,7 @@ abbrev pub IsNoTable : Area → AreaPass → AreaPass → DsNew → Type 0
 IsNoTable a p q (NoSpace pages largest) = (n : ℕ) × (n < 128) × Asks a p q (refused_after n pages largest)
 IsNoTable a p q Memory = Asks a p q [] ⊎ Asks a p q (replicate 128 (Got 8))
 
--- the names of so many partitions from this number on, each with the state of a new one
+-- the names of this many partitions from this number on, each with the state of a new one
 abbrev pub opens_from : {S : Type 0} → TableId → ℕ → ℕ → ℕ → ℕ → List (PartitionName × PartitionState S)
 opens_from region key_words item_bytes number zero = []
 opens_from region key_words item_bytes number (suc n) = (record { region = region; number = number; key_words = key_words; item_bytes = item_bytes }, fresh) ∷ opens_from region key_words item_bytes (number + 1) n

@@ -19,8 +19,8 @@ use Rattle.dshash_parts.specs.declared.histories.PartitionCalls.{PartitionCalls}
 use Rattle.dshash_parts.specs.declared.histories.PartitionReplies.{PartitionReplies}
 use Rattle.dshash_parts.specs.declared.histories.PartitionReplies.TheVariants.{Made, HasToGrow}
 
--- what a call asks of the area: a chunk of so many bytes, which it gets or does not, and a chunk of so many that it gives
--- back
+-- what a call asks of the area: a chunk of this many bytes, which it gets or does not, and a chunk of this many that it
+-- gives back
 pub data Request : Type 0 where
   Got : ℕ → Request
   Missed : ℕ → ℕ → ℕ → Request
@@ -43,9 +43,11 @@ pub record Sight (S C R : Type 0) : Type 0 where
   pub mine : Histories (PartitionState S) (PartitionCalls C) (PartitionReplies S R)
   pub area : AreaPass
 
+-- what histories and a pass of the area show together
 abbrev pub sight : {S C R : Type 0} → Histories (PartitionState S) (PartitionCalls C) (PartitionReplies S R) → Histories (PartitionState S) (PartitionCalls C) (PartitionReplies S R) → AreaPass → Sight S C R
 sight seen mine area = record { seen = seen; mine = mine; area = area }
 
+-- what a pass of a table and a pass of its area show
 abbrev pub sight_of : {O S C R : Type 0} {g : Ghosts (Numbered O S C R) TableId (TableAsk O S C R) (TableAnswer O S C R) PartitionName (PartitionState S) (PartitionCalls C) (PartitionReplies S R)} → Pass (Numbered O S C R) TableId (TableAsk O S C R) (TableAnswer O S C R) PartitionName (PartitionState S) (PartitionCalls C) (PartitionReplies S R) g → AreaPass → Sight S C R
 sight_of pass area = sight (seen_of pass) (mine_of pass) area
 

@@ -16,7 +16,7 @@ use Rattle.dshash_parts.specs.declared.histories.PartitionReplies.{PartitionRepl
 use Rattle.dshash_parts.specs.declared.numbered.Numbered.{Numbered}
 use Rattle.dshash_parts.specs.declared.table.Dshash.{Dshash}
 
--- The table and its area are in this region, keys have so many words, and the two passes are theirs
+-- The table and its area are in this region, keys have this many words, and the two passes are theirs
 pub record IsAtHome {O S C R : Type 0} {g : Ghosts (Numbered O S C R) TableId (TableAsk O S C R) (TableAnswer O S C R) PartitionName (PartitionState S) (PartitionCalls C) (PartitionReplies S R)} (region : TableId) (a : Area) (t : Dshash O S C R) (key_words : ℕ) (pass : Pass (Numbered O S C R) TableId (TableAsk O S C R) (TableAnswer O S C R) PartitionName (PartitionState S) (PartitionCalls C) (PartitionReplies S R) g) (apass : AreaPass) : Type 0 where
   pub table : IsTable region t
   pub keys : key_words_of t ≡ key_words

@@ -117,7 +117,7 @@ where
     O::Call: Send,
     O::Reply: Send,
 {
-    /// A table of keys of so many words, with 128 empty partitions of size 7, and a pass for each caller, in order of
+    /// A table of keys of this many words, with 128 empty partitions of size 7, and a pass for each caller, in order of
     /// their numbers from 0. It takes 128 slices of 8 bytes from the area, and memory for the partitions, their locks
     /// and the passes.
     pub fn new<R: Wait>(

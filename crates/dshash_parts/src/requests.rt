@@ -21,7 +21,7 @@ pub(crate) fn give<R: Wait>(rt: &R, area: &Area, r: &Region, apass: &mut AreaPas
     let _refused = area.free(rt, r, apass, chunk);
 }
 
-/// A chunk for so many bytes, or none.
+/// A chunk for this many bytes, or none.
 pub(crate) fn ask<R: Wait>(
     rt: &R,
     area: &Area,

@@ -23,8 +23,8 @@ use Rattle.dshash_scan.specs.Listings.{DidAt}
 -- the pass p became q; g are the meanings of the locked partitions' members
 module _ {O S C R : Type 0} {g : Ghosts (Numbered O S C R) TableId (TableAsk O S C R) (TableAnswer O S C R) PartitionName (PartitionState S) (PartitionCalls C) (PartitionReplies S R)} (step : Option S → C → Option S × R)
     (p q : Pass (Numbered O S C R) TableId (TableAsk O S C R) (TableAnswer O S C R) PartitionName (PartitionState S) (PartitionCalls C) (PartitionReplies S R) g) where
-  -- So many keys are those of all partitions: of each the number of them in its map after one look, and nothing else was
-  -- done there
+  -- This many keys are those of all partitions: of each the number of them in its map after one look, and nothing else
+  -- was done there
   pub record CountsTable (total : ℕ) : Type 0 where
     pub counts : List ℕ
     pub count : length counts ≡ 128

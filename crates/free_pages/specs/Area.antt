@@ -43,7 +43,7 @@ control_words pages = 8 * pages
 abbrev pub front : ℕ → ℕ
 front pages = control_words pages + class_count * mark_words pages
 
--- the words of an area of so many pages
+-- the words of an area of this many pages
 abbrev pub area_size : ℕ → ℕ
 area_size pages = head_words + front pages + page_words * pages
 

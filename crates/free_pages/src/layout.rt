@@ -23,7 +23,7 @@ pub const CLASS_COUNT: u64 = 36;
 /// The number behind the last class's; the classes are numbered from 2.
 pub const CLASS_END: u64 = 38;
 
-/// The words of one class's bits of so many pages.
+/// The words of one class's bits of this many pages.
 pub fn mark_words(pages: u64) -> u64
     requires small { pages ≤ 2 ^ 32 }
     ensures { result ≡ area.mark_words pages }
@@ -31,7 +31,7 @@ pub fn mark_words(pages: u64) -> u64
     pages.div_ceil(64)
 }
 
-/// The words of the run words and the control records of so many pages.
+/// The words of the run words and the control records of this many pages.
 pub fn control_words(pages: u64) -> u64
     requires small { pages ≤ 2 ^ 32 }
     ensures { result ≡ area.control_words pages }
@@ -39,7 +39,7 @@ pub fn control_words(pages: u64) -> u64
     (1 + RECORD_WORDS) * pages
 }
 
-/// The words between the first run word and page 0, in an area of so many pages.
+/// The words between the first run word and page 0, in an area of this many pages.
 pub fn front(pages: u64) -> u64
     requires small { pages ≤ 2 ^ 32 }
     ensures { result ≡ area.front pages }
@@ -47,7 +47,7 @@ pub fn front(pages: u64) -> u64
     control_words(pages) + CLASS_COUNT * mark_words(pages)
 }
 
-/// The words of an area of so many pages.
+/// The words of an area of this many pages.
 pub fn area_words(pages: u32) -> u64
     ensures { result ≡ area.area_size pages }
 {

@@ -108,7 +108,7 @@ pub(crate) fn hear_early<R: Wait>(
     None
 }
 
-/// The leader's own rows, in order, of which the first so many were given.
+/// The leader's own rows, in order, of which this many were given, from the first on.
 #[derive(Drop)]
 pub(crate) struct OwnRows {
     pub(crate) list: Vec<u64>,

@@ -64,10 +64,10 @@ pub struct Merged {
 }
 
 /// Puts the rows in the order of the plan's columns, as bytes, and of their numbers. It runs in the caller's thread, as
-/// participant 0, with so many workers beside it; each participant passes the gate before each of its blocks. Of several
-/// refused rows any may be named, unless there are no workers. A refused row that the leader met or read goes before a
-/// worker's want of memory; on either, and on want of memory of its own, the leader leaves its queues at once, which
-/// stops the workers. Fewer workers than asked for may start, also none.
+/// participant 0, with this many workers beside it; each participant passes the gate before each of its blocks. Of
+/// several refused rows any may be named, unless there are no workers. A refused row that the leader met or read goes
+/// before a worker's want of memory; on either, and on want of memory of its own, the leader leaves its queues at once,
+/// which stops the workers. Fewer workers than asked for may start, also none.
 ///
 /// The blocks of 256 rows and their sorting are shared out. Each row of a worker is one message; taking the messages off
 /// and merging them is the leader's work, with at most 7 comparisons for each row, most of which are of words. A row is

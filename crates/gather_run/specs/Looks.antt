@@ -70,7 +70,7 @@ pub record IsOpen (region : TableId) (q : LeaderEnds) : Type 0 where
 abbrev pub tuples_of : LeaderEnds → List (List ℕ)
 tuples_of q = whole_of q.tuples.end.taken
 
--- whether no more will come of the first so many workers
+-- whether no more will come of the workers up to this number
 pub record OverSoFar (over : Bool) (queues : List LeaderEnds) (at : ℕ) : Type 0 where
   pub each : over ≡ true → AllWithin IsOverQueue queues 0 at
 

@@ -89,8 +89,8 @@ fn add_table(
     }
 }
 
-/// Runs a query in the caller's thread, as participant 0, with so many workers beside it. Each participant passes the
-/// gate before each of its blocks. Where the plan asks for a shared table of groups, it is made in an area of so many
+/// Runs a query in the caller's thread, as participant 0, with this many workers beside it. Each participant passes the
+/// gate before each of its blocks. Where the plan asks for a shared table of groups, it is made in an area of this many
 /// pages, if these are 16 or more; else the workers send their groups to the leader. Of several refused rows any may be
 /// named, unless there are no workers. A refused row that the leader met or read goes before a worker's want of memory;
 /// on either, and on want of memory of its own, the leader leaves its queues at once, which stops the workers. Fewer

@@ -14,7 +14,7 @@ shifted_right x places = bit_xor x (x / 2 ^ places)
 unfoldable pub next_of : ℕ → ℕ
 next_of x = shifted_left (shifted_right (shifted_left x 13) 7) 17
 
--- so many numbers, those that come after a seed
+-- this many numbers, those that come after a seed
 unfoldable pub numbers : ℕ → ℕ → List ℕ
 numbers seed zero = []
 numbers seed (suc count) = next_of seed ∷ numbers (next_of seed) count
@@ -30,6 +30,7 @@ value_of x = pos (x / 2 ^ 32 % 2001) -ℤ pos 1000
 unfoldable pub record_of : ℕ → List (List ℕ)
 record_of x = name_of x ∷ signed_decimal (value_of x) ∷ []
 
+-- the header
 abbrev pub header : List (List ℕ)
 header = codes "g" ∷ codes "v" ∷ []
 

@@ -12,7 +12,7 @@ pub record AreDifferent (all different : List (List ℕ)) : Type 0 where
   pub apart : IsDistinct bytes_eq different
   pub same : (name : List ℕ) → Contains different name ↔ Contains all name
 
--- the line of so many rows and groups, and of this sum
+-- the line of this many rows and groups, and of this sum
 abbrev pub summary_text : ℕ → ℕ → ℤ → List ℕ
 summary_text rows groups sum = codes "rows " ++ (decimal rows ++ (codes " groups " ++ (decimal groups ++ (codes " sum " ++ (signed_decimal sum ++ 10 ∷ [])))))
 

@@ -14,7 +14,7 @@ pub record Asked : Type 0 where
 abbrev pub is_gen : List (List ℕ) → Bool
 is_gen words = bytes_eq (slice_index_or words 0 []) (codes "gen")
 
--- one digit or more, at most so many, with a value up to `most`
+-- one digit or more, at most this many, with a value up to `most`
 abbrev pub number_in : ℕ → ℕ → List ℕ → Option ℕ
 number_in longest most text =
     if (nat_lt 0 (length text) && nat_le (length text) longest) && (list_all is_ascii_digit text && nat_le (digits_value 10 text) most)

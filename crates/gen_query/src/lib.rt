@@ -1,4 +1,4 @@
-//! Generated rows and what is said of them: the words `gen SEED ROWS` make the text of so many rows by a generator of
+//! Generated rows and what is said of them: the words `gen SEED ROWS` make the text of as many rows by a generator of
 //! numbers, which is read as the bytes of a file are read, grouped with two workers beside the caller's thread by
 //! `--group g --agg count,sum:v`, and answered by the one line `rows R groups G sum S`: how many rows there are, how many
 //! groups, and the sum of all values.

@@ -1,4 +1,4 @@
--- Who has seen all calls of all callers has seen the whole history.
+-- Whoever has seen all calls of all callers has seen the whole history.
 use Rattle.std.proofs.Common.{◌≡◌, ◌+◌, ◌==◌, ◌++◌, ℕ, Bool, true, false, cond, List, [], ◌∷◌, length, refl, ap, sym, ◌∙◌, arith, append-nil, length-append}
 use Rattle.lock_book.specs.declared.view.Entry.{Entry}
 use Rattle.lock_book.specs.History.{StartsWith, calls_by}

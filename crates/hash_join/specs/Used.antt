@@ -38,6 +38,6 @@ pub record IsShared (records : Table) (column callers : ℕ) (drawn : Drawn) (hi
   pub no_others : (n number : ℕ) → number < 128 → callers ≤ n → calls_by n (history number) ≡ []
   pub lawful : (number : ℕ) → number < 128 → IsLegal (λ _. PartitionLegal last_step number) fresh (history number)
 
--- what a join used, for so many workers
+-- what a join used, for this many workers
 abbrev pub IsUsed : Table → ℕ → ℕ → Joined → Type 0
 IsUsed records column workers j = IsShared records column (workers + 1) j.drawn (whole_of j.table) j.areas.items

@@ -143,7 +143,8 @@ fn put_blocks<R: Wait>(
     unreachable!()
 }
 
-/// What a participant does, from its beginning to its end.
+/// All that a participant does in the first round: it draws blocks of left rows until there are none, and puts their
+/// rows into the table.
 pub(crate) fn fill<R: Wait>(
     rt: &R,
     store: &Store,

@@ -112,7 +112,7 @@ fn fillers(alloc: Global, passes: Passes, seats: Vec<ClaimSeat>) -> Result<Vec<F
     Ok(fillers)
 }
 
-/// A table for so many participants, and each with its tokens.
+/// A table for this many participants, and each with its tokens.
 fn open_round<R: Wait>(
     rt: &R,
     alloc: Global,
@@ -273,7 +273,7 @@ fn end_round<R: Wait>(
     })
 }
 
-/// The first round, with so many participants.
+/// The first round, with this many participants.
 pub(crate) fn gather_rows<R: Threads + Wait + Sync>(
     rt: &R,
     alloc: Global,

@@ -56,7 +56,7 @@ pub struct Joined {
 }
 
 /// Joins two tables on a column of each: the pairs of rows whose fields there have the same bytes and are not empty.
-/// All rows are tested first, those of the left table before those of the right one. The caller's thread and so many
+/// All rows are tested first, those of the left table before those of the right one. The caller's thread and this many
 /// workers take part; fewer threads may start, also none.
 ///
 /// It takes the time of the rows and of the pairs, and of sorting the pairs. Memory is 8.6 MB for the table, 24 bytes a

@@ -36,7 +36,7 @@ pub(crate) struct Passes {
     pub(crate) tables: Vec<DsPass<LastRow>>,
 }
 
-/// An area of its own region, and the passes of so many callers.
+/// An area of its own region, and the passes of this many callers.
 #[tactic(auto, using(word_map::proofs::Maps::answers, std::proofs::lemmas::Bool::Decides::nat_tests))]
 fn open_area(alloc: Global, callers: u32) -> Result<(Region, Area, Vec<AreaPass>), AllocError>
     requires callers { 1 ≤ callers }
@@ -51,7 +51,7 @@ fn open_area(alloc: Global, callers: u32) -> Result<(Region, Area, Vec<AreaPass>
     Ok((region, area, passes))
 }
 
-/// An empty table for so many callers. Its area was just opened and has room for its slices, so a refusal is want of
+/// An empty table for this many callers. Its area was just opened and has room for its slices, so a refusal is want of
 /// memory.
 pub(crate) fn open_store<R: Wait>(
     rt: &R,

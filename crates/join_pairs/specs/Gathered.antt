@@ -21,6 +21,7 @@ abbrev pub linked : List Link → List ℕ → List ℕ
 linked [] befores = befores
 linked (l ∷ ls) befores = linked ls (set befores l.row l.before)
 
+-- these links were set, one after the other
 abbrev pub HasLinks : List Link → List ℕ → List ℕ → Type 0
 HasLinks links befores befores' = befores' ≡ linked links befores
 
@@ -32,12 +33,14 @@ pub record Extends (key : List ℕ) (row place : ℕ) (c d : Chains) : Type 0 wh
   pub lasts : d.lasts.items ≡ set c.lasts.items place row
   pub befores : d.befores.items ≡ set c.befores.items row (get_or c.lasts.items place 0)
 
+-- the key was not there
 pub record Begins (key : List ℕ) (row : ℕ) (c d : Chains) : Type 0 where
   pub absent : (place : ℕ) → slice_get c.keys place ≡ Some key → ⊥
   pub keys : d.keys ≡ c.keys ++ key ∷ []
   pub lasts : d.lasts.items ≡ c.lasts.items ++ row ∷ []
   pub befores : d.befores.items ≡ set c.befores.items row 0
 
+-- a row of a key was added in one of the two ways
 abbrev pub AddsRow : List ℕ → ℕ → Chains → Chains → Type 0
 AddsRow key row c d = ((place : ℕ) × Extends key row place c d) ⊎ Begins key row c d
 
@@ -52,6 +55,7 @@ pub record AreChains (records : Table) (column : ℕ) (rows : List ℕ) (keys : 
   pub chains : (p : ℕ) (key : List ℕ) → slice_get keys p ≡ Some key → HasChain (before_in befores) records column rows key (get_or lasts p 0)
   pub absent : (key : List ℕ) → ((p : ℕ) → slice_get keys p ≡ Some key → ⊥) → HasChain (before_in befores) records column rows key 0
 
+-- the chains are those of these rows
 abbrev pub HasChains : Table → ℕ → List ℕ → Chains → Type 0
 HasChains records column rows c = AreChains records column rows c.keys c.lasts.items c.befores.items
 

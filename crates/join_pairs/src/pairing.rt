@@ -289,8 +289,8 @@ fn first_stop(findings: &Vec<Finding>) -> Option<NoPairs>
     None
 }
 
-/// The second round, with so many participants: the pairs in order. That the seats come home tells that each block was
-/// drawn once.
+/// The second round, with this many participants: the pairs in order. That the seats come home tells that each block
+/// was drawn once.
 pub fn find_pairs<R: Threads + Wait + Sync>(
     rt: &R,
     alloc: Global,

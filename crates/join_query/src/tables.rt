@@ -24,7 +24,7 @@ pub(crate) struct Tables {
     pub(crate) right: RowStore,
 }
 
-/// The tables of these bytes, by at most so many threads.
+/// The tables of these bytes, by at most this many threads.
 pub(crate) fn read_tables<R: Threads + Sync>(
     rt: &R,
     alloc: Global,

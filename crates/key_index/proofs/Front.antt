@@ -23,7 +23,7 @@ first_of_all n x xs h = h 0 0 (omega arith)
 next_power : (n : ℕ) → 256 ^ suc n ≡ 256 ^ n * 256
 next_power n = ap (λ (k : ℕ). 256 ^ k) (let e : suc n ≡ n + 1 = omega arith in e) ∙ pow-add 256 n 1
 
--- a number of so many bytes is below the power of 256
+-- a number of this many bytes is below the power of 256
 below : (n : ℕ) (xs : List ℕ) → AllBytes (take n xs) → leading n xs < 256 ^ n
 unfolding leading
 below zero xs h = omega arith
@@ -41,7 +41,7 @@ below (suc n) (x ∷ xs) h =
     let first : suc x * p ≤ 256 * p = mul-le-mul_right p (first_of_all n x xs h) in
     rw (next_power n) (omega (arith, suc-mul x p))
 
--- where the numbers of so many bytes rise, so do the lists
+-- where the numbers of this many bytes rise, so do the lists
 pub less : (n : ℕ) (a b : List ℕ) → AllBytes (take n a) → AllBytes (take n b) → leading n a < leading n b → key_cmp a b ≡ Less
 unfolding leading
 less zero a b x y lt = absurd (omega arith)
@@ -128,7 +128,7 @@ padded bs i = by (cases_lt i (length bs))
     by (inr le) =
         get_or-append_right bs (drop (length bs) (zeros 16)) (length bs) i 0 refl le ∙ get_or-drop (length bs) (zeros 16) (i - length bs) 0 ∙ zero-at 16 (length bs + (i - length bs)) ∙ sym (past bs i le)
 
--- only so many bytes count
+-- only this many bytes count
 pub leading-take : (n : ℕ) (bs : List ℕ) → leading n (take n bs) ≡ leading n bs
 unfolding leading
 leading-take zero bs = refl

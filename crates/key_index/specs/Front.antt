@@ -10,7 +10,7 @@ pub record IsFrontOf (front key : List ℕ) : Type 0 where
   pub rest : List ℕ
   pub is : key ≡ front ++ rest
 
--- so many bytes as a number, the highest first, with zeros where there are too few
+-- this many bytes as a number, the highest first, with zeros where there are too few
 unfoldable pub leading : ℕ → List ℕ → ℕ
 leading zero bytes = 0
 leading (suc count) [] = 0

@@ -11,11 +11,11 @@ use Rattle.key_index.specs.declared.table.TheConstants.{LONGEST_SEARCH}
 abbrev pub hash : List ℕ → ℕ
 hash key = folding.finish (folding.write folding.initial key)
 
--- the slot that a search for a hash comes to after so many steps, of so many slots
+-- the slot that a search for a hash comes to after this many steps, of this many slots
 unfoldable pub probe : ℕ → ℕ → ℕ → ℕ
 probe size hash step = bit_and ((bit_and hash (size - 1) + step) % 2 ^ 64) (size - 1)
 
--- how many of so many slots a search looks at
+-- how many of this many slots a search looks at
 abbrev pub reach : ℕ → ℕ
 reach size = min size LONGEST_SEARCH
 
@@ -26,7 +26,7 @@ free = record { tag = 0; next = 0 }
 abbrev pub slot_of : ℕ → ℕ → Slot
 slot_of hash place = record { tag = hash / 2 ^ 32; next = place + 1 }
 
--- the slot after so many steps
+-- the slot after this many steps
 abbrev pub slot_at : List Slot → ℕ → ℕ → Slot
 slot_at slots hash step = get_or slots (probe (length slots) hash step) free
 
@@ -51,6 +51,6 @@ pub record IsLate (late : BTreeMap (Vec ℕ) ℕ) (keys : List (List ℕ)) (key 
 pub record IsIndexed (slots : List Slot) (late : BTreeMap (Vec ℕ) ℕ) (keys : List (List ℕ)) : Type 0 where
   pub each : (place : ℕ) (key : List ℕ) → slice_get keys place ≡ Some key → IsReached slots (hash key) place ⊎ IsLate late keys key
 
--- after so many steps a search finds a slot that is not free, and not that of the key
+-- after this many steps a search finds a slot that is not free, and not that of the key
 abbrev pub Misses : List Slot → List (List ℕ) → List ℕ → ℕ → Type 0
 Misses slots keys key step = (0 < (slot_at slots (hash key) step).next) × ((place : ℕ) → slot_at slots (hash key) step ≡ slot_of (hash key) place → slice_get keys place ≡ Some key → ⊥)

@@ -3,7 +3,7 @@
 //! A search goes from the slot of a key's hash on to the first free one, but never further than `LONGEST_SEARCH` slots.
 //! No more than half of the slots are taken, so hardly a key in a million is further off, unless someone chose the keys
 //! for their hashes, whose seed is known. A key that finds no slot within that reach goes into an ordered map. So
-//! whatever the keys are, one is found by so many slots and one search of the map at most.
+//! whatever the keys are, one is found by a bounded number of slots and one search of the map at most.
 //!
 //! The invariant, `IsIndexed`: each key's place is reached before a free slot, or else the map has a place of the key.
 //! Only `push` changes slots and map, and what was found stays found.
@@ -212,7 +212,7 @@ fn guess_in(slot: Slot, hash: u64) -> usize {
     slot.next as usize - 1
 }
 
-/// The slot that a search for a hash comes to after so many steps.
+/// The slot that a search for a hash comes to after this many steps.
 fn probe(size: usize, hash: u64, step: usize) -> usize
     requires { step < size }
     ensures place { result ≡ probed size hash step }
@@ -293,7 +293,7 @@ fn put(slots: &mut Vec<Slot>, hash: u64, place: usize) -> bool
     false
 }
 
-/// A table of so many slots for these keys. Those that find none go into the ordered map.
+/// A table of this many slots for these keys. Those that find none go into the ordered map.
 fn index_of(
     alloc: Global,
     keys: &KeyList,

@@ -82,7 +82,7 @@ module _ {N S C R : Type 0} where
   newcomers opens callers = record { opens = opens; callers = callers; from = 0; owns = replicate callers []; seen = []; told = []; stage = Idle }
 
   module _ (opens : List (N × S)) (callers : ℕ) (logs : ℕ → List (Entry S C R)) where
-    -- what is true of a seat at a stage: who has a value is one caller, and has seen the value's whole history
+    -- what is true of a seat at a stage: whoever has a value is one caller, and has seen the value's whole history
     abbrev pub StageOk : (View N S C R) → Stage → Type 0
     StageOk v Idle = Unit {0}
     StageOk v (Holding i) = (length v.owns ≡ 1) × (i < length opens) × (seen_at v i ≡ logs i)
@@ -175,7 +175,7 @@ module _ {N S C R : Type 0} where
     pub from : w.from ≡ v.from
     pub free : IsFree w
 
-  -- the seat of so many callers from the one with this number on, which have made no call
+  -- the seat of this many callers from the one with this number on, which have made no call
   abbrev pub fresh_pass : List (N × S) → ℕ → ℕ → ℕ → View N S C R
   fresh_pass opens callers from count = record { opens = opens; callers = callers; from = from; owns = replicate count []; seen = []; told = []; stage = Idle }
 

@@ -8,7 +8,7 @@ use plan_spec::Plan;
 use std::alloc::Global;
 use table_query::{Stop, stop_of_row};
 
-/// That of an answer of `merge`.
+/// The reason to stop that stands for an answer of `merge`.
 pub(crate) fn stop_of_merge(alloc: Global, plan: &Plan, answer: MergeAnswer) -> Stop
     ensures { RestatesMerge plan.now.plan answer result }
 {

@@ -47,6 +47,7 @@ phase_told (Twice p) = Some p
 abbrev pub ArrivesBy : ℕ → Step → Type 0
 ArrivesBy n e = (e.by ≡ n) × (e.call ≡ Arrive) × ((e.reply ≡ Waiting) ⊎ ((p : ℕ) × (e.reply ≡ Released p true)))
 
+-- whether a call is one to detach
 abbrev pub is_detach : BarrierCall → Bool
 is_detach Attach = false
 is_detach Arrive = false
@@ -79,6 +80,6 @@ ElectsOne = (front : List Step) (e : Step) → IsHistory (front ++ e ∷ []) →
 abbrev pub TellsElected : Type 0
 TellsElected = (front mid : List Step) (e x : Step) (p : ℕ) → IsHistory (front ++ e ∷ (mid ++ x ∷ [])) → ends_in e.after (mid ++ x ∷ []) ≡ 0 → x.reply ≡ Released p true → e.after.elected ≡ Some x.by
 
--- Who has arrived, and has not left since, cannot arrive again before the phase ends
+-- Whoever has arrived, and has not left since, cannot arrive again before the phase ends
 abbrev pub ArrivesOnce : Type 0
 ArrivesOnce = (front mid : List Step) (x y : Step) → IsHistory (front ++ x ∷ (mid ++ y ∷ [])) → x.call ≡ Arrive → x.reply ≡ Waiting → ends_in x.after mid ≡ 0 → list_any (leaves_by x.by) mid ≡ false → y.by ≡ x.by → y.call ≡ Arrive → y.reply ≡ Twice x.after.phase

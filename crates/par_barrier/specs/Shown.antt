@@ -97,6 +97,6 @@ abbrev pub arrived_reply : Result Arrived BarrierAnswer → BarrierReply
 arrived_reply (Ok arrived) = reply.Released arrived.phase arrived.elected
 arrived_reply (Err why) = refusal_reply why
 
--- an arrival that has to wait, so many looks that have to wait too, and the look with the reply r
+-- an arrival that has to wait, this many looks that have to wait too, and the look with the reply r
 abbrev pub waited : ℕ → BarrierReply → List (BarrierCall × BarrierReply)
 waited looks r = (Arrive, reply.Waiting) ∷ replicate looks (Look, reply.Waiting) ++ (Look, r) ∷ []

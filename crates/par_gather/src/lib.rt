@@ -55,7 +55,7 @@ pub enum Ran {
 /// The bytes are cut into records by the caller's thread and as many workers as the words ask for, each a part of them.
 /// The rows are shared out, by blocks of 256, among the same number; each participant passes the gate before each of
 /// its blocks, the caller's thread as participant 0. In the plan `hash`, with `--area-pages` of 16 or more, they share a
-/// table of groups in an area of so many pages of 4 KiB; a group that finds no room there, and each group in the plan
+/// table of groups in an area of this many pages of 4 KiB; a group that finds no room there, and each group in the plan
 /// `gather`, comes to the caller's thread. What is written is the same. Of several refused rows the line may name any one,
 /// unless no workers are asked for.
 ///

@@ -23,9 +23,9 @@ pub enum NotWhole {
     Memory,
 }
 
-/// Reads all that the source has left, if that is at most so many bytes. Each read takes at least a byte, so it returns,
-/// after at most one byte more than that. On `Err` a part was read and is lost. The time is linear in the bytes, and so
-/// is the memory, at most twice the bytes and a piece of 128 KiB.
+/// Reads all that the source has left, if that is at most this many bytes. Each read takes at least a byte, so it
+/// returns, after at most one byte more than that. On `Err` a part was read and is lost. The time is linear in the
+/// bytes, and so is the memory, at most twice the bytes and a piece of 128 KiB.
 pub fn read_whole<S: Source>(
     alloc: Global,
     source: &mut S,

@@ -39,7 +39,7 @@ abbrev pub by_records : NamedPlan → List (List (List ℕ)) → Outcome
 by_records plan [] = NoHeader
 by_records plan (header ∷ rows) = if nat_lt most_rows (length rows) then TooManyRows else by_missing plan header rows (missing_name header plan)
 
--- of a plan, or of words that are none, over so many bytes, which are these records
+-- of a plan, or of words that are none, over this many bytes, which are these records
 unfoldable pub outcome : Option NamedPlan → ℕ → List (List (List ℕ)) → Outcome
 outcome None size records = Usage
 outcome (Some plan) size records = if nat_lt most_bytes size then TooManyBytes else by_records plan records

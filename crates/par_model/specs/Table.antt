@@ -40,7 +40,7 @@ table_header plan = plan.groups ++ map item_text plan.items
 abbrev pub or_null : ℕ → List ℕ → List ℕ
 or_null count text = if count == 0 then [] else text
 
--- what an aggregate of a group prints, where the group has so many rows
+-- what an aggregate of a group prints, where the group has this many rows
 abbrev pub value_text : ItemKind → ℕ → SlotState → List ℕ
 value_text kind.Rows rows slot = decimal rows
 value_text kind.Count rows slot = decimal slot.count

@@ -18,7 +18,7 @@ pub record IsShell (s : Shell) : Type 0 where
   pub contents : contents.IsContents s.region s.contents
   pub barriers : barriers.AreBarriers s.barriers
 
--- a shell as it opens, over so many pages: the area is fresh, nothing has a name, there is no hash table, and the
+-- a shell as it opens, over this many pages: the area is fresh, nothing has a name, there is no hash table, and the
 -- table of contents is empty and grows
 pub record Opens (pages : ℕ) (s : Shell) : Type 0 where
   pub pages_are : pages_of s.heap.area ≡ pages

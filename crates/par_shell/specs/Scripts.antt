@@ -55,11 +55,11 @@ pub record AnswersPart (first : Shell) (script text : List ℕ) : Type 0 where
   pub runs : Runs first lines answers last
   pub begins : (n : ℕ) × (text ≡ take n (written answers))
 
--- a script was answered to its end, in a shell of so many pages that opened
+-- a script was answered to its end, in a shell of this many pages that opened
 abbrev pub IsRun : ℕ → List ℕ → List ℕ → Shell → Type 0
 IsRun pages script text last = (first : Shell) × IsShell first × Opens pages first × Answers first script text last
 
--- a part of a script was answered, in a shell of so many pages that opened
+-- a part of a script was answered, in a shell of this many pages that opened
 abbrev pub IsPart : ℕ → List ℕ → List ℕ → Type 0
 IsPart pages script text = (first : Shell) × IsShell first × Opens pages first × AnswersPart first script text
 

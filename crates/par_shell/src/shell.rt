@@ -27,8 +27,8 @@ pub struct Shell {
 }
 
 impl Shell {
-    /// A shell with an area of so many pages, in which nothing has a name. It takes memory for the region, 4,160 bytes
-    /// a page, and for the locks of the area.
+    /// A shell with an area of this many pages, in which nothing has a name. It takes memory for the region, 4,160
+    /// bytes a page, and for the locks of the area.
     #[tactic(auto, using(word_map::proofs::Maps::answers, std::proofs::lemmas::Bool::Decides::nat_tests))]
     pub fn new(alloc: Global, pages: u32) -> Result<Shell, AllocError>
         requires few { pages ≤ 4096 }

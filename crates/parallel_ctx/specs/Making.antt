@@ -18,7 +18,7 @@ use Rattle.parallel_ctx.specs.declared.tokens.WorkerEnds.{WorkerEnds}
 
 -- ---- the table of contents
 
--- it has the segment's magic number and no key from `next` on, and so many bytes are left
+-- it has the segment's magic number and no key from `next` on, and this many bytes are left
 pub record IsMaking (t : Table) (next bytes : ℕ) : Type 0 where
   pub magic : t.magic ≡ 1601
   pub unused : (key : ℕ) → next ≤ key → place_of t.entries key ≡ None
@@ -63,18 +63,18 @@ ends_in h = h.ends
 abbrev pub hash_in : Hand → Option HashSeat
 hash_in h = h.seats.hash
 
--- the first so many of some passes, one for each participant; none where they are used up
+-- this many of some passes, from the first on, one for each participant; none where they are used up
 abbrev pub firsts : List HashSeat → ℕ → List (Option HashSeat)
 firsts seats zero = []
 firsts [] (suc n) = None ∷ firsts [] n
 firsts (s ∷ seats) (suc n) = Some s ∷ firsts seats n
 
--- a table of groups was made with the passes of so many participants, or none was
+-- a table of groups was made with the passes of this many participants, or none was
 abbrev pub AreDealt : TableId → ℕ → Option HashPart → List HashSeat → Type 0
 AreDealt region callers None seats = seats ≡ []
 AreDealt region callers (Some p) seats = IsPart region p × (callers_of p ≡ callers) × AreUnusedSeats p seats
 
--- there is a table exactly where the plan asks for it and the area has room for it; the area has so many pages
+-- there is a table exactly where the plan asks for it and the area has room for it; the area has this many pages
 abbrev pub HasTable : Plan → ℕ → Option HashPart → Type 0
 HasTable plan pages None = (plan.hash && leb 16 pages) ≡ false
 HasTable plan pages (Some p) = ((plan.hash && leb 16 pages) ≡ true) × (pages_of p.area ≡ pages)

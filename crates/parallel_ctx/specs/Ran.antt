@@ -25,7 +25,7 @@ pub record Finishes {E : Type 0} (did : Plan → ℕ → Account → E → Type 
   pub errors : IsQueue r.errors
   pub tuples : IsQueue r.tuples
 
--- The histories of a table with so many participants: each is legal, and has no entries of others
+-- The histories of a table with this many participants: each is legal, and has no entries of others
 pub record AreWhole (callers : ℕ) (history : ℕ → List AggEntry) : Type 0 where
   pub lawful : (i : ℕ) → i < 128 → IsLegal (λ _. PartitionLegal stepped i) fresh (history i)
   pub no_others : (i n : ℕ) → callers ≤ n → calls_by n (history i) ≡ []

@@ -9,7 +9,7 @@ use Rattle.parallel_ctx.specs.declared.tokens.Seats.{Seats}
 use Rattle.parallel_ctx.specs.declared.tokens.LeaderEnds.{LeaderEnds}
 use Rattle.parallel_ctx.specs.Returns.{CanLead, CanWork}
 
--- a list that is empty, with room for so many
+-- a list that is empty, with room for this many
 abbrev pub HasRoom : {A : Type 0} → ℕ → Vec A Global → Type 0
 HasRoom count v = (v.items ≡ []) × (count ≤ vec_capacity v)
 

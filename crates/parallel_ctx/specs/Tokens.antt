@@ -117,7 +117,7 @@ abbrev pub AreNumbered : ℕ → List ℕ → Type 0
 AreNumbered n [] = ⊤
 AreNumbered n (k ∷ ks) = (k ≡ n) × AreNumbered (suc n) ks
 
--- the table of groups has so many participants
+-- the table of groups has this many participants
 abbrev pub HasCallers : ℕ → Option HashPart → Type 0
 HasCallers n None = Unit {0}
 HasCallers n (Some p) = table_callers p ≡ n

@@ -60,7 +60,7 @@ fn area_chunk(r: &Region, toc: &mut Toc, pages: u32) -> Chunk
     chunk
 }
 
-/// The table of groups for so many participants, if there is to be one, and their passes.
+/// The table of groups for this many participants, if there is to be one, and their passes.
 pub(crate) fn open_hash<R: Wait>(
     rt: &R,
     alloc: Global,

@@ -44,7 +44,7 @@ fn lowered(alloc: Global, count: usize) -> Result<Vec<AtomicBool>, AllocError>
     Ok(flags)
 }
 
-/// The lists of so many threads.
+/// The lists of this many threads.
 pub(crate) fn thread_lists<P: Drop, B: Drop>(
     alloc: Global,
     asked: usize,
@@ -60,7 +60,7 @@ pub(crate) fn thread_lists<P: Drop, B: Drop>(
     })
 }
 
-/// The lists of so many workers and a lead.
+/// The lists of this many workers and a lead.
 pub(crate) fn home_lists<E: Drop>(alloc: Global, asked: usize) -> Result<HomeLists<E>, AllocError>
     requires { asked ≤ 64 }
     ensures workers { IfOk result (λ l. HasRoom asked l.workers) }

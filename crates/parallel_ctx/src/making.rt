@@ -51,7 +51,7 @@ pub const LONGEST_NOTICE: u32 = 64;
 
 pub const LONGEST_TUPLE: u32 = 1024;
 
-/// How many words the segment of a context for so many workers has, beside those of its table of groups.
+/// How many words the segment of a context for this many workers has, beside those of its table of groups.
 pub(crate) fn words_for(workers: u32, hash: u64) -> u64
     requires workers { workers ≤ 64 }
     requires hash { (hash ≤ 40000000) × (hash % 4 ≡ 0) }
@@ -171,7 +171,7 @@ pub(crate) struct Queues {
     pub(crate) receivers: Vec<LeaderEnds>,
 }
 
-/// Makes the queues of so many workers, in order.
+/// Makes the queues of this many workers, in order.
 pub(crate) fn new_queues(
     alloc: Global,
     r: &Region,

@@ -23,10 +23,10 @@ pub trait Worker: Sync {
     /// What a worker answers when it ends.
     type End: Send + Drop;
 
-    /// Which plans, over so many blocks, it can do.
+    /// Which plans, over this many blocks, it can do.
     ghost asks: { Self → Plan → ℕ → Type 0 };
 
-    /// What the call did by a plan over so many blocks, and its end.
+    /// What the call did by a plan over this many blocks, and its end.
     ghost did: { Self → Plan → ℕ → Account → Self.End → Type 0 };
 
     /// Works with unused tokens, which stay in their places. It may leave its ends attached.
@@ -51,11 +51,11 @@ pub trait Lead {
     ghost use Rattle.agg_table.specs.Calls.{Use};
     ghost use Rattle.parallel_ctx.specs.Accounts.{Heard};
 
-    /// Which plans, over so many blocks, it can lead.
+    /// Which plans, over this many blocks, it can lead.
     ghost asks: { Self → Plan → ℕ → Type 0 };
 
-    /// What the call did by a plan over so many blocks: the numbers it drew, what it did with the table of groups, where
-    /// there is one, and what it took of each worker's queues.
+    /// What the call did by a plan over this many blocks: the numbers it drew, what it did with the table of groups,
+    /// where there is one, and what it took of each worker's queues.
     ghost led: { Self → Plan → ℕ → List ℕ → Option Use → List Heard → Self → Type 0 };
 
     /// Leads with unused tokens, and one pair of ends for each worker asked for, in order. They stay in their places;

@@ -27,7 +27,7 @@ struct Clues {
     lasts: [u8; MOST_ROWS],
 }
 
-/// Guesses at the places of the keys of so many rows.
+/// Guesses at the places of the keys of this many rows.
 #[inline(never)]
 pub(crate) fn guess_places(
     keys: &KeyTable,
@@ -55,7 +55,7 @@ pub(crate) fn guess_places(
     guesses
 }
 
-/// The clues of so many rows.
+/// The clues of this many rows.
 fn clues_of(rows: &NearRows<'_>, first: u64, count: u64, width: u32, plan: &BoundPlan) -> Clues
     requires rows { first + count ≤ length rows.now }
     requires fits { first + count < 2 ^ 64 }

@@ -109,7 +109,7 @@ impl Layout {
         slots
     }
 
-    /// Reads so many of the slots that lanes stand for. The others stay as they are.
+    /// Reads this many of the slots that lanes stand for. The others stay as they are.
     pub(crate) fn read(&self, lanes: &[SlotState], slots: &mut [SlotState; 8], count: usize)
         requires { count ≤ 8 }
         ensures front { take count slots.new ≡ take count (slots_in self.now.parts lanes.now) }

@@ -69,8 +69,8 @@ impl<'a> LentGroups<'a> {
         self.keys.get(self.places[at])
     }
 
-    /// Reads the aggregates of the group at a place: the number of rows and so many slots. The other slots of `state` stay
-    /// as they are.
+    /// Reads the aggregates of the group at a place: the number of rows and this many slots. The other slots of `state`
+    /// stay as they are.
     pub fn read_state(&self, at: usize, state: &mut AggState, count: u32)
         requires place { at < length self.now }
         requires few { count ≤ 8 }

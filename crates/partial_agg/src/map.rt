@@ -212,7 +212,7 @@ impl GroupMap {
         Ok(())
     }
 
-    /// Guesses at the places of the keys of so many rows.
+    /// Guesses at the places of the keys of this many rows.
     fn guess_places(
         &self,
         rows: &NearRows<'_>,

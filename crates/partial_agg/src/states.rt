@@ -74,7 +74,7 @@ impl StateList {
         }
     }
 
-    /// Reads the state at a place: the number of its rows and so many slots. The other slots stay as they are.
+    /// Reads the state at a place: the number of its rows and this many slots. The other slots stay as they are.
     pub(crate) fn read(&self, at: usize, state: &mut AggState, count: usize)
         requires place { at < length self.now }
         requires few { count ≤ 8 }
@@ -181,7 +181,7 @@ impl StateList {
     }
 }
 
-/// So many lanes from a place on.
+/// This many lanes from a place on.
 fn lanes_at(lanes: &[SlotState], first: usize, width: usize) -> &[SlotState]
     requires { first + width ≤ length lanes.now }
     ensures { result.now ≡ take width (drop first lanes.now) }

@@ -9,7 +9,7 @@ use plan_spec::Plan;
 use std::alloc::Global;
 use table_query::{Stop, stop_of_row};
 
-/// That of an answer of a block.
+/// The reason to stop that stands for an answer on a block.
 pub(crate) fn stop_of_block(alloc: Global, plan: &Plan, answer: BlockAnswer) -> Stop
     ensures { Restates plan.now.plan answer result }
 {
@@ -24,7 +24,7 @@ pub(crate) fn stop_of_block(alloc: Global, plan: &Plan, answer: BlockAnswer) -> 
     }
 }
 
-/// That of an answer of `gather`.
+/// The reason to stop that stands for an answer of `gather`.
 pub(crate) fn stop_of_gather(alloc: Global, plan: &Plan, answer: GatherAnswer) -> Stop
     ensures { RestatesGather plan.now.plan answer result }
 {

@@ -36,7 +36,7 @@ pub(crate) fn write_table<O: Sink>(
     write_piece(out, text.as_slice())
 }
 
-/// The same, with a text that is made by at most so many threads, the caller's among them.
+/// The same, with a text that is made by at most this many threads, the caller's among them.
 pub(crate) fn write_table_in_threads<R: Threads + Sync, O: Sink>(
     rt: &R,
     alloc: Global,

@@ -13,7 +13,7 @@ is_merge words = bytes_eq (slice_index_or words 0 []) (codes "merge")
 abbrev pub row_count : NamedItem
 row_count = record { kind = kind.Rows; column = None }
 
--- a query that groups by these columns, counts rows, and is made by so many workers
+-- a query that groups by these columns, counts rows, and is made by this many workers
 abbrev pub merge_query : List ℕ → List ℕ → Option Query
 merge_query columns workers = query_by (names_in columns) (Some (row_count ∷ [])) (Some None) (Some false) (number_in 64 workers) (Some 0)
 

@@ -1,4 +1,4 @@
--- Who does not hold the word that changes sees no change.
+-- Whoever does not hold the word that changes sees no change.
 use Rattle.std.proofs.Common.{◌≡◌, ◌≢◌, ℕ, List, slice_set, Option, Some, sym, subst, ◌∙◌, arith}
 use Rattle.atomic_table.proofs.Lists.{set_else}
 use Rattle.word_map.specs.WordMap.{WordMap, at, Has}

@@ -9,7 +9,7 @@ use crate::part::Part;
 use crate::region::Region;
 use rel_pointer::RelPtr;
 
-/// Words in a row: `bytes / 8` of them from the valid place `at`. Who holds the chunk owns them.
+/// Words in a row: `bytes / 8` of them from the valid place `at`. Whoever holds the chunk owns them.
 #[derive(Drop)]
 pub struct Chunk {
     /// Its first word.

@@ -17,10 +17,10 @@ state_in groups ref = get_or (map (λ group. group.state) groups) ref.at empty_s
 abbrev pub group_of : List Group → GroupRef → Group
 group_of groups ref = record { key = ref.key.now; state = state_in groups ref }
 
--- its line, by so many columns of its key
+-- its line, by this many columns of its key
 abbrev pub line_of : ℕ → List Group → GroupRef → Line
 line_of count groups ref = (columns_in count ref.key.now, state_in groups ref)
 
--- whether a group stands before another, by so many columns of their keys
+-- whether a group stands before another, by this many columns of their keys
 abbrev pub is_before : ℕ → GroupRef → GroupRef → Bool
 is_before count a b = is_lt (columns_cmp (columns_in count a.key.now) (columns_in count b.key.now))

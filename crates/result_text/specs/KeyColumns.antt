@@ -14,7 +14,7 @@ first_column key = take (first_size key) (drop 4 key)
 abbrev pub after_first_column : List ℕ → List ℕ
 after_first_column key = drop (first_size key) (drop 4 key)
 
--- so many columns; of bytes that end too early they are empty
+-- this many columns; of bytes that end too early they are empty
 abbrev pub columns_in : ℕ → List ℕ → List (List ℕ)
 columns_in zero key = []
 columns_in (suc count) key = first_column key ∷ columns_in count (after_first_column key)

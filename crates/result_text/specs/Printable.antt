@@ -12,7 +12,7 @@ pub record IsBoundFrom (names : NamedPlan) (plan : Plan) : Type 0 where
   pub header : List (List ℕ)
   pub is : plan ≡ bound_plan header names
 
--- a key is the encoding of so many columns
+-- a key is the encoding of this many columns
 pub record IsKeyOf (count : ℕ) (key : List ℕ) : Type 0 where
   pub columns : List (List ℕ)
   pub many : length columns ≡ count

@@ -54,8 +54,8 @@ pub fn text_of(
     table.into_text()
 }
 
-/// The same text in pieces, one behind the other, made by at most so many threads, the caller's among them. It takes the
-/// memory that [`text_of`] takes; the text is never in one list. The lines are shared out, not the sort.
+/// The same text in pieces, one behind the other, made by at most this many threads, the caller's among them. It takes
+/// the memory that [`text_of`] takes; the text is never in one list. The lines are shared out, not the sort.
 pub fn text_in_threads<R: Threads + Sync>(
     rt: &R,
     alloc: Global,

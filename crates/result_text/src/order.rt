@@ -20,7 +20,7 @@ pub(crate) struct GroupRef<'a> {
     pub(crate) at: usize,
 }
 
-/// The groups in order of the so many columns of their keys. It takes 24 bytes a group.
+/// The groups in order of their keys, which have this many columns. It takes 24 bytes a group.
 pub(crate) fn in_order<'a>(
     alloc: Global,
     groups: &'a Groups,
@@ -52,7 +52,7 @@ fn as_they_are<'a>(alloc: Global, groups: &'a Groups) -> Result<Vec<GroupRef<'a>
     Ok(refs)
 }
 
-/// How two keys compare by so many columns.
+/// How two keys compare by this many columns.
 fn compare(a: &[u8], b: &[u8], columns: u32) -> Ordering
     ensures { result ≡ columns_cmp (columns_in columns a.now) (columns_in columns b.now) }
 {

@@ -16,7 +16,7 @@ use std::thread::{Threads, map_chunks};
 /// The text of a range of groups, or want of memory.
 pub(crate) type Part = Result<Vec<u8>, AllocError>;
 
-/// The texts of the lines of the groups, by at most so many threads, and at least one.
+/// The texts of the lines of the groups, by at most this many threads, and at least one.
 pub(crate) fn lines_in_threads<R: Threads + Sync>(
     rt: &R,
     alloc: Global,

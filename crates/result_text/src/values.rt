@@ -28,7 +28,7 @@ pub(crate) fn push_header(
     push_item_texts(row, plan, bound.items().len() as u32)
 }
 
-/// The so many names that a plan groups by.
+/// The names that a plan groups by, this many.
 fn push_names(row: &mut ByteRecord, plan: &Plan, columns: u32) -> Result<(), AllocError>
     requires whole { partial_of row.old ≡ [] }
     requires columns { columns ≡ length plan.now.plan.groups }
@@ -41,7 +41,7 @@ fn push_names(row: &mut ByteRecord, plan: &Plan, columns: u32) -> Result<(), All
     Ok(())
 }
 
-/// The names of a plan's so many aggregates.
+/// The names of a plan's aggregates, this many.
 fn push_item_texts(row: &mut ByteRecord, plan: &Plan, count: u32) -> Result<(), AllocError>
     requires whole { partial_of row.old ≡ [] }
     requires items { count ≡ length plan.now.plan.items }
@@ -53,7 +53,7 @@ fn push_item_texts(row: &mut ByteRecord, plan: &Plan, count: u32) -> Result<(), 
     Ok(())
 }
 
-/// The so many columns of an encoded key.
+/// The columns of an encoded key, this many.
 pub(crate) fn push_columns(row: &mut ByteRecord, key: &[u8], columns: u32) -> Result<(), AllocError>
     requires whole { partial_of row.old ≡ [] }
     ensures fields { OnOk result (fields_of row.new ≡ fields_of row.old ++ columns_in columns key.now) }

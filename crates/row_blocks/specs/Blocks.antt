@@ -11,7 +11,7 @@ Table = List (List (List ℕ))
 abbrev pub numbers_of : Table → List ℕ
 numbers_of records = drop 1 (below (length records))
 
--- so many blocks cover the rows, and each of them has a row
+-- this many blocks cover the rows, and each of them has a row
 pub record AreBlocks (records : Table) (blocks : ℕ) : Type 0 where
   pub each : (b : ℕ) → b < blocks → 256 * b + 1 < length records
   pub all : length records ≤ 256 * blocks + 1

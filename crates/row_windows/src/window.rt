@@ -91,10 +91,10 @@ impl Window {
         Ok(())
     }
 
-    /// Reads on, behind what was read already, until there are at least so many bytes behind the header, or the source
-    /// is at its end, and finds the last place at which the text can be cut. Where there is none it reads on, up to as
-    /// many bytes as a record may have. Says whether these lines are the last, and then there is no rest. On `Err` what
-    /// was read is lost. The time is linear in the bytes, and so is the memory, at most twice the bytes.
+    /// Reads on, behind what was read already, until there are at least this many bytes behind the header, or the
+    /// source is at its end, and finds the last place at which the text can be cut. Where there is none it reads on, up
+    /// to as many bytes as a record may have. Says whether these lines are the last, and then there is no rest. On
+    /// `Err` what was read is lost. The time is linear in the bytes, and so is the memory, at most twice the bytes.
     pub fn fill<S: Source>(&mut self, source: &mut S, size: usize) -> Result<bool, WindowAnswer>
         requires { self.old.lines ≡ [] }
         ensures header { OnOk result (self.new.header ≡ self.old.header) }
@@ -156,7 +156,7 @@ impl Window {
         }
     }
 
-    /// Takes the first so many bytes of the lines as the line of the header, of windows that follow too.
+    /// Takes this many bytes at the front of the lines as the line of the header, of windows that follow too.
     pub fn set_header(&mut self, at: usize)
         requires none { self.old.header ≡ [] }
         requires within { at ≤ length self.old.lines }

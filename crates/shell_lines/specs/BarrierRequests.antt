@@ -6,7 +6,7 @@ use Rattle.shell_lines.specs.declared.barriers.BarrierCommand.TheVariants as cod
 use Rattle.shell_lines.specs.declared.barriers.PartyCall.{PartyCall}
 use Rattle.shell_lines.specs.declared.barriers.PartyCall.TheVariants.{Attach, Arrive, Look, Detach}
 
--- what is asked of the barriers: a barrier for so many callers, or a caller's call
+-- what is asked of the barriers: a barrier for this many callers, or a caller's call
 pub data BarrierRequest : Type 0 where
   New : List ℕ → ℕ → BarrierRequest
   Call : List ℕ → ℕ → PartyCall → BarrierRequest

@@ -8,8 +8,8 @@ use Rattle.dshash_numbers.specs.declared.number.NumberCall.TheVariants.{Put}
 use Rattle.dshash_numbers.specs.declared.table.NumberTable.{NumberTable}
 use Rattle.shell_memory.specs.Tables.{Puts, Stops, fill_key, one_if_new}
 
--- i puts were made, of which so many had a new key, and led from n and u to m and w. The next is of this number, under
--- this key
+-- i puts were made, of which this many had a new key, and led from n and u to m and w. The next is of this number,
+-- under this key
 module _ (a b : Area) (i new : ℕ) (n m n' : NumberTable) (u w u' : AreaPass) (key : List ℕ) (number : ℕ) (same : b ≡ a) (is : key ≡ fill_key number) (next : number ≡ suc i) (puts : Puts a i new n u m w) where
   -- it was made
   pub one-more : (more : ℕ) → ((before : Option ℕ) × (more ≡ one_if_new before) × IsMade b m n' w u' (packed_key key) (Put number) before) → Puts a number (new + more) n u n' u'

@@ -36,6 +36,7 @@ state_by (Some toc) None = Some (growing_in toc.words)
 state_by None (Some toc) = Some (frozen_in toc.words)
 state_by other frozen = None
 
+-- the state that the shell's tokens show
 abbrev pub state_of : Contents → Option TocState
 state_of t = state_by t.growing t.frozen
 

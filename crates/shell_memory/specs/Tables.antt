@@ -47,15 +47,15 @@ abbrev pub one_if_new : Option ℕ → ℕ
 one_if_new before = cond {A = ℕ} (is_some before) 0 1
 
 module _ (a : Area) where
-  -- The puts of the first so many numbers lead from a table n and a pass u of the area to n' and u', and so many of their
-  -- keys were new
+  -- The puts of the numbers up to this one lead from a table n and a pass u of the area to n' and u', and this many of
+  -- their keys were new
   abbrev pub Puts : ℕ → ℕ → NumberTable → AreaPass → NumberTable → AreaPass → Type 0
   Puts zero new n u n' u' = (new ≡ 0) × (n' ≡ n) × (u' ≡ u)
   Puts (suc i) new n u n' u' =
       (m : NumberTable) × (w : AreaPass) × (fewer : ℕ) × (before : Option ℕ) × Puts i fewer n u m w
       × IsMade a m n' w u' (packed_key (fill_key (suc i))) (verb.Put (suc i)) before × (new ≡ fewer + one_if_new before)
 
-  -- The put of one of the first so many numbers was refused, with these two numbers, and those before it were made
+  -- The put of one of the numbers up to this one was refused, with these two numbers, and those before it were made
   pub record Stops (count wanted largest : ℕ) (n : NumberTable) (u : AreaPass) (n' : NumberTable) (u' : AreaPass) : Type 0 where
     pub made : ℕ
     pub new : ℕ

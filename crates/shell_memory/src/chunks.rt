@@ -38,9 +38,9 @@ pub(crate) enum ChunkAnswer {
     Range,
     /// It was done.
     Done,
-    /// A chunk of so many bytes.
+    /// A chunk of this many bytes.
     Granted { bytes: u64 },
-    /// So many pages were wanted, and the longest free run has so many.
+    /// The pages that were wanted, and those of the longest free run.
     NoSpace { pages: u32, largest: u32 },
     /// The chunk is none of the area's.
     Stranger,

@@ -45,9 +45,9 @@ pub(crate) enum ContentsAnswer {
     NoName,
     /// It was done.
     Done,
-    /// A chunk of so many bytes.
+    /// A chunk of this many bytes.
     Granted { bytes: u64 },
-    /// So many bytes were wanted, and so many are left.
+    /// The bytes that were wanted, and those that are left.
     Full { wanted: u64, free: u64 },
     /// The key stands already.
     KeyThere,

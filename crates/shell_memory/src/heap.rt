@@ -20,7 +20,7 @@ pub struct Heap {
 }
 
 impl Heap {
-    /// An area of so many pages in a chunk, with one caller.
+    /// An area of this many pages in a chunk, with one caller.
     pub fn new(alloc: Global, r: &Region, chunk: Chunk, pages: u32) -> Result<Heap, AllocError>
         requires here { chunk.part.region ≡ r.now }
         requires size { chunk.bytes ≡ 8 * area_size pages }
@@ -36,7 +36,7 @@ impl Heap {
         Ok(Heap { area, pass })
     }
 
-    /// A chunk of at least so many bytes.
+    /// A chunk of at least this many bytes.
     pub fn alloc<R: Wait>(&mut self, rt: &R, r: &Region, bytes: u64) -> Result<Chunk, NoSpace>
         requires heap { IsHeap r.now self.old }
         requires some { (1 ≤ bytes) × (bytes ≤ 2 ^ 30) }

@@ -37,7 +37,7 @@ pub(crate) enum TableAnswer {
     NoTable,
     /// There is a table.
     Done,
-    /// So many pages were wanted, and the longest free run has so many.
+    /// The pages that were wanted, and those of the longest free run.
     NoSpace { pages: u32, largest: u32 },
     /// Nothing stood under the key.
     New,
@@ -47,7 +47,7 @@ pub(crate) enum TableAnswer {
     Value { value: u64 },
     /// Nothing stands under the key.
     None,
-    /// All were put, and so many of the keys were new.
+    /// All were put, and this many of the keys were new.
     Filled { new: u64 },
     /// How many entries there are, and the sum of their numbers.
     Total { count: u64, sum: u128 },

@@ -53,7 +53,7 @@ abbrev pub IsTorn : Option (List ℕ) → List ℕ → Type 0
 IsTorn None put = left_of put ≡ []
 IsTorn (Some text) put = (left_of put ≢ []) × Continues put text
 
--- the text that is kept where so many words of its frame are stored
+-- the text that is kept where this many words of its frame are stored
 abbrev pub torn_by : ℕ → List ℕ → Option (List ℕ)
 torn_by words text = if words == 0 then None else Some text
 

@@ -183,7 +183,7 @@ impl Barriers {
         }
     }
 
-    /// A barrier for so many callers under a new name.
+    /// A barrier for this many callers under a new name.
     fn make(&mut self, alloc: Global, name: &[u8], callers: u32) -> Result<PartyAnswer, AllocError>
         requires barriers { AreBarriers self.old }
         requires callers { (1 ≤ callers) × (callers ≤ 64) }

@@ -62,7 +62,7 @@ pub(crate) enum RingAnswer {
     Detached,
     /// The text is on the ring.
     Sent,
-    /// The ring is full, and so many words of the frame are stored.
+    /// The ring is full, and this many words of the frame are stored.
     Stored { words: u64 },
     /// No whole message has come.
     Again,
@@ -70,7 +70,7 @@ pub(crate) enum RingAnswer {
     Got,
     /// It was done.
     Done,
-    /// So many pages were wanted, and the longest free run has so many.
+    /// The pages that were wanted, and those of the longest free run.
     NoSpace { pages: u32, largest: u32 },
 }
 
@@ -157,7 +157,7 @@ impl Rings {
         }
     }
 
-    /// A ring of so many cells under a new name, in a chunk of the area.
+    /// A ring of this many cells under a new name, in a chunk of the area.
     fn ring<R: Wait>(
         &mut self,
         rt: &R,
@@ -341,7 +341,7 @@ impl Queue {
         answer
     }
 
-    /// Keeps the text of which so many words are stored, if any are.
+    /// Keeps the text of which this many words are stored, if any are.
     fn keep(&mut self, alloc: Global, text: &[u8], stored: u64) -> Result<(), AllocError>
         requires free { ((state_of self.old).torn ≡ None) ⊎ ((state_of self.old).torn ≡ Some text.now) }
         ensures ends { (self.new.sender ≡ self.old.sender) × (self.new.receiver ≡ self.old.receiver) }

@@ -224,7 +224,7 @@ fn is_page(active: Option<u64>, page: u64) -> bool
     }
 }
 
-/// The active superblock's page, when a new superblock came in at a page and so many objects of the others are free.
+/// The active superblock's page, when a new superblock came in at a page and this many objects of the others are free.
 fn next_active(active: Option<u64>, left: u64, page: u64) -> Option<u64>
     ensures none { left ≡ 0 → result ≡ Some page }
     ensures some { 0 < left → result ≡ active }

@@ -3,7 +3,7 @@ use Rattle.std.specs.Prelude.{◌≡◌, ◌≤◌, ◌+◌, ◌*◌, ℕ, List,
 use Rattle.tuple_codec.specs.Tuple.{key_length}
 use Rattle.tuple_codec.specs.declared.read.Shape.{Shape}
 
--- the bytes have a key of this length and so many slots, and end with the last one
+-- the bytes have a key of this length and this many slots, and end with the last one
 pub record HasShape (bytes : List ℕ) (shape : Shape) : Type 0 where
   pub key : shape.key ≡ key_length bytes
   pub key_fits : shape.key ≤ 248

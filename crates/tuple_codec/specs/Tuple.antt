@@ -42,11 +42,11 @@ pub record IsTuple (key : List ℕ) (state : AggState) (slots : ℕ) : Type 0 wh
   pub numbers : AllByRecursion IsSlot state.slots
   pub zeros : drop slots state.slots ≡ replicate (8 - slots) no_values
 
--- why so many bytes from a place on are not this many slots
+-- why this many bytes from a place on are not this many slots
 abbrev pub slots_refusal : ℕ → ℕ → ℕ → Option TupleRead
 slots_refusal at left slots = if nat_lt left (40 * slots) then Some (refused.Short (at + 40 * (left / 40))) else (if nat_lt (40 * slots) left then Some (refused.Trailing (left - 40 * slots)) else None)
 
--- why so many bytes are no tuple with a key of this length and this many slots
+-- why this many bytes are no tuple with a key of this length and this many slots
 abbrev pub shape_refusal : ℕ → ℕ → ℕ → Option TupleRead
 shape_refusal size key slots =
     if nat_lt size 4 then Some (refused.Short 0)

@@ -100,7 +100,7 @@ fn shape_of(bytes: &[u8]) -> Result<Shape, TupleRead>
     }
 }
 
-/// Why so many bytes from a place on are not this many slots.
+/// Why this many bytes from a place on are not this many slots.
 fn refuse_slots(at: usize, left: usize, slots: usize) -> Option<TupleRead>
     requires fits { at + left < 2 ^ 64 }
     requires few { slots ≤ 8 }

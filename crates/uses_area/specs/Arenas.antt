@@ -16,7 +16,7 @@ page_count = 4096
 abbrev pub first_word : ℕ
 first_word = head_words + front page_count
 
--- a pool of this class, over so many pages of this region whose page 0 begins at word `first`
+-- a pool of this class, over this many pages of this region whose page 0 begins at word `first`
 pub record IsPoolOf (region : TableId) (first pages class : ℕ) (b : PoolView) : Type 0 where
   pub here : b.region ≡ region
   pub layout : b.layout ≡ layout_of class first pages
@@ -43,7 +43,7 @@ pub record IsHeld (region : TableId) (c : Chunk) : Type 0 where
 abbrev pub HasNoRun : PagesState → ℕ → Type 0
 HasNoRun s n = (largest : ℕ) × (largest < n) × IsLargest s.pages s.granted largest
 
--- the pages that a request of so many bytes takes where no object serves it: those of a superblock, or whole pages
+-- the pages that a request of this many bytes takes where no object serves it: those of a superblock, or whole pages
 -- above 8,192 bytes
 abbrev pub pages_for : ℕ → ℕ
 pages_for bytes = cond {A = ℕ} (leb bytes largest_size) superblock_pages ((bytes + 4095) / 4096)

@@ -15,7 +15,7 @@ mod lone;
 mod two;
 mod walk;
 
-/// A region with an area of so many pages behind its first word, and a pass for each caller.
+/// A region with an area of this many pages behind its first word, and a pass for each caller.
 #[tactic(auto, using(word_map::proofs::Maps::answers, std::proofs::lemmas::Bool::Decides::nat_tests))]
 fn area_for(
     alloc: Global,

@@ -45,7 +45,7 @@ pub(crate) fn give_object(r: &Region, pages: &mut Pages, pool: &mut Pool, chunk:
     }
 }
 
-/// The chunk of so many whole pages, where there are as many in a row.
+/// The chunk of this many whole pages, where there are as many in a row.
 pub(crate) fn take_pages(r: &Region, pages: &mut Pages, n: u32) -> Option<Chunk>
     requires here { pages.old.region ≡ r.now }
     requires some { 1 ≤ n }

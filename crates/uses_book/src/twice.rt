@@ -1,4 +1,4 @@
-//! Two threads add to one counter, each so many times. Then their passes meet, and the shelf is closed.
+//! Two threads add to one counter, each this many times. Then their passes meet, and the shelf is closed.
 
 ghost use Rattle.std.specs.Prelude.{◌≡◌, ◌<◌, ◌≤◌, ◌*◌, ◌+◌, ◌%◌, ◌^◌, ℕ, length, [], ◌∷◌, IfOk};
 ghost use Rattle.lock_book.specs.History.{calls_by};
@@ -24,7 +24,7 @@ fn for_two(alloc: Global) -> Result<(Shelf<Counter>, Pass<Counter>, Pass<Counter
     Ok((shelf, zero, one))
 }
 
-/// Adds 1 so many times, by whoever has the pass.
+/// Adds 1 this many times, by whoever has the pass.
 fn add_times<R: Wait>(
     rt: &R,
     shelf: &Shelf<Counter>,
@@ -65,7 +65,7 @@ fn close_two(
     Ok(shelf.close(passes))
 }
 
-/// Two threads add 1 so many times each. The closed shelf has each of their calls once, and no others.
+/// Two threads add 1 this many times each. The closed shelf has each of their calls once, and no others.
 pub fn closed_by_two<R: Threads + Wait + Sync>(
     rt: &R,
     alloc: Global,

@@ -17,7 +17,7 @@ const PAGES: u32 = 4096;
 /// How many chunks of a thread are live at once, where it gives each back that many calls after it was taken.
 const WINDOW: usize = 100;
 
-/// A region with an area of so many pages behind its first word, and a pass for each caller.
+/// A region with an area of this many pages behind its first word, and a pass for each caller.
 #[tactic(auto, using(word_map::proofs::Maps::answers, std::proofs::lemmas::Bool::Decides::nat_tests))]
 pub fn area_for(
     alloc: Global,
@@ -59,7 +59,7 @@ fn take_and_give<R: Wait>(
     area.free(rt, r, pass, chunk).is_ok()
 }
 
-/// The same so many times. Says how often the area gave the chunk and took it.
+/// The same, this many times. Says how often the area gave the chunk and took it.
 fn pairs<R: Wait>(
     rt: &R,
     area: &Area,
@@ -83,8 +83,8 @@ fn pairs<R: Wait>(
     good
 }
 
-/// Has so many threads take and give back so many chunks each, of so many bytes. Says how often the area gave one and
-/// took it.
+/// Has this many threads take and give back this many chunks each, of this many bytes. Says how often the area gave one
+/// and took it.
 pub fn area_load<R: Threads + Wait + Sync>(
     rt: &R,
     alloc: Global,
@@ -165,8 +165,8 @@ fn exchange<R: Wait>(
     area.free(rt, r, pass, old).is_ok()
 }
 
-/// The same so many times, each time in the place of the chunk that was taken longest ago. Says how often the area gave
-/// the one and took the other, and 0 where it has no room for as many as are to be live at once.
+/// The same, this many times, each time in the place of the chunk that was taken longest ago. Says how often the area
+/// gave the one and took the other, and 0 where it has no room for as many as are to be live at once.
 fn exchanges<R: Wait>(
     rt: &R,
     alloc: Global,
@@ -198,8 +198,8 @@ fn exchanges<R: Wait>(
     good
 }
 
-/// Has so many threads take so many chunks each, of so many bytes, and give each back a hundred calls later. Says how
-/// often the area gave one and took one.
+/// Has this many threads take this many chunks each, of this many bytes, and give each back a hundred calls later. Says
+/// how often the area gave one and took one.
 pub fn window_load<R: Threads + Wait + Sync>(
     rt: &R,
     alloc: Global,

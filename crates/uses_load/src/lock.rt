@@ -11,7 +11,7 @@ use std::alloc::{AllocError, Global};
 use std::sync::Wait;
 use std::thread::{Threads, map_vec};
 
-/// Adds 1 so many times, by whoever has the pass.
+/// Adds 1 this many times, by whoever has the pass.
 fn adds<R: Wait>(
     rt: &R,
     shelf: &Shelf<Counter>,
@@ -31,7 +31,7 @@ fn adds<R: Wait>(
     pass
 }
 
-/// Has a thread for each pass add 1 so many times. The passes as they come back.
+/// Has a thread for each pass add 1 this many times. The passes as they come back.
 fn all_add<R: Threads + Wait + Sync>(
     rt: &R,
     shelf: &Shelf<Counter>,
@@ -56,7 +56,7 @@ fn all_add<R: Threads + Wait + Sync>(
     )
 }
 
-/// Ends a shelf of one number whose callers made so many calls each, and gives the number.
+/// Ends a shelf of one number whose callers made this many calls each, and gives the number.
 fn value_of(shelf: Shelf<Counter>, passes: Vec<Pass<Counter>>, calls: u64) -> u64
     requires one { (count_of shelf ≡ 1) × (opens_of shelf ≡ (tt, 0) ∷ []) }
     requires all { AreAll shelf passes.items }
@@ -71,7 +71,7 @@ fn value_of(shelf: Shelf<Counter>, passes: Vec<Pass<Counter>>, calls: u64) -> u6
     counter.value
 }
 
-/// Has so many threads add 1 so many times each to a number that was 0, and gives the number.
+/// Has this many threads add 1 this many times each to a number that was 0, and gives the number.
 pub fn lock_load<R: Threads + Wait + Sync>(
     rt: &R,
     alloc: Global,

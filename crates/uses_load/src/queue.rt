@@ -13,7 +13,7 @@ use std::thread::{Threads, join};
 /// The words of the queue's ring: 64 KiB.
 const RING_WORDS: u64 = 8192;
 
-/// A new region, and in its words behind word 0 a queue of messages of up to so many bytes.
+/// A new region, and in its words behind word 0 a queue of messages of up to this many bytes.
 fn new_queue(alloc: Global, most: u32) -> Result<(Region, Sender, Receiver), AllocError>
     requires few { most ≤ 1000000 }
     ensures here { IfOk result (λ made. (made.1.region ≡ made.0) × (made.2.region ≡ made.0)) }
@@ -33,7 +33,7 @@ fn new_queue(alloc: Global, most: u32) -> Result<(Region, Sender, Receiver), All
     }
 }
 
-/// Sends so many messages, each with its number in front, without flush, and goes. Says how many were sent.
+/// Sends this many messages, each with its number in front, without flush, and goes. Says how many were sent.
 fn send_all<R: Wait>(rt: &R, r: &Region, mut s: Sender, mut message: Vec<u8>, calls: u64) -> u64
     requires here { s.region ≡ r.now }
     requires stays { s.end.gone ≡ false }
@@ -51,12 +51,12 @@ fn send_all<R: Wait>(rt: &R, r: &Region, mut s: Sender, mut message: Vec<u8>, ca
     calls
 }
 
-/// Whether the message begins with its number and has so many bytes.
+/// Whether the message begins with its number and has this many bytes.
 fn is_numbered(message: &[u8], number: u64, bytes: usize) -> bool {
     message.len() == bytes && message.starts_with(&number.to_le_bytes())
 }
 
-/// Receives so many messages. Says how many came with their number and length.
+/// Receives this many messages. Says how many came with their number and length.
 fn receive_all<R: Wait>(rt: &R, r: &Region, mut q: Receiver, bytes: usize, calls: u64) -> u64
     requires here { q.region ≡ r.now }
     requires stays { q.end.gone ≡ false }
@@ -100,7 +100,7 @@ fn stream<R: Threads + Wait + Sync>(
     came
 }
 
-/// Has one thread send so many messages of so many bytes to another. Says how many came as they were sent.
+/// Has one thread send this many messages of this many bytes to another. Says how many came as they were sent.
 pub fn queue_load<R: Threads + Wait + Sync>(
     rt: &R,
     alloc: Global,

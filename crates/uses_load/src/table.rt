@@ -30,7 +30,7 @@ const SPREAD: u64 = 0x9E37_79B9_7F4A_7C15;
 /// How many keys are a caller's own: those from its number times as many on.
 const KEYS_EACH: u64 = 4_294_967_296;
 
-/// Pages enough for so many items, for the bucket slices, and for the old ones beside the new while the table grows.
+/// Pages enough for this many items, for the bucket slices, and for the old ones beside the new while the table grows.
 fn pages_for(keys: u64) -> u32
     requires { keys ≤ 1000000 }
     ensures { result ≤ 65536 }
@@ -67,7 +67,7 @@ fn paired(
     Ok(both)
 }
 
-/// A table of keys of one word in an area with room for so many of them; the passes of one caller, and those of the
+/// A table of keys of one word in an area with room for this many of them; the passes of one caller, and those of the
 /// others.
 fn table_for<R: Wait>(
     rt: &R,
@@ -171,7 +171,7 @@ fn put_next<R: Wait>(
     replies(rt, table, r, area, passes, key, NumberCall::Put(key), None)
 }
 
-/// Puts so many keys of the caller's own, of which `most` at most are there at once. Says how many were new.
+/// Puts this many keys of the caller's own, of which `most` at most are there at once. Says how many were new.
 fn puts<R: Wait>(
     rt: &R,
     table: &Dshash<Number>,
@@ -197,7 +197,7 @@ fn puts<R: Wait>(
     new
 }
 
-/// Puts the keys from 0 on, so many of them.
+/// Puts the keys from 0 on, this many of them.
 fn fill<R: Wait>(
     rt: &R,
     table: &Dshash<Number>,
@@ -217,7 +217,7 @@ fn fill<R: Wait>(
     }
 }
 
-/// Gets so many of the keys from 0 on, in an order of the caller's own. Says how many were found.
+/// Gets this many of the keys from 0 on, in an order of the caller's own. Says how many were found.
 fn gets<R: Wait>(
     rt: &R,
     table: &Dshash<Number>,
@@ -246,7 +246,7 @@ fn gets<R: Wait>(
     found
 }
 
-/// Has so many threads put so many new keys each, of which `keys` are there at once. Says how many were new.
+/// Has this many threads put this many new keys each, of which `keys` are there at once. Says how many were new.
 pub fn puts_load<R: Threads + Wait + Sync>(
     rt: &R,
     alloc: Global,
@@ -274,7 +274,8 @@ pub fn puts_load<R: Threads + Wait + Sync>(
     Ok(sum_of(new.as_slice()))
 }
 
-/// Puts `keys` keys into a table, and has so many threads get one of them so many times each. Says how many were found.
+/// Puts `keys` keys into a table, and has this many threads get one of them this many times each. Says how many were
+/// found.
 pub fn gets_load<R: Threads + Wait + Sync>(
     rt: &R,
     alloc: Global,

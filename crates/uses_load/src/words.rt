@@ -19,7 +19,7 @@ pub enum Kind {
     Gets,
 }
 
-/// A run: so many threads make so many calls each. `size` is in bytes or in keys.
+/// A run: this many threads make this many calls each. `size` is in bytes or in keys.
 #[derive(Clone, Copy)]
 pub struct Load {
     pub kind: Kind,

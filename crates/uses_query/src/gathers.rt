@@ -17,8 +17,8 @@ use std::test::Fail;
 use std::thread::Threads;
 use worker_run::{Gate, OpenGate, WorkerEnd};
 
-/// Rows under the headers `g` and `v`: so many, of so many groups, whose names are letters in turn. The row `bad`, from
-/// 1 on, has a value that is no number.
+/// Rows under the headers `g` and `v`: this many, of this many groups, whose names are letters in turn. The row `bad`,
+/// from 1 on, has a value that is no number.
 fn table(alloc: Global, count: u64, names: u64, bad: u64) -> Result<Vec<u8>, AllocError>
     requires { (1 ≤ names) × (names ≤ 26) }
 {
@@ -41,7 +41,7 @@ fn digit(n: u64, unit: u64) -> u8
     b'0' + (n / unit % 10) as u8
 }
 
-/// Rows of so many groups with names of 5 digits, in turn, of which one may be bad.
+/// Rows of this many groups with names of 5 digits, in turn, of which one may be bad.
 fn wide_table(alloc: Global, count: u64, names: u64, bad: u64) -> Result<Vec<u8>, AllocError>
     requires { 1 ≤ names }
 {
@@ -133,7 +133,8 @@ fn refused<R: Threads + Wait + Sync>(
     }
 }
 
-/// So many groups of so many rows each, with so many workers, and with a table in so many pages if these are not none.
+/// This many groups of this many rows each, with this many workers, and with a table in this many pages if these are
+/// not none.
 fn even_groups<G: Gate + Sync, R: Threads + Wait + Sync>(
     rt: &R,
     alloc: Global,

@@ -124,7 +124,7 @@ fn any_number_of_workers(rt: HostRuntime) -> Result<(), Fail> {
     Ok(())
 }
 
-/// So many rows with the same field, under a header.
+/// This many rows with the same field, under a header.
 fn ones(alloc: Global, count: u64) -> Result<Vec<u8>, AllocError> {
     let mut text = Vec::from_slice(alloc, b"id\n")?;
     for _ in 0..count {
@@ -133,7 +133,7 @@ fn ones(alloc: Global, count: u64) -> Result<Vec<u8>, AllocError> {
     Ok(text)
 }
 
-/// A header and a row of one field, of so many bytes.
+/// A header and a row of one field, of this many bytes.
 fn long_field(alloc: Global, bytes: u64) -> Result<Vec<u8>, AllocError> {
     let mut text = Vec::from_slice(alloc, b"id\n")?;
     for _ in 0..bytes {

@@ -257,7 +257,7 @@ fn refused_rows(rt: HostRuntime) -> Result<(), Fail> {
     check(&rt, rt.alloc(), &runs)
 }
 
-/// Two tables with a key of so many bytes in either.
+/// Two tables with a key of this many bytes in either.
 fn with_keys(alloc: Global, left: u64, right: u64) -> Result<Vec<u8>, AllocError> {
     let mut text = Vec::from_slice(alloc, b"id\n")?;
     for _ in 0..left {

@@ -146,7 +146,7 @@ fn refused(alloc: Global, text: &[u8]) -> Result<Option<Refused>, Fail> {
     Ok(first_refused(&store, 0))
 }
 
-/// A header and a row of one field, of so many bytes.
+/// A header and a row of one field, of this many bytes.
 fn long_field(alloc: Global, bytes: usize) -> Result<Vec<u8>, AllocError> {
     let mut text = Vec::from_slice(alloc, b"id\n")?;
     for _ in 0..bytes {

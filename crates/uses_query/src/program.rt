@@ -15,7 +15,7 @@ use std::sync::Wait;
 use std::test::Fail;
 use std::thread::Threads;
 
-/// Texts that stand one after the other, each so many times.
+/// Texts that stand one after the other, each this many times.
 type Pieces<'a> = &'a [(&'a str, u32)];
 
 const USAGE: &str =

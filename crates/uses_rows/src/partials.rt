@@ -115,7 +115,7 @@ fn other_query(rt: &HostRuntime, text: &[u8]) -> Result<(RowStore, BoundPlan), F
     Ok((store, plan))
 }
 
-/// A table of one row, which begins with so many letters.
+/// A table of one row, which begins with this many letters.
 fn long_text(alloc: Global, letters: usize, rest: &[u8]) -> Result<Vec<u8>, AllocError> {
     let mut text = Vec::from_slice(alloc, b"a,b,v,w\n")?;
     for _ in 0..letters {

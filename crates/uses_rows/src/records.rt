@@ -35,7 +35,7 @@ const LINE: &[u8] = b"1234567\n";
 /// How many such lines are enough for two threads.
 const LINES: u64 = 16_384;
 
-/// So many such lines.
+/// This many such lines.
 fn lines(alloc: Global, count: u64) -> Result<Vec<u8>, AllocError> {
     let mut text = Vec::new(alloc);
     for _line in 0..count {

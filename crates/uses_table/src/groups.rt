@@ -32,7 +32,7 @@ fn table_for_one<R: Wait>(
     Ok((region, table, seats))
 }
 
-/// Puts the keys 0, 1, 0 and 1 in, each with a state of so many rows.
+/// Puts the keys 0, 1, 0 and 1 in, each with a state of this many rows.
 fn put_four<R: Wait>(
     rt: &R,
     r: &Region,

@@ -12,7 +12,7 @@ use std::alloc::{AllocError, Global};
 use std::sync::Wait;
 use std::test::Fail;
 
-/// A region with an area of so many pages behind its first word, and the pass of its one caller.
+/// A region with an area of this many pages behind its first word, and the pass of its one caller.
 #[tactic(auto, using(word_map::proofs::Maps::answers, std::proofs::lemmas::Bool::Decides::nat_tests))]
 fn area_for(alloc: Global, pages: u32) -> Result<(Region, Area, AreaPass), AllocError>
     requires few { pages ≤ 65536 }
@@ -29,7 +29,7 @@ fn area_for(alloc: Global, pages: u32) -> Result<(Region, Area, AreaPass), Alloc
     Ok((region, area, pass))
 }
 
-/// Puts so many numbers, each under its own bytes. How many of the keys were new, and how many puts were refused.
+/// Puts this many numbers, each under its own bytes. How many of the keys were new, and how many puts were refused.
 fn put_all<R: Wait>(
     rt: &R,
     table: &mut NumberTable,

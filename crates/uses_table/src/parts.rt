@@ -71,7 +71,7 @@ impl CellObject for Number {
     }
 }
 
-/// A region with an area of so many pages behind its first word, and a pass for each caller.
+/// A region with an area of this many pages behind its first word, and a pass for each caller.
 #[tactic(auto, using(word_map::proofs::Maps::answers, std::proofs::lemmas::Bool::Decides::nat_tests))]
 fn area_for(
     alloc: Global,
@@ -130,7 +130,7 @@ fn does<R: Wait>(
     }
 }
 
-/// The same with so many keys from one on. Says how often the answer was such.
+/// The same with this many keys from one on. Says how often the answer was such.
 fn does_all<R: Wait>(
     rt: &R,
     table: &Dshash<Number>,
@@ -162,7 +162,7 @@ fn does_all<R: Wait>(
     good
 }
 
-/// Puts so many keys from one on and gets them. Says how often each of the two went as it has to.
+/// Puts this many keys from one on and gets them. Says how often each of the two went as it has to.
 fn put_and_get<R: Wait>(
     rt: &R,
     table: &Dshash<Number>,

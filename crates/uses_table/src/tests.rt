@@ -17,7 +17,7 @@ use std::sync::Wait;
 use std::test::Fail;
 use std::thread::{Threads, join};
 
-/// A region with an area of so many pages behind its first word, and a pass for each caller.
+/// A region with an area of this many pages behind its first word, and a pass for each caller.
 #[tactic(auto, using(word_map::proofs::Maps::answers, std::proofs::lemmas::Bool::Decides::nat_tests))]
 fn area_for(
     alloc: Global,
@@ -75,7 +75,7 @@ fn cache_for_two<R: Wait>(
     Ok((region, area, table, zero, one))
 }
 
-/// Keeps so many texts, each under a name of the caller's own. Says for how many there was room, and hands the passes
+/// Keeps this many texts, each under a name of the caller's own. Says for how many there was room, and hands the passes
 /// back.
 fn keeps_all<R: Wait>(
     rt: &R,

@@ -38,7 +38,7 @@ pub record AreHands {G : Type 0} (job : Job G) (claim : ClaimSeat) (errors tuple
   pub errors_here : errors.region ≡ job.region.now
   pub tuples_here : tuples.region ≡ job.region.now
 
--- the same, with which nothing was done yet; the queues take messages of 14 bytes, and of so many
+-- the same, with which nothing was done yet; the queues take messages of 14 bytes, and of this many
 pub record AreFreshHands {G : Type 0} (job : Job G) (longest : ℕ) (claim : ClaimSeat) (errors tuples : SendingEnd) : Type 0 where
   pub hands : AreHands job claim errors tuples
   pub fresh : draws_of claim ≡ []

@@ -40,15 +40,15 @@ pub record FoundGone (old new : Sending) (messages : List (List ℕ)) : Type 0 w
 
 -- ---- groups
 
--- a group that has zeros past so many slots
+-- a group that has zeros past this many slots
 abbrev pub HasZeros : ℕ → Group → Type 0
 HasZeros slots group = drop slots group.1.slots ≡ replicate (8 - slots) no_values
 
--- groups as tuples with so many slots
+-- groups as tuples with this many slots
 abbrev pub tuples_of : ℕ → List Group → List (List ℕ)
 tuples_of slots groups = map_list (λ group. tuple_bytes group.0 group.1 slots) groups
 
--- each of the groups has a tuple with so many slots
+-- each of the groups has a tuple with this many slots
 abbrev pub AreWritten : ℕ → List Group → Type 0
 AreWritten slots groups = AllByRecursion (λ group. IsTuple group.0 group.1 slots) groups
 

@@ -28,7 +28,7 @@ use scan_claim::ClaimSeat;
 use std::alloc::Global;
 use std::sync::Wait;
 
-/// A worker without a table sends its groups once it holds so many after a block.
+/// A worker without a table sends its groups once it holds this many after a block.
 const MOST_KEPT: usize = 1_048_576;
 
 /// How many aggregates a plan has.

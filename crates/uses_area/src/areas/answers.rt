@@ -9,7 +9,7 @@ use region_words::{Chunk, Region};
 use std::sync::Wait;
 use std::test::Fail;
 
-/// Asks for so many bytes. The two numbers where they are refused.
+/// Asks for this many bytes. The two numbers where they are refused.
 fn refusal<R: Wait>(
     rt: &R,
     area: &Area,

@@ -53,7 +53,7 @@ fn take_and_give<R: Wait>(rt: &R, area: &Area, r: &Region, pass: &mut AreaPass, 
     area.free(rt, r, pass, chunk).is_ok() && read
 }
 
-/// The same so many times. Says how often all went as it has to.
+/// The same, this many times. Says how often all went as it has to.
 fn take_and_give_times<R: Wait>(
     rt: &R,
     area: &Area,
@@ -75,7 +75,7 @@ fn take_and_give_times<R: Wait>(
     (pass, good)
 }
 
-/// Two threads do so, each so many times, and tell each other what they have seen.
+/// Two threads do so, each this many times, and tell each other what they have seen.
 fn two_take_and_give<R: Threads + Wait + Sync>(
     rt: &R,
     area: &Area,

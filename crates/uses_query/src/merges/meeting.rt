@@ -16,7 +16,7 @@ struct Meeting {
 }
 
 impl Meeting {
-    /// A gate for so many participants, four at most.
+    /// A gate for this many participants, four at most.
     fn of(all: u32) -> Meeting {
         Meeting {
             all,

@@ -52,7 +52,7 @@ fn thousand_orders(rt: HostRuntime) -> Result<(), Fail> {
     Ok(())
 }
 
-/// So many rows, of which three in a row have one key.
+/// This many rows, of which three in a row have one key.
 fn keyed(alloc: Global, rows: u32) -> Result<Vec<u8>, AllocError> {
     let mut text = Vec::from_slice(alloc, b"k,v\n")?;
     for row in 0..rows {

@@ -35,7 +35,7 @@ impl Store {
         }
     }
 
-    /// A chunk of so many words, while there are as many.
+    /// A chunk of this many words, while there are as many.
     pub fn take(&mut self, r: &Region, words: u64) -> Option<Chunk>
         requires here { self.old.part.region ≡ r.now }
         ensures here { self.new.part.region ≡ r.now }

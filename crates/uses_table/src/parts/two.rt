@@ -54,7 +54,7 @@ fn table_for_two<R: Wait>(
     Ok((region, area, table, zero, one))
 }
 
-/// A caller puts so many keys from one on and gets them. Says how often each of the two went as it has to.
+/// A caller puts this many keys from one on and gets them. Says how often each of the two went as it has to.
 fn caller<R: Wait>(
     rt: &R,
     table: &Dshash<Number>,

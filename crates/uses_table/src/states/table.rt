@@ -18,7 +18,7 @@ use std::alloc::{AllocError, Global};
 use std::sync::Wait;
 use std::test::Fail;
 
-/// A region with an area of so many pages, and the pass of its one caller.
+/// A region with an area of this many pages, and the pass of its one caller.
 #[tactic(auto, using(word_map::proofs::Maps::answers, std::proofs::lemmas::Bool::Decides::nat_tests))]
 fn area_for_one(alloc: Global, pages: u32) -> Result<(Region, Area, Vec<AreaPass>), AllocError>
     requires few { pages ≤ 65536 }
@@ -84,7 +84,7 @@ fn add<R: Wait>(
     table.call(rt, r, area, pass, apass, key, state)
 }
 
-/// Calls the keys from 0 on, so many of them, with a state. Says how many calls had room.
+/// Calls the keys from 0 on, this many of them, with a state. Says how many calls had room.
 fn call_all<R: Wait>(
     rt: &R,
     table: &Dshash<AggObject>,
