@@ -69,6 +69,10 @@ impl<K: Ord, V> BTreeMap<K, V> {
         self.0.is_empty()
     }
 
+    pub fn clear(&mut self) {
+        self.0.clear();
+    }
+
     /// The entries in order of their keys.
     pub fn iter(&self) -> std::collections::btree_map::Iter<'_, K, V> {
         self.0.iter()
