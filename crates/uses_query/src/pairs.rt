@@ -9,8 +9,8 @@ ghost use Rattle.row_blocks.specs.Blocks.{numbers_of};
 use csv_rows::{RowStore, rows};
 use dshash_core::CellObject;
 use join_pairs::{
-    Chains, LONGEST_KEY, LastRow, NoPairs, Pairs, Refused, cells_are_chains, chain_all,
-    find_pairs, first_refused, pairs_are_join,
+    Chains, LONGEST_KEY, LastRow, NoPairs, Pairs, Refused, cells_are_chains, chain_all, find_pairs,
+    first_refused, pairs_are_join,
 };
 use row_blocks::count_blocks;
 use std::alloc::{AllocError, Global};
