@@ -1,0 +1,137 @@
+//! Why there is no table: its status and its line.
+
+use par_io::Sink;
+use par_model::{ITEM_CAUSE, KEY_CAUSE, Refusal, WIDTH_CAUSE};
+use plan_spec::{Plan, PlanAnswer};
+use query_answer::{MISUSED, NO_MEMORY, READ_FAULT, REFUSED, WRITE_FAULT, write_pieces};
+use std::alloc::{AllocError, Global};
+
+/// A record is longer than 64 MiB.
+pub const LONG_RECORD: u8 = 7;
+
+/// Why a row is refused, with the name of the column of which its line speaks.
+#[derive(Debug, Drop)]
+pub(crate) enum Cause {
+    Width,
+    LongKey,
+    Item(String),
+    Filter(String),
+}
+
+/// Why there is no table. A row has its number over the whole input; the number of the header is 0.
+#[derive(Debug, Drop)]
+pub(crate) enum Stop {
+    Usage,
+    ReadFault,
+    NoHeader,
+    NoColumn(String),
+    LongRecord(u64),
+    Refused(u64, Cause),
+    WriteFault,
+    Memory,
+}
+
+impl From<AllocError> for Stop {
+    fn from(_error: AllocError) -> Stop {
+        Stop::Memory
+    }
+}
+
+impl From<PlanAnswer> for Stop {
+    fn from(answer: PlanAnswer) -> Stop {
+        match answer {
+            PlanAnswer::Usage => Stop::Usage,
+            PlanAnswer::Memory => Stop::Memory,
+        }
+    }
+}
+
+impl Cause {
+    /// What the line says of it: a text, a name, and the text behind that.
+    fn text(&self) -> (&str, &str, &str) {
+        match self {
+            Cause::Width => ("wrong number of fields", "", ""),
+            Cause::LongKey => ("group key is longer than 248 bytes", "", ""),
+            Cause::Item(name) => ("column ", name.as_str(), " is not an integer"),
+            Cause::Filter(name) => ("filter column ", name.as_str(), " is not an integer"),
+        }
+    }
+}
+
+impl Stop {
+    /// The exit status.
+    fn status(&self) -> u8 {
+        match self {
+            Stop::Usage | Stop::NoHeader | Stop::NoColumn(_) => MISUSED,
+            Stop::Refused(_, _) => REFUSED,
+            Stop::ReadFault => READ_FAULT,
+            Stop::WriteFault => WRITE_FAULT,
+            Stop::Memory => NO_MEMORY,
+            Stop::LongRecord(_) => LONG_RECORD,
+        }
+    }
+
+    /// What its line says, in pieces: of a row it is what comes after the row's number.
+    fn text(&self) -> (&str, &str, &str) {
+        match self {
+            Stop::Usage => (
+                "",
+                "",
+                "usage: parstream [--group COLUMNS] --agg ITEMS [--where FILTER] [--workers N]",
+            ),
+            Stop::ReadFault => ("read fault", "", ""),
+            Stop::NoHeader => ("no header", "", ""),
+            Stop::NoColumn(name) => ("no column ", name.as_str(), ""),
+            Stop::LongRecord(_) => ("longer than 67108864 bytes", "", ""),
+            Stop::Refused(_, cause) => cause.text(),
+            Stop::WriteFault => ("write fault", "", ""),
+            Stop::Memory => ("out of memory", "", ""),
+        }
+    }
+
+    /// The pieces of its line.
+    fn pieces<'a>(&'a self, digits: &'a mut itoa::Buffer) -> [&'a str; 8] {
+        let (row, number, colon) = match self {
+            Stop::Refused(row, _) | Stop::LongRecord(row) => ("row ", digits.format(*row), ": "),
+            _ => ("", "", ""),
+        };
+        let (text, name, rest) = self.text();
+        ["parstream: ", row, number, colon, text, name, rest, "\n"]
+    }
+
+    /// Writes the line, and gives the status.
+    pub(crate) fn end<E: Sink>(&self, err: &mut E) -> u8 {
+        self.report(err);
+        self.status()
+    }
+
+    /// Writes the line. A failed write ends it, and changes nothing else.
+    fn report<E: Sink>(&self, err: &mut E) {
+        let mut digits = itoa::Buffer::new();
+        let _ = write_pieces(err, &self.pieces(&mut digits));
+    }
+}
+
+/// The reason that this row is refused, or want of memory.
+pub(crate) fn stop_of_row(alloc: Global, plan: &Plan, row: u64, why: Refusal) -> Stop {
+    match cause_of(alloc, plan, why) {
+        Ok(cause) => Stop::Refused(row, cause),
+        Err(AllocError) => Stop::Memory,
+    }
+}
+
+/// The cause of a refusal with the name that its line speaks of.
+fn cause_of(alloc: Global, plan: &Plan, why: Refusal) -> Result<Cause, AllocError> {
+    if why.cause == WIDTH_CAUSE {
+        return Ok(Cause::Width);
+    }
+    if why.cause == KEY_CAUSE {
+        return Ok(Cause::LongKey);
+    }
+    if why.cause == ITEM_CAUSE {
+        let name = plan.item_name(why.item).unwrap_or("");
+        return Ok(Cause::Item(String::from_str(alloc, name)?));
+    }
+    let name = plan.filter_name().unwrap_or("");
+    Ok(Cause::Filter(String::from_str(alloc, name)?))
+}
