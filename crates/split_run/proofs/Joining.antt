@@ -1,12 +1,17 @@
 -- The maps of shares put together, by halves.
-use Rattle.std.proofs.Common.{◌≡◌, ◌<◌, ◌+◌, ◌^◌, ◌++◌, ℕ, List, [], ◌∷◌, All, length, refl, ap, sym, subst, ◌∙◌, arith, length-append, append-nil}
+use Rattle.std.proofs.Common.{◌≡◌, ◌<◌, ◌+◌, ◌^◌, ◌++◌, ℕ, zero, suc, List, [], ◌∷◌, All, Some, fold, length, map as map_list, drop, replicate, take, take-append-drop, refl, ap, sym, subst, ◌∙◌, arith, length-append, append-nil}
 use Rattle.std.specs.List.{AllZip, flat_map}
 use Rattle.std.specs.List.Sorted.{IsPermutation}
 use Rattle.std.proofs.lemmas.List.Concat.{flat_map-append}
 use Rattle.std.proofs.lemmas.List.Sorted.{All-permutation, IsPermutation-sym, length_permutation}
 use Rattle.std.proofs.lemmas.List.Elements.{All-append, All-cons, All-head, All-nil, All-same, All-tail}
 use Rattle.par_model.specs.Plan.{Plan}
-use Rattle.partial_agg.specs.Groups.{AreGroups, GroupsByKey, with_groups}
+use Rattle.std.specs.FinMap as fin
+use Rattle.std.specs.Prelude.{slice_get}
+use Rattle.par_model.specs.declared.state.AggState.{AggState}
+use Rattle.partial_agg.specs.Groups.{AreGroups, GroupsByKey, added, with_groups}
+use Rattle.partial_agg.specs.Listed.{group, listed}
+use Rattle.partial_agg.specs.declared.groups.Group.{Group}
 use Rattle.partial_agg.specs.Rows.{IsAccepted}
 use Rattle.partial_agg.proofs.Adding.{no_groups}
 use Rattle.partial_agg.proofs.AnyOrder.{in_any_order}
@@ -67,3 +72,32 @@ joined_rows maps whole joins plan width rows shared few =
     let size = length_permutation mine rows shared.same in
     let are = joins plan width shared.shares shared.each fine (omega (arith, size, few)) in
     record { each = λ q. are.each q ∙ sym (in_any_order plan width mine rows q fine shared.same) }
+
+-- ---- a list, element by element
+
+pub replicate_more : {X : Type 0} (n : ℕ) (x : X) → replicate n x ++ x ∷ [] ≡ replicate (n + 1) x
+replicate_more zero x = refl
+replicate_more {X = X} (suc n) x = ap (λ (l : List X). x ∷ l) (replicate_more n x) ∙ ap (λ k. replicate k x) (let e : suc (n + 1) ≡ suc n + 1 = omega arith in e)
+
+pub only : {X : Type 0} (old new : List X) (x : X) → old ≡ new ++ x ∷ [] → length old < 2 → old ≡ x ∷ []
+only old [] x e few = e
+only old (y ∷ new) x e few = absurd (omega (arith, few, ap length e, length-append (y ∷ new) (x ∷ [])))
+
+abbrev Entries : Type 0
+Entries = List (List ℕ × AggState)
+
+abbrev step : GroupsByKey → List ℕ × AggState → GroupsByKey
+step so_far entry = added so_far entry.0 entry.1
+
+next_entry : (es : Entries) (groups : GroupsByKey) (at : ℕ) (g : Group) → slice_get (map_list group es) at ≡ Some g → added (fold step groups (take at es)) g.key g.state ≡ fold step groups (take (at + 1) es)
+next_entry [] groups at g e = cc e
+next_entry (x ∷ es) groups zero g e = let is : group x ≡ g = cc e in ap (λ (h : Group). added groups h.key h.state) (sym is)
+next_entry (x ∷ es) groups (suc at) g e = next_entry es (step groups x) at g e ∙ ap (λ k. fold step groups (take k (x ∷ es))) (let n : suc (at + 1) ≡ suc at + 1 = omega arith in n)
+
+pub added_next : (groups others mid new : GroupsByKey) (at : ℕ) (g : Group) → slice_get (listed others) at ≡ Some g → mid ≡ fold step groups (take at (fin.entries others)) → new ≡ added mid g.key g.state
+    → new ≡ fold step groups (take (at + 1) (fin.entries others))
+added_next groups others mid new at g e before here = here ∙ ap (λ (m : GroupsByKey). added m g.key g.state) before ∙ next_entry (fin.entries others) groups at g e
+
+-- a list that was cut
+pub whole_of : {X : Type 0} (n : ℕ) (all front back : List X) → front ≡ take n all → back ≡ drop n all → front ++ back ≡ all
+whole_of n all front back f b = cc (f, b, take-append-drop n all)

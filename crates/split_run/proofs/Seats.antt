@@ -2,9 +2,7 @@
 use Rattle.std.proofs.Common.{◌≡◌, ◌<◌, ◌≤◌, ℕ, zero, suc, List, [], ◌∷◌, All, length, map, slice_index_or, refl, ap, sym, subst, ◌∙◌, arith}
 use mathlib.Core.Option.{some}
 use lib.ListN.{get_elem?}
-use Rattle.std.specs.List.{zip}
 use Rattle.std.proofs.lemmas.List.{length-map}
-use Rattle.std.proofs.lemmas.Slice.Zip.{firsts-zip, seconds-zip}
 use Rattle.scan_claim.specs.Shown.{AreSeats, Belongs, draws_of, number_of}
 use Rattle.scan_claim.specs.declared.claims.ClaimSeat.{ClaimSeat}
 use Rattle.scan_claim.specs.declared.claims.Claims.{Claims}
@@ -42,26 +40,6 @@ seat_of h = h.claim
 abbrev pub map_of : Hand → GroupsByKey
 map_of h = h.groups
 
-abbrev Pair : Type 0
-Pair = ClaimSeat × GroupsByKey
-
-abbrev pair_of : Hand → Pair
-pair_of h = (h.claim, h.groups)
-
-firsts_of : (hs : List Hand) → map (λ (p : Pair). p.0) (map pair_of hs) ≡ map seat_of hs
-firsts_of [] = refl
-firsts_of (h ∷ hs) = ap (λ (l : List ClaimSeat). h.claim ∷ l) (firsts_of hs)
-
-seconds_of : (hs : List Hand) → map (λ (p : Pair). p.1) (map pair_of hs) ≡ map map_of hs
-seconds_of [] = refl
-seconds_of (h ∷ hs) = ap (λ (l : List GroupsByKey). h.groups ∷ l) (seconds_of hs)
-
-pub hands_seats : (hs : List Hand) (seats : List ClaimSeat) (maps : List GroupsByKey) → map pair_of hs ≡ zip seats maps → length maps ≡ length seats → map seat_of hs ≡ seats
-hands_seats hs seats maps e same = sym (firsts_of hs) ∙ ap (map (λ (p : Pair). p.0)) e ∙ firsts-zip seats maps same
-
-pub hands_maps : (hs : List Hand) (seats : List ClaimSeat) (maps : List GroupsByKey) → map pair_of hs ≡ zip seats maps → length maps ≡ length seats → map map_of hs ≡ maps
-hands_maps hs seats maps e same = sym (seconds_of hs) ∙ ap (map (λ (p : Pair). p.1)) e ∙ seconds-zip seats maps same
-
 -- ---- seats
 
 -- participants with the seats of all callers are new
@@ -85,3 +63,7 @@ kept_seats plan records c seats fs gs e are done = (count, λ k s at. by k s (ma
         let one = done.each k m.from low in
         let is : (slice_index_or gs k m.from).claim ≡ s = ap seat_of m.at ∙ m.is in
         subst (λ t. Belongs c t × (number_of t ≡ k)) is (one.seat, one.number ∙ (are.1 k f.claim at).1)
+
+-- there are as many participants as maps
+pub hands_many : (fs : List Hand) (maps : List GroupsByKey) → map map_of fs ≡ maps → length fs ≡ length maps
+hands_many fs maps e = sym (length-map fs map_of) ∙ ap (λ (l : List GroupsByKey). length l) e

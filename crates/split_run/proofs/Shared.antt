@@ -83,7 +83,7 @@ module _ (plan : Plan) (records : Table) (c : Claims) where
   -- ---- together
 
   -- what they added is all rows, in some order
-  record AreAll (fs gs : List Hand) : Type 0 where
+  pub record AreAll (fs gs : List Hand) : Type 0 where
     pub adds : Add plan (map rows_by gs) (map map_of fs) (map map_of gs)
     pub same : IsPermutation (together (map rows_by gs)) (drop 1 records)
     pub accepted : Accepted (drop 1 records)

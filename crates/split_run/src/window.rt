@@ -1,8 +1,7 @@
 //! A window: its rows are shared out to all participants, which come home before the next.
 
-ghost use Rattle.std.specs.Prelude.{◌≡◌, ◌<◌, ◌≤◌, ◌+◌, ◌^◌, ◌++◌, All, IfErr, IfOk, None, OnOk, drop, length, map as map_list, replicate};
+ghost use Rattle.std.specs.Prelude.{◌≡◌, ◌<◌, ◌≤◌, ◌+◌, ◌^◌, ◌++◌, ◌∷◌, [], All, IfErr, IfOk, None, OnOk, drop, length, map as map_list, replicate};
 ghost use Rattle.std.specs.FinMap as map;
-ghost use Rattle.std.specs.List.{zip};
 ghost use Rattle.scan_claim.specs.Shown.{blocks_of};
 ghost use Rattle.gather_law.specs.Tuples.{AreBlocks, Table};
 ghost use Rattle.par_model.specs.Columns.{HasColumns};
@@ -83,28 +82,22 @@ fn count_blocks(rows: &RowStore) -> u64
     rows.count().div_ceil(BLOCK_ROWS)
 }
 
-/// Each seat with the map of its participant.
-fn pair_up(
-    alloc: Global,
-    seats: Vec<ClaimSeat>,
-    maps: Vec<GroupMap>,
-) -> Result<Vec<(ClaimSeat, GroupMap)>, AllocError>
-    ensures { IfOk result (λ v. v.items ≡ zip seats.items maps.items) }
-{
-    seats.into_iter().zip(maps).collect(alloc)
-}
-
 /// The participants, each with its seat and its map.
 fn hands(
     alloc: Global,
     seats: Vec<ClaimSeat>,
-    maps: Vec<GroupMap>,
+    mut maps: Vec<GroupMap>,
 ) -> Result<Vec<Hand>, AllocError>
-    ensures { IfOk result (λ v. map_list (λ (h : Hand). (h.claim, h.groups)) v.items ≡ zip seats.items maps.items) }
+    requires same { length seats.items ≡ length maps.items }
+    ensures seats { IfOk result (λ v. map_list (λ (h : Hand). h.claim) v.items ≡ seats.items) }
+    ensures maps { IfOk result (λ v. map_list (λ (h : Hand). h.groups) v.items ≡ maps.items) }
 {
-    let pairs = pair_up(alloc, seats, maps)?;
-    let mut hands = Vec::with_capacity(alloc, pairs.len())?;
-    for (claim, groups) in pairs {
+    let mut hands = Vec::with_capacity(alloc, seats.len())?;
+    maps.reverse();
+    for claim in seats {
+        let Some(groups) = maps.pop() else {
+            return Err(AllocError);
+        };
         hands.push(Hand {
             claim,
             groups,
@@ -143,20 +136,34 @@ fn bring_home(alloc: Global, hands: Vec<Hand>) -> Result<Home, BlockAnswer>
     ensures whole { OnOk result (All (λ (h : Hand). h.stopped ≡ None) hands.items) }
     ensures cause { IfErr result (IsCauseOfAll hands.items) }
 {
-    let mut seats = Vec::new(alloc);
-    let mut maps = Vec::new(alloc);
+    let mut home = Home {
+        seats: Vec::new(alloc),
+        maps: Vec::new(alloc),
+    };
     for hand in hands {
         let Hand {
             claim,
             groups,
             stopped,
         } = hand;
-        if let Some(why) = stopped {
-            return Err(why);
+        match stopped {
+            None => {}
+            Some(why) => return Err(why),
         }
-        if seats.push(claim).is_err() || maps.push(groups).is_err() {
-            return Err(BlockAnswer::Memory);
+        match keep(&mut home, claim, groups) {
+            Ok(()) => {}
+            Err(AllocError) => return Err(BlockAnswer::Memory),
         }
     }
-    Ok(Home { seats, maps })
+    Ok(home)
+}
+
+/// Adds a seat and a map to those that came home.
+fn keep(home: &mut Home, claim: ClaimSeat, groups: GroupMap) -> Result<(), AllocError>
+    ensures seats { OnOk result (home.new.seats.items ≡ home.old.seats.items ++ claim ∷ []) }
+    ensures maps { OnOk result (home.new.maps.items ≡ home.old.maps.items ++ groups ∷ []) }
+{
+    home.seats.push(claim)?;
+    home.maps.push(groups)?;
+    Ok(())
 }

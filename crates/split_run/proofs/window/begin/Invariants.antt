@@ -3,4 +3,4 @@ use Rattle.std.specs.FinMap as map
 use Rattle.split_run.proofs.window.begin.Given as goal
 
 abbrev pub invariant-loop-at : goal.invariant-loop-at
-invariant-loop-at l = l.maps.items ≡ replicate l.at map.empty
+invariant-loop-at l = l.maps.items ≡ replicate l._at map.empty

@@ -4,7 +4,7 @@ use Rattle.split_run.proofs.window.bring_home.Given as goal
 
 abbrev pub invariant-loop-hand : goal.invariant-loop-hand
 invariant-loop-hand l = record {
-  seats : l.seats.items ≡ map (λ (h : Hand). h.claim) l.yielded;
-  maps : l.maps.items ≡ map (λ (h : Hand). h.groups) l.yielded;
+  seats : l.home.seats.items ≡ map (λ (h : Hand). h.claim) l.yielded;
+  maps : l.home.maps.items ≡ map (λ (h : Hand). h.groups) l.yielded;
   whole : All (λ (h : Hand). h.stopped ≡ None) l.yielded;
 }
