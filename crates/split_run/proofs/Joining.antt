@@ -1,10 +1,9 @@
 -- The maps of shares put together, by halves.
 use Rattle.std.proofs.Common.{◌≡◌, ◌<◌, ◌+◌, ◌^◌, ◌++◌, ℕ, zero, suc, List, [], ◌∷◌, All, Some, fold, length, map as map_list, drop, replicate, take, take-append-drop, refl, ap, sym, subst, ◌∙◌, arith, length-append, append-nil}
-use Rattle.std.specs.List.{AllZip, flat_map}
-use Rattle.std.specs.List.Sorted.{IsPermutation}
+use Rattle.std.specs.List.{AllZip}
 use Rattle.std.proofs.lemmas.List.Concat.{flat_map-append}
 use Rattle.std.proofs.lemmas.List.Sorted.{All-permutation, IsPermutation-sym, length_permutation}
-use Rattle.std.proofs.lemmas.List.Elements.{All-append, All-cons, All-head, All-nil, All-same, All-tail}
+use Rattle.std.proofs.lemmas.List.Elements.{All-cons, All-head, All-nil, All-same, All-tail}
 use Rattle.par_model.specs.Plan.{Plan}
 use Rattle.std.specs.FinMap as fin
 use Rattle.std.specs.Prelude.{slice_get}
@@ -13,7 +12,6 @@ use Rattle.partial_agg.specs.Groups.{AreGroups, GroupsByKey, added, with_groups}
 use Rattle.partial_agg.specs.Listed.{group, listed}
 use Rattle.partial_agg.specs.declared.groups.Group.{Group}
 use Rattle.partial_agg.specs.Rows.{IsAccepted}
-use Rattle.partial_agg.proofs.Adding.{no_groups}
 use Rattle.partial_agg.proofs.AnyOrder.{in_any_order}
 use Rattle.partial_agg.proofs.Joining.{maps_join}
 use Rattle.gather_law.specs.Tuples.{Table}

@@ -1,5 +1,5 @@
 -- The participants by the seats and the maps that they hold.
-use Rattle.std.proofs.Common.{◌≡◌, ◌<◌, ◌≤◌, ℕ, zero, suc, List, [], ◌∷◌, All, length, map, slice_index_or, refl, ap, sym, subst, ◌∙◌, arith}
+use Rattle.std.proofs.Common.{◌≡◌, ◌<◌, ℕ, zero, suc, List, [], ◌∷◌, length, map, slice_index_or, refl, ap, sym, subst, ◌∙◌, arith}
 use mathlib.Core.Option.{some}
 use lib.ListN.{get_elem?}
 use Rattle.std.proofs.lemmas.List.{length-map}
@@ -9,7 +9,7 @@ use Rattle.scan_claim.specs.declared.claims.Claims.{Claims}
 use Rattle.gather_law.specs.Tuples.{Table}
 use Rattle.par_model.specs.Plan.{Plan}
 use Rattle.partial_agg.specs.Groups.{GroupsByKey}
-use Rattle.split_run.specs.Hands.{AreDone, AreNew, IsNew}
+use Rattle.split_run.specs.Hands.{AreDone, AreNew}
 use Rattle.split_run.specs.declared.hands.Hand.{Hand}
 
 -- ---- places

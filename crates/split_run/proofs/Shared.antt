@@ -1,9 +1,9 @@
 -- What all participants added is all rows, each once.
-use Rattle.std.proofs.Common.{◌≡◌, ◌<◌, ◌≤◌, ◌+◌, ◌*◌, ◌-◌, ◌^◌, ◌++◌, ℕ, zero, suc, IsTrue, IfSome, List, [], ◌∷◌, All, None, Option, length, drop, map, slice_index_or, refl, ap, sym, subst, ◌∙◌, arith, length-drop}
+use Rattle.std.proofs.Common.{◌≡◌, ◌<◌, ◌≤◌, ◌+◌, ◌*◌, ◌-◌, ◌^◌, ◌++◌, ℕ, suc, IfSome, List, [], ◌∷◌, All, None, length, drop, map, refl, ap, sym, subst, ◌∙◌, arith, length-drop}
 use Rattle.std.specs.List.{AllByRecursion, AllZip}
 use Rattle.std.specs.List.Sorted.{IsPermutation}
 use Rattle.std.proofs.lemmas.List.Elements.{All-cons, All-nil, recursion_from_All}
-use Rattle.scan_claim.specs.Drawing.{IsDrawn, flat, is_spent, late}
+use Rattle.scan_claim.specs.Drawing.{IsDrawn, flat, late}
 use Rattle.scan_claim.specs.Shown.{blocks_of, callers_of, draws_of}
 use Rattle.scan_claim.specs.declared.claims.ClaimSeat.{ClaimSeat}
 use Rattle.scan_claim.specs.declared.claims.Claims.{Claims}
@@ -11,7 +11,6 @@ use Rattle.scan_claim.proofs.Totals.{late-append}
 use Rattle.par_model.specs.Plan.{Plan}
 use Rattle.partial_agg.specs.Groups.{GroupsByKey}
 use Rattle.partial_agg.specs.Rows.{IsAccepted, header_width}
-use Rattle.partial_agg.specs.declared.map.BlockAnswer.{BlockAnswer}
 use Rattle.gather_law.specs.Tuples.{AreBlocks, Table, rows_of_blocks}
 use Rattle.split_law.specs.Shares.{Add, AreShared, together}
 use Rattle.split_law.proofs.Shares.{blocks_cover, shares_grow}

@@ -1,5 +1,5 @@
 -- What an answer on the rows of a table says of them.
-use Rattle.std.specs.Prelude.{◌≡◌, ◌<◌, ◌≤◌, ◌-◌, ℕ, List, All, Any, IfSome, Some, ⊤, length, take, drop}
+use Rattle.std.specs.Prelude.{◌≡◌, ◌<◌, ◌≤◌, ◌-◌, ℕ, List, All, IfSome, Some, ⊤, length, take, drop}
 use Rattle.csv_rows.specs.Records.{record_at}
 use Rattle.par_model.specs.Plan.{Plan}
 use Rattle.par_model.specs.Refuse.{refusal}

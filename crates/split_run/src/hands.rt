@@ -70,14 +70,7 @@ pub(crate) fn work<R: Wait>(
     requires columns { HasColumns plan.now (header_width rows.now) }
     ensures { HasDone plan.now rows.now claims.now hand.old hand.new }
 {
-    let done = add_drawn(
-        rt,
-        rows,
-        plan,
-        claims,
-        &mut hand.claim,
-        &mut hand.groups,
-    );
+    let done = add_drawn(rt, rows, plan, claims, &mut hand.claim, &mut hand.groups);
     hand.stopped = match done {
         Ok(()) => None,
         Err(why) => Some(why),

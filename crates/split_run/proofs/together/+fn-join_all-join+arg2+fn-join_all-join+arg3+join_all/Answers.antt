@@ -1,4 +1,4 @@
-use Rattle.std.proofs.Common.{◌≡◌, ◌++◌, ◌/◌, Ok, Result, IfOk, List, subst, sym}
+use Rattle.std.proofs.Common.{◌≡◌, ◌++◌, ◌/◌, Result, IfOk, List, subst, sym}
 use Rattle.std.proofs.lemmas.Result.{IfOk-weaker}
 use Rattle.std.specs.declared.alloc.AllocError.{AllocError}
 use Rattle.partial_agg.specs.Groups.{GroupsByKey, with_groups}

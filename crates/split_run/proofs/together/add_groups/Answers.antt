@@ -1,4 +1,4 @@
-use Rattle.std.proofs.Common.{◌≡◌, ◌∙◌, List, Some, ap, subst, sym}
+use Rattle.std.proofs.Common.{◌≡◌, List, Some, subst}
 use Rattle.std.specs.Prelude.{slice_get}
 use Rattle.partial_agg.specs.declared.groups.Group.{Group}
 use Rattle.split_run.proofs.Joining.{added_next}

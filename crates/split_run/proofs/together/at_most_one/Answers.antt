@@ -1,4 +1,4 @@
-use Rattle.std.proofs.Common.{◌≡◌, [], List, length, arith, subst, sym}
+use Rattle.std.proofs.Common.{◌≡◌, List, length, arith, subst, sym}
 use Rattle.std.proofs.lemmas.List.{nil_from_length}
 use Rattle.partial_agg.specs.Groups.{GroupsByKey}
 use Rattle.split_run.specs.Together.{Joins}

@@ -1,11 +1,9 @@
-use Rattle.std.proofs.Common.{◌≡◌, ◌<◌, ◌≤◌, ◌∙◌, ℕ, List, length, ap, arith, subst, sym}
-use Rattle.std.proofs.lemmas.List.{length-map}
+use Rattle.std.proofs.Common.{◌≡◌, ◌<◌, ◌∙◌, List, length, arith, subst, sym}
 use Rattle.scan_claim.specs.Shown.{AreSeats, blocks_of, callers_of, lists_of}
 use Rattle.scan_claim.specs.declared.claims.ClaimSeat.{ClaimSeat}
 use Rattle.gather_law.specs.Tuples.{AreBlocks}
-use Rattle.partial_agg.specs.Groups.{GroupsByKey}
 use Rattle.split_run.specs.Causes.{IsCauseBy}
-use Rattle.split_run.proofs.Seats.{all_new, hands_many, kept_seats, map_of}
+use Rattle.split_run.proofs.Seats.{all_new, hands_many, kept_seats}
 use Rattle.split_run.proofs.Shared.{all_causes, all_rows, shares_on}
 use Rattle.split_run.proofs.window.add_rows.Goals as goal
 

@@ -1,4 +1,4 @@
-use Rattle.std.proofs.Common.{◌≡◌, ◌++◌, ◌∷◌, ◌∙◌, [], List, ap, replicate}
+use Rattle.std.proofs.Common.{◌++◌, ◌∷◌, ◌∙◌, [], List, ap, replicate}
 use Rattle.std.specs.FinMap as map
 use Rattle.partial_agg.specs.Groups.{GroupsByKey}
 use Rattle.split_run.proofs.Joining.{replicate_more}
