@@ -1,7 +1,6 @@
 mod Answering
 mod Averages
 mod Columns
-mod Entries
 mod Keys
 mod Occurring
 mod Small

@@ -9,12 +9,12 @@ use Rattle.par_model.specs.Plan.{Plan}
 use Rattle.par_model.specs.Refuse.{refusal}
 use Rattle.partial_agg.specs.Blocks.{Stopped}
 use Rattle.partial_agg.specs.Groups.{GroupsByKey, with_rows}
-use Rattle.partial_agg.specs.Rows.{IsAccepted, block_rows, header_width}
+use Rattle.partial_agg.specs.Rows.{IsAccepted, header_width}
 use Rattle.partial_agg.specs.declared.map.BlockAnswer.{BlockAnswer}
 use Rattle.partial_agg.specs.declared.map.BlockAnswer.TheVariants as answer
-use Rattle.partial_agg.proofs.Blocks.{length-block, rows_before-place, with_rows-append}
-use Rattle.gather_law.specs.Tuples.{AreBlocks, Table, rows_of_blocks}
-use Rattle.gather_law.proofs.Draws.{rows_below}
+use Rattle.partial_agg.proofs.Blocks.{with_rows-append}
+use Rattle.row_blocks.proofs.BlockRows.{length-block, rows_before-place, rows_below}
+use Rattle.row_blocks.specs.Blocks.{AreBlocks, Table, block_rows, rows_of_blocks}
 use Rattle.split_run.specs.Causes.{IsCauseBy}
 
 last_same : (xs : List ℕ) (a b : ℕ) → xs ++ a ∷ [] ≡ xs ++ b ∷ [] → a ≡ b

@@ -14,7 +14,7 @@ use Rattle.partial_agg.specs.declared.groups.Group.{Group}
 use Rattle.partial_agg.specs.Rows.{IsAccepted}
 use Rattle.partial_agg.proofs.AnyOrder.{in_any_order}
 use Rattle.partial_agg.proofs.Joining.{maps_join}
-use Rattle.gather_law.specs.Tuples.{Table}
+use Rattle.row_blocks.specs.Blocks.{Table}
 use Rattle.split_law.specs.Shares.{AreShared, together}
 use Rattle.split_run.specs.Together.{Joins}
 

@@ -11,7 +11,7 @@ use Rattle.scan_claim.proofs.Totals.{late-append}
 use Rattle.par_model.specs.Plan.{Plan}
 use Rattle.partial_agg.specs.Groups.{GroupsByKey}
 use Rattle.partial_agg.specs.Rows.{IsAccepted, header_width}
-use Rattle.gather_law.specs.Tuples.{AreBlocks, Table, rows_of_blocks}
+use Rattle.row_blocks.specs.Blocks.{AreBlocks, Table, rows_of_blocks}
 use Rattle.split_law.specs.Shares.{Add, AreShared, together}
 use Rattle.split_law.proofs.Shares.{blocks_cover, shares_grow}
 use Rattle.split_run.specs.Causes.{IsCauseBy}

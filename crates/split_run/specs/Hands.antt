@@ -3,7 +3,7 @@ use Rattle.std.specs.Prelude.{◌≡◌, ◌<◌, [], ℕ, List, All, IfSome, Is
 use Rattle.scan_claim.specs.Drawing.{is_spent}
 use Rattle.scan_claim.specs.Shown.{Belongs, blocks_of, callers_of, draws_of, number_of}
 use Rattle.scan_claim.specs.declared.claims.Claims.{Claims}
-use Rattle.gather_law.specs.Tuples.{Table, rows_of_blocks}
+use Rattle.row_blocks.specs.Blocks.{Table, rows_of_blocks}
 use Rattle.par_model.specs.Plan.{Plan}
 use Rattle.partial_agg.specs.Groups.{with_rows}
 use Rattle.partial_agg.specs.Rows.{IsAccepted, header_width}

@@ -1,7 +1,7 @@
 -- Maps that are put together.
 use Rattle.std.specs.Prelude.{◌<◌, ◌^◌, ℕ, List, All, length}
 use Rattle.std.specs.List.{AllZip}
-use Rattle.gather_law.specs.Tuples.{Table}
+use Rattle.row_blocks.specs.Blocks.{Table}
 use Rattle.par_model.specs.Plan.{Plan}
 use Rattle.partial_agg.specs.Groups.{AreGroups, GroupsByKey}
 use Rattle.partial_agg.specs.Rows.{IsAccepted}

@@ -3,7 +3,7 @@
 ghost use Rattle.std.specs.Prelude.{◌≡◌, All, IfErr, IsTrue, OnOk, [], length};
 ghost use Rattle.scan_claim.specs.Drawing.{is_spent};
 ghost use Rattle.scan_claim.specs.Shown.{Belongs, blocks_of, callers_of, draws_of, number_of};
-ghost use Rattle.gather_law.specs.Tuples.{AreBlocks, rows_of_blocks};
+ghost use Rattle.row_blocks.specs.Blocks.{AreBlocks, rows_of_blocks};
 ghost use Rattle.par_model.specs.Columns.{HasColumns};
 ghost use Rattle.partial_agg.specs.Groups.{with_rows};
 ghost use Rattle.partial_agg.specs.Rows.{IsAccepted, header_width};

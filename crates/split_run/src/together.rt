@@ -2,7 +2,7 @@
 
 ghost use Rattle.std.specs.Prelude.{◌≡◌, ◌<◌, ◌^◌, IfOk, length};
 ghost use Rattle.std.specs.Thread.{IsSync};
-ghost use Rattle.gather_law.specs.Tuples.{Table};
+ghost use Rattle.row_blocks.specs.Blocks.{Table};
 ghost use Rattle.par_model.specs.Plan.{Plan};
 ghost use Rattle.partial_agg.specs.Groups.{AreGroups, with_groups};
 ghost use Rattle.split_law.specs.Shares.{AreShared};

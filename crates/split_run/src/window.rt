@@ -3,7 +3,7 @@
 ghost use Rattle.std.specs.Prelude.{◌≡◌, ◌<◌, ◌≤◌, ◌+◌, ◌^◌, ◌++◌, ◌∷◌, [], All, IfErr, IfOk, None, OnOk, drop, length, map as map_list, replicate};
 ghost use Rattle.std.specs.FinMap as map;
 ghost use Rattle.scan_claim.specs.Shown.{blocks_of};
-ghost use Rattle.gather_law.specs.Tuples.{AreBlocks, Table};
+ghost use Rattle.row_blocks.specs.Blocks.{AreBlocks, Table};
 ghost use Rattle.par_model.specs.Columns.{HasColumns};
 ghost use Rattle.partial_agg.specs.Rows.{IsAccepted, header_width};
 ghost use Rattle.split_law.specs.Shares.{AreShared};
@@ -14,7 +14,8 @@ ghost use Rattle.split_run.specs.declared.hands.Hand.{Hand};
 use crate::hands::{Hand, work};
 use csv_rows::RowStore;
 use par_model::BoundPlan;
-use partial_agg::{BLOCK_ROWS, BlockAnswer, GroupMap};
+use partial_agg::{BlockAnswer, GroupMap};
+use row_blocks::count_blocks;
 use scan_claim::{ClaimSeat, Claims};
 use std::alloc::{AllocError, Global};
 use std::sync::Wait;
@@ -72,14 +73,6 @@ pub fn add_rows<R: Threads + Wait + Sync>(
     };
     let _drawn = claims.close(home.seats);
     Ok(home.maps)
-}
-
-/// How many blocks the rows make. Tells too that there are few.
-fn count_blocks(rows: &RowStore) -> u64
-    ensures blocks { AreBlocks rows.now result }
-    ensures few { result ≤ 2 ^ 32 }
-{
-    rows.count().div_ceil(BLOCK_ROWS)
 }
 
 /// The participants, each with its seat and its map.

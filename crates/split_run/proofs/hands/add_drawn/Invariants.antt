@@ -1,7 +1,7 @@
 use Rattle.std.proofs.Common.{◌≡◌, All, length}
 use Rattle.scan_claim.specs.Drawing.{below}
 use Rattle.scan_claim.specs.Shown.{Belongs, callers_of, draws_of, number_of}
-use Rattle.gather_law.specs.Tuples.{rows_of_blocks}
+use Rattle.row_blocks.specs.Blocks.{rows_of_blocks}
 use Rattle.partial_agg.specs.Groups.{with_rows}
 use Rattle.partial_agg.specs.Rows.{IsAccepted, header_width}
 use Rattle.split_run.proofs.hands.add_drawn.Given as goal

@@ -1,7 +1,7 @@
 use Rattle.std.proofs.Common.{◌≡◌, ◌<◌, ◌∙◌, List, length, arith, subst, sym}
 use Rattle.scan_claim.specs.Shown.{AreSeats, blocks_of, callers_of, lists_of}
 use Rattle.scan_claim.specs.declared.claims.ClaimSeat.{ClaimSeat}
-use Rattle.gather_law.specs.Tuples.{AreBlocks}
+use Rattle.row_blocks.specs.Blocks.{AreBlocks}
 use Rattle.split_run.specs.Causes.{IsCauseBy}
 use Rattle.split_run.proofs.Seats.{all_new, hands_many, kept_seats}
 use Rattle.split_run.proofs.Shared.{all_causes, all_rows, shares_on}
