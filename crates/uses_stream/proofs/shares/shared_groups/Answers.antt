@@ -1,5 +1,4 @@
-use Rattle.std.proofs.Common.{◌≡◌, ◌<◌, ◌≤◌, ◌^◌, [], List, arith, drop, length, length-drop, subst, sym}
-use Rattle.std.proofs.lemmas.List.{length-replicate}
+use Rattle.std.proofs.Common.{◌≡◌, [], List, arith, drop, length-drop, subst, sym}
 use Rattle.partial_agg.specs.Groups.{GroupsByKey}
 use Rattle.partial_agg.specs.Rows.{header_width}
 use Rattle.split_law.specs.Shares.{AreShared}
