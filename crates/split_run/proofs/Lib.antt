@@ -1,0 +1,4 @@
+mod Blocks
+mod Joining
+mod Seats
+mod Shared

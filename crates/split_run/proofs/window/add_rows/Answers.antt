@@ -1,0 +1,54 @@
+use Rattle.std.proofs.Common.{◌≡◌, ◌<◌, ◌∙◌, List, length, arith, subst, sym}
+use Rattle.scan_claim.specs.Shown.{AreSeats, blocks_of, callers_of, lists_of}
+use Rattle.scan_claim.specs.declared.claims.ClaimSeat.{ClaimSeat}
+use Rattle.row_blocks.specs.Blocks.{AreBlocks}
+use Rattle.split_run.specs.Causes.{IsCauseBy}
+use Rattle.split_run.proofs.Seats.{all_new, hands_many, kept_seats}
+use Rattle.split_run.proofs.Shared.{all_causes, all_rows, shares_on}
+use Rattle.split_run.proofs.window.add_rows.Goals as goal
+
+pub work_all-requires-clause-new : goal.work_all-requires-clause-new
+work_all-requires-clause-new g c κs within = all_new c.in-Ok.claims c.in-Ok.seats.items c.in-Ok-hands.hands.items c.in-Ok-hands.ensures.seats c.in-Ok.ensures.seats c.in-Ok.ensures.draws
+
+pub returns-in-Err-clause-cause : goal.returns-in-Err-clause-cause
+returns-in-Err-clause-cause g c =
+    let plan = c.args.plan.now in
+    let rows = c.args.rows.now in
+    let claims = c.in-Ok.claims in
+    let callers : callers_of claims ≡ length c.args.maps.items = omega (arith, c.in-Ok.ensures.counts.1, c.len.ensures, c.args.maps.ok.0, c.requires.few) in
+    subst (λ n. IsCauseBy plan rows n c.in-Err.why) callers
+    (c.in-Err.ensures.cause plan rows (callers_of claims) (all_causes plan rows claims c.in-Ok-hands.hands.items c.work_all.new.hands.items c.work_all.ensures))
+
+pub close-drawn-requires : goal.close-drawn-requires
+close-drawn-requires g c =
+    subst (λ (l : List ClaimSeat). AreSeats c.in-Ok.claims l) (sym c.in-Ok-bring_home.ensures.seats)
+    (kept_seats c.args.plan.now c.args.rows.now c.in-Ok.claims c.in-Ok.seats.items c.in-Ok-hands.hands.items c.work_all.new.hands.items c.in-Ok-hands.ensures.seats c.in-Ok.ensures.seats c.work_all.ensures)
+
+pub returns-clause-accepted : goal.returns-clause-accepted
+returns-clause-accepted g c =
+    let claims = c.in-Ok.claims in
+    let fs = c.in-Ok-hands.hands.items in
+    let gs = c.work_all.new.hands.items in
+    let home = c.in-Ok-bring_home in
+    let any : 0 < length gs = omega (arith, hands_many fs c.args.maps.items c.in-Ok-hands.ensures.maps, c.work_all.ensures.count, c.requires.some) in
+    let blocks : AreBlocks c.args.rows.now (blocks_of claims) = subst (λ n. AreBlocks c.args.rows.now n) (sym c.in-Ok.ensures.counts.0) c.count_blocks.ensures.blocks in
+    (all_rows c.args.plan.now c.args.rows.now claims fs gs home.home.seats.items (lists_of c.close-drawn.result) any blocks c.work_all.ensures home.ensures.whole home.ensures.seats c.close-drawn.ensures.lists c.close-drawn.ensures.drawn).accepted
+
+pub returns-clause-shared : goal.returns-clause-shared
+returns-clause-shared g c =
+    let claims = c.in-Ok.claims in
+    let fs = c.in-Ok-hands.hands.items in
+    let gs = c.work_all.new.hands.items in
+    let home = c.in-Ok-bring_home in
+    let any : 0 < length gs = omega (arith, hands_many fs c.args.maps.items c.in-Ok-hands.ensures.maps, c.work_all.ensures.count, c.requires.some) in
+    let blocks : AreBlocks c.args.rows.now (blocks_of claims) = subst (λ n. AreBlocks c.args.rows.now n) (sym c.in-Ok.ensures.counts.0) c.count_blocks.ensures.blocks in
+    let all = all_rows c.args.plan.now c.args.rows.now claims fs gs home.home.seats.items (lists_of c.close-drawn.result) any blocks c.work_all.ensures home.ensures.whole home.ensures.seats c.close-drawn.ensures.lists c.close-drawn.ensures.drawn in
+    λ before shared few. shares_on c.args.plan.now c.args.rows.now claims fs gs before c.args.maps.items home.home.maps.items all c.in-Ok-hands.ensures.maps home.ensures.maps shared few
+
+pub returns-clause-many : goal.returns-clause-many
+returns-clause-many g c =
+    let fs = c.in-Ok-hands.hands.items in
+    let gs = c.work_all.new.hands.items in
+    let home = c.in-Ok-bring_home in
+    let news : length home.home.maps.items ≡ length gs = sym (hands_many gs home.home.maps.items (sym home.ensures.maps)) in
+    news ∙ c.work_all.ensures.count ∙ hands_many fs c.args.maps.items c.in-Ok-hands.ensures.maps

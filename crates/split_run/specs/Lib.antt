@@ -1,0 +1,3 @@
+pub mod Causes
+pub mod Hands
+pub mod Together

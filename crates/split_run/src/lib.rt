@@ -1,0 +1,16 @@
+//! The groups of a table of any length, window by window, by participants that share each window's rows.
+//!
+//! Each participant keeps a map of its own over all windows. The rows of a window are shared out by blocks that the
+//! participants draw, each block once; each adds the rows of its blocks to its map ([`add_rows`]). So the maps are always
+//! those of shares of all rows so far, whoever drew a block (`AreShared` of `split_law`), and no group goes from one
+//! participant to another before the last row. Then the maps are put together, by halves in threads of their own
+//! ([`put_together`]).
+
+#![tactic(auto)]
+
+mod hands;
+mod together;
+mod window;
+
+pub use together::put_together;
+pub use window::{add_rows, begin};

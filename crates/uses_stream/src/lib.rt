@@ -1,0 +1,6 @@
+//! Callers of the crates that go through a table of any length, window by window.
+
+#![tactic(auto)]
+
+#[cfg(test)]
+mod shares;
