@@ -53,6 +53,6 @@ fn lines_of_windows(rt: HostRuntime) -> Result<(), Fail> {
     let Ok(text) = windows_of(rt.alloc(), &mut source, 6) else {
         return Err(Fail::new("no windows"));
     };
-    assert_eq!(rt; text.as_slice(), b"g,v|\na,1|\n\"b\n\",2|\n|".as_slice());
+    assert_eq!(rt; text.as_slice(), b"g,v|\na,1|\n\"b\n\",2\n|".as_slice());
     Ok(())
 }

@@ -165,14 +165,8 @@ pub fn work_together<R: Threads + Wait + Sync>(
 {
     let ((one, s, sent), (q, found)) = join(
         rt,
-        || -> (Passes, Sender, u64)
-            requires { AreShared shared.now × AreOf shared.now one × (s.region ≡ shared.now.region) × (s.end.gone ≡ false) × (left_of s.end.put ≡ []) }
-            ensures { AreOf shared.now result.0 × (result.1.region ≡ s.region) × (result.1.end.ring ≡ s.end.ring) × (result.2 ≤ count) }
-        { first(rt, shared, one, s, count) },
-        || -> (Receiver, u64)
-            requires { AreShared shared.now × AreOf shared.now other × (q.region ≡ shared.now.region) × (q.end.gone ≡ false) }
-            ensures { (result.0.region ≡ q.region) × (result.0.end.ring ≡ q.end.ring) × (result.1 ≤ count) }
-        { second(rt, shared, other, q, count) },
+        || first(rt, shared, one, s, count),
+        || second(rt, shared, other, q, count),
     );
     let chunk = home(s, q, &shared.region).into_chunk(&shared.region);
     (one, chunk, (sent, found))

@@ -1,14 +1,10 @@
-use Rattle.std.proofs.Common.{◌≡◌, ℕ, ◌+◌, ◌-◌, ◌*◌, ◌≤◌, ◌<◌, Bool, cond, None, is_some, IsSome, arith, sym, ap, subst, ◌∙◌}
-use Rattle.std.proofs.lemmas.Bool.{false_from_ne_true}
-use Rattle.word_map.specs.WordMap.{WordMap, at, is_within, rest_of, HasJust}
-use Rattle.word_map.proofs.Maps.{at-rest_cond, within_is}
+use Rattle.std.proofs.Common.{◌≡◌, ℕ, ◌+◌, ◌-◌, ◌*◌, ◌≤◌, ◌<◌, arith, sym, ap, subst, ◌∙◌}
+use Rattle.word_map.specs.WordMap.{HasJust}
 use Rattle.free_pages.specs.Area.{class_count, class_end, control_words, front, head_words, mark_words, page_words}
 use Rattle.free_pages.proofs.AreaWords.{cut_just, cut_owns}
 use Rattle.span_pools.proofs.Fits.{bits_before}
+use Rattle.uses_area.proofs.Pools.{cut_front}
 use Rattle.uses_area.proofs.objects.area.Goals as goal
-
-cut_front : (m : WordMap) (from len k : ℕ) → k < from → IsSome (at m k) → IsSome (at (rest_of m from len) k)
-cut_front m from len k h s = ap is_some (at-rest_cond m from len k ∙ ap (λ (b : Bool). cond b None (at m k)) (false_from_ne_true (is_within from len k) (λ e. let i = within_is from len k e in omega (arith, i.0)))) ∙ s
 
 start_same : (f g i k m n : ℕ) → f ≡ g → i ≡ k → m ≡ n → f - (class_end - i) * m ≡ g - (class_end - k) * n
 start_same f g i k m n a b d = cc
