@@ -20,7 +20,7 @@ use std::thread::Threads;
 /// How many numbers are sent.
 const NUMBERS: u64 = 100;
 
-/// Has two threads work on so many numbers: how many were sent, and how many of them had their square in the table. None
+/// Has two threads work on this many numbers: how many were sent, and how many had their square in the table. None
 /// where there is no memory, or no room in the area. At the end the queue's chunk goes back to the area.
 fn run<R: Threads + Wait + Sync>(rt: &R, alloc: Global, count: u64) -> Option<(u64, u64)>
     ensures { IfSome result (λ n. (n.0 ≤ count) × (n.1 ≤ count)) }

@@ -63,7 +63,7 @@ fn put_and_send<R: Wait>(
     count
 }
 
-/// Receives up to so many numbers and gets what stands under each. Says under how many their square stood.
+/// Receives up to this many numbers and gets what stands under each. Says under how many their square stood.
 fn receive_and_get<R: Wait>(
     rt: &R,
     shared: &Shared,
