@@ -1,0 +1,49 @@
+-- The states of an exchange: what each party has brought, and what was given to it.
+use Rattle.std.specs.Prelude.{ℕ, Bool, false, ◌==◌, ◌||◌, List, [], ◌∷◌, map, replicate, slice_index_or, Option, Some, None, is_some, refl}
+use Rattle.std.specs.Coded.{Coded, code_by, coded×, coded_ℕ, coded_list, coded_option}
+use Rattle.par_exchange.specs.declared.history.ExchangeState.{ExchangeState}
+
+-- whether n is who was elected
+abbrev pub is_elected : ℕ → Option ℕ → Bool
+is_elected n None = false
+is_elected n (Some m) = m == n
+
+-- what contracts see of the tokens of an exchange: how many parties there are, and the state
+pub record TokensView (T : Type 0) : Type 0 where
+  pub parties : ℕ
+  pub state : ExchangeState T
+
+-- the code by which proofs tell such values apart
+abbrev pub tokens_code : {T : Type 0} → Coded T → Coded (TokensView T)
+tokens_code {T} c =
+    code_by (ℕ × (List (Option T) × (List (Option T) × Option ℕ))) (coded× coded_ℕ (coded× (coded_list (coded_option c)) (coded× (coded_list (coded_option c)) (coded_option coded_ℕ))))
+    (λ d. (d.parties, (d.state.brought, (d.state.given, d.state.elected)))) (λ q. record { parties = q.0; state = record { brought = q.1.0; given = q.1.1.0; elected = q.1.1.1 } }) (λ _. refl)
+
+module _ {T : Type 0} where
+  -- what stands at a place, if anything does
+  abbrev pub at : List (Option T) → ℕ → Option T
+  at places n = slice_index_or places n None
+
+  -- the first and the others, where there are both
+  abbrev pub with_first : Option T → Option (List T) → Option (List T)
+  with_first None others = None
+  with_first (Some x) None = None
+  with_first (Some x) (Some xs) = Some (x ∷ xs)
+
+  -- the tokens of all places, in order, where each has one
+  abbrev pub all_of : List (Option T) → Option (List T)
+  all_of [] = Some []
+  all_of (p ∷ ps) = with_first p (all_of ps)
+
+  -- as many places with nothing in them
+  abbrev pub cleared : List (Option T) → List (Option T)
+  cleared places = map (λ _. None) places
+
+  -- nothing was brought yet and nothing given
+  abbrev pub fresh : ℕ → ExchangeState T
+  fresh parties = record { brought = replicate parties None; given = replicate parties None; elected = None }
+
+  -- whether the party n may not bring a token: somebody has the tokens of all, or n has brought one already, or has one
+  -- to take
+  abbrev pub is_busy : ℕ → ExchangeState T → Bool
+  is_busy n s = is_some s.elected || is_some (at s.brought n) || is_some (at s.given n)

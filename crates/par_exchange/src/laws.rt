@@ -1,0 +1,14 @@
+//! The laws of an exchange's phases, over every legal history.
+
+ghost use Rattle.par_exchange.specs.Phases.{GathersEach, GivesEach};
+
+/// In each phase, what the parties brought is what the elected got, each once, and what was given to them was taken, each
+/// once.
+pub fn gathers_each<T>()
+    ensures { GathersEach T }
+{}
+
+/// What a party takes is what was given to it in the phase, once.
+pub fn gives_each<T>()
+    ensures { GivesEach T }
+{}

@@ -1,0 +1,21 @@
+//! What goes round in an exchange.
+
+ghost use Rattle.std.specs.Prelude.{ℕ};
+
+/// What goes round, and what is always true of it.
+///
+/// An exchange crosses threads where `X: Trade + Send`, `X::Token: Send` and `X::Sign: Send`: who calls it asks for
+/// these three.
+pub trait Trade {
+    /// What a party brings, and gets.
+    type Token: Drop;
+
+    /// What the two facts may name, as the region of all tokens. The exchange keeps it for good.
+    type Sign: Drop;
+
+    // what the party of this number may bring
+    ghost brings: { Self.Sign → ℕ → Self.Token → Type 0 };
+
+    // what may be given to the party of this number
+    ghost gives: { Self.Sign → ℕ → Self.Token → Type 0 };
+}
