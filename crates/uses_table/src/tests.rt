@@ -59,8 +59,7 @@ fn cache_for_two<R: Wait>(
 {
     let (region, area, apasses) = area_for(alloc, pages, 2)?;
     let (area_zero, mut area_one) = two_of(apasses);
-    let Ok((table, passes)) = Dshash::new(rt, alloc, &region, &area, &mut area_one, 32, 2)
-    else {
+    let Ok((table, passes)) = Dshash::new(rt, alloc, &region, &area, &mut area_one, 32, 2) else {
         return Err(Fail::new("no table"));
     };
     let (zero, one) = two_of(passes);

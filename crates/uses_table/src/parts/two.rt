@@ -109,9 +109,25 @@ fn two_threads_while_the_table_doubles(rt: HostRuntime) -> Result<(), Fail> {
         table: mut pass,
         area: mut apass,
     } = zero;
-    let taken = drain_all(&rt, rt.alloc(), &table, &region, &area, &mut pass, &mut apass)?;
+    let taken = drain_all(
+        &rt,
+        rt.alloc(),
+        &table,
+        &region,
+        &area,
+        &mut pass,
+        &mut apass,
+    )?;
     assert_eq!(rt; taken, 1000);
-    let left = drain_all(&rt, rt.alloc(), &table, &region, &area, &mut pass, &mut apass)?;
+    let left = drain_all(
+        &rt,
+        rt.alloc(),
+        &table,
+        &region,
+        &area,
+        &mut pass,
+        &mut apass,
+    )?;
     assert_eq!(rt; left, 0);
     Ok(())
 }
