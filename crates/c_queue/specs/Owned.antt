@@ -5,12 +5,17 @@ use base.Fml.{Fml, ftrue}
 use base.Stored.{Coded}
 use denote.RawPtr.{Ptr}
 use Rattle.std.specs.Box.Ownership.{box_owns}
-use Rattle.libc.specs.Heap.{chunk}
+use Rattle.std.specs.Global.{Global}
+use Rattle.std_heap.specs.contracts.GlobalAllocator.TheImpl.{ghosts}
 use Rattle.c_queue.specs.contracts.end.End.{the_row}
+
+-- the heap, of which there is one
+abbrev pub the_heap : Global
+the_heap = record { memory = record { seal = tt } }
 
 abbrev pub end_owns : Ptr → Option the_row.Denot → Fml
 end_owns at None = ftrue
-end_owns at (Some x) = box_owns chunk the_row at x
+end_owns at (Some x) = box_owns (ghosts.dealloc_token the_heap) the_row at x
 
 abbrev pub value_code : Coded (Option the_row.Denot)
 value_code = coded_option the_row.coded
