@@ -97,7 +97,7 @@ fn first_window<R: Threads + Wait + Sync, S: Source>(
     let mut window = Window::new(alloc);
     for _ in rt.forever() {
         let is_last = fill(&mut window, source, size, 0)?;
-        match records_of(rt, alloc, plan, &window) {
+        match stored(rt, alloc, plan, &window) {
             Ok(store) => return Ok(First {
                 window,
                 store,
@@ -147,7 +147,7 @@ fn fill<S: Source>(window: &mut Window, source: &mut S, size: usize, row: u64) -
 }
 
 /// The records of a window.
-fn records_of<R: Threads + Sync>(
+fn stored<R: Threads + Sync>(
     rt: &R,
     alloc: Global,
     plan: &Plan,
@@ -248,7 +248,7 @@ fn next_window<R: Threads + Wait + Sync, S: Source>(
     } = stream;
     spare.follow(&window)?;
     let is_last = fill(&mut spare, source, size, count + 1)?;
-    let store = match records_of(rt, alloc, plan, &spare) {
+    let store = match stored(rt, alloc, plan, &spare) {
         Ok(store) => store,
         Err(_) => return Err(Stop::Memory),
     };
