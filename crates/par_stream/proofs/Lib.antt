@@ -1,3 +1,3 @@
-mod Rows
+mod Refusals
 mod Streams
 mod Windows
