@@ -2,7 +2,8 @@
 //! caller's thread alone.
 //!
 //! What comes before the rows is the crate `table_query`'s. Here the rows come to groups, the groups to a text, and the
-//! text is written as a whole: only a whole table, or where a write failed a prefix of it, goes to `out`.
+//! text is written when it is there as a whole, in one piece or in several: only a whole table, or where a write failed a
+//! prefix of it, goes to `out`.
 
 #![tactic(auto)]
 
@@ -26,7 +27,7 @@ pub use alone::aggregate_alone;
 pub use gather_run::Gathered;
 use gather_run::gather;
 use names::stop_of_gather;
-use output::write_table;
+use output::write_table_in_threads;
 use par_io::{Sink, Source};
 use std::alloc::Global;
 use std::sync::Wait;
@@ -35,8 +36,8 @@ use table_query::{InThreads, Stop, Wanted, prepare};
 use worker_run::Gate;
 
 /// Answers the query that `words`, those after the program's name, name by options: reads the source and writes the table
-/// to `out`, with as many workers beside the caller's thread as the words ask for. Each participant passes the gate before
-/// each of its blocks. `Err` says why there is no table; its line is still to be written.
+/// to `out`, with as many workers beside the caller's thread as the words ask for. The text is made by as many threads.
+/// Each participant passes the gate before each of its blocks. `Err` says why there is no table; its line is still to be written.
 ///
 /// Time is linear in the input, but for the look-up of each row's group and the order of the groups. Memory is the input,
 /// its records, the groups, for each worker 82 KB and the groups of its own rows, the area of a shared table, and the text.
@@ -81,6 +82,7 @@ pub fn answer_plan<R: Threads + Wait + Sync, S: Source, O: Sink, G: Gate + Sync>
         Ok(gathered) => gathered,
         Err(answer) => return Err(stop_of_gather(alloc, &ready.plan, answer)),
     };
-    write_table(alloc, &ready, &gathered.groups, out)?;
+    let threads = ready.plan.workers() as usize + 1;
+    write_table_in_threads(rt, alloc, &ready, &gathered.groups, threads, out)?;
     Ok(gathered)
 }

@@ -1,4 +1,4 @@
 pub mod Going
-mod Pieces
+pub mod Pieces
 pub mod Records
 pub mod RowLines
