@@ -1,6 +1,8 @@
 mod Answering
 mod Averages
 mod Columns
+mod Even
+mod Fronts
 mod Keys
 mod Occurring
 mod Small
