@@ -13,7 +13,7 @@ use Rattle.partial_agg.specs.Groups.{GroupsByKey}
 use Rattle.partial_agg.specs.Rows.{IsAccepted, header_width}
 use Rattle.row_blocks.specs.Blocks.{AreBlocks, Table, rows_of_blocks}
 use Rattle.split_law.specs.Shares.{Add, AreShared, together}
-use Rattle.split_law.proofs.Shares.{blocks_cover, shares_grow}
+use Rattle.split_law.proofs.RowShares.{blocks_cover, shares_grow}
 use Rattle.split_run.specs.Causes.{IsCauseBy}
 use Rattle.split_run.specs.Hands.{AreDone, HasAdded, HasDone}
 use Rattle.split_run.specs.declared.hands.Hand.{Hand}
