@@ -112,6 +112,14 @@ impl KeyList {
             }
         }
     }
+
+    /// Takes all keys out, and keeps the memory.
+    pub(crate) fn clear(&mut self)
+        ensures { self.new ≡ [] }
+    {
+        self.bytes.clear();
+        self.ends.clear();
+    }
 }
 
 /// Where the key at this place starts and ends.

@@ -165,6 +165,17 @@ impl KeyTable {
         self.keys.push(key)
     }
 
+    /// Takes all keys out, and keeps the memory for those that come next. The time is that of the memory.
+    pub fn clear(&mut self)
+        ensures { self.new ≡ [] }
+    {
+        for slot in self.slots.iter_mut() {
+            *slot = FREE;
+        }
+        self.keys.clear();
+        self.late.clear();
+    }
+
     /// Sees to it that no more than half of the slots are taken.
     fn make_room(&mut self, alloc: Global) -> Result<(), AllocError>
         ensures { self.new ≡ self.old }

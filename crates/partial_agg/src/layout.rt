@@ -109,6 +109,16 @@ impl Layout {
         slots
     }
 
+    /// Reads the first slots that lanes stand for, as many as there is room for.
+    pub(crate) fn read(&self, lanes: &[SlotState], slots: &mut [SlotState])
+        requires { length slots.old ≤ 8 }
+        ensures { slots.new ≡ take (length slots.old) (slots_in self.now.parts lanes.now) }
+    {
+        for at in 0..slots.len() {
+            slots[at] = self.parts[at].slot_in(lanes);
+        }
+    }
+
     /// The lanes of a state with these slots, at the front of an array.
     pub(crate) fn lanes(&self, slots: &[SlotState; 8]) -> [SlotState; 8]
         ensures lanes { take self.now.width result ≡ lanes_of self.now slots.now }

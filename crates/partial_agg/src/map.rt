@@ -16,6 +16,7 @@ ghost use Rattle.key_index.specs.Keys.{key_at, key_cmp};
 ghost use Rattle.csv_rows.specs.Records.{record_at};
 ghost use Rattle.par_model.specs.Plan.{Plan};
 ghost use Rattle.par_model.specs.Columns.{HasColumns};
+ghost use Rattle.par_model.specs.declared.refusal.TheConstants.{LONGEST_KEY};
 ghost use Rattle.partial_agg.specs.Blocks.{ExplainsRow, Stopped};
 ghost use Rattle.partial_agg.specs.Groups.{AreGroups, added, with_rows};
 ghost use Rattle.partial_agg.specs.Listed.{listed};
@@ -26,6 +27,7 @@ ghost use Rattle.partial_agg.specs.Rows.{IsAccepted, block_rows, header_width};
 use crate::ahead::guess_places;
 use crate::groups::Groups;
 use crate::key::GroupKey;
+use crate::lent::LentGroups;
 use crate::row::{RowBuffer, RowStatus, read_values};
 use crate::state::one_row;
 use crate::states::StateList;
@@ -104,7 +106,34 @@ impl GroupMap {
         ensures ok { OnOk result (self.new ≡ added self.old key state.now) }
         ensures err { OnErr result (self.new ≡ self.old) }
     {
-        self.add_state(&key, state)
+        self.add_state(key.bytes(), state)
+    }
+
+    /// The same under the key of these bytes, which are copied only where the key is new.
+    pub fn add_bytes(&mut self, key: &[u8], state: &AggState) -> Result<(), AllocError>
+        requires { length key.now ≤ LONGEST_KEY }
+        ensures ok { OnOk result (self.new ≡ added self.old key.now state.now) }
+        ensures err { OnErr result (self.new ≡ self.old) }
+    {
+        self.add_state(key, state)
+    }
+
+    /// The groups where they lie, in no order that is told. Takes no memory.
+    pub fn lent(&self) -> LentGroups<'_>
+        ensures { IsPermutation (listed self.now) result }
+    {
+        LentGroups::of_parts(&self.keys, &self.states, self.left.as_slice())
+    }
+
+    /// Takes all groups out of the map. Their memory stays, for the groups that come next.
+    pub fn clear(&mut self)
+        ensures { self.new ≡ map.empty }
+    {
+        self.keys.clear();
+        self.states.truncate(0);
+        self.left.clear();
+        self.whole = true;
+        self.sorted = true;
     }
 
     /// Takes the group with the least key out of the map.
@@ -264,7 +293,7 @@ impl GroupMap {
                 }
             }
         }
-        match self.add_state(&buffer.key, &one_row(values)) {
+        match self.add_state(buffer.key.bytes(), &one_row(values)) {
             Ok(()) => Ok(()),
             Err(AllocError) => Err(BlockAnswer::Memory),
         }
@@ -272,11 +301,12 @@ impl GroupMap {
 
     /// Adds a state under a key.
     #[inline(never)]
-    fn add_state(&mut self, key: &GroupKey, state: &AggState) -> Result<(), AllocError>
+    fn add_state(&mut self, key: &[u8], state: &AggState) -> Result<(), AllocError>
+        requires { length key.now ≤ LONGEST_KEY }
         ensures ok { OnOk result (self.new ≡ added self.old key.now state.now) }
         ensures err { OnErr result (self.new ≡ self.old) }
     {
-        match self.keys.find(key.bytes()) {
+        match self.keys.find(key) {
             Some(place) => {
                 if self.whole || is_left(self.left.as_slice(), place) {
                     self.states.combine(place, state)?;
@@ -292,7 +322,7 @@ impl GroupMap {
                 let place = self.states.len();
                 self.left.reserve(1)?;
                 self.states.push(state)?;
-                match self.keys.push(self.alloc, key.bytes()) {
+                match self.keys.push(self.alloc, key) {
                     Ok(()) => {}
                     Err(AllocError) => {
                         self.states.truncate(place);

@@ -74,6 +74,20 @@ impl StateList {
         }
     }
 
+    /// Reads the state at a place: the number of its rows and so many slots. The other slots stay as they are.
+    pub(crate) fn read(&self, at: usize, state: &mut AggState, count: usize)
+        requires place { at < length self.now }
+        requires few { count ≤ 8 }
+        ensures rows { state.new.rows ≡ (get_or self.now at empty_state).rows }
+        ensures front { take count state.new.slots ≡ take count (get_or self.now at empty_state).slots }
+        ensures rest { drop count state.new.slots ≡ drop count state.old.slots }
+    {
+        let width = self.layout.width();
+        let lanes = lanes_at(&self.lanes, at * width, width);
+        state.rows = self.rows[at];
+        self.layout.read(lanes, &mut state.slots[..count]);
+    }
+
     /// Whether a state stands there in which nothing is counted. No row makes one.
     pub(crate) fn is_blank(&self, at: usize) -> bool {
         let lane = at.wrapping_mul(self.layout.width());

@@ -2,12 +2,12 @@
 //!
 //! A tuple is the key after its length, the number of rows, the number of slots and the slots, each number lowest byte
 //! first. `tuple_bytes` of `specs/Tuple.antt` is the format, and `refusal` says why bytes are none; `encode` and
-//! `decode` are the two directions, and neither takes memory.
+//! `decode` are the two directions, and neither takes memory. `encode_into` and `decode_into` copy no key and no state.
 
 #![tactic(auto)]
 
 mod read;
 mod write;
 
-pub use read::{TupleRead, decode};
-pub use write::{Tuple, encode};
+pub use read::{TupleRead, decode, decode_into};
+pub use write::{Tuple, encode, encode_into};

@@ -1,6 +1,6 @@
 //! From bytes to a group.
 
-ghost use Rattle.std.specs.Prelude.{◌≡◌, ◌<◌, ◌≤◌, ◌+◌, ◌-◌, ◌*◌, ◌^◌, ℕ, List, IfOk, IfErr, drop, length, map, replicate, take};
+ghost use Rattle.std.specs.Prelude.{◌≡◌, ◌<◌, ◌≤◌, ◌+◌, ◌-◌, ◌*◌, ◌^◌, ℕ, List, IfOk, IfErr, MatchResult, OnErr, drop, length, map, replicate, take};
 ghost use Rattle.std.specs.List.{AllByRecursion, concat};
 ghost use Rattle.par_model.specs.Aggregate.{no_values};
 ghost use Rattle.par_model.specs.declared.state.AggState.{AggState};
@@ -35,16 +35,34 @@ pub fn decode(bytes: &[u8]) -> Result<(GroupKey, AggState), TupleRead>
     ensures accepted { IfOk result (λ group. refusal bytes.now ≡ None) }
     ensures refused { IfErr result (λ why. refusal bytes.now ≡ Some why) }
 {
+    let mut state = empty();
+    match decode_into(bytes, &mut state) {
+        Ok(key) => Ok((GroupKey::of(key).unwrap(), state)),
+        Err(why) => Err(why),
+    }
+}
+
+/// The same with the key where it lies in the bytes, and the state in place of one that is there, so that nothing is
+/// copied. Bytes that are no tuple leave that as it was.
+pub fn decode_into<'a>(bytes: &'a [u8], state: &mut AggState) -> Result<&'a [u8], TupleRead>
+    ensures tuple { IfOk result (λ key. (slots : ℕ) × IsTuple key.now state.new slots × (tuple_bytes key.now state.new slots ≡ bytes.now)) }
+    ensures written { (key : List ℕ) (now : AggState) (slots : ℕ) → IsTuple key now slots → bytes.now ≡ tuple_bytes key now slots
+        → MatchResult result (λ found. (found.now ≡ key) × (state.new ≡ now)) (λ why. ⊥) }
+    ensures kept { OnErr result (state.new ≡ state.old) }
+
+    // When each error comes.
+    ensures accepted { IfOk result (λ key. refusal bytes.now ≡ None) }
+    ensures refused { IfErr result (λ why. refusal bytes.now ≡ Some why) }
+{
     let shape = match shape_of(bytes) {
         Ok(shape) => shape,
         Err(why) => return Err(why),
     };
     let rows = 4 + shape.key;
-    let key = GroupKey::of(&bytes[4..rows]).unwrap();
-    let mut state = empty();
+    *state = empty();
     state.rows = word_at(bytes, rows);
     read_slots(&mut state.slots, &bytes[rows + 9..], shape.slots);
-    Ok((key, state))
+    Ok(&bytes[4..rows])
 }
 
 /// The shape of the tuple that these bytes are.

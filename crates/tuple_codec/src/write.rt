@@ -3,6 +3,7 @@
 ghost use Rattle.std.specs.Prelude.{◌≡◌, ◌<◌, ◌≤◌, ◌+◌, ◌-◌, ◌*◌, ◌^◌, ◌++◌, ℕ, All, drop, length, map, replicate, slice_index, take};
 ghost use Rattle.std.specs.List.{concat};
 ghost use Rattle.par_model.specs.Aggregate.{no_values};
+ghost use Rattle.par_model.specs.declared.refusal.TheConstants.{LONGEST_KEY};
 ghost use Rattle.tuple_codec.specs.Tuple.{IsSlot, IsTuple, slot_bytes, tuple_bytes, word};
 
 use par_model::{AggState, SlotState};
@@ -17,6 +18,18 @@ pub struct Tuple {
     pub len: u32,
 }
 
+impl Tuple {
+    /// No bytes.
+    pub fn new() -> Tuple
+        ensures { result.len ≡ 0 }
+    {
+        Tuple {
+            bytes: [0; LONGEST],
+            len: 0,
+        }
+    }
+}
+
 /// The tuple of a key and a state with this many slots, past which the state's are zeros.
 pub fn encode(key: &GroupKey, state: &AggState, slots: u32) -> Tuple
     requires few { slots ≤ 8 }
@@ -25,16 +38,27 @@ pub fn encode(key: &GroupKey, state: &AggState, slots: u32) -> Tuple
     ensures length { result.len ≡ length (tuple_bytes key.now state.now slots) }
     ensures tuple { IsTuple key.now state.now slots }
 {
-    let mut tuple = Tuple {
-        bytes: [0; LONGEST],
-        len: 0,
-    };
-    push(&mut tuple, &(key.bytes().len() as u32).to_le_bytes());
-    push(&mut tuple, key.bytes());
-    push_word(&mut tuple, state.rows);
-    push(&mut tuple, &[slots as u8]);
-    push_slots(&mut tuple, &state.slots, slots as usize);
+    let mut tuple = Tuple::new();
+    encode_into(&mut tuple, key.bytes(), state, slots);
     tuple
+}
+
+/// The same into a tuple that is there, in place of its bytes, for the key of these bytes. So one who sends many tuples
+/// fills the same memory again.
+pub fn encode_into(tuple: &mut Tuple, key: &[u8], state: &AggState, slots: u32)
+    requires key { length key.now ≤ LONGEST_KEY }
+    requires few { slots ≤ 8 }
+    requires zeros { drop slots state.now.slots ≡ replicate (8 - slots) no_values }
+    ensures bytes { take tuple.new.len tuple.new.bytes ≡ tuple_bytes key.now state.now slots }
+    ensures length { tuple.new.len ≡ length (tuple_bytes key.now state.now slots) }
+    ensures tuple { IsTuple key.now state.now slots }
+{
+    tuple.len = 0;
+    push(tuple, &(key.len() as u32).to_le_bytes());
+    push(tuple, key);
+    push_word(tuple, state.rows);
+    push(tuple, &[slots as u8]);
+    push_slots(tuple, &state.slots, slots as usize);
 }
 
 /// Adds bytes behind those that are there.

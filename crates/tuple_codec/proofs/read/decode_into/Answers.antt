@@ -3,7 +3,7 @@ use Rattle.std.proofs.lemmas.List.{take_all}
 use Rattle.std.specs.List.{AllByRecursion, concat}
 use Rattle.tuple_codec.specs.Tuple.{refusal, slot_bytes}
 use Rattle.tuple_codec.proofs.Unique.{accepted, read_back, run_bytes, tuple-same, tuple_bytes-is}
-use Rattle.tuple_codec.proofs.read.decode.Goals as goal
+use Rattle.tuple_codec.proofs.read.decode_into.Goals as goal
 
 byte_fits : (bytes : List ℕ) → ((i : ℕ) → Fits w8 (get_or bytes i 0)) → (i : ℕ) → get_or bytes i 0 < 2 ^ 8
 byte_fits bytes h i = let f = h i in omega arith
@@ -25,26 +25,26 @@ returns-clause-tuple c =
     let shape = c.in-Ok.ensures.shape in
     let bytes = c.args.bytes.now in
     let k = c.in-Ok.shape.key in
+    let key = take (4 + k - 4) (drop 4 bytes) in
     let small = λ (i : ℕ). byte_fits bytes c.type_inv.bytes i in
-    let key : c.unwrap-key.result ≡ take k (drop 4 bytes) = (rw c.unwrap-key.ensures at c.of.ensures.key) ∙ ap (λ (n : ℕ). take n (drop 4 bytes)) (four_less k) in
-    let key_long : length c.unwrap-key.result ≡ k = ap length key ∙ length-take-le k (drop 4 bytes) (omega (arith, length-drop 4 bytes, shape.ends)) in
+    let is : key ≡ take k (drop 4 bytes) = ap (λ (n : ℕ). take n (drop 4 bytes)) (four_less k) in
+    let key_long : length key ≡ k = ap length is ∙ length-take-le k (drop 4 bytes) (omega (arith, length-drop 4 bytes, shape.ends)) in
     let tail : concat (map slot_bytes (take c.in-Ok.shape.slots c.read_slots.new.slots)) ≡ drop (13 + k) bytes = c.read_slots.ensures.bytes ∙ rest_of bytes k in (
       c.in-Ok.shape.slots,
       record {
         key_fits = omega (arith, key_long, shape.key_fits);
-        key_bytes = subst (AllByRecursion (λ byte. byte < 2 ^ 8)) (sym key) (run_bytes bytes 4 k small);
+        key_bytes = subst (AllByRecursion (λ byte. byte < 2 ^ 8)) (sym is) (run_bytes bytes 4 k small);
         rows = c.word_at.type_inv;
         few = shape.few;
         long = c.read_slots.ensures.long;
         numbers = c.read_slots.ensures.numbers;
         zeros = c.read_slots.ensures.zeros;
       },
-      tuple_bytes-is c.unwrap-key.result (record { rows = c.word_at.result; slots = c.read_slots.new.slots }) c.in-Ok.shape.slots
-          ∙ read_back bytes c.unwrap-key.result (concat (map slot_bytes (take c.in-Ok.shape.slots c.read_slots.new.slots))) c.word_at.result k c.in-Ok.shape.slots (omega (arith, shape.ends)) small shape.key key c.word_at.ensures shape.slots tail,
+      tuple_bytes-is key (record { rows = c.word_at.result; slots = c.read_slots.new.slots }) c.in-Ok.shape.slots
+          ∙ read_back bytes key (concat (map slot_bytes (take c.in-Ok.shape.slots c.read_slots.new.slots))) c.word_at.result k c.in-Ok.shape.slots (omega (arith, shape.ends)) small shape.key is c.word_at.ensures shape.slots tail,
     )
 
 pub returns-clause-written : goal.returns-clause-written
 returns-clause-written c = λ key state slots t e.
     let read = returns-clause-tuple c in
-    let same = tuple-same _ key _ state read.0 slots read.1 t (read.2 ∙ e) in
-    ap Ok (λ i. (same.0 i, same.1 i))
+    tuple-same _ key _ state read.0 slots read.1 t (read.2 ∙ e)
