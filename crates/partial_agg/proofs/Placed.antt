@@ -152,6 +152,10 @@ listed-state keys states (p ∷ places) zero place state e k =
     ap (λ (p : ℕ). Some (get_or states p empty_state)) (some_place p place e) ∙ ap Some (get_or_from_slice_get states place state empty_state k)
 listed-state keys states (p ∷ places) (suc at) place state e k = listed-state keys states places at place state e k
 
+pub keys-listed_at : (keys : List (List ℕ)) (states : List AggState) (places : List ℕ) → map_list (λ (g : Group). g.key) (listed_at keys states places) ≡ map_list (key_at keys) places
+keys-listed_at keys states [] = refl
+keys-listed_at keys states (p ∷ places) = ap (λ (ks : List (List ℕ)). key_at keys p ∷ ks) (keys-listed_at keys states places)
+
 -- a group is its key and its state
 pub group_of_parts : (groups : List Group) (at : ℕ) (copy key : List ℕ) (state : AggState) → copy ≡ key → slice_get (map_list (λ (g : Group). g.key) groups) at ≡ Some key
     → slice_get (map_list (λ (g : Group). g.state) groups) at ≡ Some state → slice_get groups at ≡ Some (record { key = copy; state = state })

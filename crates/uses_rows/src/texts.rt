@@ -26,7 +26,7 @@ fn answer(
 ) -> Result<Vec<u8>, AllocError>
     requires bound { bound.now ≡ bound_plan (record_at store.now 0) plan.now.plan }
     requires groups { AreGroups bound.now (drop 1 store.now) map }
-    requires few { length store.now ≤ 2 ^ 32 }
+    requires few { length store.now ≤ 2 ^ 50 }
     ensures { IfOk result (λ text. IsAnswer plan.now.plan (record_at store.now 0 ∷ drop 1 store.now) text.items) }
 {
     let groups = map.into_groups();

@@ -20,4 +20,4 @@ returns-clause-fits c =
     let keys = c.self.inside.keys in
     let place = c.index.result.now in
     subst (λ (key : List ℕ). length key ≤ 248) (get_or_from_slice_get keys place c.get.result.now [] c.get.ensures)
-    (c.self.invariant.fits place [] (slice_get_within keys place c.get.result.now c.get.ensures))
+    (c.self.invariant.listed.fits place [] (slice_get_within keys place c.get.result.now c.get.ensures))

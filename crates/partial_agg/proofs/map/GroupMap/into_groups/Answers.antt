@@ -1,6 +1,6 @@
-use Rattle.std.proofs.Common.{◌∙◌, ap, sym, subst, length, reverse}
+use Rattle.std.proofs.Common.{◌∙◌, ap, refl, sym, subst, length, reverse}
 use Rattle.partial_agg.specs.Listed.{listed_at}
-use Rattle.partial_agg.specs.Placed.{AreListed}
+use Rattle.partial_agg.specs.Placed.{AreInOrder}
 use Rattle.partial_agg.proofs.Grouped.{are_listed, grouped_ordered, listed_in_order}
 use Rattle.partial_agg.proofs.map.GroupMap.into_groups.Goals as goal
 
@@ -11,8 +11,8 @@ of_parts-requires c =
     let old = c.self.inside.left.items in
     let new = c.put_in_order.new.left.items in
     let whole = c.self.inside.whole in
-    subst (AreListed keys count) (sym c.reverse.ensures.items) (are_listed keys count (reverse new) whole _
-    (grouped_ordered keys count old new whole c.self.inside.sorted c.self.invariant c.put_in_order.ensures.permutation c.put_in_order.ensures.sorted c.put_in_order.ensures.unchanged))
+    let ordered = grouped_ordered keys count old new whole c.self.inside.sorted c.self.invariant c.put_in_order.ensures.permutation c.put_in_order.ensures.sorted c.put_in_order.ensures.unchanged in
+    subst (AreInOrder keys count) (sym c.reverse.ensures.items) (record { listed = are_listed keys count (reverse new) whole _ ordered; rise = ordered.ordered refl })
 
 pub returns : goal.returns
 returns c =
