@@ -10,4 +10,4 @@ text_in_threads-requires-clause-printable g c =
     let groups = c.requires.groups in
     let few : length (drop 1 ready.rows) ≤ 2 ^ 50 = omega (arith, length-drop 1 ready.rows, c.requires.bound.few) in
     let P : List Group → Type 0 = λ l. ArePrintable ready.bound l in
-    subst P (sym groups.2) (printable-listed ready.bound (drop 1 ready.rows) groups.0 few groups.1)
+    λ κs within. subst P (sym groups.2) (printable-listed ready.bound (drop 1 ready.rows) groups.0 few groups.1)
