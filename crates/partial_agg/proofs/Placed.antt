@@ -1,5 +1,5 @@
 -- A map whose states lie in a list: what the finite map that it means becomes where a state changes, a group comes or one goes.
-use Rattle.std.proofs.Common.{◌≡◌, ◌++◌, ℕ, zero, suc, Bool, true, false, cond, List, [], ◌∷◌, Option, Some, None, refl, ap, sym, subst, ◌∙◌, length, get_or, set, map as map_list}
+use Rattle.std.proofs.Common.{◌≡◌, ◌<◌, ◌++◌, arith, ℕ, zero, suc, Bool, true, false, cond, List, [], ◌∷◌, Option, Some, None, refl, ap, sym, subst, ◌∙◌, length, get_or, set, map as map_list}
 use Rattle.std.proofs.lemmas.List.{get_or-set_other, get_or-set_same, get_or_default}
 use Rattle.std.proofs.lemmas.Map.Made.{lookup-map_values}
 use Rattle.std.proofs.Math.ListN.{get_or-append}
@@ -18,7 +18,7 @@ use Rattle.std.specs.declared.cmp.Ordering.TheVariants.{Less, Equal, Greater}
 use Rattle.par_model.specs.declared.state.AggState.{AggState}
 use Rattle.partial_agg.specs.Groups.{GroupsByKey, added, joined, key_cmp}
 use Rattle.key_index.specs.Keys.{key_at}
-use Rattle.partial_agg.specs.Listed.{listed_at}
+use Rattle.partial_agg.specs.Listed.{listed_at, state_at}
 use Rattle.partial_agg.specs.declared.groups.Group.{Group}
 use Rattle.partial_agg.specs.Placed.{ArePlaces, Places, groups_at, place_of, placed}
 use Rattle.partial_agg.specs.State.{combined, empty_state}
@@ -155,6 +155,11 @@ listed-state keys states (p ∷ places) (suc at) place state e k = listed-state 
 pub keys-listed_at : (keys : List (List ℕ)) (states : List AggState) (places : List ℕ) → map_list (λ (g : Group). g.key) (listed_at keys states places) ≡ map_list (key_at keys) places
 keys-listed_at keys states [] = refl
 keys-listed_at keys states (p ∷ places) = ap (λ (ks : List (List ℕ)). key_at keys p ∷ ks) (keys-listed_at keys states places)
+
+pub state_at-listed : (keys : List (List ℕ)) (states : List AggState) (places : List ℕ) (at : ℕ) → at < length places → state_at (listed_at keys states places) at ≡ get_or states (get_or places at 0) empty_state
+state_at-listed keys states [] at lt = absurd (omega arith)
+state_at-listed keys states (p ∷ places) zero lt = refl
+state_at-listed keys states (p ∷ places) (suc at) lt = state_at-listed keys states places at (omega arith)
 
 -- a group is its key and its state
 pub group_of_parts : (groups : List Group) (at : ℕ) (copy key : List ℕ) (state : AggState) → copy ≡ key → slice_get (map_list (λ (g : Group). g.key) groups) at ≡ Some key

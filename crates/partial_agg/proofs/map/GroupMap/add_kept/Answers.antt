@@ -47,6 +47,7 @@ returns-in-Ok-add_values-clause-added c =
 pub returns-in-Ok-add_state-clause-added : goal.returns-in-Ok-add_state-clause-added
 returns-in-Ok-add_state-clause-added c =
     c.in-Ok-add_state.ensures.ok
+    ∙ ap (λ (key : List ℕ). added c.args.self.now key c.one_row.result) c.bytes-2.ensures.bytes
     ∙ ap (λ (state : AggState). added c.args.self.now c.args.buffer.now.key state) c.one_row.ensures
     ∙ row_added c.args.plan.now c.args.width c.args.row.now c.args.buffer.now.key c.items-items.result.now c.read_values.new.values c.args.self.now
     c.requires.kept c.items-items.ensures.items c.in-Ok.ensures.values c.in-Ok.ensures.readable
