@@ -6,7 +6,7 @@
 //! slots what it is by these. Whether a state is told by its lanes is tested, so that no layout can be wrong: a layout
 //! that is badly chosen costs a new one.
 
-ghost use Rattle.std.specs.Prelude.{◌≡◌, ◌<◌, ◌≤◌, ◌↔◌, IsTrue, None, get_or, length, take};
+ghost use Rattle.std.specs.Prelude.{◌≡◌, ◌<◌, ◌≤◌, ◌↔◌, IsTrue, None, drop, get_or, length, take};
 ghost use Rattle.par_model.specs.Aggregate.{no_values};
 ghost use Rattle.partial_agg.specs.State.{without_integers};
 ghost use Rattle.partial_agg.specs.Values.{slot_of_value, values_state};
@@ -109,12 +109,13 @@ impl Layout {
         slots
     }
 
-    /// Reads the first slots that lanes stand for, as many as there is room for.
-    pub(crate) fn read(&self, lanes: &[SlotState], slots: &mut [SlotState])
-        requires { length slots.old ≤ 8 }
-        ensures { slots.new ≡ take (length slots.old) (slots_in self.now.parts lanes.now) }
+    /// Reads so many of the slots that lanes stand for. The others stay as they are.
+    pub(crate) fn read(&self, lanes: &[SlotState], slots: &mut [SlotState; 8], count: usize)
+        requires { count ≤ 8 }
+        ensures front { take count slots.new ≡ take count (slots_in self.now.parts lanes.now) }
+        ensures rest { drop count slots.new ≡ drop count slots.old }
     {
-        for at in 0..slots.len() {
+        for at in 0..count {
             slots[at] = self.parts[at].slot_in(lanes);
         }
     }

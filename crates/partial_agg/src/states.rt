@@ -85,7 +85,7 @@ impl StateList {
         let width = self.layout.width();
         let lanes = lanes_at(&self.lanes, at * width, width);
         state.rows = self.rows[at];
-        self.layout.read(lanes, &mut state.slots[..count]);
+        self.layout.read(lanes, &mut state.slots, count);
     }
 
     /// Whether a state stands there in which nothing is counted. No row makes one.

@@ -1,4 +1,4 @@
-use Rattle.std.proofs.Common.{◌∙◌, List, ℕ, ap, map, subst, sym}
+use Rattle.std.proofs.Common.{◌∙◌, ap, map, subst, sym}
 use Rattle.std.specs.List.Sorted.{IsStrictlySortedBy}
 use Rattle.partial_agg.specs.Groups.{key_cmp}
 use Rattle.partial_agg.specs.declared.groups.Group.{Group}

@@ -1,8 +1,7 @@
-use Rattle.std.proofs.Common.{◌∙◌, ap, subst, sym, length, List, ℕ}
+use Rattle.std.proofs.Common.{◌∙◌, ap, subst, sym, length}
 use Rattle.std.specs.List.Sorted.{IsPermutation}
 use Rattle.partial_agg.specs.Listed.{listed, listed_at}
 use Rattle.partial_agg.specs.Placed.{AreListed}
-use Rattle.partial_agg.specs.declared.groups.Group.{Group}
 use Rattle.partial_agg.proofs.Grouped.{lent_listed, listed_moved}
 use Rattle.partial_agg.proofs.map.GroupMap.lent.Goals as goal
 
