@@ -1,4 +1,4 @@
-use Rattle.std.proofs.Common.{◌≡◌, ◌<◌, ◌+◌, ◌-◌, ◌^◌, ◌∙◌, ℕ, List, get_or, length, take, drop, map, ap, sym, subst, arith, Ok, Fits, w8, length-drop, length-take-le}
+use Rattle.std.proofs.Common.{◌≡◌, ◌<◌, ◌+◌, ◌-◌, ◌^◌, ◌∙◌, ℕ, List, get_or, length, take, drop, map, ap, sym, subst, arith, Fits, w8, length-drop, length-take-le}
 use Rattle.std.proofs.lemmas.List.{take_all}
 use Rattle.std.specs.List.{AllByRecursion, concat}
 use Rattle.tuple_codec.specs.Tuple.{refusal, slot_bytes}
@@ -34,14 +34,14 @@ returns-clause-tuple c =
       record {
         key_fits = omega (arith, key_long, shape.key_fits);
         key_bytes = subst (AllByRecursion (λ byte. byte < 2 ^ 8)) (sym is) (run_bytes bytes 4 k small);
-        rows = c.word_at.type_inv;
+        rows = c.word_at-state.type_inv;
         few = shape.few;
         long = c.read_slots.ensures.long;
         numbers = c.read_slots.ensures.numbers;
         zeros = c.read_slots.ensures.zeros;
       },
-      tuple_bytes-is key (record { rows = c.word_at.result; slots = c.read_slots.new.slots }) c.in-Ok.shape.slots
-          ∙ read_back bytes key (concat (map slot_bytes (take c.in-Ok.shape.slots c.read_slots.new.slots))) c.word_at.result k c.in-Ok.shape.slots (omega (arith, shape.ends)) small shape.key is c.word_at.ensures shape.slots tail,
+      tuple_bytes-is key (record { rows = c.word_at-state.result; slots = c.read_slots.new.slots }) c.in-Ok.shape.slots
+          ∙ read_back bytes key (concat (map slot_bytes (take c.in-Ok.shape.slots c.read_slots.new.slots))) c.word_at-state.result k c.in-Ok.shape.slots (omega (arith, shape.ends)) small shape.key is c.word_at-state.ensures shape.slots tail,
     )
 
 pub returns-clause-written : goal.returns-clause-written

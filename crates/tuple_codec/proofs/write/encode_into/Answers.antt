@@ -1,4 +1,4 @@
-use Rattle.std.proofs.Common.{◌≡◌, ◌++◌, ◌∙◌, [], ◌∷◌, ℕ, List, length, take, map, ap, sym, arith, append_assoc, ◌-◌, ◌<◌, ◌^◌, get_or, All, drop, replicate}
+use Rattle.std.proofs.Common.{◌≡◌, ◌++◌, ◌∙◌, [], ◌∷◌, ℕ, List, length, take, map, ap, sym, arith, append_assoc, ◌-◌, ◌<◌, ◌^◌, All, drop, replicate}
 use Rattle.std.specs.Int.{to_le_bytes, w32}
 use Rattle.std.specs.List.{concat}
 use Rattle.std.proofs.lemmas.List.{take-append-drop}
