@@ -16,18 +16,20 @@ use Rattle.dshash_core.specs.Cells.{partition_of}
 use Rattle.dshash_core.specs.Key.{hash_of, packed_key}
 use Rattle.dshash_core.proofs.Maps.{keys_same_or_not}
 use Rattle.gather_law.specs.Parts.{with_all}
-use Rattle.gather_law.specs.Tuples.{Group, Table, rows_of_blocks}
-use Rattle.gather_law.proofs.Draws.{drawn_are_below, rows_all}
-use Rattle.gather_law.proofs.Gathering.{All-apart}
+use Rattle.gather_law.specs.Tuples.{Group}
+use Rattle.row_blocks.specs.Blocks.{Table, block_rows, rows_of_blocks}
+use Rattle.row_blocks.proofs.Draws.{drawn_are_below}
+use Rattle.row_blocks.proofs.BlockRows.{rows_all}
+use Rattle.row_blocks.proofs.Elements.{All-apart}
 use Rattle.gather_law.proofs.Keys.{StandsFor, filter_through}
-use Rattle.gather_law.proofs.Permute.{flat_map-permutation, goes_along, same-permutation}
+use Rattle.row_blocks.proofs.Permute.{flat_map-permutation, goes_along, same-permutation}
 use Rattle.par_model.specs.Keep.{is_kept}
 use Rattle.par_model.specs.Key.{key_of}
 use Rattle.par_model.specs.Plan.{Plan}
 use Rattle.par_model.specs.declared.state.AggState.{AggState}
 use Rattle.partial_agg.specs.Groups.{AreGroups, GroupsByKey, group_of}
 use Rattle.partial_agg.specs.Laws.{both}
-use Rattle.partial_agg.specs.Rows.{IsAccepted, block_rows}
+use Rattle.partial_agg.specs.Rows.{IsAccepted}
 use Rattle.partial_agg.proofs.Adding.{both-none, grouped, groups_add}
 use Rattle.partial_agg.proofs.AnyOrder.{in_any_order}
 use Rattle.rel_pointer.specs.Bytes.{AllBytes}

@@ -5,13 +5,15 @@ use Rattle.std.specs.List.Sorted.{IsPermutation}
 use Rattle.std.proofs.lemmas.List.Concat.{flat_map-append}
 use Rattle.std.proofs.lemmas.List.Elements.{All-append, All-nil, filter-append}
 use Rattle.std.proofs.lemmas.List.Sorted.{IsPermutation-append, IsPermutation-append_comm, IsPermutation-append_left, IsPermutation-append_right, IsPermutation-refl, IsPermutation-sym, IsPermutation-trans}
-use Rattle.gather_law.specs.Tuples.{Group, Table, groups_of, rows_of_blocks}
-use Rattle.gather_law.proofs.Gathering.{All-apart, one_batch}
+use Rattle.gather_law.specs.Tuples.{Group, groups_of}
+use Rattle.row_blocks.specs.Blocks.{Table, block_rows, rows_of_blocks}
+use Rattle.gather_law.proofs.Gathering.{one_batch}
+use Rattle.row_blocks.proofs.Elements.{All-apart}
 use Rattle.gather_law.proofs.Keys.{StandsFor}
-use Rattle.gather_law.proofs.Permute.{AllZip-join, Paired, same-permutation}
+use Rattle.row_blocks.proofs.Permute.{AllZip-join, Paired, same-permutation}
 use Rattle.par_model.specs.Keep.{is_kept}
 use Rattle.par_model.specs.Plan.{Plan}
-use Rattle.partial_agg.specs.Rows.{IsAccepted, block_rows}
+use Rattle.partial_agg.specs.Rows.{IsAccepted}
 use Rattle.scan_claim.specs.Drawing.{flat}
 use Rattle.agg_law.specs.Law.{Share, Shares}
 

@@ -11,7 +11,8 @@ use Rattle.agg_cell.proofs.Runs.{more, more-none}
 use Rattle.agg_table.proofs.Standing.{is_key, states_of}
 use Rattle.dshash_core.proofs.Maps.{keys_same_or_not, other_key, same_key}
 use Rattle.gather_law.specs.Parts.{with_all}
-use Rattle.gather_law.specs.Tuples.{Group, Table}
+use Rattle.gather_law.specs.Tuples.{Group}
+use Rattle.row_blocks.specs.Blocks.{Table}
 use Rattle.gather_law.proofs.Keys.{StandsFor}
 use Rattle.par_model.specs.Plan.{Plan}
 use Rattle.par_model.specs.declared.state.AggState.{AggState}

@@ -7,10 +7,11 @@ use Rattle.std.specs.List.Sorted.{IsPermutation}
 use Rattle.agg_cell.specs.Called.{Seen}
 use Rattle.agg_table.specs.Drained.{AddsTable, HoldsAll}
 use Rattle.gather_law.specs.Parts.{with_all}
-use Rattle.gather_law.specs.Tuples.{Group, Table, groups_of, rows_of_blocks}
+use Rattle.gather_law.specs.Tuples.{Group, groups_of}
+use Rattle.row_blocks.specs.Blocks.{Table, block_rows, rows_of_blocks}
 use Rattle.par_model.specs.Plan.{Plan}
 use Rattle.partial_agg.specs.Groups.{AreGroups, GroupsByKey}
-use Rattle.partial_agg.specs.Rows.{IsAccepted, block_rows}
+use Rattle.partial_agg.specs.Rows.{IsAccepted}
 use Rattle.scan_claim.specs.Drawing.{flat, once_below, times}
 
 -- what a participant made of its groups: those that it put into the table, and those that it left

@@ -1,5 +1,3 @@
-pub mod Anys
-pub mod Traced
 pub mod Putting
 pub mod Growing
 pub mod Asking

@@ -6,7 +6,7 @@ use Rattle.lock_book.proofs.Uses.{at_last, at_longer}
 use Rattle.dsa_area.specs.Shown.{AreAll, Belongs, IsFresh, callers_of, number_of, pages_mine}
 use Rattle.dsa_area.specs.declared.area.Area.{Area}
 use Rattle.dsa_area.specs.declared.area.AreaPass.{AreaPass}
-use Rattle.agg_table.specs.Calls.{lacks}
+use Rattle.dshash_parts.specs.Done.{lacks}
 
 pub snoc_at : {A : Type 0} (xs : List A) (y s : A) (k : ℕ) → get_elem? (xs ++ y ∷ []) k ≡ some s → (get_elem? xs k ≡ some s) ⊎ ((k ≡ length xs) × (s ≡ y))
 snoc_at [] y s zero e = inr (refl, sym (some-injective y s e))

@@ -1,16 +1,13 @@
 -- What a participant made of some groups: the calls of the table that it made, and those that found no space.
-use Rattle.std.specs.Prelude.{◌≡◌, ◌≤◌, ◌+◌, ◌++◌, ◌==◌, ℕ, Bool, true, false, List, [], ◌∷◌, All, Any, count_by, filter, length, map}
-use Rattle.std.specs.List.{flat_map}
+use Rattle.std.specs.Prelude.{◌≡◌, ◌≤◌, ◌+◌, ◌++◌, ◌==◌, ℕ, List, [], ◌∷◌, All, Any, filter, length, map}
 use Rattle.std.specs.List.Sorted.{IsPermutation}
 use Rattle.dshash_core.specs.Cells.{partition_of}
 use Rattle.dshash_core.specs.Key.{hash_of, packed_key}
+use Rattle.dshash_parts.specs.Done as done
+use Rattle.dshash_parts.specs.Done.{IsMissing, PageEntry, lacks}
 use Rattle.dshash_parts.specs.States.{PartitionState}
 use Rattle.dshash_parts.specs.declared.histories.PartitionCalls.{PartitionCalls}
-use Rattle.dshash_parts.specs.declared.histories.PartitionCalls.TheVariants.{Call}
 use Rattle.dshash_parts.specs.declared.histories.PartitionReplies.{PartitionReplies}
-use Rattle.dshash_parts.specs.declared.histories.PartitionReplies.TheVariants.{Made, LacksItem, HasToGrow}
-use Rattle.free_pages.specs.Legal.{PagesCall, PagesReply, PagesState}
-use Rattle.free_pages.specs.Legal as pages
 use Rattle.lock_book.specs.declared.view.Entry.{Entry}
 use Rattle.par_model.specs.declared.state.AggState.{AggState}
 use Rattle.rel_pointer.specs.Bytes.{AllBytes}
@@ -30,10 +27,6 @@ AggReply = PartitionReplies AggState (Unit {0})
 abbrev pub AggEntry : Type 0
 AggEntry = Entry (PartitionState AggState) AggCall AggReply
 
--- an entry in the history of the pages of the table's area
-abbrev pub PageEntry : Type 0
-PageEntry = Entry PagesState PagesCall PagesReply
-
 -- what a participant did with the table: its own turns at each partition, and its own calls at the pages of the area
 pub record Use : Type 0 where
   pub turns : ℕ → List AggEntry
@@ -41,29 +34,17 @@ pub record Use : Type 0 where
 
 -- ---- entries
 
--- the call that an entry is, where it was made: its key, and the state that was called
+-- a call that was made: its key, and the state that was called
+abbrev pub made_call : List ℕ → AggState → Unit {0} → Group
+made_call key state reply = (key, state)
+
+-- the call that an entry is, where it was made
 abbrev pub done_of : AggCall → AggReply → List Group
-done_of (Call key state spare) (Made reply unused freed) = (key, state) ∷ []
-done_of call reply = []
+done_of call reply = done.done_of made_call call reply
 
 -- the calls that were made, in order
 abbrev pub done_in : List AggEntry → List Group
-done_in entries = flat_map (λ (e : AggEntry). done_of e.call e.reply) entries
-
--- a call of this key with this state was not made: it lacked an item, or the partition had to grow first
-abbrev pub IsMissing : List ℕ → AggState → AggCall → AggReply → Type 0
-IsMissing key state (Call k s spare) LacksItem = (k ≡ key) × (s ≡ state)
-IsMissing key state (Call k s spare) (HasToGrow size back) = (k ≡ key) × (s ≡ state)
-IsMissing key state call reply = ⊥
-
--- a request for pages was refused
-abbrev pub is_lack : PagesReply → Bool
-is_lack (pages.Lacks wanted largest) = true
-is_lack reply = false
-
--- how many requests for pages were refused
-abbrev pub lacks : List PageEntry → ℕ
-lacks entries = count_by (λ (e : PageEntry). is_lack e.reply) entries
+done_in entries = done.done_in made_call entries
 
 -- ---- groups
 

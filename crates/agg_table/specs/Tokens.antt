@@ -8,7 +8,8 @@ use Rattle.lock_book.specs.Shown.{mine_of, number_of, seen_of}
 use Rattle.size_classes.specs.Classes.{IsClass}
 use Rattle.dsa_area.specs.Shown.{IsArea, Belongs as AreaBelongs, callers_of as area_callers, number_of as area_number, pages_mine, pages_seen as pages_shown, pool_mine, pool_seen}
 use Rattle.dshash_parts.specs.Tables.{IsTable, Belongs as TableBelongs, callers_of as table_callers, key_words_of}
-use Rattle.agg_table.specs.Calls.{Use, lacks}
+use Rattle.agg_table.specs.Calls.{Use}
+use Rattle.dshash_parts.specs.Done.{lacks}
 use Rattle.agg_table.specs.declared.part.HashPart.{HashPart}
 use Rattle.agg_table.specs.declared.part.HashSeat.{HashSeat}
 

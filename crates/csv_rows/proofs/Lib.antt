@@ -2,7 +2,6 @@ pub mod AllRecords
 pub mod Bits
 pub mod Compose
 pub mod Ends
-pub mod Filled
 pub mod Follows
 pub mod Gaps
 pub mod Groups

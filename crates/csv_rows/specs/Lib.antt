@@ -7,4 +7,3 @@ pub mod Records
 pub mod RowEnds
 pub mod Splits
 pub mod Store
-pub mod Turns

@@ -1,22 +1,16 @@
-//! All the bytes of a source, read into the growing buffer itself.
-//!
-//! A read goes to the room behind the bytes read so far, which is made a piece at a time; so no byte
-//! is copied but where the buffer moves to grow, and none is read past the limit and one more.
+//! All the bytes of an input.
 
-ghost use Rattle.std.specs.Prelude.{◌≡◌, ◌<◌, ◌≤◌, ◌+◌, ℕ, List, IfOk, IfErr, IfSome, OnOk, OnErr, take, drop, length, vec_len};
-ghost use Rattle.std.specs.Io.KnownBytes.{Consumes, IsAtEnd, Keeps};
-ghost use Rattle.par_io.specs.Faults.{HasCause, Rose};
-ghost use Rattle.csv_rows.specs.Turns.{ReadsCount};
+ghost use Rattle.std.specs.Prelude.{◌≡◌, ◌≤◌, ◌+◌, ℕ, List, IfOk, IfSome, OnOk, OnErr, vec_len};
+ghost use Rattle.std.specs.Io.KnownBytes.{IsAtEnd};
+ghost use Rattle.par_io.specs.Faults.{Rose};
+ghost use Rattle.par_io.specs.Reads.{ReadsCount};
 ghost use Rattle.csv_rows.specs.declared.input.ReadAnswer.TheVariants as answer;
 
-use par_io::Source;
-use std::alloc::{AllocError, Global};
+use par_io::{NotWhole, Source, read_whole};
+use std::alloc::Global;
 
 /// The most bytes that an input has: 64 MiB.
 pub const MOST_BYTES: usize = 67_108_864;
-
-/// How much room is made for a read.
-const PIECE: usize = 131_072;
 
 /// Why a source gave no input: a read failed, there were more bytes than [`MOST_BYTES`], or memory
 /// ran out.
@@ -42,73 +36,10 @@ pub fn read_all<S: Source>(alloc: Global, source: &mut S) -> Result<Vec<u8>, Rea
     ensures fault_within { result ≡ Err answer.ReadFault → (count : ℕ) × ReadsCount (S.left source.old) (S.left source.new) count × (count ≤ MOST_BYTES) }
     ensures faults { S.faults source.old ≤ S.faults source.new }
 {
-    let mut bytes = Vec::new(alloc);
-    let mut filled = 0;
-    'reads: while filled <= MOST_BYTES {
-        let count = read_more(source, &mut bytes, filled)?;
-        if count == 0 {
-            bytes.truncate(filled);
-            return Ok(bytes);
-        }
-        filled += count;
+    match read_whole(alloc, source, MOST_BYTES) {
+        Ok(bytes) => Ok(bytes),
+        Err(NotWhole::ReadFault) => Err(ReadAnswer::ReadFault),
+        Err(NotWhole::TooLong) => Err(ReadAnswer::TooManyBytes),
+        Err(NotWhole::Memory) => Err(ReadAnswer::Memory),
     }
-    Err(ReadAnswer::TooManyBytes)
-}
-
-/// One read into the room behind the bytes that are filled, and how many it gave. The room is made
-/// first, so that want of memory loses no byte.
-fn read_more<S: Source>(
-    source: &mut S,
-    bytes: &mut Vec<u8>,
-    filled: usize,
-) -> Result<usize, ReadAnswer>
-    requires filled { filled ≤ vec_len bytes.old }
-    requires most { vec_len bytes.old ≤ MOST_BYTES + 1 }
-    requires room { filled ≤ MOST_BYTES }
-    ensures front { take filled bytes.new.items ≡ take filled bytes.old.items }
-    ensures most { vec_len bytes.new ≤ MOST_BYTES + 1 }
-    ensures fits { IfOk result (λ n. filled + n ≤ vec_len bytes.new) }
-    ensures read { IfOk result (λ n. Consumes (S.left source.old) (S.left source.new) (take n (drop filled bytes.new.items))) }
-    ensures end { IfOk result (λ n. n ≡ 0 → IsAtEnd (S.left source.new)) }
-    ensures kept { OnErr result (Keeps (S.left source.old) (S.left source.new)) }
-    ensures faults { S.faults source.old ≤ S.faults source.new }
-    ensures read_fault { result ≡ Err answer.ReadFault → Rose (S.faults source.old) (S.faults source.new) }
-    ensures within { IfErr result (λ e. (e ≡ answer.TooManyBytes) → ⊥) }
-{
-    if make_room(bytes, filled).is_err() {
-        return Err(ReadAnswer::Memory);
-    }
-    read_at(source, bytes.as_mut_slice(), filled)
-}
-
-/// Makes the buffer longer than the bytes that are filled, by zeros.
-fn make_room(bytes: &mut Vec<u8>, filled: usize) -> Result<(), AllocError>
-    requires filled { filled ≤ vec_len bytes.old }
-    requires most { vec_len bytes.old ≤ MOST_BYTES + 1 }
-    requires room { filled ≤ MOST_BYTES }
-    ensures front { take filled bytes.new.items ≡ take filled bytes.old.items }
-    ensures most { vec_len bytes.new ≤ MOST_BYTES + 1 }
-    ensures room { OnOk result (filled < vec_len bytes.new) }
-    ensures filled { filled ≤ vec_len bytes.new }
-{
-    if filled < bytes.len() {
-        return Ok(());
-    }
-    bytes.resize((filled + PIECE).min(MOST_BYTES + 1), 0)
-}
-
-/// One read into a buffer from this place on.
-fn read_at<S: Source>(source: &mut S, buf: &mut [u8], at: usize) -> Result<usize, ReadAnswer>
-    requires { at < length buf.old }
-    ensures front { take at buf.new ≡ take at buf.old }
-    ensures fits { IfOk result (λ n. at + n ≤ length buf.new) }
-    ensures read { IfOk result (λ n. Consumes (S.left source.old) (S.left source.new) (take n (drop at buf.new))) }
-    ensures end { IfOk result (λ n. n ≡ 0 → IsAtEnd (S.left source.new)) }
-    ensures kept { OnErr result (Keeps (S.left source.old) (S.left source.new)) }
-    ensures cause { HasCause (S.faults source.old) (S.faults source.new) result }
-    ensures why { IfErr result (λ e. e ≡ answer.ReadFault) }
-{
-    source
-        .read(&mut buf[at..])
-        .map_err(|_| ReadAnswer::ReadFault)
 }

@@ -11,3 +11,4 @@ pub mod Cells
 pub mod Owners
 pub mod Callers
 pub mod Lookups
+pub mod Done

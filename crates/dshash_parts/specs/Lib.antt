@@ -12,3 +12,4 @@ pub mod Rounds
 pub mod Owners
 pub mod Callers
 pub mod Lookups
+pub mod Done

@@ -5,28 +5,25 @@ use Rattle.std.specs.List.{AllZip, flat_map}
 use Rattle.std.specs.List.Sorted.{IsPermutation}
 use Rattle.std.proofs.lemmas.List.Filters.{length-filter_both}
 use Rattle.std.proofs.lemmas.List.Concat.{flat_map-append}
-use Rattle.std.proofs.lemmas.List.Elements.{All-append, All-cons, All-filter, All-head, All-nil, All-tail, filter-append, filter_passes}
+use Rattle.std.proofs.lemmas.List.Elements.{All-append, All-filter, All-nil, filter-append, filter_passes}
 use Rattle.std.proofs.lemmas.List.Sorted.{All-permutation, IsPermutation-append, IsPermutation-append_right, IsPermutation-cons, IsPermutation-map, IsPermutation-middle, IsPermutation-refl, IsPermutation-sym, IsPermutation-trans, length_permutation}
 use Rattle.scan_claim.specs.Drawing.{flat, once_below, times, below}
 use Rattle.par_model.specs.Keep.{is_kept}
 use Rattle.par_model.specs.Plan.{Plan}
 use Rattle.partial_agg.specs.Groups.{AreGroups, GroupsByKey, added, group_of, key_cmp, with_row, with_rows}
-use Rattle.partial_agg.specs.Rows.{IsAccepted, block_rows}
+use Rattle.partial_agg.specs.Rows.{IsAccepted}
+use Rattle.row_blocks.specs.Blocks.{Table, block_rows, rows_of_blocks}
 use Rattle.partial_agg.proofs.Adding.{grouped, maps_grow, no_groups}
 use Rattle.partial_agg.proofs.Joining.{maps_add}
 use Rattle.partial_agg.proofs.AnyOrder.{in_any_order}
-use Rattle.gather_law.specs.Tuples.{AreTuples, Group, Table, groups_of, rows_of_blocks}
+use Rattle.gather_law.specs.Tuples.{AreTuples, Group, groups_of}
 use Rattle.gather_law.specs.Parts.{Part, Block, Received, after, blocks_in, received_in, with_all, with_part}
 use Rattle.gather_law.specs.Law.{AreSent, CombineTo, GathersAll, IsGathered, TuplesCombine}
-use Rattle.gather_law.proofs.Permute.{AllZip-join, Paired, along, flat_map-permutation, goes_along, same-permutation}
-use Rattle.gather_law.proofs.Draws.{drawn_are_below, rows_all}
+use Rattle.row_blocks.proofs.Permute.{AllZip-join, Paired, along, flat_map-permutation, goes_along, same-permutation}
+use Rattle.row_blocks.proofs.Draws.{drawn_are_below}
+use Rattle.row_blocks.proofs.BlockRows.{rows_all}
+use Rattle.row_blocks.proofs.Elements.{All-apart}
 use Rattle.gather_law.proofs.Keys.{StandsFor, filter_through, filter_twice, shared}
-
-pub All-apart : {X : Type 0} (P : X → Type 0) (xs ys : List X) → All P (xs ++ ys) → All P xs × All P ys
-All-apart P [] ys h = (All-nil P, h)
-All-apart P (x ∷ xs) ys h =
-    let more = All-apart P xs ys (All-tail P x (xs ++ ys) h) in
-    (All-cons P x xs (All-head P x (xs ++ ys) h) more.0, more.1)
 
 true_of : (b : Bool) → T b → b ≡ true
 true_of true h = refl

@@ -18,7 +18,8 @@ use Rattle.par_model.specs.declared.state.AggState.{AggState}
 use Rattle.partial_agg.specs.Groups.{group_of, key_cmp}
 use Rattle.partial_agg.specs.Laws.{IsGroupOf}
 use Rattle.partial_agg.proofs.Adding.{grouped, ties}
-use Rattle.gather_law.specs.Tuples.{Table, Group}
+use Rattle.gather_law.specs.Tuples.{Group}
+use Rattle.row_blocks.specs.Blocks.{Table}
 
 -- a group stands for some rows: these have its aggregates under its key, and no other key
 abbrev pub StandsFor : Plan → Group → Table → Type 0

@@ -8,7 +8,8 @@ use Rattle.scan_claim.specs.Drawing.{flat, once_below, times}
 use Rattle.par_model.specs.Plan.{Plan}
 use Rattle.partial_agg.specs.Groups.{AreGroups}
 use Rattle.partial_agg.specs.Rows.{IsAccepted}
-use Rattle.gather_law.specs.Tuples.{AreTuples, Group, HasTuple, Table, groups_of, rows_of_blocks, tuple_of}
+use Rattle.gather_law.specs.Tuples.{AreTuples, Group, HasTuple, groups_of, tuple_of}
+use Rattle.row_blocks.specs.Blocks.{Table, rows_of_blocks}
 use Rattle.gather_law.specs.Parts.{Part, after, blocks_in, received_in, with_all}
 
 -- groups are those of batches of the rows of some blocks, none of which is refused

@@ -3,8 +3,8 @@ use Rattle.std.specs.Prelude.{◌≡◌, ℕ, List, [], ◌∷◌, fold}
 use Rattle.std.specs.FinMap as map
 use Rattle.par_model.specs.Plan.{Plan}
 use Rattle.partial_agg.specs.Groups.{GroupsByKey, added, with_rows}
-use Rattle.partial_agg.specs.Rows.{block_rows}
-use Rattle.gather_law.specs.Tuples.{Table, Group}
+use Rattle.row_blocks.specs.Blocks.{Table, block_rows}
+use Rattle.gather_law.specs.Tuples.{Group}
 
 -- one of them
 pub data Part : Type 0 where

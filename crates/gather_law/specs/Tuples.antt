@@ -1,24 +1,16 @@
 -- What a participant's blocks come to, and the tuples that a worker sends for them.
-use Rattle.std.specs.Prelude.{◌≡◌, ◌<◌, ◌≤◌, ◌+◌, ◌*◌, ◌++◌, ℕ, List, [], ◌∷◌, length, map as map_list}
+use Rattle.std.specs.Prelude.{◌≡◌, ℕ, List, length, map as map_list}
 use Rattle.std.specs.FinMap as map
 use Rattle.std.specs.List.{AllByRecursion, flat_map}
 use Rattle.par_model.specs.Plan.{Plan}
 use Rattle.par_model.specs.declared.state.AggState.{AggState}
 use Rattle.partial_agg.specs.Groups.{with_rows}
-use Rattle.partial_agg.specs.Rows.{block_rows}
+use Rattle.row_blocks.specs.Blocks.{Table}
 use Rattle.tuple_codec.specs.Tuple.{IsTuple, tuple_bytes}
-
--- a table: its records, each the list of its fields
-abbrev pub Table : Type 0
-Table = List (List (List ℕ))
 
 -- a key and the partial aggregates of some of its rows
 abbrev pub Group : Type 0
 Group = List ℕ × AggState
-
--- the rows of some blocks, one after the other; a number that is no block has none
-abbrev pub rows_of_blocks : Table → List ℕ → Table
-rows_of_blocks records blocks = flat_map (block_rows records) blocks
 
 -- the groups of some rows, in the order of their keys
 abbrev pub groups_of : Plan → Table → List Group
@@ -44,8 +36,3 @@ pub record AreTuples (plan : Plan) (rows : Table) (messages : List (List ℕ)) :
   pub cut : flat_map (λ batch. batch) batches ≡ rows
   pub sent : messages ≡ map_list (tuple_of plan) (flat_map (groups_of plan) batches)
   pub written : AllByRecursion (HasTuple plan) (flat_map (groups_of plan) batches)
-
--- so many blocks cover the rows, and each of them has a row
-pub record AreBlocks (records : Table) (blocks : ℕ) : Type 0 where
-  pub each : (b : ℕ) → b < blocks → 256 * b + 1 < length records
-  pub all : length records ≤ 256 * blocks + 1

@@ -2,7 +2,7 @@
 use Rattle.std.proofs.Common.{◌≡◌, ℕ, Bool, true, false, if◌then◌else◌, List, [], ◌∷◌, Option, None, Some, option_map, refl, ap, sym, ◌∙◌}
 use Rattle.std.specs.List.{position_from}
 use Rattle.csv_rows.specs.Records.{record_at}
-use Rattle.gather_law.specs.Tuples.{Table}
+use Rattle.row_blocks.specs.Blocks.{Table}
 use Rattle.par_model.specs.Plan.{Plan}
 use Rattle.par_model.specs.Refuse.{filter_cause, is_unreadable, key_cause, reads_integers, refusal, refused_at, refused_for, width_cause}
 use Rattle.par_model.specs.declared.plan.Item.{Item}

@@ -4,20 +4,19 @@ use Rattle.std.proofs.lemmas.List.{drop_all, take-take}
 use Rattle.std.proofs.lemmas.List.Concat.{flat_map-append}
 use Rattle.std.proofs.lemmas.List.Elements.{All-append, All-nil, Contains-push}
 use Rattle.par_model.specs.Plan.{Plan}
-use Rattle.partial_agg.specs.Rows.{IsAccepted, block_rows, header_width}
+use Rattle.partial_agg.specs.Rows.{IsAccepted, header_width}
+use Rattle.row_blocks.specs.Blocks.{AreBlocks, Table, block_numbers, block_rows, numbers_of_blocks, rows_of_blocks}
 use Rattle.partial_agg.specs.declared.map.BlockAnswer.{BlockAnswer}
 use Rattle.partial_agg.specs.declared.map.BlockAnswer.TheVariants as answer
 use Rattle.scan_claim.specs.Drawing.{below, is_spent}
 use Rattle.scan_claim.specs.Shown.{blocks_of, callers_of, draws_of}
 use Rattle.scan_claim.specs.declared.claims.ClaimSeat.{ClaimSeat}
 use Rattle.scan_claim.specs.declared.claims.Claims.{Claims}
-use Rattle.gather_law.proofs.Draws.{block_of, rows_below, take_on}
-use Rattle.gather_law.specs.Tuples.{AreBlocks, Table, rows_of_blocks}
+use Rattle.row_blocks.proofs.BlockRows.{block_of, rows_below, take_on}
 use Rattle.worker_run.proofs.Working.{late_draw, more_blocks}
 use Rattle.gather_merge.specs.Answers.{IsFirst}
 use Rattle.gather_merge.specs.Drawn.{HasDrawn, HasDrawnAll, Met, Stops, StopsAt}
-use Rattle.gather_merge.specs.Streams.{block_numbers, numbers_of_blocks}
-use Rattle.gather_merge.proofs.Numbers.{length-below}
+use Rattle.row_blocks.proofs.RowNumbers.{length-below}
 
 last_same : (xs : List ℕ) (a b : ℕ) → xs ++ a ∷ [] ≡ xs ++ b ∷ [] → a ≡ b
 last_same [] a b e = cc

@@ -12,7 +12,7 @@ use Rattle.ring_rule.specs.Ring.{Sending}
 use Rattle.scan_claim.specs.Shown.{blocks_of, draws_of}
 use Rattle.scan_claim.specs.declared.claims.ClaimSeat.{ClaimSeat}
 use Rattle.scan_claim.specs.declared.claims.Claims.{Claims}
-use Rattle.gather_law.specs.Tuples.{Table}
+use Rattle.row_blocks.specs.Blocks.{Table}
 use Rattle.worker_run.specs.Ended.{IsNotice, found_gone, sends_of}
 use Rattle.worker_run.specs.Sent.{FoundGone, HasSent}
 use Rattle.ring_rule.specs.Ends.{publishes}

@@ -7,14 +7,15 @@ use Rattle.std.proofs.lemmas.List.Elements.{All-append, All-cons, All-nil}
 use Rattle.std.proofs.lemmas.List.Sorted.{All-permutation, IsPermutation-append, IsPermutation-refl, IsPermutation-sym, IsPermutation-trans}
 use Rattle.scan_claim.specs.Drawing.{below, flat}
 use Rattle.par_model.specs.Plan.{Plan}
-use Rattle.partial_agg.specs.Rows.{IsAccepted, block_rows}
-use Rattle.gather_law.specs.Tuples.{Table, rows_of_blocks}
-use Rattle.gather_law.proofs.Draws.{drawn_are_below, rows_all}
-use Rattle.gather_law.proofs.Permute.{flat_map-permutation}
+use Rattle.partial_agg.specs.Rows.{IsAccepted}
+use Rattle.row_blocks.specs.Blocks.{Table, block_numbers, block_rows, numbers_of, numbers_of_blocks, rows_of_blocks}
+use Rattle.row_blocks.proofs.Draws.{drawn_are_below}
+use Rattle.row_blocks.proofs.BlockRows.{rows_all}
+use Rattle.row_blocks.proofs.Permute.{flat_map-permutation}
 use Rattle.gather_merge.specs.Law.{MergesAll}
-use Rattle.gather_merge.specs.Order.{numbers_of, row_cmp}
-use Rattle.gather_merge.specs.Streams.{IsStream, block_numbers, numbers_of_blocks}
-use Rattle.gather_merge.proofs.Numbers.{numbers_all}
+use Rattle.gather_merge.specs.Order.{row_cmp}
+use Rattle.gather_merge.specs.Streams.{IsStream}
+use Rattle.row_blocks.proofs.RowNumbers.{numbers_all}
 
 module _ (plan : Plan) (width : ℕ) (records : Table) where
   abbrev all_streams : List (List ℕ) → List ℕ

@@ -6,7 +6,7 @@ use Rattle.std.proofs.lemmas.List.{length-map, take_all}
 use Rattle.std.proofs.lemmas.List.Sorted.{IsPermutation-refl}
 use Rattle.std.proofs.lemmas.List.Elements.{All-cons, All-head, All-map, All-nil, All-tail, All-weaker}
 use Rattle.mq_handle.specs.Messages.{whole_of}
-use Rattle.gather_law.specs.Tuples.{Table}
+use Rattle.row_blocks.specs.Blocks.{Table}
 use Rattle.par_model.specs.Plan.{Plan}
 use Rattle.parallel_ctx.proofs.Idle.{whole_nothing}
 use Rattle.parallel_ctx.specs.Accounts.{Heard, heard}

@@ -11,7 +11,6 @@ pub mod Loading
 pub mod Refilling
 pub mod Led
 pub mod Merging
-pub mod Numbers
 pub mod Ordered
 pub mod Runs
 pub mod Sent

@@ -9,8 +9,8 @@ use Rattle.std.proofs.lemmas.List.{get_or_append_left, get_or-append_right, get_
 use Rattle.std.proofs.lemmas.List.Elements.{All-append, All-cons, All-drop, All-from_get_or, All-head, All-nil, All-push, All-tail, All-take, All-weaker, Contains-append_cases, Contains-append_left, Contains-append_right, Contains-push, Contains-push_cases}
 use Rattle.std.proofs.lemmas.List.Sorted.{IsPermutation-append_right, IsPermutation-cons, IsPermutation-middle, IsPermutation-refl, IsPermutation-sym, IsPermutation-to_front, IsPermutation-trans, ranks_by, sorted_far}
 use Rattle.std.proofs.lemmas.Bool.{cases_eq, cases_lt}
-use Rattle.gather_law.proofs.Gathering.{All-apart}
-use Rattle.gather_law.proofs.Permute.{same-permutation}
+use Rattle.row_blocks.proofs.Elements.{All-apart}
+use Rattle.row_blocks.proofs.Permute.{same-permutation}
 use Rattle.gather_merge.specs.Heads.{AreFallingBy, NotBefore, put_at, rows_of_heads}
 use Rattle.gather_merge.specs.Hearing.{Source, no_source, source_at, streams}
 use Rattle.gather_merge.specs.Merging.{CanRefill, IsCovered, IsHead, IsLast, IsMerging, IsRising, Refilled}

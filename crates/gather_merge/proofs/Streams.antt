@@ -7,9 +7,9 @@ use Rattle.std.proofs.lemmas.Nat.{from_le_bytes-to_le_bytes_8}
 use Rattle.par_model.specs.Plan.{Plan}
 use Rattle.partial_agg.specs.Rows.{IsAccepted, header_width}
 use Rattle.scan_claim.specs.Drawing.{below}
-use Rattle.gather_law.specs.Tuples.{Table}
+use Rattle.row_blocks.specs.Blocks.{Table, block_numbers, numbers_of_blocks}
 use Rattle.gather_merge.specs.Sent.{message_of, row_of}
-use Rattle.gather_merge.specs.Streams.{IsStream, block_numbers, numbers_of_blocks}
+use Rattle.gather_merge.specs.Streams.{IsStream}
 
 pub no_stream : (plan : Plan) (records : Table) → IsStream plan (header_width records) records [] []
 no_stream plan records = record { accepted = All-nil (IsAccepted plan (header_width records)); each = IsPermutation-refl []; rising = λ k d from l. absurd (omega (arith, l)) }

@@ -1,26 +1,14 @@
 -- The rows of a block, taken one after the other.
-use Rattle.std.proofs.Common.{◌≡◌, ◌<◌, ◌≤◌, ◌+◌, ◌*◌, ◌-◌, ◌++◌, ◌⊎◌, inl, inr, ℕ, zero, suc, List, [], ◌∷◌, length, take, drop, get_or, All, min, ap, sym, ◌∙◌, arith, append_assoc, length-drop, length-take}
-use Rattle.std.proofs.lemmas.Bool.{cases_lt}
-use Rattle.std.proofs.lemmas.List.{get_or-drop, get_or-take, get_or_append_left, get_or_push, take_all, take_more}
+use Rattle.std.proofs.Common.{◌≡◌, ◌<◌, ◌≤◌, ◌+◌, ◌*◌, ◌-◌, ◌++◌, ℕ, List, [], ◌∷◌, length, take, drop, get_or, All, min, ap, sym, ◌∙◌, arith, append_assoc, length-drop, length-take}
+use Rattle.std.proofs.lemmas.List.{get_or-drop, get_or-take, take_all, take_more}
 use Rattle.std.proofs.lemmas.List.Elements.{All-push, All-same}
 use Rattle.csv_rows.specs.Records.{record_at}
-use Rattle.gather_law.specs.Tuples.{Table}
+use Rattle.row_blocks.specs.Blocks.{Table, block_numbers, block_rows}
 use Rattle.par_model.specs.Plan.{Plan}
-use Rattle.partial_agg.specs.Rows.{IsAccepted, block_rows, header_width}
-use Rattle.partial_agg.proofs.Blocks.{length-block}
+use Rattle.partial_agg.specs.Rows.{IsAccepted, header_width}
+use Rattle.row_blocks.proofs.BlockRows.{length-block}
 use Rattle.scan_claim.specs.Drawing.{below}
-use Rattle.gather_merge.specs.Streams.{block_numbers}
-use Rattle.gather_merge.proofs.Numbers.{length-below}
-
-at_below : (n k : ℕ) → k < n → get_or (below n) k 0 ≡ k
-at_below zero k h = absurd (omega (arith, h))
-at_below (suc n) k h = by (at_below n k) (cases_lt k n)
-  where
-    by : (k < n → get_or (below n) k 0 ≡ k) → (k < n) ⊎ (n ≤ k) → get_or (below n ++ n ∷ []) k 0 ≡ k
-    by before (inl l) = get_or_append_left (below n) (n ∷ []) 0 k (omega (arith, l, length-below n)) ∙ before l
-    by before (inr l) =
-        let e : n ≡ k = omega (arith, h, l) in
-        get_or_push (below n) n 0 k (length-below n ∙ e) ∙ e
+use Rattle.row_blocks.proofs.RowNumbers.{at_below, length-below}
 
 module _ (records : Table) (block : ℕ) where
   length-numbers : length (block_numbers records block) ≡ length (block_rows records block)

@@ -8,8 +8,8 @@ use Rattle.par_model.specs.Plan.{Plan}
 use Rattle.partial_agg.specs.Rows.{IsAccepted, header_width}
 use Rattle.scan_claim.specs.Drawing.{IsDrawn, flat, is_spent, late, once_below, times}
 use Rattle.scan_claim.proofs.Totals.{late-append}
-use Rattle.gather_law.specs.Tuples.{AreBlocks, Table}
-use Rattle.gather_law.proofs.Gathering.{All-apart}
+use Rattle.row_blocks.specs.Blocks.{AreBlocks, Table}
+use Rattle.row_blocks.proofs.Elements.{All-apart, any_cases, any_none}
 use Rattle.agg_table.specs.Calls.{Use}
 use Rattle.parallel_ctx.specs.Ran.{Finishes}
 use Rattle.parallel_ctx.specs.Accounts.{Account, Heard, IsIdle, account_of, heard_of}
@@ -32,7 +32,6 @@ use Rattle.partial_agg.specs.declared.map.BlockAnswer.TheVariants as block
 use Rattle.gather_merge.specs.Used.{ReadItsNotices, SentItsRows}
 use Rattle.gather_merge.specs.declared.MergeAnswer.{MergeAnswer}
 use Rattle.gather_merge.specs.declared.MergeAnswer.TheVariants.{Row, Memory}
-use Rattle.worker_run.proofs.Anys.{any_cases, any_none}
 use Rattle.gather_merge.proofs.Causes.{no_cause}
 use Rattle.gather_merge.proofs.Law.{merges}
 use Rattle.gather_merge.proofs.Streams.{no_stream, read_rows}

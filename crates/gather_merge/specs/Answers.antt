@@ -1,6 +1,6 @@
 -- What the answers say of the rows.
 use Rattle.std.specs.Prelude.{◌≡◌, ◌<◌, ◌-◌, ℕ, [], ◌∷◌, All, None, drop, false, length, take}
-use Rattle.gather_law.specs.Tuples.{Table}
+use Rattle.row_blocks.specs.Blocks.{Table}
 use Rattle.par_model.specs.Plan.{Plan}
 use Rattle.par_model.specs.declared.plan.ItemKind.TheVariants.{Rows}
 use Rattle.par_model.specs.declared.plan.Item.{Item}

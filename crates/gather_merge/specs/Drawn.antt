@@ -1,8 +1,8 @@
 -- What a participant has drawn: the numbers of the rows of its blocks, none of which is refused.
 use Rattle.std.specs.Prelude.{◌≡◌, ◌≤◌, ◌+◌, ◌*◌, ◌-◌, ℕ, IsTrue, List, All, Option, Some, None, length, take}
-use Rattle.gather_law.specs.Tuples.{Table, rows_of_blocks}
+use Rattle.row_blocks.specs.Blocks.{Table, block_rows, numbers_of_blocks, rows_of_blocks}
 use Rattle.par_model.specs.Plan.{Plan}
-use Rattle.partial_agg.specs.Rows.{IsAccepted, block_rows, header_width}
+use Rattle.partial_agg.specs.Rows.{IsAccepted, header_width}
 use Rattle.partial_agg.specs.declared.map.BlockAnswer.{BlockAnswer}
 use Rattle.partial_agg.specs.declared.map.BlockAnswer.TheVariants as answer
 use Rattle.scan_claim.specs.Drawing.{below, is_spent}
@@ -11,7 +11,6 @@ use Rattle.scan_claim.specs.declared.claims.ClaimSeat.{ClaimSeat}
 use Rattle.scan_claim.specs.declared.claims.Claims.{Claims}
 use Rattle.worker_run.specs.Ended.{IsOwnRow, IsRefused}
 use Rattle.gather_merge.specs.Answers.{IsFirst}
-use Rattle.gather_merge.specs.Streams.{numbers_of_blocks}
 use Rattle.gather_merge.specs.declared.drawing.Step.{Step}
 use Rattle.gather_merge.specs.declared.drawing.Step.TheVariants.{Next, NoMore, Stopped}
 

@@ -2,7 +2,7 @@
 use Rattle.std.specs.Prelude.{◌≡◌, ◌⊎◌, ℕ, List, [], ◌∷◌, All, IsTrue, map}
 use Rattle.error_queue.specs.Message.{encoding}
 use Rattle.error_queue.specs.declared.ErrorMessage.TheVariants as message
-use Rattle.gather_law.specs.Tuples.{Table}
+use Rattle.row_blocks.specs.Blocks.{Table}
 use Rattle.par_model.specs.Plan.{Plan}
 use Rattle.parallel_ctx.specs.Accounts.{Account}
 use Rattle.partial_agg.specs.Rows.{header_width}

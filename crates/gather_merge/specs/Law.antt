@@ -4,7 +4,7 @@ use Rattle.std.specs.List.{AllZip}
 use Rattle.scan_claim.specs.Drawing.{flat, once_below, times}
 use Rattle.par_model.specs.Plan.{Plan}
 use Rattle.partial_agg.specs.Rows.{IsAccepted}
-use Rattle.gather_law.specs.Tuples.{Table}
+use Rattle.row_blocks.specs.Blocks.{Table}
 use Rattle.gather_merge.specs.Order.{IsOrder, row_cmp}
 use Rattle.gather_merge.specs.Streams.{IsMerge, IsStream}
 

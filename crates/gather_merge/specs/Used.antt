@@ -5,7 +5,7 @@ use Rattle.mq_handle.specs.Messages.{whole_of}
 use Rattle.par_model.specs.Plan.{Plan}
 use Rattle.scan_claim.specs.Drawing.{flat, times}
 use Rattle.scan_claim.specs.Shown.{lists_of}
-use Rattle.gather_law.specs.Tuples.{Table}
+use Rattle.row_blocks.specs.Blocks.{Table}
 use Rattle.parallel_ctx.specs.Tokens.{AreNumbered}
 use Rattle.parallel_ctx.specs.declared.home.Finished.{Finished}
 use Rattle.parallel_ctx.specs.declared.home.Returned.{Returned}

@@ -2,15 +2,15 @@
 
 ghost use Rattle.std.specs.Prelude.{◌≡◌, ◌<◌, ◌+◌, ◌*◌, ◌++◌, OnOk, IfErr, All, length};
 ghost use Rattle.par_model.specs.Columns.{HasColumns};
-ghost use Rattle.partial_agg.specs.Rows.{IsAccepted, block_rows, header_width};
+ghost use Rattle.partial_agg.specs.Rows.{IsAccepted, header_width};
+ghost use Rattle.row_blocks.specs.Blocks.{AreBlocks, block_numbers, block_rows};
 ghost use Rattle.scan_claim.specs.Shown.{Belongs, blocks_of, draws_of, number_of};
-ghost use Rattle.gather_law.specs.Tuples.{AreBlocks};
 ghost use Rattle.gather_merge.specs.Drawn.{Draws, Drew, HasDrawn, Stops};
-ghost use Rattle.gather_merge.specs.Streams.{block_numbers};
 
 use csv_rows::RowStore;
 use par_model::{BoundPlan, Refusal};
-use partial_agg::{BLOCK_ROWS, BlockAnswer, refusal};
+use partial_agg::{BlockAnswer, refusal};
+use row_blocks::BLOCK_ROWS;
 use scan_claim::{ClaimSeat, Claims};
 use std::sync::Wait;
 use worker_run::Gate;

@@ -13,7 +13,7 @@ ghost use Rattle.std.specs.Prelude.{◌≡◌, ◌≤◌, ◌^◌, IfErr, IfOk, 
 ghost use Rattle.csv_rows.specs.declared.records.TheConstants.{MOST_RECORDS};
 ghost use Rattle.par_model.specs.Columns.{HasColumns};
 ghost use Rattle.partial_agg.specs.Rows.{IsAccepted, header_width};
-ghost use Rattle.gather_law.specs.Tuples.{AreBlocks};
+ghost use Rattle.row_blocks.specs.Blocks.{AreBlocks};
 ghost use Rattle.gather_merge.specs.Answers.{IsCause, IsFirstCause, OrdersRows};
 ghost use Rattle.gather_merge.specs.Order.{IsOrder};
 ghost use Rattle.gather_merge.specs.Used.{IsUsed};
@@ -21,8 +21,8 @@ ghost use Rattle.gather_merge.specs.Used.{IsUsed};
 use csv_rows::RowStore;
 use par_model::BoundPlan;
 use parallel_ctx::{Context, Finished};
-use partial_agg::BLOCK_ROWS;
 use roles::{Leader, Team};
+use row_blocks::BLOCK_ROWS;
 use std::alloc::Global;
 use std::sync::Wait;
 use std::thread::Threads;

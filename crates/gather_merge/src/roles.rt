@@ -34,7 +34,7 @@ impl<'a, G: Gate + Sync> Drop for Team<'a, G> {
 impl<'a, G: Gate + Sync> Worker for Team<'a, G> {
     ghost use Rattle.par_model.specs.Columns.{HasColumns};
     ghost use Rattle.partial_agg.specs.Rows.{header_width};
-    ghost use Rattle.gather_law.specs.Tuples.{AreBlocks};
+    ghost use Rattle.row_blocks.specs.Blocks.{AreBlocks};
     ghost use Rattle.gather_merge.specs.Ended.{DidWork};
     ghost use Rattle.gather_merge.specs.Order.{columns_at};
     ghost use Rattle.gather_merge.specs.Words.{AreWords};
@@ -98,7 +98,7 @@ impl<'a, G: Gate> Lead for Leader<'a, G> {
     ghost use Rattle.std.specs.Prelude.{◌≡◌, []};
     ghost use Rattle.par_model.specs.Columns.{HasColumns};
     ghost use Rattle.partial_agg.specs.Rows.{header_width};
-    ghost use Rattle.gather_law.specs.Tuples.{AreBlocks};
+    ghost use Rattle.row_blocks.specs.Blocks.{AreBlocks};
     ghost use Rattle.gather_merge.specs.Leading.{Led};
     ghost use Rattle.gather_merge.specs.Order.{columns_at};
     ghost use Rattle.gather_merge.specs.Words.{AreWords};

@@ -18,7 +18,7 @@ use Rattle.partial_agg.specs.Rows.{IsAccepted, header_width}
 use Rattle.scan_claim.specs.Drawing.{IsDrawn, flat, late, times}
 use Rattle.scan_claim.specs.Shown.{blocks_of, lists_of}
 use Rattle.scan_claim.proofs.Totals.{late-append}
-use Rattle.gather_law.specs.Tuples.{AreBlocks, Table}
+use Rattle.row_blocks.specs.Blocks.{AreBlocks, Table}
 use Rattle.dshash_parts.specs.Ending.{IsOf, left_of, whole_of}
 use Rattle.parallel_ctx.specs.Accounts.{Account, Heard, heard_of, pages_by, use_by}
 use Rattle.parallel_ctx.specs.Making.{HasTable}

@@ -8,8 +8,9 @@ use Rattle.mq_handle.specs.Messages.{whole_of}
 use Rattle.par_model.specs.Plan.{Plan}
 use Rattle.partial_agg.specs.Groups.{GroupsByKey, added}
 use Rattle.ring_rule.specs.Ring.{Receiving}
-use Rattle.gather_law.specs.Tuples.{Group, Table}
-use Rattle.gather_law.proofs.Permute.{AllZip-join}
+use Rattle.gather_law.specs.Tuples.{Group}
+use Rattle.row_blocks.specs.Blocks.{Table}
+use Rattle.row_blocks.proofs.Permute.{AllZip-join}
 use Rattle.parallel_ctx.specs.Accounts.{Heard, heard, is_over}
 use Rattle.parallel_ctx.specs.Tokens.{SameQueues}
 use Rattle.parallel_ctx.specs.declared.tokens.LeaderEnds.{LeaderEnds}
@@ -31,7 +32,7 @@ use Rattle.gather_run.specs.declared.GatherAnswer.{GatherAnswer}
 use Rattle.gather_run.specs.declared.GatherAnswer.TheVariants.{Row, Memory}
 use Rattle.gather_run.specs.declared.leading.Step.{Step}
 use Rattle.gather_run.specs.declared.leading.Step.TheVariants.{Failed, Next, NoMore}
-use Rattle.worker_run.proofs.Anys.{any_cases, any_head, any_none, any_tail}
+use Rattle.row_blocks.proofs.Elements.{any_cases, any_head, any_none, any_tail}
 use Rattle.gather_run.proofs.Parts.{leading-hear}
 
 pub takes_none : (old new : Receiving) (before now : GroupsByKey) → whole_of new.taken ≡ whole_of old.taken → now ≡ before → Takes old new before now

@@ -6,7 +6,8 @@ use Rattle.std.specs.List.Sorted.{IsPermutation}
 use Rattle.std.proofs.lemmas.List.{length-map}
 use Rattle.std.proofs.lemmas.List.Elements.{All-head, All-nil, All-tail, All-weaker}
 use Rattle.agg_cell.specs.Called.{Seen}
-use Rattle.agg_table.specs.Calls.{AggEntry, HasPut, IsKeyed, IsMissing, Use, WasMissed, calls_at, done_in, lacks, partition_at}
+use Rattle.agg_table.specs.Calls.{AggEntry, HasPut, IsKeyed, Use, WasMissed, calls_at, done_in, partition_at}
+use Rattle.dshash_parts.specs.Done.{IsMissing, lacks}
 use Rattle.agg_table.specs.Drained.{AddsTable, HoldsAll}
 use Rattle.agg_table.proofs.Putting.{has_put_nothing}
 use Rattle.dshash_core.specs.Key.{packed_key}
@@ -15,13 +16,14 @@ use Rattle.lock_book.specs.History.{calls_by}
 use Rattle.mq_handle.specs.Messages.{whole_of}
 use Rattle.par_model.specs.Plan.{Plan}
 use Rattle.partial_agg.specs.Groups.{AreGroups, GroupsByKey, added, with_rows}
-use Rattle.partial_agg.specs.Rows.{IsAccepted, block_rows, header_width}
+use Rattle.partial_agg.specs.Rows.{IsAccepted, header_width}
+use Rattle.row_blocks.specs.Blocks.{Table, block_rows, rows_of_blocks}
 use Rattle.partial_agg.proofs.Adding.{maps_grow, no_groups}
-use Rattle.partial_agg.proofs.Blocks.{length-block}
+use Rattle.row_blocks.proofs.BlockRows.{length-block}
 use Rattle.scan_claim.specs.Drawing.{flat, once_below, times}
 use Rattle.gather_law.specs.Parts.{Block, Part, Received, blocks_in, received_in, with_all, with_part}
-use Rattle.gather_law.specs.Tuples.{Group, Table, groups_of, rows_of_blocks}
-use Rattle.gather_law.proofs.Gathering.{All-apart}
+use Rattle.gather_law.specs.Tuples.{Group, groups_of}
+use Rattle.row_blocks.proofs.Elements.{All-apart}
 use Rattle.parallel_ctx.specs.Accounts.{Heard, IsIdle, account_of, heard_of}
 use Rattle.parallel_ctx.specs.Ran.{AreWhole}
 use Rattle.parallel_ctx.specs.Tokens.{AreNumbered}

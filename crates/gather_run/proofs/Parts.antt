@@ -14,14 +14,14 @@ use Rattle.par_model.specs.Plan.{Plan}
 use Rattle.partial_agg.specs.Blocks.{Stopped as IsStoppedAt}
 use Rattle.partial_agg.specs.Groups.{GroupsByKey, with_rows}
 use Rattle.partial_agg.specs.declared.map.BlockAnswer.TheVariants as answer
-use Rattle.partial_agg.proofs.Blocks.{length-block}
+use Rattle.row_blocks.proofs.BlockRows.{block_of, length-block, rows_below, take_on}
 use Rattle.scan_claim.specs.Drawing.{below}
-use Rattle.partial_agg.specs.Rows.{IsAccepted, block_rows, header_width}
+use Rattle.partial_agg.specs.Rows.{IsAccepted, header_width}
+use Rattle.row_blocks.specs.Blocks.{AreBlocks, Table, block_rows, rows_of_blocks}
 use Rattle.gather_law.specs.Parts.{Block, Part, Received, after, blocks_in, received_in, with_all, with_part}
-use Rattle.gather_law.specs.Tuples.{AreBlocks, Group, Table, groups_of, rows_of_blocks}
-use Rattle.gather_law.proofs.Draws.{block_of, rows_below, take_on}
+use Rattle.gather_law.specs.Tuples.{Group, groups_of}
 use Rattle.gather_law.proofs.Gathering.{all_added}
-use Rattle.gather_law.proofs.Permute.{AllZip-at, AllZip-join, AllZip-long, AllZip-put, same-permutation}
+use Rattle.row_blocks.proofs.Permute.{AllZip-at, AllZip-join, AllZip-long, AllZip-put, same-permutation}
 use Rattle.gather_run.specs.Answers.{IsFirst}
 use Rattle.gather_run.specs.Leading.{IsLeading}
 use Rattle.gather_run.specs.Reading.{ReadAs}

@@ -10,7 +10,8 @@ use Rattle.partial_agg.specs.Blocks.{Stopped}
 use Rattle.partial_agg.specs.declared.map.BlockAnswer.{BlockAnswer}
 use Rattle.partial_agg.specs.declared.map.BlockAnswer.TheVariants as answer
 use Rattle.par_model.specs.Plan.{Plan}
-use Rattle.gather_law.specs.Tuples.{Group, Table}
+use Rattle.gather_law.specs.Tuples.{Group}
+use Rattle.row_blocks.specs.Blocks.{Table}
 use Rattle.gather_run.specs.Sharing.{SharesGroup, SharesGroups, StopsAt}
 
 nil_of_length : {A : Type 0} (xs : List A) → length xs ≡ 0 → xs ≡ []

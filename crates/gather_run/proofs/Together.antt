@@ -7,15 +7,17 @@ use Rattle.error_queue.specs.declared.ErrorMessage.TheVariants as message
 use Rattle.mq_handle.specs.Messages.{whole_of}
 use Rattle.par_model.specs.Plan.{Plan}
 use Rattle.partial_agg.specs.Groups.{AreGroups, GroupsByKey}
-use Rattle.partial_agg.specs.Rows.{IsAccepted, block_rows, header_width}
+use Rattle.partial_agg.specs.Rows.{IsAccepted, header_width}
+use Rattle.row_blocks.specs.Blocks.{AreBlocks, Table, block_rows, rows_of_blocks}
 use Rattle.partial_agg.proofs.Adding.{no_groups}
-use Rattle.partial_agg.proofs.Blocks.{length-block}
+use Rattle.row_blocks.proofs.BlockRows.{length-block}
 use Rattle.scan_claim.specs.Drawing.{IsDrawn, flat, is_spent, late, once_below, times}
 use Rattle.scan_claim.proofs.Totals.{late-append}
 use Rattle.gather_law.specs.Law.{AreSent, CombineTo}
 use Rattle.gather_law.specs.Parts.{received_in}
-use Rattle.gather_law.specs.Tuples.{AreBlocks, Group, HasTuple, Table, groups_of, rows_of_blocks, tuple_of}
-use Rattle.gather_law.proofs.Gathering.{All-apart, combines, gathers}
+use Rattle.gather_law.specs.Tuples.{Group, HasTuple, groups_of, tuple_of}
+use Rattle.gather_law.proofs.Gathering.{combines, gathers}
+use Rattle.row_blocks.proofs.Elements.{All-apart, any_cases, any_none}
 use Rattle.agg_table.specs.Calls.{Use}
 use Rattle.parallel_ctx.specs.Ran.{Finishes}
 use Rattle.parallel_ctx.specs.Accounts.{Account, Heard, IsIdle, account_of, heard_of}
@@ -25,7 +27,6 @@ use Rattle.worker_run.specs.Ended.{IsNotice, IsRefused, Sends}
 use Rattle.worker_run.specs.declared.WorkerEnd.{WorkerEnd}
 use Rattle.worker_run.specs.declared.WorkerEnd.TheVariants.{Finished, Stopped, Refused, NoMemory}
 use Rattle.parallel_ctx.proofs.Idle.{whole_nothing}
-use Rattle.worker_run.proofs.Anys.{any_cases, any_none}
 use Rattle.parallel_ctx.specs.declared.tokens.LeaderEnds.{LeaderEnds}
 use Rattle.parallel_ctx.specs.declared.tokens.Shared.{Shared}
 use Rattle.gather_run.specs.Looks.{tuples_of}

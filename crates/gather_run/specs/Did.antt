@@ -1,7 +1,7 @@
 -- What a worker of a query did, and answers by their reasons.
 use Rattle.std.specs.Prelude.{◌≡◌, ℕ}
 use Rattle.par_model.specs.Plan.{Plan}
-use Rattle.gather_law.specs.Tuples.{Table}
+use Rattle.row_blocks.specs.Blocks.{Table}
 use Rattle.parallel_ctx.specs.Accounts.{Account}
 use Rattle.partial_agg.specs.declared.map.BlockAnswer.{BlockAnswer}
 use Rattle.partial_agg.specs.declared.map.BlockAnswer.TheVariants as block

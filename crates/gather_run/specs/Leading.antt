@@ -11,7 +11,8 @@ use Rattle.scan_claim.specs.Shown.{callers_of, draws_of}
 use Rattle.scan_claim.specs.declared.claims.ClaimSeat.{ClaimSeat}
 use Rattle.scan_claim.specs.declared.claims.Claims.{Claims}
 use Rattle.gather_law.specs.Parts.{Part, after, blocks_in, received_in}
-use Rattle.gather_law.specs.Tuples.{Group, Table, rows_of_blocks}
+use Rattle.gather_law.specs.Tuples.{Group}
+use Rattle.row_blocks.specs.Blocks.{Table, rows_of_blocks}
 use Rattle.parallel_ctx.specs.Accounts.{Heard}
 use Rattle.worker_run.specs.Ended.{IsRefused}
 use Rattle.worker_run.specs.Notices.{ReadsRow}

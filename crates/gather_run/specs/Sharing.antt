@@ -9,11 +9,11 @@ use Rattle.atomic_table.specs.Seated.{TableId}
 use Rattle.par_model.specs.Plan.{Plan}
 use Rattle.partial_agg.specs.Blocks.{Stopped}
 use Rattle.partial_agg.specs.Groups.{GroupsByKey, added, with_rows}
-use Rattle.partial_agg.specs.Rows.{block_rows}
+use Rattle.row_blocks.specs.Blocks.{Table, block_rows, rows_of_blocks}
 use Rattle.partial_agg.specs.declared.map.BlockAnswer.{BlockAnswer}
 use Rattle.partial_agg.specs.declared.map.BlockAnswer.TheVariants as answer
 use Rattle.gather_law.specs.Parts.{with_all}
-use Rattle.gather_law.specs.Tuples.{Group, Table, groups_of, rows_of_blocks}
+use Rattle.gather_law.specs.Tuples.{Group, groups_of}
 use Rattle.worker_run.specs.Tabled.{groups_of_blocks}
 
 -- the leader's passes are there exactly where the table is, and are of it

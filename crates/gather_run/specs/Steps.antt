@@ -7,7 +7,7 @@ use Rattle.partial_agg.specs.Groups.{GroupsByKey}
 use Rattle.scan_claim.specs.Drawing.{is_spent}
 use Rattle.scan_claim.specs.Shown.{blocks_of, callers_of}
 use Rattle.scan_claim.specs.declared.claims.Claims.{Claims}
-use Rattle.gather_law.specs.Tuples.{Table}
+use Rattle.row_blocks.specs.Blocks.{Table}
 use Rattle.parallel_ctx.specs.declared.tokens.LeaderEnds.{LeaderEnds}
 use Rattle.gather_run.specs.Leading.{IsLeading, MetRow}
 use Rattle.gather_run.specs.Looks.{NamedBy, tuples_of}

@@ -11,11 +11,11 @@ use Rattle.dshash_parts.specs.Ending.{whole_of as histories}
 use Rattle.mq_handle.specs.Messages.{whole_of}
 use Rattle.par_model.specs.Plan.{Plan}
 use Rattle.partial_agg.specs.Groups.{AreGroups, GroupsByKey}
-use Rattle.partial_agg.specs.Rows.{block_rows}
+use Rattle.row_blocks.specs.Blocks.{Table, block_rows, rows_of_blocks}
 use Rattle.scan_claim.specs.Drawing.{flat, times}
 use Rattle.scan_claim.specs.Shown.{lists_of}
 use Rattle.gather_law.specs.Law.{CombineTo}
-use Rattle.gather_law.specs.Tuples.{Group, Table, rows_of_blocks}
+use Rattle.gather_law.specs.Tuples.{Group}
 use Rattle.parallel_ctx.specs.Accounts.{use_by}
 use Rattle.parallel_ctx.specs.Ran.{AreWhole}
 use Rattle.parallel_ctx.specs.Tokens.{AreNumbered}

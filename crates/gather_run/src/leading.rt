@@ -9,7 +9,7 @@ ghost use Rattle.agg_table.specs.Tokens.{StaysSeated, use_in};
 ghost use Rattle.par_model.specs.Columns.{HasColumns};
 ghost use Rattle.partial_agg.specs.Rows.{header_width};
 ghost use Rattle.scan_claim.specs.Shown.{Belongs, blocks_of, callers_of, draws_of, number_of};
-ghost use Rattle.gather_law.specs.Tuples.{AreBlocks};
+ghost use Rattle.row_blocks.specs.Blocks.{AreBlocks};
 ghost use Rattle.parallel_ctx.specs.Accounts.{heard};
 ghost use Rattle.parallel_ctx.specs.Tokens.{SameQueues};
 ghost use Rattle.gather_run.specs.Leading.{DrawsInOrder, IsLeading, Led};

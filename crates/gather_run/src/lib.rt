@@ -20,7 +20,7 @@ ghost use Rattle.dshash_parts.specs.Ending.{IsOf, left_of, whole_of};
 ghost use Rattle.csv_rows.specs.declared.records.TheConstants.{MOST_RECORDS};
 ghost use Rattle.par_model.specs.Columns.{HasColumns};
 ghost use Rattle.partial_agg.specs.Rows.{header_width};
-ghost use Rattle.gather_law.specs.Tuples.{AreBlocks};
+ghost use Rattle.row_blocks.specs.Blocks.{AreBlocks};
 ghost use Rattle.gather_run.specs.Answers.{AreAllGroups, IsCause, IsFirstCause};
 ghost use Rattle.gather_run.specs.Drained.{AddsAll, SameHistories};
 ghost use Rattle.gather_run.specs.Used.{IsUsed};

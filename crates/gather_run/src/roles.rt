@@ -32,7 +32,7 @@ impl<'a, G: Gate + Sync> Drop for Team<'a, G> {
 impl<'a, G: Gate + Sync> Worker for Team<'a, G> {
     ghost use Rattle.par_model.specs.Columns.{HasColumns};
     ghost use Rattle.partial_agg.specs.Rows.{header_width};
-    ghost use Rattle.gather_law.specs.Tuples.{AreBlocks};
+    ghost use Rattle.row_blocks.specs.Blocks.{AreBlocks};
     ghost use Rattle.gather_run.specs.Did.{DidWork};
 
     type End = WorkerEnd;
@@ -93,7 +93,7 @@ impl<'a, G: Gate> Lead for Leader<'a, G> {
     ghost use Rattle.std.specs.FinMap as fin;
     ghost use Rattle.par_model.specs.Columns.{HasColumns};
     ghost use Rattle.partial_agg.specs.Rows.{header_width};
-    ghost use Rattle.gather_law.specs.Tuples.{AreBlocks};
+    ghost use Rattle.row_blocks.specs.Blocks.{AreBlocks};
     ghost use Rattle.gather_run.specs.Leading.{Led};
 
     ghost asks = { λ leader plan blocks. HasColumns plan (header_width leader.rows.now) × AreBlocks leader.rows.now blocks × (leader.groups ≡ fin.empty) };

@@ -6,7 +6,8 @@ ghost use Rattle.std.specs.Prelude.{◌≡◌, ◌<◌, ◌+◌, ◌*◌, All, I
 ghost use Rattle.std.specs.FinMap as map;
 ghost use Rattle.agg_table.specs.Tokens.{Grew, IsPart, IsSeat, StaysSeated, use_in, use_of};
 ghost use Rattle.par_model.specs.Columns.{HasColumns};
-ghost use Rattle.partial_agg.specs.Rows.{IsAccepted, block_rows, header_width};
+ghost use Rattle.partial_agg.specs.Rows.{IsAccepted, header_width};
+ghost use Rattle.row_blocks.specs.Blocks.{block_rows};
 ghost use Rattle.gather_law.specs.Tuples.{groups_of};
 ghost use Rattle.gather_run.specs.Sharing.{DoesBlock, IsSeated, SharesGroup, SharesGroups, StopsAt};
 

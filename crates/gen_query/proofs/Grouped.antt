@@ -21,7 +21,7 @@ use Rattle.partial_agg.specs.Listed.{group}
 use Rattle.partial_agg.specs.declared.groups.Group.{Group}
 use Rattle.gather_run.specs.Answers.{AreAllGroups}
 use Rattle.gen_query.proofs.Adding.{all_count, all_sum, counts, part_count, part_sum, parts, parts_are_all, sums}
-use Rattle.gen_query.proofs.Entries.{All-found, Contains-found, Entry, IsDistinct-keys}
+use Rattle.partial_agg.proofs.Entries.{All-found, Contains-found, Entry, IsDistinct-keys}
 use Rattle.gen_query.proofs.Rows.{is_read, key_is, not_null, value_high, value_low}
 use Rattle.gen_query.specs.Generator.{header, name_of, record_of, value_of}
 use Rattle.gen_query.specs.Plan.{bound_gen}

@@ -1,5 +1,4 @@
 pub mod Adding
-pub mod Entries
 pub mod Grouped
 pub mod Numbers
 pub mod Rows

@@ -3,7 +3,7 @@ use Rattle.std.proofs.Common.{◌≡◌, ◌∙◌, ◌≤◌, ◌++◌, ◌∷�
 use Rattle.std.proofs.lemmas.List.Elements.{All-map}
 use Rattle.std.specs.Fmt.{signed_decimal}
 use Rattle.std.specs.Prelude.{codes, decimal}
-use Rattle.gather_law.specs.Tuples.{Table}
+use Rattle.row_blocks.specs.Blocks.{Table}
 use Rattle.gather_run.specs.Answers.{AreAllGroups}
 use Rattle.partial_agg.specs.Rows.{IsAccepted}
 use Rattle.partial_agg.specs.declared.groups.Group.{Group}

@@ -3,7 +3,7 @@ use Rattle.std.specs.Prelude.{Option, None, Some}
 use Rattle.gather_run.specs.Answers.{AreAllGroups}
 use Rattle.gather_run.specs.Used.{IsUsed}
 use Rattle.gather_run.specs.declared.Gathered.{Gathered}
-use Rattle.gather_law.specs.Tuples.{Table}
+use Rattle.row_blocks.specs.Blocks.{Table}
 use Rattle.gen_query.specs.Generator.{generated}
 use Rattle.gen_query.specs.Plan.{bound_gen}
 use Rattle.gen_query.specs.Words.{Asked}

@@ -12,7 +12,7 @@ use Rattle.lock_book.specs.History.{calls_by, row_at}
 use Rattle.dshash_core.specs.Cells.{partition_of}
 use Rattle.dshash_core.specs.Key.{hash_of}
 use Rattle.dshash_parts.specs.Replays.{calls_of_key}
-use Rattle.gather_law.specs.Tuples.{Table}
+use Rattle.row_blocks.specs.Blocks.{Table}
 use Rattle.scan_claim.specs.Drawing.{below}
 use Rattle.hash_join.specs.Filled.{RowEntry, calls_at, done_in, done_of, key_of, partition_at}
 use Rattle.join_pairs.specs.declared.chains.Link.{Link}

@@ -21,10 +21,10 @@ use Rattle.dshash_parts.specs.States.{fresh}
 use Rattle.dshash_parts.specs.Tables.{map_at}
 use Rattle.dshash_parts.proofs.Replays.{keys_are_cells}
 use Rattle.dshash_parts.proofs.Uses.{partition_low}
-use Rattle.gather_law.specs.Tuples.{Table}
+use Rattle.row_blocks.specs.Blocks.{Table, numbers_of}
 use Rattle.join_pairs.specs.Chains.{last_step}
 use Rattle.join_pairs.specs.Gathered.{IsCovered}
-use Rattle.join_pairs.specs.Join.{AllAccepted, IsRow, keyed, numbers_of}
+use Rattle.join_pairs.specs.Join.{AllAccepted, IsRow, keyed}
 use Rattle.join_pairs.specs.declared.chains.Link.{Link}
 use Rattle.hash_join.specs.Filled.{RowEntry, calls_at, done_in, key_of, partition_at}
 use Rattle.hash_join.specs.Listed.{ListsEach}

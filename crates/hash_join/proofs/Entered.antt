@@ -21,7 +21,7 @@ use Rattle.dshash_parts.specs.States.{fresh}
 use Rattle.dshash_parts.specs.Tables.{map_at}
 use Rattle.dshash_parts.proofs.Replays.{keys_are_cells}
 use Rattle.dshash_parts.proofs.Uses.{partition_low}
-use Rattle.gather_law.specs.Tuples.{Table}
+use Rattle.row_blocks.specs.Blocks.{Table}
 use Rattle.join_pairs.specs.Chains.{HasChain, IsChain, IsRun as IsRowRun, before_in, last_step, rows_with}
 use Rattle.hash_join.specs.Filled.{RowEntry, calls_at, done_in, key_of}
 use Rattle.join_pairs.specs.Gathered.{linked}

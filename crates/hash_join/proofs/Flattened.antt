@@ -13,7 +13,7 @@ use Rattle.dshash_parts.specs.Legal.{PartitionLegal}
 use Rattle.dshash_parts.specs.States.{fresh}
 use Rattle.dshash_parts.specs.Tables.{map_at}
 use Rattle.dshash_scan.specs.Listings.{joined}
-use Rattle.gather_law.specs.Tuples.{Table}
+use Rattle.row_blocks.specs.Blocks.{Table}
 use Rattle.join_pairs.specs.Chains.{last_step}
 use Rattle.join_pairs.specs.declared.chains.Link.{Link}
 use Rattle.hash_join.specs.Filled.{RowEntry, calls_at, done_in}

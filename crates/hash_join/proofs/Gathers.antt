@@ -9,16 +9,15 @@ use Rattle.std.proofs.lemmas.List.Sums.{sum_by-append}
 use Rattle.csv_rows.specs.Records.{field_of}
 use Rattle.par_model.specs.Record.{is_null}
 use Rattle.scan_claim.specs.Drawing.{below, flat, once_below, times}
-use Rattle.gather_law.proofs.Gathering.{All-apart}
-use Rattle.gather_law.specs.Tuples.{Table}
-use Rattle.join_pairs.specs.Blocks.{numbers_of_blocks}
-use Rattle.join_pairs.specs.Join.{IsRow, keyed, numbers_of}
+use Rattle.row_blocks.proofs.Elements.{All-apart}
+use Rattle.row_blocks.specs.Blocks.{Table, numbers_of, numbers_of_blocks}
+use Rattle.join_pairs.specs.Join.{IsRow, keyed}
 use Rattle.join_pairs.specs.declared.chains.Link.{Link}
 use Rattle.join_pairs.proofs.Apart.{many_below, many_drop, many_filter, one}
 use Rattle.join_pairs.proofs.Exchange.{between}
 use Rattle.join_pairs.proofs.Filters.{filter-permutation}
 use Rattle.join_pairs.proofs.Linking.{AreOnce, once_links}
-use Rattle.join_pairs.proofs.Numbers.{drawn_numbers, flat_numbers}
+use Rattle.row_blocks.proofs.RowNumbers.{drawn_numbers, flat_numbers}
 
 -- ---- several participants
 

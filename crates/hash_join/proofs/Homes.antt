@@ -19,13 +19,13 @@ use Rattle.scan_claim.specs.Shown.{AreSeats, blocks_of, draws_of, lists_of}
 use Rattle.scan_claim.specs.declared.claims.ClaimSeat.{ClaimSeat}
 use Rattle.scan_claim.specs.declared.claims.Claims.{Claims}
 use Rattle.scan_claim.specs.declared.claims.Drawn.{Drawn}
-use Rattle.gather_law.specs.Tuples.{AreBlocks, Table}
-use Rattle.join_pairs.specs.Blocks.{numbers_of_blocks}
+use Rattle.row_blocks.specs.Blocks.{AreBlocks, Table, numbers_of, numbers_of_blocks}
 use Rattle.join_pairs.specs.Gathered.{IsCovered}
-use Rattle.join_pairs.specs.Join.{AllAccepted, IsRow, keyed, numbers_of}
+use Rattle.join_pairs.specs.Join.{AllAccepted, IsRow, keyed}
 use Rattle.join_pairs.specs.declared.chains.Link.{Link}
-use Rattle.join_pairs.proofs.Anys.{any_left}
-use Rattle.hash_join.specs.Filled.{HasPut, IsMissing, PageEntry, RowEntry, WasMissed, calls_at, done_in, key_of, partition_at}
+use Rattle.row_blocks.proofs.Elements.{any_left}
+use Rattle.hash_join.specs.Filled.{HasPut, RowEntry, WasMissed, calls_at, done_in, key_of, partition_at}
+use Rattle.dshash_parts.specs.Done.{IsMissing, PageEntry}
 use Rattle.hash_join.specs.Home.{IsClosed, IsHome}
 use Rattle.hash_join.specs.Stores.{HasFilled}
 use Rattle.hash_join.specs.Used.{IsShared, WerePut}

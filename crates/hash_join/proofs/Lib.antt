@@ -11,4 +11,3 @@ pub mod Parts
 pub mod Putting
 pub mod Rounds
 pub mod Seen
-pub mod Traced

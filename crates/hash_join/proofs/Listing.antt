@@ -15,7 +15,7 @@ use Rattle.dshash_parts.specs.Replays.{IsRun, calls_of_key}
 use Rattle.dshash_parts.specs.States.{fresh}
 use Rattle.dshash_parts.specs.Tables.{map_at}
 use Rattle.dshash_parts.proofs.Replays.{keys_are_cells}
-use Rattle.gather_law.specs.Tuples.{Table}
+use Rattle.row_blocks.specs.Blocks.{Table}
 use Rattle.join_pairs.specs.Chains.{last_step}
 use Rattle.hash_join.specs.Filled.{RowEntry, calls_at, done_in, key_of, partition_at}
 use Rattle.join_pairs.specs.declared.chains.Link.{Link}

@@ -29,12 +29,12 @@ use Rattle.dshash_parts.specs.declared.numbered.Numbered.{Numbered}
 use Rattle.dshash_scan.specs.Listings.{ListsOnce, ListsTable}
 use Rattle.join_pairs.specs.Chains.{last_step}
 use Rattle.join_pairs.specs.declared.last_row.LastRow.{LastRow}
-use Rattle.hash_join.specs.Filled.{RowEntry, done_in}
+use Rattle.hash_join.specs.Filled.{RowEntry, done_in, made_call}
 use Rattle.hash_join.specs.Home.{HasMet, IsClosed, RowPass}
 use Rattle.hash_join.specs.declared.store.Store.{Store}
 use Rattle.hash_join.proofs.Flattened.{place_low, some_at}
 use Rattle.hash_join.proofs.Seen.{all_seen, own_same}
-use Rattle.hash_join.proofs.Traced.{done_by, done_map, own_grows}
+use Rattle.dshash_parts.proofs.Done.{done_by, done_map, own_grows}
 
 -- ---- two lists, element by element
 
@@ -125,10 +125,10 @@ module _ (n k : ℕ) (s m s' m' : List RowEntry) where
   abbrev pub OnceHere : Type 0
   OnceHere = DidHere [] ⊎ ((told : Option (List (List ℕ × ℕ))) × DidHere ((Lists, Listed told) ∷ []))
 
-  none_made : (es : List (PartitionCalls ℕ × PartitionReplies ℕ ℕ)) → done_by es ≡ [] → DidHere es → done_in m' ≡ done_in m
+  none_made : (es : List (PartitionCalls ℕ × PartitionReplies ℕ ℕ)) → done_by made_call es ≡ [] → DidHere es → done_in m' ≡ done_in m
   none_made es nothing x =
       let g = own_grows (λ _. PartitionLegal last_step k) fresh n s m s' m' es x in
-      ap done_in g.1 ∙ (done_apart m g.0 ∙ (ap (λ l. done_in m ++ l) (done_map g.0 ∙ (ap done_by g.2 ∙ nothing)) ∙ append-nil (done_in m)))
+      ap done_in g.1 ∙ (done_apart m g.0 ∙ (ap (λ l. done_in m ++ l) (done_map made_call g.0 ∙ (ap (done_by made_call) g.2 ∙ nothing)) ∙ append-nil (done_in m)))
     where
       done_apart : (xs ys : List RowEntry) → done_in (xs ++ ys) ≡ done_in xs ++ done_in ys
       done_apart xs ys = flat_map-append _ xs ys

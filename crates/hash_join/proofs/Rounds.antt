@@ -12,7 +12,7 @@ use Rattle.dsa_area.specs.declared.area.AreaPass.{AreaPass}
 use Rattle.dshash_parts.specs.Tables as table
 use Rattle.scan_claim.specs.Shown as claim
 use Rattle.scan_claim.specs.declared.claims.Claims.{Claims}
-use Rattle.gather_law.specs.Tuples.{Table}
+use Rattle.row_blocks.specs.Blocks.{Table}
 use Rattle.hash_join.specs.Home.{AreFilled, AreFillers, AreNew, Became}
 use Rattle.hash_join.specs.Stores.{HasFilled, Holds, IsNew}
 use Rattle.hash_join.specs.declared.filling.Filler.{Filler}

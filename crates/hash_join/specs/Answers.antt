@@ -1,6 +1,6 @@
 -- What the answers say of the two tables.
 use Rattle.std.specs.Prelude.{◌<◌, ℕ, length}
-use Rattle.gather_law.specs.Tuples.{Table}
+use Rattle.row_blocks.specs.Blocks.{Table}
 use Rattle.join_pairs.specs.Join.{AllAccepted, IsNamed, most_pairs, pairs_of}
 use Rattle.hash_join.specs.declared.JoinAnswer.{JoinAnswer}
 use Rattle.hash_join.specs.declared.JoinAnswer.TheVariants.{Row, TooManyPairs, Memory}

@@ -1,18 +1,15 @@
 -- What a participant made of the rows of its blocks: the calls of the table that it made, and those that found no space.
-use Rattle.std.specs.Prelude.{◌≡◌, ◌<◌, ◌≤◌, ◌==◌, ◌++◌, ℕ, Bool, true, false, List, [], ◌∷◌, All, Any, count_by, filter, length, map}
-use Rattle.std.specs.List.{flat_map}
+use Rattle.std.specs.Prelude.{◌≡◌, ◌<◌, ◌≤◌, ◌==◌, ◌++◌, ℕ, List, All, Any, filter, length, map}
 use Rattle.std.specs.List.Sorted.{IsPermutation}
 use Rattle.csv_rows.specs.Records.{field_of}
 use Rattle.dshash_core.specs.Cells.{partition_of}
 use Rattle.dshash_core.specs.Key.{hash_of, packed_key}
+use Rattle.dshash_parts.specs.Done as done
+use Rattle.dshash_parts.specs.Done.{IsMissing, PageEntry, lacks}
 use Rattle.dshash_parts.specs.States.{PartitionState}
 use Rattle.dshash_parts.specs.declared.histories.PartitionCalls.{PartitionCalls}
-use Rattle.dshash_parts.specs.declared.histories.PartitionCalls.TheVariants.{Call}
 use Rattle.dshash_parts.specs.declared.histories.PartitionReplies.{PartitionReplies}
-use Rattle.dshash_parts.specs.declared.histories.PartitionReplies.TheVariants.{Made, LacksItem, HasToGrow}
-use Rattle.free_pages.specs.Legal.{PagesCall, PagesReply, PagesState}
-use Rattle.free_pages.specs.Legal as pages
-use Rattle.gather_law.specs.Tuples.{Table}
+use Rattle.row_blocks.specs.Blocks.{Table}
 use Rattle.lock_book.specs.declared.view.Entry.{Entry}
 use Rattle.join_pairs.specs.Join.{keyed}
 use Rattle.join_pairs.specs.declared.chains.Link.{Link}
@@ -21,35 +18,19 @@ use Rattle.join_pairs.specs.declared.chains.Link.{Link}
 abbrev pub RowEntry : Type 0
 RowEntry = Entry (PartitionState ℕ) (PartitionCalls ℕ) (PartitionReplies ℕ ℕ)
 
--- an entry in the history of the pages of the table's area
-abbrev pub PageEntry : Type 0
-PageEntry = Entry PagesState PagesCall PagesReply
-
 -- ---- entries
 
--- the call that an entry is, where it was made: its key, and its row with the row before
+-- a call that was made: its key, and its row with the row before
+abbrev pub made_call : List ℕ → ℕ → ℕ → List ℕ × Link
+made_call key row before = (key, record { row = row; before = before })
+
+-- the call that an entry is, where it was made
 abbrev pub done_of : PartitionCalls ℕ → PartitionReplies ℕ ℕ → List (List ℕ × Link)
-done_of (Call key row spare) (Made before unused freed) = (key, record { row = row; before = before }) ∷ []
-done_of call reply = []
+done_of call reply = done.done_of made_call call reply
 
 -- the calls that were made, in order
 abbrev pub done_in : List RowEntry → List (List ℕ × Link)
-done_in entries = flat_map (λ (e : RowEntry). done_of e.call e.reply) entries
-
--- a call of this key with this row was not made: it lacked an item, or the partition had to grow first
-abbrev pub IsMissing : List ℕ → ℕ → PartitionCalls ℕ → PartitionReplies ℕ ℕ → Type 0
-IsMissing key row (Call k r spare) LacksItem = (k ≡ key) × (r ≡ row)
-IsMissing key row (Call k r spare) (HasToGrow size back) = (k ≡ key) × (r ≡ row)
-IsMissing key row call reply = ⊥
-
--- a request for pages was refused
-abbrev pub is_lack : PagesReply → Bool
-is_lack (pages.Lacks wanted largest) = true
-is_lack reply = false
-
--- how many requests for pages were refused
-abbrev pub lacks : List PageEntry → ℕ
-lacks entries = count_by (λ (e : PageEntry). is_lack e.reply) entries
+done_in entries = done.done_in made_call entries
 
 -- ---- rows
 

@@ -19,7 +19,7 @@ use Rattle.dshash_parts.specs.declared.numbered.Numbered.{Numbered}
 use Rattle.dshash_parts.specs.Tables as table
 use Rattle.scan_claim.specs.Shown as claim
 use Rattle.scan_claim.specs.declared.claims.Claims.{Claims}
-use Rattle.gather_law.specs.Tuples.{Table}
+use Rattle.row_blocks.specs.Blocks.{Table}
 use Rattle.join_pairs.specs.Chains.{last_step}
 use Rattle.join_pairs.specs.declared.last_row.LastRow.{LastRow}
 use Rattle.hash_join.specs.Filled.{RowEntry, done_in}

@@ -6,9 +6,8 @@ use Rattle.lock_book.specs.Shown.{mine_of, number_of}
 use Rattle.scan_claim.specs.Drawing.{is_spent}
 use Rattle.scan_claim.specs.Shown.{blocks_of, draws_of, number_of as seat_number}
 use Rattle.scan_claim.specs.declared.claims.Claims.{Claims}
-use Rattle.gather_law.specs.Tuples.{Table}
+use Rattle.row_blocks.specs.Blocks.{Table, numbers_of_blocks}
 use Rattle.hash_join.specs.Filled.{HasPut}
-use Rattle.join_pairs.specs.Blocks.{numbers_of_blocks}
 use Rattle.hash_join.specs.declared.store.Store.{Store}
 use Rattle.hash_join.specs.declared.filling.Filler.{Filler}
 

@@ -12,9 +12,9 @@ use Rattle.lock_book.specs.History.{IsLegal, calls_by}
 use Rattle.scan_claim.specs.Drawing.{flat, times}
 use Rattle.scan_claim.specs.Shown.{lists_of}
 use Rattle.scan_claim.specs.declared.claims.Drawn.{Drawn}
-use Rattle.gather_law.specs.Tuples.{Table}
-use Rattle.hash_join.specs.Filled.{HasPut, PageEntry, RowEntry}
-use Rattle.join_pairs.specs.Blocks.{numbers_of_blocks}
+use Rattle.row_blocks.specs.Blocks.{Table, numbers_of_blocks}
+use Rattle.hash_join.specs.Filled.{HasPut, RowEntry}
+use Rattle.dshash_parts.specs.Done.{PageEntry}
 use Rattle.join_pairs.specs.Chains.{last_step}
 use Rattle.hash_join.specs.declared.Joined.{Joined}
 use Rattle.join_pairs.specs.declared.chains.Link.{Link}

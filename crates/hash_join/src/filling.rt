@@ -3,8 +3,7 @@
 
 ghost use Rattle.std.specs.Prelude.{◌≡◌, ◌<◌, ◌+◌, ◌*◌, ◌++◌, ◌∷◌, ℕ, [], List, OnOk, false, length};
 ghost use Rattle.scan_claim.specs.Shown.{Belongs, blocks_of, draws_of};
-ghost use Rattle.gather_law.specs.Tuples.{AreBlocks};
-ghost use Rattle.join_pairs.specs.Blocks.{block_numbers};
+ghost use Rattle.row_blocks.specs.Blocks.{AreBlocks, block_numbers};
 ghost use Rattle.join_pairs.specs.Join.{AllAccepted, IsAccepted, IsRow, width_of};
 ghost use Rattle.hash_join.specs.Stores.{DidDraw, DidPut, HasFilled, Holds, IsNew, IsSame, IsStore};
 
@@ -14,7 +13,7 @@ use dsa_area::AreaPass;
 use dshash_core::pack_key;
 use dshash_parts::DsPass;
 use join_pairs::{LastRow, Link};
-use partial_agg::BLOCK_ROWS;
+use row_blocks::BLOCK_ROWS;
 use scan_claim::{ClaimSeat, Claims};
 use std::alloc::{AllocError, Global};
 use std::sync::Wait;

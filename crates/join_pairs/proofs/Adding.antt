@@ -5,7 +5,7 @@ use Rattle.std.specs.Str.{bytes_eq}
 use Rattle.std.proofs.lemmas.List.Elements.{All-filter, All-head, All-tail, filter-append}
 use Rattle.std.proofs.lemmas.List.Sorted.{All-permutation, IsPermutation-cons, IsPermutation-to_front, IsPermutation-trans}
 use Rattle.csv_rows.specs.Records.{field_of}
-use Rattle.gather_law.specs.Tuples.{Table}
+use Rattle.row_blocks.specs.Blocks.{Table}
 use Rattle.join_pairs.specs.Chains.{HasChain, IsChain, before_in, rows_with}
 use Rattle.join_pairs.specs.Gathered.{AddsRow, AreChains, HasChains, HasPlaces, HasRoom}
 use Rattle.join_pairs.specs.declared.chains.Chains.{Chains}

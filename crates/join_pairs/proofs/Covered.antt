@@ -6,17 +6,17 @@ use Rattle.std.proofs.lemmas.List.{get_or-drop, get_or_default}
 use Rattle.std.proofs.lemmas.List.Elements.{All-contains_itself, All-filter, All-map, All-weaker}
 use Rattle.std.proofs.lemmas.List.Sorted.{All-permutation, IsPermutation-refl}
 use Rattle.csv_rows.specs.Records.{field_of}
-use Rattle.gather_law.specs.Tuples.{Table}
+use Rattle.row_blocks.specs.Blocks.{Table, numbers_of}
 use Rattle.par_model.specs.Record.{is_null}
 use Rattle.scan_claim.specs.Drawing.{below}
 use Rattle.join_pairs.specs.Chains.{HasChain, before_in, rows_with}
 use Rattle.join_pairs.specs.Gathered.{AreApart, AreChains, IsCovered, linked}
-use Rattle.join_pairs.specs.Join.{IsRow, keyed, numbers_of}
+use Rattle.join_pairs.specs.Join.{IsRow, keyed}
 use Rattle.join_pairs.specs.declared.chains.Link.{Link}
 use Rattle.join_pairs.proofs.Filters.{filter-none}
 use Rattle.join_pairs.proofs.Apart.{apart_rest, apart_rows}
 use Rattle.join_pairs.proofs.Keys.{other_bytes}
-use Rattle.join_pairs.proofs.Numbers.{at_below, length-below}
+use Rattle.row_blocks.proofs.RowNumbers.{at_below, length-below}
 
 -- ---- links
 

@@ -3,7 +3,7 @@ use Rattle.std.proofs.Common.{◌≡◌, ◌++◌, Bool, true, false, cond, filt
 use Rattle.std.specs.List.{flat_map}
 use Rattle.std.specs.List.Sorted.{IsPermutation}
 use Rattle.std.proofs.lemmas.List.Elements.{All-head, All-tail}
-use Rattle.gather_law.proofs.Permute.{flat_map-permutation}
+use Rattle.row_blocks.proofs.Permute.{flat_map-permutation}
 
 module _ {X : Type 0} (p : X → Bool) where
   abbrev kept : X → List X

@@ -4,10 +4,9 @@ use Rattle.std.specs.List.Sorted.{IsPermutation}
 use Rattle.std.proofs.lemmas.List.Concat.{flat_map-append}
 use Rattle.std.proofs.lemmas.List.Sorted.{IsPermutation-append_left, IsPermutation-append_right, IsPermutation-refl, IsPermutation-trans, length_permutation}
 use Rattle.csv_rows.specs.Records.{field_of}
-use Rattle.gather_law.specs.Tuples.{Table}
+use Rattle.row_blocks.specs.Blocks.{Table, numbers_of_blocks}
 use Rattle.par_model.specs.Record.{is_null}
 use Rattle.join_pairs.specs.Chains.{HasChain, before_in}
-use Rattle.join_pairs.specs.Blocks.{numbers_of_blocks}
 use Rattle.join_pairs.specs.Found.{Stops, found_in, found_of}
 use Rattle.join_pairs.specs.Gathered.{ChainsAll}
 use Rattle.join_pairs.specs.Pairing.{StopsAdding, pairs_with}

@@ -4,7 +4,7 @@ use Rattle.std.specs.List.{flat_map}
 use Rattle.std.proofs.lemmas.List.{take-append-drop}
 use Rattle.std.proofs.lemmas.List.Concat.{flat_map-append}
 use Rattle.std.proofs.lemmas.List.Elements.{All-cons, All-head, All-nil, All-tail}
-use Rattle.gather_law.proofs.Gathering.{All-apart}
+use Rattle.row_blocks.proofs.Elements.{All-apart}
 use Rattle.join_pairs.specs.Gathered.{AreApart, linked}
 use Rattle.join_pairs.specs.declared.chains.Link.{Link}
 use Rattle.join_pairs.proofs.Apart.{apart_front, apart_rest}

@@ -4,10 +4,10 @@ use Rattle.std.specs.List.{flat_map}
 use Rattle.std.specs.List.Sorted.{IsPermutation}
 use Rattle.std.proofs.lemmas.List.Sorted.{IsPermutation-sym, IsPermutation-trans, length_permutation}
 use Rattle.scan_claim.specs.Drawing.{below}
-use Rattle.gather_law.specs.Tuples.{Table}
-use Rattle.gather_law.proofs.Permute.{flat_map-permutation}
+use Rattle.row_blocks.specs.Blocks.{Table, numbers_of}
+use Rattle.row_blocks.proofs.Permute.{flat_map-permutation}
 use Rattle.join_pairs.specs.Found.{found_of}
-use Rattle.join_pairs.specs.Join.{is_pair, numbers_of, pairs_of}
+use Rattle.join_pairs.specs.Join.{is_pair, pairs_of}
 use Rattle.join_pairs.specs.Law.{PairsAreJoin, pair_cmp}
 use Rattle.join_pairs.specs.declared.pairs.Pair.{Pair}
 use Rattle.join_pairs.proofs.Exchange.{exchange}

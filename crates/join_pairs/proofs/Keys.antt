@@ -6,10 +6,10 @@ use Rattle.std.proofs.lemmas.List.Elements.{filter_agree}
 use Rattle.std.proofs.lemmas.List.Sorted.{IsPermutation-map, IsPermutation-trans}
 use Rattle.std.proofs.lemmas.Slice.Eq.{bytes_eq-Decides}
 use Rattle.csv_rows.specs.Records.{field_of}
-use Rattle.gather_law.specs.Tuples.{Table}
+use Rattle.row_blocks.specs.Blocks.{Table, numbers_of}
 use Rattle.par_model.specs.Record.{is_null}
 use Rattle.join_pairs.specs.Chains.{HasChain, rows_with}
-use Rattle.join_pairs.specs.Join.{is_pair, keyed, numbers_of}
+use Rattle.join_pairs.specs.Join.{is_pair, keyed}
 use Rattle.join_pairs.specs.Found.{found_of}
 use Rattle.join_pairs.specs.Pairing.{pairs_with}
 use Rattle.join_pairs.proofs.Filters.{filter-never, filter-permutation, filter-within}

@@ -1,5 +1,4 @@
 pub mod Adding
-pub mod Anys
 pub mod Apart
 pub mod Chained
 pub mod Collecting
@@ -12,7 +11,6 @@ pub mod Following
 pub mod Joining
 pub mod Keys
 pub mod Linking
-pub mod Numbers
 pub mod Ordered
 pub mod Results
 pub mod Rising

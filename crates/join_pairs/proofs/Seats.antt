@@ -8,7 +8,7 @@ use Rattle.scan_claim.specs.Drawing.{IsDrawn}
 use Rattle.scan_claim.specs.Shown.{AreSeats, Belongs, blocks_of, draws_of, number_of}
 use Rattle.scan_claim.specs.declared.claims.ClaimSeat.{ClaimSeat}
 use Rattle.scan_claim.specs.declared.claims.Claims.{Claims}
-use Rattle.gather_law.specs.Tuples.{AreBlocks, Table}
+use Rattle.row_blocks.specs.Blocks.{AreBlocks, Table}
 use Rattle.join_pairs.specs.Found.{Found, HasNone}
 use Rattle.join_pairs.specs.Join.{most_pairs, pairs_of}
 use Rattle.join_pairs.specs.Law.{pair_cmp}
@@ -18,7 +18,7 @@ use Rattle.join_pairs.specs.declared.pairing.Finding.{Finding}
 use Rattle.join_pairs.specs.declared.pairing.NoPairs.{NoPairs}
 use Rattle.join_pairs.specs.declared.pairing.NoPairs.TheVariants.{TooMany, Memory}
 use Rattle.join_pairs.specs.declared.pairs.Pair.{Pair}
-use Rattle.join_pairs.proofs.Anys.{any_cases, any_head, any_none, any_tail}
+use Rattle.row_blocks.proofs.Elements.{any_cases, any_head, any_none, any_tail}
 use Rattle.join_pairs.proofs.Ordered.{all_from}
 use Rattle.join_pairs.proofs.Whole.{all_counted, all_paired, drawn_enough, too_many}
 

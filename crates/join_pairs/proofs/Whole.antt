@@ -9,19 +9,19 @@ use Rattle.scan_claim.specs.Drawing.{IsDrawn, below, flat, is_spent, late, once_
 use Rattle.scan_claim.specs.Shown.{blocks_of}
 use Rattle.scan_claim.specs.declared.claims.Claims.{Claims}
 use Rattle.scan_claim.proofs.Totals.{late-append}
-use Rattle.gather_law.proofs.Draws.{drawn_are_below}
-use Rattle.gather_law.proofs.Permute.{flat_map-permutation}
-use Rattle.gather_law.specs.Tuples.{AreBlocks, Table}
-use Rattle.join_pairs.specs.Join.{most_pairs, numbers_of, pairs_of}
-use Rattle.join_pairs.specs.Blocks.{block_numbers, numbers_of_blocks}
+use Rattle.row_blocks.proofs.Draws.{drawn_are_below}
+use Rattle.row_blocks.proofs.Permute.{flat_map-permutation}
+use Rattle.row_blocks.specs.Blocks.{AreBlocks, Table, block_numbers, numbers_of, numbers_of_blocks}
+use Rattle.join_pairs.specs.Join.{most_pairs, pairs_of}
 use Rattle.join_pairs.specs.Found.{Found, found_in, found_of}
 use Rattle.join_pairs.specs.Law.{pair_cmp}
 use Rattle.join_pairs.specs.declared.pairing.NoPairs.{NoPairs}
 use Rattle.join_pairs.specs.declared.pairing.NoPairs.TheVariants.{TooMany}
 use Rattle.join_pairs.specs.declared.pairs.Pair.{Pair}
-use Rattle.join_pairs.proofs.Anys.{any_cases, any_none}
+use Rattle.row_blocks.proofs.Elements.{any_cases, any_none}
 use Rattle.join_pairs.proofs.Joining.{joins, same_count}
-use Rattle.join_pairs.proofs.Numbers.{cut_below, drawn_numbers}
+use Rattle.row_blocks.proofs.BlockRows.{cut_below}
+use Rattle.row_blocks.proofs.RowNumbers.{drawn_numbers}
 
 -- ---- how many blocks were drawn
 

@@ -5,9 +5,8 @@ use Rattle.std.specs.List.Sorted.{IsPermutation}
 use Rattle.scan_claim.specs.Drawing.{is_spent}
 use Rattle.scan_claim.specs.Shown.{blocks_of}
 use Rattle.scan_claim.specs.declared.claims.Claims.{Claims}
-use Rattle.gather_law.specs.Tuples.{Table}
-use Rattle.join_pairs.specs.Join.{is_pair, most_pairs, numbers_of, pairs_of}
-use Rattle.join_pairs.specs.Blocks.{numbers_of_blocks}
+use Rattle.row_blocks.specs.Blocks.{Table, numbers_of, numbers_of_blocks}
+use Rattle.join_pairs.specs.Join.{is_pair, most_pairs, pairs_of}
 use Rattle.join_pairs.specs.declared.pairing.NoPairs.{NoPairs}
 use Rattle.join_pairs.specs.declared.pairing.NoPairs.TheVariants.{TooMany, Memory}
 use Rattle.join_pairs.specs.declared.pairs.Pair.{Pair}

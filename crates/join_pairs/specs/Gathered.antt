@@ -2,9 +2,9 @@
 use Rattle.std.specs.Prelude.{◌≡◌, ◌≢◌, ◌<◌, ◌⊎◌, ◌++◌, ℕ, List, [], ◌∷◌, All, Contains, Some, get_or, length, map, replicate, set, slice_get}
 use Rattle.std.specs.List.Sorted.{IsPermutation}
 use Rattle.csv_rows.specs.Records.{field_of}
-use Rattle.gather_law.specs.Tuples.{Table}
+use Rattle.row_blocks.specs.Blocks.{Table, numbers_of}
 use Rattle.join_pairs.specs.Chains.{HasChain, before_in}
-use Rattle.join_pairs.specs.Join.{IsRow, keyed, numbers_of}
+use Rattle.join_pairs.specs.Join.{IsRow, keyed}
 use Rattle.join_pairs.specs.declared.chains.Chains.{Chains}
 use Rattle.join_pairs.specs.declared.chains.Link.{Link}
 

@@ -1,17 +1,13 @@
 -- The join of two tables on a column of each, over two lists of records: which rows are refused, which rows make a pair,
 -- the list of pairs, and the records of the result.
-use Rattle.std.specs.Prelude.{◌≡◌, ◌≢◌, ◌<◌, ◌≤◌, ◌⊎◌, ◌&&◌, ◌++◌, ◌∷◌, ℕ, Bool, true, false, List, drop, filter, length, map, not}
+use Rattle.std.specs.Prelude.{◌≡◌, ◌≢◌, ◌<◌, ◌≤◌, ◌⊎◌, ◌&&◌, ◌++◌, ◌∷◌, ℕ, Bool, true, false, List, filter, length, map, not}
 use Rattle.std.specs.List.{flat_map}
 use Rattle.std.specs.Str.{bytes_eq}
 use Rattle.csv_rows.specs.Records.{field_of, record_at}
-use Rattle.gather_law.specs.Tuples.{Table}
+use Rattle.row_blocks.specs.Blocks.{Table, numbers_of}
 use Rattle.par_model.specs.Record.{is_null}
-use Rattle.scan_claim.specs.Drawing.{below}
+use Rattle.par_model.specs.Refuse.{key_cause, longest_key, width_cause}
 use Rattle.join_pairs.specs.declared.pairs.Pair.{Pair}
-
--- the numbers of a table's rows: record 0 is the header, and the rows count from 1
-abbrev pub numbers_of : Table → List ℕ
-numbers_of records = drop 1 (below (length records))
 
 -- how many fields the header has
 abbrev pub width_of : Table → ℕ
@@ -27,21 +23,21 @@ keyed records column rows = filter (λ row. not (is_null (field_of records row c
 
 -- ---- refused rows
 
--- a row that can be joined: it has as many fields as the header, and at most 248 bytes in the column
+-- a row that can be joined: it has as many fields as the header, and in the column no more bytes than a key may have
 pub record IsAccepted (records : Table) (column row : ℕ) : Type 0 where
   pub width : length (record_at records row) ≡ width_of records
-  pub short : length (field_of records row column) ≤ 248
+  pub short : length (field_of records row column) ≤ longest_key
 
 -- all rows of a table can be joined
 abbrev pub AllAccepted : Table → ℕ → Type 0
 AllAccepted records column = (row : ℕ) → IsRow records row → IsAccepted records column row
 
--- a row is refused for cause 1, another number of fields than the header's; else for cause 2, a field of the column that
--- exceeds 248 bytes
+-- a row is refused for another number of fields than the header's; else for a field of the column that is longer than a
+-- key may be
 abbrev pub IsRefused : Table → ℕ → ℕ → ℕ → Type 0
 IsRefused records column row cause =
-    ((cause ≡ 1) × (length (record_at records row) ≢ width_of records))
-    ⊎ ((cause ≡ 2) × (length (record_at records row) ≡ width_of records) × (248 < length (field_of records row column)))
+    ((cause ≡ width_cause) × (length (record_at records row) ≢ width_of records))
+    ⊎ ((cause ≡ key_cause) × (length (record_at records row) ≡ width_of records) × (longest_key < length (field_of records row column)))
 
 -- the first row of a table that is refused
 pub record IsFirstRefused (records : Table) (column row cause : ℕ) : Type 0 where

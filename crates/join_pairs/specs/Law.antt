@@ -5,9 +5,9 @@ use Rattle.std.specs.List.{flat_map}
 use Rattle.std.specs.List.Sorted.{IsPermutation, IsSorted}
 use Rattle.std.specs.Ordering.{nat_cmp, ordering_then}
 use Rattle.std.specs.declared.cmp.Ordering.{Ordering}
-use Rattle.gather_law.specs.Tuples.{Table}
+use Rattle.row_blocks.specs.Blocks.{Table, numbers_of}
 use Rattle.join_pairs.specs.Chains.{IsChain, IsRun, number_in}
-use Rattle.join_pairs.specs.Join.{numbers_of, pairs_of}
+use Rattle.join_pairs.specs.Join.{pairs_of}
 use Rattle.join_pairs.specs.Found.{found_of}
 use Rattle.join_pairs.specs.declared.pairs.Pair.{Pair}
 

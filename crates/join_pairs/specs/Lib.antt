@@ -1,4 +1,3 @@
-pub mod Blocks
 pub mod Chains
 pub mod Found
 pub mod Gathered

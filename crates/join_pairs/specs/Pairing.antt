@@ -3,7 +3,7 @@ use Rattle.std.specs.Prelude.{◌≡◌, ◌<◌, ◌⊎◌, ℕ, List, [], All,
 use Rattle.std.specs.List.{flat_map}
 use Rattle.scan_claim.specs.Shown.{Belongs, draws_of, number_of}
 use Rattle.scan_claim.specs.declared.claims.Claims.{Claims}
-use Rattle.gather_law.specs.Tuples.{Table}
+use Rattle.row_blocks.specs.Blocks.{Table}
 use Rattle.join_pairs.specs.Join.{most_pairs}
 use Rattle.join_pairs.specs.Found.{Found}
 use Rattle.join_pairs.specs.declared.pairing.Finder.{Finder}

@@ -1,7 +1,7 @@
 //! The left rows of each key, as a chain: the last row of the key, and for each row the one before it.
 
 ghost use Rattle.std.specs.Prelude.{◌≡◌, ◌<◌, ◌+◌, ◌++◌, ◌∷◌, ℕ, ◌^◌, List, [], All, IfOk, OnOk, length, replicate};
-ghost use Rattle.gather_law.specs.Tuples.{Table};
+ghost use Rattle.row_blocks.specs.Blocks.{Table};
 ghost use Rattle.join_pairs.specs.Chains.{HasChain, before_in};
 ghost use Rattle.join_pairs.specs.Gathered.{AddsRow, HasChains, HasLinks, HasPlaces, HasRoom};
 

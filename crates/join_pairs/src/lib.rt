@@ -9,7 +9,6 @@
 
 #![tactic(auto)]
 
-mod blocks;
 mod chaining;
 mod chains;
 mod last_row;
@@ -18,11 +17,11 @@ mod pairing;
 mod pairs;
 mod refused;
 
-pub use blocks::count_blocks;
 pub use chaining::chain_all;
 pub use chains::{Chains, Link};
 pub use last_row::LastRow;
 pub use laws::{cells_are_chains, pairs_are_join};
 pub use pairing::{MOST_PAIRS, NoPairs, find_pairs};
 pub use pairs::{Pair, Pairs};
-pub use refused::{LONGEST_KEY, Refused, first_refused};
+pub use par_model::LONGEST_KEY;
+pub use refused::{Refused, first_refused};

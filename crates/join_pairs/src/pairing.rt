@@ -4,19 +4,17 @@ ghost use Rattle.std.specs.Prelude.{◌≡◌, ◌<◌, ◌≤◌, ◌+◌, ◌*
 ghost use Rattle.std.specs.List.{flat_map};
 ghost use Rattle.std.specs.List.Sorted.{IsPermutation};
 ghost use Rattle.scan_claim.specs.Shown.{Belongs, blocks_of, draws_of, number_of};
-ghost use Rattle.gather_law.specs.Tuples.{AreBlocks, Table};
+ghost use Rattle.row_blocks.specs.Blocks.{AreBlocks, Table, block_numbers};
 ghost use Rattle.join_pairs.specs.Join.{AllAccepted, IsRow, most_pairs, pairs_of, width_of};
 ghost use Rattle.join_pairs.specs.Chains.{IsChain, before_in};
-ghost use Rattle.join_pairs.specs.Blocks.{block_numbers};
 ghost use Rattle.join_pairs.specs.Found.{HasFound, HasNone, Stops, found_in, found_of};
 ghost use Rattle.join_pairs.specs.Gathered.{ChainsAll};
 ghost use Rattle.join_pairs.specs.Pairing.{AreSameSeats, FinderFound, IsNewFinder, IsReason, StopsAdding, pairs_with};
 
-use crate::blocks::count_blocks;
 use crate::chains::Chains;
 use crate::pairs::{Pair, Pairs};
 use csv_rows::RowStore;
-use partial_agg::BLOCK_ROWS;
+use row_blocks::{BLOCK_ROWS, count_blocks};
 use scan_claim::{ClaimSeat, Claims};
 use std::alloc::{AllocError, Global};
 use std::sync::Wait;

@@ -6,10 +6,7 @@ ghost use Rattle.rel_pointer.specs.Bytes.{AllBytes};
 ghost use Rattle.join_pairs.specs.Join.{AllAccepted, IsAccepted, IsFirstRefused, IsRefused, IsRow, width_of};
 
 use csv_rows::RowStore;
-use par_model::{KEY_CAUSE, WIDTH_CAUSE};
-
-/// The most bytes of a row's field in the column.
-pub const LONGEST_KEY: usize = 248;
+use par_model::{KEY_CAUSE, LONGEST_KEY, WIDTH_CAUSE};
 
 /// A refused row, with its cause.
 #[derive(Debug, Clone, Copy, PartialEq, Eq)]

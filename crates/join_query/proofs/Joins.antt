@@ -5,8 +5,8 @@ use Rattle.std.specs.List.{flat_map}
 use Rattle.std.proofs.lemmas.Bool.Decides.{nat_tests}
 use Rattle.std.proofs.lemmas.List.Elements.{All-append, All-filter, All-map}
 use Rattle.csv_rows.specs.Records.{record_at}
-use Rattle.gather_law.specs.Tuples.{Table}
-use Rattle.join_pairs.specs.Join.{AllAccepted, is_pair, joined_records, numbers_of, pairs_of, width_of}
+use Rattle.row_blocks.specs.Blocks.{Table, numbers_of}
+use Rattle.join_pairs.specs.Join.{AllAccepted, is_pair, joined_records, pairs_of, width_of}
 use Rattle.join_pairs.specs.declared.pairs.Pair.{Pair}
 use Rattle.scan_claim.specs.Drawing.{below}
 use Rattle.hash_join.specs.declared.Joined.{Joined}

@@ -1,10 +1,10 @@
 -- Outcomes of two tables that stand in bytes.
 use Rattle.std.proofs.Common.{◌≡◌, ◌≤◌, ◌+◌, ◌<◌, ℕ, List, Option, None, Some, IfSome, Result, Err, inl, inr, length, length-append, subst, ap, arith, refl, drop, take}
 use Rattle.csv_rows.specs.Records.{record_at}
-use Rattle.csv_rows.specs.Turns.{ReadsCount}
+use Rattle.par_io.specs.Reads.{ReadsCount}
 use Rattle.csv_rows.specs.declared.input.ReadAnswer.{ReadAnswer}
 use Rattle.csv_rows.specs.declared.input.ReadAnswer.TheVariants as reading
-use Rattle.gather_law.specs.Tuples.{Table}
+use Rattle.row_blocks.specs.Blocks.{Table}
 use Rattle.par_model.specs.Named.{column_of}
 use Rattle.par_model.specs.Outcome.{most_bytes}
 use Rattle.join_query.specs.Outcome.{Outcome, IsCut, IsOfBytes, IsOfColumns, IsOfRows, IsOfTables, IsOutcome, left_of}

@@ -7,7 +7,7 @@ use Rattle.join_query.specs.Lines.{IsLine, IsNoFault, IsStatus, cause_status, na
 use Rattle.join_query.specs.Outcome.{Outcome, Fails, IsOutcome, Joins}
 use Rattle.join_query.specs.Stops.{IsExplained, stop_status, stop_text}
 use Rattle.join_query.specs.Words.{Asked}
-use Rattle.gather_law.specs.Tuples.{Table}
+use Rattle.row_blocks.specs.Blocks.{Table}
 use Rattle.join_query.specs.declared.cause.Cause.{Cause}
 use Rattle.join_query.specs.declared.cause.Cause.TheVariants as cause
 use Rattle.join_query.specs.declared.stop.Stop.{Stop}

@@ -1,7 +1,7 @@
 -- There is one outcome.
 use Rattle.std.proofs.Common.{◌≡◌, ◌⊎◌, ◌<◌, ◌≤◌, ◌∙◌, ℕ, Bool, true, false, List, Option, None, Some, inl, inr, length, subst, sym, ap, arith, refl}
 use Rattle.csv_rows.specs.Records.{record_at}
-use Rattle.gather_law.specs.Tuples.{Table}
+use Rattle.row_blocks.specs.Blocks.{Table}
 use Rattle.join_pairs.specs.Join.{AllAccepted, IsAccepted, IsFirstRefused, IsNamed, IsRefused}
 use Rattle.par_model.specs.Named.{column_of}
 use Rattle.join_query.specs.Outcome.{Outcome, Fails, IsCut, IsOfBytes, IsOfColumns, IsOfCut, IsOfRight, IsOfRows, IsOfSizes, IsOfTables, IsOutcome, left_of, right_of}

@@ -1,7 +1,7 @@
 -- What `join COLUMN N` over some bytes comes to: the first cause that there is no table, or the table.
 use Rattle.std.specs.Prelude.{◌≡◌, ◌<◌, ◌≤◌, ◌+◌, ◌-◌, ◌⊎◌, ℕ, Bool, true, false, List, Option, None, Some, drop, if◌then◌else◌, length, nat_lt, slice_index, take}
 use Rattle.csv_rows.specs.Records.{record_at, records_of}
-use Rattle.gather_law.specs.Tuples.{Table}
+use Rattle.row_blocks.specs.Blocks.{Table}
 use Rattle.join_pairs.specs.Join.{AllAccepted, IsNamed, joined_records, most_pairs, pairs_of}
 use Rattle.memchr.specs.Find.{IsFirst}
 use Rattle.par_model.specs.Named.{column_of}

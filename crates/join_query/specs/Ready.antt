@@ -4,7 +4,7 @@ use Rattle.csv_rows.specs.Records.{record_at, records_of}
 use Rattle.join_pairs.specs.Join.{width_of}
 use Rattle.par_model.specs.Named.{column_of}
 use Rattle.par_model.specs.Outcome.{most_bytes, most_rows}
-use Rattle.gather_law.specs.Tuples.{Table}
+use Rattle.row_blocks.specs.Blocks.{Table}
 use Rattle.join_query.specs.Outcome.{IsCut, left_of, right_of}
 use Rattle.join_query.specs.declared.ready.Ready.{Ready}
 use Rattle.join_query.specs.declared.tables.Tables.{Tables}

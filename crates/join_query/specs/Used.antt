@@ -1,7 +1,7 @@
 -- How the joined records were made.
 use Rattle.std.specs.Prelude.{◌≡◌, ◌≤◌, ℕ, List, Option, None, Some, length}
 use Rattle.csv_rows.specs.Records.{record_at}
-use Rattle.gather_law.specs.Tuples.{Table}
+use Rattle.row_blocks.specs.Blocks.{Table}
 use Rattle.hash_join.specs.Used.{IsUsed}
 use Rattle.hash_join.specs.declared.Joined.{Joined}
 use Rattle.join_pairs.specs.Join.{AllAccepted, most_pairs, pairs_of}

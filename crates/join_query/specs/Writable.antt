@@ -1,7 +1,7 @@
 -- Records that can be written one beside the other.
 use Rattle.std.specs.Prelude.{◌<◌, ◌++◌, ℕ, All, List, length}
 use Rattle.csv_rows.specs.Records.{record_at}
-use Rattle.gather_law.specs.Tuples.{Table}
+use Rattle.row_blocks.specs.Blocks.{Table}
 use Rattle.join_pairs.specs.declared.pairs.Pair.{Pair}
 
 -- a record is there, and has a field

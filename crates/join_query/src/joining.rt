@@ -2,7 +2,7 @@
 
 ghost use Rattle.std.specs.Prelude.{◌≡◌, ◌≢◌, ◌⊎◌, ◌<◌, ◌≤◌, ℕ, List, IfErr, IfOk, IfSome, IsNone, OnOk, Contains, Some, Err, take};
 ghost use Rattle.std.specs.Io.KnownBytes.{Appends};
-ghost use Rattle.gather_law.specs.Tuples.{Table};
+ghost use Rattle.row_blocks.specs.Blocks.{Table};
 ghost use Rattle.join_pairs.specs.Join.{width_of};
 ghost use Rattle.join_query.specs.Lines.{IsLine, IsNoFault, IsStatus};
 ghost use Rattle.join_query.specs.Outcome.{IsOfRows, IsOutcome, Joins};

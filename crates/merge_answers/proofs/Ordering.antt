@@ -8,7 +8,8 @@ use Rattle.std.specs.Prelude.{◌==◌, ◌&&◌, slice_index_or}
 use Rattle.std.specs.Io.KnownBytes.{Appends}
 use Rattle.csv_rows.specs.Records.{record_at}
 use Rattle.gather_merge.specs.Answers.{IsCause, IsFirstCause, OrdersRows}
-use Rattle.gather_merge.specs.Order.{IsOrder, numbers_of, ordered}
+use Rattle.gather_merge.specs.Order.{IsOrder, ordered}
+use Rattle.row_blocks.specs.Blocks.{numbers_of}
 use Rattle.gather_merge.specs.Used.{IsUsed}
 use Rattle.gather_merge.specs.declared.MergeAnswer.{MergeAnswer}
 use Rattle.gather_merge.specs.declared.MergeAnswer.TheVariants as merging

@@ -3,7 +3,7 @@ use Rattle.std.proofs.Common.{◌≡◌, ◌≢◌, ℕ, List, Option, None, Som
 use Rattle.std.specs.Prelude.{IsNone}
 use Rattle.std.proofs.lemmas.Option.{IfSome_then}
 use Rattle.std.specs.Io.KnownBytes.{Appends}
-use Rattle.gather_law.specs.Tuples.{Table}
+use Rattle.row_blocks.specs.Blocks.{Table}
 use Rattle.hash_join.specs.declared.Joined.{Joined}
 use Rattle.join_query.specs.Lines.{IsNoFault, IsStatus}
 use Rattle.join_query.specs.Lines as lines

@@ -4,7 +4,6 @@ use Rattle.std.specs.Io.KnownBytes.{Appends}
 use Rattle.gen_query.specs.Summary.{IsSummaryBy}
 use Rattle.gen_query.specs.declared.GenAnswer.{GenAnswer}
 use Rattle.gen_query.specs.declared.GenAnswer.TheVariants as generating
-use Rattle.gather_law.specs.Tuples as tuples
 use Rattle.join_query.specs.Lines.{IsNoFault}
 use Rattle.join_query.specs.Lines as joined
 use Rattle.join_query.specs.Outcome as join
@@ -14,6 +13,7 @@ use Rattle.par_model.specs.Outcome.{Outcome}
 use Rattle.par_model.specs.Table.{table_text}
 use Rattle.plan_answers.specs.Answers.{IsTableText}
 use Rattle.query_answer.specs.Lines.{line}
+use Rattle.row_blocks.specs.Blocks as blocks
 use Rattle.query_answer.specs.declared.status.TheConstants.{MISUSED, REFUSED, TABLE, WRITE_FAULT}
 use Rattle.table_query.specs.Answers.{IsOutcome, outcome_over, status_of}
 use Rattle.table_query.specs.Asked.{plan_in, usage_in, usage_text, workers_in}
@@ -37,7 +37,7 @@ IsStatus (OfGen (Some asked)) bytes status = status ≡ TABLE
 
 -- the outcome of a join over bytes is a table, and this is its text
 abbrev pub IsJoinText : Option Asked → List ℕ → List ℕ → Type 0
-IsJoinText words bytes text = (records : tuples.Table) × join.IsOutcome words bytes (join.Joins records) × (text ≡ table_text records)
+IsJoinText words bytes text = (records : blocks.Table) × join.IsOutcome words bytes (join.Joins records) × (text ≡ table_text records)
 
 -- a text is what answers a query over bytes: the table of groups, the rows in order, the joined records, or the line of
 -- generated rows

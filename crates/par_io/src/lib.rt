@@ -5,6 +5,7 @@
 //! never falls, and no call answers [`Failed`] unless it raised the count (or the count stands at
 //! its last value, 2^64 - 1). What a source has left and what a sink was given are told only where
 //! they can be, as in memory; of the streams of the system nothing but the faults is known.
+//! [`read_whole`] reads a source to its end, [`write_whole`] gives a sink all of some bytes.
 
 #![tactic(auto)]
 
@@ -16,9 +17,11 @@ ghost use Rattle.par_io.specs.Faults.{HasCause};
 
 mod memory;
 mod standard;
+mod whole;
 
 pub use memory::{MemSink, MemSource};
 pub use standard::{StdSink, StdSource};
+pub use whole::{NotWhole, read_whole};
 
 /// A read or a write failed. The object that answers it has raised its count of faults.
 #[derive(Debug, Drop)]

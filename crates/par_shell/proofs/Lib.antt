@@ -1,4 +1,3 @@
-pub mod Filled
 pub mod Pieces
 pub mod RunLaws
 pub mod StopLaws

@@ -1,7 +1,7 @@
 -- A whole script: its lines, what they are answered one after another, and how a run ends.
 use Rattle.std.specs.Prelude.{◌≡◌, ◌⊎◌, ◌==◌, ◌++◌, ◌∷◌, [], ℕ, List, Option, Some, None, String, bytes_eq, codes, map, length, nat_le, string_bytes, take, if◌then◌else◌}
 use Rattle.std.specs.List.{slice_split}
-use Rattle.std.specs.Io.KnownBytes.{Appends, Consumes}
+use Rattle.std.specs.Io.KnownBytes.{Appends}
 use Rattle.par_io.specs.Faults.{Rose}
 use Rattle.par_shell.specs.Lines.{IsAnswered, IsShell, Opens}
 use Rattle.shell_lines.specs.Words.{number_in}
@@ -38,10 +38,6 @@ abbrev pub pages_in : List (List ℕ) → Option ℕ
 pages_in [] = Some 64
 pages_in (option ∷ pages ∷ []) = if bytes_eq option (codes "--pages") then (if nat_le (length pages) 4 then number_in 0 4096 pages else None) else None
 pages_in words = None
-
--- this many bytes were read, and they were the first of what was left
-abbrev pub ReadsCount : Option (List ℕ) → Option (List ℕ) → ℕ → Type 0
-ReadsCount old new count = (bytes : List ℕ) × Consumes old new bytes × (length bytes ≡ count)
 
 -- the lines of a script are answered from a shell on, and this is the text of the answers, and this the last shell
 pub record Answers (first : Shell) (script text : List ℕ) (last : Shell) : Type 0 where

@@ -7,7 +7,8 @@ ghost use Rattle.std.specs.Prelude.{◌≡◌, ◌≢◌, ◌⊎◌, ◌<◌, �
 ghost use Rattle.std.specs.Io.KnownBytes.{Appends};
 ghost use Rattle.par_io.specs.Faults.{Rose};
 ghost use Rattle.par_shell.specs.Lines.{IsShell};
-ghost use Rattle.par_shell.specs.Scripts.{Answers, AnswersPart, IsPart, IsRun, IsSaid, ReadsCount, line_of, lines_of, pages_in, statuses, texts};
+ghost use Rattle.par_shell.specs.Scripts.{Answers, AnswersPart, IsPart, IsRun, IsSaid, line_of, lines_of, pages_in, statuses, texts};
+ghost use Rattle.par_io.specs.Reads.{ReadsCount};
 ghost use Rattle.par_shell.specs.declared.shell.Shell.{Shell};
 ghost use Rattle.par_shell.specs.declared.stop.Stop.TheVariants as stop;
 ghost use Rattle.par_shell.specs.declared.status.TheConstants.{MISUSED, NO_MEMORY, READ_FAULT, TOO_LARGE, WRITE_FAULT};

@@ -1,7 +1,8 @@
 -- What a participant has done, by its lists: the numbers that it drew, its turns at the table of groups, and the
 -- messages of its queues.
 use Rattle.std.specs.Prelude.{◌≡◌, ◌&&◌, ◌==◌, ℕ, zero, suc, Bool, List, [], ◌∷◌, Option, Some, None, length, option_map}
-use Rattle.agg_table.specs.Calls.{PageEntry, Use}
+use Rattle.agg_table.specs.Calls.{Use}
+use Rattle.dshash_parts.specs.Done.{PageEntry}
 use Rattle.agg_table.specs.Tokens.{use_in}
 use Rattle.dsa_area.specs.Shown.{pages_mine}
 use Rattle.dsa_area.specs.declared.area.AreaPass.{AreaPass}

@@ -247,3 +247,29 @@ laid_anew old new rows same_rows lanes more states is same are =
 
 pub whole_anew : (new : Layout) (rows same_rows : List ℕ) (lanes : List SlotState) → same_rows ≡ rows → length lanes ≡ length same_rows * new.width → length lanes ≡ length rows * new.width
 whole_anew new rows same_rows lanes is whole = whole ∙ ap (λ (rs : List ℕ). length rs * new.width) is
+
+-- states that were laid anew, and a place of theirs
+pub record Refitted (layout : Layout) (rows : List ℕ) (lanes : List SlotState) (states : List AggState) (at width : ℕ) : Type 0 where
+  pub view : states_in layout rows lanes ≡ states
+  pub whole : length lanes ≡ length rows * layout.width
+  pub here : at < length rows
+  pub there : at * width + width ≤ length lanes
+  pub start : at * width ≡ at * layout.width
+
+pub refitted : (old new : Layout) (rows same_rows : List ℕ) (lanes more : List SlotState) (states : List AggState) (at width : ℕ) → same_rows ≡ rows → states_in new same_rows more ≡ states_in old same_rows lanes → states_in old rows lanes ≡ states
+    → length more ≡ length same_rows * new.width → at < length states → width ≡ new.width → Refitted new rows more states at width
+refitted old new rows same_rows lanes more states at width is same are all low wide =
+    let view = laid_anew old new rows same_rows lanes more states is same are in
+    let whole = whole_anew new rows same_rows more is all in
+    let here = place_within new rows more states at view low in
+    record { view = view; whole = whole; here = here; there = lanes_within new rows more at width wide here whole; start = ap (λ (n : ℕ). at * n) wide }
+
+-- the lanes of slots are the first of a longer list
+pub record AreFirst (layout : Layout) (slots all : List SlotState) (width : ℕ) : Type 0 where
+  pub are : take width all ≡ lanes_of layout slots
+  pub long : length (take width all) ≡ layout.width
+
+pub are_first : (layout : Layout) (slots all : List SlotState) (width : ℕ) → width ≡ layout.width → take layout.width all ≡ lanes_of layout slots → length (lanes_of layout slots) ≡ layout.width → AreFirst layout slots all width
+are_first layout slots all width is lanes wide =
+    let same : take width all ≡ lanes_of layout slots = ap (λ (n : ℕ). take n all) is ∙ lanes in
+    record { are = same; long = ap (length {A = SlotState}) same ∙ wide }

@@ -10,6 +10,7 @@ pub mod OneRow
 pub mod Blocks
 pub mod Ideal
 pub mod Fits
+pub mod Entries
 pub mod Combining
 pub mod Adding
 pub mod AnyOrder

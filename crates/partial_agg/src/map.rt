@@ -22,7 +22,8 @@ ghost use Rattle.partial_agg.specs.Groups.{AreGroups, added, with_rows};
 ghost use Rattle.partial_agg.specs.Listed.{listed};
 ghost use Rattle.partial_agg.specs.Values.{values_state};
 ghost use Rattle.partial_agg.specs.Status.{IsKeptBy};
-ghost use Rattle.partial_agg.specs.Rows.{IsAccepted, block_rows, header_width};
+ghost use Rattle.partial_agg.specs.Rows.{IsAccepted, header_width};
+ghost use Rattle.row_blocks.specs.Blocks.{block_rows};
 
 use crate::ahead::guess_places;
 use crate::groups::Groups;
@@ -34,11 +35,9 @@ use crate::states::StateList;
 use csv_rows::{NearRows, Record, RowStore};
 use key_index::KeyTable;
 use par_model::{AggState, BoundPlan, ITEM_CAUSE};
+use row_blocks::BLOCK_ROWS;
 use std::alloc::{AllocError, Global};
 use std::marker::Model;
-
-/// The rows of a block.
-pub const BLOCK_ROWS: u64 = 256;
 
 /// A map from keys to states, in the order of the keys' bytes.
 #[derive(Drop)]

@@ -11,7 +11,8 @@ use Rattle.partial_agg.specs.Blocks.{Stopped}
 use Rattle.partial_agg.specs.Groups.{GroupsByKey}
 use Rattle.partial_agg.specs.declared.map.BlockAnswer.{BlockAnswer}
 use Rattle.partial_agg.specs.declared.map.BlockAnswer.TheVariants as answer
-use Rattle.partial_agg.specs.Rows.{IsAccepted, block_rows, header_width}
+use Rattle.partial_agg.specs.Rows.{IsAccepted, header_width}
+use Rattle.row_blocks.specs.Blocks.{block_rows}
 use Rattle.plan_answers.specs.Grouping.{NamesRefused}
 use Rattle.table_query.specs.Refused.{refused_in}
 use Rattle.table_query.proofs.Refusals.{refused_first}

@@ -21,7 +21,7 @@ use Rattle.partial_agg.specs.State.{empty_state}
 use Rattle.partial_agg.specs.declared.groups.Group.{Group}
 use Rattle.partial_agg.proofs.Ideal.{state_of_none}
 use Rattle.result_text.specs.Text.{IsTextOf, Line, group_of_line, line_record, shown}
-use Rattle.result_text.proofs.Entries.{Contains-found, behind}
+use Rattle.partial_agg.proofs.Entries.{Contains-found, behind}
 use Rattle.result_text.proofs.Keys.{same_encoding}
 use Rattle.result_text.proofs.Occurring.{occurs, row_occurs, some_both, state_is}
 use Rattle.result_text.proofs.Uses.{All-listed}

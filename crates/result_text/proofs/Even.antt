@@ -1,5 +1,5 @@
 -- Keys whose columns have the same lengths compare as their columns do.
-use Rattle.std.proofs.Common.{◌≡◌, ◌<◌, ◌≤◌, ◌+◌, ◌++◌, ◌∷◌, ◌∙◌, [], ap, sym, refl, subst, arith, false, ℕ, zero, suc, List, All, length, get_or, map}
+use Rattle.std.proofs.Common.{◌≡◌, ◌<◌, ◌≤◌, ◌+◌, ◌-◌, ◌++◌, ◌∷◌, ◌∙◌, [], ap, sym, refl, subst, arith, false, ℕ, zero, suc, List, All, length, get_or, map}
 use Rattle.std.proofs.lemmas.List.Elements.{All-head, All-tail}
 use Rattle.std.specs.Cmp.Lexicographic.{nat_list_cmp_total, slice_cmp}
 use Rattle.std.specs.Cmp.{nat_cmp_total}
@@ -13,7 +13,7 @@ use Rattle.par_model.specs.Key.{encoded}
 use Rattle.par_model.specs.Table.{columns_cmp}
 use Rattle.partial_agg.specs.Groups.{key_cmp}
 use Rattle.partial_agg.specs.declared.groups.Group.{Group}
-use Rattle.result_text.specs.Keys.{columns_in, lengths_in}
+use Rattle.result_text.specs.Keys.{after_first_column, columns_in, first_column, lengths_in}
 use Rattle.result_text.specs.Order.{group_of, is_before}
 use Rattle.result_text.specs.declared.order.GroupRef.{GroupRef}
 use Rattle.result_text.proofs.Keys.{encoded-cons}
@@ -49,6 +49,26 @@ by_columns (x ∷ xs) (y ∷ ys) e =
     ∙ same_front (to_le_bytes w32 (length x)) (x ++ encoded xs) (y ++ encoded ys)
     ∙ fronts_first x y (encoded xs) (encoded ys) first
     ∙ ap (ordering_then (slice_cmp nat_cmp x y)) (by_columns xs ys rest)
+
+-- the lengths that are left, one column at a time
+pub lengths-start : (count : ℕ) (a b : List ℕ) → lengths_in (count - 0) a ≡ lengths_in (count - 0) b → lengths_in count a ≡ lengths_in count b
+lengths-start count a b h =
+    let e : count - 0 ≡ count = omega arith in
+    rw e at h
+
+pub lengths-end : (count at : ℕ) (a b : List ℕ) → count ≤ at → lengths_in (count - at) a ≡ lengths_in (count - at) b
+lengths-end count at a b le =
+    let e : count - at ≡ 0 = omega arith in
+    rw e refl
+
+pub lengths-more : (count at : ℕ) (a b x y more_a more_b : List ℕ) → at < count → x ≡ first_column a → more_a ≡ after_first_column a → y ≡ first_column b → more_b ≡ after_first_column b → length x ≡ length y
+    → lengths_in (count - (at + 1)) more_a ≡ lengths_in (count - (at + 1)) more_b → lengths_in (count - at) a ≡ lengths_in (count - at) b
+lengths-more count at a b x y more_a more_b lt is_x is_a is_y is_b first rest =
+    let e : count - at ≡ suc (count - (at + 1)) = omega arith in
+    let one : length (first_column a) ≡ length (first_column b) = ap (length {A = ℕ}) (sym is_x) ∙ first ∙ ap (length {A = ℕ}) is_y in
+    let others : lengths_in (count - (at + 1)) (after_first_column a) ≡ lengths_in (count - (at + 1)) (after_first_column b) =
+    ap (lengths_in (count - (at + 1))) (sym is_a) ∙ rest ∙ ap (lengths_in (count - (at + 1))) is_b in
+    rw e (λ i. one i ∷ others i)
 
 -- a key that is before another is not behind it by its columns
 not_behind : (count : ℕ) (a b lengths : List ℕ) → encoded (columns_in count a) ≡ a → encoded (columns_in count b) ≡ b → lengths_in count a ≡ lengths → lengths_in count b ≡ lengths → key_cmp a b ≡ Less

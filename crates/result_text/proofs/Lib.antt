@@ -1,7 +1,8 @@
 mod Answering
 mod Averages
 mod Columns
-mod Entries
+mod Even
+mod Fronts
 mod Keys
 mod Occurring
 mod Small

@@ -8,7 +8,7 @@ use Rattle.par_model.specs.Key.{key_of}
 use Rattle.par_model.specs.Plan.{Plan}
 use Rattle.par_model.specs.declared.state.AggState.{AggState}
 use Rattle.partial_agg.specs.Groups.{group_of}
-use Rattle.result_text.proofs.Entries.{behind}
+use Rattle.partial_agg.proofs.Entries.{behind}
 
 -- an element passes both tests where the filter by both keeps one
 pub some_both : {X : Type 0} (p q : X → Bool) (xs : List X) → 0 < length (filter (λ x. p x && q x) xs) → (x : X) × Contains (filter p xs) x × (q x ≡ true)

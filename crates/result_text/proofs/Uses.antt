@@ -16,7 +16,7 @@ use Rattle.partial_agg.specs.Groups.{AreGroups, GroupsByKey, group_of}
 use Rattle.partial_agg.specs.Listed.{group, listed}
 use Rattle.partial_agg.specs.declared.groups.Group.{Group}
 use Rattle.result_text.specs.Printable.{ArePrintable, IsKeyOf, IsSmallSlot}
-use Rattle.result_text.proofs.Entries.{All-found, IsDistinct-keys}
+use Rattle.partial_agg.proofs.Entries.{All-found, IsDistinct-keys}
 use Rattle.result_text.proofs.Occurring.{occurs, state_is}
 use Rattle.result_text.proofs.Small.{slots_small}
 

@@ -67,8 +67,9 @@ fn are_alike(refs: &[GroupRef<'_>], columns: u32) -> bool
     if refs.is_empty() {
         return true;
     }
-    for at in 1..refs.len() {
-        if !is_alike(refs[0].key, refs[at].key, columns) {
+    let first = refs[0].key;
+    for group in refs {
+        if !is_alike(first, group.key, columns) {
             return false;
         }
     }

@@ -8,7 +8,7 @@ use Rattle.par_model.specs.Key.{key_of}
 use Rattle.par_model.specs.Plan.{Plan}
 use Rattle.partial_agg.specs.Groups.{group_of}
 use Rattle.partial_agg.proofs.Adding.{grouped}
-use Rattle.gather_law.specs.Tuples.{Table}
+use Rattle.row_blocks.specs.Blocks.{Table}
 use Rattle.gather_law.proofs.Keys.{filter_apart, filter_through}
 use Rattle.split_law.specs.Law.{PartsTogether}
 use Rattle.split_law.specs.Shares.{rows_in}

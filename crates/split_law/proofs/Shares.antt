@@ -9,13 +9,14 @@ use Rattle.std.proofs.lemmas.List.Sorted.{All-permutation, IsPermutation-append,
 use Rattle.scan_claim.specs.Drawing.{below, flat, once_below, times}
 use Rattle.par_model.specs.Plan.{Plan}
 use Rattle.partial_agg.specs.Groups.{AreGroups, GroupsByKey, with_groups, with_rows}
-use Rattle.partial_agg.specs.Rows.{IsAccepted, block_rows}
+use Rattle.partial_agg.specs.Rows.{IsAccepted}
+use Rattle.row_blocks.specs.Blocks.{Table, block_rows, rows_of_blocks}
 use Rattle.partial_agg.proofs.Adding.{maps_grow, no_groups}
 use Rattle.partial_agg.proofs.AnyOrder.{in_any_order}
 use Rattle.partial_agg.proofs.Joining.{maps_join}
-use Rattle.gather_law.specs.Tuples.{Table, rows_of_blocks}
-use Rattle.gather_law.proofs.Draws.{drawn_are_below, rows_all}
-use Rattle.gather_law.proofs.Permute.{flat_map-permutation, same-permutation}
+use Rattle.row_blocks.proofs.Draws.{drawn_are_below}
+use Rattle.row_blocks.proofs.BlockRows.{rows_all}
+use Rattle.row_blocks.proofs.Permute.{flat_map-permutation, same-permutation}
 use Rattle.split_law.specs.Law.{BlocksCover, SharesBegin, SharesGrow, SharesJoin}
 use Rattle.split_law.specs.Shares.{Add, AreShared, together}
 

@@ -7,7 +7,7 @@ use Rattle.scan_claim.specs.Drawing.{flat, once_below, times}
 use Rattle.par_model.specs.Plan.{Plan}
 use Rattle.partial_agg.specs.Groups.{AreGroups, GroupsByKey, group_of, with_groups}
 use Rattle.partial_agg.specs.Rows.{IsAccepted}
-use Rattle.gather_law.specs.Tuples.{Table, rows_of_blocks}
+use Rattle.row_blocks.specs.Blocks.{Table, rows_of_blocks}
 use Rattle.split_law.specs.Shares.{Add, AreShared, rows_in, together}
 
 -- blocks that were drawn each once have all rows

@@ -6,7 +6,7 @@ use Rattle.par_model.specs.Key.{key_of}
 use Rattle.par_model.specs.Plan.{Plan}
 use Rattle.partial_agg.specs.Groups.{AreGroups, GroupsByKey, with_rows}
 use Rattle.partial_agg.specs.Rows.{IsAccepted}
-use Rattle.gather_law.specs.Tuples.{Table}
+use Rattle.row_blocks.specs.Blocks.{Table}
 
 -- the shares one after another
 abbrev pub together : List Table → Table

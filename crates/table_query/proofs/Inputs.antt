@@ -2,7 +2,7 @@
 use Rattle.std.proofs.Common.{[], ◌≡◌, ◌<◌, ◌≤◌, ◌∙◌, ℕ, List, ◌∷◌, false, true, length, refl, ap, arith, subst, None, Some, Option, IfSome, Result, Err, nat_lt, length-append}
 use Rattle.std.proofs.lemmas.Bool.Decides.{nat_tests}
 use Rattle.csv_rows.specs.Records.{records_of}
-use Rattle.csv_rows.specs.Turns.{ReadsCount}
+use Rattle.par_io.specs.Reads.{ReadsCount}
 use Rattle.csv_rows.specs.declared.input.ReadAnswer.{ReadAnswer}
 use Rattle.csv_rows.specs.declared.input.ReadAnswer.TheVariants as reading
 use Rattle.csv_rows.specs.declared.records.RowsAnswer.{RowsAnswer}

@@ -3,7 +3,8 @@
 
 ghost use Rattle.std.specs.Prelude.{◌≡◌, ◌<◌, IfOk, true};
 ghost use Rattle.join_pairs.specs.Gathered.{ChainsAll};
-ghost use Rattle.join_pairs.specs.Join.{AllAccepted, keyed, numbers_of, width_of};
+ghost use Rattle.join_pairs.specs.Join.{AllAccepted, keyed, width_of};
+ghost use Rattle.row_blocks.specs.Blocks.{numbers_of};
 ghost use Rattle.join_query.specs.Writable.{AreWritable, HasHeaders, IsFull};
 
 use csv_rows::RowStore;

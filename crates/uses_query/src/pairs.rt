@@ -3,14 +3,16 @@
 
 ghost use Rattle.std.specs.Prelude.{◌≡◌, ◌<◌, ◌≤◌, IfOk, length};
 ghost use Rattle.join_pairs.specs.Gathered.{ChainsAll};
-ghost use Rattle.join_pairs.specs.Join.{AllAccepted, keyed, numbers_of, pairs_of, width_of};
+ghost use Rattle.join_pairs.specs.Join.{AllAccepted, keyed, pairs_of, width_of};
+ghost use Rattle.row_blocks.specs.Blocks.{numbers_of};
 
 use csv_rows::{RowStore, rows};
 use dshash_core::CellObject;
 use join_pairs::{
-    Chains, LONGEST_KEY, LastRow, NoPairs, Pairs, Refused, cells_are_chains, chain_all,
-    count_blocks, find_pairs, first_refused, pairs_are_join,
+    Chains, LONGEST_KEY, LastRow, NoPairs, Pairs, Refused, cells_are_chains, chain_all, find_pairs,
+    first_refused, pairs_are_join,
 };
+use row_blocks::count_blocks;
 use std::alloc::{AllocError, Global};
 use std::sync::Wait;
 use std::test::Fail;

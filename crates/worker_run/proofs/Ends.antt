@@ -14,10 +14,11 @@ use Rattle.partial_agg.specs.Groups.{GroupsByKey}
 use Rattle.partial_agg.specs.Rows.{IsAccepted, header_width}
 use Rattle.partial_agg.specs.declared.map.BlockAnswer.{BlockAnswer}
 use Rattle.partial_agg.specs.declared.map.BlockAnswer.TheVariants as answer
-use Rattle.partial_agg.proofs.Blocks.{length-block}
+use Rattle.row_blocks.proofs.BlockRows.{length-block}
 use Rattle.ring_rule.specs.Ring.{Sending}
 use Rattle.scan_claim.specs.Drawing.{is_spent}
-use Rattle.gather_law.specs.Tuples.{AreBlocks, Group, IsTupleOf, Table, groups_of}
+use Rattle.gather_law.specs.Tuples.{Group, IsTupleOf, groups_of}
+use Rattle.row_blocks.specs.Blocks.{AreBlocks, Table}
 use Rattle.worker_run.specs.Ended.{HasEnded, IsNotice, IsOwnRow, IsRefused, found_gone, sends_of}
 use Rattle.worker_run.specs.Sent.{AreWritten, FoundGone, HasSent, StoppedSending, tuples_of}
 use Rattle.worker_run.specs.Notices.{GivesUp}

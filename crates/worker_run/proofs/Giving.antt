@@ -13,13 +13,14 @@ use Rattle.mq_handle.specs.Messages.{whole_of}
 use Rattle.par_model.specs.Plan.{Plan}
 use Rattle.partial_agg.specs.Blocks.{Stopped as IsStoppedAt}
 use Rattle.partial_agg.specs.Groups.{GroupsByKey}
-use Rattle.partial_agg.specs.Rows.{IsAccepted, block_rows, header_width}
+use Rattle.partial_agg.specs.Rows.{IsAccepted, header_width}
+use Rattle.row_blocks.specs.Blocks.{AreBlocks, Table, block_rows, rows_of_blocks}
 use Rattle.partial_agg.specs.declared.map.BlockAnswer.{BlockAnswer}
 use Rattle.partial_agg.specs.declared.map.BlockAnswer.TheVariants as answer
 use Rattle.ring_rule.specs.Ring.{Sending}
 use Rattle.scan_claim.specs.Drawing.{is_spent}
 use Rattle.tuple_codec.specs.Tuple.{tuple_bytes}
-use Rattle.gather_law.specs.Tuples.{AreBlocks, Group, IsTupleOf, Table, groups_of, rows_of_blocks}
+use Rattle.gather_law.specs.Tuples.{Group, IsTupleOf, groups_of}
 use Rattle.worker_run.specs.Ended.{IsNotice, sends_of}
 use Rattle.worker_run.specs.Sent.{FoundGone, HasSent, HasSentAll, HasZeros, IsReady, tuples_of}
 use Rattle.worker_run.specs.Notices.{GivesUp}

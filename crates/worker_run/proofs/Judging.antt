@@ -7,7 +7,7 @@ use Rattle.partial_agg.specs.declared.map.BlockAnswer.TheVariants as answer
 use Rattle.worker_run.specs.Verdicts.{AreVerdict, EndsWell, NamesNoRow}
 use Rattle.worker_run.specs.declared.WorkerEnd.{WorkerEnd}
 use Rattle.worker_run.specs.declared.WorkerEnd.TheVariants.{Finished, Stopped, Refused, NoMemory}
-use Rattle.worker_run.proofs.Anys.{any_cases, any_head, any_more, any_none, any_tail}
+use Rattle.row_blocks.proofs.Elements.{any_cases, any_head, any_more, any_none, any_tail}
 
 well_names_none : (end : Option WorkerEnd) → EndsWell end → NamesNoRow end
 well_names_none None w = tt

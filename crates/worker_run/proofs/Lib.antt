@@ -1,5 +1,4 @@
 mod Sent
-pub mod Anys
 pub mod Judging
 pub mod Saying
 pub mod Working

@@ -9,12 +9,13 @@ use Rattle.mq_handle.specs.Messages.{left_of, whole_of}
 use Rattle.mq_handle.proofs.Uses.{left_nothing}
 use Rattle.par_model.specs.Plan.{Plan}
 use Rattle.partial_agg.specs.Groups.{GroupsByKey, with_rows}
-use Rattle.partial_agg.specs.Rows.{IsAccepted, block_rows, header_width}
+use Rattle.partial_agg.specs.Rows.{IsAccepted, header_width}
+use Rattle.row_blocks.specs.Blocks.{AreBlocks, Table, block_rows, rows_of_blocks}
 use Rattle.partial_agg.proofs.Blocks.{with_rows-append}
 use Rattle.partial_agg.proofs.Rest.{rest_is_empty}
 use Rattle.ring_rule.specs.Ring.{Sending}
 use Rattle.tuple_codec.specs.Tuple.{tuple_bytes}
-use Rattle.gather_law.specs.Tuples.{AreBlocks, Table, groups_of, rows_of_blocks}
+use Rattle.gather_law.specs.Tuples.{groups_of}
 use Rattle.worker_run.specs.Sent.{AreWritten, HasSentGroups, HasZeros, IsFreshQueue, IsReady, tuples_of}
 use Rattle.worker_run.specs.Working.{IsWorking}
 use Rattle.worker_run.proofs.Sent.{still_ready, written-join}

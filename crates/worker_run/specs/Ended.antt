@@ -9,7 +9,8 @@ use Rattle.par_model.specs.Refuse.{refusal}
 use Rattle.partial_agg.specs.Rows.{IsAccepted, header_width}
 use Rattle.ring_rule.specs.Ring.{Sending}
 use Rattle.scan_claim.specs.Drawing.{is_spent}
-use Rattle.gather_law.specs.Tuples.{AreTuples, IsTupleOf, Table, rows_of_blocks}
+use Rattle.gather_law.specs.Tuples.{AreTuples, IsTupleOf}
+use Rattle.row_blocks.specs.Blocks.{Table, rows_of_blocks}
 use Rattle.worker_run.specs.declared.WorkerEnd.{WorkerEnd}
 use Rattle.worker_run.specs.declared.WorkerEnd.TheVariants.{Finished, Stopped, Refused, NoMemory}
 

@@ -7,11 +7,12 @@ use Rattle.error_queue.specs.Message.{encoding}
 use Rattle.error_queue.specs.declared.ErrorMessage.TheVariants as message
 use Rattle.mq_handle.specs.Messages.{whole_of}
 use Rattle.par_model.specs.Plan.{Plan}
-use Rattle.partial_agg.specs.Rows.{IsAccepted, block_rows, header_width}
+use Rattle.partial_agg.specs.Rows.{IsAccepted, header_width}
+use Rattle.row_blocks.specs.Blocks.{Table, block_rows, rows_of_blocks}
 use Rattle.ring_rule.specs.Ring.{Sending}
 use Rattle.scan_claim.specs.Drawing.{is_spent}
 use Rattle.tuple_codec.specs.Tuple.{IsTuple, tuple_bytes}
-use Rattle.gather_law.specs.Tuples.{Group, IsTupleOf, Table, groups_of, rows_of_blocks}
+use Rattle.gather_law.specs.Tuples.{Group, IsTupleOf, groups_of}
 use Rattle.worker_run.specs.Ended.{Ended, HasEnded, IsNotice, Sends}
 use Rattle.worker_run.specs.Sent.{AreWritten, FoundGone, HasSent, IsReady, tuples_of}
 use Rattle.worker_run.specs.declared.WorkerEnd.{WorkerEnd}

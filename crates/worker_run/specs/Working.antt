@@ -7,7 +7,8 @@ use Rattle.par_model.specs.Plan.{Plan}
 use Rattle.partial_agg.specs.Groups.{GroupsByKey, with_rows}
 use Rattle.partial_agg.specs.Rows.{IsAccepted, header_width}
 use Rattle.ring_rule.specs.Ring.{Sending}
-use Rattle.gather_law.specs.Tuples.{Table, groups_of, rows_of_blocks}
+use Rattle.gather_law.specs.Tuples.{groups_of}
+use Rattle.row_blocks.specs.Blocks.{Table, rows_of_blocks}
 use Rattle.worker_run.specs.Sent.{AreWritten, IsReady, tuples_of}
 
 -- a worker goes on to its next block with fewer groups than this

@@ -15,7 +15,7 @@ ghost use Rattle.par_model.specs.Columns.{HasColumns};
 ghost use Rattle.par_model.specs.Plan.{Plan};
 ghost use Rattle.partial_agg.specs.Rows.{header_width};
 ghost use Rattle.scan_claim.specs.Shown.{Belongs, blocks_of, draws_of, number_of};
-ghost use Rattle.gather_law.specs.Tuples.{AreBlocks};
+ghost use Rattle.row_blocks.specs.Blocks.{AreBlocks};
 ghost use Rattle.plan_spec.specs.Planned.{HasPlan};
 ghost use Rattle.worker_run.specs.Sent.{IsFreshQueue};
 ghost use Rattle.worker_run.specs.Ended.{HasEnded, sends_of};

@@ -8,7 +8,7 @@ ghost use Rattle.agg_table.specs.Tokens.{Grew, IsPart, IsSeat, use_of};
 ghost use Rattle.par_model.specs.Columns.{HasColumns};
 ghost use Rattle.partial_agg.specs.Rows.{header_width};
 ghost use Rattle.scan_claim.specs.Shown.{Belongs, blocks_of, draws_of, number_of};
-ghost use Rattle.gather_law.specs.Tuples.{AreBlocks};
+ghost use Rattle.row_blocks.specs.Blocks.{AreBlocks};
 ghost use Rattle.worker_run.specs.Ended.{sends_of};
 ghost use Rattle.worker_run.specs.Sent.{HasZeros, IsFreshQueue, IsReady};
 ghost use Rattle.worker_run.specs.Steps.{KeepsQueues};

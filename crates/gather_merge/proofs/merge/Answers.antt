@@ -6,7 +6,7 @@ use Rattle.partial_agg.specs.Rows.{IsAccepted, header_width}
 use Rattle.parallel_ctx.specs.Accounts.{heard_of, use_by}
 use Rattle.parallel_ctx.specs.declared.home.Returned.{Returned}
 use Rattle.worker_run.specs.declared.WorkerEnd.{WorkerEnd}
-use Rattle.gather_law.specs.Tuples.{AreBlocks}
+use Rattle.row_blocks.specs.Blocks.{AreBlocks}
 use Rattle.gather_merge.specs.Answers.{IsCause, IsFirstCause, OrdersRows}
 use Rattle.gather_merge.specs.Leading.{HasLed, Led}
 use Rattle.gather_merge.specs.Order.{IsOrder}

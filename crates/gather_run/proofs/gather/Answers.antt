@@ -9,7 +9,7 @@ use Rattle.parallel_ctx.specs.Making.{HasTable}
 use Rattle.parallel_ctx.specs.Ran.{AreWhole}
 use Rattle.parallel_ctx.specs.declared.home.Returned.{Returned}
 use Rattle.worker_run.specs.declared.WorkerEnd.{WorkerEnd}
-use Rattle.gather_law.specs.Tuples.{AreBlocks}
+use Rattle.row_blocks.specs.Blocks.{AreBlocks}
 use Rattle.agg_law.proofs.Gathering.{gathers}
 use Rattle.gather_run.specs.Answers.{AreAllGroups, IsCause, IsFirstCause}
 use Rattle.worker_run.specs.Verdicts.{AreVerdict}

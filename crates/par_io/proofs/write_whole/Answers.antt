@@ -1,7 +1,7 @@
 use Rattle.std.proofs.Common.{rules, ◌≤◌, ◌+◌, length, arith}
 use Rattle.std.proofs.lemmas.List.{length-drop, take_all, take_rest}
 use Rattle.std.proofs.KnownBytes.{Appends-kept, Appends-nil, Appends-trans}
-use Rattle.par_io.proofs.Facts.{take-split}
+use Rattle.std.proofs.Math.Seq.{take-add}
 use Rattle.par_io.proofs.write_whole.Goals as goal
 
 pub pieces-init : goal.pieces-init
@@ -22,7 +22,7 @@ pieces-preserved g c =
     let within : c.pieces.at + c.in-Ok.count ≤ length c.args.bytes.now = search rules in
     record {
       within = within;
-      taken = rw (take-split c.pieces.at c.in-Ok.count c.args.bytes.now) (Appends-trans _ _ _ _ _ c.pieces.invariant.taken (rw (take_rest c.args.bytes.now c.pieces.at) at c.in-Ok.ensures.bytes));
+      taken = rw (take-add c.pieces.at c.in-Ok.count c.args.bytes.now) (Appends-trans _ _ _ _ _ c.pieces.invariant.taken (rw (take_rest c.args.bytes.now c.pieces.at) at c.in-Ok.ensures.bytes));
       kept = omega (arith, cause.kept);
     }
 

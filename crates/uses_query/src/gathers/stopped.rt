@@ -7,9 +7,9 @@ ghost use Rattle.parallel_ctx.specs.Tokens.{AreHere, SameQueues};
 use super::{query, table};
 use crossbeam_utils::Backoff;
 use csv_rows::RowStore;
-use join_pairs::count_blocks;
 use parallel_ctx::{Context, Lead, LeaderEnds, Seats, Shared, Worker, WorkerEnds};
 use region_words::Region;
+use row_blocks::count_blocks;
 use std::alloc::Global;
 use std::sync::Wait;
 use std::sync::atomic::{AtomicBool, Ordering};
@@ -54,7 +54,7 @@ impl<'a> Drop for Held<'a> {
 impl<'a> Worker for Held<'a> {
     ghost use Rattle.par_model.specs.Columns.{HasColumns};
     ghost use Rattle.partial_agg.specs.Rows.{header_width};
-    ghost use Rattle.gather_law.specs.Tuples.{AreBlocks};
+    ghost use Rattle.row_blocks.specs.Blocks.{AreBlocks};
 
     type End = WorkerEnd;
 

@@ -1,6 +1,6 @@
 use Rattle.std.proofs.Common.{◌≡◌, ◌<◌, ◌≤◌, ◌+◌, ◌*◌, ◌++◌, ◌∷◌, [], ◌∙◌, length, arith, sym}
-use Rattle.partial_agg.specs.Rows.{block_rows}
-use Rattle.partial_agg.proofs.Blocks.{length-block}
+use Rattle.row_blocks.specs.Blocks.{block_rows}
+use Rattle.row_blocks.proofs.BlockRows.{length-block}
 use Rattle.gather_merge.proofs.Taking.{taken_all, taken_more}
 use Rattle.gather_merge.proofs.drawing.take_block.Goals as goal
 

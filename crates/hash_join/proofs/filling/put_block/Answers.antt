@@ -1,7 +1,7 @@
 use Rattle.std.proofs.Common.{◌≡◌, ◌<◌, ◌≤◌, ◌+◌, ◌*◌, ◌-◌, ◌++◌, [], ◌∷◌, ℕ, List, length, take, min, arith, ap, sym, subst, ◌∙◌, refl, append_assoc}
-use Rattle.join_pairs.specs.Blocks.{block_numbers}
+use Rattle.row_blocks.specs.Blocks.{block_numbers}
 use Rattle.hash_join.specs.Stores.{DidPut}
-use Rattle.join_pairs.proofs.Numbers.{numbers_end, numbers_next}
+use Rattle.row_blocks.proofs.RowNumbers.{numbers_end, numbers_next}
 use Rattle.hash_join.proofs.filling.put_block.Goals as goal
 
 pub loop-at-preserved : goal.loop-at-preserved

@@ -1,5 +1,5 @@
 use Rattle.std.proofs.Common.{◌≡◌, ◌++◌, ℕ, List, take}
-use Rattle.join_pairs.specs.Blocks.{block_numbers}
+use Rattle.row_blocks.specs.Blocks.{block_numbers}
 use Rattle.hash_join.specs.Stores.{DidPut, Holds, IsSame}
 use Rattle.hash_join.proofs.filling.put_block.Given as goal
 

@@ -1,8 +1,8 @@
 use Rattle.std.proofs.Common.{◌≡◌, ◌++◌, ℕ, List, rules, ap, sym, subst, ◌∙◌}
 use Rattle.scan_claim.specs.Shown.{Belongs, blocks_of, draws_of}
-use Rattle.join_pairs.specs.Blocks.{block_numbers, numbers_of_blocks}
+use Rattle.row_blocks.specs.Blocks.{block_numbers, numbers_of_blocks}
 use Rattle.hash_join.specs.Stores.{DidPut}
-use Rattle.join_pairs.proofs.Numbers.{late_numbers, more_numbers}
+use Rattle.row_blocks.proofs.RowNumbers.{late_numbers, more_numbers}
 use Rattle.hash_join.proofs.filling.put_blocks.Goals as goal
 
 pub loop-preserved : goal.loop-preserved

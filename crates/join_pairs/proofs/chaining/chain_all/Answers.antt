@@ -5,7 +5,7 @@ use Rattle.std.proofs.lemmas.List.{length-map, length-replicate}
 use Rattle.std.proofs.lemmas.List.Elements.{All-weaker}
 use Rattle.csv_rows.specs.Records.{field_of}
 use Rattle.dshash_core.specs.Listing.{pairs_of}
-use Rattle.gather_law.proofs.Gathering.{All-apart}
+use Rattle.row_blocks.proofs.Elements.{All-apart}
 use Rattle.join_pairs.specs.Gathered.{AreApart, AreChains, HasChains, linked}
 use Rattle.join_pairs.specs.Join.{IsRow}
 use Rattle.join_pairs.specs.declared.chains.Link.{Link}

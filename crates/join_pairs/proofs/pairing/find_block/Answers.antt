@@ -1,12 +1,12 @@
 use Rattle.std.proofs.Common.{◌≡◌, ◌<◌, ◌≤◌, ◌+◌, ◌*◌, ◌-◌, ◌++◌, [], ◌∷◌, ℕ, List, length, take, drop, min, arith, ap, sym, subst, ◌∙◌, refl, append-nil}
 use Rattle.std.specs.List.Sorted.{IsPermutation}
 use Rattle.std.proofs.lemmas.List.{take-append-drop}
-use Rattle.join_pairs.specs.Blocks.{block_numbers}
+use Rattle.row_blocks.specs.Blocks.{block_numbers}
 use Rattle.join_pairs.specs.Found.{found_in, found_of}
 use Rattle.join_pairs.specs.Pairing.{StopsAdding}
 use Rattle.join_pairs.specs.declared.pairs.Pair.{Pair}
 use Rattle.join_pairs.proofs.Finding.{more_rows, stops_rows}
-use Rattle.join_pairs.proofs.Numbers.{numbers_end, numbers_next}
+use Rattle.row_blocks.proofs.RowNumbers.{numbers_end, numbers_next}
 use Rattle.join_pairs.proofs.pairing.find_block.Goals as goal
 
 pub loop-at-preserved : goal.loop-at-preserved

@@ -1,8 +1,7 @@
 use Rattle.std.proofs.Common.{◌≤◌, ◌++◌, ℕ, length, take}
 use Rattle.std.specs.List.Sorted.{IsPermutation}
-use Rattle.gather_law.specs.Tuples.{Table}
+use Rattle.row_blocks.specs.Blocks.{Table, block_numbers}
 use Rattle.join_pairs.specs.Join.{most_pairs}
-use Rattle.join_pairs.specs.Blocks.{block_numbers}
 use Rattle.join_pairs.specs.Found.{found_in}
 use Rattle.join_pairs.specs.Gathered.{ChainsAll}
 use Rattle.join_pairs.proofs.pairing.find_block.Given as goal

@@ -1,10 +1,10 @@
 use Rattle.std.proofs.Common.{◌≡◌, ◌++◌, [], ℕ, List, rules, ap, sym, subst, ◌∙◌}
 use Rattle.std.specs.List.Sorted.{IsPermutation}
 use Rattle.scan_claim.specs.Shown.{blocks_of, draws_of}
-use Rattle.join_pairs.specs.Blocks.{block_numbers, numbers_of_blocks}
+use Rattle.row_blocks.specs.Blocks.{block_numbers, numbers_of_blocks}
 use Rattle.join_pairs.specs.Found.{found_in}
 use Rattle.join_pairs.proofs.Finding.{block_stops, more_blocks}
-use Rattle.join_pairs.proofs.Numbers.{late_numbers, more_numbers}
+use Rattle.row_blocks.proofs.RowNumbers.{late_numbers, more_numbers}
 use Rattle.join_pairs.proofs.pairing.find_blocks.Goals as goal
 
 pub loop-preserved : goal.loop-preserved

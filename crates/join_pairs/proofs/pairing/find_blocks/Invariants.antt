@@ -1,9 +1,8 @@
 use Rattle.std.proofs.Common.{◌≡◌, ◌≤◌, ℕ, length}
 use Rattle.std.specs.List.Sorted.{IsPermutation}
 use Rattle.scan_claim.specs.Shown.{Belongs, draws_of, number_of}
-use Rattle.gather_law.specs.Tuples.{Table}
+use Rattle.row_blocks.specs.Blocks.{Table, numbers_of_blocks}
 use Rattle.join_pairs.specs.Join.{most_pairs}
-use Rattle.join_pairs.specs.Blocks.{numbers_of_blocks}
 use Rattle.join_pairs.specs.Found.{found_in}
 use Rattle.join_pairs.specs.Gathered.{ChainsAll}
 use Rattle.join_pairs.proofs.pairing.find_blocks.Given as goal

@@ -3,7 +3,7 @@ use Rattle.std.specs.List.{flat_map}
 use Rattle.std.specs.List.Sorted.{IsPermutation}
 use Rattle.std.proofs.lemmas.List.Elements.{All-map}
 use Rattle.scan_claim.specs.Shown.{AreSeats, blocks_of, lists_of}
-use Rattle.gather_law.specs.Tuples.{AreBlocks}
+use Rattle.row_blocks.specs.Blocks.{AreBlocks}
 use Rattle.join_pairs.specs.Join.{most_pairs}
 use Rattle.join_pairs.specs.Pairing.{IsReason}
 use Rattle.join_pairs.specs.declared.pairing.Finder.{Finder}

@@ -1,7 +1,7 @@
 use Rattle.std.proofs.Common.{ℕ, take}
 use Rattle.std.specs.Io.KnownBytes.{Appends}
 use Rattle.std.proofs.lemmas.Result.{err_from_is_err_and}
-use Rattle.gather_law.specs.Tuples.{Table}
+use Rattle.row_blocks.specs.Blocks.{Table}
 use Rattle.par_model.specs.Table.{table_text}
 use Rattle.join_query.specs.Words.{asked_by}
 use Rattle.join_query.proofs.Joins.{explained_rows, joined_by, joined_part_is, joined_records_are, joined_writable}

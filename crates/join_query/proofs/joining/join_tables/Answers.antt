@@ -1,6 +1,6 @@
 use Rattle.std.proofs.Common.{◌≡◌, ◌⊎◌, [], ℕ, List, Option, None, Some, IfSome, refl, subst}
 use Rattle.std.specs.Io.KnownBytes.{Appends}
-use Rattle.gather_law.specs.Tuples.{Table}
+use Rattle.row_blocks.specs.Blocks.{Table}
 use Rattle.par_model.specs.Table.{table_text}
 use Rattle.query_answer.specs.Lines.{line}
 use Rattle.query_answer.specs.declared.status.TheConstants.{NO_MEMORY, TABLE}

@@ -3,7 +3,8 @@ use Rattle.std.proofs.lemmas.Grind.{div_ceil_times}
 use Rattle.std.proofs.lemmas.List.{take_all}
 use Rattle.std.proofs.lemmas.List.Elements.{All-append, All-nil, All-same}
 use Rattle.partial_agg.specs.Groups.{AreGroups}
-use Rattle.partial_agg.specs.Rows.{IsAccepted, block_rows, header_width}
+use Rattle.partial_agg.specs.Rows.{IsAccepted, header_width}
+use Rattle.row_blocks.specs.Blocks.{block_rows}
 use Rattle.plan_answers.proofs.Blocks.{NamesRefused-stopped, block_more}
 use Rattle.table_query.proofs.Refusals.{refused_in-none}
 use Rattle.plan_answers.proofs.groups.groups_of.Goals as goal

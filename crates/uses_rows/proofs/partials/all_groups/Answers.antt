@@ -4,8 +4,9 @@ use Rattle.std.proofs.lemmas.List.{take_all}
 use Rattle.std.proofs.lemmas.List.Elements.{All-append, All-nil, All-same}
 use Rattle.partial_agg.specs.Blocks.{Explains}
 use Rattle.partial_agg.specs.Groups.{AreGroups}
-use Rattle.partial_agg.specs.Rows.{IsAccepted, block_rows, header_width}
-use Rattle.partial_agg.proofs.Blocks.{length-block, rows_before-next, rows_before-place}
+use Rattle.partial_agg.specs.Rows.{IsAccepted, header_width}
+use Rattle.row_blocks.specs.Blocks.{block_rows}
+use Rattle.row_blocks.proofs.BlockRows.{length-block, rows_before-next, rows_before-place}
 use Rattle.uses_rows.proofs.partials.all_groups.Goals as goal
 
 pub add_block-requires-clause-block : goal.add_block-requires-clause-block

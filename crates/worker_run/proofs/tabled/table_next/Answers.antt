@@ -3,7 +3,7 @@ use Rattle.std.specs.FinMap as map
 use Rattle.std.specs.List.{AllByRecursion}
 use Rattle.agg_table.specs.Tokens.{use_of}
 use Rattle.partial_agg.specs.Groups.{GroupsByKey, with_rows}
-use Rattle.partial_agg.specs.Rows.{block_rows}
+use Rattle.row_blocks.specs.Blocks.{block_rows}
 use Rattle.partial_agg.proofs.Rest.{rest_is_empty}
 use Rattle.gather_law.specs.Tuples.{Group, groups_of}
 use Rattle.scan_claim.specs.Shown.{blocks_of, draws_of}

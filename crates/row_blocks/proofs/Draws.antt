@@ -1,13 +1,8 @@
--- Numbers that were drawn, each once, are those below the number of draws in another order; so their rows are all rows.
-use Rattle.std.proofs.Common.{◌≡◌, ◌≢◌, ◌<◌, ◌≤◌, ◌+◌, ◌*◌, ◌++◌, ◌==◌, ℕ, zero, suc, if◌then◌else◌, Bool, true, false, List, [], ◌∷◌, length, take, drop, refl, ap, sym, subst, ◌∙◌, arith, length-drop, take-append-drop}
+-- Numbers that were drawn, each once, are those below the number of draws in another order.
+use Rattle.std.proofs.Common.{◌≡◌, ◌<◌, ◌+◌, ◌++◌, ◌==◌, ℕ, zero, suc, if◌then◌else◌, Bool, true, false, List, [], ◌∷◌, refl, ap, sym, subst, ◌∙◌, arith}
 use Rattle.std.specs.List.Sorted.{IsPermutation}
-use Rattle.std.proofs.lemmas.List.{append-nil, drop-drop, drop-take, take-take, take_all}
-use Rattle.std.proofs.lemmas.List.Concat.{flat_map-append}
 use Rattle.std.proofs.lemmas.List.Sorted.{IsPermutation-refl, IsPermutation-sym, IsPermutation-trans, IsPermutation-cons, IsPermutation-to_front, IsPermutation-middle}
 use Rattle.scan_claim.specs.Drawing.{times, once_below, below}
-use Rattle.partial_agg.specs.Rows.{block_rows}
-use Rattle.partial_agg.proofs.Blocks.{rows_before-next}
-use Rattle.gather_law.specs.Tuples.{Table, rows_of_blocks}
 
 -- a number taken out of a list that has it
 record Without (x : ℕ) (xs : List ℕ) : Type 0 where
@@ -52,26 +47,3 @@ drawn_are_below (suc n) xs h =
     IsPermutation-trans xs (n ∷ w.rest) (below n ++ n ∷ []) w.same
     (IsPermutation-trans (n ∷ w.rest) (n ∷ below n) (below n ++ n ∷ []) (IsPermutation-cons n w.rest (below n) rest)
     (IsPermutation-sym (below n ++ n ∷ []) (n ∷ below n) (IsPermutation-to_front (below n) n)))
-
--- the rows of the blocks below a number are the first rows
-pub rows_below : (records : Table) (n : ℕ) → rows_of_blocks records (below n) ≡ take (256 * n) (drop 1 records)
-rows_below records zero = refl
-rows_below records (suc n) =
-    flat_map-append (block_rows records) (below n) (n ∷ []) ∙ ap (λ (l : Table). l ++ (block_rows records n ++ [])) (rows_below records n)
-    ∙ ap (λ (l : Table). take (256 * n) (drop 1 records) ++ l) (append-nil (block_rows records n))
-    ∙ sym (rows_before-next records n) ∙ ap (λ m. take m (drop 1 records)) (let e : 256 * (n + 1) ≡ 256 * suc n = omega arith in e)
-
-pub rows_all : (records : Table) (n : ℕ) → length records ≤ 256 * n + 1 → rows_of_blocks records (below n) ≡ drop 1 records
-rows_all records n h = rows_below records n ∙ take_all (256 * n) (drop 1 records) (omega (arith, length-drop 1 records, h))
-
--- ---- rows before a place
-
--- a front, and what comes next
-pub take_on : {X : Type 0} (n m : ℕ) (xs : List X) → take n xs ++ take m (drop n xs) ≡ take (n + m) xs
-take_on n m xs = cc (take-take n (n + m) xs (omega arith), drop-take n m xs, take-append-drop n (take (n + m) xs))
-
--- the rows of a block, among the rows without the header
-pub block_of : (records : Table) (block : ℕ) → block_rows records block ≡ take 256 (drop (256 * block) (drop 1 records))
-block_of records block =
-    let same : 256 * block + 1 ≡ 1 + 256 * block = omega arith in
-    cc (same, drop-drop (256 * block) 1 records)

@@ -3,14 +3,13 @@ use Rattle.std.proofs.Common.{◌≡◌, ◌<◌, ◌≤◌, ◌+◌, ◌*◌, �
 use Rattle.std.specs.List.{flat_map}
 use Rattle.std.specs.List.Sorted.{IsPermutation}
 use Rattle.std.proofs.lemmas.Bool.{cases_lt}
-use Rattle.std.proofs.lemmas.List.{drop-drop, drop_all, get_or-drop, get_or-take, get_or_append_left, get_or_push, take_all, take_more}
+use Rattle.std.proofs.lemmas.List.{drop_all, get_or-drop, get_or-take, get_or_append_left, get_or_push, take_all, take_more}
 use Rattle.std.proofs.lemmas.List.Concat.{flat_map-append}
 use Rattle.scan_claim.specs.Drawing.{below, flat, once_below, times}
-use Rattle.gather_law.proofs.Draws.{drawn_are_below, take_on}
-use Rattle.gather_law.proofs.Permute.{flat_map-permutation}
-use Rattle.gather_law.specs.Tuples.{AreBlocks, Table}
-use Rattle.join_pairs.specs.Blocks.{block_numbers, numbers_of_blocks}
-use Rattle.join_pairs.specs.Join.{numbers_of}
+use Rattle.row_blocks.specs.Blocks.{AreBlocks, Table, block_numbers, numbers_of, numbers_of_blocks}
+use Rattle.row_blocks.proofs.BlockRows.{cut_below}
+use Rattle.row_blocks.proofs.Draws.{drawn_are_below}
+use Rattle.row_blocks.proofs.Permute.{flat_map-permutation}
 
 pub length-below : (n : ℕ) → length (below n) ≡ n
 length-below zero = refl
@@ -34,7 +33,7 @@ module _ (records : Table) (block : ℕ) where
       length-take 256 (drop (256 * block + 1) (below (length records)))
       ∙ ap (min 256) (length-drop (256 * block + 1) (below (length records)) ∙ ap (λ (n : ℕ). n - (256 * block + 1)) (length-below (length records)))
 
-  number_at : (at : ℕ) → at < 256 → 256 * block + 1 + at < length records → get_or (block_numbers records block) at 0 ≡ 256 * block + 1 + at
+  pub number_at : (at : ℕ) → at < 256 → 256 * block + 1 + at < length records → get_or (block_numbers records block) at 0 ≡ 256 * block + 1 + at
   number_at at small there =
       get_or-take 256 (drop (256 * block + 1) (below (length records))) at 0 small ∙ get_or-drop (256 * block + 1) (below (length records)) at 0
       ∙ at_below (length records) (256 * block + 1 + at) there
@@ -64,22 +63,8 @@ module _ (records : Table) where
   late_numbers blocks draws draws' a (inr p) =
       ap (numbers_of_blocks records) p.2 ∙ more_numbers draws p.0 ∙ ap (λ (l : List ℕ). numbers_of_blocks records draws ++ l) (no_numbers blocks p.0 a p.1) ∙ append-nil (numbers_of_blocks records draws)
 
--- the block of a list at 256 places from 256b + 1 on
-abbrev pub block_of : {X : Type 0} → List X → ℕ → List X
-block_of xs b = take 256 (drop (256 * b + 1) xs)
-
-pub cut_below : {X : Type 0} (xs : List X) (n : ℕ) → flat_map (block_of xs) (below n) ≡ take (256 * n) (drop 1 xs)
-cut_below xs zero = refl
-cut_below {X = X} xs (suc n) =
-    let from : drop (256 * n) (drop 1 xs) ≡ drop (256 * n + 1) xs = drop-drop (256 * n) 1 xs ∙ ap (λ (m : ℕ). drop m xs) (omega arith) in
-    let next : 256 * n + 256 ≡ 256 * suc n = omega arith in
-    flat_map-append (block_of xs) (below n) (n ∷ []) ∙ ap (λ (l : List X). l ++ (block_of xs n ++ [])) (cut_below xs n)
-    ∙ ap (λ (l : List X). take (256 * n) (drop 1 xs) ++ l) (append-nil (block_of xs n))
-    ∙ ap (λ (l : List X). take (256 * n) (drop 1 xs) ++ take 256 l) (sym from)
-    ∙ take_on (256 * n) 256 (drop 1 xs) ∙ ap (λ (m : ℕ). take m (drop 1 xs)) next
-
 -- so many blocks that they cover the rows have all numbers
-numbers_all : (records : Table) (n : ℕ) → length records ≤ 256 * n + 1 → numbers_of_blocks records (below n) ≡ numbers_of records
+pub numbers_all : (records : Table) (n : ℕ) → length records ≤ 256 * n + 1 → numbers_of_blocks records (below n) ≡ numbers_of records
 numbers_all records n h =
     let all = below (length records) in
     cut_below all n ∙ take_all (256 * n) (drop 1 all) (omega (arith, length-drop 1 all, length-below (length records), h))

@@ -1,6 +1,6 @@
 use Rattle.std.proofs.Common.{arith}
-use Rattle.csv_rows.proofs.Filled.{filled-more}
-use Rattle.csv_rows.proofs.input.read_all.Goals as goal
+use Rattle.par_io.proofs.Facts.{filled-more}
+use Rattle.par_io.proofs.whole.read_whole.Goals as goal
 
 pub reads-preserved : goal.reads-preserved
 reads-preserved g c =

@@ -1,12 +1,24 @@
 -- Lists that go along with a permutation: what is paired with each element, and what the elements are one after the
 -- other.
-use Rattle.std.proofs.Common.{◌≡◌, ◌<◌, ◌++◌, ℕ, zero, suc, List, [], ◌∷◌, length, set, get_or, refl, ap, subst, ◌∙◌, arith, append_assoc}
+use Rattle.std.proofs.Common.{◌≡◌, ◌<◌, ◌++◌, ℕ, zero, suc, List, [], ◌∷◌, length, set, get_or, refl, ap, sym, subst, arith, append_assoc}
 use Rattle.std.specs.List.{AllZip, flat_map, swap}
 use Rattle.std.specs.List.Sorted.{IsPermutation}
-use Rattle.std.proofs.lemmas.List.Sorted.{IsPermutation-keeps, IsPermutation-refl, IsPermutation-sym, IsPermutation-trans, IsPermutation-append_left, IsPermutation-append_right, IsPermutation-append_comm}
+use Rattle.std.proofs.lemmas.List.Sorted.{IsPermutation-keeps, IsPermutation-refl, IsPermutation-sym, IsPermutation-trans, IsPermutation-append_left, IsPermutation-append_right, IsPermutation-append_comm, IsPermutation-middle, IsPermutation-to_front}
 
 pub same-permutation : {X : Type 0} (xs ys zs : List X) → ys ≡ zs → IsPermutation xs ys → IsPermutation xs zs
 same-permutation xs ys zs e h = subst (IsPermutation xs) e h
+
+-- one more among the first, or among the second of two lists
+pub more_first : {X : Type 0} (ks ms ss : List X) (x : X) → IsPermutation ks (ms ++ ss) → IsPermutation (ks ++ x ∷ []) ((ms ++ x ∷ []) ++ ss)
+more_first ks ms ss x h =
+    subst (IsPermutation (ks ++ x ∷ [])) (sym (append_assoc ms (x ∷ []) ss))
+    (IsPermutation-trans (ks ++ x ∷ []) ((ms ++ ss) ++ x ∷ []) (ms ++ x ∷ ss) (IsPermutation-append_left (x ∷ []) ks (ms ++ ss) h)
+    (IsPermutation-trans ((ms ++ ss) ++ x ∷ []) (x ∷ (ms ++ ss)) (ms ++ x ∷ ss) (IsPermutation-to_front (ms ++ ss) x)
+    (IsPermutation-sym (ms ++ x ∷ ss) (x ∷ (ms ++ ss)) (IsPermutation-middle ms x ss))))
+
+pub more_second : {X : Type 0} (ks ms ss : List X) (x : X) → IsPermutation ks (ms ++ ss) → IsPermutation (ks ++ x ∷ []) (ms ++ (ss ++ x ∷ []))
+more_second ks ms ss x h =
+    subst (IsPermutation (ks ++ x ∷ [])) (append_assoc ms ss (x ∷ [])) (IsPermutation-append_left (x ∷ []) ks (ms ++ ss) h)
 
 -- ---- pairs
 

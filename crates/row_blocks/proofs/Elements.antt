@@ -1,5 +1,12 @@
--- Some element of a list, by its front.
-use Rattle.std.proofs.Common.{◌≡◌, ◌<◌, ◌⊎◌, ◌++◌, inl, inr, ℕ, zero, suc, List, [], ◌∷◌, Any, length, slice_index_or, refl, sym, subst, arith}
+-- All elements of a list that has two parts, and some element of a list by its front.
+use Rattle.std.proofs.Common.{◌≡◌, ◌<◌, ◌++◌, ◌⊎◌, inl, inr, ℕ, zero, suc, List, [], ◌∷◌, All, Any, length, slice_index_or, refl, sym, subst, arith}
+use Rattle.std.proofs.lemmas.List.Elements.{All-cons, All-head, All-nil, All-tail}
+
+pub All-apart : {X : Type 0} (P : X → Type 0) (xs ys : List X) → All P (xs ++ ys) → All P xs × All P ys
+All-apart P [] ys h = (All-nil P, h)
+All-apart P (x ∷ xs) ys h =
+    let more = All-apart P xs ys (All-tail P x (xs ++ ys) h) in
+    (All-cons P x xs (All-head P x (xs ++ ys) h) more.0, more.1)
 
 module _ {A : Type 0} (P : A → Type 0) where
   pub any_none : Any P [] → ⊥
@@ -29,3 +36,6 @@ module _ {A : Type 0} (P : A → Type 0) where
   pub any_right : (xs ys : List A) → Any P ys → Any P (xs ++ ys)
   any_right [] ys a = a
   any_right (x ∷ xs) ys a = any_tail x (xs ++ ys) (any_right xs ys a)
+
+  pub any_more : (xs : List A) (y : A) → Any P xs → Any P (xs ++ y ∷ [])
+  any_more xs y a = any_left xs (y ∷ []) a
