@@ -1,12 +1,12 @@
 -- Keys whose columns have the same lengths compare as their columns do.
-use Rattle.std.proofs.Common.{◌≡◌, ◌<◌, ◌≤◌, ◌+◌, ◌-◌, ◌++◌, ◌∷◌, ◌∙◌, [], ap, sym, refl, subst, arith, false, ℕ, zero, suc, List, All, length, get_or, map}
-use Rattle.std.proofs.lemmas.List.Elements.{All-head, All-tail}
+use Rattle.std.proofs.Common.{◌≡◌, ◌<◌, ◌≤◌, ◌+◌, ◌-◌, ◌++◌, ◌∷◌, ◌∙◌, [], ap, sym, refl, arith, false, true, ℕ, zero, suc, List, All, length, map, take}
+use Rattle.std.proofs.lemmas.List.Elements.{All-same}
+use Rattle.std.proofs.lemmas.List.{take_all}
 use Rattle.std.specs.Cmp.Lexicographic.{nat_list_cmp_total, slice_cmp}
-use Rattle.std.specs.Cmp.{nat_cmp_total}
+use Rattle.std.specs.Cmp.{eq_by_cmp_equiv, nat_cmp_total}
 use Rattle.std.specs.Int.{to_le_bytes, w32}
-use Rattle.std.specs.List.{AllByRecursion}
 use Rattle.std.specs.List.Sorted.{IsSortedBy, IsStrictlySortedBy}
-use Rattle.std.specs.Ordering.{is_lt, nat_cmp, ordering_reverse, ordering_then}
+use Rattle.std.specs.Ordering.{is_eq, is_lt, nat_cmp, ordering_reverse, ordering_then}
 use Rattle.std.specs.declared.cmp.Ordering.{Ordering}
 use Rattle.std.specs.declared.cmp.Ordering.TheVariants.{Equal, Greater, Less}
 use Rattle.par_model.specs.Key.{encoded}
@@ -24,10 +24,18 @@ then_associates Less p q = refl
 then_associates Equal p q = refl
 then_associates Greater p q = refl
 
+same_byte : (n : ℕ) → nat_cmp n n ≡ Equal
+same_byte n = is_equal (nat_cmp n n) ((eq_by_cmp_equiv nat_cmp_total).refl n)
+  where
+    is_equal : (o : Ordering) → is_eq o ≡ true → o ≡ Equal
+    is_equal Less e = cc
+    is_equal Equal e = refl
+    is_equal Greater e = cc
+
 -- what both begin with decides nothing
 same_front : (front a b : List ℕ) → key_cmp (front ++ a) (front ++ b) ≡ key_cmp a b
 same_front [] a b = refl
-same_front (x ∷ front) a b = rw (nat_cmp_total.refl x) (same_front front a b)
+same_front (x ∷ front) a b = rw (same_byte x) (same_front front a b)
 
 -- fronts of one length decide first
 fronts_first : (x y a b : List ℕ) → length x ≡ length y → key_cmp (x ++ a) (y ++ b) ≡ ordering_then (key_cmp x y) (key_cmp a b)
@@ -87,3 +95,12 @@ in_order count groups (a ∷ b ∷ refs) lengths rise read alike zero d le lt =
 in_order count groups (a ∷ b ∷ refs) lengths rise read alike (suc k) d le lt =
     let step : suc k + 1 ≡ suc (k + 1) = omega arith in
     rw step (in_order count groups (b ∷ refs) lengths rise.1 (λ i d lt. read (suc i) d (omega arith)) (λ i d lt. alike (suc i) d (omega arith)) k d (omega arith) (omega arith))
+
+-- what holds of all keys up to the last
+pub all_alike : (count : ℕ) (refs : List GroupRef) (lengths : List ℕ) (n : ℕ) → length refs ≤ n → All (λ (r : GroupRef). lengths_in count r.key.now ≡ lengths) (take n refs) → (lengths : List ℕ) × All (λ (r : GroupRef). lengths_in count r.key.now ≡ lengths) refs
+all_alike count refs lengths n all alike = (lengths, All-same (λ (r : GroupRef). lengths_in count r.key.now ≡ lengths) refs (take n refs) (sym (take_all n refs all)) alike)
+
+-- the keys of groups as they lie
+pub keys-refs : (groups : List Group) (refs : List GroupRef) → map (λ (g : Group). g.key) (map (group_of groups) refs) ≡ map (λ (r : GroupRef). r.key.now) refs
+keys-refs groups [] = refl
+keys-refs groups (r ∷ refs) = ap (λ (ks : List (List ℕ)). r.key.now ∷ ks) (keys-refs groups refs)

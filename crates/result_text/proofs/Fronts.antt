@@ -1,5 +1,5 @@
 -- The values of a group are told by the first slots of its state, as many as there are aggregates.
-use Rattle.std.proofs.Common.{◌≡◌, ◌≤◌, ◌++◌, ◌∷◌, [], ap, refl, sym, subst, arith, ℕ, zero, suc, List, All, drop, length, map, take}
+use Rattle.std.proofs.Common.{◌≡◌, ◌≤◌, ◌++◌, ◌∷◌, [], refl, sym, subst, arith, ℕ, zero, suc, List, All, drop, length, map, take}
 use Rattle.std.proofs.lemmas.List.{take-append-drop}
 use Rattle.std.proofs.lemmas.List.Elements.{All-append, All-drop, All-same, All-take}
 use Rattle.std.specs.List.{zip}

@@ -15,7 +15,7 @@ size_within : (n : ℕ) (z : ℤ) → IsWithin n z → unsigned_abs z ≤ 2 ^ 63
 size_within n (pos k) w = omega (arith, ints, w.high)
 size_within n (negsuc k) w = omega (arith, ints, w.low)
 
-none_small : IsSmallSlot no_values
+pub none_small : IsSmallSlot no_values
 none_small = record { count = omega arith; sum = omega arith }
 
 numbers_small : (column : ℕ) (rows : List (List (List ℕ))) → length rows ≤ 2 ^ 50 → IsSmallSlot (number_slot (values_of column rows) (filter_map integer_of (values_of column rows)))
