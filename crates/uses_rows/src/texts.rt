@@ -99,8 +99,12 @@ fn table(alloc: Global, words: &str, input: &str) -> Option<Vec<u8>> {
 }
 
 /// The text of the counts of all names over any number of rows, by so many threads.
-fn table_in_threads(rt: &HostRuntime, input: &[u8], threads: usize) -> Option<Vec<u8>> {
-    let alloc = rt.alloc();
+fn table_in_threads<R: Threads + Sync>(
+    rt: &R,
+    alloc: Global,
+    input: &[u8],
+    threads: usize,
+) -> Option<Vec<u8>> {
     let store = rows(alloc, input).ok()?;
     let list = owned(alloc, "--group k --agg count,sum:v").ok()?;
     let plan = Plan::of_words(alloc, list.as_slice()).ok()?;
@@ -216,7 +220,7 @@ fn many_rows(alloc: Global, count: u32, several: bool) -> Result<Vec<u8>, AllocE
 
 /// Whether a text has a line of a header and so many lines whose first six bytes rise.
 fn rises(text: &[u8], count: usize) -> bool {
-    let mut lines = 0;
+    let mut lines: usize = 0;
     let mut last: &[u8] = b"";
     for line in text.split(|byte| *byte == b'\n') {
         if lines > 0 && lines <= count {
@@ -226,22 +230,20 @@ fn rises(text: &[u8], count: usize) -> bool {
             }
             last = name;
         }
-        lines += 1;
+        lines = lines.saturating_add(1);
     }
-    lines == count + 2
+    lines == count.saturating_add(2)
 }
 
-/// The pieces of several threads are the text of one, whether the columns have one length or not.
+/// The pieces of three threads are the text of one, whether the columns have one length or not.
 #[test]
 fn texts_of_threads(rt: HostRuntime) -> Result<(), Fail> {
     for several in [false, true] {
-        let input = many_rows(rt.alloc(), 9000, several)?;
-        let text = table_in_threads(&rt, input.as_slice(), 1).ok_or("no table")?;
-        assert!(rt; rises(text.as_slice(), 9000));
-        for threads in [2, 3, 4] {
-            let other = table_in_threads(&rt, input.as_slice(), threads).ok_or("no table")?;
-            assert!(rt; other.as_slice() == text.as_slice(), "{threads} threads");
-        }
+        let input = many_rows(rt.alloc(), 6200, several)?;
+        let text = table_in_threads(&rt, rt.alloc(), input.as_slice(), 1).ok_or("no table")?;
+        assert!(rt; rises(text.as_slice(), 6200));
+        let other = table_in_threads(&rt, rt.alloc(), input.as_slice(), 3).ok_or("no table")?;
+        assert!(rt; other.as_slice() == text.as_slice());
     }
     Ok(())
 }
