@@ -55,7 +55,9 @@ fn counted<R: Threads + Wait + Sync>(
     for word in ["--group", "g", "--agg", "sum:v"] {
         words.push(String::from_str(alloc, word)?)?;
     }
-    let plan = Plan::of_words(alloc, words.as_slice()).ok().ok_or("a plan")?;
+    let plan = Plan::of_words(alloc, words.as_slice())
+        .ok()
+        .ok_or("a plan")?;
     let store = rows(alloc, text).ok().ok_or("a store")?;
     // Tells that there are few rows. It does nothing.
     let _count = store.count();
