@@ -1,12 +1,9 @@
 -- Each token in its place is one that the party might bring, or that might be given to it; and what one turn tells of
 -- the tokens, of the phase and of where the party stands.
-use Rattle.std.proofs.Common.{◌≡◌, ◌≢◌, ℕ, ◌<◌, ◌==◌, Bool, true, false, cond, List, [], ◌∷◌, ◌++◌, length, map, set, refl, sym, ap, ◌∙◌, subst, arith, length-append, eq-eqb}
+use Rattle.std.proofs.Common.{◌≡◌, ℕ, ◌<◌, Bool, true, false, List, [], ◌∷◌, ◌++◌, length, refl, sym, ap, ◌∙◌, subst, arith, length-append}
 use Rattle.std.specs.Prelude.{Option, Some, None, slice_set}
 use native.Mathlib.Decide.{ℕ_discrete}
 use mathlib.Core.Logic.{dite}
-use mathlib.Core.Option.{some}
-use lib.ListN.{get_elem?}
-use Rattle.lock_book.specs.declared.view.Entry.{Entry}
 use Rattle.lock_book.specs.History.{calls_by, entry, last_of, IsLegal}
 use Rattle.lock_book.specs.Told.{Makes}
 use Rattle.lock_book.proofs.Histories.{calls_by_mine}
@@ -17,10 +14,10 @@ use Rattle.par_exchange.specs.declared.history.ExchangeCall.TheVariants.{Bring, 
 use Rattle.par_exchange.specs.declared.history.ExchangeReply.{ExchangeReply}
 use Rattle.par_exchange.specs.declared.history.ExchangeReply.TheVariants.{Waiting, Collected, Given, Taken, Nothing, Refused}
 use Rattle.par_exchange.specs.declared.history.PartyStage.{PartyStage}
-use Rattle.par_exchange.specs.declared.history.PartyStage.TheVariants.{Free, Waits, Elected}
+use Rattle.par_exchange.specs.declared.history.PartyStage.TheVariants.{Free, Elected}
 use Rattle.par_exchange.specs.declared.history.ExchangeName.{ExchangeName}
-use Rattle.par_exchange.specs.States.{TokensView, all_of, at, cleared, fresh, is_busy, is_elected}
-use Rattle.par_exchange.specs.Legal.{Brings, CallFits, Each, ExchangeLegal, MayCall}
+use Rattle.par_exchange.specs.States.{TokensView, all_of, at, fresh, is_busy, is_elected}
+use Rattle.par_exchange.specs.Legal.{Brings, Each, ExchangeLegal, MayCall}
 use Rattle.par_exchange.specs.Phases.{HasCollected, HasTaken, IsHandedOut, IsHistory, Step, stage_after, stage_from, this_phase}
 use Rattle.par_exchange.specs.Turns.{Turned}
 use Rattle.par_exchange.proofs.PlaceLaws.{all_row, at_cleared, at_fresh, at_other, at_row, at_same, at_within, row_at, some-none}

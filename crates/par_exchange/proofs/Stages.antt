@@ -1,22 +1,21 @@
 -- Where a party stands by its own calls is where it stands in the state, whatever the others do.
-use Rattle.std.proofs.Common.{◌≡◌, ◌≢◌, ℕ, ◌<◌, ◌==◌, Bool, true, false, cond, List, [], ◌∷◌, ◌++◌, length, set, refl, sym, ap, ◌∙◌, subst, arith, eq-eqb, eqb-true, ne_eqb}
+use Rattle.std.proofs.Common.{◌≡◌, ◌≢◌, ℕ, ◌<◌, Bool, true, false, cond, List, [], ◌∷◌, ◌++◌, refl, sym, ap, ◌∙◌, subst, arith, eq-eqb, eqb-true, ne_eqb}
 use Rattle.std.specs.Prelude.{Option, Some, None, is_some, slice_set}
 use Rattle.std.proofs.lemmas.List.{length-set}
 use native.Mathlib.Decide.{ℕ_discrete}
 use mathlib.Core.Logic.{dite}
-use Rattle.lock_book.specs.History.{calls_by, entry, last_of, IsLegal}
+use Rattle.lock_book.specs.History.{calls_by, last_of, IsLegal}
 use Rattle.par_exchange.specs.declared.history.ExchangeState.{ExchangeState}
 use Rattle.par_exchange.specs.declared.history.ExchangeCall.{ExchangeCall}
 use Rattle.par_exchange.specs.declared.history.ExchangeCall.TheVariants.{Bring, Give, Take}
 use Rattle.par_exchange.specs.declared.history.ExchangeReply.{ExchangeReply}
-use Rattle.par_exchange.specs.declared.history.ExchangeReply.TheVariants.{Waiting, Collected, Given, Taken, Nothing, Refused}
 use Rattle.par_exchange.specs.declared.history.PartyStage.{PartyStage}
 use Rattle.par_exchange.specs.declared.history.PartyStage.TheVariants.{Free, Waits, Elected}
 use Rattle.par_exchange.specs.States.{all_of, at, fresh, is_busy, is_elected}
 use Rattle.par_exchange.specs.Legal.{ExchangeLegal}
 use Rattle.par_exchange.specs.Phases.{Step, is_end, stage_after, stage_from}
 use Rattle.par_exchange.proofs.PlaceLaws.{at_fresh, at_other, at_same, at_within, none_all, some-none}
-use Rattle.par_exchange.proofs.Tracks.{IsFreeAt, Tracks, busy_not, elected_some, free_at, tracks, tracks_fresh}
+use Rattle.par_exchange.proofs.Tracks.{Tracks, busy_not, elected_some, free_at, tracks, tracks_fresh}
 
 -- the party n stands there in the state s
 abbrev pub StandsAt : {T : Type 0} → ℕ → ExchangeState T → PartyStage → Type 0

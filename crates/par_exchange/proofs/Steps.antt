@@ -1,13 +1,12 @@
 -- Each way through a call of the tokens is what the call may be answered and do. `is` says what contracts see of the
 -- fields.
-use Rattle.std.proofs.Common.{◌≡◌, ◌∙◌, ℕ, zero, suc, ◌+◌, ◌<◌, Bool, true, false, List, [], ◌∷◌, ◌++◌, length, map, set, take, drop, refl, sym, ap, subst, arith}
+use Rattle.std.proofs.Common.{◌≡◌, ◌∙◌, ℕ, zero, suc, ◌<◌, true, false, List, [], ◌∷◌, ◌++◌, length, set, take, drop, refl, sym, ap, subst, arith}
 use Rattle.std.specs.Prelude.{Option, Some, None, is_none, slice_set}
 use Rattle.std.specs.List.{list_any}
 use Rattle.std.proofs.Math.Seq.{take-append_seam}
-use Rattle.std.proofs.lemmas.List.{length-map, length-set}
 use Rattle.par_exchange.specs.declared.history.ExchangeState.{ExchangeState}
 use Rattle.par_exchange.specs.declared.history.ExchangeReply.TheVariants.{Waiting, Collected}
-use Rattle.par_exchange.specs.States.{TokensView, all_of, at, cleared, is_busy}
+use Rattle.par_exchange.specs.States.{TokensView, all_of, cleared, is_busy}
 use Rattle.par_exchange.specs.Legal.{Brings}
 use Rattle.par_exchange.proofs.PlaceLaws.{any_none}
 

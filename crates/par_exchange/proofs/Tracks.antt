@@ -1,11 +1,9 @@
 -- What the calls of a phase have brought, given and taken is what stands in the places of the state after them.
-use Rattle.std.proofs.Common.{◌≡◌, ◌≢◌, ◌⊎◌, inl, inr, ℕ, zero, suc, ◌+◌, ◌<◌, ◌≤◌, ◌==◌, Bool, true, false, cond, ◌||◌, List, [], ◌∷◌, ◌++◌, length, map, set, replicate, refl, sym, ap, ◌∙◌, subst, arith, append_assoc, append-nil, length-append, eq-eqb, ne_eqb, eqb-true}
+use Rattle.std.proofs.Common.{◌≡◌, ◌≢◌, ℕ, ◌<◌, ◌≤◌, ◌==◌, Bool, true, false, cond, ◌||◌, List, [], ◌∷◌, ◌++◌, length, map, refl, sym, ap, ◌∙◌, subst, arith, append_assoc, append-nil, length-append, eq-eqb, ne_eqb}
 use Rattle.std.specs.Prelude.{Option, Some, None, is_some, slice_set}
 use Rattle.std.proofs.lemmas.List.{length-map, length-set, length-replicate}
 use native.Mathlib.Decide.{ℕ_discrete}
 use mathlib.Core.Logic.{dite}
-use mathlib.Core.Option.{some}
-use lib.ListN.{get_elem?}
 use Rattle.lock_book.specs.History.{entry, last_of, IsLegal}
 use Rattle.lock_book.proofs.Uses.{legal_back, legal_front}
 use Rattle.par_exchange.specs.declared.history.ExchangeState.{ExchangeState}
@@ -15,7 +13,7 @@ use Rattle.par_exchange.specs.declared.history.ExchangeReply.{ExchangeReply}
 use Rattle.par_exchange.specs.declared.history.ExchangeReply.TheVariants.{Waiting, Collected, Given, Taken, Nothing, Refused}
 use Rattle.par_exchange.specs.States.{all_of, at, cleared, fresh, is_busy, is_elected}
 use Rattle.par_exchange.specs.Legal.{Brings, ExchangeLegal, Gives, Takes}
-use Rattle.par_exchange.specs.Phases.{GathersEach, GivesEach, IsCollected, IsHandedOut, IsHistory, Step, brought_by, brought_of, given_in, given_of, is_end, is_refused, taken_by, taken_of, this_phase}
+use Rattle.par_exchange.specs.Phases.{GathersEach, GivesEach, IsCollected, IsHandedOut, Step, brought_by, brought_of, given_in, given_of, is_end, is_refused, taken_by, taken_of, this_phase}
 use Rattle.par_exchange.proofs.PlaceLaws.{all_row, at_cleared, at_fresh, at_other, at_row, at_same, at_within, none_all, row_at, some-none}
 
 -- a token as a list

@@ -1,6 +1,6 @@
 -- For the callers of an exchange.
 use Rattle.std.proofs.Common.{◌≡◌, ◌∙◌, ap, sym}
-use mathlib.Core.Option.{some, some-injective}
+use mathlib.Core.Option.{some-injective}
 use lib.ListN.{get_elem?}
 use Rattle.par_exchange.specs.declared.history.ExchangeName.{ExchangeName}
 use Rattle.par_exchange.specs.declared.history.ExchangeState.{ExchangeState}

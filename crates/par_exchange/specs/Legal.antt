@@ -1,6 +1,6 @@
 -- What a call of an exchange may be answered, and what it does: for the party n in the state s, the reply r and the
 -- state t after it.
-use Rattle.std.specs.Prelude.{◌≡◌, ℕ, ◌<◌, true, false, List, map, length, slice_set, Option, Some, None}
+use Rattle.std.specs.Prelude.{◌≡◌, ℕ, ◌<◌, true, false, List, map, length, slice_set, Some, None}
 use mathlib.Core.Option.{some}
 use lib.ListN.{get_elem?}
 use Rattle.par_exchange.specs.declared.history.ExchangeState.{ExchangeState}

@@ -1,8 +1,6 @@
 -- What a contract sees of an exchange and of its passes.
-use Rattle.std.specs.Prelude.{◌≡◌, ℕ, List, [], ◌∷◌, length, Result, Ok, Err, Option, Some, None}
+use Rattle.std.specs.Prelude.{◌≡◌, ℕ, List, [], ◌∷◌, Result, Ok, Err, Option, Some, None}
 use Rattle.std.specs.Global.{Vec}
-use mathlib.Core.Option.{some}
-use lib.ListN.{get_elem?}
 use Rattle.lock_book.specs.declared.kept.Kept.{Ghosts}
 use Rattle.lock_book.specs.declared.shelf.Pass.{Pass}
 use Rattle.lock_book.specs.Told.{Makes}

@@ -1,2 +1,3 @@
 mod Sums
 mod Drawn
+pub mod Rotated

@@ -1,2 +1,4 @@
 pub mod Counting
 pub mod Drawers
+pub mod Trading
+pub mod Hands

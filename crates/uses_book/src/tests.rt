@@ -8,8 +8,8 @@ ghost use Rattle.lock_book.specs.History.{last_of};
 ghost use Rattle.lock_book.specs.Shown.{Belongs, callers_of, count_of, number_of, opens_of, seen_of};
 
 use crate::{
-    Guarded, Numbered, Object, Tag, added_by_two, called_by_two, called_once, end_two, put_in,
-    round_trip, take_out,
+    Guarded, Numbered, Object, Tag, added_by_two, called_by_two, called_once, end_two, for_three,
+    put_in, round_trip, take_out, three_parties,
 };
 use lock_book::{Pass, Shelf, two_of};
 use region_words::{Part, Region};
@@ -125,5 +125,13 @@ fn two_threads_raise_a_number(rt: HostRuntime) -> Result<(), Fail> {
     let mut closed = end_two(shelf, zero, one);
     let last = closed.take_last().ok_or("no value")?;
     assert_eq!(rt; last.state, 9);
+    Ok(())
+}
+
+#[test]
+fn three_threads_read_what_the_next_one_wrote(rt: HostRuntime) -> Result<(), Fail> {
+    let (region, exchange, zero, one, two) = for_three(rt.alloc())?;
+    let read = three_parties(&rt, &region, &exchange, zero, one, two);
+    assert!(rt; read == (41, (42, 40)));
     Ok(())
 }

@@ -1,7 +1,6 @@
-use Rattle.std.proofs.Common.{◌≡◌, ◌<◌, ◌≤◌, ◌∙◌, ℕ, List, [], ◌∷◌, ◌++◌, length, take, get_or, set, ap, refl, sym, arith, vec_capacity}
-use Rattle.std.specs.Prelude.{Option, Some, None}
-use Rattle.par_exchange.specs.States.{at}
-use Rattle.par_exchange.proofs.PlaceLaws.{at_item, length_all, mixed, mixed_all, mixed_more, mixed_next, no_items, some_at, take_few, take_next, take_whole}
+use Rattle.std.proofs.Common.{◌∙◌, List, [], ◌∷◌, ◌++◌, length, get_or, set, ap, refl, sym, arith, vec_capacity}
+use Rattle.std.specs.Prelude.{Option}
+use Rattle.par_exchange.proofs.PlaceLaws.{at_item, length_all, mixed_all, mixed_more, mixed_next, no_items, some_at, take_few, take_next, take_whole}
 use Rattle.par_exchange.proofs.places.collect_all.Goals.{in-Some, in_default}
 use Rattle.par_exchange.proofs.places.collect_all.Goals as goal
 

@@ -1,4 +1,4 @@
-use Rattle.std.proofs.Common.{◌≡◌, ◌∙◌, List, ◌∷◌, [], ◌++◌, ap}
+use Rattle.std.proofs.Common.{◌∙◌, List, ◌∷◌, [], ◌++◌, ap}
 use Rattle.std.specs.Prelude.{Option, None}
 use Rattle.par_exchange.proofs.PlaceLaws.{more_empty}
 use Rattle.par_exchange.proofs.places.empty_places.Goals as goal

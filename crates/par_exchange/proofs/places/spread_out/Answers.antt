@@ -1,4 +1,4 @@
-use Rattle.std.proofs.Common.{◌≡◌, ◌<◌, ◌∙◌, ℕ, suc, List, [], ◌∷◌, ◌++◌, length, drop, map, set, ap, refl, sym, arith, append_assoc, append-nil, length-append, vec_len, vec_capacity}
+use Rattle.std.proofs.Common.{◌≡◌, ◌<◌, ◌∙◌, ℕ, suc, List, [], ◌∷◌, ◌++◌, length, drop, map, set, ap, refl, sym, arith, append_assoc, append-nil, length-append}
 use Rattle.std.specs.Prelude.{Option, Some}
 use Rattle.par_exchange.proofs.PlaceLaws.{drop_past, drop_put, no_items}
 use Rattle.par_exchange.proofs.places.spread_out.Goals as goal

@@ -1,4 +1,4 @@
-use Rattle.std.proofs.Common.{◌≡◌, ◌∙◌, ℕ, List, [], ◌∷◌, ◌++◌, length, map, ap, sym, arith}
+use Rattle.std.proofs.Common.{◌∙◌, List, [], ◌∷◌, ◌++◌, length, map, ap}
 use Rattle.par_exchange.specs.declared.history.ExchangeName.{ExchangeName}
 use Rattle.par_exchange.specs.declared.history.ExchangeState.{ExchangeState}
 use Rattle.par_exchange.specs.declared.desk.Desk.{Desk}

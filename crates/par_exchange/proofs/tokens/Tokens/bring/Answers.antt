@@ -1,4 +1,4 @@
-use Rattle.std.proofs.Common.{◌≡◌, ◌∙◌, true, false, length, ap, sym}
+use Rattle.std.proofs.Common.{◌≡◌, ◌∙◌, true, false, ap, sym}
 use Rattle.std.specs.Prelude.{Some, is_none, slice_set}
 use Rattle.std.specs.List.{list_any}
 use Rattle.par_exchange.specs.States.{all_of, cleared}

@@ -1,0 +1,190 @@
+//! Three threads write in parts of a region, exchange the parts, and each reads what another wrote.
+
+ghost use Rattle.std.specs.Prelude.{◌≡◌, ◌+◌, ◌%◌, ◌<◌, IfOk, length};
+ghost use Rattle.lock_book.specs.Shown.{number_of};
+ghost use Rattle.par_exchange.specs.Legal.{Each};
+ghost use Rattle.par_exchange.specs.Shown.{Belongs, IsExchange, parties_of, stage_of};
+ghost use Rattle.par_exchange.specs.declared.history.PartyStage.TheVariants.{Elected, Free};
+ghost use Rattle.uses_book.specs.Trading.{brings, gives};
+ghost use Rattle.uses_book.specs.Hands.{IsOpen, IsReady};
+
+use crate::trade::Parts;
+use par_exchange::{Exchange, ExchangePass, Gathered};
+use region_words::{Part, Region};
+use std::alloc::{AllocError, Global};
+use std::sync::Wait;
+use std::thread::{Threads, join};
+
+/// The party after this one, of three.
+fn after(n: u64) -> u64
+    requires { n < 3 }
+    ensures { result ≡ (n + 1) % 3 }
+{
+    (n + 1) % 3
+}
+
+/// Each party's part goes to the party before it.
+fn rotate(parts: &mut Vec<Part>)
+    requires { length parts.old.items ≡ 3 }
+    ensures count { length parts.new.items ≡ 3 }
+    ensures each { (base : _) → Each (brings base) parts.old.items → Each (gives base) parts.new.items }
+{
+    parts.swap(0, 1);
+    parts.swap(1, 2);
+}
+
+/// The elected gives each party the part of the next.
+fn give_out<R: Wait>(
+    rt: &R,
+    region: &Region,
+    exchange: &Exchange<Parts>,
+    pass: &mut ExchangePass<Parts>,
+    mut parts: Vec<Part>,
+)
+    requires open { IsOpen region.now exchange.now }
+    requires own { Belongs exchange.now pass.old }
+    requires elected { stage_of pass.old ≡ Elected }
+    requires three { length parts.items ≡ 3 }
+    requires parts { (base : _) → IsExchange base exchange.now → Each (brings base) parts.items }
+    ensures own { Belongs exchange.now pass.new × (number_of pass.new ≡ number_of pass.old) }
+{
+    let _ = region;
+    rotate(&mut parts);
+    let Ok(()) = exchange.scatter(rt, pass, parts) else {
+        unreachable!()
+    };
+}
+
+/// Brings a part, and gives all parts out where the party is elected.
+fn bring<R: Wait>(
+    rt: &R,
+    region: &Region,
+    exchange: &Exchange<Parts>,
+    pass: &mut ExchangePass<Parts>,
+    part: Part,
+)
+    requires open { IsOpen region.now exchange.now }
+    requires own { Belongs exchange.now pass.old }
+    requires free { stage_of pass.old ≡ Free }
+    requires part { (base : _) → IsExchange base exchange.now → brings base (number_of pass.old) part }
+    ensures own { Belongs exchange.now pass.new × (number_of pass.new ≡ number_of pass.old) }
+{
+    match exchange.gather(rt, pass, part) {
+        Ok(Gathered::Waiting) => {}
+        Ok(Gathered::Elected(parts)) => give_out(rt, region, exchange, pass, parts),
+        Err(_) => unreachable!(),
+    }
+}
+
+/// What a party has: its pass, and a part of its own.
+#[derive(Drop)]
+pub struct Hand {
+    pub pass: ExchangePass<Parts>,
+    pub part: Part,
+}
+
+/// In phase 1 the party writes in its part, and brings it. In phase 2 it reads in the part that it is given what the
+/// party after it wrote.
+pub fn party<R: Wait>(rt: &R, region: &Region, exchange: &Exchange<Parts>, hand: Hand) -> u64
+    requires open { IsOpen region.now exchange.now }
+    requires ready { IsReady region.now exchange.now hand.pass hand.part }
+    ensures { result ≡ (number_of hand.pass + 1) % 3 + 40 }
+{
+    let Hand { mut pass, mut part } = hand;
+    let n = u64::from(pass.number());
+    part.store(region, n, n + 40);
+    bring(rt, region, exchange, &mut pass, part);
+    let mut got = exchange.receive(rt, &mut pass);
+    got.load(region, after(n))
+}
+
+/// Two of the parties, beside each other.
+fn two_parties<R: Threads + Wait + Sync>(
+    rt: &R,
+    region: &Region,
+    exchange: &Exchange<Parts>,
+    one: Hand,
+    two: Hand,
+) -> (u64, u64)
+    requires open { IsOpen region.now exchange.now }
+    requires one { IsReady region.now exchange.now one.pass one.part × (number_of one.pass ≡ 1) }
+    requires two { IsReady region.now exchange.now two.pass two.part × (number_of two.pass ≡ 2) }
+    ensures { result ≡ (42, 40) }
+{
+    join(
+        rt,
+        || -> u64
+            requires { IsOpen region.now exchange.now × IsReady region.now exchange.now one.pass one.part × (number_of one.pass ≡ 1) }
+            ensures { result ≡ 42 }
+        { party(rt, region, exchange, one) },
+        || -> u64
+            requires { IsOpen region.now exchange.now × IsReady region.now exchange.now two.pass two.part × (number_of two.pass ≡ 2) }
+            ensures { result ≡ 40 }
+        { party(rt, region, exchange, two) },
+    )
+}
+
+/// All three: what each reads is what the next one wrote.
+pub fn three_parties<R: Threads + Wait + Sync>(
+    rt: &R,
+    region: &Region,
+    exchange: &Exchange<Parts>,
+    zero: Hand,
+    one: Hand,
+    two: Hand,
+) -> (u64, (u64, u64))
+    requires open { IsOpen region.now exchange.now }
+    requires zero { IsReady region.now exchange.now zero.pass zero.part × (number_of zero.pass ≡ 0) }
+    requires one { IsReady region.now exchange.now one.pass one.part × (number_of one.pass ≡ 1) }
+    requires two { IsReady region.now exchange.now two.pass two.part × (number_of two.pass ≡ 2) }
+    ensures { result ≡ (41, (42, 40)) }
+{
+    join(
+        rt,
+        || -> u64
+            requires { IsOpen region.now exchange.now × IsReady region.now exchange.now zero.pass zero.part × (number_of zero.pass ≡ 0) }
+            ensures { result ≡ 41 }
+        { party(rt, region, exchange, zero) },
+        || -> (u64, u64)
+            requires { IsOpen region.now exchange.now × IsReady region.now exchange.now one.pass one.part × (number_of one.pass ≡ 1) × IsReady region.now exchange.now two.pass two.part × (number_of two.pass ≡ 2) }
+            ensures { result ≡ (42, 40) }
+        { two_parties(rt, region, exchange, one, two) },
+    )
+}
+
+/// A region of four words, an exchange of its parts for three parties, and what each party has: the word of its number.
+#[tactic(auto, using(word_map::proofs::Maps::answers, std::proofs::lemmas::Bool::Decides::nat_tests))]
+pub fn for_three(alloc: Global) -> Result<(Region, Exchange<Parts>, Hand, Hand, Hand), AllocError>
+    ensures open { IfOk result (λ r. IsOpen r.0 r.1) }
+    ensures zero { IfOk result (λ r. IsReady r.0 r.1 r.2.pass r.2.part × (number_of r.2.pass ≡ 0)) }
+    ensures one { IfOk result (λ r. IsReady r.0 r.1 r.3.pass r.3.part × (number_of r.3.pass ≡ 1)) }
+    ensures two { IfOk result (λ r. IsReady r.0 r.1 r.4.pass r.4.part × (number_of r.4.pass ≡ 2)) }
+{
+    let (region, mut base) = Region::new(alloc, 4)?;
+    let zero = base.split(&region, 0, 1);
+    let one = base.split(&region, 1, 1);
+    let two = base.split(&region, 2, 1);
+    let (exchange, mut passes) = Exchange::new(alloc, 3, base)?;
+    let Some(third) = passes.pop() else {
+        unreachable!()
+    };
+    let Some(second) = passes.pop() else {
+        unreachable!()
+    };
+    let Some(first) = passes.pop() else {
+        unreachable!()
+    };
+    let zero = Hand {
+        pass: first,
+        part: zero,
+    };
+    let one = Hand {
+        pass: second,
+        part: one,
+    };
+    let two = Hand {
+        pass: third,
+        part: two,
+    };
+    Ok((region, exchange, zero, one, two))
+}
