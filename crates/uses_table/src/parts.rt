@@ -1,9 +1,11 @@
-//! A table of numbers under keys of one word, which two threads fill.
+//! A table of numbers under keys of one word, which two threads fill, and which is emptied again.
 
 ghost use Rattle.std.specs.Prelude.{◌≡◌, ℕ, ◌+◌, ◌^◌, ◌<◌, ◌≤◌, IfOk};
-ghost use Rattle.lock_book.specs.Shown.{number_of};
-ghost use Rattle.dsa_area.specs.Shown.{AreAll as AreAllOfArea, Belongs as AreaBelongs, IsArea, callers_of as area_callers, number_of as area_number};
-ghost use Rattle.dshash_parts.specs.Tables.{IsTable, Belongs, key_words_of};
+ghost use Rattle.std.specs.FinMap as fin;
+ghost use Rattle.lock_book.specs.Shown.{number_of, seen_of};
+ghost use Rattle.dsa_area.specs.Shown.{AreAll as AreAllOfArea, IsArea, callers_of as area_callers, number_of as area_number};
+ghost use Rattle.dshash_parts.specs.Tables.{map_at};
+ghost use Rattle.dshash_parts.specs.Uses.{IsAtHome};
 ghost use Rattle.dshash_parts.specs.Ending.{IsOf, left_of};
 
 use dsa_area::{Area, AreaPass, area_words};
@@ -110,14 +112,9 @@ fn does<R: Wait>(
     key: u64,
     work: Work,
 ) -> bool
-    requires table { IsTable r.now table.now }
-    requires keys { key_words_of table.now ≡ 1 }
-    requires own { Belongs table.now pass.old }
-    requires area { IsArea r.now area.now }
-    requires area_own { AreaBelongs area.now apass.old }
-    ensures own { Belongs table.now pass.new }
+    requires home { IsAtHome r.now area.now table.now 1 pass.old apass.old }
+    ensures home { IsAtHome r.now area.now table.now 1 pass.new apass.new }
     ensures caller { number_of pass.new ≡ number_of pass.old }
-    ensures area_own { AreaBelongs area.now apass.new }
     ensures area_caller { area_number apass.new ≡ area_number apass.old }
 {
     let (call, before) = match work {
@@ -142,15 +139,10 @@ fn does_all<R: Wait>(
     count: u64,
     work: Work,
 ) -> u64
-    requires table { IsTable r.now table.now }
-    requires keys { key_words_of table.now ≡ 1 }
-    requires own { Belongs table.now pass.old }
-    requires area { IsArea r.now area.now }
-    requires area_own { AreaBelongs area.now apass.old }
+    requires home { IsAtHome r.now area.now table.now 1 pass.old apass.old }
     requires few { from + count < 2 ^ 64 }
-    ensures own { Belongs table.now pass.new }
+    ensures home { IsAtHome r.now area.now table.now 1 pass.new apass.new }
     ensures caller { number_of pass.new ≡ number_of pass.old }
-    ensures area_own { AreaBelongs area.now apass.new }
     ensures area_caller { area_number apass.new ≡ area_number apass.old }
 {
     let mut good = 0u64;
@@ -173,20 +165,63 @@ fn put_and_get<R: Wait>(
     from: u64,
     count: u64,
 ) -> (u64, u64)
-    requires table { IsTable r.now table.now }
-    requires keys { key_words_of table.now ≡ 1 }
-    requires own { Belongs table.now pass.old }
-    requires area { IsArea r.now area.now }
-    requires area_own { AreaBelongs area.now apass.old }
+    requires home { IsAtHome r.now area.now table.now 1 pass.old apass.old }
     requires few { from + count < 2 ^ 64 }
-    ensures own { Belongs table.now pass.new }
+    ensures home { IsAtHome r.now area.now table.now 1 pass.new apass.new }
     ensures caller { number_of pass.new ≡ number_of pass.old }
-    ensures area_own { AreaBelongs area.now apass.new }
     ensures area_caller { area_number apass.new ≡ area_number apass.old }
 {
     let put = does_all(rt, table, r, area, pass, apass, from, count, Work::Put);
     let got = does_all(rt, table, r, area, pass, apass, from, count, Work::Get);
     (put, got)
+}
+
+/// Takes entries out of a partition until there is none, and says how many there were. Others may put in new ones
+/// meanwhile.
+fn drain<R: Wait>(
+    rt: &R,
+    alloc: Global,
+    table: &Dshash<Number>,
+    r: &Region,
+    area: &Area,
+    pass: &mut DsPass<Number>,
+    apass: &mut AreaPass,
+    partition: u32,
+) -> Result<u64, AllocError>
+    requires home { IsAtHome r.now area.now table.now 1 pass.old apass.old }
+    requires number { partition < 128 }
+    ensures home { IsAtHome r.now area.now table.now 1 pass.new apass.new }
+    ensures empty { IfOk result (λ _. fin.len (map_at (seen_of pass.new) partition) ≡ 0) }
+{
+    let mut taken = 0u64;
+    for _ in rt.forever() {
+        let call = NumberCall::Delete;
+        match table.take_any(rt, alloc, r, area, pass, apass, partition, &call)? {
+            Some((_key, _number)) => taken = taken.saturating_add(1),
+            None => return Ok(taken),
+        }
+    }
+    unreachable!()
+}
+
+/// The same with each partition.
+fn drain_all<R: Wait>(
+    rt: &R,
+    alloc: Global,
+    table: &Dshash<Number>,
+    r: &Region,
+    area: &Area,
+    pass: &mut DsPass<Number>,
+    apass: &mut AreaPass,
+) -> Result<u64, AllocError>
+    requires home { IsAtHome r.now area.now table.now 1 pass.old apass.old }
+    ensures home { IsAtHome r.now area.now table.now 1 pass.new apass.new }
+{
+    let mut taken = 0u64;
+    for partition in 0..128 {
+        taken = drain(rt, alloc, table, r, area, pass, apass, partition)?.saturating_add(taken);
+    }
+    Ok(taken)
 }
 
 /// How many of these entries have the key as their number.

@@ -1,11 +1,12 @@
-//! Two threads put and get keys of their own, while the table doubles under them.
+//! Two threads put and get keys of their own, while the table doubles under them; then one of them takes all entries
+//! out.
 
 ghost use Rattle.std.specs.Prelude.{◌≡◌, ℕ, ◌+◌, ◌^◌, ◌<◌, ◌≤◌, IfOk};
 ghost use Rattle.lock_book.specs.Shown.{number_of};
-ghost use Rattle.dsa_area.specs.Shown.{Belongs as AreaBelongs, IsArea};
-ghost use Rattle.dshash_parts.specs.Tables.{IsTable, Belongs, callers_of, key_words_of};
+ghost use Rattle.dshash_parts.specs.Tables.{callers_of};
+ghost use Rattle.dshash_parts.specs.Uses.{IsAtHome};
 
-use super::{Number, area_for, put_and_get};
+use super::{Number, area_for, drain_all, put_and_get};
 use dsa_area::{Area, AreaPass};
 use dshash_parts::{DsPass, Dshash};
 use lock_book::two_of;
@@ -29,13 +30,9 @@ fn table_for_two<R: Wait>(
     pages: u32,
 ) -> Result<(Region, Area, Dshash<Number>, Passes, Passes), Fail>
     requires few { pages ≤ 65536 }
-    ensures area { IfOk result (λ a. IsArea a.0 a.1) }
-    ensures area_own { IfOk result (λ a. AreaBelongs a.1 a.3.area × AreaBelongs a.1 a.4.area) }
-    ensures table { IfOk result (λ a. IsTable a.0 a.2) }
-    ensures keys { IfOk result (λ a. key_words_of a.2 ≡ 1) }
     ensures callers { IfOk result (λ a. callers_of a.2 ≡ 2) }
-    ensures zero { IfOk result (λ a. Belongs a.2 a.3.table × (number_of a.3.table ≡ 0)) }
-    ensures one { IfOk result (λ a. Belongs a.2 a.4.table × (number_of a.4.table ≡ 1)) }
+    ensures zero { IfOk result (λ a. IsAtHome a.0 a.1 a.2 1 a.3.table a.3.area × (number_of a.3.table ≡ 0)) }
+    ensures one { IfOk result (λ a. IsAtHome a.0 a.1 a.2 1 a.4.table a.4.area × (number_of a.4.table ≡ 1)) }
 {
     let (region, area, apasses) = area_for(alloc, pages, 2)?;
     let (area_zero, mut area_one) = two_of(apasses);
@@ -63,25 +60,24 @@ fn caller<R: Wait>(
     mut passes: Passes,
     from: u64,
     count: u64,
-) -> (DsPass<Number>, (u64, u64))
-    requires table { IsTable r.now table.now }
-    requires keys { key_words_of table.now ≡ 1 }
-    requires own { Belongs table.now passes.table }
-    requires area { IsArea r.now area.now }
-    requires area_own { AreaBelongs area.now passes.area }
+) -> (Passes, (u64, u64))
+    requires home { IsAtHome r.now area.now table.now 1 passes.table passes.area }
     requires few { from + count < 2 ^ 64 }
-    ensures own { Belongs table.now result.0 }
-    ensures caller { number_of result.0 ≡ number_of passes.table }
+    ensures home { IsAtHome r.now area.now table.now 1 result.0.table result.0.area }
 {
     let Passes {
         table: mut pass,
         area: mut apass,
     } = passes;
     let good = put_and_get(rt, table, r, area, &mut pass, &mut apass, from, count);
-    (pass, good)
+    let passes = Passes {
+        table: pass,
+        area: apass,
+    };
+    (passes, good)
 }
 
-/// Two threads do so, each with keys of its own. The first one's pass, and what each says.
+/// Two threads do so, each with keys of its own. The first one's passes, and what each says.
 fn two_callers<R: Threads + Wait + Sync>(
     rt: &R,
     table: &Dshash<Number>,
@@ -90,14 +86,11 @@ fn two_callers<R: Threads + Wait + Sync>(
     zero: Passes,
     one: Passes,
     count: u64,
-) -> (DsPass<Number>, (u64, u64), (u64, u64))
-    requires table { IsTable r.now table.now }
-    requires keys { key_words_of table.now ≡ 1 }
-    requires own { Belongs table.now zero.table × Belongs table.now one.table }
-    requires area { IsArea r.now area.now }
-    requires area_own { AreaBelongs area.now zero.area × AreaBelongs area.now one.area }
+) -> (Passes, (u64, u64), (u64, u64))
+    requires zero { IsAtHome r.now area.now table.now 1 zero.table zero.area }
+    requires one { IsAtHome r.now area.now table.now 1 one.table one.area }
     requires few { count ≤ 1000000 }
-    ensures own { Belongs table.now result.0 }
+    ensures home { IsAtHome r.now area.now table.now 1 result.0.table result.0.area }
 {
     let ((zero, good), (_one, also)) = join(
         rt,
@@ -110,7 +103,31 @@ fn two_callers<R: Threads + Wait + Sync>(
 #[test]
 fn two_threads_while_the_table_doubles(rt: HostRuntime) -> Result<(), Fail> {
     let (region, area, table, zero, one) = table_for_two(&rt, rt.alloc(), 512)?;
-    let (_zero, good, also) = two_callers(&rt, &table, &region, &area, zero, one, 500);
+    let (zero, good, also) = two_callers(&rt, &table, &region, &area, zero, one, 500);
     assert_eq!(rt; (good, also), ((500, 500), (500, 500)));
+    let Passes {
+        table: mut pass,
+        area: mut apass,
+    } = zero;
+    let taken = drain_all(
+        &rt,
+        rt.alloc(),
+        &table,
+        &region,
+        &area,
+        &mut pass,
+        &mut apass,
+    )?;
+    assert_eq!(rt; taken, 1000);
+    let left = drain_all(
+        &rt,
+        rt.alloc(),
+        &table,
+        &region,
+        &area,
+        &mut pass,
+        &mut apass,
+    )?;
+    assert_eq!(rt; left, 0);
     Ok(())
 }
