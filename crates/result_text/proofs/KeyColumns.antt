@@ -7,7 +7,7 @@ use Rattle.par_model.specs.Key.{encoded}
 use Rattle.result_text.specs.KeyColumns.{after_first_column, columns_in, first_column, first_size}
 use Rattle.result_text.specs.Printable.{IsKeyOf}
 
-encoded-cons : (column : List ℕ) (columns : List (List ℕ)) → encoded (column ∷ columns) ≡ to_le_bytes w32 (length column) ++ (column ++ encoded columns)
+pub encoded-cons : (column : List ℕ) (columns : List (List ℕ)) → encoded (column ∷ columns) ≡ to_le_bytes w32 (length column) ++ (column ++ encoded columns)
 unfolding encoded
 encoded-cons column columns = append_assoc (to_le_bytes w32 (length column)) column (encoded columns)
 

@@ -1,6 +1,8 @@
 mod Answering
 mod Averages
 mod Columns
+mod Even
+mod Fronts
 mod KeyColumns
 mod Occurring
 mod Small

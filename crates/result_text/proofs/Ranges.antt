@@ -1,5 +1,5 @@
 -- The texts of ranges one behind the other are the text of all.
-use Rattle.std.proofs.Common.{◌≡◌, ◌≤◌, ◌<◌, ◌+◌, ◌*◌, ◌/◌, ◌%◌, ◌==◌, ◌++◌, ◌∷◌, ◌∙◌, ◌⊎◌, [], ℕ, zero, suc, List, Result, Ok, IfOk, ap, arith, drop, get_or, inl, inr, length, map, min, refl, subst, sym, take, append-nil, false, true}
+use Rattle.std.proofs.Common.{◌≡◌, ◌≤◌, ◌<◌, ◌+◌, ◌*◌, ◌/◌, ◌%◌, ◌++◌, ◌∷◌, ◌∙◌, ◌⊎◌, [], ℕ, zero, suc, List, Result, Ok, IfOk, ap, arith, drop, get_or, inl, inr, length, map, min, refl, subst, sym, take, append-nil}
 use Rattle.std.proofs.Math.Dec.{eqb-suc-zero}
 use Rattle.std.proofs.lemmas.Bool.{cases_lt}
 use Rattle.std.proofs.lemmas.List.{drop-drop, drop_all, length-map, map-append, take-append-drop}

@@ -1,4 +1,4 @@
--- The slots of at most 2^32 rows are small.
+-- The slots of at most 2^50 rows are small.
 use Rattle.std.proofs.Common.{◌≤◌, ◌-◌, ◌*◌, ◌^◌, [], arith, ℕ, ℤ, pos, negsuc, List, All, get_or, length, map, replicate, unsigned_abs}
 use Rattle.std.proofs.lemmas.Int.{ints}
 use Rattle.std.proofs.lemmas.List.Elements.{All-append, All-map, All-replicate}
@@ -15,18 +15,18 @@ size_within : (n : ℕ) (z : ℤ) → IsWithin n z → unsigned_abs z ≤ 2 ^ 63
 size_within n (pos k) w = omega (arith, ints, w.high)
 size_within n (negsuc k) w = omega (arith, ints, w.low)
 
-none_small : IsSmallSlot no_values
+pub none_small : IsSmallSlot no_values
 none_small = record { count = omega arith; sum = omega arith }
 
-numbers_small : (column : ℕ) (rows : List (List (List ℕ))) → length rows ≤ 2 ^ 32 → IsSmallSlot (number_slot (values_of column rows) (filter_map integer_of (values_of column rows)))
+numbers_small : (column : ℕ) (rows : List (List (List ℕ))) → length rows ≤ 2 ^ 50 → IsSmallSlot (number_slot (values_of column rows) (filter_map integer_of (values_of column rows)))
 numbers_small column rows few =
     let values = values_of column rows in
     record { count = omega (arith, values_few column rows); sum = size_within (length values) (total (filter_map integer_of values)) (numbers_within values) }
 
-counted_small : (column : ℕ) (rows : List (List (List ℕ))) → length rows ≤ 2 ^ 32 → IsSmallSlot (number_slot (values_of column rows) [])
+counted_small : (column : ℕ) (rows : List (List (List ℕ))) → length rows ≤ 2 ^ 50 → IsSmallSlot (number_slot (values_of column rows) [])
 counted_small column rows few = record { count = omega (arith, values_few column rows); sum = omega arith }
 
-slot_small : (k : ItemKind) (column : ℕ) (rows : List (List (List ℕ))) → length rows ≤ 2 ^ 32 → IsSmallSlot (slot_by k (values_of column rows))
+slot_small : (k : ItemKind) (column : ℕ) (rows : List (List (List ℕ))) → length rows ≤ 2 ^ 50 → IsSmallSlot (slot_by k (values_of column rows))
 slot_small kind.Rows column rows few = none_small
 slot_small kind.Count column rows few = counted_small column rows few
 slot_small kind.Sum column rows few = numbers_small column rows few
@@ -34,7 +34,7 @@ slot_small kind.Min column rows few = numbers_small column rows few
 slot_small kind.Max column rows few = numbers_small column rows few
 slot_small kind.Avg column rows few = numbers_small column rows few
 
-pub slots_small : (plan : Plan) (rows : List (List (List ℕ))) → length rows ≤ 2 ^ 32 → All IsSmallSlot (state_of_rows plan rows).slots
+pub slots_small : (plan : Plan) (rows : List (List (List ℕ))) → length rows ≤ 2 ^ 50 → All IsSmallSlot (state_of_rows plan rows).slots
 unfolding state_of_rows
 slots_small plan rows few =
     All-append IsSmallSlot (map (slot_of rows) plan.items) (replicate (8 - length plan.items) no_values)

@@ -34,13 +34,13 @@ key_is plan rows key state is =
 abbrev has_key : Plan → List ℕ → List (List ℕ) → Bool
 has_key plan key row = is_kept plan row && bytes_eq (key_of plan row) key
 
-slots_are : (plan : Plan) (rows : List (List (List ℕ))) (key : List ℕ) (state : AggState) → length rows ≤ 2 ^ 32 → group_of plan rows key ≡ Some state → All IsSmallSlot state.slots
+slots_are : (plan : Plan) (rows : List (List (List ℕ))) (key : List ℕ) (state : AggState) → length rows ≤ 2 ^ 50 → group_of plan rows key ≡ Some state → All IsSmallSlot state.slots
 slots_are plan rows key state few is =
     subst (λ (s : AggState). All IsSmallSlot s.slots) (sym (state_is plan rows key state is))
     (slots_small plan (rows_of plan rows key) (omega (arith, length-filter_both (has_key plan key) (λ (row : List (List ℕ)). not (has_key plan key row)) (λ row. refl) rows)))
 
--- the groups of at most 2^32 rows
-pub printable-listed : (plan : Plan) (rows : List (List (List ℕ))) (m : GroupsByKey) → length rows ≤ 2 ^ 32 → AreGroups plan rows m → ArePrintable plan (listed m)
+-- the groups of at most 2^50 rows
+pub printable-listed : (plan : Plan) (rows : List (List (List ℕ))) (m : GroupsByKey) → length rows ≤ 2 ^ 50 → AreGroups plan rows m → ArePrintable plan (listed m)
 printable-listed plan rows m few are =
     let each = All-listed plan rows m are in
     record {

@@ -1,5 +1,5 @@
 -- The columns of an encoded key, read from its front.
-use Rattle.std.specs.Prelude.{ℕ, zero, suc, List, [], ◌∷◌, drop, take}
+use Rattle.std.specs.Prelude.{ℕ, zero, suc, List, [], ◌∷◌, drop, length, map, take}
 use Rattle.std.specs.Int.{from_le_bytes, w32}
 
 -- how long the first column is: its first four bytes say so, the lowest first
@@ -18,3 +18,7 @@ after_first_column key = drop (first_size key) (drop 4 key)
 abbrev pub columns_in : ℕ → List ℕ → List (List ℕ)
 columns_in zero key = []
 columns_in (suc count) key = first_column key ∷ columns_in count (after_first_column key)
+
+-- and their lengths
+abbrev pub lengths_in : ℕ → List ℕ → List ℕ
+lengths_in count key = map length (columns_in count key)

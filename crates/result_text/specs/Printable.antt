@@ -18,9 +18,9 @@ pub record IsKeyOf (count : ℕ) (key : List ℕ) : Type 0 where
   pub many : length columns ≡ count
   pub is : key ≡ encoded columns
 
--- a slot of at most 2^32 integers of 64 signed bits
+-- a slot of at most 2^50 integers of 64 signed bits
 pub record IsSmallSlot (slot : SlotState) : Type 0 where
-  pub count : slot.count ≤ 2 ^ 32
+  pub count : slot.count ≤ 2 ^ 50
   pub sum : unsigned_abs slot.sum ≤ 2 ^ 63 * slot.count
 
 -- no two groups have one key, each key is the encoding of as many columns as the plan groups by, and the slots are

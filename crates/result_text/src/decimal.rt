@@ -1,5 +1,5 @@
 //! The text of an average: four decimals, rounded half away from zero. A sum of 128 bits is exact here, since at most
-//! 2^32 numbers of 64 bits leave room for the four decimals and one bit more.
+//! 2^50 numbers of 64 bits leave room for the four decimals and one bit more.
 
 ghost use Rattle.std.specs.Prelude.{◌≡◌, ◌<◌, ◌≤◌, ◌+◌, ◌*◌, ◌%◌, ◌^◌, ◌++◌, OnOk, unsigned_abs};
 ghost use Rattle.std.specs.Fmt.{sign_text};
@@ -10,7 +10,7 @@ use std::alloc::AllocError;
 /// Puts the average of `count` numbers that have this sum at the end of a text.
 pub(crate) fn push_average(text: &mut Vec<u8>, sum: i128, count: u64) -> Result<(), AllocError>
     requires some { 0 < count }
-    requires few { count ≤ 2 ^ 32 }
+    requires few { count ≤ 2 ^ 50 }
     requires near { unsigned_abs sum ≤ 2 ^ 63 * count }
     ensures { OnOk result (text.new.items ≡ text.old.items ++ decimal.average_text sum count) }
 {
@@ -35,7 +35,7 @@ fn push_sign(text: &mut Vec<u8>, minus: bool) -> Result<(), AllocError>
 /// The quotient in ten-thousandths, rounded half up.
 fn ten_thousandths(size: u128, count: u64) -> u128
     requires some { 0 < count }
-    requires few { count ≤ 2 ^ 32 }
+    requires few { count ≤ 2 ^ 50 }
     requires near { size ≤ 2 ^ 63 * count }
     ensures { result ≡ decimal.rounded (10000 * size) count }
 {

@@ -1,7 +1,8 @@
 //! The text of the table that answers a query: the header, and a line for each group.
 //!
 //! The groups come in the order of their encoded keys, in which a short column stands before a long one. The table is
-//! in the order of the columns themselves, so a list of references is sorted, column by column. Each line is put
+//! in the order of the columns themselves, so a list of references is sorted, column by column, unless all keys have
+//! columns of the same lengths, where the two orders are one. Each line is put
 //! together in one record, whose memory serves for all lines, and the crate `csv` writes it and decides all quotes.
 
 #![tactic(auto)]

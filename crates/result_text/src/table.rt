@@ -84,8 +84,11 @@ impl TableWriter {
         requires within { All (λ group. group.at < length groups.now) refs.now }
         ensures text { OnOk result (written self.new.writer ≡ written self.old.writer ++ table_text (map (line_record bound.now) (map (line_of (length bound.now.groups) groups.now) refs.now))) }
     {
+        let lent = groups.lent();
+        let mut state = empty();
         for group in refs {
-            self.write_group(bound, group.key, &groups.state(group.at))?;
+            lent.read_state(group.at, &mut state, bound.items().len() as u32);
+            self.write_group(bound, group.key, &state)?;
         }
         Ok(())
     }

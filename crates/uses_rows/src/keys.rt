@@ -41,6 +41,10 @@ fn places_of_keys(rt: HostRuntime) -> Result<(), Fail> {
     keys.sort(&mut places);
     let sorted: [usize; 4] = [1, 2, 0, 3];
     assert!(rt; places.as_slice() == sorted.as_slice());
+    keys.clear();
+    assert!(rt; keys.find(b"pear").is_none());
+    assert_eq!(rt; place_of(&mut keys, rt.alloc(), b"fig")?, 0);
+    assert_eq!(rt; keys.find(b"fig"), Some(0));
     Ok(())
 }
 

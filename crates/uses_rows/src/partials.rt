@@ -18,7 +18,11 @@ use std::alloc::{AllocError, Global};
 use std::test::Fail;
 
 /// The map of all rows, unless one is refused: the caller of CALLING.md. An answer that names a row names the first.
-fn all_groups(alloc: Global, rows: &RowStore, plan: &BoundPlan) -> Result<GroupMap, BlockAnswer>
+pub(crate) fn all_groups(
+    alloc: Global,
+    rows: &RowStore,
+    plan: &BoundPlan,
+) -> Result<GroupMap, BlockAnswer>
     requires few { length rows.now ≤ MOST_RECORDS }
     requires columns { HasColumns plan.now (header_width rows.now) }
     ensures groups { IfOk result (λ groups. AreGroups plan.now (drop 1 rows.now) groups) }
@@ -190,6 +194,36 @@ fn rows_by_hand(rt: HostRuntime) -> Result<(), Fail> {
         assert!(rt; state == same_state);
     }
     assert!(rt; by_block.take_first().is_none());
+    Ok(())
+}
+
+/// Groups are read where they lie, into one state, and come to another map; the first map is emptied and filled again.
+#[test]
+fn lent_groups(rt: HostRuntime) -> Result<(), Fail> {
+    let (store, plan) = query(&rt, ROWS)?;
+    let Ok(mut groups) = all_groups(rt.alloc(), &store, &plan) else {
+        return Err(Fail::new("a row is refused"));
+    };
+    let mut others = GroupMap::new(rt.alloc());
+    let mut state = empty();
+    let lent = groups.lent();
+    assert_eq!(rt; lent.len(), 2);
+    for at in 0..lent.len() {
+        lent.read_state(at, &mut state, plan.item_count);
+        others.add_bytes(lent.key(at), &state)?;
+        others.add_bytes(lent.key(at), &state)?;
+    }
+    groups.clear();
+    assert_eq!(rt; groups.len(), 0);
+    groups.add_bytes(b"\x01\0\0\0x", &state)?;
+    assert_eq!(rt; groups.len(), 1);
+    let list = others.into_groups();
+    list.keys_rise();
+    let lent = list.lent();
+    assert!(rt; lent.key(1) == b"\x02\0\0\0xy\x01\0\0\0z".as_slice());
+    lent.read_state(1, &mut state, 1);
+    assert_eq!(rt; state.rows, 6);
+    assert_eq!(rt; state.slots[0].count, 4);
     Ok(())
 }
 

@@ -7,14 +7,17 @@ ghost use Rattle.par_model.specs.Columns.{HasColumns};
 ghost use Rattle.par_model.specs.Named.{bound_plan};
 ghost use Rattle.par_model.specs.Outcome.{IsAnswer};
 ghost use Rattle.partial_agg.specs.Groups.{AreGroups};
+ghost use Rattle.result_text.specs.Pieces.{joined};
 
+use crate::partials::all_groups;
 use csv_rows::{RowStore, rows};
 use par_model::BoundPlan;
 use partial_agg::{BLOCK_ROWS, GroupMap};
 use plan_spec::Plan;
-use result_text::text_of;
+use result_text::{text_in_threads, text_of};
 use std::alloc::{AllocError, Global};
 use std::test::Fail;
+use std::thread::Threads;
 
 /// The answer to a plan over the rows of a store, whose groups are in a map: the caller of CALLING.md.
 fn answer(
@@ -26,11 +29,30 @@ fn answer(
 ) -> Result<Vec<u8>, AllocError>
     requires bound { bound.now ≡ bound_plan (record_at store.now 0) plan.now.plan }
     requires groups { AreGroups bound.now (drop 1 store.now) map }
-    requires few { length store.now ≤ 2 ^ 32 }
+    requires few { length store.now ≤ 2 ^ 50 }
     ensures { IfOk result (λ text. IsAnswer plan.now.plan (record_at store.now 0 ∷ drop 1 store.now) text.items) }
 {
     let groups = map.into_groups();
     text_of(alloc, plan, bound, &groups)
+}
+
+/// The same in pieces, by this many threads.
+fn answer_in_threads<R: Threads + Sync>(
+    rt: &R,
+    alloc: Global,
+    plan: &Plan,
+    bound: &BoundPlan,
+    store: &RowStore,
+    map: GroupMap,
+    threads: usize,
+) -> Result<Vec<Vec<u8>>, AllocError>
+    requires bound { bound.now ≡ bound_plan (record_at store.now 0) plan.now.plan }
+    requires groups { AreGroups bound.now (drop 1 store.now) map }
+    requires few { length store.now ≤ 2 ^ 50 }
+    ensures { IfOk result (λ pieces. IsAnswer plan.now.plan (record_at store.now 0 ∷ drop 1 store.now) (joined pieces.items)) }
+{
+    let groups = map.into_groups();
+    text_in_threads(rt, alloc, plan, bound, &groups, threads)
 }
 
 /// Whether a plan without a filter reads columns below this width alone.
@@ -74,6 +96,29 @@ fn table(alloc: Global, words: &str, input: &str) -> Option<Vec<u8>> {
     }
     let map = groups_of(alloc, &bound, &store)?;
     answer(alloc, &plan, &bound, &store, map).ok()
+}
+
+/// The text of the counts of all names over any number of rows, by this many threads.
+fn table_in_threads<R: Threads + Sync>(
+    rt: &R,
+    alloc: Global,
+    input: &[u8],
+    threads: usize,
+) -> Option<Vec<u8>> {
+    let store = rows(alloc, input).ok()?;
+    let list = owned(alloc, "--group k --agg count,sum:v").ok()?;
+    let plan = Plan::of_words(alloc, list.as_slice()).ok()?;
+    let bound = plan.bind(&store).ok()?;
+    if store.count() == 0 || !reads_below(&bound, store.width(0)) {
+        return None;
+    }
+    let map = all_groups(alloc, &store, &bound).ok()?;
+    let pieces = answer_in_threads(rt, alloc, &plan, &bound, &store, map, threads).ok()?;
+    let mut text = Vec::new(alloc);
+    for piece in &pieces {
+        text.extend_from_slice(piece.as_slice()).ok()?;
+    }
+    Some(text)
 }
 
 fn owned(alloc: Global, words: &str) -> Result<Vec<String>, AllocError> {
@@ -151,6 +196,54 @@ fn tables(rt: HostRuntime) -> Result<(), Fail> {
     for (words, input, want) in table_rows {
         let text = table(rt.alloc(), words, input).ok_or("no table")?;
         assert!(rt; text.as_slice() == want.as_bytes(), "{words}");
+    }
+    Ok(())
+}
+
+/// Rows of this many groups of one row each, whose names have one length, or several.
+fn many_rows(alloc: Global, count: u32, several: bool) -> Result<Vec<u8>, AllocError> {
+    let mut text = Vec::from_slice(alloc, b"k,v\n")?;
+    for number in 0..count {
+        let name = number % 100_000 * 7919 % 100_003;
+        for power in [100_000, 10_000, 1000, 100, 10, 1] {
+            text.push(b'0' + (name / power % 10) as u8)?;
+        }
+        if several {
+            for _ in 0..number % 4 {
+                text.push(b'-')?;
+            }
+        }
+        text.extend_from_slice(b",3\n")?;
+    }
+    Ok(text)
+}
+
+/// Whether a text has a line of a header and this many lines whose first six bytes rise.
+fn rises(text: &[u8], count: usize) -> bool {
+    let mut lines: usize = 0;
+    let mut last: &[u8] = b"";
+    for line in text.split(|byte| *byte == b'\n') {
+        if lines > 0 && lines <= count {
+            let name = &line[..line.len().min(6)];
+            if name <= last {
+                return false;
+            }
+            last = name;
+        }
+        lines = lines.saturating_add(1);
+    }
+    lines == count.saturating_add(2)
+}
+
+/// The pieces of three threads are the text of one, whether the columns have one length or not.
+#[test]
+fn texts_of_threads(rt: HostRuntime) -> Result<(), Fail> {
+    for several in [false, true] {
+        let input = many_rows(rt.alloc(), 6200, several)?;
+        let text = table_in_threads(&rt, rt.alloc(), input.as_slice(), 1).ok_or("no table")?;
+        assert!(rt; rises(text.as_slice(), 6200));
+        let other = table_in_threads(&rt, rt.alloc(), input.as_slice(), 3).ok_or("no table")?;
+        assert!(rt; other.as_slice() == text.as_slice());
     }
     Ok(())
 }

@@ -3,7 +3,7 @@
 use par_model::{AggState, SlotState};
 use partial_agg::{GroupKey, empty};
 use std::test::Fail;
-use tuple_codec::{TupleRead, decode, encode};
+use tuple_codec::{Tuple, TupleRead, decode, decode_into, encode, encode_into};
 
 /// The group of the empty key, with no rows and no slots.
 const NOTHING: [u8; 13] = [0; 13];
@@ -79,5 +79,15 @@ fn there_and_back(rt: HostRuntime) -> Result<(), Fail> {
     let (back, same) = decode(&tuple.bytes[..58])?;
     assert!(rt; back.bytes() == key.bytes());
     assert!(rt; same == state);
+    let mut again = Tuple::new();
+    encode_into(&mut again, b"another key", &empty(), 0);
+    encode_into(&mut again, key.bytes(), &state, 1);
+    assert_eq!(rt; again.len, 58);
+    assert!(rt; again.bytes[..58] == tuple.bytes[..58]);
+    let mut read = empty();
+    assert!(rt; decode_into(&again.bytes[..58], &mut read)? == key.bytes());
+    assert!(rt; read == state);
+    assert!(rt; decode_into(&again.bytes[..57], &mut read).is_err());
+    assert!(rt; read == state);
     Ok(())
 }

@@ -4,6 +4,8 @@ use Rattle.std.specs.List.Sorted.{IsSortedBy}
 use Rattle.par_model.specs.Plan.{Plan}
 use Rattle.par_model.specs.Table.{table_text}
 use Rattle.result_text.specs.GroupOrder.{is_before, line_of}
+use Rattle.partial_agg.specs.declared.groups.Group.{Group}
+use Rattle.result_text.specs.Printable.{IsKeyOf}
 use Rattle.result_text.specs.Text.{line_record, shown}
 use Rattle.result_text.specs.Written.{written}
 use Rattle.result_text.specs.declared.order.GroupRef.{GroupRef}
@@ -32,3 +34,11 @@ returns-clause-answer c =
     let view : length plan.items ≡ length (take c.bound.inside.item_count c.bound.inside.items) = ap (λ (p : Plan). length p.items) (sym c.bound.view_is) in
     let few : length plan.items ≤ 8 = omega (arith, view, length-take c.bound.inside.item_count c.bound.inside.items, c.bound.invariant.items_fit) in
     IfOk-weaker c.into_text.result _ _ (λ text is header rows m bound are listed. answers c.args.plan.now.plan plan c.args.groups.now text.items header rows m is c.in_ok-refs.ensures.short few bound are listed) (returns-clause-text c)
+
+pub in_order-requires : goal.in_order-requires
+in_order-requires c =
+    let plan = c.args.bound.now in
+    let groups = c.args.groups.now in
+    let view : length plan.groups ≡ length (take c.bound.inside.group_count c.bound.inside.groups) = ap (λ (p : Plan). length p.groups) (sym c.bound.view_is) in
+    let count : c.bound.inside.group_count ≡ length plan.groups = omega (arith, view, length-take c.bound.inside.group_count c.bound.inside.groups, c.bound.told, c.bound.invariant.groups_fit) in
+    subst (λ (n : ℕ). All (λ (g : Group). IsKeyOf n g.key) groups) (sym count) c.requires.printable.keys

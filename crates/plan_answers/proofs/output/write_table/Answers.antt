@@ -8,6 +8,6 @@ pub text_of-requires-clause-printable : goal.text_of-requires-clause-printable
 text_of-requires-clause-printable g c =
     let ready = c.args.ready.now in
     let groups = c.requires.groups in
-    let few : length (drop 1 ready.rows) ≤ 2 ^ 32 = omega (arith, length-drop 1 ready.rows, c.requires.bound.few) in
+    let few : length (drop 1 ready.rows) ≤ 2 ^ 50 = omega (arith, length-drop 1 ready.rows, c.requires.bound.few) in
     let P : List Group → Type 0 = λ l. ArePrintable ready.bound l in
     subst P (sym groups.2) (printable-listed ready.bound (drop 1 ready.rows) groups.0 few groups.1)

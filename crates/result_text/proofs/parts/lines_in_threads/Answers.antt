@@ -1,8 +1,5 @@
-use Rattle.std.proofs.Common.{◌≡◌, ◌≤◌, ◌<◌, ◌*◌, ◌+◌, ◌/◌, ◌%◌, ◌∙◌, min, Result, Ok, Err, IfOk, List, ℕ, arith, get_or, length, rules, subst, sym, ap}
-use Rattle.std.specs.Fork.{slice_chunk}
-use Rattle.std.specs.Global.{Vec}
-use Rattle.std.specs.declared.alloc.AllocError.{AllocError}
-use Rattle.result_text.specs.Pieces.{AreParts, lines_text}
+use Rattle.std.proofs.Common.{◌≡◌, ◌≤◌, ◌<◌, ◌*◌, ◌+◌, ◌/◌, ◌%◌, ◌∙◌, min, Result, Ok, Err, IfOk, List, ℕ, arith, get_or, length, rules, subst, sym}
+use Rattle.result_text.specs.Pieces.{lines_text}
 use Rattle.result_text.specs.declared.order.GroupRef.{GroupRef}
 use Rattle.result_text.proofs.Ranges.{cover}
 use Rattle.result_text.proofs.parts.lines_in_threads.Goals as goal

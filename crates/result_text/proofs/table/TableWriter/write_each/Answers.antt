@@ -1,10 +1,13 @@
-use Rattle.std.proofs.Common.{◌≡◌, ◌<◌, ◌++◌, ◌∙◌, [], ℕ, All, List, Some, ap, sym, subst, get_or, length, map}
+use Rattle.std.proofs.Common.{◌≡◌, ◌<◌, ◌≤◌, ◌++◌, ◌∙◌, [], ℕ, All, List, ap, sym, subst, arith, drop, get_or, length, take}
 use Rattle.std.proofs.lemmas.List.{get_or-map}
-use Rattle.std.proofs.lemmas.Option.{get_or_from_slice_get}
-use Rattle.std.specs.List.{slice_get}
+use Rattle.std.proofs.lemmas.List.Elements.{All-replicate}
 use Rattle.csv.specs.Writing.{default_writer, row_text}
+use Rattle.par_model.specs.Aggregate.{no_values}
+use Rattle.par_model.specs.declared.plan.Item.{Item}
 use Rattle.par_model.specs.Table.{values_text}
 use Rattle.par_model.specs.declared.state.AggState.{AggState}
+use Rattle.par_model.specs.declared.state.SlotState.{SlotState}
+use Rattle.partial_agg.specs.Listed.{state_at}
 use Rattle.partial_agg.specs.State.{empty_state}
 use Rattle.partial_agg.specs.declared.groups.Group.{Group}
 use Rattle.result_text.specs.KeyColumns.{columns_in}
@@ -13,6 +16,8 @@ use Rattle.result_text.specs.Printable.{IsSmallSlot}
 use Rattle.result_text.specs.Text.{line_record}
 use Rattle.result_text.specs.Written.{written}
 use Rattle.result_text.specs.declared.order.GroupRef.{GroupRef}
+use Rattle.result_text.proofs.Fronts.{front-small, values-front}
+use Rattle.result_text.proofs.Small.{none_small}
 use Rattle.result_text.proofs.Tables.{table-more, table-none}
 use Rattle.result_text.proofs.table.TableWriter.write_each.Goals as goal
 
@@ -23,28 +28,53 @@ abbrev no_group : Group
 no_group = record { key = []; state = empty_state }
 
 -- the aggregates of a group of the list are small where those of all are
-small_state : (groups : List Group) (at : ℕ) (state : AggState) → All (λ (g : Group). All IsSmallSlot g.state.slots) groups → at < length groups → slice_get (map (λ (g : Group). g.state) groups) at ≡ Some state → All IsSmallSlot state.slots
-small_state groups at state small lt is =
-    let its = sym (get_or-map (λ (g : Group). g.state) groups at no_group empty_state lt) ∙ get_or_from_slice_get (map (λ (g : Group). g.state) groups) at state empty_state is in
-    subst (λ (s : AggState). All IsSmallSlot s.slots) its (small at no_group lt)
+small_state : (groups : List Group) (at : ℕ) → All (λ (g : Group). All IsSmallSlot g.state.slots) groups → at < length groups → All IsSmallSlot (state_at groups at).slots
+small_state groups at small lt = subst (λ (s : AggState). All IsSmallSlot s.slots) (sym (get_or-map (λ (g : Group). g.state) groups at no_group empty_state lt)) (small at no_group lt)
 
-pub state-requires : goal.state-requires
-state-requires c = c.requires.within c.loop-group.group-index no_ref c.loop-group-test.true
+-- the group of a turn is one of the list, and its aggregates are those that are read
+within_lent : (groups lent : List Group) (refs : List GroupRef) (k : ℕ) → lent ≡ groups → All (λ (r : GroupRef). r.at < length groups) refs → k < length refs → (get_or refs k no_ref).at < length lent
+within_lent groups lent refs k same within lt = subst (λ (gs : List Group). (get_or refs k no_ref).at < length gs) (sym same) (within k no_ref lt)
+
+pub read_state-requires-clause-place : goal.read_state-requires-clause-place
+read_state-requires-clause-place c = within_lent c.args.groups.now c.lent-lent.result c.args.refs.now c.loop-group.group-index c.lent-lent.ensures c.requires.within c.loop-group-test.true
+
+pub read_state-requires-clause-few : goal.read_state-requires-clause-few
+read_state-requires-clause-few c = c.items.ensures.few
+
+-- what was read of it over small slots is small
+small_read : (groups lent : List Group) (refs : List GroupRef) (k n : ℕ) (read old : List SlotState) → lent ≡ groups → All (λ (g : Group). All IsSmallSlot g.state.slots) groups → All (λ (r : GroupRef). r.at < length groups) refs → k < length refs
+    → take n read ≡ take n (state_at lent (get_or refs k no_ref).at).slots → drop n read ≡ drop n old → All IsSmallSlot old → All IsSmallSlot read
+small_read groups lent refs k n read old same small within lt front rest others =
+    let ref : GroupRef = get_or refs k no_ref in
+    let all = subst (λ (gs : List Group). All (λ (g : Group). All IsSmallSlot g.state.slots) gs) (sym same) small in
+    front-small n read (state_at lent ref.at).slots old front rest (small_state lent ref.at all (within_lent groups lent refs k same within lt)) others
 
 pub write_group-requires-clause-small : goal.write_group-requires-clause-small
 write_group-requires-clause-small c =
-    small_state c.args.groups.now (get_or c.args.refs.now c.loop-group.group-index no_ref).at c.state.result c.requires.small (c.requires.within c.loop-group.group-index no_ref c.loop-group-test.true) c.state.ensures
+    small_read c.args.groups.now c.lent-lent.result c.args.refs.now c.loop-group.group-index (length c.items.result.now) c.read_state.new.state.slots c.loop-group.state.slots c.lent-lent.ensures c.requires.small c.requires.within c.loop-group-test.true
+    c.read_state.ensures.front c.read_state.ensures.rest c.loop-group.invariant.small
 
 pub loop-group-init : goal.loop-group-init
-loop-group-init c = record { between = c.requires.between; text = table-none (written c.args.self.now.writer) }
+loop-group-init c = record {
+  between = c.requires.between;
+  small = subst (λ (s : AggState). All IsSmallSlot s.slots) (sym c.empty-state.ensures.zeros) (All-replicate IsSmallSlot 8 no_values none_small);
+  text = table-none (written c.args.self.now.writer);
+}
 
 pub loop-group-preserved : goal.loop-group-preserved
 loop-group-preserved c =
+    let plan = c.args.bound.now in
+    let lent = c.lent-lent.result in
     let ref : GroupRef = get_or c.args.refs.now c.loop-group.group-index no_ref in
-    let columns = columns_in (length c.args.bound.now.groups) ref.key.now in
-    let its : c.state.result ≡ state_in c.args.groups.now ref = sym (get_or_from_slice_get (map (λ (g : Group). g.state) c.args.groups.now) ref.at c.state.result empty_state c.state.ensures) in
+    let columns = columns_in (length plan.groups) ref.key.now in
+    let few : length plan.items ≤ length c.items.result.now = omega (arith, ap (length {A = Item}) c.items.ensures.items) in
+    let values = values-front plan (length c.items.result.now) c.read_state.new.state (state_at lent ref.at) few c.read_state.ensures.rows c.read_state.ensures.front in
+    let its : state_at lent ref.at ≡ state_in c.args.groups.now ref = ap (λ (gs : List Group). state_at gs ref.at) c.lent-lent.ensures in
     record {
       between = c.in_ok-write_group.ensures.between;
-      text = table-more (line_record c.args.bound.now) (line_of (length c.args.bound.now.groups) c.args.groups.now) c.args.refs.now c.loop-group.group-index no_ref _ _ _ c.loop-group-test.true c.loop-group.invariant.text
-          (c.in_ok-write_group.ensures.text ∙ ap (λ (s : AggState). written c.loop-group.self.writer ++ row_text default_writer (columns ++ values_text c.args.bound.now s)) its);
+      small =
+          small_read c.args.groups.now lent c.args.refs.now c.loop-group.group-index (length c.items.result.now) c.read_state.new.state.slots c.loop-group.state.slots c.lent-lent.ensures c.requires.small c.requires.within c.loop-group-test.true
+          c.read_state.ensures.front c.read_state.ensures.rest c.loop-group.invariant.small;
+      text = table-more (line_record plan) (line_of (length plan.groups) c.args.groups.now) c.args.refs.now c.loop-group.group-index no_ref _ _ _ c.loop-group-test.true c.loop-group.invariant.text
+          (c.in_ok-write_group.ensures.text ∙ ap (λ (vs : List (List ℕ)). written c.loop-group.self.writer ++ row_text default_writer (columns ++ vs)) (values ∙ ap (values_text plan) its));
     }
