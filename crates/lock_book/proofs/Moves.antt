@@ -12,11 +12,11 @@ use Rattle.lock_book.specs.declared.view.Entry.{Entry}
 use Rattle.lock_book.specs.declared.view.Stage.TheVariants.{Idle, Holding}
 use Rattle.lock_book.specs.declared.view.View.{View}
 use Rattle.lock_book.specs.History.{entry, last_of, calls_by, calls_at, StartsWith, IsLegal, row_at, put_row}
-use Rattle.lock_book.specs.Ruled.{total, holders, mine_at, seen_at, told_at, at_stage, seeing, with_entry, IsFree, StageOk, ValueOk, Ruled, Taken, tried, committed, given_back}
+use Rattle.lock_book.specs.Ruled.{total, holders, mine_at, seen_at, told_at, at_stage, seeing, with_entry, IsFree, StageOk, ValueOk, Ruled, Taken, tried, tried_once, missing, committed, given_back}
 use Rattle.lock_book.proofs.Histories.{starts_refl, starts_snoc, starts_trans, calls_by_mine, calls_by_other, calls_at_here, calls_at_other, legal_snoc, row_here, row_else, at_place}
 use Rattle.lock_book.proofs.Totals.{total_set, total_at, upd, upd_here, upd_else, there}
 use Rattle.lock_book.proofs.Stages.{one_holder, no_holder, one_seat, stage_else}
-use Rattle.lock_book.proofs.Changes.{Change, changed, values_by}
+use Rattle.lock_book.proofs.Changes.{Change, changed, same_value, values_by}
 
 -- a word of the value i is none of another value's
 apart_words : (ws : List ℕ) (k i n : ℕ) → 2 * i ≤ k → k < 2 * i + 2 → (j : ℕ) → j ≢ i → (slice_index (set ws k n) (2 * j) ≡ slice_index ws (2 * j)) × (slice_index (set ws k n) (2 * j + 1) ≡ slice_index ws (2 * j + 1))
@@ -122,6 +122,45 @@ module _ {X N S C R : Type 0} (slot_name : X → N) (slot_state : X → S) (lega
                   bounded = λ n hi. let c = k.counted (omega arith) in r.bounded i n (omega arith);
                 } in
                 ((λ _. subst (λ (z : ℕ). Taken slot_name slot_state legal me z (w, (i, x) ∷ me.1)) place told), λ ne. absurd (ne e)),
+          )
+
+  abbrev OnceGoal : ℕ → ℕ → Me X (View N S C R) → ℕ → State X (View N S C R) → ℕ → Type 0
+  OnceGoal slots id me i s n = (w : View N S C R) × (a : Act X) × Valid s.homes me.1 a × Rule (stepped s (2 * i) n id me.1 w a) × tried_once slot_name slot_state legal (step slots (2 * i) 0 1 none) me (slice_index s.words (2 * i)) (w, carried_after me.1 a)
+
+  -- the same of a single try, which is counted where the value is taken
+  pub tries_once : (slots id : ℕ) (me : Me X (View N S C R)) (i : ℕ) → IsFree me.0 → i < length opens
+      → Allows Rule slots id me (2 * i) (λ n. either (eqb n 0) 1 n) (tried_once slot_name slot_state legal (step slots (2 * i) 0 1 none) me)
+  tries_once slots id me i free low s r len at few = exchanged (slice_index s.words (2 * i)) 0 1 (OnceGoal slots id me i s) hit miss
+    where
+      hit : slice_index s.words (2 * i) ≡ 0 → OnceGoal slots id me i s 1
+      hit e =
+          let t : TryGoal slots id me i s 1 = subst (λ (n : ℕ). TryGoal slots id me i s (either (eqb n 0) 1 n)) e (tries slots id me i free low s r len at few) in
+          (t.0, t.1, t.2, t.3, λ j ej. ((λ h. (t.4 j ej).0 h), λ ne. absurd (ne e)))
+
+      miss : slice_index s.words (2 * i) ≢ 0 → OnceGoal slots id me i s (slice_index s.words (2 * i))
+      miss ne =
+          let v = me.0 in
+          let k = r.each_seat id v at in
+          let w : View N S C R = missing v in
+          let c : Change slot_name slot_state legal opens callers s r id v w r.logs s.words s.homes = record {
+            at = at;
+            wide = refl;
+            same_seats = refl;
+            same_from = refl;
+            values = λ j o eo.
+                let t = total_set (λ (u : View N S C R). holders j u.stage) s.views id v w at in
+                same_value slot_name slot_state legal s.words s.words s.homes s.homes s.views (set s.views id w) j o (r.logs j) refl refl (λ x h. h) (omega arith) (r.each_value j o eo);
+            knows = record { opened = k.opened; counted = k.counted; below = k.below; seen = k.seen; told = k.told; mine = k.mine; mine_seen = k.mine_seen; staged = k.staged };
+            grows = λ j. starts_refl (r.logs j);
+            bounded = r.bounded;
+            others_calls = λ j m _. refl;
+            others_stage = λ other u ne' eu ok. ok;
+          } in (
+            w,
+            keeps,
+            tt,
+            subst (λ (z : List ℕ). Rule record { words = z; homes = s.homes; views = set s.views id w }) (sym (set-get_or s.words (2 * i) 0)) (changed slot_name slot_state legal opens callers s r id v w r.logs s.words s.homes c),
+            λ j ej. ((λ h. absurd (ne h)), λ _. refl),
           )
 
   -- the seat that has the value adds its call to the history

@@ -49,6 +49,10 @@ module _ {N S C R : Type 0} where
   abbrev pub with_entry : (View N S C R) → ℕ → Entry S C R → (View N S C R)
   with_entry v i e = record v { owns = (row_at v.owns 0 ++ (i, e) ∷ []) ∷ []; seen = put_row v.seen i (seen_at v i ++ e ∷ []) }
 
+  -- the seat tried once more, and found a value taken
+  abbrev pub missing : (View N S C R) → (View N S C R)
+  missing v = record v { misses = v.misses + 1 }
+
   -- the seat after a look: of each value it has seen the longer of what it had seen and what it was told
   abbrev pub merged : (View N S C R) → (View N S C R)
   merged v = record v { seen = longer_rows v.seen v.told; told = [] }
@@ -75,11 +79,11 @@ module _ {N S C R : Type 0} where
 
   -- what is left of a seat that was joined into another
   abbrev pub nobody : (View N S C R)
-  nobody = record { opens = []; callers = 0; from = 0; owns = []; seen = []; told = []; stage = Idle }
+  nobody = record { opens = []; callers = 0; from = 0; owns = []; seen = []; told = []; stage = Idle; misses = 0 }
 
   -- the first seat, which stands for all callers and has seen nothing
   abbrev pub newcomers : List (N × S) → ℕ → (View N S C R)
-  newcomers opens callers = record { opens = opens; callers = callers; from = 0; owns = replicate callers []; seen = []; told = []; stage = Idle }
+  newcomers opens callers = record { opens = opens; callers = callers; from = 0; owns = replicate callers []; seen = []; told = []; stage = Idle; misses = 0 }
 
   module _ (opens : List (N × S)) (callers : ℕ) (logs : ℕ → List (Entry S C R)) where
     -- what is true of a seat at a stage: whoever has a value is one caller, and has seen the value's whole history
@@ -134,6 +138,11 @@ module _ {N S C R : Type 0} where
     abbrev pub tried : Step X → Me X (View N S C R) → ℕ → Me X (View N S C R) → Type 0
     tried st m r m' = (i : ℕ) → st.word ≡ 2 * i → (r ≡ 0 → Taken m i m') × (r ≢ 0 → m' ≡ m)
 
+    -- a single try to take the value: where the word found is 0 the seat has it, and else another has it, and the try is
+    -- counted
+    abbrev pub tried_once : Step X → Me X (View N S C R) → ℕ → Me X (View N S C R) → Type 0
+    tried_once st m r m' = (i : ℕ) → st.word ≡ 2 * i → (r ≡ 0 → Taken m i m') × (r ≢ 0 → m' ≡ (missing m.0, m.1))
+
     -- the call that the slot tells of stands in the history
     abbrev pub committed : (X → Option (C × R)) → Step X → Me X (View N S C R) → ℕ → Me X (View N S C R) → Type 0
     committed made st m r m' = (i : ℕ) (x : X) (c : C) (y : R) → st.word ≡ 2 * i + 1 → m.1 ≡ (i, x) ∷ [] → made x ≡ Some (c, y) → (m'.1 ≡ m.1) × (m'.0 ≡ with_entry m.0 i (entry m.0.from c y (slot_state x)))
@@ -177,7 +186,7 @@ module _ {N S C R : Type 0} where
 
   -- the seat of this many callers from the one with this number on, which have made no call
   abbrev pub fresh_pass : List (N × S) → ℕ → ℕ → ℕ → View N S C R
-  fresh_pass opens callers from count = record { opens = opens; callers = callers; from = from; owns = replicate count []; seen = []; told = []; stage = Idle }
+  fresh_pass opens callers from count = record { opens = opens; callers = callers; from = from; owns = replicate count []; seen = []; told = []; stage = Idle; misses = 0 }
 
 -- a number for each stage, 0 for none
 abbrev pub stage_number : Stage → ℕ

@@ -40,6 +40,16 @@ module _ {T E I O N S C R : Type 0} {g : Ghosts T E I O N S C R} where
   abbrev pub mine_of : Pass T E I O N S C R g → ℕ → List (Entry S C R)
   mine_of p i = mine_at (view_of p.badge.views) 0 i
 
+  -- how many calls that would not wait found their value with another caller
+  abbrev pub misses_of : Pass T E I O N S C R g → ℕ
+  misses_of p = (view_of p.badge.views).misses
+
+  -- such a call: the pass has seen nothing new
+  pub record Missed (p q : Pass T E I O N S C R g) : Type 0 where
+    pub counted : misses_of q ≡ misses_of p + 1
+    pub seen : (i : ℕ) → seen_of q i ≡ seen_of p i
+    pub mine : (i : ℕ) → mine_of q i ≡ mine_of p i
+
   -- the pass is one of this shelf's, with what is always true of such a pass
   pub record Belongs (s : Shelf T E I O N S C R) (p : Pass T E I O N S C R g) : Type 0 where
     pub table : p.badge.table_id ≡ s.board.shared.table_id

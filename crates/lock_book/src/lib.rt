@@ -18,6 +18,7 @@ mod open;
 mod shelf;
 mod steps;
 mod table;
+mod trying;
 mod turn;
 mod two;
 mod view;

@@ -4,7 +4,7 @@
 //! length of its history modulo 2^64; slot i has the value while it is free. Who may change which, and when:
 //!
 //! - the lock's word from 0 to 1: any caller that has no value, by a compare-and-exchange, which takes the value out of
-//!   its slot (`Take`); where it finds 1 it changes nothing;
+//!   its slot (`Take`); where it finds 1 it changes nothing (`TakeOnce` is the same of a caller that will not wait);
 //! - the value: only the caller that has it reads or writes it;
 //! - length of the history: only the caller that has the value, by a fetch-add of 1 after it applied its call
 //!   (`Commit`);
@@ -15,7 +15,7 @@
 //! by `Callers`, and told what others have seen by `Note`. The rule is `Ruled` of specs/Ruled.
 
 ghost use Rattle.lock_book.specs.History.{made_of};
-ghost use Rattle.lock_book.specs.Ruled.{Ruled, newcomers, tried, committed, given_back, looked, first_caller, other_callers, note, informed, together, nobody};
+ghost use Rattle.lock_book.specs.Ruled.{Ruled, newcomers, tried, tried_once, committed, given_back, looked, first_caller, other_callers, note, informed, together, nobody};
 
 use crate::Kept;
 use crate::noted::Noted;
@@ -65,6 +65,13 @@ pub struct Take;
 
 impl<T: Kept> Play<Held<T>, Known<T>> for Take {
     ghost then = { tried (λ x. T.name x.value) (λ x. T.state x.value) T.legal };
+}
+
+/// The value is taken, or was not free, and then the try is counted.
+pub struct TakeOnce;
+
+impl<T: Kept> Play<Held<T>, Known<T>> for TakeOnce {
+    ghost then = { tried_once (λ x. T.name x.value) (λ x. T.state x.value) T.legal };
 }
 
 /// A call goes into the history.

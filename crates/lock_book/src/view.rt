@@ -34,4 +34,6 @@ pub struct View<N, S, C, R> {
     pub told: LinkedList<LinkedList<Entry<S, C, R>>>,
     /// Whether the seat has a value; only one of one caller may.
     pub stage: Stage,
+    /// How many single tries of the seat found a value taken.
+    pub misses: u64,
 }

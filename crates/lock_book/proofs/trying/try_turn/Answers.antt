@@ -1,0 +1,120 @@
+use Rattle.std.proofs.Common.{◌∙◌, sym, ap, subst, unwrap_or}
+use lib.ListN.{get_elem?}
+use Rattle.lock_book.specs.History.{last_of}
+use Rattle.lock_book.specs.Ruled.{seen_at}
+use Rattle.lock_book.proofs.Totals.{there}
+use Rattle.lock_book.proofs.Calls.{slot_taken, slot_is, seen_now, legal_now, whole, whole_stands, last_now, same_pass}
+use Rattle.lock_book.proofs.trying.try_turn.Goals as goal
+
+pub serve-output-requires-clause-held : goal.serve-output-requires-clause-held
+serve-output-requires-clause-held g c κs within =
+    let K = g.T.Kept in
+    let d = (c.try_once.ensures.taken c.if-not-try_once.false) in
+    let p = there c.args.seat.now.me.0.opens c.args.at c.requires.place.0 in
+    let k = d.known p.0 p.1 in
+    let f = c.requires.input p.0 p.1 in (
+      d.slot,
+      slot_taken (λ x. K.name x.value) (λ x. K.state x.value) K.legal c.args.at _ _ c.requires.own.1 d,
+      subst (λ n. K.env_fits n c.args.env.now) (sym k.1) f.0,
+      subst (λ q. K.in_fits (K.name d.slot.value) q c.args.input) (sym (ap (λ v. v.from) d.view)) (subst (λ n. K.in_fits n c.args.seat.now.me.0.from c.args.input) (sym k.1) f.1),
+    )
+
+pub commit_call-requires-clause-held : goal.commit_call-requires-clause-held
+commit_call-requires-clause-held g c κs within =
+    let K = g.T.Kept in
+    let d = (c.try_once.ensures.taken c.if-not-try_once.false) in
+    let s = c.serve-output.ensures.served in
+    let same = c.serve-output.ensures.own.1 in
+    let none = c.requires.own.1 in
+    let x = s.0 in
+    let y = s.1 in
+    let seen = ap (λ v. seen_at v c.args.at) same ∙ seen_now (λ x. K.name x.value) (λ x. K.state x.value) K.legal c.args.at _ _ none d in (
+      y,
+      unwrap_or (K.chosen c.args.input c.serve-output.result) (K.call c.args.input),
+      K.reply c.serve-output.result,
+      s.3,
+      s.7,
+      λ o eo.
+          let h = legal_now (λ x. K.name x.value) (λ x. K.state x.value) K.legal c.args.at _ _ none d x s.2 c.try_once.new.seat.me.0.from (unwrap_or (K.chosen c.args.input c.serve-output.result) (K.call c.args.input)) (K.reply c.serve-output.result) (K.state y.value) s.4 o
+          (sym (ap (λ v. get_elem? v.opens c.args.at) (same ∙ d.view)) ∙ eo) in
+          subst (λ q. K.legal o.0 q (last_of o.1 (seen_at c.serve-output.new.seat.me.0 c.args.at)) (unwrap_or (K.chosen c.args.input c.serve-output.result) (K.call c.args.input)) (K.reply c.serve-output.result) (K.state y.value)) (sym (ap (λ v. v.from) same))
+          (subst (λ m. K.legal o.0 c.try_once.new.seat.me.0.from (last_of o.1 m) (unwrap_or (K.chosen c.args.input c.serve-output.result) (K.call c.args.input)) (K.reply c.serve-output.result) (K.state y.value)) (sym seen) h),
+    )
+
+pub release-requires-clause-holding : goal.release-requires-clause-holding
+release-requires-clause-holding g c κs within =
+    let K = g.T.Kept in
+    let d = (c.try_once.ensures.taken c.if-not-try_once.false) in
+    let s = c.serve-output.ensures.served in
+    let a = c.commit_call.ensures.added s.1 (unwrap_or (K.chosen c.args.input c.serve-output.result) (K.call c.args.input)) (K.reply c.serve-output.result) s.3 s.7 in
+    ap (λ v. v.stage) a.1 ∙ (ap (λ v. v.stage) c.serve-output.ensures.own.1 ∙ ap (λ v. v.stage) d.view)
+
+pub release-requires-clause-held : goal.release-requires-clause-held
+release-requires-clause-held g c κs within =
+    let K = g.T.Kept in
+    let d = (c.try_once.ensures.taken c.if-not-try_once.false) in
+    let s = c.serve-output.ensures.served in
+    let same = c.serve-output.ensures.own.1 in
+    let none = c.requires.own.1 in
+    let a = c.commit_call.ensures.added s.1 (unwrap_or (K.chosen c.args.input c.serve-output.result) (K.call c.args.input)) (K.reply c.serve-output.result) s.3 s.7 in (
+      s.1,
+      a.0 ∙ s.3,
+      λ o eo.
+          let k = d.known o (sym (ap (λ v. get_elem? v.opens c.args.at) (same ∙ d.view)) ∙ (sym (ap (λ v. get_elem? v.opens c.args.at) a.1) ∙ eo)) in
+          let e = slot_is (λ x. K.name x.value) (λ x. K.state x.value) K.legal c.args.at _ _ none d s.0 s.2 in
+          (s.5 ∙ (ap (λ z. K.name z.value) (sym e) ∙ k.1), last_now (λ x. K.name x.value) (λ x. K.state x.value) K.legal c.args.at _ _ none d c.serve-output.new.seat.me.0 c.commit_call.new.seat.me.0 _ _ _ same a.1 o.1),
+    )
+
+pub returns-clause-own : goal.returns-clause-own
+returns-clause-own g c =
+    let K = g.T.Kept in
+    let s = c.serve-output.ensures.served in
+    let a = c.commit_call.ensures.added s.1 (unwrap_or (K.chosen c.args.input c.serve-output.result) (K.call c.args.input)) (K.reply c.serve-output.result) s.3 s.7 in
+    (c.release.ensures.own ∙ (c.commit_call.ensures.own ∙ (c.serve-output.ensures.own.0 ∙ c.try_once.ensures.own)), c.release.ensures.free s.1 (a.0 ∙ s.3))
+
+pub returns-clause-same : goal.returns-clause-same
+returns-clause-same g c =
+    let K = g.T.Kept in
+    let s = c.serve-output.ensures.served in
+    let a = c.commit_call.ensures.added s.1 (unwrap_or (K.chosen c.args.input c.serve-output.result) (K.call c.args.input)) (K.reply c.serve-output.result) s.3 s.7 in
+    same_pass (λ x. K.name x.value) (λ x. K.state x.value) K.legal c.args.at _ _ c.requires.own.1 (c.try_once.ensures.taken c.if-not-try_once.false)
+    c.serve-output.new.seat.me.0 c.commit_call.new.seat.me.0 c.release.new.seat.me.0 _ _ _ c.serve-output.ensures.own.1 a.1 c.release.ensures.view
+
+pub returns-clause-called : goal.returns-clause-called
+returns-clause-called g c =
+    let K = g.T.Kept in
+    let d = (c.try_once.ensures.taken c.if-not-try_once.false) in
+    let s = c.serve-output.ensures.served in
+    let a = c.commit_call.ensures.added s.1 (unwrap_or (K.chosen c.args.input c.serve-output.result) (K.call c.args.input)) (K.reply c.serve-output.result) s.3 s.7 in
+    whole (λ x. K.name x.value) (λ x. K.state x.value) K.legal c.args.at _ _ c.requires.own.1 d
+    c.serve-output.new.seat.me.0 c.commit_call.new.seat.me.0 c.release.new.seat.me.0 s.0 (unwrap_or (K.chosen c.args.input c.serve-output.result) (K.call c.args.input)) (K.reply c.serve-output.result) (K.state s.1.value)
+    c.serve-output.ensures.own.1 a.1 c.release.ensures.view s.2
+    (subst (λ q. K.legal (K.name s.0.value) q (K.state s.0.value) (unwrap_or (K.chosen c.args.input c.serve-output.result) (K.call c.args.input)) (K.reply c.serve-output.result) (K.state s.1.value)) (ap (λ v. v.from) d.view) s.4)
+
+pub returns-clause-stands : goal.returns-clause-stands
+returns-clause-stands g c =
+    let K = g.T.Kept in
+    let d = (c.try_once.ensures.taken c.if-not-try_once.false) in
+    let s = c.serve-output.ensures.served in
+    let a = c.commit_call.ensures.added s.1 (unwrap_or (K.chosen c.args.input c.serve-output.result) (K.call c.args.input)) (K.reply c.serve-output.result) s.3 s.7 in
+    whole_stands (λ x. K.name x.value) (λ x. K.state x.value) K.legal c.args.at _ _ c.requires.own.1 d
+    c.serve-output.new.seat.me.0 c.commit_call.new.seat.me.0 c.release.new.seat.me.0 s.0 (unwrap_or (K.chosen c.args.input c.serve-output.result) (K.call c.args.input)) (K.reply c.serve-output.result) (K.state s.1.value)
+    c.serve-output.ensures.own.1 a.1 c.release.ensures.view s.2
+    (subst (λ q. K.legal (K.name s.0.value) q (K.state s.0.value) (unwrap_or (K.chosen c.args.input c.serve-output.result) (K.call c.args.input)) (K.reply c.serve-output.result) (K.state s.1.value)) (ap (λ v. v.from) d.view) s.4)
+    c.requires.stands
+
+pub returns-clause-output : goal.returns-clause-output
+returns-clause-output g c = λ o eo.
+    let K = g.T.Kept in
+    let d = (c.try_once.ensures.taken c.if-not-try_once.false) in
+    let s = c.serve-output.ensures.served in
+    let e = slot_is (λ x. K.name x.value) (λ x. K.state x.value) K.legal c.args.at _ _ c.requires.own.1 d s.0 s.2 in
+    subst (λ n. K.out_fits n c.args.input c.serve-output.result) (ap (λ z. K.name z.value) (sym e) ∙ (d.known o eo).1) s.6
+
+pub returns-clause-free : goal.returns-clause-free
+returns-clause-free g c =
+    let d = (c.try_once.ensures.taken c.if-not-try_once.false) in
+    let s = c.serve-output.ensures.served in
+    let K = g.T.Kept in
+    let a = c.commit_call.ensures.added s.1 (unwrap_or (K.chosen c.args.input c.serve-output.result) (K.call c.args.input)) (K.reply c.serve-output.result) s.3 s.7 in
+    ap (λ v. v.misses) c.release.ensures.view ∙ (ap (λ v. v.misses) a.1 ∙ (ap (λ v. v.misses) c.serve-output.ensures.own.1 ∙ ap (λ v. v.misses) d.view))
