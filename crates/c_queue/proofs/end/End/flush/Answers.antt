@@ -1,0 +1,5 @@
+use Rattle.std.proofs.Common.{refl}
+use Rattle.c_queue.proofs.end.End.flush.Goals as goal
+
+pub returns-in-Sends : goal.returns-in-Sends
+returns-in-Sends c = rw c.in-Sends.is (c.flush.new.self, refl, c.flush.ensures)
