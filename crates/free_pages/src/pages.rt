@@ -119,7 +119,7 @@ impl Pages {
         }
     }
 
-    /// The same, by a walk.
+    /// `take` by a walk, where no longest free run is known that is too short.
     fn look_for(&mut self, r: &Region, n: u32, control: bool) -> Result<Run, NoRun>
         requires here { self.old.region ≡ r.now }
         requires some { 1 ≤ n }
@@ -222,7 +222,7 @@ impl Pages {
         }
     }
 
-    /// The same, by a walk.
+    /// `largest` by a walk, where it is not known.
     fn look_over(&mut self, r: &Region) -> u32
         requires here { self.old.region ≡ r.now }
         ensures same { self.new ≡ self.old }

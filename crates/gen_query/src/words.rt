@@ -4,10 +4,12 @@ ghost use Rattle.std.specs.Prelude.{◌≡◌, ◌≢◌, ◌≤◌, ◌<◌, �
 ghost use Rattle.gen_query.specs.Words.{asked_by, asked_in, gen_of, is_gen, number_in, rows_in, seed_in};
 ghost use Rattle.query_answer.specs.Words.{texts};
 
-/// What words ask for: the seed of the generator, which is not 0, and the number of rows, at most 4,194,304.
+/// What words ask for.
 #[derive(Debug, Clone, Copy)]
 pub(crate) struct GenWords {
+    /// The seed of the generator, which is not 0.
     pub(crate) seed: u64,
+    /// The number of rows, at most 4,194,304.
     pub(crate) rows: u64,
 }
 

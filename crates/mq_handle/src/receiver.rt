@@ -22,9 +22,12 @@ use std::marker::Model;
 #[derive(Drop)]
 pub struct Receiver {
     pub(crate) rx: RingRx,
+    /// The bytes of the message in hand, at the front.
     buffer: Vec<u8>,
     taken: Taken,
+    /// Whether the message in hand is the one that the last call gave.
     whole: bool,
+    /// Whether this end was detached.
     gone: bool,
 }
 

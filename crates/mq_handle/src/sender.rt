@@ -23,6 +23,7 @@ use std::marker::Model;
 pub struct Sender {
     pub(crate) tx: RingTx,
     counts: Stored,
+    /// Whether this end was detached.
     gone: bool,
 }
 

@@ -12,12 +12,14 @@ use mq_ring::RingTx;
 use region_words::Region;
 use rel_pointer::{pack, words_of};
 
-/// How many words of the frame in hand are stored, how many more words fit by the last look, and how many are not
-/// published.
+/// What a sender knows of its ring beside the ring's own end.
 #[derive(Clone, Copy)]
 pub(crate) struct Stored {
+    /// How many words of the frame in hand are stored.
     pub(crate) words: u64,
+    /// How many more words fit, by the last look at the read count.
     pub(crate) free: u64,
+    /// How many words are stored and not published.
     pub(crate) unpublished: u64,
 }
 

@@ -11,13 +11,16 @@ use mq_ring::RingRx;
 use region_words::Region;
 use rel_pointer::{unpack, words_of};
 
-/// How many words of the frame in hand are taken, the length of its message once the first of them is there, how many
-/// more words may be taken by the last look, and of how many the room was not given back.
+/// What a receiver knows of its ring beside the ring's own end.
 #[derive(Clone, Copy)]
 pub(crate) struct Taken {
+    /// How many words of the frame in hand are taken.
     pub(crate) words: u64,
+    /// The bytes of its message, once the first of its words is taken.
     pub(crate) len: u64,
+    /// How many more words may be taken, by the last look at the written count.
     pub(crate) ready: u64,
+    /// How many words are taken whose room was not given back.
     pub(crate) unreturned: u64,
 }
 

@@ -16,8 +16,11 @@ use std::marker::Model;
 #[derive(Drop)]
 pub struct RingRx {
     pub(crate) seat: Seat<(), Known>,
+    /// The word of the written count, the first of the ring.
     pub(crate) base: u64,
+    /// How many cells the ring has, a power of two.
     pub(crate) size: u64,
+    /// The bytes of the greatest message.
     pub(crate) max: u32,
     /// The word of the count of what was taken.
     pub(crate) position: u64,

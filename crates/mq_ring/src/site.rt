@@ -6,14 +6,18 @@ ghost use Rattle.region_words.specs.Parts.{HasJust-prop};
 
 use region_words::Part;
 
-/// The ring's place, its number of cells and its greatest message, the bytes of the whole chunk, and the part of its
-/// other words.
+/// Where a ring lies, and what is left of its chunk.
 #[derive(Drop)]
 pub(crate) struct Site {
+    /// The word of the written count, the first of the ring and of the chunk.
     pub(crate) base: u64,
+    /// How many cells the ring has, a power of two.
     pub(crate) size: u64,
+    /// The bytes of the greatest message.
     pub(crate) max: u32,
+    /// The bytes of the whole chunk.
     pub(crate) bytes: u64,
+    /// The words of the chunk behind the ring.
     pub(crate) rest: Part,
     ghost valid: { 0 < base },
     ghost whole: { bytes % 8 ≡ 0 },

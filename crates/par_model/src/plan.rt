@@ -62,14 +62,18 @@ pub struct Filter {
     pub value: i64,
 }
 
-/// A plan over column numbers. `hash` asks for the plan over the shared hash table, and changes no answer.
+/// A plan over column numbers.
 #[derive(Debug, Drop)]
 pub struct BoundPlan {
+    /// The columns to group by; places past the count hold 0.
     pub groups: [u32; 8],
     pub group_count: u32,
+    /// The aggregates; places past the count hold the kind `Rows` and column 0.
     pub items: [Item; 8],
     pub item_count: u32,
+    /// Asks for the plan over the shared hash table, which changes no answer.
     pub hash: bool,
+    /// Which rows are kept; without a filter all are.
     pub filter: Option<Filter>,
 }
 

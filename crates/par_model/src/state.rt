@@ -1,9 +1,10 @@
 //! The aggregates of a group, as far as rows were added.
 
-/// The aggregates of one item: how many fields are not empty, and their sum, least and greatest integer. Those three
-/// are 0 where the item reads no integers, and where `count` is 0.
+/// The aggregates of one item. Sum, least and greatest integer are 0 where the item reads no integers, and where `count`
+/// is 0.
 #[derive(Clone, Copy, Debug, PartialEq, Eq)]
 pub struct SlotState {
+    /// How many fields are not empty.
     pub count: u64,
     pub sum: i128,
     pub least: i64,
@@ -18,10 +19,11 @@ pub const NO_VALUES: SlotState = SlotState {
     greatest: 0,
 };
 
-/// The aggregates of one group: how many rows it has, and a slot for each item of the plan. A slot of an item that
-/// reads no column, and each slot past the items, is all zeros.
+/// The aggregates of one group.
 #[derive(Clone, Copy, Debug, PartialEq, Eq)]
 pub struct AggState {
+    /// How many rows the group has.
     pub rows: u64,
+    /// A slot for each item of the plan. That of an item that reads no column, and each past the items, is all zeros.
     pub slots: [SlotState; 8],
 }

@@ -74,7 +74,7 @@ fn has_empty(parts: &[&str]) -> bool
     parts.iter().any(|part| part.is_empty())
 }
 
-/// Texts of their own.
+/// Copies of the texts.
 fn owned(alloc: Global, parts: &[&str]) -> Result<Vec<String>, AllocError>
     ensures { IfOk result (λ v. map string_bytes v.items ≡ map (λ s. s.now) parts.entry.now) }
 {
@@ -88,7 +88,7 @@ fn owned(alloc: Global, parts: &[&str]) -> Result<Vec<String>, AllocError>
     Ok(texts)
 }
 
-/// An aggregate.
+/// Reads an aggregate.
 fn item(alloc: Global, text: &str) -> Result<PlanItem, PlanAnswer>
     ensures item { IfOk result (λ i. item_in text.now ≡ Some i) }
     ensures none { result ≡ Err answer.Usage → item_in text.now ≡ None }
@@ -108,7 +108,7 @@ fn item(alloc: Global, text: &str) -> Result<PlanItem, PlanAnswer>
     column_item(alloc, kind, name).map_err(|_| PlanAnswer::Memory)
 }
 
-/// The number of rows.
+/// The aggregate that counts rows.
 pub(crate) fn row_count(alloc: Global) -> Result<PlanItem, AllocError>
     ensures { IfOk result (λ i. i ≡ record { kind = ItemKind.Rows; column = None }) }
 {
@@ -168,7 +168,7 @@ fn kind(word: &str) -> Option<ItemKind>
     }
 }
 
-/// A filter.
+/// Reads a filter.
 pub(crate) fn filter(alloc: Global, text: &str) -> Result<PlanFilter, PlanAnswer>
     ensures filter { IfOk result (λ f. filter_in text.now ≡ Some f) }
     ensures none { result ≡ Err answer.Usage → filter_in text.now ≡ None }
@@ -201,7 +201,7 @@ fn is_relation(byte: u8) -> bool
     byte == b'<' || byte == b'=' || byte == b'>' || byte == b'!'
 }
 
-/// A relation, and the integer after it.
+/// Reads a relation, and the integer after it.
 fn comparison(bytes: &[u8]) -> Option<(FilterOp, i64)>
     ensures { result ≡ comparison_in bytes.now }
 {
@@ -213,7 +213,7 @@ fn comparison(bytes: &[u8]) -> Option<(FilterOp, i64)>
     Some((op, value))
 }
 
-/// A relation, and what comes after it.
+/// Reads a relation. Answers what comes after it too.
 fn relation(bytes: &[u8]) -> Option<(FilterOp, &[u8])>
     ensures { option_map (λ found. (found.0, found.1.now)) result ≡ relation_in bytes.now }
 {

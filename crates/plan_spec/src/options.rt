@@ -18,6 +18,7 @@ use std::alloc::{AllocError, Global};
 pub(crate) struct OptionValues<'a> {
     pub(crate) group: Option<&'a str>,
     pub(crate) agg: Option<&'a str>,
+    /// Of `--where`.
     pub(crate) filter: Option<&'a str>,
     pub(crate) workers: Option<&'a str>,
     pub(crate) plan: Option<&'a str>,

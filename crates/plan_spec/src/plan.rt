@@ -20,6 +20,7 @@ pub enum PlanAnswer {
 pub(crate) struct PlanItem {
     pub(crate) kind: ItemKind,
     pub(crate) column: Option<String>,
+    /// `count`, or the kind with the column, as `sum(v)`.
     pub(crate) text: String,
 }
 
@@ -55,11 +56,16 @@ impl Model for PlanFilter {
 /// A plan by the names of its columns. It owns its texts, and is made by [`Plan::of_words`].
 #[derive(Drop)]
 pub struct Plan {
+    /// The columns to group by, eight at most.
     pub(crate) groups: Vec<String>,
+    /// The aggregates, one to eight.
     pub(crate) items: Vec<PlanItem>,
     pub(crate) filter: Option<PlanFilter>,
+    /// Whether the workers share a hash table of groups.
     pub(crate) hash: bool,
+    /// How many workers are asked for, 64 at most.
     pub(crate) workers: u32,
+    /// The pages of that table's area, 65,536 at most.
     pub(crate) area_pages: u32,
 }
 

@@ -8,7 +8,7 @@ use crate::held::Held;
 use csv_rows::Record;
 use par_io::Sink;
 
-/// A record.
+/// Puts a record behind what waits.
 pub fn put_record<O: Sink>(held: &mut Held, out: &mut O, row: &Record<'_>)
     ensures { Puts O.taken O.faults out.old out.new held.old held.new (row_text default_writer row.now) }
 {
@@ -51,7 +51,7 @@ fn is_blank(row: &Record<'_>) -> bool
     width == 0 || row.field(0).is_empty()
 }
 
-/// A field, in quotes where it needs them.
+/// Puts a field, in quotes where it needs them.
 fn put_field<O: Sink>(held: &mut Held, out: &mut O, field: &[u8])
     ensures { Puts O.taken O.faults out.old out.new held.old held.new (field_text default_writer field.now) }
 {
@@ -78,7 +78,7 @@ fn is_special(byte: u8) -> bool
     byte == b',' || byte == b'"' || byte == b'\r' || byte == b'\n'
 }
 
-/// The bytes of a field, each quote twice.
+/// Puts the bytes of a field, each quote twice.
 fn put_escaped<O: Sink>(held: &mut Held, out: &mut O, field: &[u8])
     ensures { Puts O.taken O.faults out.old out.new held.old held.new (escaped default_writer field.now) }
 {
@@ -87,7 +87,7 @@ fn put_escaped<O: Sink>(held: &mut Held, out: &mut O, field: &[u8])
     }
 }
 
-/// A byte, and a quote twice.
+/// Puts a byte, and a quote twice.
 fn put_byte<O: Sink>(held: &mut Held, out: &mut O, byte: u8)
     ensures { Puts O.taken O.faults out.old out.new held.old held.new (escaped default_writer (byte ∷ [])) }
 {

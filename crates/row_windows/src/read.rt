@@ -8,10 +8,12 @@ ghost use Rattle.row_windows.specs.declared.window.WindowAnswer.TheVariants as a
 use crate::window::WindowAnswer;
 use par_io::Source;
 
-/// How far a buffer is filled, and whether the source is at its end.
+/// What a reading came to.
 #[derive(Drop)]
 pub(crate) struct Filled {
+    /// Up to where the buffer is filled.
     pub(crate) upto: usize,
+    /// Whether the source is at its end.
     pub(crate) ended: bool,
 }
 

@@ -171,7 +171,7 @@ impl Barriers {
         }
     }
 
-    /// What a caller of the barrier of this name does.
+    /// Makes a call of a caller of the barrier of this name.
     fn call<R: Wait>(&mut self, rt: &R, name: &[u8], caller: u64, call: PartyCall) -> PartyAnswer
         requires barriers { AreBarriers self.old }
         ensures barriers { AreBarriers self.new }
@@ -220,7 +220,7 @@ impl Party {
         Ok(Party { barrier, passes })
     }
 
-    /// What a caller does, and then all passes meet its pass.
+    /// Makes a caller's call. All passes then meet its pass, so that each has seen it.
     fn answer<R: Wait>(&mut self, rt: &R, caller: u64, call: PartyCall) -> PartyAnswer
         requires party { (s : BarrierState) × IsParty self.old s }
         ensures same { self.new.barrier ≡ self.old.barrier }
