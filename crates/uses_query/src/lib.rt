@@ -1,5 +1,5 @@
-//! Callers of the queries and joins in parallel, and of the library under the program `pargather`, over sources and
-//! sinks in memory. A module for each crate. Nothing stands on this crate.
+//! Callers of the queries in parallel: gathers, merges, and generated rows. A module for each crate. Nothing stands on this
+//! crate.
 
 #![tactic(auto)]
 
@@ -8,14 +8,4 @@ mod gathers;
 #[cfg(test)]
 mod generated;
 #[cfg(test)]
-mod hashed;
-#[cfg(test)]
-mod join_words;
-#[cfg(test)]
-mod joins;
-#[cfg(test)]
 mod merges;
-#[cfg(test)]
-mod pairs;
-#[cfg(test)]
-mod program;

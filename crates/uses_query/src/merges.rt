@@ -7,6 +7,7 @@ ghost use Rattle.gather_merge.specs.Answers.{OrdersRows};
 ghost use Rattle.gather_merge.specs.Order.{IsOrder};
 
 mod meeting;
+mod stopping;
 
 use csv_rows::{RowStore, rows};
 use gather_merge::{MergeAnswer, Merged, merge};

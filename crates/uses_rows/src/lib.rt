@@ -1,5 +1,5 @@
-//! Callers of the crates from bytes to rows and back: records, windows, keys, partial aggregates, tuples, plans and their
-//! descriptors, texts of tables, and the lines on the error stream. A module for each crate.
+//! Callers of the crates from bytes to rows and back: records, windows, keys, plans and their descriptors, the slow model,
+//! and the lines on the error stream. A module for each crate. Nothing stands on this crate.
 
 #![tactic(auto)]
 
@@ -10,16 +10,10 @@ mod descriptors;
 #[cfg(test)]
 mod keys;
 #[cfg(test)]
-mod partials;
-#[cfg(test)]
 mod plans;
 #[cfg(test)]
 mod records;
 #[cfg(test)]
 mod slow;
-#[cfg(test)]
-mod texts;
-#[cfg(test)]
-mod tuples;
 #[cfg(test)]
 mod windows;

@@ -1,0 +1,12 @@
+//! Callers of the joins, over sources and sinks in memory. A module for each crate. Nothing stands on this crate.
+
+#![tactic(auto)]
+
+#[cfg(test)]
+mod hashed;
+#[cfg(test)]
+mod join_words;
+#[cfg(test)]
+mod joins;
+#[cfg(test)]
+mod pairs;

@@ -1,0 +1,55 @@
+//! A row that a worker refuses stops the leader at one of its next blocks, and not after all of them.
+
+use super::ordered_by;
+use crossbeam_utils::Backoff;
+use gather_merge::{MergeAnswer, merge};
+use std::sync::atomic::{AtomicBool, AtomicU32, Ordering};
+use std::test::Fail;
+use worker_run::Gate;
+
+/// Counts the leader's blocks, and holds the leader for a while at each: at the first one until the worker is at one too.
+#[derive(Drop)]
+struct Slow {
+    worker_came: AtomicBool,
+    leaders: AtomicU32,
+}
+
+impl Gate for Slow {
+    fn pass(&self, participant: u32, _block: u64) {
+        if participant != 0 {
+            self.worker_came.store(true, Ordering::SeqCst);
+            return;
+        }
+        self.leaders.fetch_add(1, Ordering::SeqCst);
+        let backoff = Backoff::new();
+        for _turn in 0..1_000_000 {
+            if self.worker_came.load(Ordering::SeqCst) {
+                break;
+            }
+            backoff.snooze();
+        }
+        for _turn in 0..2_000 {
+            backoff.snooze();
+        }
+    }
+}
+
+/// One of the first two blocks has a refused row. Whoever draws it, the leader does not come to the last of 20 blocks.
+#[test]
+fn a_refused_row_stops_the_leader(rt: HostRuntime) -> Result<(), Fail> {
+    let mut text = Vec::from_slice(rt.alloc(), b"n\n")?;
+    for row in 1..=5_120 {
+        text.extend_from_slice(if row == 300 { b"b,c\n" } else { b"a\n" })?;
+    }
+    let (store, plan) = ordered_by(rt.alloc(), &text, 1, false)?;
+    let gate = Slow {
+        worker_came: AtomicBool::new(false),
+        leaders: AtomicU32::new(0),
+    };
+    match merge(&rt, rt.alloc(), &store, &plan, 1, &gate) {
+        Ok(_) => return Err(Fail::new("no row is refused")),
+        Err(why) => assert!(rt; why == MergeAnswer::Row { row: 300, cause: 1 }),
+    }
+    assert!(rt; gate.leaders.load(Ordering::SeqCst) < 19);
+    Ok(())
+}
