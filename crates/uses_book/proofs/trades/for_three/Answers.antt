@@ -1,7 +1,6 @@
-use Rattle.std.proofs.Common.{◌≡◌, ◌∙◌, IsSome, ap, subst, sym}
+use Rattle.std.proofs.Common.{◌∙◌, IsSome, ap, subst, sym}
 use Rattle.word_map.specs.WordMap.{at as word_at}
 use Rattle.region_words.specs.Parts.{Owned}
-use Rattle.lock_book.specs.Shown.{number_of}
 use Rattle.par_exchange.specs.Phases.{stage_from}
 use Rattle.par_exchange.specs.declared.history.PartyStage.TheVariants.{Free}
 use Rattle.par_exchange.proofs.Uses.{one_sign}
