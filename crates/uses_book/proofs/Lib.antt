@@ -1,3 +1,4 @@
 mod Sums
 mod Drawn
+pub mod Popped
 pub mod Rotated

@@ -1,8 +1,7 @@
 -- Three parts of which each goes to the place before its own.
-use Rattle.std.proofs.Common.{◌≡◌, ℕ, zero, suc, ◌+◌, ◌%◌, List, [], ◌∷◌, length, refl, sym, ap, ◌∙◌, subst, arith}
+use Rattle.std.proofs.Common.{◌≡◌, zero, suc, List, [], ◌∷◌, length, refl, sym, subst, arith}
 use Rattle.std.specs.List.{swap}
-use mathlib.Core.Option.{some, some-injective, some-ne-none}
-use lib.ListN.{get_elem?}
+use mathlib.Core.Option.{some-injective, some-ne-none}
 use Rattle.region_words.specs.Parts.{Owned}
 use Rattle.par_exchange.specs.Legal.{Each}
 use Rattle.uses_book.specs.Trading.{brings, gives}

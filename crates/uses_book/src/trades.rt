@@ -1,6 +1,7 @@
 //! Three threads write in parts of a region, exchange the parts, and each reads what another wrote.
 
-ghost use Rattle.std.specs.Prelude.{◌≡◌, ◌+◌, ◌%◌, ◌<◌, IfOk, length};
+ghost use Rattle.std.specs.Prelude.{◌≡◌, ◌+◌, ◌%◌, ◌<◌, IfOk, IsSome, length};
+ghost use Rattle.word_map.specs.WordMap.{at as word_at};
 ghost use Rattle.lock_book.specs.Shown.{number_of};
 ghost use Rattle.par_exchange.specs.Legal.{Each};
 ghost use Rattle.par_exchange.specs.Shown.{Belongs, IsExchange, parties_of, stage_of};
@@ -152,19 +153,29 @@ pub fn three_parties<R: Threads + Wait + Sync>(
     )
 }
 
-/// A region of four words, an exchange of its parts for three parties, and what each party has: the word of its number.
+/// A region of four words, the part of the last of them, and a part of each of the others.
 #[tactic(auto, using(word_map::proofs::Maps::answers, std::proofs::lemmas::Bool::Decides::nat_tests))]
+fn three_parts(alloc: Global) -> Result<(Region, Part, (Part, Part, Part)), AllocError>
+    ensures last { IfOk result (λ r. r.1.region ≡ r.0) }
+    ensures here { IfOk result (λ r. (r.2.0.region ≡ r.0) × (r.2.1.region ≡ r.0) × (r.2.2.region ≡ r.0)) }
+    ensures words { IfOk result (λ r. IsSome (word_at r.2.0.words 0) × IsSome (word_at r.2.1.words 1) × IsSome (word_at r.2.2.words 2)) }
+{
+    let (region, mut last) = Region::new(alloc, 4)?;
+    let zero = last.split(&region, 0, 1);
+    let one = last.split(&region, 1, 1);
+    let two = last.split(&region, 2, 1);
+    Ok((region, last, (zero, one, two)))
+}
+
+/// A region, an exchange of its parts for three parties, and what each party has: the word of its number.
 pub fn for_three(alloc: Global) -> Result<(Region, Exchange<Parts>, Hand, Hand, Hand), AllocError>
     ensures open { IfOk result (λ r. IsOpen r.0 r.1) }
     ensures zero { IfOk result (λ r. IsReady r.0 r.1 r.2.pass r.2.part × (number_of r.2.pass ≡ 0)) }
     ensures one { IfOk result (λ r. IsReady r.0 r.1 r.3.pass r.3.part × (number_of r.3.pass ≡ 1)) }
     ensures two { IfOk result (λ r. IsReady r.0 r.1 r.4.pass r.4.part × (number_of r.4.pass ≡ 2)) }
 {
-    let (region, mut base) = Region::new(alloc, 4)?;
-    let zero = base.split(&region, 0, 1);
-    let one = base.split(&region, 1, 1);
-    let two = base.split(&region, 2, 1);
-    let (exchange, mut passes) = Exchange::new(alloc, 3, base)?;
+    let (region, last, (zero, one, two)) = three_parts(alloc)?;
+    let (exchange, mut passes) = Exchange::new(alloc, 3, last)?;
     let Some(third) = passes.pop() else {
         unreachable!()
     };

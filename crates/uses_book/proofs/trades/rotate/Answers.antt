@@ -1,4 +1,4 @@
-use Rattle.std.proofs.Common.{◌≡◌, ◌∙◌, List, length, ap, subst, sym}
+use Rattle.std.proofs.Common.{◌∙◌, List, length, ap, subst, sym}
 use Rattle.std.specs.List.{swap}
 use Rattle.std.proofs.lemmas.List.Edits.{length-swap}
 use Rattle.region_words.specs.Parts.{Owned}
