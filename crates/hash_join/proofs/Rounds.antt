@@ -1,10 +1,10 @@
 -- The participants with their tokens, from the beginning of a round to its end.
-use Rattle.std.proofs.Common.{◌≡◌, ◌≤◌, ℕ, zero, suc, false, List, [], ◌∷◌, All, get_or, length, map, set, refl, ap, sym, subst, ◌∙◌, arith}
+use Rattle.std.proofs.Common.{◌≡◌, ◌≤◌, ◌+◌, ◌++◌, ℕ, zero, suc, false, List, [], ◌∷◌, All, append-nil, append_assoc, get_or, length, map, set, refl, ap, sym, subst, ◌∙◌, arith}
 use mathlib.Core.Option.{some, some-injective}
 use lib.ListN.{get_elem?}
-use Rattle.std.specs.List.{AllByRecursion, zip}
+use Rattle.std.specs.List.{AllByRecursion}
 use Rattle.std.proofs.lemmas.List.Elements.{All-from_recursion, recursion_from_All}
-use Rattle.std.proofs.lemmas.Slice.Zip.{firsts-zip, length-zip, seconds-zip}
+use Rattle.std.proofs.lemmas.List.{map-append}
 use Rattle.lock_book.specs.Shown.{mine_of, number_of}
 use Rattle.dsa_area.specs.Shown as area
 use Rattle.dsa_area.specs.declared.area.Area.{Area}
@@ -54,38 +54,31 @@ pub first_pass : (a : Area) (ps : List AreaPass) (p : AreaPass) → area.AreAll 
 first_pass a [] p all low is = absurd (let none : 0 ≡ area.callers_of a = all.count in omega (arith, none, low))
 first_pass a (q ∷ qs) p all low is = subst (λ (z : AreaPass). area.Belongs a z × (area.number_of z ≡ 0)) (sym is) (all.each 0 q refl, all.numbers 0 q refl)
 
--- ---- tokens that were put together
+-- ---- tokens that are put together
 
-module _ {X Y Z F : Type 0} (area_of : F → X) (table_of : F → Y) (claim_of : F → Z) (fs : List F) (xs : List X) (ys : List Y) (zs : List Z) (tokens : map (λ f. ((area_of f, table_of f), claim_of f)) fs ≡ zip (zip xs ys) zs) (second : length ys ≡ length xs) (third : length zs ≡ length xs) where
-  firsts : map (λ (t : (X × Y) × Z). t.0) (zip (zip xs ys) zs) ≡ zip xs ys
-  firsts = firsts-zip (zip xs ys) zs (let l = length-zip xs ys in omega (arith, second, third, l))
+-- those of the participants that are made and those that are left, after one more
+pub one_more : {F X : Type 0} (of : F → X) (fs fs' : List F) (f : F) (left left' all : List X) → fs' ≡ fs ++ f ∷ [] → left ≡ of f ∷ left' → map of fs ++ left ≡ all → map of fs' ++ left' ≡ all
+one_more of fs fs' f left left' all e i h =
+    ap (λ m. map of m ++ left') e ∙ (ap (λ m. m ++ left') (map-append of fs (f ∷ [])) ∙ (append_assoc (map of fs) (of f ∷ []) left' ∙ (ap (λ l. map of fs ++ l) (sym i) ∙ h)))
 
-  same_map : {A B : Type 0} (g : A → B) (h : F → A) (gs : List F) → map g (map h gs) ≡ map (λ f. g (h f)) gs
-  same_map g h [] = refl
-  same_map {A} {B} g h (f ∷ gs) = ap (λ (l : List B). g (h f) ∷ l) (same_map g h gs)
+-- where none is left
+pub all_made : {F X : Type 0} (of : F → X) (fs : List F) (left all : List X) → length left ≡ 0 → map of fs ++ left ≡ all → map of fs ≡ all
+all_made of fs [] all n h = sym (append-nil (map of fs)) ∙ h
+all_made of fs (x ∷ left) all n h = absurd (omega arith)
 
-  pub token_areas : map area_of fs ≡ xs
-  token_areas =
-      sym (same_map (λ (t : (X × Y) × Z). t.0.0) (λ f. ((area_of f, table_of f), claim_of f)) fs)
-      ∙ (ap (map (λ (t : (X × Y) × Z). t.0.0)) tokens ∙ (sym (twice (zip (zip xs ys) zs)) ∙ (ap (map (λ (t : X × Y). t.0)) firsts ∙ firsts-zip xs ys second)))
-    where
-      twice : (ts : List ((X × Y) × Z)) → map (λ (t : X × Y). t.0) (map (λ (t : (X × Y) × Z). t.0) ts) ≡ map (λ (t : (X × Y) × Z). t.0.0) ts
-      twice [] = refl
-      twice (t ∷ ts) = ap (λ (l : List X). t.0.0 ∷ l) (twice ts)
+-- as many are left of each
+pub same_next : {X Y : Type 0} (x : X) (xs xs' : List X) (y : Y) (ys ys' : List Y) → xs ≡ x ∷ xs' → ys ≡ y ∷ ys' → length xs ≡ length ys → length xs' ≡ length ys'
+same_next x xs xs' y ys ys' e f h = let m = ap (λ l. length l) e in let n = ap (λ l. length l) f in omega (arith, m, n, h)
 
-  pub token_tables : map table_of fs ≡ ys
-  token_tables =
-      sym (same_map (λ (t : (X × Y) × Z). t.0.1) (λ f. ((area_of f, table_of f), claim_of f)) fs)
-      ∙ (ap (map (λ (t : (X × Y) × Z). t.0.1)) tokens ∙ (sym (twice (zip (zip xs ys) zs)) ∙ (ap (map (λ (t : X × Y). t.1)) firsts ∙ seconds-zip xs ys second)))
-    where
-      twice : (ts : List ((X × Y) × Z)) → map (λ (t : X × Y). t.1) (map (λ (t : (X × Y) × Z). t.0) ts) ≡ map (λ (t : (X × Y) × Z). t.0.1) ts
-      twice [] = refl
-      twice (t ∷ ts) = ap (λ (l : List Y). t.0.1 ∷ l) (twice ts)
+-- and there is room for them
+pub room_next : {Y : Type 0} (len len' room room' : ℕ) (y : Y) (ys ys' : List Y) → len' ≡ len + 1 → room' ≡ room → ys ≡ y ∷ ys' → len + length ys ≤ room → len' + length ys' ≤ room'
+room_next len len' room room' y ys ys' l r f h = let n = ap (λ l. length l) f in omega (arith, n, l, r, h)
 
-  pub token_claims : map claim_of fs ≡ zs
-  token_claims =
-      sym (same_map (λ (t : (X × Y) × Z). t.1) (λ f. ((area_of f, table_of f), claim_of f)) fs)
-      ∙ (ap (map (λ (t : (X × Y) × Z). t.1)) tokens ∙ seconds-zip (zip xs ys) zs (let l = length-zip xs ys in omega (arith, second, third, l)))
+-- ---- tokens that come home
+
+-- those of one more participant
+pub come_home : {F X : Type 0} (of : F → X) (fs : List F) (f : F) (xs xs' : List X) → xs ≡ map of fs → xs' ≡ xs ++ of f ∷ [] → xs' ≡ map of (fs ++ f ∷ [])
+come_home of fs f xs xs' e p = p ∙ (ap (λ l. l ++ of f ∷ []) e ∙ sym (map-append of fs (f ∷ [])))
 
 -- ---- participants
 

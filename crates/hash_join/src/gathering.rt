@@ -1,7 +1,7 @@
 //! The first round: the participants put the left rows into the shared table, and the leader makes the chains of it.
 
 ghost use Rattle.std.specs.Prelude.{◌≡◌, ◌<◌, ◌≤◌, ℕ, List, All, IfOk, OnOk, [], false, length, map};
-ghost use Rattle.std.specs.List.{AllZip, zip};
+ghost use Rattle.std.specs.List.{AllZip};
 ghost use Rattle.lock_book.specs.Shown.{mine_of, number_of};
 ghost use Rattle.dshash_core.specs.Listing.{pairs_of as entries_of};
 ghost use Rattle.dshash_parts.specs.Ending.{whole_of};
@@ -64,41 +64,7 @@ struct Listed {
     entries: Vec<Entry<LastRow>>,
 }
 
-/// The tokens of each participant together.
-fn pair_up(
-    alloc: Global,
-    passes: Passes,
-    seats: Vec<ClaimSeat>,
-) -> Result<Vec<((AreaPass, DsPass<LastRow>), ClaimSeat)>, AllocError>
-    ensures { IfOk result (λ v. v.items ≡ zip (zip passes.areas.items passes.tables.items) seats.items) }
-{
-    let Passes { areas, tables } = passes;
-    areas.into_iter().zip(tables).zip(seats).collect(alloc)
-}
-
-/// Participants with these tokens, which have done nothing yet.
-fn begin(
-    alloc: Global,
-    tokens: Vec<((AreaPass, DsPass<LastRow>), ClaimSeat)>,
-) -> Result<Vec<Filler>, AllocError>
-    ensures tokens { IfOk result (λ v. map (λ (f : Filler). ((f.area, f.table), f.claim)) v.items ≡ tokens.items) }
-    ensures new { IfOk result (λ v. All (λ (f : Filler). (f.links.items ≡ []) × (f.spilled.items ≡ [])) v.items) }
-{
-    let mut fillers = Vec::with_capacity(alloc, tokens.len())?;
-    for ((area, table), claim) in tokens {
-        fillers.push(Filler {
-            area,
-            table,
-            claim,
-            links: Vec::new(alloc),
-            spilled: Vec::new(alloc),
-            lacks_memory: false,
-        })?;
-    }
-    Ok(fillers)
-}
-
-/// The participants, each with its tokens.
+/// The participants, each with its tokens, which have done nothing yet.
 fn fillers(alloc: Global, passes: Passes, seats: Vec<ClaimSeat>) -> Result<Vec<Filler>, AllocError>
     requires tables { length passes.tables.items ≡ length passes.areas.items }
     requires seats { length seats.items ≡ length passes.areas.items }
@@ -107,8 +73,26 @@ fn fillers(alloc: Global, passes: Passes, seats: Vec<ClaimSeat>) -> Result<Vec<F
     ensures seats { IfOk result (λ v. map (λ (f : Filler). f.claim) v.items ≡ seats.items) }
     ensures new { IfOk result (λ v. All (λ (f : Filler). (f.links.items ≡ []) × (f.spilled.items ≡ [])) v.items) }
 {
-    let tokens = pair_up(alloc, passes, seats)?;
-    let fillers = begin(alloc, tokens)?;
+    let mut fillers = Vec::with_capacity(alloc, seats.len())?;
+    let Passes { areas, tables } = passes;
+    let mut areas = areas.into_iter();
+    let mut tables = tables.into_iter();
+    for claim in seats {
+        let Some(area) = areas.next() else {
+            unreachable!()
+        };
+        let Some(table) = tables.next() else {
+            unreachable!()
+        };
+        fillers.push_reserved(Filler {
+            area,
+            table,
+            claim,
+            links: Vec::new(alloc),
+            spilled: Vec::new(alloc),
+            lacks_memory: false,
+        });
+    }
     Ok(fillers)
 }
 
