@@ -6,3 +6,4 @@ pub mod Seats
 pub mod Listed
 pub mod Standing
 pub mod Drains
+pub mod Paired

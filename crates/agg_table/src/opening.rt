@@ -26,13 +26,18 @@ fn pair_up(
     areas: Vec<AreaPass>,
     tables: Vec<DsPass<AggObject>>,
 ) -> Result<Vec<HashSeat>, AllocError>
+    requires { length tables.items ≡ length areas.items }
     ensures { IfOk result (λ v. v.items ≡ map (λ x. record { area = x.0; table = x.1 }) (zip areas.items tables.items)) }
 {
-    areas
-        .into_iter()
-        .zip(tables)
-        .map(|(area, table)| HashSeat { area, table })
-        .collect(alloc)
+    let mut seats = Vec::with_capacity(alloc, areas.len())?;
+    let mut rest = tables.into_iter();
+    for area in areas {
+        let Some(table) = rest.next() else {
+            unreachable!()
+        };
+        seats.push_reserved(HashSeat { area, table });
+    }
+    Ok(seats)
 }
 
 /// An empty table in an area of this many pages, in a chunk of `8 * area_words(pages)` bytes, and the passes of this

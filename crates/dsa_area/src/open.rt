@@ -103,13 +103,18 @@ fn pair_up(
     pages: Vec<Pass<LockedPages>>,
     pools: Vec<Pass<LockedPool>>,
 ) -> Result<Vec<AreaPass>, AllocError>
+    requires { length pools.items ≡ length pages.items }
     ensures { IfOk result (λ v. v.items ≡ map (λ x. record { pages = x.0; pools = x.1 }) (zip pages.items pools.items)) }
 {
-    pages
-        .into_iter()
-        .zip(pools)
-        .map(|(pages, pools)| AreaPass { pages, pools })
-        .collect(alloc)
+    let mut passes = Vec::with_capacity(alloc, pages.len())?;
+    let mut rest = pools.into_iter();
+    for pages in pages {
+        let Some(pools) = rest.next() else {
+            unreachable!()
+        };
+        passes.push_reserved(AreaPass { pages, pools });
+    }
+    Ok(passes)
 }
 
 impl Area {

@@ -31,3 +31,9 @@ pub returns-clause-fresh : goal.returns-clause-fresh
 returns-clause-fresh c = λ k p e.
     let h = pair_at _ (λ (q : AreaPass). q.pages) (λ (q : AreaPass). q.pools) (λ _. refl) (λ _. refl) c.in_ok-page_shelf.page_passes.items c.in_ok-pool_shelf.pool_passes.items c.in_ok-passes.passes.items k p c.in_ok-passes.ensures e in
     record { pages = c.in_ok-page_shelf.ensures.fresh k p.pages h.0 0; pools = λ class. c.in_ok-pool_shelf.ensures.fresh k p.pools h.1 (class - 2) }
+
+pub pair_up-requires : goal.pair_up-requires
+pair_up-requires c =
+    let s = c.in_ok-page_shelf.ensures in
+    let t = c.in_ok-pool_shelf.ensures in
+    t.passes.count ∙ (t.counts.1 ∙ sym (s.passes.count ∙ s.counts.1))
