@@ -1,4 +1,8 @@
 //! The second round: the participants draw blocks of the right table, and follow the chain of each row's key.
+//!
+//! One that stops early sets a flag, by which the others stop at their next block. No contract sees a plain atomic, and
+//! none needs to: whoever is told to stop answers as for want of memory, which says nothing, and that there are too many
+//! pairs, of whichever participant, goes before it.
 
 ghost use Rattle.std.specs.Prelude.{◌≡◌, ◌<◌, ◌≤◌, ◌+◌, ◌*◌, ◌++◌, ℕ, List, [], All, Any, OnOk, IfErr, IfNone, IfOk, IfSome, None, Some, length, map};
 ghost use Rattle.std.specs.List.{flat_map};
@@ -18,6 +22,7 @@ use row_blocks::{BLOCK_ROWS, count_blocks};
 use scan_claim::{ClaimSeat, Claims};
 use std::alloc::{AllocError, Global};
 use std::sync::Wait;
+use std::sync::atomic::{AtomicBool, Ordering};
 use std::thread::{Threads, for_each_mut};
 
 /// The most pairs that a join gives.
@@ -123,13 +128,14 @@ fn find_block(
     Ok(())
 }
 
-/// Draws blocks until there are no more, and adds the pairs of their rows.
+/// Draws blocks until there are no more or another participant has stopped, and adds the pairs of their rows.
 fn find_blocks<R: Wait>(
     rt: &R,
     chains: &Chains,
     rows: &RowStore,
     column: u32,
     claims: &Claims,
+    stop: &AtomicBool,
     claim: &mut ClaimSeat,
     pairs: &mut Vec<Pair>,
 ) -> Result<(), NoPairs>
@@ -146,6 +152,9 @@ fn find_blocks<R: Wait>(
         → Stops left rows.now c column (draws_of claim.new) why) }
 {
     for _ in rt.forever() {
+        if stop.load(Ordering::Relaxed) {
+            return Err(NoPairs::Memory);
+        }
         let Some(block) = claim.claim(claims) else {
             return Ok(());
         };
@@ -164,6 +173,7 @@ fn find<R: Wait>(
     rows: &RowStore,
     column: u32,
     claims: &Claims,
+    stop: &AtomicBool,
     finder: &mut Finder,
 )
     requires blocks { AreBlocks rows.now (blocks_of claims.now) }
@@ -181,12 +191,16 @@ fn find<R: Wait>(
         rows,
         column,
         claims,
+        stop,
         &mut finder.claim,
         &mut finder.finding.pairs,
     );
     finder.finding.stopped = match found {
         Ok(()) => None,
-        Err(why) => Some(why),
+        Err(why) => {
+            stop.store(true, Ordering::Relaxed);
+            Some(why)
+        }
     };
 }
 
@@ -227,11 +241,12 @@ fn find_all<R: Threads + Wait + Sync>(
         → FinderFound left rows.now c column claims.now f) finders.new.items }
 {
     let threads = finders.len().max(1);
+    let stop = AtomicBool::new(false);
     for_each_mut(
         rt,
         finders.as_mut_slice(),
         threads,
-        &|_, finder| { find(rt, chains, rows, column, claims, finder) },
+        &|_, finder| { find(rt, chains, rows, column, claims, &stop, finder) },
     );
 }
 
@@ -276,17 +291,21 @@ fn collect(alloc: Global, findings: &Vec<Finding>) -> Result<Vec<Pair>, NoPairs>
     Ok(all)
 }
 
-/// Why the first participant that stopped early did so.
+/// Why participants stopped early, if any did: too many pairs, where one of them found that.
 fn first_stop(findings: &Vec<Finding>) -> Option<NoPairs>
     ensures some { IfSome result (λ why. Any (λ (f : Finding). f.stopped ≡ Some why) findings.now.items) }
     ensures none { IfNone result (All (λ (f : Finding). f.stopped ≡ None) findings.now.items) }
 {
+    let mut lack = None;
     for finding in findings {
-        if let Some(why) = finding.stopped {
-            return Some(why);
+        if finding.stopped.is_some() {
+            lack = finding.stopped;
+        }
+        if finding.stopped == Some(NoPairs::TooMany) {
+            return lack;
         }
     }
-    None
+    lack
 }
 
 /// The second round, with this many participants: the pairs in order. That the seats come home tells that each block
