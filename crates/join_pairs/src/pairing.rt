@@ -152,7 +152,7 @@ fn find_blocks<R: Wait>(
         → Stops left rows.now c column (draws_of claim.new) why) }
 {
     for _ in rt.forever() {
-        if stop.load(Ordering::Relaxed) {
+        if stop.load(Ordering::SeqCst) {
             return Err(NoPairs::Memory);
         }
         let Some(block) = claim.claim(claims) else {
@@ -198,7 +198,7 @@ fn find<R: Wait>(
     finder.finding.stopped = match found {
         Ok(()) => None,
         Err(why) => {
-            stop.store(true, Ordering::Relaxed);
+            stop.store(true, Ordering::SeqCst);
             Some(why)
         }
     };
@@ -298,11 +298,10 @@ fn first_stop(findings: &Vec<Finding>) -> Option<NoPairs>
 {
     let mut lack = None;
     for finding in findings {
-        if finding.stopped.is_some() {
-            lack = finding.stopped;
-        }
-        if finding.stopped == Some(NoPairs::TooMany) {
-            return lack;
+        match finding.stopped {
+            Some(NoPairs::TooMany) => return Some(NoPairs::TooMany),
+            Some(NoPairs::Memory) => lack = Some(NoPairs::Memory),
+            None => {}
         }
     }
     lack
