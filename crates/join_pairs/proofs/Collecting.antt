@@ -1,8 +1,7 @@
 -- Lists that are put together one after the other.
 use Rattle.std.proofs.Common.{◌≡◌, ◌<◌, ◌≤◌, ◌+◌, ◌++◌, inl, inr, ℕ, List, [], ◌∷◌, All, Any, Some, None, length, take, drop, get_or, ap, sym, subst, ◌∙◌, arith, append-nil, length-append}
-use Rattle.std.specs.Prelude.{IfNone, IfSome, Option}
 use Rattle.std.specs.List.{flat_map}
-use Rattle.std.proofs.lemmas.List.{take-append-drop, take_all, take_more}
+use Rattle.std.proofs.lemmas.List.{take-append-drop, take_more}
 use Rattle.std.proofs.lemmas.List.Elements.{All-push}
 use Rattle.std.proofs.lemmas.List.Concat.{flat_map-append}
 use Rattle.join_pairs.specs.Join.{most_pairs}
@@ -41,22 +40,3 @@ many_reason fs i f all h e is more none =
 -- what holds of the first elements and of the next
 pub all_more : {X : Type 0} (P : X → Type 0) (xs : List X) (i : ℕ) (x : X) → i < length xs → x ≡ get_or xs i x → All P (take i xs) → P x → All P (take (i + 1) xs)
 all_more P xs i x h e a p = subst (All P) (sym (take_more xs i x h ∙ ap (λ y. take i xs ++ y ∷ []) (sym e))) (All-push P (take i xs) x a p)
-
--- what is known of the first participants: none of them stopped early; or one did, and why
-abbrev pub StoppedSoFar : List Finding → ℕ → Option NoPairs → Type 0
-StoppedSoFar fs i None = All (λ (f : Finding). f.stopped ≡ None) (take i fs)
-StoppedSoFar fs i (Some why) = Any (λ (f : Finding). f.stopped ≡ Some why) fs
-
--- the next one did not stop early
-pub goes_on : (fs : List Finding) (i : ℕ) (f : Finding) (lack : Option NoPairs) → i < length fs → f ≡ get_or fs i f → StoppedSoFar fs i lack → f.stopped ≡ None → StoppedSoFar fs (i + 1) lack
-goes_on fs i f None h e a n = all_more (λ (f : Finding). f.stopped ≡ None) fs i f h e a n
-goes_on fs i f (Some why) h e a n = a
-
--- all of them
-pub some_stopped : (fs : List Finding) (i : ℕ) (lack : Option NoPairs) → StoppedSoFar fs i lack → IfSome lack (λ why. Any (λ (f : Finding). f.stopped ≡ Some why) fs)
-some_stopped fs i None a = tt
-some_stopped fs i (Some why) a = a
-
-pub none_stopped : (fs : List Finding) (i : ℕ) (lack : Option NoPairs) → length fs ≤ i → StoppedSoFar fs i lack → IfNone lack (All (λ (f : Finding). f.stopped ≡ None) fs)
-none_stopped fs i None h a = subst (All (λ (f : Finding). f.stopped ≡ None)) (take_all i fs h) a
-none_stopped fs i (Some why) h a = tt

@@ -4,7 +4,7 @@
 //! none needs to: whoever is told to stop answers as for want of memory, which says nothing, and that there are too many
 //! pairs, of whichever participant, goes before it.
 
-ghost use Rattle.std.specs.Prelude.{◌≡◌, ◌<◌, ◌≤◌, ◌+◌, ◌*◌, ◌++◌, ℕ, List, [], All, Any, OnOk, IfErr, IfNone, IfOk, IfSome, None, Some, length, map};
+ghost use Rattle.std.specs.Prelude.{◌≡◌, ◌<◌, ◌≤◌, ◌+◌, ◌*◌, ◌++◌, ℕ, List, [], All, Any, OnOk, IfErr, IfNone, IfOk, IfSome, None, Some, length, map, true};
 ghost use Rattle.std.specs.List.{flat_map};
 ghost use Rattle.std.specs.List.Sorted.{IsPermutation};
 ghost use Rattle.scan_claim.specs.Shown.{Belongs, blocks_of, draws_of, number_of};
@@ -14,6 +14,7 @@ ghost use Rattle.join_pairs.specs.Chains.{IsChain, before_in};
 ghost use Rattle.join_pairs.specs.Found.{HasFound, HasNone, Stops, found_in, found_of};
 ghost use Rattle.join_pairs.specs.Gathered.{ChainsAll};
 ghost use Rattle.join_pairs.specs.Pairing.{AreSameSeats, FinderFound, IsNewFinder, IsReason, StopsAdding, pairs_with};
+ghost use Rattle.join_pairs.specs.declared.pairing.NoPairs.TheVariants as reason;
 
 use crate::chains::Chains;
 use crate::pairs::{Pair, Pairs};
@@ -276,6 +277,9 @@ fn collect(alloc: Global, findings: &Vec<Finding>) -> Result<Vec<Pair>, NoPairs>
     ensures few { IfOk result (λ v. length v.items ≤ most_pairs) }
     ensures none { IfErr result (λ why. IsReason findings.now.items why) }
 {
+    if found_too_many(findings) {
+        return Err(NoPairs::TooMany);
+    }
     if let Some(why) = first_stop(findings) {
         return Err(why);
     }
@@ -291,20 +295,32 @@ fn collect(alloc: Global, findings: &Vec<Finding>) -> Result<Vec<Pair>, NoPairs>
     Ok(all)
 }
 
-/// Why participants stopped early, if any did: too many pairs, where one of them found that.
+/// Whether a participant found too many pairs.
+fn found_too_many(findings: &Vec<Finding>) -> bool
+    ensures { result ≡ true → Any (λ (f : Finding). f.stopped ≡ Some reason.TooMany) findings.now.items }
+{
+    for finding in findings {
+        if let Some(why) = finding.stopped {
+            match why {
+                NoPairs::TooMany => return true,
+                NoPairs::Memory => {}
+            }
+        }
+    }
+    false
+}
+
+/// Why the first participant that stopped early did so.
 fn first_stop(findings: &Vec<Finding>) -> Option<NoPairs>
     ensures some { IfSome result (λ why. Any (λ (f : Finding). f.stopped ≡ Some why) findings.now.items) }
     ensures none { IfNone result (All (λ (f : Finding). f.stopped ≡ None) findings.now.items) }
 {
-    let mut lack = None;
     for finding in findings {
-        match finding.stopped {
-            Some(NoPairs::TooMany) => return Some(NoPairs::TooMany),
-            Some(NoPairs::Memory) => lack = Some(NoPairs::Memory),
-            None => {}
+        if let Some(why) = finding.stopped {
+            return Some(why);
         }
     }
-    lack
+    None
 }
 
 /// The second round, with this many participants: the pairs in order. That the seats come home tells that each block
