@@ -36,7 +36,7 @@ use Rattle.rel_pointer.specs.Bytes.{AllBytes}
 use Rattle.scan_claim.specs.Drawing.{below, flat, once_below, times}
 use Rattle.agg_law.specs.Law.{IsTabled, Share, TableGathers}
 use Rattle.agg_law.proofs.Calls.{called_are, stands_combined}
-use Rattle.agg_law.proofs.Shared.{all_accepted, apart, blocks_stand, groups_in_blocks, left_and_put}
+use Rattle.agg_law.proofs.PutAndLeft.{all_accepted, apart, blocks_stand, groups_in_blocks, left_and_put}
 use Rattle.agg_law.proofs.States.{gathered_states, groups_in-states, states-other}
 
 -- ---- lists

@@ -1,4 +1,4 @@
 pub mod States
 pub mod Calls
-pub mod Shared
+pub mod PutAndLeft
 pub mod Gathering

@@ -1,6 +1,6 @@
 -- A look-up is a call of the table that was made by one turn, and asked nothing of any area.
-use Rattle.std.proofs.Common.{◌≡◌, ◌∙◌, ℕ, ◌+◌, ◌*◌, ◌<◌, ◌≤◌, ⊎_elim, false, List, [], ◌∷◌, Option, refl, ap, sym, subst, arith}
-use Rattle.lock_book.specs.Shown.{number_of, seen_of, mine_of}
+use Rattle.std.proofs.Common.{◌≡◌, ◌∙◌, ℕ, ⊎_elim, false, List, [], ◌∷◌, Option, refl, ap, sym, arith}
+use Rattle.lock_book.specs.Shown.{number_of, seen_of}
 use Rattle.lock_book.specs.Told.{Histories}
 use Rattle.dsa_area.specs.declared.area.Area.{Area}
 use Rattle.dsa_area.specs.declared.area.AreaPass.{AreaPass}
@@ -8,15 +8,14 @@ use Rattle.dshash_core.specs.Chains.{Among}
 use Rattle.dshash_core.specs.Outcome.{changed}
 use Rattle.dshash_parts.specs.Promises.{AllGrew, CallMade, IsMade as IsMadeCall}
 use Rattle.dshash_parts.specs.States.{PartitionState}
-use Rattle.dshash_parts.specs.Tables.{AtPartition, Belongs, Turned, callers_of, item_of}
-use Rattle.dshash_parts.specs.Traces.{Event, Trace, Turn, sight, sight_of}
+use Rattle.dshash_parts.specs.Tables.{Belongs, Turned, callers_of, item_of}
+use Rattle.dshash_parts.specs.Traces.{Event, Turn, sight_of}
 use Rattle.dshash_parts.specs.declared.histories.PartitionCalls.{PartitionCalls}
 use Rattle.dshash_parts.specs.declared.histories.PartitionCalls.TheVariants.{Call}
 use Rattle.dshash_parts.specs.declared.histories.PartitionReplies.{PartitionReplies}
 use Rattle.dshash_parts.specs.declared.histories.PartitionReplies.TheVariants.{Made}
 use Rattle.dshash_numbers.specs.Maps.{IsMade, home_of, map_of}
 use Rattle.dshash_numbers.specs.Numbers.{after, stepped}
-use Rattle.dshash_numbers.specs.declared.number.NumberCall.{NumberCall}
 use Rattle.dshash_numbers.specs.declared.number.NumberCall.TheVariants.{Get}
 use Rattle.dshash_numbers.specs.declared.table.NumberTable.{NumberTable}
 use Rattle.dshash_numbers.proofs.MapCalls.{made_now, made_others, made_was}

@@ -1,5 +1,5 @@
 -- What calls and listings of a lone caller make of a table's maps.
-use Rattle.std.proofs.Common.{◌≡◌, ◌≢◌, ◌∙◌, ℕ, zero, suc, ◌<◌, ◌==◌, ⊎_elim, Bool, true, false, List, [], ◌∷◌, length, Option, Some, eq-eqb, refl, ap, sym, subst, arith}
+use Rattle.std.proofs.Common.{◌≡◌, ◌≢◌, ◌∙◌, ℕ, zero, suc, ◌<◌, ◌==◌, ⊎_elim, true, false, List, [], ◌∷◌, length, Option, Some, eq-eqb, refl, ap, sym, subst, arith}
 use mathlib.Core.Option.{some}
 use lib.ListN.{get_elem?}
 use Rattle.std.proofs.lemmas.Bool.Decides.{eqb_tells}

@@ -1,5 +1,5 @@
 -- What turns at a partition make of its map: only a call that was made changes it.
-use Rattle.std.proofs.Common.{◌≡◌, ◌≢◌, ◌∙◌, ℕ, ◌==◌, if◌then◌else◌, ⊎_elim, Bool, true, false, List, [], ◌∷◌, ◌++◌, Option, Some, None, refl, ap, subst}
+use Rattle.std.proofs.Common.{◌≡◌, ◌∙◌, ℕ, ◌==◌, if◌then◌else◌, Bool, true, false, List, [], ◌∷◌, ◌++◌, Option, Some, None, refl, ap, subst}
 use Rattle.std.specs.FinMap as fin
 use Rattle.dshash_core.specs.Cells.{KeyMap}
 use Rattle.dshash_core.specs.Outcome.{changed, next_of}

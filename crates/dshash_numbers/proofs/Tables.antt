@@ -1,5 +1,5 @@
 -- The same of a table of numbers.
-use Rattle.std.proofs.Common.{◌≡◌, ◌∙◌, ℕ, ◌+◌, ◌<◌, ◌==◌, true, not, ◌&&◌, List, [], ◌∷◌, is_some, Option, Some, None, Result, Ok, Err, IfOk, IfErr, fold, refl, ap, sym}
+use Rattle.std.proofs.Common.{◌≡◌, ◌∙◌, ℕ, ◌+◌, true, not, ◌&&◌, List, [], ◌∷◌, is_some, Option, Some, None, Result, Ok, Err, IfOk, IfErr, fold, refl, ap, sym}
 use Rattle.std.specs.FinMap as fin
 use Rattle.std.specs.List.{sum_by}
 use Rattle.lock_book.specs.Shown.{number_of}

@@ -8,6 +8,7 @@ ghost use Rattle.dshash_parts.specs.Opening.{Asks, IsNoTable};
 ghost use Rattle.dshash_parts.specs.Traces.{Got};
 ghost use Rattle.dshash_numbers.specs.Maps.{IsMade, IsNew, IsNumberTable, IsRefused, IsTotal};
 ghost use Rattle.dshash_numbers.specs.declared.number.NumberCall.TheVariants as verb;
+ghost use Rattle.dshash_numbers.specs.declared.table.TheConstants.{MOST_KEY_BYTES};
 
 use crate::number::{Number, NumberCall};
 use dsa_area::{Area, AreaPass, NoSpace};
@@ -18,7 +19,7 @@ use region_words::Region;
 use std::alloc::{AllocError, Global};
 use std::sync::Wait;
 
-/// The longest key.
+/// The longest key, which is the longest that `pack_key` packs.
 pub const MOST_KEY_BYTES: usize = 248;
 
 /// The words of a packed key.
@@ -79,7 +80,7 @@ impl NumberTable {
         requires table { IsNumberTable r.now self.old }
         requires area { IsArea r.now area.now }
         requires area_own { AreaBelongs area.now apass.old }
-        requires short { length key.now ≤ 248 }
+        requires short { length key.now ≤ MOST_KEY_BYTES }
         ensures table { IsNumberTable r.now self.new }
         ensures area_own { AreaBelongs area.now apass.new }
         ensures area_caller { area_number apass.new ≡ area_number apass.old }
@@ -92,7 +93,7 @@ impl NumberTable {
     /// The number under a key, if any. It is one turn, which reads: it asks nothing of any area, so it is never refused.
     pub fn get<R: Wait>(&mut self, rt: &R, r: &Region, key: &[u8]) -> Option<u64>
         requires table { IsNumberTable r.now self.old }
-        requires short { length key.now ≤ 248 }
+        requires short { length key.now ≤ MOST_KEY_BYTES }
         ensures table { IsNumberTable r.now self.new }
         ensures made { (area : _) (apass : _) → IsMade area self.old self.new apass apass (packed_key key.now) verb.Get result }
     {
@@ -116,7 +117,7 @@ impl NumberTable {
         requires table { IsNumberTable r.now self.old }
         requires area { IsArea r.now area.now }
         requires area_own { AreaBelongs area.now apass.old }
-        requires short { length key.now ≤ 248 }
+        requires short { length key.now ≤ MOST_KEY_BYTES }
         ensures table { IsNumberTable r.now self.new }
         ensures area_own { AreaBelongs area.now apass.new }
         ensures area_caller { area_number apass.new ≡ area_number apass.old }
@@ -141,7 +142,7 @@ impl NumberTable {
         requires table { IsNumberTable r.now self.old }
         requires area { IsArea r.now area.now }
         requires area_own { AreaBelongs area.now apass.old }
-        requires short { length key.now ≤ 248 }
+        requires short { length key.now ≤ MOST_KEY_BYTES }
         ensures table { IsNumberTable r.now self.new }
         ensures area_own { AreaBelongs area.now apass.new }
         ensures area_caller { area_number apass.new ≡ area_number apass.old }

@@ -1,5 +1,5 @@
 -- The rows of a batch, key by key: each group that is sent stands for the batch's rows with its key.
-use Rattle.std.proofs.Common.{◌≡◌, ◌++◌, ◌&&◌, ◌==◌, ℕ, Bool, true, false, not, cond, if◌then◌else◌, List, [], ◌∷◌, length, filter, None, Some, refl, ap, sym, subst, ◌∙◌, arith, bytes_eq, All}
+use Rattle.std.proofs.Common.{◌≡◌, ◌++◌, ◌&&◌, ℕ, Bool, true, false, not, cond, List, [], ◌∷◌, length, filter, None, Some, refl, ap, sym, subst, ◌∙◌, bytes_eq, All}
 use Rattle.std.specs.Cmp.Lexicographic.{bytes_decides}
 use Rattle.std.specs.FinMap as map
 use Rattle.std.specs.FinMap.Entries.{below_all}

@@ -1,6 +1,6 @@
 -- Where the blocks were drawn, each once, and the leader has put its own blocks and all the tuples of the others into
 -- its map, in any order, the map has the groups of one pass over all rows.
-use Rattle.std.specs.Prelude.{◌≡◌, ◌≤◌, ◌<◌, ◌+◌, ◌*◌, ◌^◌, ℕ, List, [], ◌∷◌, All, drop, length, map as map_list}
+use Rattle.std.specs.Prelude.{◌≡◌, ◌≤◌, ◌<◌, ◌+◌, ◌*◌, ◌^◌, ℕ, List, ◌∷◌, All, drop, length, map as map_list}
 use Rattle.std.specs.FinMap as map
 use Rattle.std.specs.List.{AllByRecursion, AllZip, flat_map}
 use Rattle.std.specs.List.Sorted.{IsPermutation}

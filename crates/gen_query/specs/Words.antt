@@ -3,6 +3,7 @@ use Rattle.std.specs.Prelude.{◌==◌, ◌&&◌, ◌-◌, ◌^◌, [], ℕ, Boo
 use Rattle.std.specs.Char.{is_ascii_digit}
 use Rattle.std.specs.List.{list_all}
 use Rattle.std.specs.Str.Parse.{digits_value}
+use Rattle.par_model.specs.Outcome.{most_rows}
 use Rattle.gen_query.specs.declared.words.GenWords.{GenWords}
 
 -- the seed of the generator, and the number of rows
@@ -28,9 +29,9 @@ not_zero n = if n == 0 then None else Some n
 abbrev pub seed_in : List ℕ → Option ℕ
 seed_in text = option_and_then not_zero (number_in 20 (2 ^ 64 - 1) text)
 
--- a number of rows: 1 to 7 digits, with a value up to 4,194,304
+-- a number of rows: 1 to 7 digits, with a value up to the most rows of an input
 abbrev pub rows_in : List ℕ → Option ℕ
-rows_in text = number_in 7 4194304 text
+rows_in text = number_in 7 most_rows text
 
 -- both
 abbrev pub asked_in : List ℕ → List ℕ → Option Asked

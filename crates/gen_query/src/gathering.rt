@@ -3,6 +3,7 @@
 ghost use Rattle.std.specs.Prelude.{◌≡◌, ◌≢◌, ◌≤◌, All, IfOk, drop};
 ghost use Rattle.csv_rows.specs.declared.records.RowsAnswer.TheVariants as answer;
 ghost use Rattle.par_model.specs.Named.{bound_plan};
+ghost use Rattle.par_model.specs.Outcome.{most_rows};
 ghost use Rattle.partial_agg.specs.Rows.{IsAccepted, header_width};
 ghost use Rattle.gen_query.specs.Generator.{generated, header};
 ghost use Rattle.gen_query.specs.Plan.{bound_gen, gen_plan};
@@ -53,7 +54,7 @@ pub(crate) fn read_generated<R: Threads + Sync>(
     seed: u64,
     rows: u64,
 ) -> Result<RowStore, AllocError>
-    requires { rows ≤ 4194304 }
+    requires { rows ≤ most_rows }
     ensures { IfOk result (λ store. store ≡ generated seed rows) }
 {
     let text = generated_text(alloc, seed, rows)?;

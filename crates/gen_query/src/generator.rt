@@ -3,6 +3,7 @@
 ghost use Rattle.std.specs.Prelude.{◌≡◌, ◌≤◌, ◌<◌, ◌++◌, ◌%◌, ◌+◌, ◌*◌, IfOk, OnOk, codes, decimal, length};
 ghost use Rattle.std.specs.Fmt.{signed_decimal};
 ghost use Rattle.csv.specs.Writing.{default_writer, row_text};
+ghost use Rattle.par_model.specs.Outcome.{most_rows};
 ghost use Rattle.par_model.specs.Table.{table_text};
 ghost use Rattle.gen_query.specs.Generator.{generated, next_of, record_of, value_of};
 
@@ -44,7 +45,7 @@ fn put_row(text: &mut Vec<u8>, x: u64) -> Result<(), AllocError>
 
 /// The header and the rows of the numbers after a seed. It takes 11 bytes a row, at once.
 pub(crate) fn generated_text(alloc: Global, seed: u64, rows: u64) -> Result<Vec<u8>, AllocError>
-    requires { rows ≤ 4194304 }
+    requires { rows ≤ most_rows }
     ensures { IfOk result (λ text. text.items ≡ table_text (generated seed rows)) }
 {
     let mut text = Vec::with_capacity(alloc, 4 + rows as usize * ROW_BYTES)?;

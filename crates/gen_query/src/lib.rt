@@ -10,6 +10,7 @@
 
 ghost use Rattle.std.specs.Prelude.{◌≡◌, ◌≢◌, ◌⊎◌, ◌≤◌, IfErr, IfOk, IsNone, IsSome, OnOk, Some, Err};
 ghost use Rattle.par_io.specs.Faults.{Rose};
+ghost use Rattle.par_model.specs.Outcome.{most_rows};
 ghost use Rattle.query_answer.specs.Words.{texts};
 ghost use Rattle.gen_query.specs.Summary.{IsAnswered, IsBegun};
 ghost use Rattle.gen_query.specs.Used.{IsGatheredBy};
@@ -94,7 +95,7 @@ fn summarize<R: Threads + Wait + Sync, O: Sink, G: Gate + Sync>(
     out: &mut O,
     gate: &G,
 ) -> Result<Gathered, GenAnswer>
-    requires { asked.now.rows ≤ 4194304 }
+    requires { asked.now.rows ≤ most_rows }
     ensures summary { OnOk result (IsAnswered (Some (asked_by asked.now)) (O.taken out.old) (O.taken out.new)) }
     ensures gathered { IfOk result (λ gathered. IsGatheredBy (Some (asked_by asked.now)) gathered) }
     ensures part { result ≡ Err answer.WriteFault → IsBegun (Some (asked_by asked.now)) (O.taken out.old) (O.taken out.new) }

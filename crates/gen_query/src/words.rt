@@ -1,15 +1,19 @@
 //! The words `gen SEED ROWS`.
 
 ghost use Rattle.std.specs.Prelude.{◌≡◌, ◌≢◌, ◌≤◌, ◌<◌, ◌^◌, ◌-◌, IfSome, option_map};
+ghost use Rattle.par_model.specs.Outcome.{most_rows};
 ghost use Rattle.gen_query.specs.Words.{asked_by, asked_in, gen_of, is_gen, number_in, rows_in, seed_in};
 ghost use Rattle.query_answer.specs.Words.{texts};
+
+/// The most rows, as many as an input may have.
+const MOST_ROWS: u64 = 4_194_304;
 
 /// What words ask for.
 #[derive(Debug, Clone, Copy)]
 pub(crate) struct GenWords {
     /// The seed of the generator, which is not 0.
     pub(crate) seed: u64,
-    /// The number of rows, at most 4,194,304.
+    /// The number of rows, at most [`MOST_ROWS`].
     pub(crate) rows: u64,
 }
 
@@ -24,10 +28,10 @@ pub fn is_gen(words: &[String]) -> bool
 }
 
 /// What the words after a program's name ask for, if they are `gen`, a seed and a number of rows: 1 to 20 digits with a
-/// value from 1 to 2^64 - 1, and 1 to 7 digits with a value up to 4,194,304. It takes no memory.
+/// value from 1 to 2^64 - 1, and 1 to 7 digits with a value up to [`MOST_ROWS`]. It takes no memory.
 pub(crate) fn read_words(words: &[String]) -> Option<GenWords>
     ensures asked { option_map asked_by result ≡ gen_of (texts words.now) }
-    ensures few { IfSome result (λ asked. asked.rows ≤ 4194304) }
+    ensures few { IfSome result (λ asked. asked.rows ≤ most_rows) }
 {
     if words.len() != 3 || !is_gen(words) {
         return None;
@@ -38,10 +42,10 @@ pub(crate) fn read_words(words: &[String]) -> Option<GenWords>
 /// What SEED and ROWS ask for.
 fn asked_in(seed: &str, rows: &str) -> Option<GenWords>
     ensures asked { option_map asked_by result ≡ asked_in seed.now rows.now }
-    ensures few { IfSome result (λ asked. asked.rows ≤ 4194304) }
+    ensures few { IfSome result (λ asked. asked.rows ≤ most_rows) }
 {
     let seed = read_seed(seed)?;
-    let rows = number(rows, 7, 4_194_304)?;
+    let rows = number(rows, 7, MOST_ROWS)?;
     Some(GenWords { seed, rows })
 }
 

@@ -1,6 +1,10 @@
 //! The second round: the participants draw blocks of the right table, and follow the chain of each row's key.
+//!
+//! One that stops early sets a flag, by which the others stop at their next block. No contract sees a plain atomic, and
+//! none needs to: whoever is told to stop answers as for want of memory, which says nothing, and that there are too many
+//! pairs, of whichever participant, goes before it.
 
-ghost use Rattle.std.specs.Prelude.{◌≡◌, ◌<◌, ◌≤◌, ◌+◌, ◌*◌, ◌++◌, ℕ, List, [], All, Any, OnOk, IfErr, IfNone, IfOk, IfSome, None, Some, length, map};
+ghost use Rattle.std.specs.Prelude.{◌≡◌, ◌<◌, ◌≤◌, ◌+◌, ◌*◌, ◌++◌, ℕ, List, [], All, Any, OnOk, IfErr, IfNone, IfOk, IfSome, None, Some, length, map, true};
 ghost use Rattle.std.specs.List.{flat_map};
 ghost use Rattle.std.specs.List.Sorted.{IsPermutation};
 ghost use Rattle.scan_claim.specs.Shown.{Belongs, blocks_of, draws_of, number_of};
@@ -10,6 +14,7 @@ ghost use Rattle.join_pairs.specs.Chains.{IsChain, before_in};
 ghost use Rattle.join_pairs.specs.Found.{HasFound, HasNone, Stops, found_in, found_of};
 ghost use Rattle.join_pairs.specs.Gathered.{ChainsAll};
 ghost use Rattle.join_pairs.specs.Pairing.{AreSameSeats, FinderFound, IsNewFinder, IsReason, StopsAdding, pairs_with};
+ghost use Rattle.join_pairs.specs.declared.pairing.NoPairs.TheVariants as reason;
 
 use crate::chains::Chains;
 use crate::pairs::{Pair, Pairs};
@@ -18,6 +23,7 @@ use row_blocks::{BLOCK_ROWS, count_blocks};
 use scan_claim::{ClaimSeat, Claims};
 use std::alloc::{AllocError, Global};
 use std::sync::Wait;
+use std::sync::atomic::{AtomicBool, Ordering};
 use std::thread::{Threads, for_each_mut};
 
 /// The most pairs that a join gives.
@@ -123,13 +129,14 @@ fn find_block(
     Ok(())
 }
 
-/// Draws blocks until there are no more, and adds the pairs of their rows.
+/// Draws blocks until there are no more or another participant has stopped, and adds the pairs of their rows.
 fn find_blocks<R: Wait>(
     rt: &R,
     chains: &Chains,
     rows: &RowStore,
     column: u32,
     claims: &Claims,
+    stop: &AtomicBool,
     claim: &mut ClaimSeat,
     pairs: &mut Vec<Pair>,
 ) -> Result<(), NoPairs>
@@ -146,6 +153,9 @@ fn find_blocks<R: Wait>(
         → Stops left rows.now c column (draws_of claim.new) why) }
 {
     for _ in rt.forever() {
+        if stop.load(Ordering::SeqCst) {
+            return Err(NoPairs::Memory);
+        }
         let Some(block) = claim.claim(claims) else {
             return Ok(());
         };
@@ -164,6 +174,7 @@ fn find<R: Wait>(
     rows: &RowStore,
     column: u32,
     claims: &Claims,
+    stop: &AtomicBool,
     finder: &mut Finder,
 )
     requires blocks { AreBlocks rows.now (blocks_of claims.now) }
@@ -181,12 +192,16 @@ fn find<R: Wait>(
         rows,
         column,
         claims,
+        stop,
         &mut finder.claim,
         &mut finder.finding.pairs,
     );
     finder.finding.stopped = match found {
         Ok(()) => None,
-        Err(why) => Some(why),
+        Err(why) => {
+            stop.store(true, Ordering::SeqCst);
+            Some(why)
+        }
     };
 }
 
@@ -227,11 +242,12 @@ fn find_all<R: Threads + Wait + Sync>(
         → FinderFound left rows.now c column claims.now f) finders.new.items }
 {
     let threads = finders.len().max(1);
+    let stop = AtomicBool::new(false);
     for_each_mut(
         rt,
         finders.as_mut_slice(),
         threads,
-        &|_, finder| { find(rt, chains, rows, column, claims, finder) },
+        &|_, finder| { find(rt, chains, rows, column, claims, &stop, finder) },
     );
 }
 
@@ -261,6 +277,9 @@ fn collect(alloc: Global, findings: &Vec<Finding>) -> Result<Vec<Pair>, NoPairs>
     ensures few { IfOk result (λ v. length v.items ≤ most_pairs) }
     ensures none { IfErr result (λ why. IsReason findings.now.items why) }
 {
+    if found_too_many(findings) {
+        return Err(NoPairs::TooMany);
+    }
     if let Some(why) = first_stop(findings) {
         return Err(why);
     }
@@ -274,6 +293,21 @@ fn collect(alloc: Global, findings: &Vec<Finding>) -> Result<Vec<Pair>, NoPairs>
         }
     }
     Ok(all)
+}
+
+/// Whether a participant found too many pairs.
+fn found_too_many(findings: &Vec<Finding>) -> bool
+    ensures { result ≡ true → Any (λ (f : Finding). f.stopped ≡ Some reason.TooMany) findings.now.items }
+{
+    for finding in findings {
+        if let Some(why) = finding.stopped {
+            match why {
+                NoPairs::TooMany => return true,
+                NoPairs::Memory => {}
+            }
+        }
+    }
+    false
 }
 
 /// Why the first participant that stopped early did so.

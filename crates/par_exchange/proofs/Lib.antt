@@ -1,5 +1,5 @@
 pub mod PlaceLaws
-pub mod Steps
+pub mod Bringing
 pub mod Tracks
 pub mod Stages
 pub mod Fits

@@ -1,4 +1,4 @@
 mod Blocks
 mod Joining
-mod Seats
+mod SeatedMaps
 mod Shared

@@ -17,7 +17,7 @@ use Rattle.split_law.proofs.RowShares.{blocks_cover, shares_grow}
 use Rattle.split_run.specs.Causes.{IsCauseBy}
 use Rattle.split_run.specs.Hands.{AreDone, HasAdded, HasDone}
 use Rattle.split_run.specs.declared.hands.Hand.{Hand}
-use Rattle.split_run.proofs.Seats.{map_of, seat_of}
+use Rattle.split_run.proofs.SeatedMaps.{map_of, seat_of}
 
 abbrev drawn_by : Hand → List ℕ
 drawn_by h = draws_of h.claim

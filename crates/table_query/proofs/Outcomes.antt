@@ -1,5 +1,5 @@
 -- A query that is ready to run: what its rows and the reasons to have no answer say of the outcome.
-use Rattle.std.proofs.Common.{[], ◌≡◌, ◌<◌, ◌≤◌, ◌-◌, ◌⊎◌, ◌∙◌, inl, inr, ℕ, List, ◌∷◌, false, if◌then◌else◌, length, drop, refl, ap, arith, subst, sym, None, Some, Option, Contains, IfSome, nat_lt}
+use Rattle.std.proofs.Common.{[], ◌≡◌, ◌<◌, ◌≤◌, ◌⊎◌, ◌∙◌, inl, inr, ℕ, List, ◌∷◌, false, if◌then◌else◌, length, drop, refl, ap, arith, subst, sym, None, Some, Option, Contains, IfSome, nat_lt}
 use Rattle.std.specs.Prelude.{option_map, slice_get}
 use Rattle.std.proofs.lemmas.Bool.Decides.{nat_tests}
 use Rattle.csv_rows.specs.Records.{record_at, records_of}

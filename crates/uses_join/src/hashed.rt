@@ -217,3 +217,21 @@ fn as_many_pairs_as_there_may_be(rt: HostRuntime) -> Result<(), Fail> {
     }
     Ok(())
 }
+
+/// The first block of right rows has too many pairs, and thousands of further rows have none: whoever draws those is told to
+/// stop, and the answer is that of the first.
+#[test]
+fn too_many_pairs_of_one_participant(rt: HostRuntime) -> Result<(), Fail> {
+    let left = ones(rt.alloc(), 4200)?;
+    let mut right = ones(rt.alloc(), 256)?;
+    for _ in 0..20_000 {
+        right.extend_from_slice(b"2\n")?;
+    }
+    for workers in [0, 1, 3] {
+        match joined(&rt, rt.alloc(), &left, &right, (0, 0), workers)? {
+            Ok(_) => return Err(Fail::new("too few pairs")),
+            Err(why) => assert!(rt; why == JoinAnswer::TooManyPairs),
+        }
+    }
+    Ok(())
+}

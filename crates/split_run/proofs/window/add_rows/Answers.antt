@@ -3,7 +3,7 @@ use Rattle.scan_claim.specs.Shown.{AreSeats, blocks_of, callers_of, lists_of}
 use Rattle.scan_claim.specs.declared.claims.ClaimSeat.{ClaimSeat}
 use Rattle.row_blocks.specs.Blocks.{AreBlocks}
 use Rattle.split_run.specs.Causes.{IsCauseBy}
-use Rattle.split_run.proofs.Seats.{all_new, hands_many, kept_seats}
+use Rattle.split_run.proofs.SeatedMaps.{all_new, hands_many, kept_seats}
 use Rattle.split_run.proofs.Shared.{all_causes, all_rows, shares_on}
 use Rattle.split_run.proofs.window.add_rows.Goals as goal
 

@@ -1,4 +1,4 @@
-use Rattle.std.proofs.Common.{◌≡◌, ℕ, List, IfErr, IfOk, refl, subst}
+use Rattle.std.proofs.Common.{ℕ, List, IfErr, IfOk, refl, subst}
 use Rattle.dshash_numbers.specs.Maps.{IsMade, IsRefused}
 use Rattle.dshash_numbers.specs.declared.table.NumberTable.{NumberTable}
 use Rattle.dshash_numbers.proofs.Tables.{made, refused}

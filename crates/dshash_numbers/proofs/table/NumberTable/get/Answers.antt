@@ -1,6 +1,4 @@
-use Rattle.std.proofs.Common.{◌≡◌, List, ℕ, refl, subst}
-use Rattle.dsa_area.specs.declared.area.Area.{Area}
-use Rattle.dsa_area.specs.declared.area.AreaPass.{AreaPass}
+use Rattle.std.proofs.Common.{List, ℕ, refl, subst}
 use Rattle.dshash_numbers.specs.Maps.{IsMade}
 use Rattle.dshash_numbers.specs.declared.number.NumberCall.TheVariants.{Get}
 use Rattle.dshash_numbers.specs.declared.table.NumberTable.{NumberTable}

@@ -2,7 +2,7 @@ use Rattle.std.proofs.Common.{◌≡◌, ◌∙◌, true, false, ap, sym}
 use Rattle.std.specs.Prelude.{Some, is_none, slice_set}
 use Rattle.std.specs.List.{list_any}
 use Rattle.par_exchange.specs.States.{all_of, cleared}
-use Rattle.par_exchange.proofs.Steps.{after_all, brings_ends, brings_waits, has_all}
+use Rattle.par_exchange.proofs.Bringing.{after_all, brings_ends, brings_waits, has_all}
 use Rattle.par_exchange.proofs.tokens.Tokens.bring.Goals as goal
 
 pub returns-then-is_short-clause-legal : goal.returns-then-is_short-clause-legal
