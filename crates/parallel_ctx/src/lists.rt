@@ -60,6 +60,29 @@ pub(crate) fn thread_lists<P: Drop, B: Drop>(
     })
 }
 
+/// Lists of the seats of this many participants.
+fn seat_lists(alloc: Global, count: usize) -> Result<(Vec<ClaimSeat>, Vec<HashSeat>), AllocError>
+    ensures claims { IfOk result (λ l. HasRoom count l.0) }
+    ensures hashes { IfOk result (λ l. HasRoom count l.1) }
+{
+    let claims = Vec::with_capacity(alloc, count)?;
+    let hashes = Vec::with_capacity(alloc, count)?;
+    Ok((claims, hashes))
+}
+
+/// Lists of the two passes of this many participants.
+fn pass_lists(
+    alloc: Global,
+    count: usize,
+) -> Result<(Vec<DsPass<AggObject>>, Vec<AreaPass>), AllocError>
+    ensures tables { IfOk result (λ l. HasRoom count l.0) }
+    ensures areas { IfOk result (λ l. HasRoom count l.1) }
+{
+    let tables = Vec::with_capacity(alloc, count)?;
+    let areas = Vec::with_capacity(alloc, count)?;
+    Ok((tables, areas))
+}
+
 /// The lists of this many workers and a lead.
 pub(crate) fn home_lists<E: Drop>(alloc: Global, asked: usize) -> Result<HomeLists<E>, AllocError>
     requires { asked ≤ 64 }
@@ -69,11 +92,14 @@ pub(crate) fn home_lists<E: Drop>(alloc: Global, asked: usize) -> Result<HomeLis
     ensures tables { IfOk result (λ l. HasRoom (asked + 1) l.tables) }
     ensures areas { IfOk result (λ l. HasRoom (asked + 1) l.areas) }
 {
+    let workers = Vec::with_capacity(alloc, asked)?;
+    let (claims, hashes) = seat_lists(alloc, asked + 1)?;
+    let (tables, areas) = pass_lists(alloc, asked + 1)?;
     Ok(HomeLists {
-        workers: Vec::with_capacity(alloc, asked)?,
-        claims: Vec::with_capacity(alloc, asked + 1)?,
-        hashes: Vec::with_capacity(alloc, asked + 1)?,
-        tables: Vec::with_capacity(alloc, asked + 1)?,
-        areas: Vec::with_capacity(alloc, asked + 1)?,
+        workers,
+        claims,
+        hashes,
+        tables,
+        areas,
     })
 }

@@ -6,6 +6,7 @@ pub mod Present
 pub mod Merges
 pub mod Numbers
 pub mod Padded
+pub mod Parsed
 pub mod Places
 pub mod Planned
 pub mod ReadBack
