@@ -13,3 +13,4 @@ pub mod Callers
 pub mod Lookups
 pub mod Done
 pub mod Takings
+pub mod Tries

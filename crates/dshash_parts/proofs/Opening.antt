@@ -10,7 +10,7 @@ use Rattle.dsa_area.specs.declared.area.AreaPass.{AreaPass}
 use Rattle.dshash_parts.specs.declared.histories.PartitionName.{PartitionName}
 use Rattle.dshash_parts.specs.States.{PartitionState, fresh}
 use Rattle.dshash_parts.specs.Traces.{Request, Got, Missed, Gave, Requested}
-use Rattle.dshash_parts.specs.Opening.{Asks, AreSlices, opens_from, refused_after}
+use Rattle.dshash_parts.specs.Opening.{Asks, AreSlices, HaveWords, opens_from, refused_after}
 
 pub asks_append : (a : Area) (p q u : AreaPass) (rs ss : List Request) → Asks a p q rs → Asks a q u ss → Asks a p u (rs ++ ss)
 asks_append a p q u [] ss x y = subst (λ (z : AreaPass). Asks a z u ss) x y
@@ -51,6 +51,11 @@ slices_next region all xs c e h here room size = subst (λ (z : List Chunk). Are
     front : (ys : List Chunk) → AreSlices region ys → AreSlices region (ys ++ c ∷ [])
     front [] x = (here, room, size, tt)
     front (y ∷ ys) x = (x.0, x.1, x.2, front ys x.3)
+
+-- slices have a word each
+pub have_words : (region : TableId) (xs : List Chunk) → AreSlices region xs → HaveWords region xs
+have_words region [] h = tt
+have_words region (x ∷ xs) h = (h.0, h.1, have_words region xs h.3)
 
 module _ {S : Type 0} (region : TableId) (key_words item_bytes : ℕ) where
   -- what a partition of this number opens with

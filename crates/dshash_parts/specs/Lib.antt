@@ -14,4 +14,5 @@ pub mod Callers
 pub mod Lookups
 pub mod Done
 pub mod Takes
+pub mod Tries
 pub mod Uses

@@ -21,6 +21,11 @@ abbrev pub AreSlices : TableId → List Chunk → Type 0
 AreSlices region [] = Unit {0}
 AreSlices region (c ∷ cs) = (c.part.region ≡ region) × (8 ≤ c.bytes) × (c.bytes ≡ chunk_size 8) × AreSlices region cs
 
+-- chunks of this region, each of a word at least
+abbrev pub HaveWords : TableId → List Chunk → Type 0
+HaveWords region [] = Unit {0}
+HaveWords region (c ∷ cs) = (c.part.region ≡ region) × (8 ≤ c.bytes) × HaveWords region cs
+
 -- this many slices were granted, one was refused, and they went back
 abbrev pub refused_after : ℕ → ℕ → ℕ → List Request
 refused_after n pages largest = replicate n (Got 8) ++ Missed 8 pages largest ∷ replicate n (Gave (chunk_size 8))

@@ -7,7 +7,8 @@
 //! calls of a key are, in one history, those of one cell, while partitions move between any two of them (`laws`).
 //!
 //! `numbered` is the locked value, `turns` one event at it, `requests` one request to the area; `growing`, `calls`,
-//! `finding` and `taking` put these together. `open`, `close` and `listing` are how a table begins and ends, and how its entries are told.
+//! `finding` and `taking` put these together. `trying` has the turns that will not wait. `open`, `close` and `listing` are
+//! how a table begins and ends, and how its entries are told.
 
 #![tactic(auto)]
 
@@ -25,6 +26,7 @@ mod open;
 mod requests;
 mod table;
 mod taking;
+mod trying;
 mod turns;
 
 pub use asks::{TableAnswer, TableAsk};
@@ -37,3 +39,4 @@ pub use laws::{
 pub use numbered::Numbered;
 pub use open::DsNew;
 pub use table::{DsPass, Dshash};
+pub use trying::Busy;

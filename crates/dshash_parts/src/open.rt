@@ -10,7 +10,7 @@ ghost use Rattle.dshash_core.specs.Key.{item_size};
 ghost use Rattle.dshash_parts.specs.Asked.{name_of, state_of};
 ghost use Rattle.dshash_parts.specs.Tables.{IsTable, key_words_of, item_of, AreAll, callers_of};
 ghost use Rattle.dshash_parts.specs.Traces.{Got, Gave};
-ghost use Rattle.dshash_parts.specs.Opening.{Asks, AreSlices, IsNoTable, opens_from};
+ghost use Rattle.dshash_parts.specs.Opening.{Asks, AreSlices, HaveWords, IsNoTable, opens_from};
 
 use crate::numbered::Numbered;
 use crate::requests::{ask, give};
@@ -96,7 +96,7 @@ fn partitions<O: CellObject>(
     key_words: u32,
     item_chunk: u64,
 ) -> Result<Vec<Numbered<O>>, AllocError>
-    requires slices { AreSlices r.now slices.items }
+    requires slices { HaveWords r.now slices.items }
     requires few { length slices.items ≤ 128 }
     requires fits { item_size key_words O.VALUE_WORDS ≤ item_chunk }
     ensures { IfOk result (λ v. map (λ x. (name_of x.number x.partition, state_of x.partition)) v.items ≡ opens_from r.now key_words item_chunk 0 (length slices.items)) }
@@ -146,13 +146,36 @@ where
         ensures refused { IfErr result (λ e. IsNoTable area.now apass.old apass.new e) }
     {
         let slices = take_slices(rt, alloc, r, area, apass)?;
+        match Dshash::on_slices(alloc, r, slices, key_words, callers) {
+            Ok(made) => Ok(made),
+            Err(_) => Err(DsNew::Memory),
+        }
+    }
+
+    /// The same on 128 slices that the caller brings, of a word each at least, which are the table's from then on. It
+    /// waits for nobody and asks nothing of any area. Where there is no memory, the slices are dropped.
+    pub fn on_slices(
+        alloc: Global,
+        r: &Region,
+        slices: Vec<Chunk>,
+        key_words: u32,
+        callers: u32,
+    ) -> Result<(Dshash<O>, Vec<DsPass<O>>), AllocError>
+        requires count { length slices.items ≡ 128 }
+        requires slices { HaveWords r.now slices.items }
+        requires keys { (1 ≤ key_words) × (key_words ≤ 64) }
+        requires callers { 1 ≤ callers }
+        requires items { item_size key_words O.VALUE_WORDS ≤ 2 ^ 30 }
+        ensures table { IfOk result (λ t. IsTable r.now t.0) }
+        ensures keys { IfOk result (λ t. key_words_of t.0 ≡ key_words) }
+        ensures items { IfOk result (λ t. item_of t.0 ≡ item_size key_words O.VALUE_WORDS) }
+        ensures callers { IfOk result (λ t. callers_of t.0 ≡ callers) }
+        ensures passes { IfOk result (λ t. AreAll t.0 t.1.items) }
+        ensures fresh { IfOk result (λ t. (k : ℕ) (p : _) → get_elem? t.1.items k ≡ some p → (i : ℕ) → (seen_of p i ≡ []) × (mine_of p i ≡ [])) }
+    {
         let item = item_bytes(key_words, O::VALUE_WORDS as u32);
-        let Ok(parts) = partitions::<O>(alloc, r, slices, key_words, chunk_bytes(item)) else {
-            return Err(DsNew::Memory);
-        };
-        let Ok((shelf, passes)) = Shelf::new(alloc, parts, callers) else {
-            return Err(DsNew::Memory);
-        };
+        let parts = partitions::<O>(alloc, r, slices, key_words, chunk_bytes(item))?;
+        let (shelf, passes) = Shelf::new(alloc, parts, callers)?;
         let table = Dshash {
             key_words,
             item_bytes: item,
