@@ -106,7 +106,7 @@ module _ (plan : Plan) (width : ℕ) (records : Table) where
   one_worker : (draws : List ℕ) (groups : List Group) → AreSent plan width records draws groups → length (rows_of_blocks records draws) < 2 ^ 64
       → Stand groups (kept (rows_of_blocks records draws))
   one_worker draws groups a fits =
-      subst (λ gs. Stand gs (kept (rows_of_blocks records draws))) (sym a.sent)
+      goes_along (StandsFor plan) (flat_map (groups_of plan) a.batches) groups (kept (rows_of_blocks records draws)) a.sent
       (subst (λ rows. Stand (flat_map (groups_of plan) a.batches) (kept rows)) a.cut
       (all_batches a.batches (subst Accepted (sym a.cut) a.accepted) (subst (λ rows. length rows < 2 ^ 64) (sym a.cut) fits)))
 
@@ -230,10 +230,11 @@ module _ (plan : Plan) (width : ℕ) (records : Table) where
 
   combined : (rows : Table) (messages : List (List ℕ)) → Accepted rows → length rows < 2 ^ 63 → AreTuples plan rows messages → CombineTo plan rows messages
   combined rows messages h few t =
-      let gs = flat_map (groups_of plan) t.batches in
+      let gs = t.groups in
       let stand : Stand gs (kept rows) =
-      subst (λ rs. Stand gs (kept rs)) t.cut
-      (all_batches t.batches (subst Accepted (sym t.cut) h) (subst (λ rs. length rs < 2 ^ 64) (sym t.cut) (omega (arith, few)))) in
+      goes_along (StandsFor plan) (flat_map (groups_of plan) t.batches) gs (kept rows) t.all
+      (subst (λ rs. Stand (flat_map (groups_of plan) t.batches) (kept rs)) t.cut
+      (all_batches t.batches (subst Accepted (sym t.cut) h) (subst (λ rs. length rs < 2 ^ 64) (sym t.cut) (omega (arith, few))))) in
       let lists = flat_map (λ l. l) stand.lists in
       let fine : Accepted (kept rows) = All-filter (is_kept plan) (IsAccepted plan width) rows h in
       let lists_fine : Accepted lists = All-permutation (IsAccepted plan width) (kept rows) lists stand.same fine in

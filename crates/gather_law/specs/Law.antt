@@ -12,11 +12,11 @@ use Rattle.gather_law.specs.Tuples.{AreTuples, Group, HasTuple, groups_of, tuple
 use Rattle.row_blocks.specs.Blocks.{Table, rows_of_blocks}
 use Rattle.gather_law.specs.Parts.{Part, after, blocks_in, received_in, with_all}
 
--- groups are those of batches of the rows of some blocks, none of which is refused
+-- groups are those of batches of the rows of some blocks, each once and in any order; none of the rows is refused
 pub record AreSent (plan : Plan) (width : ℕ) (records : Table) (draws : List ℕ) (groups : List Group) : Type 0 where
   pub batches : List Table
   pub cut : flat_map (λ batch. batch) batches ≡ rows_of_blocks records draws
-  pub sent : groups ≡ flat_map (groups_of plan) batches
+  pub sent : IsPermutation (flat_map (groups_of plan) batches) groups
   pub accepted : All (IsAccepted plan width) (rows_of_blocks records draws)
 
 -- what a leader has done, with the draws of its own and of the others, and the groups that each of the others sent

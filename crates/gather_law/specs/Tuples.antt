@@ -2,6 +2,7 @@
 use Rattle.std.specs.Prelude.{◌≡◌, ℕ, List, length, map as map_list}
 use Rattle.std.specs.FinMap as map
 use Rattle.std.specs.List.{AllByRecursion, flat_map}
+use Rattle.std.specs.List.Sorted.{IsPermutation}
 use Rattle.par_model.specs.Plan.{Plan}
 use Rattle.par_model.specs.declared.state.AggState.{AggState}
 use Rattle.partial_agg.specs.Groups.{with_rows}
@@ -30,9 +31,12 @@ pub record IsTupleOf (plan : Plan) (bytes : List ℕ) : Type 0 where
   pub has : HasTuple plan group
   pub is : bytes ≡ tuple_of plan group
 
--- messages are the tuples of some rows: the rows were cut into batches, and the groups of each were sent
+-- messages are the tuples of some rows: the rows were cut into batches, and the groups of all batches were sent, each
+-- once, in any order
 pub record AreTuples (plan : Plan) (rows : Table) (messages : List (List ℕ)) : Type 0 where
   pub batches : List Table
   pub cut : flat_map (λ batch. batch) batches ≡ rows
-  pub sent : messages ≡ map_list (tuple_of plan) (flat_map (groups_of plan) batches)
-  pub written : AllByRecursion (HasTuple plan) (flat_map (groups_of plan) batches)
+  pub groups : List Group
+  pub all : IsPermutation (flat_map (groups_of plan) batches) groups
+  pub sent : messages ≡ map_list (tuple_of plan) groups
+  pub written : AllByRecursion (HasTuple plan) groups

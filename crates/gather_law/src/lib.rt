@@ -1,9 +1,9 @@
 //! The law of gathering: what blocks and tuples come to, whoever drew a block and in whatever order the tuples came.
 //!
 //! It speaks of plain lists alone: the numbers that each participant drew, the groups that each worker sent, and the
-//! parts that the leader put into its map. A worker sends the groups of batches of its rows, so a group stands for
-//! those rows of a batch that have its key; put in another order, the parts stand for the same rows in another order,
-//! and aggregates do not depend on the order of rows.
+//! parts that the leader put into its map. A worker sends the groups of batches of its rows, in any order, so a group
+//! stands for those rows of a batch that have its key; put in another order, the parts stand for the same rows in
+//! another order, and aggregates do not depend on the order of rows.
 
 #![tactic(auto)]
 

@@ -1,11 +1,12 @@
 -- What looks at the queues come to.
-use Rattle.std.proofs.Common.{◌≡◌, ◌<◌, ◌++◌, ◌⊎◌, ◌==◌, inl, inr, ℕ, zero, suc, true, false, List, [], ◌∷◌, Ok, Err, Result, OnOk, Option, Some, None, IsTrue, length, set, get_or, map, All, Any, refl, ap, sym, subst, ◌∙◌, arith, append-nil, append_assoc}
+use Rattle.std.proofs.Common.{◌≡◌, ◌<◌, ◌++◌, ◌⊎◌, ◌==◌, inl, inr, ℕ, zero, suc, true, false, List, [], ◌∷◌, Ok, Err, MatchResult, Result, OnOk, Option, Some, None, IsTrue, length, set, get_or, map, All, Any, refl, ap, sym, subst, ◌∙◌, arith, append-nil, append_assoc}
 use Rattle.std.specs.List.{AllZip}
 use Rattle.std.specs.Result.{is_err}
 use Rattle.std.proofs.lemmas.List.Sums.{fold-append}
 use Rattle.agg_table.specs.Calls.{Use}
 use Rattle.mq_handle.specs.Messages.{whole_of}
 use Rattle.par_model.specs.Plan.{Plan}
+use Rattle.par_model.specs.declared.state.AggState.{AggState}
 use Rattle.partial_agg.specs.Groups.{GroupsByKey, added}
 use Rattle.ring_rule.specs.Ring.{Receiving}
 use Rattle.gather_law.specs.Tuples.{Group}
@@ -64,8 +65,13 @@ hears_end old new before now (hearing.Names row cause item) t o e = e
 hears_end old new before now (hearing.More took) t o e = absurd e
 hears_end old new before now hearing.NoRoom t o e = absurd e
 
-pub ok_inj : {A E : Type 0} (r : Result A E) (a b : A) → r ≡ Ok a → r ≡ Ok b → a ≡ b
-ok_inj r a b e f = cc
+-- what was decoded is the group of a tuple
+pub read_is : {A E : Type 0} (r : Result A E) (a : A) (now : A → List ℕ) (new : AggState) (key : List ℕ) (state : AggState) → r ≡ Ok a → MatchResult r (λ found. (now found ≡ key) × (new ≡ state)) (λ why. ⊥)
+    → Path (List ℕ × AggState) (now a, new) (key, state)
+read_is (Ok b) a now new key state e h =
+    let same : a ≡ b = cc in
+    λ i. ((ap now same ∙ h.0) i, h.1 i)
+read_is (Err why) a now new key state e h = absurd h
 
 pub on_ok : {A E : Type 0} (r : Result A E) (P : Type 0) → is_err r ≡ false → OnOk r P → P
 on_ok (Ok a) P e h = h

@@ -2,6 +2,7 @@
 use Rattle.std.proofs.Common.{◌≡◌, ◌<◌, ◌≤◌, ◌+◌, ◌-◌, ◌*◌, ◌^◌, ◌++◌, ◌⊎◌, inl, inr, ℕ, List, [], ◌∷◌, length, drop, map, All, IsTrue, MatchOption, Option, Some, None, true, zero, suc, refl, ap, sym, subst, ◌∙◌, arith, Any, length-append}
 use Rattle.std.specs.List.{AllByRecursion, AllZip, flat_map}
 use Rattle.std.specs.List.Sorted.{IsPermutation}
+use Rattle.std.proofs.lemmas.List.Sorted.{IsPermutation-refl}
 use Rattle.std.proofs.lemmas.List.Elements.{All-cons, All-head, All-map, All-nil, All-tail, All-weaker}
 use Rattle.error_queue.specs.declared.ErrorMessage.TheVariants as message
 use Rattle.mq_handle.specs.Messages.{whole_of}
@@ -103,13 +104,14 @@ module _ (uses : ℕ → Option Use) (plan : Plan) (records : Table) (blocks : �
       by None d w =
           let none : gs ≡ [] = no_groups_read gs (subst (λ ms. ReadAs ms gs) (all ∙ d.tuples) read) in
           subst (λ ds. AreSent plan (header_width records) records ds gs) (sym d.draws)
-          (record { batches = []; cut = refl; sent = none; accepted = All-nil (IsAccepted plan (header_width records)) })
+          (record { batches = []; cut = refl; sent = subst (IsPermutation []) (sym none) (IsPermutation-refl []); accepted = All-nil (IsAccepted plan (header_width records)) })
       by (Some Finished) d w =
           let t = d.ended.sent in
+          let same : gs ≡ t.groups = same_groups plan t.groups gs (subst (λ ms. ReadAs ms gs) (all ∙ t.sent) read) t.written in
           record {
             batches = t.batches;
             cut = t.cut;
-            sent = same_groups plan (flat_map (groups_of plan) t.batches) gs (subst (λ ms. ReadAs ms gs) (all ∙ t.sent) read) t.written;
+            sent = subst (IsPermutation (flat_map (groups_of plan) t.batches)) (sym same) t.all;
             accepted = d.ended.accepted;
           }
       by (Some Stopped) d w = absurd w

@@ -11,11 +11,12 @@ ghost use Rattle.gather_run.specs.Looks.{Hears, HearsAll, HearsEnd, HearsOut, Is
 use crate::GatherAnswer;
 use crossbeam_utils::Backoff;
 use mq_handle::{ReceiveAnswer, Receiver};
+use par_model::AggState;
 use parallel_ctx::LeaderEnds;
-use partial_agg::GroupMap;
+use partial_agg::{GroupMap, empty};
 use region_words::Region;
 use std::sync::Wait;
-use tuple_codec::decode;
+use tuple_codec::decode_into;
 use worker_run::{News, hear_last, hear_notices};
 
 /// How many tuples are taken of a worker before the next one is heard: as many as its queue holds at most, at two words
@@ -46,8 +47,14 @@ pub(crate) enum Hearing {
     Names { row: u64, cause: u8, item: u32 },
 }
 
-/// Takes one tuple, if one is there, and adds its group to the map.
-fn take_tuple(r: &Region, tuples: &mut Receiver, groups: &mut GroupMap) -> Look
+/// Takes one tuple, if one is there, and adds its group to the map. Its aggregates are read into a state that is there,
+/// and its key stays where it lies in the message.
+fn take_tuple(
+    r: &Region,
+    tuples: &mut Receiver,
+    state: &mut AggState,
+    groups: &mut GroupMap,
+) -> Look
     requires here { tuples.old.region ≡ r.now }
     requires stays { tuples.old.end.gone ≡ false }
     ensures region { tuples.new.region ≡ tuples.old.region }
@@ -59,10 +66,10 @@ fn take_tuple(r: &Region, tuples: &mut Receiver, groups: &mut GroupMap) -> Look
         ReceiveAnswer::WouldBlock => Look::More { took: false },
         ReceiveAnswer::Detached => Look::Over,
         ReceiveAnswer::Message => {
-            let Ok((key, state)) = decode(tuples.message()) else {
+            let Ok(key) = decode_into(tuples.message(), state) else {
                 return Look::Lost;
             };
-            if groups.add(key, &state).is_err() {
+            if groups.add_bytes(key, state).is_err() {
                 return Look::Lost;
             }
             Look::More { took: true }
@@ -70,7 +77,7 @@ fn take_tuple(r: &Region, tuples: &mut Receiver, groups: &mut GroupMap) -> Look
     }
 }
 
-/// Takes the tuples that are there, up to as many as the queue holds.
+/// Takes the tuples that are there, up to as many as the queue holds, all through one state.
 fn take_tuples(r: &Region, tuples: &mut Receiver, groups: &mut GroupMap) -> Look
     requires here { tuples.old.region ≡ r.now }
     requires stays { tuples.old.end.gone ≡ false }
@@ -79,9 +86,10 @@ fn take_tuples(r: &Region, tuples: &mut Receiver, groups: &mut GroupMap) -> Look
     ensures stays { tuples.new.end.gone ≡ false }
     ensures look { LooksOnce tuples.old.end tuples.new.end groups.old groups.new result }
 {
+    let mut state = empty();
     let mut took = false;
     for _ in 0..MOST_AT_ONCE {
-        match take_tuple(r, tuples, groups) {
+        match take_tuple(r, tuples, &mut state, groups) {
             Look::More { took: true } => took = true,
             Look::More { took: false } => return Look::More { took },
             Look::Over => return Look::Over,

@@ -61,7 +61,7 @@ passed_open slots None None groups left old new o p = by p.sent
   where
     by : ((left ≡ groups) × (new ≡ old)) ⊎ HasSentGroups slots groups left old new → (new.ring ≡ old.ring) × (new.gone ≡ false)
     by (inl e) = (ap (λ (s : Sending). s.ring) e.1, ap (λ (s : Sending). s.gone) e.1 ∙ o)
-    by (inr h) = (h.all.sent.ring, h.all.sent.stays)
+    by (inr h) = (h.all.these.sent.ring, h.all.these.sent.stays)
 passed_open slots None (Some v) groups left old new o p = absurd p
 passed_open slots (Some u) None groups left old new o p = absurd p
 passed_open slots (Some u) (Some v) groups left old new o p = (p.1.sent.ring, p.1.sent.stays)

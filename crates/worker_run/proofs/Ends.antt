@@ -18,7 +18,7 @@ use Rattle.row_blocks.proofs.BlockRows.{length-block}
 use Rattle.row_blocks.specs.Blocks.{AreBlocks, Table}
 use Rattle.ring_rule.specs.Ring.{Sending}
 use Rattle.scan_claim.specs.Drawing.{is_spent}
-use Rattle.gather_law.specs.Tuples.{Group, IsTupleOf, groups_of}
+use Rattle.gather_law.specs.Tuples.{Group, IsTupleOf}
 use Rattle.worker_run.specs.Ended.{HasEnded, HasRefused, IsNotice, IsOwnRow, IsRefused, found_gone, sends_of}
 use Rattle.worker_run.specs.Sent.{AreWritten, FoundGone, HasSent, StoppedSending, tuples_of}
 use Rattle.worker_run.specs.Notices.{GivesUp}
@@ -41,7 +41,7 @@ module _ (plan : Plan) (records : Table) where
       All-cons (IsTupleOf plan) _ (tuples_of (length plan.items) groups) (record { group = g; has = w.0; is = refl }) (written_are groups w.1)
 
   pub working_tuples : (draws : List ℕ) (groups : GroupsByKey) (errors tuples : Sending) → IsWorking plan records draws groups errors tuples → All (IsTupleOf plan) (whole_of tuples.put)
-  working_tuples draws groups errors tuples w = subst (All (IsTupleOf plan)) (sym w.sent) (written_are (flat_map (groups_of plan) w.batches) w.written)
+  working_tuples draws groups errors tuples w = subst (All (IsTupleOf plan)) (sym w.sent) (written_are w.done w.written)
 
   pub more_tuples : (gs : List Group) (old new : Sending) → All (IsTupleOf plan) (whole_of old.put) → AreWritten (length plan.items) gs → whole_of new.put ≡ whole_of old.put ++ tuples_of (length plan.items) gs
       → All (IsTupleOf plan) (whole_of new.put)
@@ -70,6 +70,8 @@ module _ (plan : Plan) (records : Table) where
           sent = record {
             batches = flushed.batches;
             cut = sym (append-nil (flat_map (λ batch. batch) flushed.batches)) ∙ flushed.cut ∙ sym same;
+            groups = flushed.done;
+            all = flushed.all;
             sent = flushed.sent;
             written = flushed.written;
           };
@@ -94,7 +96,7 @@ module _ (plan : Plan) (records : Table) where
       record {
         ended = record { silent = quiet; found = inl (gone_is errors' f.1.flag) };
         notices = silence draws errors' quiet;
-        tuples = more_tuples (map.entries groups) tuples tuples' t f.0.written f.0.sent.sent;
+        tuples = more_tuples f.0.done tuples tuples' t f.0.these.written f.0.these.sent.sent;
       }
 
   -- ---- a block that was not added whole

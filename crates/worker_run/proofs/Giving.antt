@@ -25,7 +25,7 @@ use Rattle.worker_run.specs.Steps.{HasFinished}
 use Rattle.worker_run.specs.Tabled.{GivesGroup, GivesGroups, HasEndedBy, IsTabling, groups_of_blocks}
 use Rattle.worker_run.specs.declared.WorkerEnd.TheVariants.{Finished}
 use Rattle.worker_run.proofs.Ends.{written_are}
-use Rattle.worker_run.proofs.Sent.{has_sent_more, has_sent_nothing, no_entries, still_ready, written-join}
+use Rattle.worker_run.proofs.Sent.{has_sent_more, has_sent_nothing, no_entries, none_sent, still_ready, written-join}
 use Rattle.worker_run.proofs.Working.{late_draw, more_blocks, no_rows}
 
 -- ---- groups, one after another
@@ -152,7 +152,7 @@ module _ (plan : Plan) (records : Table) where
   -- nothing is left to be sent
   sent_none : (groups : GroupsByKey) (tuples tuples' : Sending) → groups ≡ map.empty → HasSentAll (length plan.items) groups tuples tuples' → whole_of tuples'.put ≡ whole_of tuples.put
   sent_none groups tuples tuples' e h =
-      h.sent.sent ∙ ap (λ (gs : List Group). whole_of tuples.put ++ tuples_of (length plan.items) gs) (ap map.entries e ∙ no_entries) ∙ append-nil (whole_of tuples.put)
+      h.these.sent.sent ∙ ap (λ (gs : List Group). whole_of tuples.put ++ tuples_of (length plan.items) gs) (none_sent (length plan.items) groups tuples tuples' e h) ∙ append-nil (whole_of tuples.put)
 
   pub table_finished : (blocks : ℕ) (draws draws' : List ℕ) (groups : GroupsByKey) (u : Use) (errors tuples errors' tuples' : Sending) → AreBlocks records blocks → groups ≡ map.empty
       → IsTabling plan records draws u errors tuples → DrawsNone blocks draws draws' → IsTrue (is_spent blocks draws')

@@ -1,4 +1,5 @@
 mod Sent
+mod Lent
 pub mod Judging
 pub mod Saying
 pub mod Seated

@@ -1,15 +1,15 @@
 -- Groups that are sent one by one.
-use Rattle.std.proofs.Common.{◌≡◌, ◌≤◌, ◌++◌, ℕ, List, [], ◌∷◌, length, arith, refl, ap, sym, subst, ◌∙◌, append-nil, append_assoc}
+use Rattle.std.proofs.Common.{◌≡◌, ◌≤◌, ◌<◌, ◌+◌, ◌++◌, ℕ, List, [], ◌∷◌, get_or, length, take, arith, refl, ap, sym, subst, ◌∙◌, append-nil, append_assoc}
 use Rattle.std.specs.FinMap as map
-use Rattle.std.specs.List.{AllByRecursion}
-use Rattle.std.proofs.lemmas.List.{map-append}
+use Rattle.std.proofs.lemmas.List.{map-append, take_more}
+use Rattle.std.proofs.lemmas.List.Sorted.{length_permutation}
 use Rattle.mq_handle.specs.Messages.{whole_of}
 use Rattle.par_model.specs.declared.state.AggState.{AggState}
 use Rattle.partial_agg.specs.Groups.{GroupsByKey, key_cmp}
 use Rattle.ring_rule.specs.Ring.{Sending}
 use Rattle.tuple_codec.specs.Tuple.{IsTuple, tuple_bytes}
 use Rattle.gather_law.specs.Tuples.{Group}
-use Rattle.worker_run.specs.Sent.{AreWritten, FoundGone, HasSent, HasSentGroups, HasZeros, IsReady, IsSending, StoppedSending, tuples_of}
+use Rattle.worker_run.specs.Sent.{AreWritten, FoundGone, HasSent, HasSentAll, HasSentThese, IsReady, StoppedSending, tuples_of}
 
 pub has_sent_nothing : (n : ℕ) (s : Sending) → IsReady n s → HasSent s s []
 has_sent_nothing n s r = record { ring = refl; stays = r.stays; fresh = r.fresh; sent = sym (append-nil (whole_of s.put)) }
@@ -29,23 +29,30 @@ pub written-join : (slots : ℕ) (gs hs : List Group) → AreWritten slots gs �
 written-join slots [] hs a b = b
 written-join slots (g ∷ gs) hs a b = (a.0, written-join slots gs hs a.1 b)
 
-pub sending-start : (slots : ℕ) (groups : GroupsByKey) (s : Sending) → AllByRecursion (HasZeros slots) (map.entries groups) → IsReady 581 s → IsSending slots groups groups s s
-sending-start slots groups s z r = record { done = []; split = refl; zeros = z; written = tt; sent = has_sent_nothing 581 s r }
+-- ---- groups that are sent one after another
 
-pub head_zeros : (slots : ℕ) (g : Group) (left left' : GroupsByKey) → AllByRecursion (HasZeros slots) (map.entries left) → map.entries left ≡ g ∷ map.entries left' → HasZeros slots g
-head_zeros slots g left left' z e = (subst (AllByRecursion (HasZeros slots)) e z).0
+pub these_none : (slots : ℕ) (groups : List Group) (s : Sending) → IsReady 581 s → HasSentThese slots (take 0 groups) s s
+these_none slots groups s r = record { written = tt; sent = has_sent_nothing 581 s r }
 
-pub sending-step : (slots : ℕ) (groups left left' : GroupsByKey) (old mid new : Sending) (key : List ℕ) (state : AggState)
-    → IsSending slots groups left old mid → map.entries left ≡ (key, state) ∷ map.entries left' → IsTuple key state slots → HasSent mid new (tuple_bytes key state slots ∷ [])
-    → IsSending slots groups left' old new
-sending-step slots groups left left' old mid new key state i e t s = record {
-  done = i.done ++ (key, state) ∷ [];
-  split = i.split ∙ ap (λ l. i.done ++ l) e ∙ sym (append_assoc i.done ((key, state) ∷ []) (map.entries left'));
-  zeros = (subst (AllByRecursion (HasZeros slots)) e i.zeros).1;
-  written = written-join slots i.done ((key, state) ∷ []) i.written (t, tt);
-  sent = subst (HasSent old new) (sym (map-append (λ group. tuple_bytes group.0 group.1 slots) i.done ((key, state) ∷ [])))
-      (has_sent_more old mid new (tuples_of slots i.done) (tuple_bytes key state slots ∷ []) i.sent s);
+pub these_more : (slots : ℕ) (groups : List Group) (at : ℕ) (old mid new : Sending) (g : Group) → ((d : Group) → get_or groups at d ≡ g) → at < length groups → HasSentThese slots (take at groups) old mid → IsTuple g.0 g.1 slots
+    → HasSent mid new (tuple_bytes g.0 g.1 slots ∷ []) → HasSentThese slots (take (at + 1) groups) old new
+these_more slots groups at old mid new g is lt h t s =
+    let more : take (at + 1) groups ≡ take at groups ++ g ∷ [] = take_more groups at g lt ∙ ap (λ x. take at groups ++ x ∷ []) (is g) in
+    subst (λ gs. HasSentThese slots gs old new) (sym more)
+    (record {
+      written = written-join slots (take at groups) (g ∷ []) h.written (t, tt);
+      sent = subst (HasSent old new) (sym (map-append (λ group. tuple_bytes group.0 group.1 slots) (take at groups) (g ∷ [])))
+          (has_sent_more old mid new (tuples_of slots (take at groups)) (tuple_bytes g.0 g.1 slots ∷ []) h.sent s);
+    })
+
+pub these_stopped : (slots : ℕ) (groups : List Group) (old mid new : Sending) → HasSentThese slots groups old mid → FoundGone mid new [] → StoppedSending slots old new
+these_stopped slots groups old mid new h s = record {
+  done = groups;
+  written = h.written;
+  found = record { ring = s.ring ∙ h.sent.ring; stays = s.stays; flag = s.flag; sent = s.sent ∙ append-nil (whole_of mid.put) ∙ h.sent.sent };
 }
+
+-- ---- the groups of a map
 
 nil_of_length : {X : Type 0} (xs : List X) → length xs ≡ 0 → xs ≡ []
 nil_of_length [] e = refl
@@ -54,14 +61,7 @@ nil_of_length (x ∷ xs) e = let no : ⊥ = grind arith in absurd no
 pub no_entries : map.entries (map.empty {K = List ℕ} {X = AggState} {R = key_cmp}) ≡ []
 no_entries = nil_of_length (map.entries map.empty) (sym (map.len-entries map.empty) ∙ map.len-empty key_cmp AggState)
 
-pub sending-end : (slots : ℕ) (groups left : GroupsByKey) (old new : Sending) → IsSending slots groups left old new → left ≡ map.empty → HasSentGroups slots groups left old new
-sending-end slots groups left old new i e =
-    let all : map.entries groups ≡ i.done = i.split ∙ ap (λ (m : GroupsByKey). i.done ++ map.entries m) e ∙ ap (λ l. i.done ++ l) no_entries ∙ append-nil i.done in
-    record { empty = e; all = record { written = subst (AreWritten slots) (sym all) i.written; sent = subst (λ gs. HasSent old new (tuples_of slots gs)) (sym all) i.sent } }
-
-pub stopped_sending : (slots : ℕ) (groups left : GroupsByKey) (old mid new : Sending) → IsSending slots groups left old mid → FoundGone mid new [] → StoppedSending slots old new
-stopped_sending slots groups left old mid new i s = record {
-  done = i.done;
-  written = i.written;
-  found = record { ring = s.ring ∙ i.sent.ring; stays = s.stays; flag = s.flag; sent = s.sent ∙ append-nil (whole_of mid.put) ∙ i.sent.sent };
-}
+pub none_sent : (slots : ℕ) (groups : GroupsByKey) (old new : Sending) → groups ≡ map.empty → (h : HasSentAll slots groups old new) → h.done ≡ []
+none_sent slots groups old new e h =
+    let long = length_permutation (map.entries groups) h.done h.all in
+    nil_of_length h.done (long ∙ ap (λ (m : GroupsByKey). length (map.entries m)) e ∙ ap (λ (gs : List Group). length gs) no_entries)

@@ -2,9 +2,11 @@
 use Rattle.std.proofs.Common.{◌≡◌, ◌≤◌, ◌+◌, ◌*◌, ◌++◌, inl, inr, ℕ, List, [], ◌∷◌, length, take, All, refl, ap, sym, subst, ◌∙◌, arith, append-nil, append_assoc}
 use Rattle.std.specs.FinMap as map
 use Rattle.std.specs.List.{AllByRecursion, flat_map}
+use Rattle.std.specs.List.Sorted.{IsPermutation}
 use Rattle.std.proofs.lemmas.List.{drop_all, map-append}
 use Rattle.std.proofs.lemmas.List.Concat.{flat_map-append}
 use Rattle.std.proofs.lemmas.List.Elements.{All-append, All-nil}
+use Rattle.std.proofs.lemmas.List.Sorted.{IsPermutation-append, IsPermutation-refl}
 use Rattle.mq_handle.specs.Messages.{left_of, whole_of}
 use Rattle.mq_handle.proofs.Uses.{left_nothing}
 use Rattle.par_model.specs.Plan.{Plan}
@@ -17,7 +19,7 @@ use Rattle.ring_rule.specs.Ring.{Sending}
 use Rattle.tuple_codec.specs.Tuple.{tuple_bytes}
 use Rattle.gather_law.specs.Tuples.{groups_of}
 use Rattle.worker_run.specs.Job.{DrawsNone}
-use Rattle.worker_run.specs.Sent.{AreWritten, HasSentGroups, HasZeros, IsFreshQueue, IsReady, tuples_of}
+use Rattle.worker_run.specs.Sent.{HasSentGroups, HasZeros, IsFreshQueue, IsReady, tuples_of}
 use Rattle.worker_run.specs.Working.{IsWorking}
 use Rattle.worker_run.proofs.Sent.{still_ready, written-join}
 
@@ -33,6 +35,8 @@ module _ (plan : Plan) (records : Table) where
     cut = refl;
     accepted = All-nil (IsAccepted plan (header_width records));
     kept = refl;
+    done = [];
+    all = IsPermutation-refl [];
     sent = f;
     written = tt;
     silent = e;
@@ -65,6 +69,8 @@ module _ (plan : Plan) (records : Table) where
         cut = sym (append_assoc (flat_map (λ batch. batch) w.batches) w.last block) ∙ ap (λ l. l ++ block) w.cut ∙ sym more;
         accepted = subst (All (IsAccepted plan (header_width records))) (sym more) (All-append (IsAccepted plan (header_width records)) rows block w.accepted h);
         kept = e ∙ ap (λ (m : GroupsByKey). with_rows plan m block) w.kept ∙ sym (with_rows-append plan map.empty w.last block);
+        done = w.done;
+        all = w.all;
         sent = w.sent;
         written = w.written;
         silent = w.silent;
@@ -76,23 +82,25 @@ module _ (plan : Plan) (records : Table) where
       → HasSentGroups (length plan.items) groups left tuples tuples' → IsWorking plan records draws left errors tuples'
   working-flush draws groups left errors tuples tuples' w s =
       let slots = length plan.items in
-      let done = flat_map (λ batch. batch) w.batches in
+      let rows = flat_map (λ batch. batch) w.batches in
       let groups_done = flat_map (groups_of plan) w.batches in
+      let these = s.all.these in
       let entries_are : map.entries groups ≡ groups_of plan w.last = ap (λ (m : GroupsByKey). map.entries m) w.kept in
       let more : flat_map (groups_of plan) (w.batches ++ w.last ∷ []) ≡ groups_done ++ map.entries groups =
       flat_map-append (groups_of plan) w.batches (w.last ∷ []) ∙ ap (λ l. groups_done ++ l) (append-nil (groups_of plan w.last) ∙ sym entries_are) in
       record {
         batches = w.batches ++ w.last ∷ [];
         last = [];
-        cut = append-nil (flat_map (λ batch. batch) (w.batches ++ w.last ∷ [])) ∙ flat_map-append (λ batch. batch) w.batches (w.last ∷ []) ∙ ap (λ l. done ++ l) (append-nil w.last) ∙ w.cut;
+        cut = append-nil (flat_map (λ batch. batch) (w.batches ++ w.last ∷ [])) ∙ flat_map-append (λ batch. batch) w.batches (w.last ∷ []) ∙ ap (λ l. rows ++ l) (append-nil w.last) ∙ w.cut;
         accepted = w.accepted;
         kept = s.empty;
-        sent = s.all.sent.sent ∙ ap (λ l. l ++ tuples_of slots (map.entries groups)) w.sent ∙ sym (map-append (λ group. tuple_bytes group.0 group.1 slots) groups_done (map.entries groups))
-            ∙ ap (tuples_of slots) (sym more);
-        written = subst (AreWritten slots) (sym more) (written-join slots groups_done (map.entries groups) w.written s.all.written);
+        done = w.done ++ s.all.done;
+        all = subst (λ gs. IsPermutation gs (w.done ++ s.all.done)) (sym more) (IsPermutation-append groups_done w.done (map.entries groups) s.all.done w.all s.all.all);
+        sent = these.sent.sent ∙ ap (λ l. l ++ tuples_of slots s.all.done) w.sent ∙ sym (map-append (λ group. tuple_bytes group.0 group.1 slots) w.done s.all.done);
+        written = written-join slots w.done s.all.done w.written these.written;
         silent = w.silent;
         errors_ready = w.errors_ready;
-        tuples_ready = still_ready 581 tuples tuples' (tuples_of slots (map.entries groups)) w.tuples_ready s.all.sent;
+        tuples_ready = still_ready 581 tuples tuples' (tuples_of slots s.all.done) w.tuples_ready these.sent;
       }
 
   pub no_rows : (blocks n : ℕ) → AreBlocks records blocks → blocks ≤ n → block_rows records n ≡ []

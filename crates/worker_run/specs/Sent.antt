@@ -2,9 +2,11 @@
 use Rattle.std.specs.Prelude.{◌≡◌, ◌≤◌, ◌-◌, ◌++◌, ℕ, List, [], false, drop, map as map_list, replicate}
 use Rattle.std.specs.FinMap as map
 use Rattle.std.specs.List.{AllByRecursion}
+use Rattle.std.specs.List.Sorted.{IsPermutation}
 use Rattle.mq_handle.specs.Messages.{left_of, whole_of}
 use Rattle.par_model.specs.Aggregate.{no_values}
 use Rattle.partial_agg.specs.Groups.{GroupsByKey}
+use Rattle.partial_agg.specs.declared.groups.Group.{Group as Lent}
 use Rattle.ring_rule.specs.Ring.{Sending}
 use Rattle.tuple_codec.specs.Tuple.{IsTuple, tuple_bytes}
 use Rattle.gather_law.specs.Tuples.{Group}
@@ -44,6 +46,10 @@ pub record FoundGone (old new : Sending) (messages : List (List ℕ)) : Type 0 w
 abbrev pub HasZeros : ℕ → Group → Type 0
 HasZeros slots group = drop slots group.1.slots ≡ replicate (8 - slots) no_values
 
+-- groups where they lie, each as a key and its aggregates
+abbrev pub pairs_of : List Lent → List Group
+pairs_of groups = map_list (λ group. (group.key, group.state)) groups
+
 -- groups as tuples with this many slots
 abbrev pub tuples_of : ℕ → List Group → List (List ℕ)
 tuples_of slots groups = map_list (λ group. tuple_bytes group.0 group.1 slots) groups
@@ -52,10 +58,16 @@ tuples_of slots groups = map_list (λ group. tuple_bytes group.0 group.1 slots) 
 abbrev pub AreWritten : ℕ → List Group → Type 0
 AreWritten slots groups = AllByRecursion (λ group. IsTuple group.0 group.1 slots) groups
 
--- all groups of a map were sent
+-- these groups were sent, one tuple each
+pub record HasSentThese (slots : ℕ) (groups : List Group) (old new : Sending) : Type 0 where
+  pub written : AreWritten slots groups
+  pub sent : HasSent old new (tuples_of slots groups)
+
+-- all groups of a map were sent, each once, in any order
 pub record HasSentAll (slots : ℕ) (groups : GroupsByKey) (old new : Sending) : Type 0 where
-  pub written : AreWritten slots (map.entries groups)
-  pub sent : HasSent old new (tuples_of slots (map.entries groups))
+  pub done : List Group
+  pub all : IsPermutation (map.entries groups) done
+  pub these : HasSentThese slots done old new
 
 -- all groups of a map were sent, and the map is empty
 pub record HasSentGroups (slots : ℕ) (groups left : GroupsByKey) (old new : Sending) : Type 0 where
@@ -67,11 +79,3 @@ pub record StoppedSending (slots : ℕ) (old new : Sending) : Type 0 where
   pub done : List Group
   pub written : AreWritten slots done
   pub found : FoundGone old new (tuples_of slots done)
-
--- of the groups of a map some were sent, and the others are left
-pub record IsSending (slots : ℕ) (groups left : GroupsByKey) (old new : Sending) : Type 0 where
-  pub done : List Group
-  pub split : map.entries groups ≡ done ++ map.entries left
-  pub zeros : AllByRecursion (HasZeros slots) (map.entries left)
-  pub written : AreWritten slots done
-  pub sent : HasSent old new (tuples_of slots done)

@@ -15,6 +15,7 @@ use par_model::AggState;
 use partial_agg::{GroupKey, GroupMap};
 use region_words::Region;
 use std::sync::Wait;
+use tuple_codec::Tuple;
 
 /// Puts a group into the table, or sends it where the table has no room. Answers false where the receiver is gone.
 fn give_group<R: Wait>(
@@ -23,6 +24,7 @@ fn give_group<R: Wait>(
     part: &HashPart,
     seat: &mut HashSeat,
     tuples: &mut Sender,
+    tuple: &mut Tuple,
     key: &GroupKey,
     state: &AggState,
     slots: u32,
@@ -40,7 +42,7 @@ fn give_group<R: Wait>(
     if part.put(rt, r, seat, key, state) {
         return true;
     }
-    send_group(rt, r, tuples, key, state, slots)
+    send_group(rt, r, tuples, tuple, key.bytes(), state, slots)
 }
 
 /// Gives out all groups of the map, in the order of their keys. Answers false where the receiver is gone.
@@ -63,11 +65,12 @@ pub(crate) fn give_groups<R: Wait>(
     ensures kept { tuples.new ≡ record tuples.old { end = tuples.new.end } }
     ensures given { MatchBool result ((groups.new ≡ map.empty) × GivesGroups slots (map.entries groups.old) (use_of seat.old) (use_of seat.new) tuples.old.end tuples.new.end) (StoppedSending slots tuples.old.end tuples.new.end) }
 {
+    let mut tuple = Tuple::new();
     for _ in rt.forever() {
         let Some((key, state)) = groups.take_first() else {
             return true;
         };
-        if !give_group(rt, r, part, seat, tuples, &key, &state, slots) {
+        if !give_group(rt, r, part, seat, tuples, &mut tuple, &key, &state, slots) {
             return false;
         }
     }

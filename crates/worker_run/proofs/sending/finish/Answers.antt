@@ -10,7 +10,7 @@ returns-clause-end g c =
 
 pub returns-clause-queues : goal.returns-clause-queues
 returns-clause-queues g c =
-    let sent = c.if-not-send_groups.ensures.sent.all.sent in
+    let sent = c.if-not-send_groups.ensures.sent.all.these.sent in
     record {
       errors_ring = c.end_in_order.ensures.ring;
       errors_stays = c.end_in_order.ensures.stays;
