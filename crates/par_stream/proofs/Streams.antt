@@ -1,0 +1,30 @@
+-- What there is after a window.
+use Rattle.std.proofs.Common.{◌≡◌, ◌<◌, ◌≤◌, ◌+◌, ◌-◌, ◌^◌, ◌++◌, ◌∙◌, ℕ, suc, Bool, true, false, List, [], ◌∷◌, Option, None, Some, All, IfSome, drop, length, take, refl, ap, sym, subst, arith, append-nil, append_assoc, length-append, take-append-drop}
+use Rattle.std.specs.Prelude.{unwrap_or}
+use Rattle.std.proofs.lemmas.List.{take_all}
+use Rattle.csv_rows.specs.Cuts.{IsCut}
+use Rattle.csv_rows.specs.Records.{record_at, records_of}
+use Rattle.par_model.specs.Plan.{Plan}
+use Rattle.partial_agg.specs.Groups.{AreGroups, GroupsByKey}
+use Rattle.partial_agg.specs.Rows.{IsAccepted, header_width}
+use Rattle.row_blocks.specs.Blocks.{Table}
+use Rattle.row_windows.specs.Seams.{BeginsLine, IsCutAt, IsSeam}
+use Rattle.row_windows.proofs.Seams.{records_add_up}
+use Rattle.split_law.specs.Shares.{AreShared}
+use Rattle.par_stream.specs.Reading.{Reaches}
+
+-- a list of one record, and what begins with it
+pub one_record : (one all more : Table) → length one ≡ 1 → all ≡ one ++ more → (record_at all 0 ≡ record_at one 0) × (one ≡ record_at one 0 ∷ []) × (drop 1 all ≡ more) × (all ≡ record_at one 0 ∷ more)
+one_record [] all more size e = absurd (omega (arith, size))
+one_record (h ∷ x ∷ one) all more size e = absurd (omega (arith, size))
+one_record (h ∷ []) all more size e = (ap (λ (l : Table). record_at l 0) e, refl, ap (drop 1) e, e)
+
+-- the records of a window behind its header
+pub window_records : (header lines : List ℕ) (one : Table) → IsCut header → BeginsLine lines → records_of header ≡ one → length one ≡ 1 → records_of (header ++ lines) ≡ record_at one 0 ∷ records_of lines
+window_records header lines one cut line is size =
+    records_add_up header lines (record { whole = cut; line = line }) ∙ ap (λ (l : Table). l ++ records_of lines) is ∙ (one_record one (one ++ records_of lines) (records_of lines) size refl).2.2
+
+-- where a text is cut in front of a line, or not at all, its records begin with those of the front
+pub front_records : (lines : List ℕ) (cut : Option ℕ) → IfSome cut (IsCutAt lines) → (more : Table) × (records_of lines ≡ records_of (take (unwrap_or cut (length lines)) lines) ++ more)
+front_records lines None c = ([], sym (append-nil (records_of (take (length lines) lines)) ∙ ap records_of (take_all (length lines) lines (omega arith))))
+front_records lines (Some at) c = (records_of (drop at lines), sym (ap records_of (take-append-drop at lines)) ∙ records_add_up (take at lines) (drop at lines) c.seam)
