@@ -1,3 +1,5 @@
 mod Refusals
+mod Statuses
 mod Streams
+mod Tables
 mod Windows

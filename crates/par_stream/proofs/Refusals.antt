@@ -18,10 +18,10 @@ use Rattle.row_blocks.specs.Blocks.{Table}
 use Rattle.split_run.specs.Causes.{IsCauseBy}
 use Rattle.table_query.specs.Lines.{refused_of}
 use Rattle.table_query.specs.Refused.{refused_in}
-use Rattle.table_query.proofs.Refusals.{refused_first, refused_in-has, refused_in-none}
+use Rattle.table_query.proofs.RefusedRows.{refused_first, refused_in-has, refused_in-none}
 use Rattle.par_stream.specs.Outcome.{outcome, outcome_over}
 use Rattle.par_stream.specs.Reading.{HasAll, IsBound, Reaches}
-use Rattle.par_stream.specs.Stops.{IsRefusedRow, RefusesBy, Restates, Tells}
+use Rattle.par_stream.specs.Stops.{IsRefusedRow, NamesRefusal, Restates, Tells}
 use Rattle.par_stream.specs.declared.stop.Stop.{Stop}
 use Rattle.par_stream.specs.declared.stop.Stop.TheVariants as stop
 
@@ -121,34 +121,29 @@ module _ (query : Query) (header : List (List ℕ)) (bound : Plan) (is : IsBound
   pub refused_tells : (from : Option (List ℕ)) (participants before : ℕ) (rows wrows : Table) (why : BlockAnswer) (said : Stop) → (query.workers ≡ 0 → participants ≡ 1) → before ≡ length rows → before + length (header ∷ wrows) < 2 ^ 64
       → Begins from (header ∷ (rows ++ wrows)) → All (IsAccepted bound (length header)) rows → IsCauseBy bound (header ∷ wrows) participants why → Restates query.plan before why said → Tells query from said
   refused_tells from participants before rows wrows answer.Memory said alone is_before few b accepted c restated = subst (Tells query from) (sym restated) tt
-  refused_tells from participants before rows wrows (answer.Row row cause item) said alone is_before few b accepted c restated = by (restated (omega (arith, few, c.cause.within))) b
+  refused_tells from participants before rows wrows (answer.Row row cause item) said alone is_before few b accepted c restated = by (restated (omega (arith, few, c.cause.within)))
     where
       abbrev why : Refusal
       why = record { cause = cause; item = item }
 
-      by : IsRefusedRow query.plan (before + row) why said ⊎ (said ≡ stop.Memory) → Begins from (header ∷ (rows ++ wrows)) → Tells query from said
-      by (inr e) b = subst (Tells query from) (sym e) tt
-      by (inl r) b = subst (Tells query from) (sym r.1) (told from b)
-        where
-          told : (from : Option (List ℕ)) → Begins from (header ∷ (rows ++ wrows)) → Tells query from (stop.Refused (before + row) r.0)
-          told None b = tt
-          told (Some bytes) b =
-              let more = b.0 in
-              let whole : outcome_over (Some query.plan) bytes ≡ by_refused (refused_in bound (header ∷ ((rows ++ wrows) ++ more))) = ap (outcome (Some query.plan)) b.1 ∙ outcome_rows ((rows ++ wrows) ++ more) in
-              let refused : refused_of (outcome_over (Some query.plan) bytes) ≡ refused_in bound (header ∷ ((rows ++ wrows) ++ more)) = ap refused_of whole ∙ refused_by (refused_in bound (header ∷ ((rows ++ wrows) ++ more))) in
-              let number : length rows + row ≡ before + row = ap (λ n. n + row) (sym is_before) in
-              let has = has_row rows wrows more row why c.cause.first c.cause.within c.cause.cause_is in
-              record {
-                refuses = record {
-                  refusal = why;
-                  has = subst (λ (l : List (ℕ × Refusal)). Contains l (before + row, why)) (sym refused) (subst (λ n. Contains (refused_in bound (header ∷ ((rows ++ wrows) ++ more))) (n, why)) number has);
-                  says = r.2;
-                };
-                first = λ none.
-                    let f = first_is rows wrows more row why c.cause.first c.cause.within c.cause.cause_is accepted (c.first (alone none)) in
-                    record {
-                      refusal = why;
-                      first = ap (λ (l : List (ℕ × Refusal)). slice_get l 0) (refused ∙ subst (λ n. refused_in bound (header ∷ ((rows ++ wrows) ++ more)) ≡ (n, why) ∷ f.0) number f.1);
-                      says = r.2;
-                    };
-              }
+      whole : (bytes : List ℕ) (more : Table) → records_of bytes ≡ header ∷ ((rows ++ wrows) ++ more) → refused_of (outcome_over (Some query.plan) bytes) ≡ refused_in bound (header ∷ ((rows ++ wrows) ++ more))
+      whole bytes more e = ap refused_of (ap (outcome (Some query.plan)) e ∙ outcome_rows ((rows ++ wrows) ++ more)) ∙ refused_by (refused_in bound (header ∷ ((rows ++ wrows) ++ more)))
+
+      number : length rows + row ≡ before + row
+      number = ap (λ n. n + row) (sym is_before)
+
+      has_told : (from : Option (List ℕ)) → Begins from (header ∷ (rows ++ wrows)) → IfSome from (λ bytes. Contains (refused_of (outcome_over (Some query.plan) bytes)) (before + row, why))
+      has_told None b = tt
+      has_told (Some bytes) b =
+          let has = has_row rows wrows b.0 row why c.cause.first c.cause.within c.cause.cause_is in
+          subst (λ (l : List (ℕ × Refusal)). Contains l (before + row, why)) (sym (whole bytes b.0 b.1)) (subst (λ n. Contains (refused_in bound (header ∷ ((rows ++ wrows) ++ b.0))) (n, why)) number has)
+
+      first_told : (from : Option (List ℕ)) → Begins from (header ∷ (rows ++ wrows)) → query.workers ≡ 0 → IfSome from (λ bytes. slice_get (refused_of (outcome_over (Some query.plan) bytes)) 0 ≡ Some (before + row, why))
+      first_told None b none = tt
+      first_told (Some bytes) b none =
+          let f = first_is rows wrows b.0 row why c.cause.first c.cause.within c.cause.cause_is accepted (c.first (alone none)) in
+          ap (λ (l : List (ℕ × Refusal)). slice_get l 0) (whole bytes b.0 b.1 ∙ subst (λ n. refused_in bound (header ∷ ((rows ++ wrows) ++ b.0)) ≡ (n, why) ∷ f.0) number f.1)
+
+      by : IsRefusedRow query.plan (before + row) why said ⊎ (said ≡ stop.Memory) → Tells query from said
+      by (inr e) = subst (Tells query from) (sym e) tt
+      by (inl r) = subst (Tells query from) (sym r.1) (record { refusal = why; says = r.2; has = has_told from b; first = first_told from b })

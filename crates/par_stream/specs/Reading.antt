@@ -60,7 +60,7 @@ pub record IsStream (query : Query) (plan : Plan) (s : Stream) : Type 0 where
   pub cut : s.is_last ≡ false → IsCut s.window.header
   pub line : s.is_last ≡ false → BeginsLine s.window.rest
   pub maps : length s.maps.items ≡ query.workers + 1
-  pub few : s.count ≤ 2 ^ 32
+  pub few : s.count ≤ 2 ^ 50
 
 -- its maps are those of shares of these rows, which were read of a source behind the header
 pub record HasRows (plan : Plan) (from left : Option (List ℕ)) (s : Stream) (rows : Table) : Type 0 where
@@ -77,5 +77,5 @@ pub record AreGroupsOver (query : Query) (from : Option (List ℕ)) (r : ReadGro
   pub are : AreGroups r.bound rows whole
   pub in_order : r.groups ≡ listed whole
   pub accepted : All (IsAccepted r.bound (length header)) rows
-  pub few : length rows ≤ 2 ^ 32
+  pub few : length rows ≤ 2 ^ 50
   pub all : HasAll from (header ∷ rows)

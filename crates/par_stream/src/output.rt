@@ -1,17 +1,17 @@
 //! The writing of a table.
 
-ghost use Rattle.std.specs.Prelude.{◌≡◌, ◌≢◌, ◌⊎◌, ℕ, List, Option, IfErr, IfSome, OnErr, OnOk, Some, take};
+ghost use Rattle.std.specs.Prelude.{◌≡◌, ◌≢◌, ◌⊎◌, ℕ, List, Option, IfErr, IfSome, OnOk, Some, take};
 ghost use Rattle.std.specs.Io.KnownBytes.{Appends};
-ghost use Rattle.par_io.specs.Faults.{HasCause, Rose};
-ghost use Rattle.result_text.specs.Parts.{joined};
+ghost use Rattle.par_io.specs.Faults.{Rose};
 ghost use Rattle.par_stream.specs.Answers.{IsTableText};
 ghost use Rattle.par_stream.specs.Reading.{AreGroupsOver};
 ghost use Rattle.par_stream.specs.declared.stop.Stop.TheVariants as stop;
 
 use crate::reading::ReadGroups;
 use crate::stop::Stop;
-use par_io::{Failed, Sink, write_whole};
+use par_io::Sink;
 use plan_spec::Plan;
+use query_answer::write_each;
 use result_text::text_in_threads;
 use std::alloc::Global;
 use std::thread::Threads;
@@ -35,31 +35,6 @@ pub(crate) fn write_table<R: Threads + Sync, O: Sink>(
 {
     let threads = plan.workers() as usize + 1;
     let pieces = text_in_threads(rt, alloc, plan, &read.bound, &read.groups, threads)?;
-    write_each(out, &pieces)
-}
-
-/// Writes the pieces of a text one after the other, up to a write that fails.
-fn write_each<O: Sink>(out: &mut O, pieces: &[Vec<u8>]) -> Result<(), Stop>
-    ensures whole { OnOk result (Appends (O.taken out.old) (O.taken out.new) (joined pieces.now)) }
-    ensures prefix { OnErr result ((n : ℕ) × Appends (O.taken out.old) (O.taken out.new) (take n (joined pieces.now))) }
-    ensures why { IfErr result (λ why. why ≡ stop.WriteFault) }
-    ensures cause { HasCause (O.faults out.old) (O.faults out.new) result }
-{
-    for piece in pieces {
-        write_piece(out, piece.as_slice())?;
-    }
+    write_each(out, &pieces)?;
     Ok(())
-}
-
-/// Writes a piece.
-fn write_piece<O: Sink>(out: &mut O, piece: &[u8]) -> Result<(), Stop>
-    ensures whole { OnOk result (Appends (O.taken out.old) (O.taken out.new) piece.now) }
-    ensures prefix { OnErr result ((n : ℕ) × Appends (O.taken out.old) (O.taken out.new) (take n piece.now)) }
-    ensures why { IfErr result (λ why. why ≡ stop.WriteFault) }
-    ensures cause { HasCause (O.faults out.old) (O.faults out.new) result }
-{
-    match write_whole(out, piece) {
-        Ok(()) => Ok(()),
-        Err(Failed) => Err(Stop::WriteFault),
-    }
 }

@@ -24,8 +24,8 @@ use std::alloc::Global;
 use std::sync::Wait;
 use std::thread::Threads;
 
-/// The most rows for which averages are exact: 2^32. A source with more of them ends as one without memory.
-const MOST_ROWS: u64 = 4_294_967_296;
+/// The most rows for which averages are exact: 2^50. A source with more of them ends as one without memory.
+const MOST_ROWS: u64 = 1_125_899_906_842_624;
 
 /// The groups of all rows, and the plan over the columns of the header.
 #[derive(Drop)]
@@ -197,9 +197,9 @@ fn open<R: Threads + Wait + Sync>(
 }
 
 /// Makes the line of the header, which the window's lines begin with, that of the windows behind it, and gives its record.
-/// A header line that has no record, or more than one, is none that csv's machine gives; it is answered as want of memory.
 fn part_header(alloc: Global, window: &mut Window) -> Result<RowStore, Stop>
-    requires { window.old.header ≡ [] }
+    requires none { window.old.header ≡ [] }
+    requires some { 0 < length (records_of window.old.lines) }
     ensures one { IfOk result (λ header. length header ≡ 1) }
     ensures record { IfOk result (λ header. header ≡ records_of window.new.header) }
     ensures first { OnOk result ((more : Table) × (records_of window.old.lines ≡ records_of window.new.header ++ more)) }
@@ -210,11 +210,11 @@ fn part_header(alloc: Global, window: &mut Window) -> Result<RowStore, Stop>
     let lines = window.table();
     let at = header_end(lines).unwrap_or(lines.len());
     match rows(alloc, &lines[..at]) {
-        Ok(header) if header.count() == 0 => {
+        Ok(header) => {
             window.set_header(at);
             Ok(header)
         }
-        _ => Err(Stop::Memory),
+        Err(_) => Err(Stop::Memory),
     }
 }
 

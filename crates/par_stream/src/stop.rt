@@ -8,7 +8,7 @@ ghost use Rattle.par_stream.specs.Stops.{IsRefusedRow, cause_text, stop_of_words
 ghost use Rattle.table_query.specs.Lines.{refusal_text};
 ghost use Rattle.par_stream.specs.declared.stop.Stop.TheVariants as stop;
 
-use par_io::Sink;
+use par_io::{Failed, Sink};
 use par_model::{ITEM_CAUSE, KEY_CAUSE, Refusal, WIDTH_CAUSE};
 use plan_spec::{Plan, PlanAnswer};
 use query_answer::{MISUSED, NO_MEMORY, READ_FAULT, REFUSED, WRITE_FAULT, write_pieces};
@@ -44,6 +44,14 @@ impl From<AllocError> for Stop {
 
     fn from(_error: AllocError) -> Stop {
         Stop::Memory
+    }
+}
+
+impl From<Failed> for Stop {
+    ghost from_gives = { λ _ why. why ≡ stop.WriteFault };
+
+    fn from(_error: Failed) -> Stop {
+        Stop::WriteFault
     }
 }
 

@@ -1,17 +1,17 @@
 //! The writing of a table: as a whole, or in pieces where several threads make its text. A piece is written as it was
 //! made, so the text never stands in one list, and nothing is written before all pieces are there.
 
-ghost use Rattle.std.specs.Prelude.{◌≡◌, ◌≢◌, ◌⊎◌, ℕ, List, IfErr, OnErr, OnOk, take};
+ghost use Rattle.std.specs.Prelude.{◌≡◌, ◌≢◌, ◌⊎◌, ℕ, List, IfErr, OnOk, take};
 ghost use Rattle.std.specs.Io.KnownBytes.{Appends};
-ghost use Rattle.par_io.specs.Faults.{HasCause, Rose};
+ghost use Rattle.par_io.specs.Faults.{Rose};
 ghost use Rattle.plan_answers.specs.Grouping.{ListsGroups};
-ghost use Rattle.result_text.specs.Pieces.{joined};
 ghost use Rattle.table_query.specs.Ready.{IsBound};
 ghost use Rattle.plan_answers.specs.Grouping.{IsGroupsText};
 ghost use Rattle.table_query.specs.declared.stop.Stop.TheVariants as stop;
 
 use par_io::{Failed, Sink, write_whole};
 use partial_agg::Groups;
+use query_answer::write_each;
 use result_text::{text_in_threads, text_of};
 use std::alloc::Global;
 use std::thread::Threads;
@@ -33,7 +33,10 @@ pub(crate) fn write_table<O: Sink>(
     ensures why { IfErr result (λ why. (why ≡ stop.WriteFault) ⊎ (why ≡ stop.Memory)) }
 {
     let text = text_of(alloc, &ready.plan, &ready.bound, groups)?;
-    write_piece(out, text.as_slice())
+    match write_whole(out, text.as_slice()) {
+        Ok(()) => Ok(()),
+        Err(Failed) => Err(Stop::WriteFault),
+    }
 }
 
 /// The same, with a text that is made by at most this many threads, the caller's among them.
@@ -54,30 +57,7 @@ pub(crate) fn write_table_in_threads<R: Threads + Sync, O: Sink>(
     ensures why { IfErr result (λ why. (why ≡ stop.WriteFault) ⊎ (why ≡ stop.Memory)) }
 {
     let pieces = text_in_threads(rt, alloc, &ready.plan, &ready.bound, groups, threads)?;
-    write_each(out, &pieces)
-}
-
-/// Writes the pieces of a text one after the other, up to a write that fails.
-fn write_each<O: Sink>(out: &mut O, pieces: &[Vec<u8>]) -> Result<(), Stop>
-    ensures whole { OnOk result (Appends (O.taken out.old) (O.taken out.new) (joined pieces.now)) }
-    ensures prefix { OnErr result ((n : ℕ) × Appends (O.taken out.old) (O.taken out.new) (take n (joined pieces.now))) }
-    ensures why { IfErr result (λ why. why ≡ stop.WriteFault) }
-    ensures cause { HasCause (O.faults out.old) (O.faults out.new) result }
-{
-    for piece in pieces {
-        write_piece(out, piece.as_slice())?;
-    }
-    Ok(())
-}
-
-/// Writes a piece.
-fn write_piece<O: Sink>(out: &mut O, piece: &[u8]) -> Result<(), Stop>
-    ensures whole { OnOk result (Appends (O.taken out.old) (O.taken out.new) piece.now) }
-    ensures prefix { OnErr result ((n : ℕ) × Appends (O.taken out.old) (O.taken out.new) (take n piece.now)) }
-    ensures why { IfErr result (λ why. why ≡ stop.WriteFault) }
-    ensures cause { HasCause (O.faults out.old) (O.faults out.new) result }
-{
-    match write_whole(out, piece) {
+    match write_each(out, &pieces) {
         Ok(()) => Ok(()),
         Err(Failed) => Err(Stop::WriteFault),
     }

@@ -1,5 +1,5 @@
 //! What the forms of a program over comma-separated bytes have in common once their rows are read: the exit statuses,
-//! the line that says why there is no answer, and the writing of records to a sink, one by one.
+//! the line that says why there is no answer, and the writing of a text in pieces or of records, one by one, to a sink.
 //!
 //! A form knows what stops it, and which text its line has. This crate writes the text as a line, and knows nothing of
 //! where it comes from. Records go through a buffer whose memory is taken beforehand, so an answer that was begun is
@@ -9,10 +9,12 @@
 
 mod held;
 mod line;
+mod pieces;
 mod record;
 mod status;
 
 pub use held::Held;
 pub use line::write_pieces;
+pub use pieces::write_each;
 pub use record::{put_fields, put_record};
 pub use status::{MISUSED, NO_MEMORY, READ_FAULT, REFUSED, TABLE, TOO_LARGE, WRITE_FAULT};

@@ -29,7 +29,7 @@ cut-marked bytes at end =
       };
     }
 
-place-quoted : (s : State) → place_of s ≡ place.Quoted → is_quoted s ≡ true
+pub place-quoted : (s : State) → place_of s ≡ place.Quoted → is_quoted s ≡ true
 place-quoted st.InQuoted h = refl
 place-quoted st.StartRecord h = cc
 place-quoted st.StartField h = cc

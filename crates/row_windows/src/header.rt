@@ -1,16 +1,19 @@
 //! Where the line of the header ends.
 
-ghost use Rattle.std.specs.Prelude.{◌≡◌, IfSome};
-ghost use Rattle.row_windows.specs.Ends.{IsOpenEnd};
+ghost use Rattle.std.specs.Prelude.{◌≡◌, ◌≤◌, IfSome, None, length, take};
+ghost use Rattle.csv_rows.specs.Records.{records_of};
+ghost use Rattle.row_windows.specs.Ends.{IsFirstEnd, NoneBehind};
 ghost use Rattle.row_windows.specs.Seams.{IsCutAt};
 
 use crate::cut::without_mark;
 use csv_rows::{Place, scanned};
 
-/// The first place behind some byte that ends no line at which a text can be cut. Where a text has a record and more,
-/// the first record ends here. In time linear in the bytes up to it.
+/// The first place behind some byte that ends no line at which a text can be cut: in front of it stands the first record,
+/// and that alone. In time linear in the bytes up to it.
 pub fn header_end(bytes: &[u8]) -> Option<usize>
-    ensures { IfSome result (λ at. IsCutAt bytes.now at) }
+    ensures cut { IfSome result (λ at. IsCutAt bytes.now at) }
+    ensures one { IfSome result (λ at. length (records_of (take at bytes.now)) ≡ 1) }
+    ensures none { result ≡ None → length (records_of bytes.now) ≤ 1 }
 {
     let text = without_mark(bytes);
     let mark = bytes.len() - text.len();
@@ -22,7 +25,8 @@ pub fn header_end(bytes: &[u8]) -> Option<usize>
 
 /// The first end of a line of a text that stands outside quotes, behind a byte that ends none.
 fn first_end(text: &[u8]) -> Option<usize>
-    ensures { IfSome result (λ at. IsOpenEnd text.now at) }
+    ensures some { IfSome result (IsFirstEnd text.now) }
+    ensures none { result ≡ None → NoneBehind text.now (length text.now) }
 {
     let mut place = Place::Opens;
     let mut begun = false;

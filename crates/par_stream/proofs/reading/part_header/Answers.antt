@@ -1,17 +1,19 @@
-use Rattle.std.proofs.Common.{◌≡◌, ◌++◌, ◌∙◌, ℕ, List, Option, IfSome, ap, length, subst, sym, take}
+use Rattle.std.proofs.Common.{◌≡◌, ◌≤◌, ◌++◌, ◌∙◌, ℕ, List, None, Option, IfSome, ap, length, subst, sym, take}
 use Rattle.std.specs.Prelude.{unwrap_or}
 use Rattle.csv_rows.specs.Records.{records_of}
 use Rattle.row_blocks.specs.Blocks.{Table}
 use Rattle.row_windows.specs.Seams.{IsCutAt}
-use Rattle.par_stream.proofs.Streams.{front_records}
+use Rattle.par_stream.proofs.Streams.{front_one, front_records}
 use Rattle.par_stream.proofs.reading.part_header.Goals as goal
 
--- not tried yet: the clause of `unwrap_or` may have another form
+pub returns-in-Ok-clause-one : goal.returns-in-Ok-clause-one
+returns-in-Ok-clause-one c = ?
+
 pub returns-in-Ok-clause-first : goal.returns-in-Ok-clause-first
 returns-in-Ok-clause-first c =
     let lines = c.args.window.now.lines in
-    let same : c.table-lines.result.now ≡ lines = c.table-lines.ensures ∙ ap (λ (h : List ℕ). h ++ lines) c.requires in
-    let cut : IfSome c.header_end.result (IsCutAt lines) = subst (λ (l : List ℕ). IfSome c.header_end.result (IsCutAt l)) same c.header_end.ensures in
+    let same : c.table-lines.result.now ≡ lines = c.table-lines.ensures ∙ ap (λ (h : List ℕ). h ++ lines) c.requires.none in
+    let cut : IfSome c.header_end.result (IsCutAt lines) = subst (λ (l : List ℕ). IfSome c.header_end.result (IsCutAt l)) same c.header_end.ensures.cut in
     let found = front_records lines c.header_end.result cut in
     let at : c.unwrap_or-at.result ≡ unwrap_or c.header_end.result (length lines) = c.unwrap_or-at.ensures ∙ ap (λ (l : List ℕ). unwrap_or c.header_end.result (length l)) same in
     let header : c.set_header.new.self.header ≡ take (unwrap_or c.header_end.result (length lines)) lines = c.set_header.ensures.header ∙ ap (λ n. take n lines) at in
