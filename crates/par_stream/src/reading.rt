@@ -181,6 +181,7 @@ fn open<R: Threads + Wait + Sync>(
         is_last,
     } = first;
     let maps = begin(alloc, plan.workers() + 1)?;
+    let count = store.count();
     let maps = match add_rows(rt, alloc, &store, bound, maps) {
         Ok(maps) => maps,
         Err(why) => return Err(stop_of_block(alloc, plan, 0, why)),
@@ -191,7 +192,7 @@ fn open<R: Threads + Wait + Sync>(
         spare: Window::new(alloc),
         header,
         maps,
-        count: store.count(),
+        count,
         is_last,
     })
 }
@@ -252,11 +253,12 @@ fn next_window<R: Threads + Wait + Sync, S: Source>(
         Ok(store) => store,
         Err(_) => return Err(Stop::Memory),
     };
+    let more = store.count();
     let maps = match add_rows(rt, alloc, &store, bound, maps) {
         Ok(maps) => maps,
         Err(why) => return Err(stop_of_block(alloc, plan, count, why)),
     };
-    let count = count + store.count();
+    let count = count + more;
     if count > MOST_ROWS {
         return Err(Stop::Memory);
     }

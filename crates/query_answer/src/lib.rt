@@ -9,12 +9,12 @@
 
 mod held;
 mod line;
-mod pieces;
 mod record;
 mod status;
+mod text;
 
 pub use held::Held;
 pub use line::write_pieces;
-pub use pieces::write_each;
 pub use record::{put_fields, put_record};
 pub use status::{MISUSED, NO_MEMORY, READ_FAULT, REFUSED, TABLE, TOO_LARGE, WRITE_FAULT};
+pub use text::write_each;

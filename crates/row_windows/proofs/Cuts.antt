@@ -1,11 +1,10 @@
 -- From the ends of lines that a scan knows to the places at which a text can be cut.
-use Rattle.std.proofs.Common.{◌≡◌, ◌≢◌, ◌<◌, ◌+◌, ◌-◌, ◌∙◌, ℕ, true, false, List, length, take, drop, slice_index, refl, sym, ap, arith}
+use Rattle.std.proofs.Common.{◌≡◌, ◌+◌, ◌-◌, ◌∙◌, ℕ, true, List, length, take, drop, slice_index, refl, ap, arith}
 use Rattle.std.proofs.lemmas.List.{get_or-drop, length-drop}
 use Rattle.csv.specs.Reading.{strip_bom}
 use Rattle.csv.specs.declared.parser.State.{State}
 use Rattle.csv.specs.declared.parser.State.TheVariants as st
 use Rattle.csv_rows.specs.Cuts.{ends_quoted, is_quoted, state_after}
-use Rattle.csv_rows.specs.Places.{place_after}
 use Rattle.csv_rows.specs.declared.place.Place.TheVariants as place
 use Rattle.csv_rows.proofs.Follows.{place_of, scan-cut, scan-follows}
 use Rattle.csv_rows.proofs.Marks.{text-marked}

@@ -1,11 +1,12 @@
 -- How many records stand in front of the first end of a line that stands outside quotes and behind a byte that ends none.
-use Rattle.std.proofs.Common.{◌≡◌, ◌<◌, ◌≤◌, ◌+◌, ◌-◌, ◌∙◌, ◌⊎◌, inl, inr, ℕ, zero, suc, Bool, true, false, List, [], ◌∷◌, length, take, drop, slice_index, refl, sym, subst, ap, arith}
-use Rattle.std.specs.Prelude.{◌==◌, ◌||◌}
+use Rattle.std.proofs.Common.{◌≡◌, ◌<◌, ◌≤◌, ◌+◌, ◌-◌, ◌∙◌, ◌⊎◌, inl, inr, ℕ, zero, suc, Bool, true, false, List, [], ◌∷◌, length, take, slice_index, refl, sym, subst, ap, arith}
+use Rattle.std.specs.Prelude.{◌==◌}
 use Rattle.std.proofs.lemmas.Bool.{cases_Bool, cases_lt}
 use Rattle.std.proofs.lemmas.List.{get_or-take, length-take, take_all, take-take}
 use Rattle.csv.specs.Machine.{ends_at_end, field_after, fields_after, in_field, is_end, start_field, start_record, step}
 use Rattle.csv.specs.Reading.{default_config, records, strip_bom}
 use Rattle.csv.specs.declared.parser.Action.{Action}
+use Rattle.csv.specs.declared.parser.Action.TheVariants as act
 use Rattle.csv.specs.declared.parser.State.{State}
 use Rattle.csv.specs.declared.parser.State.TheVariants as st
 use Rattle.csv_rows.specs.Cuts.{is_quoted, state_after}
@@ -51,7 +52,7 @@ start_record-goes c h =
     let no = apart c h in
     rw (no.0, no.1) (rw (no.0, no.1) at (start_field-goes c h))
 
-start_record-stays : (c : ℕ) → is_line_end c ≡ true → (is_end (start_record default_config c).1 ≡ false) × ((start_record default_config c).0 ≡ st.StartRecord)
+start_record-stays : (c : ℕ) → is_line_end c ≡ true → ((start_record default_config c).1 ≡ act.Skip) × ((start_record default_config c).0 ≡ st.StartRecord)
 start_record-stays c h = elim (cases_Bool (c == 13)) [
   | inl r ↦ rw r (refl, refl)
   | inr r ↦ elim (cases_Bool (c == 10)) [ inl l ↦ rw (r, l) (refl, refl) | inr l ↦ let bad = rw (r, l) at h in cc bad ]

@@ -1,15 +1,15 @@
 -- The last end of a line outside quotes, as more of a text is gone through.
-use Rattle.std.proofs.Common.{◌≡◌, ◌≢◌, ◌<◌, ◌≤◌, ◌+◌, ◌-◌, ◌∙◌, ◌⊎◌, inl, inr, ℕ, true, false, List, Option, None, Some, length, take, drop, slice_index, refl, sym, ap, arith}
-use Rattle.std.specs.Prelude.{◌==◌, ◌||◌, not}
+use Rattle.std.proofs.Common.{◌≡◌, ◌≢◌, ◌<◌, ◌≤◌, ◌+◌, ◌-◌, ◌∙◌, inl, inr, ℕ, true, false, List, Option, None, Some, length, take, drop, slice_index, refl, sym, ap, arith}
+use Rattle.std.specs.Prelude.{not}
 use Rattle.std.proofs.lemmas.Bool.{cases_lt}
 use Rattle.std.proofs.lemmas.List.{get_or-drop, get_or-take, length-drop, length-take}
 use denote.Enum.Bare.{sameb}
-use Rattle.memchr.specs.Find.{IsLast, Nowhere, NoneAfter, Passes, is_byte2}
+use Rattle.memchr.specs.Find.{Nowhere, NoneAfter, Passes, is_byte2}
 use Rattle.csv_rows.specs.Places.{NoQuote, place_after}
 use Rattle.csv_rows.specs.contracts.place.Place.{the_type}
 use Rattle.csv_rows.specs.declared.place.Place.{Place}
 use Rattle.csv_rows.specs.declared.place.Place.TheVariants as place
-use Rattle.row_windows.specs.Ends.{IsLastBelow, IsOpenEnd, NoneBelow}
+use Rattle.row_windows.specs.Ends.{IsLastBelow, IsOpenEnd}
 use Rattle.row_windows.specs.Seams.{is_line_end}
 use Rattle.row_windows.specs.Stretch.{between}
 use Rattle.row_windows.proofs.QuoteScans.{outside-on, quoted-on}
@@ -23,6 +23,11 @@ pub not-quoted : (p : Place) → sameb the_type p place.Quoted ≡ false → p �
 not-quoted place.Quoted h = cc
 not-quoted place.Opens h = λ is. cc is
 not-quoted place.Inside h = λ is. cc is
+
+pub not-not-quoted : (p : Place) → not (sameb the_type p place.Quoted) ≡ false → p ≡ place.Quoted
+not-not-quoted place.Quoted h = refl
+not-not-quoted place.Opens h = cc
+not-not-quoted place.Inside h = cc
 
 -- between quotes no line ends
 pub quoted-later : (text : List ℕ) (from to : ℕ) (last : Option ℕ) → from ≤ to → NoQuote (between from to text) → place_after place.Opens (take from text) ≡ place.Quoted

@@ -1,7 +1,7 @@
 -- The records of a text that is cut at a seam are those of the two parts. For a line feed that is known of the store of
 -- records; here the same is shown for a carriage return.
-use Rattle.std.proofs.Common.{◌≡◌, ◌<◌, ◌∙◌, ℕ, true, false, List, [], ◌∷◌, ◌++◌, refl, sym, inl, inr, arith}
-use Rattle.std.specs.Prelude.{◌==◌, ◌||◌, ◌&&◌, ⊤}
+use Rattle.std.proofs.Common.{◌≡◌, ℕ, true, false, List, [], ◌∷◌, ◌++◌, refl, inl, inr, arith}
+use Rattle.std.specs.Prelude.{◌==◌, ◌&&◌}
 use Rattle.std.proofs.lemmas.Bool.{cases_Bool, eqb-true}
 use Rattle.csv.specs.Machine.{field_after, fields_after, is_end, step}
 use Rattle.csv.specs.Reading.{default_config, strip_bom}
@@ -11,7 +11,7 @@ use Rattle.csv_rows.specs.Records.{records_of}
 use Rattle.csv_rows.specs.Cuts.{IsCut, is_quoted, state_after}
 use Rattle.csv_rows.proofs.Compose.{IsSane, records-cut, step-steps}
 use Rattle.csv_rows.proofs.Machine.{all_from, records-all}
-use Rattle.row_windows.specs.Seams.{IsSeam, RecordsAddUp, is_line_end}
+use Rattle.row_windows.specs.Seams.{RecordsAddUp, is_line_end}
 
 -- between records, a carriage return before changes nothing
 after-return : (b : List ℕ) → all_from st.AfterCr [] [] b ≡ all_from st.StartRecord [] [] b

@@ -3,7 +3,7 @@
 ghost use Rattle.std.specs.Prelude.{◌≡◌, ◌≤◌, IfSome, None, length, take};
 ghost use Rattle.csv_rows.specs.Records.{records_of};
 ghost use Rattle.row_windows.specs.Ends.{IsFirstEnd, NoneBehind};
-ghost use Rattle.row_windows.specs.Seams.{IsCutAt};
+ghost use Rattle.row_windows.specs.Seams.{IsCutAt, is_line_end};
 
 use crate::cut::without_mark;
 use csv_rows::{Place, scanned};
@@ -31,12 +31,19 @@ fn first_end(text: &[u8]) -> Option<usize>
     let mut place = Place::Opens;
     let mut begun = false;
     'bytes: for at in 0..text.len() {
-        let ends = text[at] == b'\n' || text[at] == b'\r';
-        if ends && begun && place != Place::Quoted {
+        if !ends_line(text[at]) {
+            begun = true;
+        } else if begun && place != Place::Quoted {
             return Some(at);
         }
-        begun = begun || !ends;
         place = scanned(&text[at..at + 1], place);
     }
     None
+}
+
+/// Whether a byte ends a line.
+fn ends_line(byte: u8) -> bool
+    ensures { result ≡ is_line_end byte }
+{
+    byte == b'\n' || byte == b'\r'
 }

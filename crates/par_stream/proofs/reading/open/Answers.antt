@@ -1,20 +1,20 @@
-use Rattle.std.proofs.Common.{◌≡◌, ◌<◌, ◌+◌, ◌^◌, ◌∷◌, ◌∙◌, [], ℕ, List, ap, arith, drop, length, length-drop, refl, subst, sym}
+use Rattle.std.proofs.Common.{◌≡◌, ◌<◌, ◌+◌, ◌-◌, ◌^◌, ◌∷◌, ◌∙◌, ◌++◌, [], ℕ, List, ap, arith, drop, length, length-drop, refl, replicate, subst, sym}
 use Rattle.std.proofs.lemmas.List.{length-replicate}
 use Rattle.std.proofs.lemmas.List.Elements.{All-nil}
-use Rattle.csv_rows.specs.Records.{record_at}
+use Rattle.std.specs.FinMap as fin
+use Rattle.csv_rows.specs.Records.{record_at, records_of}
 use Rattle.partial_agg.specs.Groups.{GroupsByKey}
 use Rattle.partial_agg.specs.Rows.{IsAccepted, header_width}
 use Rattle.row_blocks.specs.Blocks.{Table}
 use Rattle.split_law.specs.Shares.{AreShared}
-use Rattle.split_law.proofs.Shares.{shares_begin}
+use Rattle.split_law.proofs.RowShares.{shares_begin}
 use Rattle.split_run.specs.Causes.{IsCauseBy}
 use Rattle.table_query.proofs.Outcomes.{header_first}
-use Rattle.par_stream.specs.Reading.{Reaches}
+use Rattle.par_stream.specs.Reading.{HasRows, Reaches}
 use Rattle.par_stream.proofs.Refusals.{Begins, begins, refused_tells}
 use Rattle.par_stream.proofs.Streams.{one_record}
 use Rattle.par_stream.proofs.reading.open.Goals as goal
 
--- not tried yet: `size` wants how many maps `begin` gives, and `few` that a store has few records, as `count` tells
 pub returns-in-Err-clause-why : goal.returns-in-Err-clause-why
 returns-in-Err-clause-why g c =
     let query = c.args.plan.now in
@@ -23,8 +23,8 @@ returns-in-Err-clause-why g c =
     let header = record_at store 0 in
     let maps = c.in_ok-maps.maps.items in
     let size : length maps ≡ query.workers + 1 = ? in
-    let few : 0 + length (header ∷ drop 1 store) < 2 ^ 64 = ? in
     let one : store ≡ header ∷ drop 1 store = sym (header_first store c.requires.first.some) in
+    let few : 0 + length (header ∷ drop 1 store) < 2 ^ 64 = omega (arith, ap length one, c.count.ensures.rows, c.count.ensures.few) in
     let cause : IsCauseBy bound (header ∷ drop 1 store) (length maps) c.in-Err.why = subst (λ (l : Table). IsCauseBy bound l (length maps) c.in-Err.why) one c.in-Err.ensures.cause in
     λ from left r.
     refused_tells query header bound c.requires.bound from (length maps) 0 [] (drop 1 store) c.in-Err.why c.stop_of_block.result (λ none. omega (arith, size, none)) refl few

@@ -1,4 +1,4 @@
-use Rattle.std.proofs.Common.{◌≡◌, ◌<◌, ◌≤◌, ◌+◌, ◌-◌, ◌∙◌, ap, sym, arith, drop, length, take, refl}
+use Rattle.std.proofs.Common.{◌≤◌, ◌+◌, ◌-◌, ◌∙◌, ap, sym, arith, drop, length, refl}
 use Rattle.std.proofs.lemmas.List.{length-drop, length-take}
 use Rattle.row_windows.specs.Stretch.{Stretch, between}
 use Rattle.row_windows.proofs.Stretches.{between-none, front-less, window-lines, window-reads}

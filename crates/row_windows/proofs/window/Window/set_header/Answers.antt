@@ -1,4 +1,4 @@
-use Rattle.std.proofs.Common.{◌∙◌, ap, sym, take, drop, length, ◌≤◌}
+use Rattle.std.proofs.Common.{◌∙◌, ap, sym, take, drop}
 use Rattle.row_windows.specs.Stretch.{Stretch}
 use Rattle.row_windows.proofs.Stretches.{header-takes}
 use Rattle.row_windows.proofs.window.Window.set_header.Goals as goal

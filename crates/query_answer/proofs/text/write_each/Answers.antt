@@ -4,7 +4,7 @@ use Rattle.std.specs.Global.{Vec}
 use Rattle.std.specs.Io.KnownBytes.{Appends}
 use Rattle.std.specs.List.{concat}
 use Rattle.query_answer.proofs.Pieces.{pieces_front, pieces_more}
-use Rattle.query_answer.proofs.pieces.write_each.Goals as goal
+use Rattle.query_answer.proofs.text.write_each.Goals as goal
 
 abbrev bytes_of : Vec ℕ → List ℕ
 bytes_of piece = piece.items

@@ -1,7 +1,7 @@
 use Rattle.std.proofs.Common.{◌≤◌, map, take}
 use Rattle.std.specs.Io.KnownBytes.{Appends}
 use Rattle.std.specs.List.{concat}
-use Rattle.query_answer.proofs.pieces.write_each.Given as goal
+use Rattle.query_answer.proofs.text.write_each.Given as goal
 
 -- the sink has the pieces so far
 abbrev pub invariant-loop-piece : goal.invariant-loop-piece
