@@ -123,27 +123,24 @@ module _ (query : Query) (header : List (List ℕ)) (bound : Plan) (is : IsBound
   refused_tells from participants before rows wrows answer.Memory said alone is_before few b accepted c restated = subst (Tells query from) (sym restated) tt
   refused_tells from participants before rows wrows (answer.Row row cause item) said alone is_before few b accepted c restated = by (restated (omega (arith, few, c.cause.within)))
     where
-      abbrev why : Refusal
-      why = record { cause = cause; item = item }
-
       whole : (bytes : List ℕ) (more : Table) → records_of bytes ≡ header ∷ ((rows ++ wrows) ++ more) → refused_of (outcome_over (Some query.plan) bytes) ≡ refused_in bound (header ∷ ((rows ++ wrows) ++ more))
       whole bytes more e = ap refused_of (ap (outcome (Some query.plan)) e ∙ outcome_rows ((rows ++ wrows) ++ more)) ∙ refused_by (refused_in bound (header ∷ ((rows ++ wrows) ++ more)))
 
       number : length rows + row ≡ before + row
       number = ap (λ n. n + row) (sym is_before)
 
-      has_told : (from : Option (List ℕ)) → Begins from (header ∷ (rows ++ wrows)) → IfSome from (λ bytes. Contains (refused_of (outcome_over (Some query.plan) bytes)) (before + row, why))
+      has_told : (from : Option (List ℕ)) → Begins from (header ∷ (rows ++ wrows)) → IfSome from (λ bytes. Contains (refused_of (outcome_over (Some query.plan) bytes)) (before + row, record { cause = cause; item = item }))
       has_told None b = tt
       has_told (Some bytes) b =
-          let has = has_row rows wrows b.0 row why c.cause.first c.cause.within c.cause.cause_is in
-          subst (λ (l : List (ℕ × Refusal)). Contains l (before + row, why)) (sym (whole bytes b.0 b.1)) (subst (λ n. Contains (refused_in bound (header ∷ ((rows ++ wrows) ++ b.0))) (n, why)) number has)
+          let has = has_row rows wrows b.0 row (record { cause = cause; item = item }) c.cause.first c.cause.within c.cause.cause_is in
+          subst (λ (l : List (ℕ × Refusal)). Contains l (before + row, record { cause = cause; item = item })) (sym (whole bytes b.0 b.1)) (subst (λ n. Contains (refused_in bound (header ∷ ((rows ++ wrows) ++ b.0))) (n, record { cause = cause; item = item })) number has)
 
-      first_told : (from : Option (List ℕ)) → Begins from (header ∷ (rows ++ wrows)) → query.workers ≡ 0 → IfSome from (λ bytes. slice_get (refused_of (outcome_over (Some query.plan) bytes)) 0 ≡ Some (before + row, why))
+      first_told : (from : Option (List ℕ)) → Begins from (header ∷ (rows ++ wrows)) → query.workers ≡ 0 → IfSome from (λ bytes. slice_get (refused_of (outcome_over (Some query.plan) bytes)) 0 ≡ Some (before + row, record { cause = cause; item = item }))
       first_told None b none = tt
       first_told (Some bytes) b none =
-          let f = first_is rows wrows b.0 row why c.cause.first c.cause.within c.cause.cause_is accepted (c.first (alone none)) in
-          ap (λ (l : List (ℕ × Refusal)). slice_get l 0) (whole bytes b.0 b.1 ∙ subst (λ n. refused_in bound (header ∷ ((rows ++ wrows) ++ b.0)) ≡ (n, why) ∷ f.0) number f.1)
+          let f = first_is rows wrows b.0 row (record { cause = cause; item = item }) c.cause.first c.cause.within c.cause.cause_is accepted (c.first (alone none)) in
+          ap (λ (l : List (ℕ × Refusal)). slice_get l 0) (whole bytes b.0 b.1 ∙ subst (λ n. refused_in bound (header ∷ ((rows ++ wrows) ++ b.0)) ≡ (n, record { cause = cause; item = item }) ∷ f.0) number f.1)
 
       by : IsRefusedRow query.plan (before + row) why said ⊎ (said ≡ stop.Memory) → Tells query from said
       by (inr e) = subst (Tells query from) (sym e) tt
-      by (inl r) = subst (Tells query from) (sym r.1) (record { refusal = why; says = r.2; has = has_told from b; first = first_told from b })
+      by (inl r) = subst (Tells query from) (sym r.1) (record { refusal = record { cause = cause; item = item }; says = r.2; has = has_told from b; first = first_told from b })

@@ -22,7 +22,7 @@ one_record (h ∷ []) all more size e = (ap (λ (l : Table). record_at l 0) e, r
 -- the records of a window behind its header
 pub window_records : (header lines : List ℕ) (one : Table) → IsCut header → BeginsLine lines → records_of header ≡ one → length one ≡ 1 → records_of (header ++ lines) ≡ record_at one 0 ∷ records_of lines
 window_records header lines one cut line is size =
-    records_add_up header lines (record { whole = cut; line = line }) ∙ ap (λ (l : Table). l ++ records_of lines) is ∙ (one_record one (one ++ records_of lines) (records_of lines) size refl).2.2
+    records_add_up header lines (record { whole = cut; line = line }) ∙ ap (λ (l : Table). l ++ records_of lines) is ∙ (one_record one (one ++ records_of lines) (records_of lines) size refl).3
 
 -- where a text is cut in front of a line, or not at all, its records begin with those of the front
 pub front_records : (lines : List ℕ) (cut : Option ℕ) → IfSome cut (IsCutAt lines) → (more : Table) × (records_of lines ≡ records_of (take (unwrap_or cut (length lines)) lines) ++ more)

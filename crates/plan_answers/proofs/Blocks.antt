@@ -1,5 +1,5 @@
 -- Which row of a table is the first that is refused, where the blocks before that of it are accepted.
-use Rattle.std.proofs.Common.{◌≡◌, ◌+◌, ◌-◌, ◌*◌, ◌<◌, ◌++◌, ℕ, List, ◌∷◌, Some, length, take, drop, arith, length-drop, length-take, subst, sym, take-append-drop}
+use Rattle.std.proofs.Common.{◌≡◌, ◌+◌, ◌*◌, ◌<◌, ◌++◌, ℕ, List, ◌∷◌, Some, length, take, drop, arith, length-drop, length-take, subst, sym, take-append-drop}
 use Rattle.std.proofs.lemmas.List.{drop-drop, drop-take, take-take}
 use Rattle.std.proofs.lemmas.List.Elements.{All-append, All-same}
 use Rattle.std.specs.List.{All}
