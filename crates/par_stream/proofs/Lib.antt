@@ -1,3 +1,4 @@
+mod Asked
 mod Refusals
 mod Statuses
 mod Streams

@@ -47,7 +47,9 @@ take_front (w ∷ ws) more (suc k) h = ap (λ (l : Table). w ∷ l) (take_front 
 
 -- the first rows of all that stand before a place of a window, with the rows before the window
 front_is : (rows wrows more : Table) (k : ℕ) → k ≤ length wrows → take (length rows + k) ((rows ++ wrows) ++ more) ≡ rows ++ take k wrows
-front_is [] wrows more k h = take_front wrows more k h
+front_is [] wrows more k h =
+    let e : length {A = List (List ℕ)} [] + k ≡ k = omega arith in
+    ap (λ n. take n (wrows ++ more)) e ∙ take_front wrows more k h
 front_is (x ∷ rows) wrows more k h =
     let e : length (x ∷ rows) + k ≡ suc (length rows + k) = omega arith in
     ap (λ n. take n (((x ∷ rows) ++ wrows) ++ more)) e ∙ ap (λ (l : Table). x ∷ l) (front_is rows wrows more k h)
@@ -141,6 +143,6 @@ module _ (query : Query) (header : List (List ℕ)) (bound : Plan) (is : IsBound
           let f = first_is rows wrows b.0 row (record { cause = cause; item = item }) c.cause.first c.cause.within c.cause.cause_is accepted (c.first (alone none)) in
           ap (λ (l : List (ℕ × Refusal)). slice_get l 0) (whole bytes b.0 b.1 ∙ subst (λ n. refused_in bound (header ∷ ((rows ++ wrows) ++ b.0)) ≡ (n, record { cause = cause; item = item }) ∷ f.0) number f.1)
 
-      by : IsRefusedRow query.plan (before + row) why said ⊎ (said ≡ stop.Memory) → Tells query from said
+      by : IsRefusedRow query.plan (before + row) (record { cause = cause; item = item }) said ⊎ (said ≡ stop.Memory) → Tells query from said
       by (inr e) = subst (Tells query from) (sym e) tt
       by (inl r) = subst (Tells query from) (sym r.1) (record { refusal = record { cause = cause; item = item }; says = r.2; has = has_told from b; first = first_told from b })

@@ -117,11 +117,11 @@ long_told (Some query) (Some bytes) why tells is = long_by query bytes why tells
 pub no_plan : (asked : Option Query) (left : Option (List ℕ)) (why : Stop) → TellsOf asked left why → IsNone (plan_in asked) → (stop_status why ≡ MISUSED) ⊎ (stop_status why ≡ NO_MEMORY)
 no_plan None left why (inl e) none = inl (ap stop_status e)
 no_plan None left why (inr e) none = inr (ap stop_status e)
-no_plan (Some query) left why tells none = absurd none
+no_plan (Some query) left why tells none = cc none
 
 pub no_query : (asked : Option Query) → IsNone (plan_in asked) → IsNone asked
-no_query None none = tt
-no_query (Some query) none = absurd none
+no_query None none = none
+no_query (Some query) none = none
 
 -- ---- its line
 

@@ -11,7 +11,9 @@ use Rattle.row_blocks.specs.Blocks.{Table}
 use Rattle.row_windows.specs.Seams.{BeginsLine, IsCutAt, IsSeam}
 use Rattle.row_windows.proofs.Seams.{records_add_up}
 use Rattle.split_law.specs.Shares.{AreShared}
-use Rattle.par_stream.specs.Reading.{Reaches}
+use Rattle.plan_spec.specs.Query.{Query}
+use Rattle.par_stream.specs.Reading.{IsStream}
+use Rattle.par_stream.specs.declared.reading.Stream.{Stream}
 
 -- a list of one record, and what begins with it
 pub one_record : (one all more : Table) → length one ≡ 1 → all ≡ one ++ more → (record_at all 0 ≡ record_at one 0) × (one ≡ record_at one 0 ∷ []) × (drop 1 all ≡ more) × (all ≡ record_at one 0 ∷ more)
@@ -36,3 +38,11 @@ front_one lines None some none more =
     let whole : length (records_of lines) ≡ 1 = omega (arith, none refl, more) in
     ap (λ (l : List ℕ). length (records_of l)) (take_all (length lines) lines (omega arith)) ∙ whole
 front_one lines (Some at) some none more = some
+
+-- the records of a window behind another one
+pub next_store : (query : Query) (plan : Plan) (s : Stream) (header lines rest : List ℕ) (store : Table) → IsStream query plan s → s.is_last ≡ false → header ≡ s.window.header → rest ≡ s.window.rest
+    → (BeginsLine rest → BeginsLine lines) → store ≡ records_of (header ++ lines) → store ≡ record_at s.header 0 ∷ records_of lines
+next_store query plan s header lines rest store is more same rests begins records =
+    records
+    ∙ (ap (λ (h : List ℕ). records_of (h ++ lines)) same
+    ∙ window_records s.window.header lines s.header (is.cut more) (begins (subst BeginsLine (sym rests) (is.line more))) is.window is.header)

@@ -1,5 +1,5 @@
 -- The text of the groups of all rows of a source.
-use Rattle.std.proofs.Common.{◌≡◌, ◌∷◌, ◌∙◌, ℕ, List, Option, None, Some, IfSome, ap, subst, sym, take}
+use Rattle.std.proofs.Common.{◌≡◌, ◌∷◌, ◌∙◌, ℕ, List, Option, None, Some, Result, Ok, Err, IfErr, IfSome, ap, subst, sym, take}
 use Rattle.std.specs.Io.KnownBytes.{Appends}
 use Rattle.csv_rows.specs.Records.{records_of}
 use Rattle.par_model.specs.Named.{bound_plan}
@@ -13,6 +13,11 @@ use Rattle.par_stream.specs.Outcome.{outcome}
 use Rattle.par_stream.specs.Reading.{AreGroupsOver}
 use Rattle.par_stream.specs.declared.reading.ReadGroups.{ReadGroups}
 use Rattle.par_stream.proofs.Refusals.{accepted_table}
+
+-- what holds of every error holds of the one that there is
+pub IfErr-each : {T E : Type 0} (r : Result T E) (P : E → Type 0) → ((why : E) → P why) → IfErr r P
+IfErr-each (Ok x) P each = tt
+IfErr-each (Err why) P each = each why
 
 -- a text answers a query over any rows of which the groups are those
 abbrev pub AnswersAny : Query → ReadGroups → List ℕ → Type 0

@@ -51,8 +51,8 @@ pub record IsBound (query : Query) (header : List (List ℕ)) (plan : Plan) : Ty
   pub columns : HasColumns plan (length header)
   pub whole : missing_name header query.plan ≡ None
 
--- a stream: its windows begin with its header, which is cut off at the end of a line; a participant has a map for each
--- worker and one more
+-- a stream: its windows begin with its header, which is cut off at the end of a line; there is a map for each worker and
+-- one more, at most 65
 pub record IsStream (query : Query) (plan : Plan) (s : Stream) : Type 0 where
   pub header : length s.header ≡ 1
   pub bound : IsBound query (record_at s.header 0) plan
@@ -60,6 +60,7 @@ pub record IsStream (query : Query) (plan : Plan) (s : Stream) : Type 0 where
   pub cut : s.is_last ≡ false → IsCut s.window.header
   pub line : s.is_last ≡ false → BeginsLine s.window.rest
   pub maps : length s.maps.items ≡ query.workers + 1
+  pub hands : length s.maps.items ≤ 65
   pub few : s.count ≤ 2 ^ 50
 
 -- its maps are those of shares of these rows, which were read of a source behind the header

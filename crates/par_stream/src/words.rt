@@ -1,6 +1,6 @@
 //! The words of a command line: those of a plan, but for the two options that speak of a shared table.
 
-ghost use Rattle.std.specs.Prelude.{◌≡◌, ◌⊎◌, None, Some, Err, IfErr, IfOk};
+ghost use Rattle.std.specs.Prelude.{◌≡◌, ◌⊎◌, None, Some, Err, IfErr, IfOk, string_bytes};
 ghost use Rattle.std.specs.List.{list_any};
 ghost use Rattle.query_answer.specs.Words.{texts};
 ghost use Rattle.par_stream.specs.Words.{is_of_table, query_of};
@@ -24,7 +24,7 @@ pub(crate) fn read_words(alloc: Global, words: &[String]) -> Result<Plan, Stop>
 
 /// Whether some word names an option that speaks of a shared table.
 fn has_of_table(words: &[String]) -> bool
-    ensures { result ≡ list_any is_of_table (texts words.now) }
+    ensures { result ≡ list_any (λ word. is_of_table (string_bytes word)) words.now }
 {
     words.iter().any(|word| is_of_table(word.as_bytes()))
 }

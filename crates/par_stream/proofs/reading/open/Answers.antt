@@ -24,7 +24,7 @@ returns-in-Err-clause-why g c =
     let maps = c.in_ok-maps.maps.items in
     let size : length maps ≡ query.workers + 1 = ap length c.in_ok-maps.ensures ∙ (length-replicate _ _ ∙ ap (λ n. n + 1) c.workers.ensures.value) in
     let one : store ≡ header ∷ drop 1 store = sym (header_first store c.requires.first.some) in
-    let few : 0 + length (header ∷ drop 1 store) < 2 ^ 64 = omega (arith, ap length one, c.count.ensures.rows, c.count.ensures.few) in
+    let few : 0 + length (header ∷ drop 1 store) < 2 ^ 64 = omega (arith, ap length one, c.count-count.ensures.rows, c.count-count.ensures.few) in
     let cause : IsCauseBy bound (header ∷ drop 1 store) (length maps) c.in-Err.why = subst (λ (l : Table). IsCauseBy bound l (length maps) c.in-Err.why) one c.in-Err.ensures.cause in
     λ from left r.
     refused_tells query header bound c.requires.bound from (length maps) 0 [] (drop 1 store) c.in-Err.why c.stop_of_block.result (λ none. omega (arith, size, none)) refl few
@@ -43,9 +43,9 @@ returns-clause-rows g c =
     let all : store ≡ record_at header 0 ∷ drop 1 store = one.3 ∙ ap (λ (l : Table). record_at header 0 ∷ l) (sym one.2) in
     let maps = c.in_ok-maps.maps.items in
     let none : AreShared bound (header_width store) [] maps = subst (AreShared bound (header_width store) []) (sym c.in_ok-maps.ensures) (shares_begin bound (header_width store) _) in
-    let shared : AreShared bound (header_width store) (drop 1 store) c.in-Ok.maps.items = c.in-Ok.ensures.shared [] none (omega (arith, c.count.ensures.rows, c.count.ensures.few)) in
+    let shared : AreShared bound (header_width store) (drop 1 store) c.in-Ok.maps.items = c.in-Ok.ensures.shared [] none (omega (arith, c.count-count.ensures.rows, c.count-count.ensures.few)) in
     λ from left r. (drop 1 store, record {
-      count = omega (arith, c.count.ensures.rows, length-drop 1 store);
+      count = omega (arith, c.count-count.ensures.rows, length-drop 1 store);
       shared = subst (λ (h : List (List ℕ)). AreShared bound (length h) (drop 1 store) c.in-Ok.maps.items) one.0 shared;
       reaches = subst (λ (l : Table). Reaches from left l c.part_header.new.window.rest first.is_last) all (subst (λ (rest : List ℕ). Reaches from left store rest first.is_last) (sym parted.rest) r);
     })
