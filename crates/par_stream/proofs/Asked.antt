@@ -1,5 +1,5 @@
 -- What words ask for, by the test of each word where it lies.
-use Rattle.std.proofs.Common.{◌≡◌, ◌∙◌, Bool, true, false, ℕ, List, None, Option, Some, String, ap, string_bytes}
+use Rattle.std.proofs.Common.{◌≡◌, ◌∙◌, Bool, true, false, List, None, Some, String, ap, string_bytes}
 use Rattle.std.specs.Prelude.{if◌then◌else◌}
 use Rattle.std.specs.List.{list_any}
 use Rattle.plan_spec.specs.Query as plan

@@ -1,16 +1,16 @@
 -- A row that is refused in a window, among all rows of a source.
-use Rattle.std.proofs.Common.{◌≡◌, ◌<◌, ◌≤◌, ◌+◌, ◌-◌, ◌*◌, ◌^◌, ◌++◌, ◌⊎◌, ◌∙◌, inl, inr, ℕ, zero, suc, Bool, true, false, List, [], ◌∷◌, Option, None, Some, IfSome, All, Contains, drop, length, take, refl, ap, sym, subst, arith, append-nil, length-append}
+use Rattle.std.proofs.Common.{◌≡◌, ◌<◌, ◌≤◌, ◌+◌, ◌-◌, ◌^◌, ◌++◌, ◌⊎◌, ◌∙◌, inl, inr, ℕ, zero, suc, Bool, true, false, List, [], ◌∷◌, Option, None, Some, IfSome, All, Contains, length, take, refl, ap, sym, subst, arith, append-nil, length-append}
 use Rattle.std.specs.Prelude.{slice_get, string_bytes}
 use Rattle.std.proofs.lemmas.List.{get_or-append-add, get_or_append_left}
 use Rattle.std.proofs.lemmas.Grind.{get_or_after_one}
 use Rattle.std.proofs.lemmas.List.Elements.{All-append, All-same}
 use Rattle.csv_rows.specs.Records.{record_at, records_of}
-use Rattle.par_model.specs.Named.{bound_plan, missing_name}
-use Rattle.par_model.specs.Outcome.{NoColumn, NoHeader, Outcome, Table as IsTable, by_missing, by_refused}
+use Rattle.par_model.specs.Named.{missing_name}
+use Rattle.par_model.specs.Outcome.{Table as IsTable, by_missing, by_refused}
 use Rattle.par_model.specs.Plan.{Plan}
 use Rattle.par_model.specs.Refuse.{refusal, refused_rows}
 use Rattle.par_model.specs.declared.refusal.Refusal.{Refusal}
-use Rattle.partial_agg.specs.Rows.{IsAccepted, header_width}
+use Rattle.partial_agg.specs.Rows.{IsAccepted}
 use Rattle.partial_agg.specs.declared.map.BlockAnswer.{BlockAnswer}
 use Rattle.partial_agg.specs.declared.map.BlockAnswer.TheVariants as answer
 use Rattle.plan_spec.specs.Query.{Query}
@@ -21,7 +21,7 @@ use Rattle.table_query.specs.Refused.{refused_in}
 use Rattle.table_query.proofs.RefusedRows.{refused_first, refused_in-has, refused_in-none}
 use Rattle.par_stream.specs.Outcome.{outcome, outcome_over}
 use Rattle.par_stream.specs.Reading.{HasAll, IsBound, Reaches}
-use Rattle.par_stream.specs.Stops.{IsRefusedRow, NamesRefusal, Restates, Tells}
+use Rattle.par_stream.specs.Stops.{IsRefusedRow, Restates, Tells}
 use Rattle.par_stream.specs.declared.stop.Stop.{Stop}
 use Rattle.par_stream.specs.declared.stop.Stop.TheVariants as stop
 

@@ -1,6 +1,6 @@
 -- The status and the line of a reason to have no table.
 use Rattle.std.proofs.Common.{◌≡◌, ◌≢◌, ◌⊎◌, ◌++◌, ◌∙◌, Contains, arith, inl, inr, ℕ, List, refl, None, Some, Option, IfSome, append_assoc, decimal, codes, ap, sym, subst}
-use Rattle.std.specs.Prelude.{IsNone, option_map, slice_get, string_bytes}
+use Rattle.std.specs.Prelude.{IsNone, option_map, string_bytes}
 use Rattle.par_model.specs.declared.refusal.Refusal.{Refusal}
 use Rattle.par_model.specs.Named.{NamedPlan}
 use Rattle.par_model.specs.Outcome.{Outcome, Usage, TooManyBytes, NoHeader, TooManyRows, NoColumn, Refused, Table}
@@ -9,7 +9,7 @@ use Rattle.query_answer.specs.declared.status.TheConstants.{MISUSED, NO_MEMORY, 
 use Rattle.table_query.specs.Answers.{status_of}
 use Rattle.table_query.specs.Lines.{refusal_text, refused_of, row_text}
 use Rattle.par_stream.specs.Answers.{IsTold, statuses}
-use Rattle.par_stream.specs.Lines.{IsLine, IsMisuse, NamesFirstRow, NamesLong, NamesRow, line}
+use Rattle.par_stream.specs.Lines.{IsLine, NamesFirstRow, line}
 use Rattle.par_stream.specs.Outcome.{HasLong, outcome_over}
 use Rattle.par_stream.specs.Stops.{Tells, TellsOf, cause_text, row_front, stop_status, stop_text}
 use Rattle.par_stream.specs.declared.stop.Cause.{Cause}

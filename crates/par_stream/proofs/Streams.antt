@@ -1,16 +1,13 @@
 -- What there is after a window.
-use Rattle.std.proofs.Common.{◌≡◌, ◌<◌, ◌≤◌, ◌+◌, ◌-◌, ◌^◌, ◌++◌, ◌∙◌, ℕ, suc, Bool, true, false, List, [], ◌∷◌, Option, None, Some, All, IfSome, drop, length, take, refl, ap, sym, subst, arith, append-nil, append_assoc, length-append, take-append-drop}
+use Rattle.std.proofs.Common.{◌≡◌, ◌<◌, ◌≤◌, ◌++◌, ◌∙◌, ℕ, false, List, [], ◌∷◌, Option, None, Some, IfSome, drop, length, take, refl, ap, sym, subst, arith, append-nil, take-append-drop}
 use Rattle.std.specs.Prelude.{unwrap_or}
 use Rattle.std.proofs.lemmas.List.{take_all}
 use Rattle.csv_rows.specs.Cuts.{IsCut}
 use Rattle.csv_rows.specs.Records.{record_at, records_of}
 use Rattle.par_model.specs.Plan.{Plan}
-use Rattle.partial_agg.specs.Groups.{AreGroups, GroupsByKey}
-use Rattle.partial_agg.specs.Rows.{IsAccepted, header_width}
 use Rattle.row_blocks.specs.Blocks.{Table}
-use Rattle.row_windows.specs.Seams.{BeginsLine, IsCutAt, IsSeam}
+use Rattle.row_windows.specs.Seams.{BeginsLine, IsCutAt}
 use Rattle.row_windows.proofs.Seams.{records_add_up}
-use Rattle.split_law.specs.Shares.{AreShared}
 use Rattle.plan_spec.specs.Query.{Query}
 use Rattle.par_stream.specs.Reading.{IsStream}
 use Rattle.par_stream.specs.declared.reading.Stream.{Stream}

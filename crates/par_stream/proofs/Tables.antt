@@ -1,7 +1,6 @@
 -- The text of the groups of all rows of a source.
 use Rattle.std.proofs.Common.{◌≡◌, ◌∷◌, ◌∙◌, ℕ, List, Option, None, Some, Result, Ok, Err, IfErr, IfSome, ap, subst, sym, take}
 use Rattle.std.specs.Io.KnownBytes.{Appends}
-use Rattle.csv_rows.specs.Records.{records_of}
 use Rattle.par_model.specs.Named.{bound_plan}
 use Rattle.par_model.specs.Outcome.{IsAnswer}
 use Rattle.partial_agg.specs.Groups.{AreGroups, GroupsByKey}

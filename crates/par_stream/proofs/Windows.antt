@@ -1,14 +1,13 @@
 -- Windows of a source, one after another.
-use Rattle.std.proofs.Common.{◌≡◌, ◌<◌, ◌≤◌, ◌+◌, ◌++◌, ◌∙◌, ℕ, Bool, true, false, List, [], ◌∷◌, Option, None, Some, IfSome, length, refl, ap, sym, subst, arith, length-append, append_assoc, append-nil}
-use Rattle.std.specs.Io.KnownBytes.{Consumes, IsAtEnd}
+use Rattle.std.proofs.Common.{◌≡◌, ◌<◌, ◌++◌, ◌∙◌, ℕ, Bool, true, false, List, [], ◌∷◌, Option, None, Some, IfSome, length, refl, ap, sym, arith, append_assoc, append-nil}
+use Rattle.std.specs.Io.KnownBytes.{IsAtEnd}
 use Rattle.csv_rows.specs.Records.{records_of}
 use Rattle.row_blocks.specs.Blocks.{Table}
 use Rattle.row_windows.specs.Seams.{BeginsLine, IsLong, IsSeam}
 use Rattle.row_windows.specs.Stretch.{Fills}
 use Rattle.row_windows.proofs.Seams.{records_add_up}
-use Rattle.plan_spec.specs.Query.{Query}
 use Rattle.par_stream.specs.Outcome.{HasLong}
-use Rattle.par_stream.specs.Reading.{AreRead, HasAll, HasRead, Reaches}
+use Rattle.par_stream.specs.Reading.{AreRead, HasRead, Reaches}
 
 -- before anything is read
 pub read_nothing : (left : Option (List ℕ)) → HasRead left left [] []

@@ -7,7 +7,7 @@ use Rattle.par_model.specs.Named.{bound_plan, missing_name}
 use Rattle.par_model.specs.Plan.{Plan}
 use Rattle.partial_agg.specs.Groups.{AreGroups, GroupsByKey}
 use Rattle.partial_agg.specs.Listed.{listed}
-use Rattle.partial_agg.specs.Rows.{IsAccepted, header_width}
+use Rattle.partial_agg.specs.Rows.{IsAccepted}
 use Rattle.plan_spec.specs.Query.{Query}
 use Rattle.row_blocks.specs.Blocks.{Table}
 use Rattle.row_windows.specs.Seams.{BeginsLine, IsSeam}

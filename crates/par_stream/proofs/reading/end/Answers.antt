@@ -1,4 +1,4 @@
-use Rattle.std.proofs.Common.{◌≡◌, ◌<◌, ◌≤◌, ◌^◌, arith, length}
+use Rattle.std.proofs.Common.{◌<◌, ◌≤◌, ◌^◌, arith, length}
 use Rattle.csv_rows.specs.Records.{record_at}
 use Rattle.par_stream.proofs.reading.end.Goals as goal
 

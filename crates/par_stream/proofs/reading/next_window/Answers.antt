@@ -1,4 +1,4 @@
-use Rattle.std.proofs.Common.{◌≡◌, ◌<◌, ◌≤◌, ◌+◌, ◌^◌, ◌∷◌, ◌++◌, ◌∙◌, rules, ℕ, List, Option, ap, arith, drop, length, length-append, subst, sym}
+use Rattle.std.proofs.Common.{◌≡◌, ◌<◌, ◌+◌, ◌^◌, ◌∷◌, ◌++◌, ◌∙◌, rules, ℕ, List, Option, ap, arith, drop, length, length-append, subst, sym}
 use Rattle.csv_rows.specs.Records.{record_at, records_of}
 use Rattle.par_model.specs.Columns.{HasColumns}
 use Rattle.partial_agg.specs.Rows.{header_width}
@@ -68,9 +68,11 @@ returns-clause-rows g c =
     let read : HasRead from old (header ∷ rows) c.follow.new.self.rest = subst (HasRead from old (header ∷ rows)) (sym c.in_ok-follow.ensures.rest) (has.reaches.more c.requires.more) in
     let few : length rows + length c.in-Ok.store < 2 ^ 64 = omega (arith, has.count, c.requires.stream.few, c.count-more.ensures.rows, c.count-more.ensures.few) in
     let before : AreShared bound (header_width c.in-Ok.store) rows s.maps.items = subst (λ (l : Table). AreShared bound (header_width l) rows s.maps.items) (sym store) has.shared in
-    let after : AreShared bound (length header) (rows ++ wrows) news = subst (λ (l : Table). AreShared bound (header_width l) (rows ++ drop 1 l) news) store (c.in-Ok-add_rows.ensures.shared rows before few) in
-    (rows ++ wrows, record {
-      count = omega (arith, has.count, length-append rows wrows, size, c.count-more.ensures.rows);
-      shared = after;
-      reaches = filled.reaches from (header ∷ rows) read;
-    })
+    let after : AreShared bound (length header) (rows ++ wrows) news = subst (λ (l : Table). AreShared bound (header_width l) (rows ++ drop 1 l) news) store (c.in-Ok-add_rows.ensures.shared rows before few) in (
+      rows ++ wrows,
+      record {
+        count = omega (arith, has.count, length-append rows wrows, size, c.count-more.ensures.rows);
+        shared = after;
+        reaches = filled.reaches from (header ∷ rows) read;
+      },
+    )

@@ -1,16 +1,14 @@
-use Rattle.std.proofs.Common.{◌≡◌, ◌<◌, ◌+◌, ◌-◌, ◌^◌, ◌∷◌, ◌∙◌, ◌++◌, [], ℕ, List, ap, arith, drop, length, length-drop, refl, replicate, subst, sym}
+use Rattle.std.proofs.Common.{◌≡◌, ◌<◌, ◌+◌, ◌^◌, ◌∷◌, ◌∙◌, ◌++◌, [], ℕ, List, ap, arith, drop, length, length-drop, refl, subst, sym}
 use Rattle.std.proofs.lemmas.List.{length-replicate}
 use Rattle.std.proofs.lemmas.List.Elements.{All-nil}
-use Rattle.std.specs.FinMap as fin
-use Rattle.csv_rows.specs.Records.{record_at, records_of}
-use Rattle.partial_agg.specs.Groups.{GroupsByKey}
+use Rattle.csv_rows.specs.Records.{record_at}
 use Rattle.partial_agg.specs.Rows.{IsAccepted, header_width}
 use Rattle.row_blocks.specs.Blocks.{Table}
 use Rattle.split_law.specs.Shares.{AreShared}
 use Rattle.split_law.proofs.RowShares.{shares_begin}
 use Rattle.split_run.specs.Causes.{IsCauseBy}
 use Rattle.table_query.proofs.Outcomes.{header_first}
-use Rattle.par_stream.specs.Reading.{HasRows, Reaches}
+use Rattle.par_stream.specs.Reading.{Reaches}
 use Rattle.par_stream.proofs.Refusals.{Begins, begins, refused_tells}
 use Rattle.par_stream.proofs.Streams.{one_record}
 use Rattle.par_stream.proofs.reading.open.Goals as goal
@@ -44,8 +42,11 @@ returns-clause-rows g c =
     let maps = c.in_ok-maps.maps.items in
     let none : AreShared bound (header_width store) [] maps = subst (AreShared bound (header_width store) []) (sym c.in_ok-maps.ensures) (shares_begin bound (header_width store) _) in
     let shared : AreShared bound (header_width store) (drop 1 store) c.in-Ok.maps.items = c.in-Ok.ensures.shared [] none (omega (arith, c.count-count.ensures.rows, c.count-count.ensures.few)) in
-    λ from left r. (drop 1 store, record {
-      count = omega (arith, c.count-count.ensures.rows, length-drop 1 store);
-      shared = subst (λ (h : List (List ℕ)). AreShared bound (length h) (drop 1 store) c.in-Ok.maps.items) one.0 shared;
-      reaches = subst (λ (l : Table). Reaches from left l c.part_header.new.window.rest first.is_last) all (subst (λ (rest : List ℕ). Reaches from left store rest first.is_last) (sym parted.rest) r);
-    })
+    λ from left r. (
+      drop 1 store,
+      record {
+        count = omega (arith, c.count-count.ensures.rows, length-drop 1 store);
+        shared = subst (λ (h : List (List ℕ)). AreShared bound (length h) (drop 1 store) c.in-Ok.maps.items) one.0 shared;
+        reaches = subst (λ (l : Table). Reaches from left l c.part_header.new.window.rest first.is_last) all (subst (λ (rest : List ℕ). Reaches from left store rest first.is_last) (sym parted.rest) r);
+      },
+    )

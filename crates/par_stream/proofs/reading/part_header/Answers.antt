@@ -1,7 +1,6 @@
-use Rattle.std.proofs.Common.{◌≡◌, ◌≤◌, ◌++◌, ◌∙◌, ℕ, List, None, Option, IfSome, ap, length, subst, sym, take}
+use Rattle.std.proofs.Common.{◌≡◌, ◌≤◌, ◌++◌, ◌∙◌, ℕ, List, None, IfSome, ap, length, subst, sym, take}
 use Rattle.std.specs.Prelude.{unwrap_or}
 use Rattle.csv_rows.specs.Records.{records_of}
-use Rattle.row_blocks.specs.Blocks.{Table}
 use Rattle.row_windows.specs.Seams.{IsCutAt}
 use Rattle.par_stream.proofs.Streams.{front_one, front_records}
 use Rattle.par_stream.proofs.reading.part_header.Goals as goal
