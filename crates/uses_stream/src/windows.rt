@@ -27,11 +27,7 @@ fn words_of(alloc: Global, text: &str) -> Result<Vec<String>, AllocError> {
 
 /// A source that gives 3 bytes a call.
 fn source_of(alloc: Global, input: &[u8]) -> Result<MemSource, AllocError> {
-    Ok(MemSource::new(
-        Vec::from_slice(alloc, input)?,
-        3,
-        Vec::new(alloc),
-    ))
+    Ok(MemSource::new(Vec::from_slice(alloc, input)?, 3, Vec::new(alloc)))
 }
 
 /// A sink that takes 5 bytes a call.
