@@ -1,8 +1,8 @@
 #!/usr/bin/env python3
 """Whether the built programs write the bytes that the repository keeps for the proved ones.
 
-Takes the folder of pargather and parsh. The rows are those of examples/expected and examples/shell/expected, each command
-as it stands there, and the standard input and output of the crates pargather and parsh.
+Takes the folder of the programs. The rows are those of examples/expected and examples/shell/expected, each command
+as it stands there, and the standard input and output of the programs' crates.
 """
 
 import os
@@ -59,7 +59,7 @@ def shell_rows(programs):
 
 
 def crate_rows(programs):
-    for name in ("pargather", "parsh"):
+    for name in ("pargather", "parstream", "parsh"):
         folder = f"crates/{name}"
         words = os.fsdecode(read(f"{folder}/args") or b"").split("\n")[:-1]
         result = subprocess.run(

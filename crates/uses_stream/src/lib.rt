@@ -4,3 +4,5 @@
 
 #[cfg(test)]
 mod shares;
+#[cfg(test)]
+mod windows;

@@ -1,0 +1,6 @@
+mod Asked
+mod Refusals
+mod Statuses
+mod Streams
+mod Tables
+mod Windows

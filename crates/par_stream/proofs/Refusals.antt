@@ -1,0 +1,148 @@
+-- A row that is refused in a window, among all rows of a source.
+use Rattle.std.proofs.Common.{◌≡◌, ◌<◌, ◌≤◌, ◌+◌, ◌-◌, ◌^◌, ◌++◌, ◌⊎◌, ◌∙◌, inl, inr, ℕ, zero, suc, Bool, true, false, List, [], ◌∷◌, Option, None, Some, IfSome, All, Contains, length, take, refl, ap, sym, subst, arith, append-nil, length-append}
+use Rattle.std.specs.Prelude.{slice_get, string_bytes}
+use Rattle.std.proofs.lemmas.List.{get_or-append-add, get_or_append_left}
+use Rattle.std.proofs.lemmas.Grind.{get_or_after_one}
+use Rattle.std.proofs.lemmas.List.Elements.{All-append, All-same}
+use Rattle.csv_rows.specs.Records.{record_at, records_of}
+use Rattle.par_model.specs.Named.{missing_name}
+use Rattle.par_model.specs.Outcome.{Table as IsTable, by_missing, by_refused}
+use Rattle.par_model.specs.Plan.{Plan}
+use Rattle.par_model.specs.Refuse.{refusal, refused_rows}
+use Rattle.par_model.specs.declared.refusal.Refusal.{Refusal}
+use Rattle.partial_agg.specs.Rows.{IsAccepted}
+use Rattle.partial_agg.specs.declared.map.BlockAnswer.{BlockAnswer}
+use Rattle.partial_agg.specs.declared.map.BlockAnswer.TheVariants as answer
+use Rattle.plan_spec.specs.Query.{Query}
+use Rattle.row_blocks.specs.Blocks.{Table}
+use Rattle.split_run.specs.Causes.{IsCauseBy}
+use Rattle.table_query.specs.Lines.{refused_of}
+use Rattle.table_query.specs.Refused.{refused_in}
+use Rattle.table_query.proofs.RefusedRows.{refused_first, refused_in-has, refused_in-none}
+use Rattle.par_stream.specs.Outcome.{outcome, outcome_over}
+use Rattle.par_stream.specs.Reading.{HasAll, IsBound, Reaches}
+use Rattle.par_stream.specs.Stops.{IsRefusedRow, Restates, Tells}
+use Rattle.par_stream.specs.declared.stop.Stop.{Stop}
+use Rattle.par_stream.specs.declared.stop.Stop.TheVariants as stop
+
+-- the records of a source begin with some
+abbrev pub Begins : Option (List ℕ) → Table → Type 0
+Begins from records = IfSome from (λ bytes. (more : Table) × (records_of bytes ≡ records ++ more))
+
+pub begins : (from left : Option (List ℕ)) (records : Table) (rest : List ℕ) (is_last : Bool) → Reaches from left records rest is_last → Begins from records
+begins None left records rest is_last r = tt
+begins (Some bytes) left records rest true r = ([], r.all refl ∙ sym (append-nil records))
+begins (Some bytes) None records rest false r = absurd (r.more refl)
+begins (Some bytes) (Some left) records rest false r = (records_of (rest ++ left), (r.more refl).parts)
+
+refused_by : (rows : List (ℕ × Refusal)) → refused_of (by_refused rows) ≡ rows
+refused_by [] = refl
+refused_by (r ∷ rows) = refl
+
+take_front : (ws more : Table) (k : ℕ) → k ≤ length ws → take k (ws ++ more) ≡ take k ws
+take_front [] more zero h = refl
+take_front [] more (suc k) h = absurd (omega (arith, h))
+take_front (w ∷ ws) more zero h = refl
+take_front (w ∷ ws) more (suc k) h = ap (λ (l : Table). w ∷ l) (take_front ws more k (omega (arith, h)))
+
+-- the first rows of all that stand before a place of a window, with the rows before the window
+front_is : (rows wrows more : Table) (k : ℕ) → k ≤ length wrows → take (length rows + k) ((rows ++ wrows) ++ more) ≡ rows ++ take k wrows
+front_is [] wrows more k h =
+    let e : length {A = List (List ℕ)} [] + k ≡ k = omega arith in
+    ap (λ n. take n (wrows ++ more)) e ∙ take_front wrows more k h
+front_is (x ∷ rows) wrows more k h =
+    let e : length (x ∷ rows) + k ≡ suc (length rows + k) = omega arith in
+    ap (λ n. take n (((x ∷ rows) ++ wrows) ++ more)) e ∙ ap (λ (l : Table). x ∷ l) (front_is rows wrows more k h)
+
+module _ (query : Query) where
+  -- no record
+  pub none_tells : (from : Option (List ℕ)) → HasAll from [] → Tells query from stop.NoHeader
+  none_tells None all = tt
+  none_tells (Some bytes) all = ap (outcome (Some query.plan)) all
+
+  -- a column that the header lacks
+  pub missing_tells : (from : Option (List ℕ)) (records : Table) (why : Stop) → Begins from records → 0 < length records
+      → (why ≡ stop.Memory) ⊎ ((name : _) × (why ≡ stop.NoColumn name) × (missing_name (record_at records 0) query.plan ≡ Some (string_bytes name))) → Tells query from why
+  missing_tells from records why b some (inl e) = subst (Tells query from) (sym e) tt
+  missing_tells None records why b some (inr m) = subst (Tells query None) (sym m.1) tt
+  missing_tells (Some bytes) [] why b some (inr m) = absurd (omega (arith, some))
+  missing_tells (Some bytes) (header ∷ rows) why b some (inr m) =
+      subst (Tells query (Some bytes)) (sym m.1) (ap (outcome (Some query.plan)) b.1 ∙ ap (by_missing query.plan header (rows ++ b.0)) m.2)
+
+module _ (query : Query) (header : List (List ℕ)) (bound : Plan) (is : IsBound query header bound) where
+  pub outcome_rows : (rows : Table) → outcome (Some query.plan) (header ∷ rows) ≡ by_refused (refused_in bound (header ∷ rows))
+  outcome_rows rows = ap (by_missing query.plan header rows) is.whole ∙ ap (λ (b : Plan). by_refused (refused_rows b (length header) rows)) (sym is.is)
+
+  -- rows of which none is refused
+  pub accepted_table : (rows : Table) → All (IsAccepted bound (length header)) rows → outcome (Some query.plan) (header ∷ rows) ≡ IsTable
+  accepted_table rows accepted = outcome_rows rows ∙ ap by_refused (refused_in-none bound (header ∷ rows) accepted)
+
+  module _ (rows wrows more : Table) (row : ℕ) (why : Refusal) (some : 1 ≤ row) (within : row < length (header ∷ wrows)) (cause : refusal bound (length header) (record_at (header ∷ wrows) row) ≡ Some why) where
+    abbrev all : Table
+    all = header ∷ ((rows ++ wrows) ++ more)
+
+    abbrev number : ℕ
+    number = length rows + row
+
+    low : number < length all
+    low = omega (arith, within, length-append (rows ++ wrows) more, length-append rows wrows)
+
+    -- the row stands behind the rows before the window
+    there : record_at all number ≡ record_at (header ∷ wrows) row
+    there =
+        let k = row - 1 in
+        let short : k < length wrows = omega (arith, some, within) in
+        let at : 1 + (length rows + k) ≡ number = omega (arith, some) in
+        let here : 1 + k ≡ row = omega (arith, some) in
+        ap (record_at all) (sym at)
+        ∙ (sym (get_or_after_one all (length rows + k) [])
+        ∙ (get_or_append_left (rows ++ wrows) more [] (length rows + k) (omega (arith, short, length-append rows wrows))
+        ∙ (get_or-append-add rows wrows k []
+        ∙ (get_or_after_one (header ∷ wrows) k [] ∙ ap (record_at (header ∷ wrows)) here))))
+
+    is_refused : refusal bound (length header) (record_at all number) ≡ Some why
+    is_refused = ap (refusal bound (length header)) there ∙ cause
+
+    pub has_row : Contains (refused_in bound all) (number, why)
+    has_row = refused_in-has bound all number why (omega (arith, some)) low is_refused
+
+    -- where no row of the window before it is refused, nor one before the window
+    pub first_is : All (IsAccepted bound (length header)) rows → All (IsAccepted bound (length header)) (take (row - 1) wrows) → (rest : List (ℕ × Refusal)) × (refused_in bound all ≡ (number, why) ∷ rest)
+    first_is before here =
+        let k = row - 1 in
+        let n = length rows + k in
+        let short : k < length wrows = omega (arith, some, within) in
+        let place : n + 1 ≡ number = omega (arith, some) in
+        let front : take n ((rows ++ wrows) ++ more) ≡ rows ++ take k wrows = front_is rows wrows more k (omega (arith, short)) in
+        let accepted : All (IsAccepted bound (length header)) (take n ((rows ++ wrows) ++ more)) =
+        All-same (IsAccepted bound (length header)) (take n ((rows ++ wrows) ++ more)) (rows ++ take k wrows) front (All-append (IsAccepted bound (length header)) rows (take k wrows) before here) in
+        let found = refused_first bound all n why (omega (arith, place, low)) accepted (subst (λ m. refusal bound (length header) (record_at all m) ≡ Some why) (sym place) is_refused) in
+        (found.0, subst (λ m. refused_in bound all ≡ (m, why) ∷ found.0) place found.1)
+
+  -- an answer on a window tells of the outcome
+  pub refused_tells : (from : Option (List ℕ)) (participants before : ℕ) (rows wrows : Table) (why : BlockAnswer) (said : Stop) → (query.workers ≡ 0 → participants ≡ 1) → before ≡ length rows → before + length (header ∷ wrows) < 2 ^ 64
+      → Begins from (header ∷ (rows ++ wrows)) → All (IsAccepted bound (length header)) rows → IsCauseBy bound (header ∷ wrows) participants why → Restates query.plan before why said → Tells query from said
+  refused_tells from participants before rows wrows answer.Memory said alone is_before few b accepted c restated = subst (Tells query from) (sym restated) tt
+  refused_tells from participants before rows wrows (answer.Row row cause item) said alone is_before few b accepted c restated = by (restated (omega (arith, few, c.cause.within)))
+    where
+      whole : (bytes : List ℕ) (more : Table) → records_of bytes ≡ header ∷ ((rows ++ wrows) ++ more) → refused_of (outcome_over (Some query.plan) bytes) ≡ refused_in bound (header ∷ ((rows ++ wrows) ++ more))
+      whole bytes more e = ap refused_of (ap (outcome (Some query.plan)) e ∙ outcome_rows ((rows ++ wrows) ++ more)) ∙ refused_by (refused_in bound (header ∷ ((rows ++ wrows) ++ more)))
+
+      number : length rows + row ≡ before + row
+      number = ap (λ n. n + row) (sym is_before)
+
+      has_told : (from : Option (List ℕ)) → Begins from (header ∷ (rows ++ wrows)) → IfSome from (λ bytes. Contains (refused_of (outcome_over (Some query.plan) bytes)) (before + row, record { cause = cause; item = item }))
+      has_told None b = tt
+      has_told (Some bytes) b =
+          let has = has_row rows wrows b.0 row (record { cause = cause; item = item }) c.cause.first c.cause.within c.cause.cause_is in
+          subst (λ (l : List (ℕ × Refusal)). Contains l (before + row, record { cause = cause; item = item })) (sym (whole bytes b.0 b.1)) (subst (λ n. Contains (refused_in bound (header ∷ ((rows ++ wrows) ++ b.0))) (n, record { cause = cause; item = item })) number has)
+
+      first_told : (from : Option (List ℕ)) → Begins from (header ∷ (rows ++ wrows)) → query.workers ≡ 0 → IfSome from (λ bytes. slice_get (refused_of (outcome_over (Some query.plan) bytes)) 0 ≡ Some (before + row, record { cause = cause; item = item }))
+      first_told None b none = tt
+      first_told (Some bytes) b none =
+          let f = first_is rows wrows b.0 row (record { cause = cause; item = item }) c.cause.first c.cause.within c.cause.cause_is accepted (c.first (alone none)) in
+          ap (λ (l : List (ℕ × Refusal)). slice_get l 0) (whole bytes b.0 b.1 ∙ subst (λ n. refused_in bound (header ∷ ((rows ++ wrows) ++ b.0)) ≡ (n, record { cause = cause; item = item }) ∷ f.0) number f.1)
+
+      by : IsRefusedRow query.plan (before + row) (record { cause = cause; item = item }) said ⊎ (said ≡ stop.Memory) → Tells query from said
+      by (inr e) = subst (Tells query from) (sym e) tt
+      by (inl r) = subst (Tells query from) (sym r.1) (record { refusal = record { cause = cause; item = item }; says = r.2; has = has_told from b; first = first_told from b })

@@ -1,0 +1,42 @@
+-- The text of the groups of all rows of a source.
+use Rattle.std.proofs.Common.{◌≡◌, ◌∷◌, ◌∙◌, ℕ, List, Option, None, Some, Result, Ok, Err, IfErr, IfSome, ap, subst, sym, take}
+use Rattle.std.specs.Io.KnownBytes.{Appends}
+use Rattle.par_model.specs.Named.{bound_plan}
+use Rattle.par_model.specs.Outcome.{IsAnswer}
+use Rattle.partial_agg.specs.Groups.{AreGroups, GroupsByKey}
+use Rattle.partial_agg.specs.Listed.{listed}
+use Rattle.plan_spec.specs.Query.{Query}
+use Rattle.row_blocks.specs.Blocks.{Table}
+use Rattle.par_stream.specs.Answers.{IsTableText}
+use Rattle.par_stream.specs.Outcome.{outcome}
+use Rattle.par_stream.specs.Reading.{AreGroupsOver}
+use Rattle.par_stream.specs.declared.reading.ReadGroups.{ReadGroups}
+use Rattle.par_stream.proofs.Refusals.{accepted_table}
+
+-- what holds of every error holds of the one that there is
+pub IfErr-each : {T E : Type 0} (r : Result T E) (P : E → Type 0) → ((why : E) → P why) → IfErr r P
+IfErr-each (Ok x) P each = tt
+IfErr-each (Err why) P each = each why
+
+-- a text answers a query over any rows of which the groups are those
+abbrev pub AnswersAny : Query → ReadGroups → List ℕ → Type 0
+AnswersAny query r text = (header : List (List ℕ)) (rows : Table) (m : GroupsByKey) → r.bound ≡ bound_plan header query.plan → AreGroups r.bound rows m → r.groups ≡ listed m → IsAnswer query.plan (header ∷ rows) text
+
+module _ (query : Query) (r : ReadGroups) (text : List ℕ) where
+  pub table_text : (from : Option (List ℕ)) → AnswersAny query r text → AreGroupsOver query from r → IfSome from (λ bytes. IsTableText (Some query.plan) bytes text)
+  table_text None answers over = tt
+  table_text (Some bytes) answers over = record {
+    has_table = ap (outcome (Some query.plan)) over.all ∙ accepted_table query over.header r.bound over.bound over.rows over.accepted;
+    is_text = subst (λ (l : Table). IsAnswer query.plan l text) (sym over.all) (answers over.header over.rows over.whole over.bound.is over.are over.in_order);
+  }
+
+  -- what was written of it
+  pub table_written : (from old new : Option (List ℕ)) → AnswersAny query r text → AreGroupsOver query from r → Appends old new text
+      → IfSome from (λ bytes. (text : List ℕ) × IsTableText (Some query.plan) bytes text × Appends old new text)
+  table_written None old new answers over wrote = tt
+  table_written (Some bytes) old new answers over wrote = (text, table_text (Some bytes) answers over, wrote)
+
+  pub part_written : (from old new : Option (List ℕ)) (n : ℕ) → AnswersAny query r text → AreGroupsOver query from r → Appends old new (take n text)
+      → IfSome from (λ bytes. (text : List ℕ) × IsTableText (Some query.plan) bytes text × (n : ℕ) × Appends old new (take n text))
+  part_written None old new n answers over wrote = tt
+  part_written (Some bytes) old new n answers over wrote = (text, table_text (Some bytes) answers over, n, wrote)

@@ -1,0 +1,81 @@
+-- Windows of a source, one after another.
+use Rattle.std.proofs.Common.{◌≡◌, ◌<◌, ◌++◌, ◌∙◌, ℕ, Bool, true, false, List, [], ◌∷◌, Option, None, Some, IfSome, length, refl, ap, sym, arith, append_assoc, append-nil}
+use Rattle.std.specs.Io.KnownBytes.{IsAtEnd}
+use Rattle.csv_rows.specs.Records.{records_of}
+use Rattle.row_blocks.specs.Blocks.{Table}
+use Rattle.row_windows.specs.Seams.{BeginsLine, IsLong, IsSeam}
+use Rattle.row_windows.specs.Stretch.{Fills}
+use Rattle.row_windows.proofs.Seams.{records_add_up}
+use Rattle.par_stream.specs.Outcome.{HasLong}
+use Rattle.par_stream.specs.Reading.{AreRead, HasRead, Reaches}
+
+-- before anything is read
+pub read_nothing : (left : Option (List ℕ)) → HasRead left left [] []
+read_nothing None = tt
+read_nothing (Some bytes) = record { front = []; are = refl; parts = refl }
+
+-- a text that begins a line does so with more behind it
+pub begins_longer : (back more : List ℕ) → BeginsLine back → BeginsLine (back ++ more)
+begins_longer [] more b = absurd (omega (arith, b.some))
+begins_longer (c ∷ back) more b = record { some = omega arith; is = b.is }
+
+seam_longer : (front back more : List ℕ) → IsSeam front back → IsSeam front (back ++ more)
+seam_longer front back more s = record { whole = s.whole; line = begins_longer back more s.line }
+
+-- the lines of a window begin as what there was before it
+pub begins_lines : (old new : Option (List ℕ)) (was lines rest : List ℕ) → Fills old new was (lines ++ rest) → 0 < length lines → BeginsLine was → BeginsLine lines
+begins_lines old new [] lines rest f some b = absurd (omega (arith, b.some))
+begins_lines old new (c ∷ was) [] rest f some b = absurd (omega (arith, some))
+begins_lines old new (c ∷ was) (d ∷ lines) rest f some b = let same : d ≡ c = cc f.2 in record { some = omega arith; is = ap Rattle.row_windows.specs.Seams.is_line_end same ∙ b.is }
+
+module _ (bytes old new was lines rest more : List ℕ) (records : Table) (read : AreRead bytes old records was) (took : old ≡ more ++ new) (text : lines ++ rest ≡ was ++ more) where
+  -- what was there and what is left, as it is now
+  left_is : was ++ old ≡ lines ++ (rest ++ new)
+  left_is = ap (λ (l : List ℕ). was ++ l) took ∙ (sym (append_assoc was more new) ∙ (ap (λ (l : List ℕ). l ++ new) (sym text) ∙ append_assoc lines rest new))
+
+  bytes_are : bytes ≡ (read.front ++ lines) ++ (rest ++ new)
+  bytes_are = read.are ∙ (ap (λ (l : List ℕ). read.front ++ l) left_is ∙ sym (append_assoc read.front lines (rest ++ new)))
+
+  parts_are : records_of bytes ≡ records ++ records_of (lines ++ (rest ++ new))
+  parts_are = read.parts ∙ ap (λ (l : List ℕ). records ++ records_of l) left_is
+
+  more_read : IsSeam lines rest → AreRead bytes new (records ++ records_of lines) rest
+  more_read seam = record {
+    front = read.front ++ lines;
+    are = bytes_are;
+    parts = parts_are ∙ (ap (λ (l : Table). records ++ l) (records_add_up lines (rest ++ new) (seam_longer lines rest new seam)) ∙ sym (append_assoc records (records_of lines) (records_of (rest ++ new))));
+  }
+
+  all_read : rest ≡ [] → new ≡ [] → records_of bytes ≡ records ++ records_of lines
+  all_read none end =
+      let nothing : rest ++ new ≡ [] = cc (none, end) in
+      parts_are ∙ ap (λ (l : List ℕ). records ++ records_of l) (ap (λ (l : List ℕ). lines ++ l) nothing ∙ append-nil lines)
+
+-- a window that was filled
+pub filled : (from old new : Option (List ℕ)) (was lines rest : List ℕ) (records : Table) (is_last : Bool) → HasRead from old records was → Fills old new was (lines ++ rest)
+    → (is_last ≡ true → (rest ≡ []) × IsAtEnd new) → (is_last ≡ false → IsSeam lines rest) → Reaches from new (records ++ records_of lines) rest is_last
+filled None old new was lines rest records is_last read f last seam = record { all = λ _. tt; more = λ _. tt }
+filled (Some bytes) None new was lines rest records is_last read f last seam = absurd read
+filled (Some bytes) (Some old) None was lines rest records is_last read f last seam = absurd f.1
+filled (Some bytes) (Some old) (Some new) was lines rest records is_last read f last seam = record {
+  all = λ e. all_read bytes old new was lines rest f.0 records read f.1 f.2 (last e).0 (last e).1;
+  more = λ e. more_read bytes old new was lines rest f.0 records read f.1 f.2 (seam e);
+}
+
+-- a window that begins with a record that is too long
+pub long_read : (from old new : Option (List ℕ)) (was text : List ℕ) (records : Table) (row : ℕ) → HasRead from old records was → length records ≡ row → Fills old new was text → IsLong text → IfSome from (λ bytes. HasLong bytes row)
+long_read None old new was text records row read number f long = tt
+long_read (Some bytes) None new was text records row read number f long = absurd read
+long_read (Some bytes) (Some old) None was text records row read number f long = absurd f.1
+long_read (Some bytes) (Some old) (Some new) was text records row read number f long =
+    let left : was ++ old ≡ text ++ new = ap (λ (l : List ℕ). was ++ l) f.1 ∙ (sym (append_assoc was f.0 new) ∙ ap (λ (l : List ℕ). l ++ new) (sym f.2)) in
+    record {
+      front = read.front;
+      text = text;
+      back = new;
+      are = read.are ∙ ap (λ (l : List ℕ). read.front ++ l) left;
+      before = records;
+      number = number;
+      parts = read.parts ∙ ap (λ (l : List ℕ). records ++ records_of l) left;
+      long = long;
+    }

@@ -1,0 +1,14 @@
+use Rattle.std.proofs.Common.{◌≡◌, ◌+◌, ◌⊎◌, arith, subst, sym}
+use Rattle.partial_agg.specs.declared.map.BlockAnswer.{BlockAnswer}
+use Rattle.par_stream.specs.Stops.{IsRefusedRow, Restates}
+use Rattle.par_stream.specs.declared.stop.Stop.TheVariants as stop
+use Rattle.par_stream.proofs.rows.stop_of_block.Goals as goal
+
+pub returns-in-Row : goal.returns-in-Row
+returns-in-Row c =
+    let plan = c.args.plan.now.plan in
+    let said = c.stop_of_row.result in
+    subst (λ (a : BlockAnswer). Restates plan c.args.before a said) (sym c.in-Row.is)
+    (λ small.
+    let same : c.saturating_add.result ≡ c.args.before + c.in-Row.row = omega (arith, c.saturating_add.ensures, small) in
+    subst (λ n. IsRefusedRow plan n (record { cause = c.in-Row.cause; item = c.in-Row.item }) said ⊎ (said ≡ stop.Memory)) same c.stop_of_row.ensures)

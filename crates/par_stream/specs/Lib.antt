@@ -1,0 +1,6 @@
+pub mod Words
+pub mod Outcome
+pub mod Reading
+pub mod Stops
+pub mod Lines
+pub mod Answers

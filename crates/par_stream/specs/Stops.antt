@@ -1,0 +1,108 @@
+-- What a reason to have no table says of the outcome.
+use Rattle.std.specs.Prelude.{[], ◌≡◌, ◌<◌, ◌+◌, ◌^◌, ◌⊎◌, ◌++◌, ⊤, ℕ, List, None, Option, Some, Contains, IfSome, codes, decimal, slice_get, string_bytes}
+use Rattle.par_model.specs.Named.{NamedPlan}
+use Rattle.par_model.specs.Outcome.{NoColumn, NoHeader, Table}
+use Rattle.par_model.specs.declared.refusal.Refusal.{Refusal}
+use Rattle.partial_agg.specs.declared.map.BlockAnswer.{BlockAnswer}
+use Rattle.partial_agg.specs.declared.map.BlockAnswer.TheVariants as answer
+use Rattle.plan_spec.specs.Query.{Query}
+use Rattle.plan_spec.specs.declared.plan.PlanAnswer.{PlanAnswer}
+use Rattle.plan_spec.specs.declared.plan.PlanAnswer.TheVariants as words
+use Rattle.query_answer.specs.declared.status.TheConstants.{MISUSED, NO_MEMORY, READ_FAULT, REFUSED, WRITE_FAULT}
+use Rattle.table_query.specs.Lines.{refusal_text, refused_of}
+use Rattle.par_stream.specs.Outcome.{HasLong, outcome_over}
+use Rattle.par_stream.specs.declared.stop.TheConstants.{LONG_RECORD}
+use Rattle.par_stream.specs.declared.stop.Cause.{Cause}
+use Rattle.par_stream.specs.declared.stop.Cause.TheVariants as cause
+use Rattle.par_stream.specs.declared.stop.Stop.{Stop}
+use Rattle.par_stream.specs.declared.stop.Stop.TheVariants as stop
+
+-- the status of a reason
+abbrev pub stop_status : Stop → ℕ
+stop_status stop.Usage = MISUSED
+stop_status stop.ReadFault = READ_FAULT
+stop_status stop.NoHeader = MISUSED
+stop_status (stop.NoColumn name) = MISUSED
+stop_status (stop.LongRecord row) = LONG_RECORD
+stop_status (stop.Refused row why) = REFUSED
+stop_status stop.WriteFault = WRITE_FAULT
+stop_status stop.Memory = NO_MEMORY
+
+-- how the program is called
+abbrev pub usage_text : List ℕ
+usage_text = codes "usage: parstream [--group COLUMNS] --agg ITEMS [--where FILTER] [--workers N]"
+
+-- what the line says of the cause of a refusal
+abbrev pub cause_text : Cause → List ℕ
+cause_text cause.Width = codes "wrong number of fields"
+cause_text cause.LongKey = codes "group key is longer than 248 bytes"
+cause_text (cause.Item name) = codes "column " ++ (string_bytes name ++ codes " is not an integer")
+cause_text (cause.Filter name) = codes "filter column " ++ (string_bytes name ++ codes " is not an integer")
+
+-- the number of a row, in front of what is said of it
+abbrev pub row_front : ℕ → List ℕ
+row_front row = codes "row " ++ (decimal row ++ codes ": ")
+
+-- what comes before the text of a reason: the row that it names
+abbrev pub front_of : Stop → List ℕ
+front_of stop.Usage = []
+front_of stop.ReadFault = []
+front_of stop.NoHeader = []
+front_of (stop.NoColumn name) = []
+front_of (stop.LongRecord row) = row_front row
+front_of (stop.Refused row why) = row_front row
+front_of stop.WriteFault = []
+front_of stop.Memory = []
+
+-- what its line says, where it names a row what comes after the row's number
+abbrev pub text_of : Stop → List ℕ
+text_of stop.Usage = usage_text
+text_of stop.ReadFault = codes "read fault"
+text_of stop.NoHeader = codes "no header"
+text_of (stop.NoColumn name) = codes "no column " ++ string_bytes name
+text_of (stop.LongRecord row) = codes "longer than 67108864 bytes"
+text_of (stop.Refused row why) = cause_text why
+text_of stop.WriteFault = codes "write fault"
+text_of stop.Memory = codes "out of memory"
+
+-- what its line says
+abbrev pub stop_text : Stop → List ℕ
+stop_text why = front_of why ++ text_of why
+
+-- A row that is named, with what is said of its cause: that is the text of a refusal, and where a source tells what it had
+-- left, the outcome of the query refuses this row for it, and without workers first
+pub record NamesRefusal (query : Query) (left : Option (List ℕ)) (row : ℕ) (why : Cause) : Type 0 where
+  pub refusal : Refusal
+  pub says : cause_text why ≡ refusal_text query.plan refusal
+  pub has : IfSome left (λ bytes. Contains (refused_of (outcome_over (Some query.plan) bytes)) (row, refusal))
+  pub first : query.workers ≡ 0 → IfSome left (λ bytes. slice_get (refused_of (outcome_over (Some query.plan) bytes)) 0 ≡ Some (row, refusal))
+
+-- what a reason says of what a query is over, where a source tells what it had left
+abbrev pub Tells : Query → Option (List ℕ) → Stop → Type 0
+Tells query left stop.Usage = ⊥
+Tells query left stop.ReadFault = ⊤
+Tells query left stop.NoHeader = IfSome left (λ bytes. outcome_over (Some query.plan) bytes ≡ NoHeader)
+Tells query left (stop.NoColumn name) = IfSome left (λ bytes. outcome_over (Some query.plan) bytes ≡ NoColumn (string_bytes name))
+Tells query left (stop.LongRecord row) = IfSome left (λ bytes. HasLong bytes row)
+Tells query left (stop.Refused row why) = NamesRefusal query left row why
+Tells query left stop.WriteFault = IfSome left (λ bytes. outcome_over (Some query.plan) bytes ≡ Table)
+Tells query left stop.Memory = ⊤
+
+-- likewise of words that ask for a query, or for none
+abbrev pub TellsOf : Option Query → Option (List ℕ) → Stop → Type 0
+TellsOf None left why = (why ≡ stop.Usage) ⊎ (why ≡ stop.Memory)
+TellsOf (Some query) left why = Tells query left why
+
+-- the reason that stands for an answer of `of_words`
+abbrev pub stop_of_words : PlanAnswer → Stop
+stop_of_words words.Usage = stop.Usage
+stop_of_words words.Memory = stop.Memory
+
+-- the reason is that this row is refused, and has the text of the refusal
+abbrev pub IsRefusedRow : NamedPlan → ℕ → Refusal → Stop → Type 0
+IsRefusedRow plan row refusal why = (cause : Cause) × (why ≡ stop.Refused row cause) × (cause_text cause ≡ refusal_text plan refusal)
+
+-- the reason says of an answer on the rows behind so many what the answer says, or is want of memory
+abbrev pub Restates : NamedPlan → ℕ → BlockAnswer → Stop → Type 0
+Restates plan before (answer.Row row cause item) why = before + row < 2 ^ 64 → IsRefusedRow plan (before + row) (record { cause = cause; item = item }) why ⊎ (why ≡ stop.Memory)
+Restates plan before answer.Memory why = why ≡ stop.Memory

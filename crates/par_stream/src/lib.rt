@@ -1,0 +1,127 @@
+//! One query over comma-separated bytes of any length, from the words of a command line to an exit status, with workers
+//! beside the caller's thread or in that alone.
+//!
+//! The words name a plan; the bytes are read window by window, whole records each, and the rows of each window are shared
+//! out to the participants before the next is read. After the last window the groups are put together, and their text is
+//! made in ranges of the order and written. So nothing is written before the last byte was read, and only the groups and
+//! a window with its rows stand in memory.
+//!
+//! The first fault ends it: the words, a read that failed, no header, a column that it lacks, a record that is too long, a
+//! refused row, and the writing, as they come on the way through the input.
+
+#![tactic(auto)]
+
+ghost use Rattle.std.specs.Prelude.{◌≡◌, ◌≢◌, ◌⊎◌, ℕ, List, None, Some, Contains, Err, IfErr, IfSome, IsNone, OnOk, take};
+ghost use Rattle.std.specs.Io.KnownBytes.{Appends};
+ghost use Rattle.par_io.specs.Faults.{Rose};
+ghost use Rattle.query_answer.specs.Lines.{IsSaid};
+ghost use Rattle.query_answer.specs.Words.{texts};
+ghost use Rattle.table_query.specs.Answers.{status_of};
+ghost use Rattle.par_stream.specs.Answers.{IsTableText, IsTold, statuses};
+ghost use Rattle.par_stream.specs.Lines.{IsLine, NamesFirstRow, line};
+ghost use Rattle.par_stream.specs.Outcome.{HasLong, outcome_over};
+ghost use Rattle.par_stream.specs.Stops.{TellsOf, usage_text};
+ghost use Rattle.par_stream.specs.Words.{plan_of, query_of, workers_of};
+ghost use Rattle.par_stream.specs.declared.stop.Stop.TheVariants as stop;
+
+mod output;
+mod reading;
+mod rows;
+mod stop;
+mod words;
+
+use output::write_table;
+use par_io::{Sink, Source};
+pub use query_answer::{MISUSED, NO_MEMORY, READ_FAULT, REFUSED, TABLE, WRITE_FAULT};
+use reading::read_groups;
+use std::alloc::Global;
+use std::sync::Wait;
+use std::thread::Threads;
+pub use stop::LONG_RECORD;
+use stop::Stop;
+use words::read_words;
+
+/// The bytes that a window of the program is to have: 4 MiB.
+pub const WINDOW_BYTES: usize = 4_194_304;
+
+/// Answers the query that `words`, those after the program's name, name by options: writes its table to `out`, or a line
+/// to `err` that says why there is none, and returns the exit status. The source is read in windows of `window_bytes`
+/// ([`WINDOW_BYTES`] by the program) or more, where a record is longer. As many workers as the words ask for share the
+/// rows with the caller's thread.
+///
+/// Time is linear in the input, but for the look-up of each row's group and the order of the groups. Memory is two
+/// windows, the records of one, for each participant the groups of its own rows, and the text.
+pub fn stream_table<R: Threads + Wait + Sync, S: Source, O: Sink, E: Sink>(
+    rt: &R,
+    alloc: Global,
+    words: &[String],
+    source: &mut S,
+    out: &mut O,
+    err: &mut E,
+    window_bytes: usize,
+) -> u8
+    // There is no other status. A fault is answered only where it came in this call.
+    ensures statuses { Contains statuses result }
+    ensures read_fault { result ≡ READ_FAULT → Rose (S.faults source.old) (S.faults source.new) }
+    ensures write_fault { result ≡ WRITE_FAULT → Rose (O.faults out.old) (O.faults out.new) }
+
+    // A status that tells of no fault, of no long record and not of memory is that of the outcome over all bytes.
+    ensures outcome { IfSome (S.left source.old) (λ bytes. IsTold result → result ≡ status_of (outcome_over (plan_of (texts words.now)) bytes)) }
+    ensures long { result ≡ LONG_RECORD → IfSome (S.left source.old) (λ bytes. (row : ℕ) × HasLong bytes row) }
+
+    // `out` receives the table, or a prefix of it where a write failed, and on every other status nothing.
+    ensures table { result ≡ TABLE → IfSome (S.left source.old) (λ bytes.
+        (text : List ℕ) × IsTableText (plan_of (texts words.now)) bytes text × Appends (O.taken out.old) (O.taken out.new) text) }
+    ensures part { result ≡ WRITE_FAULT → IfSome (S.left source.old) (λ bytes.
+        (text : List ℕ) × IsTableText (plan_of (texts words.now)) bytes text × (n : ℕ) × Appends (O.taken out.old) (O.taken out.new) (take n text)) }
+    ensures nothing { (result ≢ TABLE) → (result ≢ WRITE_FAULT) → out.new ≡ out.old }
+
+    // Words that are no plan are answered before anything is read.
+    ensures no_plan { IsNone (plan_of (texts words.now)) → (result ≡ MISUSED) ⊎ (result ≡ NO_MEMORY) }
+    ensures unread { IsNone (plan_of (texts words.now)) → source.new ≡ source.old }
+
+    // `err` receives the line of the status, or a prefix of it where a write of it failed, and beside a table nothing.
+    // Without workers the row that it names is the first that is refused.
+    ensures line { (result ≢ TABLE) → (said : List ℕ) × IsLine (plan_of (texts words.now)) (S.left source.old) result said
+        × (workers_of (texts words.now) ≡ Some 0 → result ≡ REFUSED → IfSome (S.left source.old) (λ bytes. NamesFirstRow (plan_of (texts words.now)) bytes said))
+        × IsSaid (E.taken err.old) (E.taken err.new) (E.faults err.old) (E.faults err.new) said }
+    ensures quiet { result ≡ TABLE → err.new ≡ err.old }
+{
+    match answer_stream(rt, alloc, words, source, out, window_bytes) {
+        Ok(()) => TABLE,
+        Err(stop) => stop.end(err),
+    }
+}
+
+/// Answers a command line of which a word is no UTF-8, by the line that says how the program is called. It takes no memory.
+pub fn say_usage<E: Sink>(err: &mut E) -> u8
+    ensures status { result ≡ MISUSED }
+    ensures usage { IsSaid (E.taken err.old) (E.taken err.new) (E.faults err.old) (E.faults err.new) (line usage_text) }
+{
+    Stop::Usage.end(err)
+}
+
+/// Reads the words and the source, and writes the table.
+fn answer_stream<R: Threads + Wait + Sync, S: Source, O: Sink>(
+    rt: &R,
+    alloc: Global,
+    words: &[String],
+    source: &mut S,
+    out: &mut O,
+    window_bytes: usize,
+) -> Result<(), Stop>
+    ensures table { OnOk result (IfSome (S.left source.old) (λ bytes.
+        (text : List ℕ) × IsTableText (plan_of (texts words.now)) bytes text × Appends (O.taken out.old) (O.taken out.new) text)) }
+    ensures part { IfErr result (λ why. why ≡ stop.WriteFault → IfSome (S.left source.old) (λ bytes.
+        (text : List ℕ) × IsTableText (plan_of (texts words.now)) bytes text × (n : ℕ) × Appends (O.taken out.old) (O.taken out.new) (take n text))) }
+    ensures nothing { IfErr result (λ why. (why ≢ stop.WriteFault) → out.new ≡ out.old) }
+    ensures why { IfErr result (TellsOf (query_of (texts words.now)) (S.left source.old)) }
+    ensures read_fault { IfErr result (λ why. why ≡ stop.ReadFault → Rose (S.faults source.old) (S.faults source.new)) }
+    ensures write_fault { IfErr result (λ why. why ≡ stop.WriteFault → Rose (O.faults out.old) (O.faults out.new)) }
+    ensures some { OnOk result (IsNone (query_of (texts words.now)) → ⊥) }
+    ensures unread { IsNone (query_of (texts words.now)) → source.new ≡ source.old }
+{
+    let plan = read_words(alloc, words)?;
+    let read = read_groups(rt, alloc, &plan, source, window_bytes)?;
+    write_table(rt, alloc, &plan, &read, out)
+}

@@ -1,0 +1,50 @@
+//! `parstream [--group COLUMNS] --agg ITEMS ..` answers a query over the comma-separated bytes of the standard input,
+//! whatever their length.
+//!
+//! This file is the edge to the system alone: it hands the words and the standard streams to the library `par_stream`,
+//! whose contract says what the answer is, and ends with the status that it gets.
+
+#![tactic(auto)]
+
+use par_io::{StdSink, StdSource};
+use par_stream::{NO_MEMORY, WINDOW_BYTES, say_usage, stream_table};
+use std::env::Env;
+use std::io::ErrorKind;
+use std::process::ExitCode;
+use std::{env, io};
+
+/// The words after the program's name; none of them where one is no UTF-8.
+fn words(rt: &HostRuntime) -> io::Result<Option<Vec<String>>> {
+    let mut words = Vec::new(rt.alloc());
+    match env::args(rt) {
+        Ok(args) => {
+            for word in args.skip(1) {
+                words.push(word)?;
+            }
+            Ok(Some(words))
+        }
+        Err(e) if e.kind() == ErrorKind::InvalidData => Ok(None),
+        Err(e) => Err(e),
+    }
+}
+
+fn main(rt: HostRuntime) -> ExitCode {
+    let Ok(words) = words(&rt) else {
+        let _ = eprintln!(rt; "parstream: out of memory");
+        return ExitCode::from(NO_MEMORY);
+    };
+    let mut err = StdSink::new(rt.stderr());
+    let Some(words) = words else {
+        return ExitCode::from(say_usage(&mut err));
+    };
+    let status = stream_table(
+        &rt,
+        rt.alloc(),
+        words.as_slice(),
+        &mut StdSource::new(rt.stdin()),
+        &mut StdSink::new(rt.stdout()),
+        &mut err,
+        WINDOW_BYTES,
+    );
+    ExitCode::from(status)
+}

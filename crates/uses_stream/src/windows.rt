@@ -1,0 +1,126 @@
+//! Windows of a few bytes, so that each end of a line comes to stand at a seam, and so do quotes, breaks and marks.
+
+use par_io::{MemSink, MemSource};
+use par_stream::stream_table;
+use plan_answers::aggregate_alone;
+use std::alloc::{AllocError, Global};
+use std::sync::Wait;
+use std::test::Fail;
+use std::thread::Threads;
+
+/// The status, and what the two sinks were given.
+#[derive(Debug, PartialEq, Eq, Drop)]
+struct Answer {
+    status: u8,
+    out: Vec<u8>,
+    err: Vec<u8>,
+}
+
+/// The words of a text, which stand between spaces.
+fn words_of(alloc: Global, text: &str) -> Result<Vec<String>, AllocError> {
+    let mut words = Vec::new(alloc);
+    for word in text.split(' ') {
+        words.push(String::from_str(alloc, word)?)?;
+    }
+    Ok(words)
+}
+
+/// A source that gives 3 bytes a call.
+fn source_of(alloc: Global, input: &[u8]) -> Result<MemSource, AllocError> {
+    Ok(MemSource::new(Vec::from_slice(alloc, input)?, 3, Vec::new(alloc)))
+}
+
+/// A sink that takes 5 bytes a call.
+fn sink(alloc: Global) -> Result<MemSink, AllocError> {
+    MemSink::new(alloc, 5, 10_000, Vec::new(alloc))
+}
+
+/// What the caller's thread alone answers, but for the program's name in the line.
+fn wanted(alloc: Global, words: &str, input: &[u8]) -> Result<Answer, AllocError> {
+    let words = words_of(alloc, words)?;
+    let mut source = source_of(alloc, input)?;
+    let mut out = sink(alloc)?;
+    let mut err = sink(alloc)?;
+    let status = aggregate_alone(alloc, words.as_slice(), &mut source, &mut out, &mut err);
+    Ok(Answer {
+        status,
+        out: Vec::from_slice(alloc, out.written())?,
+        err: after_name(alloc, err.written())?,
+    })
+}
+
+/// What the windows answer, but for the program's name in the line.
+fn given<R: Threads + Wait + Sync>(
+    rt: &R,
+    alloc: Global,
+    words: &str,
+    input: &[u8],
+    size: usize,
+) -> Result<Answer, AllocError> {
+    let words = words_of(alloc, words)?;
+    let mut source = source_of(alloc, input)?;
+    let mut out = sink(alloc)?;
+    let mut err = sink(alloc)?;
+    let status = stream_table(
+        rt,
+        alloc,
+        words.as_slice(),
+        &mut source,
+        &mut out,
+        &mut err,
+        size,
+    );
+    Ok(Answer {
+        status,
+        out: Vec::from_slice(alloc, out.written())?,
+        err: after_name(alloc, err.written())?,
+    })
+}
+
+/// A line after the name of its program, which has nine letters.
+fn after_name(alloc: Global, line: &[u8]) -> Result<Vec<u8>, AllocError> {
+    Vec::from_slice(alloc, &line[line.len().min(9)..])
+}
+
+const PLANS: &[&str] = &[
+    "--group g --agg count,sum:v,avg:v",
+    "--agg count,max:v",
+    "--group g --agg count --where v>1",
+    "--group h --agg count",
+    "--group v,g --agg count:g",
+];
+
+const INPUTS: &[&str] = &[
+    "g,v\na,1\nb,2\na,3\n",
+    "g,v\na,1\nb,2\na,3",
+    "g,v\r\n\"b\nc\",1\r\nb,2\r\n\"\",3\r\nB,3\r\n\"b\nc\",4\r\n",
+    "\u{FEFF}g,v\na,1\n\u{FEFF}a,2\n",
+    "\n\n\r\ng,v\n\n\na,1\n\r\n\n",
+    "\n\n\n\n\n\n\n",
+    "g,v",
+    "g,v\n",
+    "\"g\",\"v\"\r\n\"x\"\"y\",1\r\n\"x\"\"y\",\"2\"\n",
+    "g,v\ra,1\rb,2\r\ra,3\r",
+    "g,v\n\"a,1\nb,2\n",
+    "g,v\na,1\nb\nc,2\n",
+    "g,v\na,1\nb,x\nc,2\n",
+    "\"g\nh\",v\n1,2\n",
+];
+
+#[test]
+fn each_seam(rt: HostRuntime) -> Result<(), Fail> {
+    let alloc = rt.alloc();
+    for input in INPUTS {
+        for plan in PLANS {
+            let wanted = wanted(alloc, plan, input.as_bytes())?;
+            for workers in ["0", "1", "3"] {
+                let words = format!(in alloc; "{plan} --workers {workers}")?;
+                for size in [1usize, 2, 3, 5, 8, 100] {
+                    let given = given(&rt, alloc, words.as_str(), input.as_bytes(), size)?;
+                    assert!(rt; given == wanted, "{words} of {input} by {size}");
+                }
+            }
+        }
+    }
+    Ok(())
+}
