@@ -1,6 +1,7 @@
 //! The job queue: a leader hands jobs out to two workers, and brings home what was done. Each has a thread.
 
 ghost use Rattle.std.specs.Prelude.{◌≡◌, [], IfOk, OnOk};
+ghost use Rattle.std.specs.Thread.{IsSync};
 ghost use Rattle.job_queue.specs.Jobs.{AreDone};
 ghost use Rattle.job_queue.specs.Lanes.{AreDealt, AreLanes, IsFresh, IsHome, IsNew};
 
@@ -74,26 +75,7 @@ fn lead<R: Wait>(rt: &R, r: &Region, mut lanes: Lanes, count: u64) -> Result<Lan
     Ok(lanes)
 }
 
-/// Both workers, beside each other.
-fn both_work<R: Threads + Wait + Sync>(
-    rt: &R,
-    alloc: Global,
-    r: &Region,
-    ends: Ends,
-    most: u64,
-) -> (Home, Home)
-    requires { IsFresh r.now ends.0 × IsFresh r.now ends.1 }
-    ensures { IsHome r.now ends.0 result.0 × IsHome r.now ends.1 result.1 }
-{
-    let (q, p) = ends;
-    join(
-        rt,
-        || work(rt, alloc, r, q, most),
-        || work(rt, alloc, r, p, most),
-    )
-}
-
-/// The leader beside both workers; then all that was done, in one list.
+/// The leader and both workers, beside each other; then all that was done, in one list.
 fn run<R: Threads + Wait + Sync>(
     rt: &R,
     alloc: Global,
@@ -107,13 +89,20 @@ fn run<R: Threads + Wait + Sync>(
     requires other { IsNew r.now lanes.other ends.1 }
     ensures { IfOk result (λ done. AreDone count done.items) }
 {
+    let (q, p) = ends;
     let (led, (one, other)) = join(
         rt,
         || lead(rt, r, lanes, count),
         || -> (Home, Home)
-            requires { IsFresh r.now ends.0 × IsFresh r.now ends.1 }
-            ensures { IsHome r.entry.now ends.0 result.0 × IsHome r.entry.now ends.1 result.1 }
-        { both_work(rt, alloc, r, ends, most) },
+            requires { IsSync R.row × IsFresh r.now q × IsFresh r.now p }
+            ensures { IsHome r.entry.now q result.0 × IsHome r.entry.now p result.1 }
+        {
+            join(
+                rt,
+                || work(rt, alloc, r, q, most),
+                || work(rt, alloc, r, p, most),
+            )
+        },
     );
     let lanes = led?;
     let mut done = lanes.one.settle(r, one)?;
