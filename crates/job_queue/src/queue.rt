@@ -21,15 +21,9 @@ pub struct Lanes {
     pub other: Lane,
 }
 
-/// The ends of their queues for the workers.
-type Ends = (Receiver, Receiver);
-
-/// What a worker comes home with: its end of the queue, and what it did.
-type Home = (Receiver, Vec<Done>);
-
-/// A region, and behind its first word two queues.
+/// A region, and behind its first word two queues: what the leader has of them, and the workers' ends.
 #[tactic(auto, using(word_map::proofs::Maps::answers, std::proofs::lemmas::Bool::Decides::nat_tests))]
-fn open(alloc: Global) -> Result<(Region, Lanes, Ends), AllocError>
+fn open(alloc: Global) -> Result<(Region, Lanes, (Receiver, Receiver)), AllocError>
     ensures one { IfOk result (λ made. IsNew made.0 made.1.one made.2.0) }
     ensures other { IfOk result (λ made. IsNew made.0 made.1.other made.2.1) }
 {
@@ -63,10 +57,8 @@ impl Lanes {
 
 /// The leader. It tells both workers in any case that no more comes, since they would wait otherwise.
 fn lead<R: Wait>(rt: &R, r: &Region, mut lanes: Lanes, count: u64) -> Result<Lanes, AllocError>
-    requires one { (q : _) × IsNew r.now lanes.one q }
-    requires other { (q : _) × IsNew r.now lanes.other q }
-    ensures lanes { IfOk result (λ led. AreLanes r.now lanes led) }
-    ensures dealt { IfOk result (λ led. AreDealt count led) }
+    requires { ((q : _) × IsNew r.now lanes.one q) × ((q : _) × IsNew r.now lanes.other q) }
+    ensures { IfOk result (λ led. AreLanes r.now lanes led × AreDealt count led) }
 {
     let handed = lanes.hand_out(rt, r, count);
     lanes.one.sender.detach(r);
@@ -81,7 +73,7 @@ fn run<R: Threads + Wait + Sync>(
     alloc: Global,
     r: &Region,
     lanes: Lanes,
-    ends: Ends,
+    ends: (Receiver, Receiver),
     count: u64,
     most: u64,
 ) -> Result<Vec<Done>, AllocError>
@@ -93,7 +85,7 @@ fn run<R: Threads + Wait + Sync>(
     let (led, (one, other)) = join(
         rt,
         || lead(rt, r, lanes, count),
-        || -> (Home, Home)
+        || -> ((Receiver, Vec<Done>), (Receiver, Vec<Done>))
             requires { IsSync R.row × IsFresh r.now q × IsFresh r.now p }
             ensures { IsHome r.entry.now q result.0 × IsHome r.entry.now p result.1 }
         {
