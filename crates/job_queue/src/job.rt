@@ -14,8 +14,6 @@ pub struct Done {
 pub fn do_job(number: u64) -> Done
     ensures { result ≡ done_of number }
 {
-    Done {
-        number,
-        result: number.wrapping_mul(number),
-    }
+    let result = number.wrapping_mul(number);
+    Done { number, result }
 }

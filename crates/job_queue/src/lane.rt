@@ -18,8 +18,7 @@ pub const RING_WORDS: u64 = 64;
 #[derive(Drop)]
 pub struct Lane {
     pub sender: Sender,
-    /// The numbers of the worker's jobs, in the order in which they were sent; where it was found gone, the last of
-    /// them were not sent.
+    /// The numbers of the worker's jobs, in order. Where it was found gone, the last of them were not sent.
     pub jobs: Vec<u64>,
     /// Whether the worker was not found gone.
     pub open: bool,
@@ -38,12 +37,9 @@ pub fn new_lane(alloc: Global, r: &Region, chunk: Chunk) -> Result<(Lane, Receiv
     let Ok((sender, receiver)) = attach(alloc, tx, rx) else {
         return Err(AllocError);
     };
-    let lane = Lane {
-        sender,
-        jobs: Vec::new(alloc),
-        open: true,
-    };
-    Ok((lane, receiver))
+    let jobs = Vec::new(alloc);
+    let open = true;
+    Ok((Lane { sender, jobs, open }, receiver))
 }
 
 /// Does these jobs, one after another.
@@ -78,8 +74,7 @@ impl Lane {
     /// Does what the worker has left, once it has come home: all of its jobs are done then.
     pub fn settle(self, r: &Region, home: (Receiver, Vec<Done>)) -> Result<Vec<Done>, AllocError>
         requires lane { IsLane r.now self }
-        requires here { home.0.region ≡ r.now }
-        requires one_ring { self.sender.end.ring ≡ home.0.end.ring }
+        requires home { (home.0.region ≡ r.now) × (self.sender.end.ring ≡ home.0.end.ring) }
         requires did { home.1.items ≡ map done_of (jobs_in home.0.end.taken) }
         ensures { IfOk result (λ done. done.items ≡ map done_of self.jobs.items) }
     {

@@ -1,8 +1,7 @@
 //! A job queue: the squares of the numbers below JOBS, worked out by two workers who go early.
 //!
 //! A leader sends the number of each job through a queue to one of the workers, and does what they leave. `job` says what
-//! a job is, `lane` has what the leader knows of a worker, `worker` does what comes, and `queue` has the call that runs
-//! them and brings all results home.
+//! a job is, `lane` what the leader knows of a worker, `worker` does what comes, and `queue` runs them all.
 
 #![tactic(auto)]
 
@@ -12,7 +11,7 @@ mod queue;
 mod worker;
 
 use crate::queue::do_jobs;
-use std::process::ExitCode;
+use std::io;
 
 /// How many jobs there are.
 const JOBS: u64 = 1000;
@@ -20,13 +19,9 @@ const JOBS: u64 = 1000;
 /// After how many of them a worker goes, so that some are left.
 const MOST: u64 = 200;
 
-fn main(rt: HostRuntime) -> anyhow::Result<ExitCode> {
-    let Ok(done) = do_jobs(&rt, rt.alloc(), JOBS, MOST) else {
-        eprintln!(rt; "no memory")?;
-        return Ok(ExitCode::FAILURE);
-    };
+fn main(rt: HostRuntime) -> io::Result<()> {
+    let done = do_jobs(&rt, rt.alloc(), JOBS, MOST)?;
     let count = done.len();
     let sum = done.iter().fold(0u64, |sum, d| sum.wrapping_add(d.result));
-    println!(rt; "{count} jobs done, their results add up to {sum}")?;
-    Ok(ExitCode::SUCCESS)
+    println!(rt; "{count} jobs done, their results add up to {sum}")
 }

@@ -1,6 +1,7 @@
 //! The job queue: a leader hands jobs out to two workers, and brings home what was done. Each has a thread.
 
 ghost use Rattle.std.specs.Prelude.{◌≡◌, [], IfOk, OnOk};
+ghost use Rattle.std.specs.Thread.{IsSync};
 ghost use Rattle.job_queue.specs.Jobs.{AreDone};
 ghost use Rattle.job_queue.specs.Lanes.{AreDealt, AreLanes, IsFresh, IsHome, IsNew};
 
@@ -20,15 +21,9 @@ pub struct Lanes {
     pub other: Lane,
 }
 
-/// The ends of their queues for the workers.
-type Ends = (Receiver, Receiver);
-
-/// What a worker comes home with: its end of the queue, and what it did.
-type Home = (Receiver, Vec<Done>);
-
-/// A region, and behind its first word two queues.
+/// A region, and behind its first word two queues: what the leader has of them, and the workers' ends.
 #[tactic(auto, using(word_map::proofs::Maps::answers, std::proofs::lemmas::Bool::Decides::nat_tests))]
-fn open(alloc: Global) -> Result<(Region, Lanes, Ends), AllocError>
+fn open(alloc: Global) -> Result<(Region, Lanes, (Receiver, Receiver)), AllocError>
     ensures one { IfOk result (λ made. IsNew made.0 made.1.one made.2.0) }
     ensures other { IfOk result (λ made. IsNew made.0 made.1.other made.2.1) }
 {
@@ -62,10 +57,8 @@ impl Lanes {
 
 /// The leader. It tells both workers in any case that no more comes, since they would wait otherwise.
 fn lead<R: Wait>(rt: &R, r: &Region, mut lanes: Lanes, count: u64) -> Result<Lanes, AllocError>
-    requires one { (q : _) × IsNew r.now lanes.one q }
-    requires other { (q : _) × IsNew r.now lanes.other q }
-    ensures lanes { IfOk result (λ led. AreLanes r.now lanes led) }
-    ensures dealt { IfOk result (λ led. AreDealt count led) }
+    requires { ((q : _) × IsNew r.now lanes.one q) × ((q : _) × IsNew r.now lanes.other q) }
+    ensures { IfOk result (λ led. AreLanes r.now lanes led × AreDealt count led) }
 {
     let handed = lanes.hand_out(rt, r, count);
     lanes.one.sender.detach(r);
@@ -74,32 +67,13 @@ fn lead<R: Wait>(rt: &R, r: &Region, mut lanes: Lanes, count: u64) -> Result<Lan
     Ok(lanes)
 }
 
-/// Both workers, beside each other.
-fn both_work<R: Threads + Wait + Sync>(
-    rt: &R,
-    alloc: Global,
-    r: &Region,
-    ends: Ends,
-    most: u64,
-) -> (Home, Home)
-    requires { IsFresh r.now ends.0 × IsFresh r.now ends.1 }
-    ensures { IsHome r.now ends.0 result.0 × IsHome r.now ends.1 result.1 }
-{
-    let (q, p) = ends;
-    join(
-        rt,
-        || work(rt, alloc, r, q, most),
-        || work(rt, alloc, r, p, most),
-    )
-}
-
-/// The leader beside both workers; then all that was done, in one list.
+/// The leader and both workers, beside each other; then all that was done, in one list.
 fn run<R: Threads + Wait + Sync>(
     rt: &R,
     alloc: Global,
     r: &Region,
     lanes: Lanes,
-    ends: Ends,
+    ends: (Receiver, Receiver),
     count: u64,
     most: u64,
 ) -> Result<Vec<Done>, AllocError>
@@ -107,13 +81,20 @@ fn run<R: Threads + Wait + Sync>(
     requires other { IsNew r.now lanes.other ends.1 }
     ensures { IfOk result (λ done. AreDone count done.items) }
 {
+    let (q, p) = ends;
     let (led, (one, other)) = join(
         rt,
         || lead(rt, r, lanes, count),
-        || -> (Home, Home)
-            requires { IsFresh r.now ends.0 × IsFresh r.now ends.1 }
-            ensures { IsHome r.entry.now ends.0 result.0 × IsHome r.entry.now ends.1 result.1 }
-        { both_work(rt, alloc, r, ends, most) },
+        || -> ((Receiver, Vec<Done>), (Receiver, Vec<Done>))
+            requires { IsSync R.row × IsFresh r.now q × IsFresh r.now p }
+            ensures { IsHome r.entry.now q result.0 × IsHome r.entry.now p result.1 }
+        {
+            join(
+                rt,
+                || work(rt, alloc, r, q, most),
+                || work(rt, alloc, r, p, most),
+            )
+        },
     );
     let lanes = led?;
     let mut done = lanes.one.settle(r, one)?;

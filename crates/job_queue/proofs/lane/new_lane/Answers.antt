@@ -15,9 +15,9 @@ returns c =
     let q = e.ends.1 in
     let put = ap (λ (s : SendingEnd). jobs_in s.end.put) tx ∙ nothing_in in
     record {
-      lane = record { here = ap (λ (s : SendingEnd). s.region) tx; jobs = ([], c.new.ensures.items ∙ sym put ∙ sym (append-nil (jobs_in c.in-Ok.sender.end.put))) };
-      ready = record { stays = λ _. ap (λ (s : SendingEnd). s.end.gone) tx; fresh = λ _. e.fresh; sent = λ _. c.new.ensures.items ∙ sym put };
-      idle = c.new.ensures.items;
+      lane = record { here = ap (λ (s : SendingEnd). s.region) tx; jobs = ([], c.new-jobs.ensures.items ∙ sym put ∙ sym (append-nil (jobs_in c.in-Ok.sender.end.put))) };
+      ready = record { stays = λ _. ap (λ (s : SendingEnd). s.end.gone) tx; fresh = λ _. e.fresh; sent = λ _. c.new-jobs.ensures.items ∙ sym put };
+      idle = c.new-jobs.ensures.items;
       worker = record {
         here = ap (λ (i : Incoming). i.region) q ∙ ap (λ (r : ReceivingEnd). r.region) rx;
         stays = ap (λ (i : Incoming). i.end.gone) q ∙ ap (λ (r : ReceivingEnd). r.end.gone) rx;
