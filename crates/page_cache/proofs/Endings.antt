@@ -18,7 +18,7 @@ use Rattle.page_cache.specs.declared.cache.Seat.{Seat}
 -- the passes of all seats are those of the table
 pub all_passes : (c : Cache) (seats : List Seat) → AreSeats c seats → AreAll c.table (map (λ (s : Seat). s.pass) seats)
 all_passes c seats all = record {
-  count = length-map (λ (s : Seat). s.pass) seats ∙ all.count;
+  count = length-map seats (λ (s : Seat). s.pass) ∙ all.count;
   each = λ k p at. let s = element_at (λ (s : Seat). s.pass) seats k p at in subst (λ q. Belongs c.table q) s.2 (all.each k s.0 s.1).own;
   numbers = λ k p at. let s = element_at (λ (s : Seat). s.pass) seats k p at in ap number_of (sym s.2) ∙ all.numbers k s.0 s.1;
 }

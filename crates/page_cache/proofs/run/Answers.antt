@@ -22,7 +22,7 @@ entries_left-requires-clause-seats g c =
     let count = came.count in (
       map seat_of done,
       record {
-        count = length-map seat_of done ∙ count ∙ all.count;
+        count = length-map done seat_of ∙ count ∙ all.count;
         each = λ k s at.
             let d = map_at seat_of done k s at in
             let r = read_at done k d.0 d.1 in

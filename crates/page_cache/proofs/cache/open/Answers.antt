@@ -7,8 +7,7 @@ new-requires-clause-area_own g c κs within = at_end (λ _ p. AreaBelongs c.in-O
 
 pub seats_for-requires-clause-area_own : goal.seats_for-requires-clause-area_own
 seats_for-requires-clause-area_own g c =
-    let P = λ _ p. AreaBelongs c.in-Ok.area p in
-    pushed P _ _ _ c.in-Ok-push.ensures.items (popped P _ _ c.in-Some.apass c.in-Some.ensures.items c.in-Ok.ensures.passes.each) c.in-Ok-new.ensures.area_own
+    pushed (λ _ p. AreaBelongs c.in-Ok.area p) _ _ _ c.in-Ok-push.ensures.items (popped (λ _ p. AreaBelongs c.in-Ok.area p) _ _ c.in-Some.apass c.in-Some.ensures.items c.in-Ok.ensures.passes.each) c.in-Ok-new.ensures.area_own
 
 pub returns-clause-cache : goal.returns-clause-cache
 returns-clause-cache g c = record { area = c.in-Ok.ensures.area; table = c.in-Ok-new.ensures.table; names = c.in-Ok-new.ensures.keys }

@@ -12,7 +12,7 @@ use Rattle.page_cache.proofs.Sums.{sum_last, sum_same}
 use Rattle.page_cache.proofs.closing.entries_left.Goals as goal
 
 pub close-closed-requires-clause-all : goal.close-closed-requires-clause-all
-close-closed-requires-clause-all c =
+close-closed-requires-clause-all c κs =
     let s = c.requires.seats in
     subst (λ ps. AreAll c.args.cache.table ps) (sym s.2) (all_passes c.args.cache s.0 s.1)
 
