@@ -1,0 +1,10 @@
+pub mod Sums
+pub mod Paid
+pub mod Results
+pub mod Seats
+pub mod Steps
+pub mod Turns
+pub mod Kept
+pub mod Lists
+pub mod Endings
+pub mod Moments

@@ -1,0 +1,26 @@
+-- What a seat has seen of a name of its own.
+use Rattle.std.proofs.Common.{◌≡◌, ◌⊎◌, inl, inr, ℕ, List, Option, Some, None, sym, ◌∙◌}
+use Rattle.lock_book.specs.Shown.{mine_of, number_of, seen_of}
+use Rattle.dshash_core.specs.Key.{hash_of}
+use Rattle.dshash_core.specs.Cells.{partition_of}
+use Rattle.dshash_parts.proofs.Owners.{allowed, lawful}
+use Rattle.dshash_parts.proofs.Uses.{partition_low}
+use Rattle.page_cache.specs.Owned.{IsKept, WasEvicted, own_page, under}
+use Rattle.page_cache.specs.Pages.{may, owner_of, stepped}
+use Rattle.page_cache.specs.Seats.{IsCache, IsSeat}
+use Rattle.page_cache.specs.Tickets.{CacheHistories}
+use Rattle.page_cache.specs.declared.cache.Cache.{Cache}
+use Rattle.page_cache.specs.declared.cache.Seat.{Seat}
+use Rattle.page_cache.specs.declared.page.Page.{Page}
+use Rattle.page_cache.proofs.Kept.{kept}
+
+pub seat_kept : (c : Cache) (s : Seat) → IsCache c → IsSeat c s → (name : List ℕ) → owner_of name ≡ number_of s.pass → IsKept (seen_of s.pass) (mine_of s.pass) name (under (seen_of s.pass) name)
+seat_kept c s cache seat name owner =
+    let home : ℕ = partition_of (hash_of name) in
+    let taken = seat.own.stands.lawful home _ (cache.table.parts home (partition_low name)) in
+    kept (number_of s.pass) name owner (seen_of s.pass) (mine_of s.pass) (lawful stepped may home _ taken) (allowed stepped may home _ taken) (seat.own.stands.own home)
+
+-- a page that stands there is the last that was put
+pub stands_kept : (seen mine : CacheHistories) (name : List ℕ) (page : Page) → IsKept seen mine name (under seen name) → under seen name ≡ Some page → own_page mine name ≡ Some page
+stands_kept seen mine name page (inl x) stands = sym x ∙ stands
+stands_kept seen mine name page (inr x) stands = let no : Some page ≡ None = sym stands ∙ x.0 in absurd (cc)

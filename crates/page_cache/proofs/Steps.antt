@@ -1,0 +1,54 @@
+-- What the calls of the table make of a caller's life.
+use Rattle.std.proofs.Common.{◌≡◌, ℕ, ◌+◌, Bool, true, false, List, [], ◌∷◌, Option, Some, None, refl, sym, subst, arith}
+use Rattle.dsa_area.specs.Shown.{number_of as area_number}
+use Rattle.dsa_area.specs.declared.area.Area.{Area}
+use Rattle.dsa_area.specs.declared.area.AreaPass.{AreaPass}
+use Rattle.dshash_parts.specs.Promises.{IsMade}
+use Rattle.dshash_parts.specs.Sweeps.{GaveBack}
+use Rattle.dshash_parts.specs.Tables.{AtPartition}
+use Rattle.dshash_parts.specs.Traces.{Asked, Gave, NoneMade, Sight, Trace, Turn, sight}
+use Rattle.dshash_parts.specs.declared.histories.PartitionCalls.TheVariants.{Call}
+use Rattle.dshash_parts.specs.declared.histories.PartitionReplies.TheVariants.{Made}
+use Rattle.page_cache.specs.Pages.{stepped}
+use Rattle.page_cache.specs.Tickets.{Answers, Asks, CacheEvent, CacheHistories, HasPaid, makes, of_turn, takes}
+use Rattle.page_cache.specs.declared.page.Page.{Page}
+use Rattle.page_cache.specs.declared.page.PageCall.{PageCall}
+use Rattle.page_cache.specs.declared.page.PageCall.TheVariants.{Evict}
+use Rattle.page_cache.proofs.Paid.{call_pays, none_pays, paid_on}
+
+module _ (a : Area) (n m share : ℕ) (same : m ≡ n) where
+  -- the seat's number stays
+  stays : (v : Sight Page PageCall (Option Page)) (t : ℕ) → HasPaid a n share v t → HasPaid a m share v t
+  stays v t x = subst (λ (z : ℕ). HasPaid a z share v t) (sym same) x
+
+  -- a turn that neither makes an entry nor takes one out
+  pub turned : (seen mine seen' mine' : CacheHistories) (u w : AreaPass) (t number : ℕ) (call : Asks) (reply : Answers) → HasPaid a n share (sight seen mine u) t → AtPartition stepped n seen mine seen' mine' number call reply → w ≡ u
+      → t + of_turn makes call reply ≡ t + of_turn takes call reply → HasPaid a m share (sight seen' mine' w) t
+  turned seen mine seen' mine' u w t number call reply x turn left free = stays (sight seen' mine' w) t
+      (paid_on a n share (sight seen mine u) (sight seen' mine' w) t t (Turn number call reply ∷ []) x (sight seen' mine' w, (turn, left), refl) (t, free, refl))
+
+  -- a turn by which an entry was taken out, whose item went back
+  pub took : (seen mine seen' mine' : CacheHistories) (u w : AreaPass) (t left number bytes : ℕ) (name : List ℕ) (reply : Option Page) (page : Page) → HasPaid a n share (sight seen mine u) t
+      → AtPartition stepped n seen mine seen' mine' number (Call name Evict false) (Made reply false true) → reply ≡ Some page → GaveBack a u w bytes true → area_number w ≡ area_number u → left ≡ t + 1 → HasPaid a m share (sight seen' mine' w) left
+  took seen mine seen' mine' u w t left number bytes name reply page x turn told gave alike more = stays (sight seen' mine' w) left
+      (paid_on a n share (sight seen mine u) (sight seen' mine' w) t left (Turn number (Call name Evict false) (Made (Some page) false true) ∷ Asked (Gave bytes) ∷ []) x
+      (sight seen' mine' u, (subst (λ (r : Option Page). AtPartition stepped n seen mine seen' mine' number (Call name Evict false) (Made r false true)) told turn, refl), (sight seen' mine' w, (gave, alike, refl, refl), refl))
+      (left, omega (arith, more), (left, refl, refl)))
+
+  -- the events of a call that was made
+  pub called : (v w : Sight Page PageCall (Option Page)) (t u number item : ℕ) (name : List ℕ) (call : PageCall) (reply : Option Page) (es : List CacheEvent) → HasPaid a n share v t → IsMade number item name call reply es → Trace stepped a n v w es
+      → u + makes call reply ≡ t + takes call reply → HasPaid a m share w u
+  called v w t u number item name call reply es x made trace paid = stays w u (paid_on a n share v w t u es x trace (call_pays number item name call reply es made t u paid))
+
+  -- and of one that was refused
+  pub refused : (v w : Sight Page PageCall (Option Page)) (t : ℕ) (es : List CacheEvent) → HasPaid a n share v t → NoneMade es → Trace stepped a n v w es → HasPaid a m share w t
+  refused v w t es x none trace = stays w t (paid_on a n share v w t t es x trace (none_pays t es none))
+
+-- a life begins
+pub begins : (a : Area) (n share : ℕ) (seen mine : CacheHistories) (u : AreaPass) → ((i : ℕ) → (seen i ≡ []) × (mine i ≡ [])) → HasPaid a n share (sight seen mine u) share
+begins a n share seen mine u fresh = record {
+  start = u;
+  life = [];
+  trace = λ j. sight (λ i. (fresh i).0 j) (λ i. (fresh i).1 j) u;
+  pays = refl;
+}

@@ -1,0 +1,6 @@
+pub mod Pages
+pub mod Tickets
+pub mod Owned
+pub mod Seats
+pub mod Causes
+pub mod Moments

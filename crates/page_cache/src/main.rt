@@ -1,0 +1,67 @@
+//! A cache of pages in shared memory, which threads call at once. Each page stands under a name, and each name has an
+//! owner, who alone puts pages there: what it gets is what it put, or that was evicted. At no moment there are more
+//! entries than the cache may have.
+//!
+//! `page` is what stands under a name; `cache` is what the threads share and what each of them owns; `calls` are the
+//! calls, and `laws` what is true of all of them together; `threads` and `closing` are a use.
+
+#![tactic(auto)]
+
+mod cache;
+mod calls;
+mod closing;
+mod laws;
+mod page;
+mod threads;
+
+ghost use Rattle.std.specs.Prelude.{◌≤◌, ◌*◌, IfSome};
+
+use crate::cache::open;
+use crate::closing::{entries_left, passes_of};
+use crate::threads::all_work;
+use std::alloc::Global;
+use std::process::ExitCode;
+use std::sync::Wait;
+use std::thread::Threads;
+
+/// The threads, and the entries that each may make before it has to evict one.
+const THREADS: u32 = 4;
+
+const SHARE: u64 = 100;
+
+/// The pages that each thread puts, one after another.
+const PAGES_EACH: u64 = 1000;
+
+/// The pages of the cache's area, of 4 KiB each.
+const AREA_PAGES: u32 = 512;
+
+/// Has threads put and get pages in a cache: how many calls were answered, and how many entries it had at the end. None
+/// where there is no memory.
+fn run<R: Threads + Wait + Sync>(
+    rt: &R,
+    alloc: Global,
+    threads: u32,
+    share: u64,
+    pages: u64,
+) -> Option<(u64, u64)>
+    requires some { 1 ≤ threads }
+    ensures few { IfSome result (λ r. r.1 ≤ threads * share) }
+{
+    let (cache, seats) = open(rt, alloc, AREA_PAGES, threads, share)?;
+    let Ok(done) = all_work(rt, alloc, &cache, seats, pages) else {
+        return None;
+    };
+    let Ok((passes, good)) = passes_of(alloc, done) else {
+        return None;
+    };
+    Some((good, entries_left(cache, passes)))
+}
+
+fn main(rt: HostRuntime) -> anyhow::Result<ExitCode> {
+    let Some((good, entries)) = run(&rt, rt.alloc(), THREADS, SHARE, PAGES_EACH) else {
+        eprintln!(rt; "no memory")?;
+        return Ok(ExitCode::FAILURE);
+    };
+    println!(rt; "{THREADS} threads: {good} pages put, {entries} entries left")?;
+    Ok(ExitCode::SUCCESS)
+}
