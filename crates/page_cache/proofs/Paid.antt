@@ -9,9 +9,9 @@ use Rattle.dsa_area.specs.declared.area.AreaPass.{AreaPass}
 use Rattle.dshash_core.specs.Key.{hash_of}
 use Rattle.dshash_core.specs.Cells.{partition_of}
 use Rattle.dshash_parts.specs.Legal.{IsOurs}
-use Rattle.dshash_parts.specs.Promises.{IsMade, IsRefused}
+use Rattle.dshash_parts.specs.Promises.{IsMade}
 use Rattle.dshash_parts.specs.Tables.{AtPartition}
-use Rattle.dshash_parts.specs.Traces.{AreGifts, Asked, Event, Gave, Got, Missed, NoneMade, Sight, Trace, Turn}
+use Rattle.dshash_parts.specs.Traces.{AreGifts, Asked, Gave, Got, Missed, NoneMade, Sight, Trace, Turn}
 use Rattle.dshash_parts.specs.declared.histories.PartitionCalls.TheVariants.{Call, Looks, Moves, Lists}
 use Rattle.dshash_parts.specs.declared.histories.PartitionReplies.TheVariants.{Made, LacksItem, HasToGrow, HasSize, Moved, Listed}
 use Rattle.dshash_parts.proofs.Sweeps.{trace_append}

@@ -1,11 +1,11 @@
 -- What a seat has seen of a name of its own.
-use Rattle.std.proofs.Common.{◌≡◌, ◌⊎◌, inl, inr, ℕ, List, Option, Some, None, sym, ◌∙◌}
+use Rattle.std.proofs.Common.{◌≡◌, inl, inr, ℕ, List, Some, None, sym, ◌∙◌}
 use Rattle.lock_book.specs.Shown.{mine_of, number_of, seen_of}
 use Rattle.dshash_core.specs.Key.{hash_of}
 use Rattle.dshash_core.specs.Cells.{partition_of}
 use Rattle.dshash_parts.proofs.Owners.{allowed, lawful}
 use Rattle.dshash_parts.proofs.Uses.{partition_low}
-use Rattle.page_cache.specs.Owned.{IsKept, WasEvicted, own_page, under}
+use Rattle.page_cache.specs.Owned.{IsKept, own_page, under}
 use Rattle.page_cache.specs.Pages.{may, owner_of, stepped}
 use Rattle.page_cache.specs.Seats.{IsCache, IsSeat}
 use Rattle.page_cache.specs.Tickets.{CacheHistories}

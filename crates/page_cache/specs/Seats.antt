@@ -2,7 +2,7 @@
 use Rattle.std.specs.Prelude.{◌≡◌, ℕ, ◌<◌, List, length}
 use mathlib.Core.Option.{some}
 use lib.ListN.{get_elem?}
-use Rattle.lock_book.specs.Shown.{mine_of, number_of, seen_of}
+use Rattle.lock_book.specs.Shown.{number_of}
 use Rattle.dsa_area.specs.Shown.{Belongs as AreaBelongs, IsArea}
 use Rattle.dshash_parts.specs.Tables.{Belongs, IsTable, callers_of, key_words_of}
 use Rattle.dshash_parts.specs.Traces.{sight_of}

@@ -1,4 +1,4 @@
-use Rattle.std.proofs.Common.{◌≡◌, ap, refl, arith, Some}
+use Rattle.std.proofs.Common.{ap, refl, arith}
 use Rattle.page_cache.specs.Tickets.{makes, takes}
 use Rattle.page_cache.specs.declared.page.PageCall.TheVariants.{Evict}
 use Rattle.page_cache.proofs.Paid.{turn_count}

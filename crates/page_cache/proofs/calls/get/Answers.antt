@@ -1,5 +1,5 @@
 use Rattle.std.proofs.Common.{◌∙◌, refl, sym}
-use Rattle.lock_book.specs.Shown.{mine_of, number_of, seen_of}
+use Rattle.lock_book.specs.Shown.{mine_of, seen_of}
 use Rattle.page_cache.specs.Owned.{under}
 use Rattle.page_cache.proofs.Kept.{kept_as, looked_up}
 use Rattle.page_cache.proofs.Seats.{seat_kept}

@@ -1,5 +1,5 @@
 use Rattle.std.proofs.Common.{◌≡◌, ◌+◌, ◌∙◌, ap, sym, arith}
-use Rattle.lock_book.specs.Shown.{mine_of, number_of, seen_of}
+use Rattle.lock_book.specs.Shown.{mine_of, seen_of}
 use Rattle.dshash_core.specs.Key.{hash_of}
 use Rattle.dshash_core.specs.Cells.{partition_of}
 use Rattle.dshash_parts.proofs.Cells.{cell_told}

@@ -1,4 +1,4 @@
-use Rattle.std.proofs.Common.{◌∙◌, inl, inr, ap, arith}
+use Rattle.std.proofs.Common.{◌∙◌, inr, arith}
 use Rattle.page_cache.proofs.Results.{if_err, on_ok}
 use Rattle.page_cache.proofs.calls.put.Goals as goal
 

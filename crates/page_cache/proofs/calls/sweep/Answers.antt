@@ -1,12 +1,11 @@
-use Rattle.std.proofs.Common.{◌≡◌, ◌<◌, ◌∙◌, ℕ, Bool, cond, sym, ap, subst, arith}
+use Rattle.std.proofs.Common.{◌≡◌, ◌∙◌, ℕ, Bool, cond, sym, ap, subst, arith}
 use mathlib.Core.Logic.{dite}
 use native.Mathlib.Decide.{ℕ_discrete}
 use Rattle.std.specs.FinMap as fin
 use Rattle.lock_book.specs.History.{last_of}
-use Rattle.lock_book.specs.Shown.{mine_of, number_of, seen_of}
+use Rattle.lock_book.specs.Shown.{seen_of}
 use Rattle.dshash_parts.specs.States.{fresh}
 use Rattle.dshash_parts.specs.Tables.{map_at}
-use Rattle.page_cache.specs.Tickets.{counted, makes, takes}
 use Rattle.page_cache.proofs.calls.sweep.Goals as goal
 
 pub loop-partition-preserved : goal.loop-partition-preserved

@@ -1,4 +1,4 @@
-use Rattle.std.proofs.Common.{◌≡◌, ◌+◌, ◌*◌, ◌≤◌, ◌∙◌, ℕ, ap, sym, subst, arith}
+use Rattle.std.proofs.Common.{◌∙◌, ℕ, ap, sym, subst, arith}
 use Rattle.std.specs.FinMap as fin
 use Rattle.dshash_parts.specs.Ending.{Ended, left_of, whole_of}
 use Rattle.dshash_parts.specs.States.{fresh}

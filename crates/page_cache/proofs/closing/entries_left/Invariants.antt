@@ -1,4 +1,4 @@
-use Rattle.std.proofs.Common.{◌≡◌, ◌+◌, ◌*◌, ◌≤◌}
+use Rattle.std.proofs.Common.{◌+◌, ◌*◌, ◌≤◌}
 use Rattle.std.specs.FinMap as fin
 use Rattle.dshash_parts.specs.Ending.{IsOf, left_of, whole_of}
 use Rattle.dshash_parts.specs.Tables.{callers_of, map_at}
