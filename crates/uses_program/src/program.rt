@@ -1,5 +1,5 @@
-//! The libraries `par_gather` and `par_stream` as the programs `pargather` and `parstream` call them, over sources and sinks in
-//! memory: worked rows, and what no clause says. Rows stand in tables, each gone through by one test.
+//! The library `par_gather` as the program `pargather` calls it, over sources and sinks in memory: worked rows, and what no clause
+//! says. Rows stand in tables, each gone through by one test.
 
 mod forms;
 mod plans;
@@ -7,9 +7,8 @@ mod slow;
 mod tables;
 mod workers;
 
-use par_gather::{Gate, OpenGate, Ran, TOO_LARGE, aggregate_alone, pargather};
+use par_gather::{Gate, OpenGate, Ran, aggregate_alone, pargather};
 use par_io::{MemSink, MemSource};
-use par_stream::{WINDOW_BYTES, stream_table};
 use std::alloc::{AllocError, Global};
 use std::process::Abort;
 use std::sync::Wait;
@@ -21,9 +20,6 @@ type Pieces<'a> = &'a [(&'a str, u32)];
 
 const USAGE: &str =
     "pargather: usage: pargather [--group COLUMNS] --agg ITEMS [--where FILTER] [--workers N] [--plan gather|hash] [--area-pages N]\n";
-
-const STREAM_USAGE: &str =
-    "parstream: usage: parstream [--group COLUMNS] --agg ITEMS [--where FILTER] [--workers N]\n";
 
 const LETTERS: Pieces<'static> = &[("g,v\na,1\nb,2\na,3\n", 1)];
 
@@ -125,45 +121,6 @@ fn ask_alone(
     })
 }
 
-/// What `stream_table` answers, over such a source and such sinks.
-fn ask_stream<R: Threads + Wait + Sync>(
-    rt: &R,
-    alloc: Global,
-    words: &str,
-    input: Vec<u8>,
-    failing: Failing<'_>,
-) -> Result<Answered, AllocError> {
-    let words = words_of(alloc, words)?;
-    let mut source = MemSource::new(input, 3, Vec::from_slice(alloc, failing.reads)?);
-    let mut out = MemSink::new(alloc, 5, 100_000, Vec::from_slice(alloc, failing.writes)?)?;
-    let mut err = MemSink::new(alloc, 5, 1_000, Vec::from_slice(alloc, failing.lines)?)?;
-    let status = stream_table(
-        rt,
-        alloc,
-        words.as_slice(),
-        &mut source,
-        &mut out,
-        &mut err,
-        WINDOW_BYTES,
-    );
-    Ok(Answered {
-        status,
-        out: Vec::from_slice(alloc, out.written())?,
-        err: Vec::from_slice(alloc, err.written())?,
-        ran: None,
-    })
-}
-
-/// The line of `parstream` that stands for one of `pargather`.
-fn stream_line(alloc: Global, line: &[u8]) -> Result<Vec<u8>, AllocError> {
-    if line == USAGE.as_bytes() {
-        return Vec::from_slice(alloc, STREAM_USAGE.as_bytes());
-    }
-    let mut renamed = Vec::from_slice(alloc, &b"parstream"[..line.len().min(9)])?;
-    renamed.extend_from_slice(&line[line.len().min(9)..])?;
-    Ok(renamed)
-}
-
 /// Whether an answer has this status and wrote this.
 fn check<R: Abort>(rt: &R, words: &str, answer: &Answered, status: u8, out: &[u8], err: &[u8]) {
     assert_eq!(rt; answer.status, status, "status of {words}");
@@ -171,8 +128,7 @@ fn check<R: Abort>(rt: &R, words: &str, answer: &Answered, status: u8, out: &[u8
     assert_eq!(rt; answer.err.as_slice(), err, "line of {words}");
 }
 
-/// Whether both calls have this answer, and `stream_table` too, but where an input is too large for them, or the words
-/// speak of a shared table.
+/// Whether both calls have this answer.
 fn check_both<R: Abort + Threads + Wait + Sync>(
     rt: &R,
     alloc: Global,
@@ -189,12 +145,5 @@ fn check_both<R: Abort + Threads + Wait + Sync>(
     let copy = Vec::from_slice(alloc, input)?;
     let answer = ask_alone(alloc, words, copy, failing)?;
     check(rt, words, &answer, status, out, err);
-    if status == TOO_LARGE || words.contains("--plan") || words.contains("--area-pages") {
-        return Ok(());
-    }
-    let copy = Vec::from_slice(alloc, input)?;
-    let answer = ask_stream(rt, alloc, words, copy, failing)?;
-    let line = stream_line(alloc, err)?;
-    check(rt, words, &answer, status, out, line.as_slice());
     Ok(())
 }
