@@ -1,14 +1,13 @@
 use Rattle.std.proofs.Common.{◌≡◌, ◌<◌, ◌∙◌, ℕ, List, ap, arith, drop, get_or, length, map, subst, sym, take}
 use Rattle.std.proofs.lemmas.List.{take_all}
 use Rattle.std.proofs.lemmas.List.Elements.{All-get_or}
-use Rattle.std.proofs.lemmas.Option.{get_or_from_slice_get}
 use Rattle.csv.specs.Writing.{default_writer, row_text}
 use Rattle.csv_rows.specs.Records.{record_at}
 use Rattle.par_model.specs.Table.{table_text}
 use Rattle.query_answer.specs.Held.{Puts}
 use Rattle.query_answer.proofs.Going.{puts-broken, puts-none, puts-then}
 use Rattle.query_answer.proofs.RowLines.{row-more, rows-cut, text-none}
-use Rattle.merge_answers.proofs.rows.put_each.Goals as goal
+use Rattle.merge_answers.proofs.rows.put_rows.Goals as goal
 
 pub loop-at-init : goal.loop-at-init
 loop-at-init g c =
@@ -19,14 +18,14 @@ loop-at-init g c =
 pub find-requires : goal.find-requires
 find-requires g c =
     let within : ℕ → Type 0 = λ row. row < length c.args.rows.now in
-    let lt : c.loop-at.at < length c.args.order.now = omega (arith, c.loop-at-test.true, c.len-at-end.ensures) in
-    subst within (get_or_from_slice_get c.args.order.now c.loop-at.at c.get.result c.get.result c.get.ensures) (All-get_or within c.args.order.now c.loop-at.at c.get.result lt c.requires)
+    let lt : c.loop-at.at < length c.args.numbers.now = omega (arith, c.loop-at-test.true) in
+    subst within (sym c.index-numbers-at.is) (All-get_or within c.args.numbers.now c.loop-at.at c.index-numbers-at.result lt c.requires)
 
 -- a write had failed
 pub returns-then-is_broken : goal.returns-then-is_broken
 returns-then-is_broken g c =
     let f = record_at c.args.rows.now in
-    let order = c.args.order.now in
+    let order = c.args.numbers.now in
     let i = c.loop-at.at in
     let Text : List ℕ → Type 0 = Puts g.O.Sink.taken g.O.Sink.faults c.args.out.now c.loop-at.out c.args.held.now c.loop-at.held in
     subst Text (rows-cut f order i)
@@ -37,11 +36,11 @@ loop-at-preserved g c =
     let taken = g.O.Sink.taken in
     let faults = g.O.Sink.faults in
     let f = record_at c.args.rows.now in
-    let order = c.args.order.now in
+    let order = c.args.numbers.now in
     let i = c.loop-at.at in
-    let row = c.get.result in
-    let lt : i < length order = omega (arith, c.loop-at-test.true, c.len-at-end.ensures) in
-    let there : get_or order i row ≡ row = get_or_from_slice_get order i row row c.get.ensures in
+    let row = c.index-numbers-at.result in
+    let lt : i < length order = omega (arith, c.loop-at-test.true) in
+    let there : get_or order i row ≡ row = sym c.index-numbers-at.is in
     let Text : List ℕ → Type 0 = Puts taken faults c.args.out.now c.put_record.new.out c.args.held.now c.put_record.new.held in
     let Row : List (List ℕ) → Type 0 = λ fields. Puts taken faults c.loop-at.out c.put_record.new.out c.loop-at.held c.put_record.new.held (row_text default_writer fields) in
     subst Text (row-more f order i row lt there)
@@ -50,7 +49,7 @@ loop-at-preserved g c =
 
 pub returns : goal.returns
 returns g c =
-    let order = c.args.order.now in
-    let all : take c.loop-at.at order ≡ order = take_all c.loop-at.at order (omega (arith, c.loop-at-test.false, c.len-at-end.ensures)) in
+    let order = c.args.numbers.now in
+    let all : take c.loop-at.at order ≡ order = take_all c.loop-at.at order (omega (arith, c.loop-at-test.false)) in
     let Text : List ℕ → Type 0 = Puts g.O.Sink.taken g.O.Sink.faults c.args.out.now c.loop-at.out c.args.held.now c.loop-at.held in
     subst Text (ap (λ (rows : List ℕ). table_text (map (record_at c.args.rows.now) rows)) all) c.loop-at.invariant
