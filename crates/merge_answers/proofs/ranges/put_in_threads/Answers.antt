@@ -27,7 +27,7 @@ returns-then-is_broken g c =
 pub put_round-requires : goal.put_round-requires
 put_round-requires g c =
     let within : ℕ → Type 0 = λ row. row < length c.args.rows.now in
-    All-take within _ (drop c.rounds.at c.args.numbers.now) (All-drop within c.rounds.at c.args.numbers.now c.requires)
+    λ κs bounds. All-take within _ (drop c.rounds.at c.args.numbers.now) (All-drop within c.rounds.at c.args.numbers.now c.requires)
 
 pub rounds-preserved : goal.rounds-preserved
 rounds-preserved g c =

@@ -30,7 +30,9 @@ put_part-requires-clause-text g c =
     let Text : Result (Vec ℕ) AllocError → List ℕ → Type 0 = λ part range. IfOk part (λ text. text.items ≡ rows_text records range) in
     let its : Text part (take 16384 (drop (at * 16384) numbers)) =
     subst (λ (p : Result (Vec ℕ) AllocError). Text p (take 16384 (drop (at * 16384) numbers))) (sym c.index-parts-at.is) (c.requires.parts.each at part (omega (arith, c.loop-at-test.true))) in
-    subst (Text part) (sym (range_is 16384 (at * 16384) numbers)) its
+    let start = at * 16384 in
+    let cut = ap (λ (n : ℕ). take (start + n - start) (drop start numbers)) c.min.ensures ∙ range_is 16384 start numbers in
+    subst (Text part) (sym cut) its
 
 pub loop-at-preserved : goal.loop-at-preserved
 loop-at-preserved g c =
@@ -41,10 +43,11 @@ loop-at-preserved g c =
     let faults = g.O.Sink.faults in
     let Text : List ℕ → Type 0 = Puts taken faults c.args.out.now c.put_part.new.out c.args.held.now c.put_part.new.held in
     let Part : List ℕ → Type 0 = λ range. Puts taken faults c.loop-at.out c.put_part.new.out c.loop-at.held c.put_part.new.held (rows_text records range) in
+    let cut = ap (λ (n : ℕ). take (start + n - start) (drop start numbers)) c.min.ensures ∙ range_is 16384 start numbers in
     let next : start + 16384 ≡ (c.loop-at.at + 1) * 16384 = omega arith in
     subst Text (range-more records numbers start 16384 ∙ ap (λ (n : ℕ). rows_text records (take n numbers)) next)
     (puts-then taken faults c.args.out.now c.loop-at.out c.put_part.new.out c.args.held.now c.loop-at.held c.put_part.new.held (rows_text records (take start numbers)) (rows_text records (take 16384 (drop start numbers))) c.loop-at.invariant
-    (subst Part (range_is 16384 start numbers) c.put_part.ensures))
+    (subst Part cut c.put_part.ensures))
 
 pub returns : goal.returns
 returns g c =

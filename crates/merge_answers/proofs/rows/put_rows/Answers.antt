@@ -1,6 +1,7 @@
 use Rattle.std.proofs.Common.{◌≡◌, ◌<◌, ◌∙◌, ℕ, List, ap, arith, drop, get_or, length, map, subst, sym, take}
 use Rattle.std.proofs.lemmas.List.{take_all}
 use Rattle.std.proofs.lemmas.List.Elements.{All-get_or}
+use Rattle.std.proofs.lemmas.Option.{get_or_from_slice_get, slice_get-get_or}
 use Rattle.csv.specs.Writing.{default_writer, row_text}
 use Rattle.csv_rows.specs.Records.{record_at}
 use Rattle.par_model.specs.Table.{table_text}
@@ -19,7 +20,7 @@ pub find-requires : goal.find-requires
 find-requires g c =
     let within : ℕ → Type 0 = λ row. row < length c.args.rows.now in
     let lt : c.loop-at.at < length c.args.numbers.now = omega (arith, c.loop-at-test.true) in
-    subst within (sym c.index-numbers-at.is) (All-get_or within c.args.numbers.now c.loop-at.at c.index-numbers-at.result lt c.requires)
+    All-get_or within c.args.numbers.now c.loop-at.at 0 lt c.requires
 
 -- a write had failed
 pub returns-then-is_broken : goal.returns-then-is_broken
@@ -38,9 +39,9 @@ loop-at-preserved g c =
     let f = record_at c.args.rows.now in
     let order = c.args.numbers.now in
     let i = c.loop-at.at in
-    let row = c.index-numbers-at.result in
+    let row = get_or order i 0 in
     let lt : i < length order = omega (arith, c.loop-at-test.true) in
-    let there : get_or order i row ≡ row = sym c.index-numbers-at.is in
+    let there : get_or order i row ≡ row = get_or_from_slice_get order i row row (slice_get-get_or order i 0 lt) in
     let Text : List ℕ → Type 0 = Puts taken faults c.args.out.now c.put_record.new.out c.args.held.now c.put_record.new.held in
     let Row : List (List ℕ) → Type 0 = λ fields. Puts taken faults c.loop-at.out c.put_record.new.out c.loop-at.held c.put_record.new.held (row_text default_writer fields) in
     subst Text (row-more f order i row lt there)

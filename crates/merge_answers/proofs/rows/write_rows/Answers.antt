@@ -9,7 +9,7 @@ use Rattle.merge_answers.proofs.rows.write_rows.Goals as goal
 pub put_all-requires-clause-rows : goal.put_all-requires-clause-rows
 put_all-requires-clause-rows g c =
     let Within : List ℕ → Type 0 = λ numbers. All (λ row. row < length c.args.ready.now.rows) numbers in
-    subst Within (sym c.numbers.ensures) (order_within c.args.ready.now.bound c.args.ready.now.rows c.args.order.now c.requires.order)
+    λ κs bounds. subst Within (sym c.numbers.ensures) (order_within c.args.ready.now.bound c.args.ready.now.rows c.args.order.now c.requires.order)
 
 pub returns-then-is_broken-clause-part : goal.returns-then-is_broken-clause-part
 returns-then-is_broken-clause-part g c =
