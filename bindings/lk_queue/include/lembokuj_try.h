@@ -26,15 +26,26 @@
 extern "C" {
 #endif
 
+/* What lembokuj_table_try.h has too. */
+#ifndef LK_TRY_CODES
+#define LK_TRY_CODES
 #ifndef LEMBOKUJ_H
 enum {
     LK_OK = 0,
-    LK_WOULD_BLOCK = 1,    /* full (send the same message again), or no whole message yet */
+    LK_WOULD_BLOCK = 1, /* a queue: full (send the same message again), or no whole message yet; a table: another caller is there */
+    LK_NULL = -1,       /* a pointer is null, or a handle blank */
+    LK_NO_MEMORY = -4,  /* the system gave no memory */
+    LK_BAD_SIZE = -5,   /* a size out of range */
+};
+#endif
+enum { LK_IN_USE = -19 }; /* a handle has something already, or both pointers are one */
+#define LK_BLANK {NULL, 0}
+#endif
+
+#ifndef LEMBOKUJ_H
+enum {
     LK_DETACHED = 2,       /* the other side has left; a receiver: and all was received */
-    LK_NULL = -1,          /* a pointer is null, or a handle blank */
     LK_KIND = -2,          /* a handle of the other side */
-    LK_NO_MEMORY = -4,     /* the system gave no memory */
-    LK_BAD_SIZE = -5,      /* a size out of range */
     LK_TOO_LONG = -7,      /* the message is longer than the queue's greatest */
     LK_OTHER_MESSAGE = -8, /* a part of another message is on the ring: send that one again first */
 };
@@ -47,7 +58,6 @@ enum { LK_LATER = 1 };
 enum {
     LK_GONE = -17,         /* this side has left */
     LK_SHORT_BUFFER = -18, /* the caller's bytes have no room for the queue's greatest message */
-    LK_IN_USE = -19,       /* a handle has a side already, or both pointers are one */
     LK_STILL_IN = -20,     /* lk_raw_queue_close: this side has not left yet */
 };
 
@@ -55,8 +65,6 @@ typedef struct lk_handle {
     void *at;
     uint64_t full;
 } lk_handle;
-
-#define LK_BLANK {NULL, 0}
 
 /* What the library exports. Each pointer has to be good, and the two handles of lk_raw_queue_new have to differ. */
 int32_t lk_raw_queue_new(uint64_t ring_words, uint32_t max_bytes, lk_handle *tx, lk_handle *rx);

@@ -1,0 +1,21 @@
+use Rattle.std.proofs.Common.{sym, subst}
+use Rattle.std.specs.List.{All}
+use Rattle.dshash_parts.specs.Tables.{Belongs}
+use Rattle.c_table.specs.Reserves.{IsItem, IsReserve}
+use Rattle.c_table.specs.declared.shared.Shared.{Shared}
+use Rattle.c_table.proofs.caller.change.Goals as goal
+
+pub try_call-requires-clause-own : goal.try_call-requires-clause-own
+try_call-requires-clause-own c = subst (λ (x : Shared). Belongs x.table c.args.share.now.pass) (sym c.deref-2.ensures) c.requires.share.own
+
+pub grow-requires-clause-share : goal.grow-requires-clause-share
+grow-requires-clause-share c =
+    let i = c.requires.share in
+    record {
+      shared = i.shared;
+      own = subst (λ (x : Shared). Belongs x.table c.try_call.new.pass) c.deref-2.ensures c.in-Ok-TooFull.ensures.own;
+      others = i.others;
+      reserve = subst (λ (x : Shared). IsReserve x.region c.take_item-spare.new.reserve) c.deref.ensures c.take_item-spare.ensures.reserve;
+      items = subst (λ (x : Shared). All (IsItem x.region) c.keep_item-in-Ok-TooFull.new.items.items) c.deref-in-Ok-TooFull.ensures c.keep_item-in-Ok-TooFull.ensures.items;
+      slice = i.slice;
+    }
