@@ -44,6 +44,7 @@ fn new_slices(alloc: Global, r: &Region, reserve: &mut Reserve) -> Result<Vec<Ch
 }
 
 /// An empty table for this many callers in a region of its own, with so many words for them.
+#[tactic(auto, using(word_map::proofs::Maps::answers, std::proofs::lemmas::Bool::Decides::nat_tests))]
 fn assemble(alloc: Global, callers: u32, words: u64) -> Result<Caller, AllocError>
     requires callers { 1 ≤ callers }
     requires few { words + 129 ≤ 67108864 }
