@@ -7,7 +7,7 @@ use Rattle.c_table.proofs.Tries.{lacks, made}
 use Rattle.c_table.proofs.caller.change.Goals as goal
 
 pub try_call-requires-clause-own : goal.try_call-requires-clause-own
-try_call-requires-clause-own c = subst (λ (x : Shared). Belongs x.table c.args.share.now.pass) (sym c.deref-2.ensures) c.requires.share.own
+try_call-requires-clause-own c κs = subst (λ (x : Shared). Belongs x.table c.args.share.now.pass) (sym c.deref-2.ensures) c.requires.share.own
 
 pub grow-requires-clause-share : goal.grow-requires-clause-share
 grow-requires-clause-share c =

@@ -5,7 +5,7 @@ use Rattle.c_table.specs.declared.shared.Shared.{Shared}
 use Rattle.c_table.proofs.caller.grow.Goals as goal
 
 pub try_grow-requires-clause-own : goal.try_grow-requires-clause-own
-try_grow-requires-clause-own c = subst (λ (x : Shared). Belongs x.table c.args.share.now.pass) (sym c.deref-2.ensures) c.requires.share.own
+try_grow-requires-clause-own c κs = subst (λ (x : Shared). Belongs x.table c.args.share.now.pass) (sym c.deref-2.ensures) c.requires.share.own
 
 pub returns-in-Ok-clause-share : goal.returns-in-Ok-clause-share
 returns-in-Ok-clause-share c =

@@ -4,7 +4,7 @@ use Rattle.c_table.specs.declared.shared.Shared.{Shared}
 use Rattle.c_table.proofs.caller.Caller.try_get.Goals as goal
 
 pub try_find-requires-clause-own : goal.try_find-requires-clause-own
-try_find-requires-clause-own c = subst (λ (x : Shared). Belongs x.table c.self.inside.share.pass) (sym c.deref.ensures) c.self.invariant.own
+try_find-requires-clause-own c κs = subst (λ (x : Shared). Belongs x.table c.self.inside.share.pass) (sym c.deref.ensures) c.self.invariant.own
 
 pub invariant_of-self : goal.invariant_of-self
 invariant_of-self c =
