@@ -1,0 +1,5 @@
+pub mod Lists
+pub mod Owned
+pub mod Shares
+pub mod Slices
+pub mod Tries
