@@ -26,7 +26,7 @@ IsRefused callers words code = ⊥
 -- table with these words, which are no longer the first one's; or all callers have shares; or the first one has not so many
 -- words; or there is no memory. The first one has seen nothing new
 abbrev pub IsFurther : ℕ → Share → Share → Result Share Code → Type 0
-IsFurther words s t (Ok u) = Stays s t × (t.pass ≡ s.pass) × (u.shared ≡ s.shared) × (u.reserve.left ≡ words) × (s.reserve.left ≡ t.reserve.left + words) × (length s.others.items ≡ length t.others.items + 1) × (u.others.items ≡ [])
+IsFurther words s t (Ok u) = Stays s t × (t.pass ≡ s.pass) × (arc_value u.shared ≡ arc_value s.shared) × (u.reserve.left ≡ words) × (s.reserve.left ≡ t.reserve.left + words) × (length s.others.items ≡ length t.others.items + 1) × (u.others.items ≡ [])
 IsFurther words s t (Err BadCallers) = (t ≡ s) × (s.others.items ≡ [])
 IsFurther words s t (Err NoSpace) = (t ≡ s) × ((words ≡ 0) ⊎ (s.reserve.left < words))
 IsFurther words s t (Err NoMemory) = t ≡ s

@@ -36,7 +36,8 @@ use std::thread::Threads;
 const WRONG_WORDS: u8 = 2;
 
 /// How the program is called.
-const USAGE: &str = "usage: uses_load lock|area|window|queue|flushed|puts|gets|sets THREADS CALLS [SIZE]
+const USAGE: &str =
+    "usage: uses_load lock|area|window|queue|flushed|puts|gets|sets THREADS CALLS [SIZE]
 each of 1 to 64 THREADS makes CALLS calls, up to 2^32; SIZE is 8 to 1000000: the bytes of a chunk (area, window) or of a
 message (queue, flushed, which take 2 threads), or the keys of the table (puts, gets, sets)";
 

@@ -26,7 +26,8 @@ returns-in-Ok-Done-clause-tries c = (record { table = refl; caller = c.in-Ok-Don
 
 pub returns-in-Ok-NeedItem-clause-tries : goal.returns-in-Ok-NeedItem-clause-tries
 returns-in-Ok-NeedItem-clause-tries c =
-    (record { table = refl; caller = c.in-Ok-NeedItem.ensures.caller }, inr (inl (refl, lacks _ _ _ _ _ c.take_item-spare.result c.in-Ok-NeedItem.field-0 c.in-Ok-NeedItem.field-0-is c.in-Ok-NeedItem.ensures.event c.take_item-spare.ensures.none)))
+    let l = lacks _ _ _ _ _ c.take_item-spare.result c.in-Ok-NeedItem.field-0 c.in-Ok-NeedItem.field-0-is c.in-Ok-NeedItem.ensures.event c.take_item-spare.ensures.none in
+    (record { table = refl; caller = c.in-Ok-NeedItem.ensures.caller }, inr (inl (refl, l.0, l.1)))
 
 pub returns-in-Err-clause-tries : goal.returns-in-Err-clause-tries
 returns-in-Err-clause-tries c = (record { table = refl; caller = c.in-Err.ensures.caller }, inl (refl, c.in-Err.ensures.busy.1))
