@@ -1,10 +1,14 @@
 -- Lists of which each element has a property.
-use Rattle.std.proofs.Common.{◌≡◌, ℕ, suc, List, [], ◌∷◌, ◌++◌, length, refl, subst}
+use Rattle.std.proofs.Common.{◌≡◌, ℕ, suc, List, [], ◌∷◌, ◌++◌, length, refl, ap, ◌∙◌, subst}
 use Rattle.std.specs.List.{All}
 use Rattle.std.proofs.lemmas.List.Elements.{All-cons, All-nil}
 use mathlib.Core.Option.{some}
 use lib.ListN.{get_elem?}
 use Rattle.lock_book.proofs.Uses.{at_last, at_longer}
+
+-- what stands at the end
+pub at_end : {A : Type 0} (all xs : List A) (x : A) → all ≡ xs ++ x ∷ [] → get_elem? all (length xs) ≡ some x
+at_end {A} all xs x is = ap (λ (l : List A). get_elem? l (length xs)) is ∙ at_last xs x (length xs) refl
 
 module _ {A : Type 0} (P : A → Type 0) where
   -- what is true at each place is true of all

@@ -4,7 +4,7 @@ ghost use Rattle.std.specs.Prelude.{◌≡◌, ◌+◌, ◌*◌, ◌/◌, ◌<�
 ghost use Rattle.std.specs.List.{All};
 ghost use Rattle.dshash_core.specs.Cells.{buckets_of};
 ghost use Rattle.c_table.specs.Reserves.{IsItem, IsReserve};
-ghost use Rattle.c_table.specs.Tries.{Tries, Grows};
+ghost use Rattle.c_table.specs.Tries.{Grows, Stays, Tries};
 ghost use Rattle.c_table.specs.Shares.{IsShare};
 ghost use Rattle.c_table.specs.declared.word.WordCall.TheVariants.{Get};
 
@@ -152,6 +152,7 @@ fn grow(share: &mut Share, key: u64, size: u32) -> Code
     requires share { IsShare share.old }
     requires size { (8 ≤ size) × (size ≤ 20) }
     ensures share { IsShare share.new }
+    ensures stays { Stays share.old share.new }
     ensures grown { Grows share.old share.new key size result }
 {
     let number = partition_of_hash(hash_key(&[key]));

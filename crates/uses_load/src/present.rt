@@ -1,6 +1,6 @@
 //! A hash table of `dshash_parts` that is filled first, and whose keys all threads get, or put another number under.
 
-ghost use Rattle.std.specs.Prelude.{◌^◌, ◌<◌, ◌≤◌};
+ghost use Rattle.std.specs.Prelude.{◌≡◌, ◌^◌, ◌<◌, ◌≤◌};
 ghost use Rattle.dsa_area.specs.Shown.{IsArea};
 ghost use Rattle.dshash_parts.specs.Tables.{IsTable, key_words_of};
 ghost use Rattle.uses_load.specs.Passes.{HasBoth};
