@@ -29,7 +29,7 @@ returns-in-Ok-Done-clause-share c =
       own = subst (λ (x : Shared). Belongs x.table c.try_call.new.pass) c.deref-2.ensures c.in-Ok-Done.ensures.own;
       others = i.others;
       reserve = subst (λ (x : Shared). IsReserve x.region c.take_item-spare.new.reserve) c.deref.ensures c.take_item-spare.ensures.reserve;
-      items = subst (λ (x : Shared). All (IsItem x.region) c.keep_item-in-Ok-Done-2.new.items.items) c.deref-in-Ok-Done-2.ensures c.keep_item-in-Ok-Done-2.ensures.items;
+      items = subst (λ (x : Shared). All (IsItem x.region) c.keep_item-in-Ok-Done.new.items.items) c.deref-in-Ok-Done-2.ensures c.keep_item-in-Ok-Done.ensures.items;
       slice = i.slice;
     }
 

@@ -1,4 +1,4 @@
-use Rattle.std.proofs.Common.{List, length, length-append, sym, ap, ◌∙◌, subst, arith}
+use Rattle.std.proofs.Common.{List, [], ◌∷◌, length, length-append, sym, ap, ◌∙◌, subst, arith}
 use Rattle.std.specs.List.{All}
 use Rattle.std.proofs.lemmas.List.Elements.{All-nil}
 use Rattle.std_alloc.specs.Arc.{arc_value}
@@ -29,7 +29,7 @@ returns c =
     let t = c.in_ok-table.ensures in
     record {
       callers_are = ap (λ (x : Shared). callers_of x.table) c.in_ok-shared.ensures.ok ∙ t.callers;
-      others = omega (arith, ap length c.in-Some.ensures.items, length-append c.pop.new.self.items _, t.passes.count, t.callers);
+      others = omega (arith, ap length c.in-Some.ensures.items, length-append c.pop.new.self.items (c.in-Some.pass ∷ []), t.passes.count, t.callers);
       words_are = omega (arith, c.in_ok-slices.ensures.less, c.of_part-reserve.ensures.1, c.from.ensures);
       fresh = t.fresh _ c.in-Some.pass (at_end _ _ _ c.in-Some.ensures.items);
     }
