@@ -1,3 +1,4 @@
+pub mod Handles
 pub mod Lists
 pub mod Owned
 pub mod Shares
