@@ -1,6 +1,5 @@
 -- What keeps a caller's share whole.
-use Rattle.std.proofs.Common.{◌≡◌, ℕ, ◌+◌, ◌*◌, List, [], ◌∷◌, Option, Some, None, IfSome, refl, sym, ap, ◌∙◌}
-use Rattle.std.specs.FinMap as fin
+use Rattle.std.proofs.Common.{◌≡◌, ◌*◌, Option, Some, None, IfSome, refl, ◌∙◌}
 use Rattle.size_classes.specs.Classes.{first_size}
 use Rattle.dsa_area.specs.Sizes.{chunk_size}
 use Rattle.region_words.specs.declared.chunk.Chunk.{Chunk}

@@ -1,7 +1,7 @@
 -- What a turn at a key's partition makes of a try.
-use Rattle.std.proofs.Common.{◌≡◌, ℕ, Bool, true, false, List, [], ◌∷◌, Option, Some, None, IfNone, is_some, refl, sym, ap, ◌∙◌, subst}
+use Rattle.std.proofs.Common.{◌≡◌, ℕ, Bool, false, [], ◌∷◌, Option, Some, None, IfNone, is_some, sym, ap, ◌∙◌, subst}
 use Rattle.region_words.specs.declared.chunk.Chunk.{Chunk}
-use Rattle.lock_book.specs.Shown.{number_of, seen_of, mine_of}
+use Rattle.lock_book.specs.Shown.{number_of, seen_of}
 use Rattle.dshash_core.specs.declared.outcome.CoreOut.{CoreOut}
 use Rattle.dshash_core.specs.declared.outcome.CoreOut.TheVariants.{Done, NeedItem, TooFull}
 use Rattle.dshash_parts.specs.Asked.{outcome_of}

@@ -1,5 +1,5 @@
 -- What the first caller of a new table and a further one are, and when there is none.
-use Rattle.std.specs.Prelude.{◌≡◌, ℕ, ◌+◌, ◌<◌, ◌⊎◌, List, [], length, Result, Ok, Err}
+use Rattle.std.specs.Prelude.{◌≡◌, ℕ, ◌+◌, ◌<◌, ◌⊎◌, [], length, Result, Ok, Err}
 use Rattle.lock_book.specs.Shown.{mine_of, seen_of}
 use Rattle.dshash_parts.specs.Tables.{callers_of}
 use Rattle.std_alloc.specs.Arc.{arc_value}

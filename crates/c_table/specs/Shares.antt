@@ -1,8 +1,7 @@
 -- What is true of one caller's share of a table.
-use Rattle.std.specs.Prelude.{◌≡◌, ℕ, IfSome}
+use Rattle.std.specs.Prelude.{◌≡◌, IfSome}
 use Rattle.std.specs.List.{All}
 use Rattle.std_alloc.specs.Arc.{arc_value}
-use Rattle.atomic_table.specs.Seated.{TableId}
 use Rattle.dshash_parts.specs.Tables.{Belongs, IsTable, item_of, key_words_of}
 use Rattle.c_table.specs.Reserves.{IsItem, IsReserve}
 use Rattle.c_table.specs.declared.shared.Share.{Share}

@@ -1,5 +1,5 @@
 -- What a call of a caller does: its share s becomes t.
-use Rattle.std.specs.Prelude.{◌≡◌, ℕ, ◌+◌, ◌<◌, ◌⊎◌, Bool, false, List, [], ◌∷◌, Option, None, Result, Ok, Err}
+use Rattle.std.specs.Prelude.{◌≡◌, ℕ, ◌+◌, ◌<◌, ◌⊎◌, Bool, false, [], ◌∷◌, Option, Result, Ok, Err}
 use Rattle.std.specs.FinMap as fin
 use Rattle.lock_book.specs.Shown.{Missed, number_of, seen_of}
 use Rattle.dshash_core.specs.Key.{hash_of}

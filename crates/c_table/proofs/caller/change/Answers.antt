@@ -1,4 +1,4 @@
-use Rattle.std.proofs.Common.{◌+◌, ◌<◌, inl, inr, is_some, refl, sym, subst, ◌∙◌}
+use Rattle.std.proofs.Common.{◌<◌, inl, inr, is_some, refl, sym, subst, ◌∙◌}
 use Rattle.std.specs.List.{All}
 use Rattle.dshash_parts.specs.Tables.{Belongs}
 use Rattle.c_table.specs.Reserves.{IsItem, IsReserve}

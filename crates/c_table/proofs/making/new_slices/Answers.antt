@@ -1,4 +1,4 @@
-use Rattle.std.proofs.Common.{◌≡◌, ◌+◌, List, length, refl, sym, ap, subst, ◌∙◌, arith, length-append}
+use Rattle.std.proofs.Common.{◌≡◌, ◌+◌, List, length, sym, ap, subst, ◌∙◌, arith, length-append}
 use Rattle.region_words.specs.declared.chunk.Chunk.{Chunk}
 use Rattle.dshash_parts.specs.Opening.{HaveWords}
 use Rattle.c_table.proofs.Slices.{words_next}

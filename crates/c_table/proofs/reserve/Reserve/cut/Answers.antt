@@ -1,4 +1,4 @@
-use Rattle.std.proofs.Common.{◌+◌, arith}
+use Rattle.std.proofs.Common.{arith}
 use Rattle.word_map.proofs.Uses.{rest-has_behind}
 use Rattle.c_table.proofs.reserve.Reserve.cut.Goals as goal
 
