@@ -1,5 +1,5 @@
 -- What came home where there is an answer, with a table of groups or without.
-use Rattle.std.proofs.Common.{◌≡◌, ◌<◌, ◌≤◌, ◌+◌, ◌-◌, ◌*◌, ◌++◌, ◌&&◌, leb, ℕ, suc, List, [], ◌∷◌, length, drop, map as map_list, All, IfSome, IsSomeAnd, Option, option_map, is_some, Some, None, refl, ap, sym, subst, ◌∙◌, arith}
+use Rattle.std.proofs.Common.{◌≡◌, ◌<◌, ◌≤◌, ◌+◌, ◌-◌, ◌*◌, ◌++◌, ◌&&◌, leb, ℕ, suc, List, [], ◌∷◌, length, drop, map as map_list, All, IfSome, IsSomeAnd, Option, option_map, is_some, Some, None, refl, ap, sym, subst, ◌∙◌}
 use Rattle.std.specs.List.{AllZip}
 use Rattle.agg_cell.specs.Called.{Seen}
 use Rattle.agg_cell.specs.Cell.{stepped}

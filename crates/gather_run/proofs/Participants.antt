@@ -1,5 +1,5 @@
 -- What the leader and the workers did with a table of groups, put together.
-use Rattle.std.proofs.Common.{◌≡◌, ◌<◌, ◌≤◌, ◌+◌, ◌-◌, ◌*◌, ◌^◌, ◌++◌, ℕ, zero, suc, List, [], ◌∷◌, length, drop, fold, slice_get, map as map_list, All, Any, MatchOption, Option, Some, None, refl, ap, sym, subst, ◌∙◌, arith, true}
+use Rattle.std.proofs.Common.{◌≡◌, ◌<◌, ◌≤◌, ◌+◌, ◌-◌, ◌*◌, ◌^◌, ◌++◌, ℕ, zero, suc, List, [], ◌∷◌, length, drop, fold, slice_get, map as map_list, All, Any, MatchOption, Option, Some, None, refl, ap, sym, subst, ◌∙◌, true}
 use Rattle.std.specs.FinMap as map
 use Rattle.std.specs.List.{AllZip, flat_map}
 use Rattle.std.specs.List.Sorted.{IsPermutation}
