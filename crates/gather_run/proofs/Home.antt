@@ -1,5 +1,5 @@
 -- What came home where there is an answer, with a table of groups or without.
-use Rattle.std.proofs.Common.{◌≡◌, ◌<◌, ◌≤◌, ◌+◌, ◌-◌, ◌*◌, ◌++◌, ◌&&◌, leb, ℕ, suc, List, [], ◌∷◌, length, drop, map as map_list, All, IfSome, IsSomeAnd, Option, option_map, is_some, Some, None, refl, ap, sym, subst, ◌∙◌, arith}
+use Rattle.std.proofs.Common.{◌≡◌, ◌<◌, ◌≤◌, ◌+◌, ◌-◌, ◌*◌, ◌++◌, ◌&&◌, leb, ℕ, suc, List, [], ◌∷◌, length, drop, map as map_list, All, IfSome, IsSomeAnd, Option, option_map, is_some, Some, None, refl, ap, sym, subst, ◌∙◌}
 use Rattle.std.specs.List.{AllZip}
 use Rattle.agg_cell.specs.Called.{Seen}
 use Rattle.agg_cell.specs.Cell.{stepped}
@@ -34,13 +34,14 @@ use Rattle.gather_run.specs.Drained.{AddsAll, SameHistories}
 use Rattle.gather_run.specs.Leading.{HasLed}
 use Rattle.gather_run.specs.Used.{ArePasses, SentItsRows, SharedItsBlocks}
 use Rattle.gather_run.proofs.Participants.{AllShared, AllTookPart, all_shared, holds_all, law_of, part_shared, workers_shared}
+use Rattle.gather_run.proofs.Counting.{covers_all, few_of_draws, few_records, few_workers, not_none, not_true}
 use Rattle.gather_run.proofs.Together.{Plain, Worker, all_drawn, all_gathered, all_sent_rows, few_drawn, plain, spent_is}
 
 -- a table is there exactly where one was made, and shows whole histories
 pub table_home : {A : Type 0} (P Q : A → Type 0) (R : HashPart → A → Type 0) (hash : Option HashPart) (o : Option A) → ((part : HashPart) → hash ≡ Some part → IsSomeAnd o (λ c. P c × Q c × R part c)) → (hash ≡ None → o ≡ None)
     → (is_some o ≡ is_some hash) × IfSome o P × IfSome o Q × IfSome o (λ c. (part : HashPart) × R part c)
 table_home P Q R None None some none = (refl, tt, tt, tt)
-table_home P Q R None (Some c) some none = let no : Some c ≡ None = none refl in cc
+table_home P Q R None (Some c) some none = absurd (not_none c (none refl))
 table_home P Q R (Some part) None some none = absurd (some part refl)
 table_home P Q R (Some part) (Some c) some none = let h = some part refl in (refl, h.0, h.1, (part, h.2))
 
@@ -103,8 +104,7 @@ module _ {A : Type 0} (h : A → Seen) (areas : List AreaPass) where
         let some = spent_is (uses_of (Some c)) plan records blocks own w.led.spent in
         let lates = late-append blocks own (flat draws) in
         let past : late blocks (own ++ flat draws) ≡ n - blocks = drawn.past in
-        let few = w.few in
-        law_of plan records (uses_in c) law (h c) own draws blocks groups last n (λ k i. refl) (whole_home c w) (shared_all c w) added drawn.once (omega (arith, some, lates, past, w.are.all)) (omega (arith, few)) w.items
+        law_of plan records (uses_in c) law (h c) own draws blocks groups last n (λ k i. refl) (whole_home c w) (shared_all c w) added drawn.once (covers_all (length records) n blocks (late blocks own) (late blocks (flat draws)) (late blocks (own ++ flat draws)) some lates past w.are.all) (few_records (length records) w.few) w.items
 
     -- ---- how the rows were used
 
@@ -123,12 +123,12 @@ module _ {A : Type 0} (h : A → Seen) (areas : List AreaPass) where
 
     pub tells : (o o' : Option A) → WentWell o plan records blocks n lists own draws ws groups → SameHistories (option_map h o) (option_map h o') → Tells o'
     tells None None w same =
-        let few = few_drawn (uses_of None) plan records blocks own lists draws n w.are w.few (let e = as_drawn None w in let short = w.short in omega (arith, e, short)) w.lists_are w.drawn in
+        let few = few_drawn (uses_of None) plan records blocks own lists draws n w.are w.few (few_workers (length ws) (length draws) (as_drawn None w) w.short) w.lists_are w.drawn in
         record {
           drawn = all_drawn (uses_of None) plan records blocks own lists draws n w.are w.lists_are w.drawn w.led.spent;
           shared_own = tt;
           shared = nothing_shared draws ws (plain_workers w);
-          sent = λ e. all_sent_rows (uses_of None) plan records blocks draws ws (omega (arith, few)) (plain_workers w) w.well w.led.over;
+          sent = λ e. all_sent_rows (uses_of None) plan records blocks draws ws (few_of_draws (length own) (length (flat draws)) few) (plain_workers w) w.well w.led.over;
         }
     tells None (Some d) w same = absurd same
     tells (Some c) None w same = absurd same
@@ -145,7 +145,7 @@ module _ {A : Type 0} (h : A → Seen) (areas : List AreaPass) where
           drawn = all_drawn (uses_of (Some c)) plan records blocks own lists draws n w.are w.lists_are w.drawn w.led.spent;
           shared_own = part_shared plan records own (uses_in c 0) (uses_in d 0) s (λ i. turns 0 i) refl t.0;
           shared = workers_shared plan records (uses_in c) (uses_in d) (λ k i. turns k i) (λ k. refl) 1 draws shares ws (as_drawn (Some c) w) t.1 w.numbers;
-          sent = λ e. cc;
+          sent = λ e. absurd (not_none d e);
         }
 
 -- the same of a run
@@ -185,7 +185,7 @@ whole_after h (Some c) (Some d) n same w = record { lawful = λ i l. subst (λ (
 -- the passes of its area came home
 pub passes_home : {A : Type 0} (hash : Option HashPart) (o : Option A) (n : ℕ) (areas : List AreaPass) → is_some o ≡ is_some hash → ((part : HashPart) → hash ≡ Some part → (length areas ≡ n) × AreAll part.area areas) → IfSome o (λ c. ArePasses n areas)
 passes_home None None n areas e f = tt
-passes_home None (Some c) n areas e f = cc
+passes_home None (Some c) n areas e f = absurd (not_true e)
 passes_home (Some part) None n areas e f = tt
 passes_home (Some part) (Some c) n areas e f = let all = f part refl in record { count = all.0; of_one = (part.area, all.1) }
 

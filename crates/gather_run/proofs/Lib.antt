@@ -1,3 +1,4 @@
+pub mod Counting
 pub mod Parts
 pub mod Seated
 pub mod Shares

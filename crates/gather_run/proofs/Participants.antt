@@ -1,5 +1,5 @@
 -- What the leader and the workers did with a table of groups, put together.
-use Rattle.std.proofs.Common.{◌≡◌, ◌<◌, ◌≤◌, ◌+◌, ◌*◌, ◌^◌, ◌++◌, ℕ, zero, suc, List, [], ◌∷◌, length, drop, fold, slice_get, map as map_list, All, Any, MatchOption, Option, Some, None, refl, ap, sym, subst, ◌∙◌, arith, true}
+use Rattle.std.proofs.Common.{◌≡◌, ◌<◌, ◌≤◌, ◌+◌, ◌-◌, ◌*◌, ◌^◌, ◌++◌, ℕ, zero, suc, List, [], ◌∷◌, length, drop, fold, slice_get, map as map_list, All, Any, MatchOption, Option, Some, None, refl, ap, sym, subst, ◌∙◌, true}
 use Rattle.std.specs.FinMap as map
 use Rattle.std.specs.List.{AllZip, flat_map}
 use Rattle.std.specs.List.Sorted.{IsPermutation}
@@ -36,16 +36,14 @@ use Rattle.worker_run.specs.Verdicts.{EndsWell}
 use Rattle.gather_run.specs.Leading.{HasLed}
 use Rattle.gather_run.specs.Reading.{ReadAs}
 use Rattle.gather_run.specs.Used.{AreBlockGroups, SharedItsBlocks}
+use Rattle.gather_run.proofs.Counting.{as_many_left, at_first, at_next, few_of_block, from_none, no_first, none_left, nothing_at, past_all, some_same}
 use Rattle.gather_run.proofs.Together.{Worker, no_groups_read, same_groups}
 
 -- the map after groups alone is that of these groups
 groups_alone : (plan : Plan) (records : Table) (parts : List Part) (m : GroupsByKey) → blocks_in parts ≡ [] → fold (with_part plan records) m parts ≡ with_all m (received_in parts)
 groups_alone plan records [] m e = refl
-groups_alone plan records (Block b ∷ parts) m e = cc
+groups_alone plan records (Block b ∷ parts) m e = absurd (no_first b (blocks_in parts) e)
 groups_alone plan records (Received g ∷ parts) m e = groups_alone plan records parts (added m g.0 g.1) e
-
-some_same : {A : Type 0} (x y : A) → Some x ≡ Some y → x ≡ y
-some_same x y e = cc
 
 flat_of : {A B : Type 0} (f : A → List B) (xs : List A) → flat_map (λ l. l) (map_list f xs) ≡ flat_map f xs
 flat_of f [] = refl
@@ -74,7 +72,7 @@ module _ (plan : Plan) (records : Table) where
       let short = length-block records b in
       record {
         whole = with_rows plan map.empty (block_rows records b);
-        are = maps_grow plan (header_width records) [] (block_rows records b) map.empty (All-nil (IsAccepted plan (header_width records))) h (omega (arith, short)) (no_groups plan);
+        are = maps_grow plan (header_width records) [] (block_rows records b) map.empty (All-nil (IsAccepted plan (header_width records))) h (few_of_block (length (block_rows records b)) (length records - (256 * b + 1)) short) (no_groups plan);
         listed = refl;
       }
 
@@ -116,20 +114,20 @@ module _ (plan : Plan) (records : Table) where
     puts_of shares = map_list (λ (s : Share). s.put) shares
 
     keyed_of : (n : ℕ) (draws : List (List ℕ)) (shares : List Share) → AllTookPart n draws shares → (k : ℕ) (put : List Group) → slice_get (puts_of shares) k ≡ Some put → All IsKeyed put
-    keyed_of n [] [] t k put e = cc
+    keyed_of n [] [] t k put e = absurd (nothing_at k put e)
     keyed_of n [] (s ∷ shares) t k put e = absurd t
     keyed_of n (ds ∷ draws) [] t k put e = absurd t
     keyed_of n (ds ∷ draws) (s ∷ shares) t zero put e = subst (All IsKeyed) (some_same s.put put e) t.0.has.keyed
     keyed_of n (ds ∷ draws) (s ∷ shares) t (suc k) put e = keyed_of (suc n) draws shares t.1 k put e
 
     done_of : (n : ℕ) (draws : List (List ℕ)) (shares : List Share) → AllTookPart n draws shares → (k m i : ℕ) (put : List Group) → m ≡ n + k → slice_get (puts_of shares) k ≡ Some put → done_in ((uses m).turns i) ≡ calls_at i put
-    done_of n [] [] t k m i put at e = cc
+    done_of n [] [] t k m i put at e = absurd (nothing_at k put e)
     done_of n [] (s ∷ shares) t k m i put at e = absurd t
     done_of n (ds ∷ draws) [] t k m i put at e = absurd t
     done_of n (ds ∷ draws) (s ∷ shares) t zero m i put at e =
-        let same : m ≡ n = omega (arith, at) in
+        let same : m ≡ n = at_first m n at in
         subst (λ j. done_in ((uses j).turns i) ≡ calls_at i put) (sym same) (t.0.has.done i ∙ ap (calls_at i) (some_same s.put put e))
-    done_of n (ds ∷ draws) (s ∷ shares) t (suc k) m i put at e = done_of (suc n) draws shares t.1 k m i put (omega (arith, at)) e
+    done_of n (ds ∷ draws) (s ∷ shares) t (suc k) m i put at e = done_of (suc n) draws shares t.1 k m i put (at_next m n k at) e
 
     pub holds_all : (history : Seen) (draws : List (List ℕ)) (shares : List Share) → ((n i : ℕ) → (uses n).turns i ≡ calls_by n (history i)) → AreWhole (length draws) history → AllTookPart 0 draws shares → HoldsAll history (puts_of shares)
     holds_all history draws shares turns whole t =
@@ -138,8 +136,8 @@ module _ (plan : Plan) (records : Table) where
         record {
           lawful = whole.lawful;
           keyed = keyed_of 0 draws shares t;
-          done = λ k i put e within. ap done_in (sym (turns k i)) ∙ done_of 0 draws shares t k k i put (omega arith) e;
-          no_others = λ k i h within. whole.no_others i k (omega (arith, long, many, h));
+          done = λ k i put e within. ap done_in (sym (turns k i)) ∙ done_of 0 draws shares t k k i put (from_none k) e;
+          no_others = λ k i h within. whole.no_others i k (past_all (length (puts_of shares)) (length shares) (length draws) k long many h);
         }
 
     -- ---- what was sent
@@ -238,11 +236,11 @@ module _ (plan : Plan) (records : Table) where
     pub workers_shared : (vs : ℕ → Use) → ((n i : ℕ) → (vs n).turns i ≡ (uses n).turns i) → ((n : ℕ) → (vs n).pages ≡ (uses n).pages) → (n : ℕ) (draws : List (List ℕ)) (shares : List Share) (ws : List (Returned WorkerEnd))
         → length ws ≡ length draws → AllTookPart n draws shares → AreNumbered n (map_list (λ (w : Returned WorkerEnd). w.number) ws) → AllZip (λ ds (w : Returned WorkerEnd). SharedItsBlocks plan records ds (vs w.number)) draws ws
     workers_shared vs turns pages n [] [] [] long t k = tt
-    workers_shared vs turns pages n [] [] (w ∷ ws) long t k = let no : ⊥ = grind arith in absurd no
+    workers_shared vs turns pages n [] [] (w ∷ ws) long t k = absurd (none_left (length ws) long)
     workers_shared vs turns pages n [] (s ∷ shares) ws long t k = absurd t
     workers_shared vs turns pages n (ds ∷ draws) [] ws long t k = absurd t
-    workers_shared vs turns pages n (ds ∷ draws) (s ∷ shares) [] long t k = let no : ⊥ = grind arith in absurd no
+    workers_shared vs turns pages n (ds ∷ draws) (s ∷ shares) [] long t k = absurd (none_left (length draws) (sym long))
     workers_shared vs turns pages n (ds ∷ draws) (s ∷ shares) (w ∷ ws) long t k = (
       subst (λ j. SharedItsBlocks plan records ds (vs j)) (sym k.0) (part_shared ds (uses n) (vs n) s (turns n) (pages n) t.0),
-      workers_shared vs turns pages (suc n) draws shares ws (omega (arith, long)) t.1 k.1,
+      workers_shared vs turns pages (suc n) draws shares ws (as_many_left (length ws) (length draws) long) t.1 k.1,
     )

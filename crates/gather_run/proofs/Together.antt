@@ -31,6 +31,7 @@ use Rattle.parallel_ctx.proofs.Idle.{whole_nothing}
 use Rattle.parallel_ctx.specs.declared.tokens.LeaderEnds.{LeaderEnds}
 use Rattle.parallel_ctx.specs.declared.tokens.Shared.{Shared}
 use Rattle.gather_run.specs.Looks.{tuples_of}
+use Rattle.gather_run.proofs.Counting.{block_drawn, covers_all, few_behind, few_in_front, few_numbers, few_of_rows, few_records, none_left}
 use Rattle.gather_run.specs.declared.GatherAnswer.{GatherAnswer}
 use Rattle.gather_run.specs.declared.GatherAnswer.TheVariants.{Row, Memory}
 use Rattle.worker_run.specs.Tabled.{EndsWith}
@@ -148,7 +149,7 @@ module _ (uses : ℕ → Option Use) (plan : Plan) (records : Table) (blocks : �
       let l = led.leading in
       let both = gathers plan (header_width records) records own draws l.taken l.parts n
       (record { own_blocks = l.own.0; own_accepted = l.accepted; all_received = subst (λ (gs : List Group). IsPermutation (received_in l.parts) (gs ++ flat_map (λ groups. groups) l.taken)) l.own.1 l.received; all_sent = all_sent draws ws l.taken f w led.over l.read })
-      drawn.once (omega (arith, some, lates, past, are.all)) (omega (arith, few)) in
+      drawn.once (covers_all (length records) n blocks (late blocks own) (late blocks (flat draws)) (late blocks (own ++ flat draws)) some lates past are.all) (few_records (length records) few) in
       (both.0, subst (AreGroups plan (drop 1 records)) (sym l.map_is) both.1)
 
   -- ---- refused rows
@@ -242,12 +243,12 @@ module _ (uses : ℕ → Option Use) (plan : Plan) (records : Table) (blocks : �
       by (inl m) = m.first refl
       by (inr a) = absurd (any_none (λ (h : Heard). Any (ReadsRow row cause item) h.errors) a)
   leader_first own used [] groups failure Memory none led e = tt
-  leader_first own used (w ∷ ws) groups failure why none led e = let no : ⊥ = grind arith in absurd no
+  leader_first own used (w ∷ ws) groups failure why none led e = absurd (none_left (length ws) none)
 
   pub worker_first : (ws : List (Returned WorkerEnd)) (why : BlockAnswer) (answer : GatherAnswer) → length ws ≡ 0 → AreVerdict (ends_of ws) (Some why) → Answers why answer → IsFirstCause plan records answer
   worker_first [] (block.Row row cause item) answer none a is = absurd (any_none (λ (e : Option WorkerEnd). e ≡ Some (Refused row cause item)) a)
   worker_first [] block.Memory answer none a is = subst (IsFirstCause plan records) (sym is) tt
-  worker_first (w ∷ ws) why answer none a is = let no : ⊥ = grind arith in absurd no
+  worker_first (w ∷ ws) why answer none a is = absurd (none_left (length ws) none)
 
   -- ---- the blocks and the tuples
 
@@ -268,7 +269,7 @@ module _ (uses : ℕ → Option Use) (plan : Plan) (records : Table) (blocks : �
       by : (end : Option WorkerEnd) → MatchOption end (IsIdle (account_of uses draws r)) (λ e. DidPlain plan blocks (account_of uses draws r) e) → EndsWell end → CombineTo plan (rows_of_blocks records draws) (whole_of r.tuples.sender.put)
       by None d w =
           subst (λ ds. CombineTo plan (rows_of_blocks records ds) (whole_of r.tuples.sender.put)) (sym d.draws) (subst (CombineTo plan []) (sym d.tuples) nothing_sent)
-      by (Some Finished) d w = combines plan (header_width records) (rows_of_blocks records draws) (whole_of r.tuples.sender.put) d.ended.accepted (omega (arith, rows_few draws, few)) d.ended.sent
+      by (Some Finished) d w = combines plan (header_width records) (rows_of_blocks records draws) (whole_of r.tuples.sender.put) d.ended.accepted (few_of_rows (length (rows_of_blocks records draws)) (length draws) (rows_few draws) few) d.ended.sent
       by (Some Stopped) d w = absurd w
       by (Some (Refused row cause item)) d w = absurd w
       by (Some NoMemory) d w = absurd w
@@ -280,8 +281,8 @@ module _ (uses : ℕ → Option Use) (plan : Plan) (records : Table) (blocks : �
   all_sent_rows (ds ∷ draws) [] few f w o = absurd f
   all_sent_rows (ds ∷ draws) (v ∷ ws) few f w o =
       let long = length-append ds (flat draws) in (
-        sent_its_rows ds v (omega (arith, long, few)) f.0 (All-head (λ (w : Returned WorkerEnd). EndsWell w.end) v ws w) (All-head (λ (h : Heard). h.tuples_over ≡ true) (heard_of v) (map heard_of ws) o),
-        all_sent_rows draws ws (omega (arith, long, few)) f.1 (All-tail (λ (w : Returned WorkerEnd). EndsWell w.end) v ws w) (All-tail (λ (h : Heard). h.tuples_over ≡ true) (heard_of v) (map heard_of ws) o),
+        sent_its_rows ds v (few_in_front (length ds) (length (flat draws)) (length (ds ++ flat draws)) long few) f.0 (All-head (λ (w : Returned WorkerEnd). EndsWell w.end) v ws w) (All-head (λ (h : Heard). h.tuples_over ≡ true) (heard_of v) (map heard_of ws) o),
+        all_sent_rows draws ws (few_behind (length ds) (length (flat draws)) (length (ds ++ flat draws)) long few) f.1 (All-tail (λ (w : Returned WorkerEnd). EndsWell w.end) v ws w) (All-tail (λ (h : Heard). h.tuples_over ≡ true) (heard_of v) (map heard_of ws) o),
       )
 
   -- ---- the notices
@@ -309,7 +310,7 @@ module _ (uses : ℕ → Option Use) (plan : Plan) (records : Table) (blocks : �
       let lates = late-append blocks own (flat draws) in
       let drawn : IsDrawn blocks (own ∷ draws) n = subst (λ l. IsDrawn blocks l n) e d in
       let past : late blocks (own ++ flat draws) ≡ n - blocks = drawn.past in
-      d.once b ∙ once_is b n (omega (arith, some, lates, past, are.all, h))
+      d.once b ∙ once_is b n (block_drawn (length records) b n blocks (late blocks own) (late blocks (flat draws)) (late blocks (own ++ flat draws)) some lates past are.all h)
     where
       once_is : (b n : ℕ) → b < n → once_below b n ≡ 1
       once_is b n h = grind (arith, h)
@@ -320,7 +321,7 @@ module _ (uses : ℕ → Option Use) (plan : Plan) (records : Table) (blocks : �
       let most = few_blocks are few in
       let parts = length-append own (flat draws) in
       let count : length (own ++ flat draws) ≡ n = drawn.draws in
-      omega (arith, drawn.few, short, most, parts, count)
+      few_numbers (length own) (length (flat draws)) (length (own ++ flat draws)) n blocks (length draws) drawn.few short most parts count
 
 -- ---- at the start
 

@@ -14,8 +14,11 @@ use worker_run::{Gate, Job, WorkerEnd, work};
 
 /// The workers of a query: each takes its groups to memory of `alloc` and passes the gate.
 pub(crate) struct Team<'a, G: Gate + Sync> {
+    /// Where each worker takes the memory for its groups.
     pub(crate) alloc: Global,
+    /// The rows of the table, which all read and nobody changes.
     pub(crate) rows: &'a RowStore,
+    /// What each worker passes before each of its blocks.
     pub(crate) gate: &'a G,
 }
 
@@ -66,12 +69,18 @@ impl<'a, G: Gate + Sync> Worker for Team<'a, G> {
     }
 }
 
-/// The leader of a query, with its map of groups. `failure` says why it has no answer.
+/// The leader of a query.
 pub(crate) struct Leader<'a, G: Gate> {
+    /// Where it takes the memory for its groups.
     pub(crate) alloc: Global,
+    /// The rows of the table.
     pub(crate) rows: &'a RowStore,
+    /// What it passes before each of its blocks.
     pub(crate) gate: &'a G,
+    /// The groups of its own blocks and those that it took off the queues; without those that stand in the table of
+    /// groups, where there is one. Empty before it leads.
     pub(crate) groups: GroupMap,
+    /// Why it has no answer, once it has led, if it has none.
     pub(crate) failure: Option<GatherAnswer>,
 }
 

@@ -1,16 +1,19 @@
 -- What a try to receive leaves.
-use Rattle.std.proofs.Common.{◌≡◌, ℕ, zero, suc, ◌+◌, ◌-◌, ◌/◌, ◌<◌, ◌≤◌, ⊎_elim, inl, inr, List, [], ◌∷◌, ◌++◌, length, take, get_or, All, Some, refl, sym, ap, subst, ◌∙◌, arith, length-append}
-use Rattle.std.proofs.lemmas.List.{take_all}
+use Rattle.std.proofs.Common.{◌≡◌, ℕ, zero, suc, ◌+◌, ◌-◌, ◌/◌, ◌<◌, ◌≤◌, ⊎_elim, inl, inr, List, [], ◌∷◌, ◌++◌, length, take, drop, cond, Bool, true, false, append-nil, get_or, All, Option, Some, refl, sym, ap, subst, ◌∙◌, arith, length-append}
+use Rattle.std.proofs.lemmas.List.{drop_all, take_all}
+use denote.Enum.Bare.{sameb}
 use Rattle.rel_pointer.specs.Bytes.{word_count, packed_words}
 use Rattle.ring_rule.specs.Frames.{frame, frames, IsMessage}
-use Rattle.ring_rule.specs.Ring.{Ring, Receiving}
+use Rattle.atomic_table.specs.Seated.{TableId}
+use Rattle.ring_rule.specs.Ring.{Ring, Receiving, Sending}
 use Rattle.ring_rule.proofs.Messages.{frames-same}
 use Rattle.mq_handle.specs.Messages.{bytes_of, whole_of, left_of}
 use Rattle.mq_handle.specs.Held.{IsTorn}
-use Rattle.mq_handle.specs.Receives.{IsReceived, returned_of}
-use Rattle.mq_handle.specs.ReceiveAnswers.{Gives, message_of}
+use Rattle.mq_handle.specs.Receives.{IsReceived, incoming, returned_of}
+use Rattle.mq_handle.specs.ReceiveAnswers.{Gives, HasPlace, message_of}
 use Rattle.mq_handle.specs.Looking.{Finds}
-use Rattle.mq_handle.specs.Taking.{InHand, HasBytes, IsOpen, Takes, before_of}
+use Rattle.mq_handle.specs.Taking.{InHand, HasBytes, IsOpen, IsReceiver, Ready, Takes, before_of}
+use Rattle.mq_handle.specs.contracts.answers.ReceiveAnswer.{the_type}
 use Rattle.mq_handle.specs.declared.answers.ReceiveAnswer.{ReceiveAnswer}
 use Rattle.mq_handle.specs.declared.answers.ReceiveAnswer.TheVariants.{Message, WouldBlock, Detached}
 use Rattle.mq_handle.proofs.Decoding.{unpacked}
@@ -197,3 +200,35 @@ hand_same old new base buffer words len words' len' ring taken w l h =
     let third = subst (λ (r : Ring). InHand r.max (take (length new.taken - words) new.taken) new.taken buffer words len) (sym ring) second in
     let fourth = subst (λ (k : ℕ). InHand new.ring.max (take (length new.taken - k) new.taken) new.taken buffer k len) (sym w) third in
     subst (λ (k : ℕ). InHand new.ring.max (before_of new words') new.taken buffer words' k) (sym l) fourth
+
+-- ---- what a receiver has after a try
+
+-- a buffer that was lent has what was written into it
+written : (size : ℕ) (now was : List ℕ) → length now ≡ size → length was ≡ size → take size (now ++ drop (length now) was) ≡ now
+written size now was new old = ap (λ (rest : List ℕ). take size (now ++ rest)) (drop_all (length now) was (omega arith)) ∙ ap (take size) (append-nil now) ∙ take_all size now (omega arith)
+
+-- the message in hand is shown where the answer says that there is one
+shown : (answer : ReceiveAnswer) (whole : Bool) (buffer : List ℕ) (len : ℕ) → whole ≡ sameb the_type answer Message → cond whole (take len buffer) [] ≡ message_of answer buffer len
+shown Message whole buffer len e = rw e refl
+shown WouldBlock whole buffer len e = rw e refl
+shown Detached whole buffer len e = rw e refl
+
+pub shown_by : (answer : ReceiveAnswer) (whole : Bool) (size len : ℕ) (now was : List ℕ) → whole ≡ sameb the_type answer Message → length now ≡ size → length was ≡ size
+    → cond whole (take len (take size (now ++ drop (length now) was))) [] ≡ message_of answer now len
+shown_by answer whole size len now was e new old = ap (λ (bytes : List ℕ). cond whole (take len bytes) []) (written size now was new old) ∙ shown answer whole now len e
+
+held_by : (answer : ReceiveAnswer) (whole : Bool) (len size : ℕ) → whole ≡ sameb the_type answer Message → HasPlace answer len size → whole ≡ true → len ≤ size
+held_by Message whole len size e place is = place
+held_by WouldBlock whole len size e place is = let no : true ≡ false = sym is ∙ e in cc
+held_by Detached whole len size e place is = let no : true ≡ false = sym is ∙ e in cc
+
+-- a receiver whose try gave this answer
+pub received_by : (q : Receiving) (answer : ReceiveAnswer) (whole gone : Bool) (size words len ready unreturned : ℕ) (now was : List ℕ) → Ready q ready unreturned → InHand q.ring.max (before_of q words) q.taken now words len → IsOpen words len
+    → HasPlace answer len (length now) → whole ≡ sameb the_type answer Message → length now ≡ size → length was ≡ size → length now ≡ q.ring.max → gone ≡ q.gone
+    → IsReceiver q (take size (now ++ drop (length now) was)) words len ready unreturned whole gone
+received_by q answer whole gone size words len ready unreturned now was counts hand some place e new old room is =
+    subst (λ (bytes : List ℕ). IsReceiver q bytes words len ready unreturned whole gone) (sym (written size now was new old))
+    (record { counts = counts; hand = hand; unfinished = some; room = room; held = held_by answer whole len (length now) e place; gone_is = is })
+
+pub kept_by : (region region' : TableId) (q : Receiving) (told told' : Option Sending) (message : List ℕ) → region ≡ region' → told ≡ told' → incoming region q told message ≡ incoming region' q told' message
+kept_by region region' q told told' message e f = ap (λ (r : TableId). incoming r q told message) e ∙ ap (λ (s : Option Sending). incoming region' q s message) f

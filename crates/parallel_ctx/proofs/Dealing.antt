@@ -19,6 +19,7 @@ use Rattle.parallel_ctx.specs.declared.tokens.WorkerEnds.{WorkerEnds}
 use Rattle.parallel_ctx.specs.Making.{AreDealt, AreRings, AreUnheardIn, AreUnused, claim_in, ends_in, firsts, hash_in}
 use Rattle.agg_table.specs.declared.part.HashSeat.{HashSeat}
 use Rattle.parallel_ctx.proofs.Passes.{AreHashes, dealt_callers, dealt_hashes}
+use Rattle.parallel_ctx.proofs.Zips.{number_behind_first, number_from_none, number_next, number_of_place, place_next, place_of_first}
 use Rattle.parallel_ctx.specs.Tokens.{AreNumbered, AreOneRing, AreSeated, AreUnheard, IsFresh, HasCallers, IsPrepared, number_in}
 
 pub numbered-push : (n : ℕ) (hs : List Hand) (h : Hand) → AreNumbered n (map number_in hs) → h.seats.number ≡ n + length hs → AreNumbered n (map number_in (hs ++ h ∷ []))
@@ -67,13 +68,13 @@ module _ (w : Shared) (plan : Plan) (toc : Owned) (here : toc.region ≡ w.regio
   fresh_hands n (h ∷ hs) t num cl x u =
       let mine = cl 0 h.seats.claim refl in
       let un = All-head (AreUnused w.region) h.ends (map ends_in hs) u in
-      let same : number_of h.seats.claim ≡ h.seats.number = omega (arith, mine.1, num.0) in
-      let at : n + 0 ≡ h.seats.number = omega (arith, num.0) in
+      let same = number_of_place (number_of h.seats.claim) n h.seats.number mine.1 num.0 in
+      let at = place_of_first n h.seats.number num.0 in
       All-cons Fresh h hs
       (record { seats = seated h.seats (All-head HasToc h hs t) mine.0 same mine.2 (subst (λ (i : ℕ). IsHashSeat w.region i w.hash h.seats.hash) at (x 0 h.seats.hash refl)); errors = un.errors; tuples = un.tuples })
       (fresh_hands (suc n) hs (All-tail HasToc h hs t) num.1
-      (λ k s e. let m = cl (suc k) s e in let next : number_of s ≡ suc n + k = omega (arith, m.1) in (m.0, next, m.2))
-      (λ k o e. let next : n + suc k ≡ suc n + k = omega arith in subst (λ (i : ℕ). IsHashSeat w.region i w.hash o) next (x (suc k) o e))
+      (λ k s e. let m = cl (suc k) s e in (m.0, number_next (number_of s) n k m.1, m.2))
+      (λ k o e. subst (λ (i : ℕ). IsHashSeat w.region i w.hash o) (sym (place_next n k)) (x (suc k) o e))
       (All-tail (AreUnused w.region) h.ends (map ends_in hs) u))
 
   pub prepared : (leader : Seats) (hands : List Hand) (receivers : List LeaderEnds) (seats : List ClaimSeat) (hashes : List HashSeat) (ends : List WorkerEnds)
@@ -83,14 +84,14 @@ module _ (w : Shared) (plan : Plan) (toc : Owned) (here : toc.region ≡ w.regio
       → All (AreUnused w.region) ends → All (AreUnheardIn w.region) receivers → AllZip AreRings ends receivers
       → IsPrepared (record { plan = plan; shared = w; leader = leader; hands = hands; receivers = receivers })
   prepared leader hands receivers seats hashes ends are drawn few t z tocs numbers claims given same dealt unused unheard rings =
-      let whole : AreClaims 0 (leader.claim ∷ map claim_in hands) = subst (AreClaims 0) (sym claims) (λ k s e. let m = are.1 k s e in let at : number_of s ≡ 0 + k = omega (arith, m.1) in (m.0, at, drawn k s e)) in
+      let whole : AreClaims 0 (leader.claim ∷ map claim_in hands) = subst (AreClaims 0) (sym claims) (λ k s e. let m = are.1 k s e in (m.0, number_from_none (number_of s) k m.1, drawn k s e)) in
       let mine = whole 0 leader.claim refl in
       let all : AreHashes w.region w.hash 0 (leader.hash ∷ map hash_in hands) = subst (AreHashes w.region w.hash 0) (sym given) (dealt_hashes w.region w.hash (length ends + 1) hashes dealt) in
       let as_many : length ends + 1 ≡ suc (length hands) = (let n = count_hands hands in let m = ap (λ l. length l) same in omega (arith, n, m)) in
       record {
         few = let n = count_hands hands in let m = ap (λ l. length l) same in omega (arith, few, n, m);
         leader = seated leader t mine.0 (mine.1 ∙ sym z) mine.2 (subst (λ (i : ℕ). IsHashSeat w.region i w.hash leader.hash) (sym z) (all 0 leader.hash refl));
-        hands = fresh_hands 1 hands tocs numbers (λ k s e. let m = whole (suc k) s e in let next : number_of s ≡ 1 + k = omega (arith, m.1) in (m.0, next, m.2)) (λ k o e. subst (λ (i : ℕ). IsHashSeat w.region i w.hash o) (let n : 0 + suc k ≡ 1 + k = omega arith in n) (all (suc k) o e)) (subst (All (AreUnused w.region)) (sym same) unused);
+        hands = fresh_hands 1 hands tocs numbers (λ k s e. let m = whole (suc k) s e in (m.0, number_behind_first (number_of s) k m.1, m.2)) (λ k o e. subst (λ (i : ℕ). IsHashSeat w.region i w.hash o) (sym (place_next 0 k)) (all (suc k) o e)) (subst (All (AreUnused w.region)) (sym same) unused);
         numbers = numbers;
         receivers = All-weaker (AreUnheardIn w.region) (AreUnheard w) (λ q u. record { errors = u.errors; tuples = u.tuples }) receivers unheard;
         rings = one_rings hands receivers (subst (λ (es : List WorkerEnds). AllZip AreRings es receivers) (sym same) rings);

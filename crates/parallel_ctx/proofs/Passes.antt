@@ -20,6 +20,9 @@ use Rattle.parallel_ctx.specs.Making.{AreDealt, firsts}
 use Rattle.parallel_ctx.specs.Returns.{there}
 use Rattle.parallel_ctx.specs.Tokens.{HasCallers}
 
+not_none : {A : Type 0} (x : A) → Some x ≡ None → ⊥
+not_none x e = cc
+
 -- ---- dealing
 
 firsts_none : (n k : ℕ) (o : Option HashSeat) → get_elem? (firsts [] n) k ≡ some o → o ≡ None
@@ -228,7 +231,7 @@ module _ (region : TableId) where
 
   pub ran_none : (p : Option HashPart) (os : List (Option HashSeat)) → AreHome region p 0 os → (areas : List AreaPass) → areas ≡ map (λ (x : HashSeat). x.area) (there os) → p ≡ None → areas ≡ []
   ran_none None os h areas a e = a ∙ ap (map (λ (x : HashSeat). x.area)) (none_home region 0 os h)
-  ran_none (Some p) os h areas a e = absurd (cc)
+  ran_none (Some p) os h areas a e = absurd (not_none p e)
 
   module _ {T : Type 0} (whole : T → ℕ → List AggEntry) (left : T → ℕ) (Of : TableId → HashPart → T → Type 0) where
     -- what the end of the table tells
@@ -237,7 +240,7 @@ module _ (region : TableId) where
 
     pub has_closed : (p : Option HashPart) (table : Option T) (ss : List HashSeat) → (p ≡ None → table ≡ None) → IfSome p (λ q. IsSomeAnd table (Closes q ss)) → HasClosed region whole p table ss
     has_closed None None ss n h = tt
-    has_closed None (Some c) ss n h = let no : Some c ≡ None = n refl in absurd (cc)
+    has_closed None (Some c) ss n h = absurd (not_none c (n refl))
     has_closed (Some p) None ss n h = absurd h
     has_closed (Some p) (Some c) ss n h = h.0
 

@@ -1,6 +1,6 @@
 -- What the caller learns once all tokens are home.
 use Rattle.agg_table.specs.Shown.{use_in}
-use Rattle.std.proofs.Common.{◌+◌, ◌≡◌, ◌&&◌, ◌==◌, ℕ, zero, suc, Bool, List, [], ◌∷◌, Option, MatchOption, true, false, length, map, All, refl, subst, sym, ap, ◌∙◌, arith}
+use Rattle.std.proofs.Common.{◌+◌, ◌≡◌, ◌&&◌, ◌==◌, ℕ, zero, suc, Bool, List, [], ◌∷◌, Option, MatchOption, true, false, length, map, All, refl, subst, sym, ap, ◌∙◌}
 use Rattle.std.specs.List.{AllZip}
 use Rattle.std.proofs.lemmas.List.Elements.{All-head, All-tail}
 use mathlib.Core.Option.{some, none}
@@ -23,7 +23,7 @@ use Rattle.agg_table.specs.Calls.{Use}
 use Rattle.agg_table.specs.declared.part.HashSeat.{HashSeat}
 use Rattle.parallel_ctx.specs.Tokens.{AreLeftByLead, AreNumbered, AreOneRing, AreUnheard, IsFresh, SameQueues, number_in}
 use Rattle.parallel_ctx.proofs.Passes.{AreHome, IsHome, comes_home}
-use Rattle.parallel_ctx.proofs.Zips.{AllZip-flip, AllZip-length, AllZip-through}
+use Rattle.parallel_ctx.proofs.Zips.{AllZip-flip, AllZip-length, AllZip-through, place_first, place_next, same_number}
 
 -- ---- lists
 
@@ -53,8 +53,11 @@ record Paired {A B : Type 0} (R : A → B → Type 0) (xs : List A) (k : ℕ) (y
 some_inj : {A : Type 0} (a b : A) → some a ≡ some b → a ≡ b
 some_inj a b e = cc
 
+nothing_there : {A : Type 0} (y : A) → none ≡ some y → ⊥
+nothing_there y e = cc
+
 paired : {A B : Type 0} (R : A → B → Type 0) (xs : List A) (ys : List B) → AllZip R xs ys → (k : ℕ) (y : B) → get_elem? ys k ≡ some y → Paired R xs k y
-paired R [] [] z k y e = let no : none ≡ some y = e in cc
+paired R [] [] z k y e = absurd (nothing_there y e)
 paired R [] (b ∷ ys) z k y e = absurd z
 paired R (a ∷ xs) [] z k y e = absurd z
 paired R (a ∷ xs) (b ∷ ys) z zero y e = record { it = a; is = refl; holds = subst (R a) (some_inj b y e) z.0 }
@@ -171,8 +174,8 @@ with_uses uses n [] [] z m u = tt
 with_uses uses n [] (r ∷ rs) z m u = absurd z
 with_uses uses n (b ∷ bs) [] z m u = absurd z
 with_uses uses n (b ∷ bs) (r ∷ rs) z m u = (
-  (z.0, ap uses (let e : r.number ≡ n + 0 = omega (arith, m.0) in e) ∙ u 0 (hash_of b) refl),
-  with_uses uses (suc n) bs rs z.1 m.1 (λ k o e. ap uses (let s : suc n + k ≡ n + suc k = omega arith in s) ∙ u (suc k) o e),
+  (z.0, ap uses (place_first r.number n m.0) ∙ u 0 (hash_of b) refl),
+  with_uses uses (suc n) bs rs z.1 m.1 (λ k o e. ap uses (place_next n k) ∙ u (suc k) o e),
 )
 
 -- ---- a queue that came home
@@ -184,4 +187,4 @@ both_true false b e = cc
 pub over : (s : Sending) (q : Receiving) → (q.final ≡ true → length q.taken ≡ q.avail → q.taken ≡ s.put) → is_over q ≡ true → whole_of q.taken ≡ whole_of s.put
 over s q all o =
     let parts = both_true q.final (length q.taken == q.avail) o in
-    ap whole_of (all parts.0 (let e : length q.taken ≡ q.avail = grind (arith, parts.1) in e))
+    ap whole_of (all parts.0 (same_number (length q.taken) q.avail parts.1))

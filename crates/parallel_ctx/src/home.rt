@@ -27,7 +27,9 @@ pub struct Returned<E> {
     pub number: u32,
     /// What the worker answered, or `None` where its thread did not start.
     pub end: Option<E>,
+    /// Both ends of its error queue, home.
     pub errors: MqDone,
+    /// Both ends of its tuple queue, home.
     pub tuples: MqDone,
 }
 
@@ -40,6 +42,7 @@ pub struct Finished<E> {
     pub workers: Vec<Returned<E>>,
     /// The numbers that each participant drew, the lead's first.
     pub drawn: Drawn,
+    /// The region of the context; the queues' words are home.
     pub region: Region,
     /// The table of groups, closed, where there was one. It shows each participant's turns.
     pub table: Option<ClosedTable<AggObject>>,
@@ -64,8 +67,11 @@ fn bring_home(r: &Region, s: Sender, q: Receiver) -> MqDone
 /// What a worker brought home, its seat at the counter of blocks, and its passes of the table of groups.
 #[derive(Drop)]
 struct Settled<E> {
+    /// Its number, its end, and its queues, both ends together.
     worker: Returned<E>,
+    /// Its seat at the counter of blocks, with all that it drew.
     claim: ClaimSeat,
+    /// Its passes of the table of groups, where there is one.
     hash: Option<HashSeat>,
 }
 

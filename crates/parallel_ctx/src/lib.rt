@@ -28,7 +28,7 @@ pub use agg_table::{HashPart, HashSeat};
 use hashing::{hash_words, open_hash, wants_table};
 pub use home::{Finished, Returned};
 use home::{AllSettled, close_table, count_ends, keep_seat, settle_all};
-use lists::{HomeLists, ThreadLists, home_lists, thread_lists};
+use lists::{RunLists, run_lists};
 use making::{Dealt, Planned, Queues, deal, keep_plan, new_queues, new_toc, words_for};
 use par_model::BoundPlan;
 use region_words::Region;
@@ -148,6 +148,16 @@ impl Context {
         ensures ran { IfOk result (λ f. Ran (W.did worker.now) (L.led lead.old) self f lead.new) }
         ensures err { OnErr result (lead.new ≡ lead.old) }
     {
+        let RunLists {
+            placed,
+            backs,
+            flags,
+            workers,
+            mut claims,
+            mut hashes,
+            tables,
+            areas,
+        } = run_lists(alloc, self.hands.len())?;
         let Context {
             plan: _,
             shared,
@@ -155,19 +165,6 @@ impl Context {
             hands,
             receivers,
         } = self;
-        let asked = hands.len();
-        let ThreadLists {
-            placed,
-            backs,
-            flags,
-        } = thread_lists(alloc, asked)?;
-        let HomeLists {
-            workers,
-            mut claims,
-            mut hashes,
-            tables,
-            areas,
-        } = home_lists(alloc, asked)?;
         let Served {
             backs,
             leader,

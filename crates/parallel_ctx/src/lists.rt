@@ -17,17 +17,35 @@ use std::sync::atomic::AtomicBool;
 
 /// The lists of the threads: those that were started, what they bring back, and a flag for each.
 #[derive(Drop)]
-pub(crate) struct ThreadLists<P, B> {
-    pub(crate) placed: Vec<P>,
-    pub(crate) backs: Vec<B>,
-    pub(crate) flags: Vec<AtomicBool>,
+struct ThreadLists<P, B> {
+    placed: Vec<P>,
+    backs: Vec<B>,
+    flags: Vec<AtomicBool>,
 }
 
 /// The lists of what comes home: the workers', and the seats of all participants.
 #[derive(Drop)]
-pub(crate) struct HomeLists<E> {
+struct HomeLists<E> {
+    workers: Vec<Returned<E>>,
+    claims: Vec<ClaimSeat>,
+    hashes: Vec<HashSeat>,
+    tables: Vec<DsPass<AggObject>>,
+    areas: Vec<AreaPass>,
+}
+
+/// All lists of a run. The first three are the threads', the others are of what comes home.
+#[derive(Drop)]
+pub(crate) struct RunLists<P, B, E> {
+    /// The workers that were started.
+    pub(crate) placed: Vec<P>,
+    /// What they bring back.
+    pub(crate) backs: Vec<B>,
+    /// For each worker, whether its start was refused.
+    pub(crate) flags: Vec<AtomicBool>,
     pub(crate) workers: Vec<Returned<E>>,
+    /// The seats at the counter of blocks, the lead's first.
     pub(crate) claims: Vec<ClaimSeat>,
+    /// The passes of the table of groups and of its area, first together and then apart.
     pub(crate) hashes: Vec<HashSeat>,
     pub(crate) tables: Vec<DsPass<AggObject>>,
     pub(crate) areas: Vec<AreaPass>,
@@ -45,7 +63,7 @@ fn lowered(alloc: Global, count: usize) -> Result<Vec<AtomicBool>, AllocError>
 }
 
 /// The lists of this many threads.
-pub(crate) fn thread_lists<P: Drop, B: Drop>(
+fn thread_lists<P: Drop, B: Drop>(
     alloc: Global,
     asked: usize,
 ) -> Result<ThreadLists<P, B>, AllocError>
@@ -84,7 +102,7 @@ fn pass_lists(
 }
 
 /// The lists of this many workers and a lead.
-pub(crate) fn home_lists<E: Drop>(alloc: Global, asked: usize) -> Result<HomeLists<E>, AllocError>
+fn home_lists<E: Drop>(alloc: Global, asked: usize) -> Result<HomeLists<E>, AllocError>
     requires { asked ≤ 64 }
     ensures workers { IfOk result (λ l. HasRoom asked l.workers) }
     ensures claims { IfOk result (λ l. HasRoom (asked + 1) l.claims) }
@@ -96,6 +114,45 @@ pub(crate) fn home_lists<E: Drop>(alloc: Global, asked: usize) -> Result<HomeLis
     let (claims, hashes) = seat_lists(alloc, asked + 1)?;
     let (tables, areas) = pass_lists(alloc, asked + 1)?;
     Ok(HomeLists {
+        workers,
+        claims,
+        hashes,
+        tables,
+        areas,
+    })
+}
+
+/// The lists of a run of this many workers, in one step: whoever runs has one way out for want of memory.
+pub(crate) fn run_lists<P: Drop, B: Drop, E: Drop>(
+    alloc: Global,
+    asked: usize,
+) -> Result<RunLists<P, B, E>, AllocError>
+    requires { asked ≤ 64 }
+    ensures placed { IfOk result (λ l. HasRoom asked l.placed) }
+    ensures backs { IfOk result (λ l. HasRoom asked l.backs) }
+    ensures flags { IfOk result (λ l. vec_len l.flags ≡ asked) }
+    ensures workers { IfOk result (λ l. HasRoom asked l.workers) }
+    ensures claims { IfOk result (λ l. HasRoom (asked + 1) l.claims) }
+    ensures hashes { IfOk result (λ l. HasRoom (asked + 1) l.hashes) }
+    ensures tables { IfOk result (λ l. HasRoom (asked + 1) l.tables) }
+    ensures areas { IfOk result (λ l. HasRoom (asked + 1) l.areas) }
+{
+    let ThreadLists {
+        placed,
+        backs,
+        flags,
+    } = thread_lists(alloc, asked)?;
+    let HomeLists {
+        workers,
+        claims,
+        hashes,
+        tables,
+        areas,
+    } = home_lists(alloc, asked)?;
+    Ok(RunLists {
+        placed,
+        backs,
+        flags,
         workers,
         claims,
         hashes,

@@ -65,8 +65,11 @@ fn lead_and_leave<L: Lead, R: Wait + Sync>(
 /// What is left when all threads have ended.
 #[derive(Drop)]
 pub(crate) struct Served<E> {
+    /// What each worker brought back, in order of their numbers.
     pub(crate) backs: Vec<Back<E>>,
+    /// The lead's own tokens.
     pub(crate) leader: Seats,
+    /// The lead's ends of each worker's queues, detached.
     pub(crate) queues: Vec<LeaderEnds>,
 }
 

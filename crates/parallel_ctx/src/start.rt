@@ -17,17 +17,22 @@ use std::sync::Wait;
 use std::sync::atomic::{AtomicBool, Ordering};
 use std::thread::{Promise, PromisedHandle, Scope, Threads};
 
-/// What a thread gives back. `end` is `None` where the worker was not called.
+/// What a thread gives back.
 #[derive(Drop)]
 pub(crate) struct Back<E> {
+    /// What the worker answered, or `None` where it was not called.
     pub(crate) end: Option<E>,
+    /// The thread's tokens, with both ends of its queues detached.
     pub(crate) hand: Hand,
 }
 
 /// What a thread promises: to bring back the tokens that it was given.
 pub(crate) struct Brings<W: Worker> {
+    /// The worker that is called.
     worker: Snapshot<W>,
+    /// What all participants see.
     shared: Snapshot<Shared>,
+    /// The tokens as they were before the thread began.
     hand: Snapshot<Hand>,
 }
 

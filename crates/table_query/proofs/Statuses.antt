@@ -1,5 +1,7 @@
 -- The status and the line of a reason to have no table.
 use Rattle.std.proofs.Common.{◌≡◌, ◌≢◌, ◌⊎◌, Contains, arith, inl, inr, ℕ, List, refl, None, Some, Option, IfSome, ◌++◌, ◌∙◌, append_assoc, decimal, codes, ap, sym}
+use Rattle.std.proofs.lemmas.Bool.{eqb-false}
+use Rattle.std.specs.Prelude.{eqb, false}
 use Rattle.par_model.specs.declared.refusal.Refusal.{Refusal}
 use Rattle.par_model.specs.Named.{NamedPlan}
 use Rattle.par_model.specs.Outcome.{Outcome, Usage, TooManyBytes, NoHeader, TooManyRows, NoColumn, Refused, Table}
@@ -13,6 +15,10 @@ use Rattle.query_answer.specs.declared.status.TheConstants.{NO_MEMORY, READ_FAUL
 use Rattle.table_query.specs.declared.stop.Cause.{Cause}
 use Rattle.table_query.specs.declared.stop.Stop.{Stop}
 use Rattle.table_query.specs.declared.stop.Stop.TheVariants as stop
+
+-- two numbers that a test tells apart
+other : {m n : ℕ} → m ≡ n → eqb m n ≡ false → ⊥
+other {m} {n} e apart = eqb-false m n apart e
 
 -- the row's number before what is said of the row
 row-text : (row : ℕ) (text : List ℕ) → (codes "row " ++ (decimal row ++ codes ": ")) ++ text ≡ codes "row " ++ (decimal row ++ (codes ": " ++ text))
@@ -31,27 +37,27 @@ NamesFirst-refused wanted None row cause o first = first
 NamesFirst-refused wanted (Some plan) row cause o first = ((row, first.refusal), first.first, says-row wanted plan row cause first.refusal first.says)
 
 NamesFirst-stop : (wanted : Wanted) (plan : Option NamedPlan) (why : Stop) (o : Outcome) → IsFirstStop plan why o → stop_status why ≡ REFUSED → NamesFirst plan o (line (stop_text wanted why))
-NamesFirst-stop wanted plan stop.Usage o explains is = cc is
-NamesFirst-stop wanted plan stop.ReadFault o explains is = cc is
-NamesFirst-stop wanted plan stop.TooManyBytes o explains is = cc is
-NamesFirst-stop wanted plan stop.NoHeader o explains is = cc is
-NamesFirst-stop wanted plan stop.TooManyRows o explains is = cc is
-NamesFirst-stop wanted plan (stop.NoColumn name) o explains is = cc is
+NamesFirst-stop wanted plan stop.Usage o explains is = absurd (other is refl)
+NamesFirst-stop wanted plan stop.ReadFault o explains is = absurd (other is refl)
+NamesFirst-stop wanted plan stop.TooManyBytes o explains is = absurd (other is refl)
+NamesFirst-stop wanted plan stop.NoHeader o explains is = absurd (other is refl)
+NamesFirst-stop wanted plan stop.TooManyRows o explains is = absurd (other is refl)
+NamesFirst-stop wanted plan (stop.NoColumn name) o explains is = absurd (other is refl)
 NamesFirst-stop wanted plan (stop.Refused row cause) o explains is = NamesFirst-refused wanted plan row cause o explains
-NamesFirst-stop wanted plan stop.WriteFault o explains is = cc is
-NamesFirst-stop wanted plan stop.Memory o explains is = cc is
+NamesFirst-stop wanted plan stop.WriteFault o explains is = absurd (other is refl)
+NamesFirst-stop wanted plan stop.Memory o explains is = absurd (other is refl)
 
 -- its line is that of its status and of an outcome that it explains
 IsLine-stop : (wanted : Wanted) (plan : Option NamedPlan) (why : Stop) (o : Outcome) → Explains plan why o → IsLine (usage_in wanted) plan (stop_status why) o (line (stop_text wanted why))
-IsLine-stop wanted plan stop.Usage o explains = record { refused = λ e. cc e; misused = λ _. (ap status_of explains, ap (λ p. line (outcome_text (usage_in wanted) p)) (sym explains)); read_fault = λ e. cc e; write_fault = λ e. cc e; no_memory = λ e. cc e; too_much = λ e. cc e }
-IsLine-stop wanted plan stop.ReadFault o explains = record { refused = λ e. cc e; misused = λ e. cc e; read_fault = λ _. refl; write_fault = λ e. cc e; no_memory = λ e. cc e; too_much = λ e. cc e }
-IsLine-stop wanted plan stop.TooManyBytes o explains = record { refused = λ e. cc e; misused = λ e. cc e; read_fault = λ e. cc e; write_fault = λ e. cc e; no_memory = λ e. cc e; too_much = λ _. (ap status_of explains, ap (λ p. line (outcome_text (usage_in wanted) p)) (sym explains)) }
-IsLine-stop wanted plan stop.NoHeader o explains = record { refused = λ e. cc e; misused = λ _. (ap status_of explains, ap (λ p. line (outcome_text (usage_in wanted) p)) (sym explains)); read_fault = λ e. cc e; write_fault = λ e. cc e; no_memory = λ e. cc e; too_much = λ e. cc e }
-IsLine-stop wanted plan stop.TooManyRows o explains = record { refused = λ e. cc e; misused = λ e. cc e; read_fault = λ e. cc e; write_fault = λ e. cc e; no_memory = λ e. cc e; too_much = λ _. (ap status_of explains, ap (λ p. line (outcome_text (usage_in wanted) p)) (sym explains)) }
-IsLine-stop wanted plan (stop.NoColumn name) o explains = record { refused = λ e. cc e; misused = λ _. (ap status_of explains, ap (λ p. line (outcome_text (usage_in wanted) p)) (sym explains)); read_fault = λ e. cc e; write_fault = λ e. cc e; no_memory = λ e. cc e; too_much = λ e. cc e }
-IsLine-stop wanted plan (stop.Refused row cause) o explains = record { refused = λ _. NamesRow-refused wanted plan row cause o explains; misused = λ e. cc e; read_fault = λ e. cc e; write_fault = λ e. cc e; no_memory = λ e. cc e; too_much = λ e. cc e }
-IsLine-stop wanted plan stop.WriteFault o explains = record { refused = λ e. cc e; misused = λ e. cc e; read_fault = λ e. cc e; write_fault = λ _. refl; no_memory = λ e. cc e; too_much = λ e. cc e }
-IsLine-stop wanted plan stop.Memory o explains = record { refused = λ e. cc e; misused = λ e. cc e; read_fault = λ e. cc e; write_fault = λ e. cc e; no_memory = λ _. refl; too_much = λ e. cc e }
+IsLine-stop wanted plan stop.Usage o explains = record { refused = λ e. absurd (other e refl); misused = λ _. (ap status_of explains, ap (λ p. line (outcome_text (usage_in wanted) p)) (sym explains)); read_fault = λ e. absurd (other e refl); write_fault = λ e. absurd (other e refl); no_memory = λ e. absurd (other e refl); too_much = λ e. absurd (other e refl) }
+IsLine-stop wanted plan stop.ReadFault o explains = record { refused = λ e. absurd (other e refl); misused = λ e. absurd (other e refl); read_fault = λ _. refl; write_fault = λ e. absurd (other e refl); no_memory = λ e. absurd (other e refl); too_much = λ e. absurd (other e refl) }
+IsLine-stop wanted plan stop.TooManyBytes o explains = record { refused = λ e. absurd (other e refl); misused = λ e. absurd (other e refl); read_fault = λ e. absurd (other e refl); write_fault = λ e. absurd (other e refl); no_memory = λ e. absurd (other e refl); too_much = λ _. (ap status_of explains, ap (λ p. line (outcome_text (usage_in wanted) p)) (sym explains)) }
+IsLine-stop wanted plan stop.NoHeader o explains = record { refused = λ e. absurd (other e refl); misused = λ _. (ap status_of explains, ap (λ p. line (outcome_text (usage_in wanted) p)) (sym explains)); read_fault = λ e. absurd (other e refl); write_fault = λ e. absurd (other e refl); no_memory = λ e. absurd (other e refl); too_much = λ e. absurd (other e refl) }
+IsLine-stop wanted plan stop.TooManyRows o explains = record { refused = λ e. absurd (other e refl); misused = λ e. absurd (other e refl); read_fault = λ e. absurd (other e refl); write_fault = λ e. absurd (other e refl); no_memory = λ e. absurd (other e refl); too_much = λ _. (ap status_of explains, ap (λ p. line (outcome_text (usage_in wanted) p)) (sym explains)) }
+IsLine-stop wanted plan (stop.NoColumn name) o explains = record { refused = λ e. absurd (other e refl); misused = λ _. (ap status_of explains, ap (λ p. line (outcome_text (usage_in wanted) p)) (sym explains)); read_fault = λ e. absurd (other e refl); write_fault = λ e. absurd (other e refl); no_memory = λ e. absurd (other e refl); too_much = λ e. absurd (other e refl) }
+IsLine-stop wanted plan (stop.Refused row cause) o explains = record { refused = λ _. NamesRow-refused wanted plan row cause o explains; misused = λ e. absurd (other e refl); read_fault = λ e. absurd (other e refl); write_fault = λ e. absurd (other e refl); no_memory = λ e. absurd (other e refl); too_much = λ e. absurd (other e refl) }
+IsLine-stop wanted plan stop.WriteFault o explains = record { refused = λ e. absurd (other e refl); misused = λ e. absurd (other e refl); read_fault = λ e. absurd (other e refl); write_fault = λ _. refl; no_memory = λ e. absurd (other e refl); too_much = λ e. absurd (other e refl) }
+IsLine-stop wanted plan stop.Memory o explains = record { refused = λ e. absurd (other e refl); misused = λ e. absurd (other e refl); read_fault = λ e. absurd (other e refl); write_fault = λ e. absurd (other e refl); no_memory = λ _. refl; too_much = λ e. absurd (other e refl) }
 
 -- the outcome that its line is of, which is the outcome where the source tells
 pub line_outcome : (wanted : Wanted) (plan : Option NamedPlan) (left : Option (List ℕ)) (why : Stop) → IsExplained plan left why → (o : Outcome) × IsOutcome plan left o × IsLine (usage_in wanted) plan (stop_status why) o (line (stop_text wanted why))
@@ -121,34 +127,34 @@ outcome_told plan (Some bytes) why n explained is = λ read write memory.
 -- which reason has which status
 
 pub is_read_fault : (why : Stop) → stop_status why ≡ READ_FAULT → why ≡ stop.ReadFault
-is_read_fault stop.Usage is = cc is
+is_read_fault stop.Usage is = absurd (other is refl)
 is_read_fault stop.ReadFault is = refl
-is_read_fault stop.TooManyBytes is = cc is
-is_read_fault stop.NoHeader is = cc is
-is_read_fault stop.TooManyRows is = cc is
-is_read_fault (stop.NoColumn name) is = cc is
-is_read_fault (stop.Refused row cause) is = cc is
-is_read_fault stop.WriteFault is = cc is
-is_read_fault stop.Memory is = cc is
+is_read_fault stop.TooManyBytes is = absurd (other is refl)
+is_read_fault stop.NoHeader is = absurd (other is refl)
+is_read_fault stop.TooManyRows is = absurd (other is refl)
+is_read_fault (stop.NoColumn name) is = absurd (other is refl)
+is_read_fault (stop.Refused row cause) is = absurd (other is refl)
+is_read_fault stop.WriteFault is = absurd (other is refl)
+is_read_fault stop.Memory is = absurd (other is refl)
 
 pub is_write_fault : (why : Stop) → stop_status why ≡ WRITE_FAULT → why ≡ stop.WriteFault
-is_write_fault stop.Usage is = cc is
-is_write_fault stop.ReadFault is = cc is
-is_write_fault stop.TooManyBytes is = cc is
-is_write_fault stop.NoHeader is = cc is
-is_write_fault stop.TooManyRows is = cc is
-is_write_fault (stop.NoColumn name) is = cc is
-is_write_fault (stop.Refused row cause) is = cc is
+is_write_fault stop.Usage is = absurd (other is refl)
+is_write_fault stop.ReadFault is = absurd (other is refl)
+is_write_fault stop.TooManyBytes is = absurd (other is refl)
+is_write_fault stop.NoHeader is = absurd (other is refl)
+is_write_fault stop.TooManyRows is = absurd (other is refl)
+is_write_fault (stop.NoColumn name) is = absurd (other is refl)
+is_write_fault (stop.Refused row cause) is = absurd (other is refl)
 is_write_fault stop.WriteFault is = refl
-is_write_fault stop.Memory is = cc is
+is_write_fault stop.Memory is = absurd (other is refl)
 
 pub never_table : (why : Stop) → stop_status why ≢ TABLE
-never_table stop.Usage is = cc is
-never_table stop.ReadFault is = cc is
-never_table stop.TooManyBytes is = cc is
-never_table stop.NoHeader is = cc is
-never_table stop.TooManyRows is = cc is
-never_table (stop.NoColumn name) is = cc is
-never_table (stop.Refused row cause) is = cc is
-never_table stop.WriteFault is = cc is
-never_table stop.Memory is = cc is
+never_table stop.Usage is = absurd (other is refl)
+never_table stop.ReadFault is = absurd (other is refl)
+never_table stop.TooManyBytes is = absurd (other is refl)
+never_table stop.NoHeader is = absurd (other is refl)
+never_table stop.TooManyRows is = absurd (other is refl)
+never_table (stop.NoColumn name) is = absurd (other is refl)
+never_table (stop.Refused row cause) is = absurd (other is refl)
+never_table stop.WriteFault is = absurd (other is refl)
+never_table stop.Memory is = absurd (other is refl)

@@ -1,4 +1,4 @@
-use Rattle.std.proofs.Common.{◌≡◌, ◌≤◌, ◌∙◌, ℕ, suc, List, IfSome, length, option_map, None, Some, map, arith, subst, sym}
+use Rattle.std.proofs.Common.{◌≡◌, ◌≤◌, ◌∙◌, ℕ, suc, List, IfSome, length, option_map, None, Some, map, subst, sym}
 use Rattle.dsa_area.specs.Shown.{AreAll}
 use Rattle.dshash_parts.specs.Ending.{whole_of}
 use Rattle.scan_claim.specs.Shown.{blocks_of, lists_of}
@@ -16,6 +16,7 @@ use Rattle.worker_run.specs.Verdicts.{AreVerdict}
 use Rattle.gather_run.specs.Drained.{AddsAll}
 use Rattle.gather_run.specs.Leading.{HasLed, Led}
 use Rattle.gather_run.specs.Used.{IsUsed}
+use Rattle.gather_run.proofs.Counting.{few_workers}
 use Rattle.gather_run.proofs.Home.{gathered, held, made_where, passes_home, ran_home, ran_well, same_there, tells, whole_after}
 use Rattle.gather_run.proofs.Looking.{on_ok}
 use Rattle.gather_run.proofs.Together.{all_read, all_well, ends_of, leader_first, leader_row, worker_first, worker_row}
@@ -80,7 +81,7 @@ add_table-requires-clause-held g c =
     let well = all_well ws (subst (AreVerdict (ends_of ws)) c.in_default-verdict.is verdict) in
     let asked : length ws ≡ c.args.workers = r.asked ∙ c.in-Ok.ensures.asked in
     let items : length p.plan.items ≤ 8 = subst (λ (q : Plan). length q.items ≤ 8) (sym c.in-Ok.ensures.plan) c.has_few_items.ensures in
-    let went = ran_well _ p f leader records leader.groups r led are c.count_blocks.ensures.short (omega (arith, asked, c.requires.workers)) items well in
+    let went = ran_well _ p f leader records leader.groups r led are c.count_blocks.ensures.short (few_workers c.args.workers (length ws) (sym asked) c.requires.workers) items well in
     held (λ t. whole_of t) f.areas.items p.plan records blocks r.drawn.0 (lists_of f.drawn) r.own r.draws ws leader.groups f.table went
 
 pub returns-clause-groups : goal.returns-clause-groups
@@ -99,7 +100,7 @@ returns-clause-groups g c =
     let well = all_well ws (subst (AreVerdict (ends_of ws)) c.in_default-verdict.is verdict) in
     let asked : length ws ≡ c.args.workers = r.asked ∙ c.in-Ok.ensures.asked in
     let items : length p.plan.items ≤ 8 = subst (λ (q : Plan). length q.items ≤ 8) (sym c.in-Ok.ensures.plan) c.has_few_items.ensures in
-    let went = ran_well _ p f leader records leader.groups r led are c.count_blocks.ensures.short (omega (arith, asked, c.requires.workers)) items well in
+    let went = ran_well _ p f leader records leader.groups r led are c.count_blocks.ensures.short (few_workers c.args.workers (length ws) (sym asked) c.requires.workers) items well in
     let here = on_ok c.add_table.result (AddsAll (option_map (λ t. whole_of t) f.table) c.into_groups-groups.result.0 c.add_table.new.groups) (sym c.if-is_err.ensures.value) c.add_table.ensures.added in
     let added = subst (λ (m : GroupsByKey). AddsAll (option_map (λ t. whole_of t) f.table) m c.add_table.new.groups) c.into_groups-groups.ensures.0 here in
     let all = gathered (λ t. whole_of t) f.areas.items p.plan records blocks r.drawn.0 (lists_of f.drawn) r.own r.draws ws leader.groups gathers f.table went c.add_table.new.groups added in
@@ -127,7 +128,7 @@ returns-clause-used g c =
     let well = all_well ws (subst (AreVerdict (ends_of ws)) c.in_default-verdict.is verdict) in
     let asked : length ws ≡ c.args.workers = r.asked ∙ c.in-Ok.ensures.asked in
     let items : length p.plan.items ≤ 8 = subst (λ (q : Plan). length q.items ≤ 8) (sym c.in-Ok.ensures.plan) c.has_few_items.ensures in
-    let went = ran_well _ p f leader records leader.groups r led are c.count_blocks.ensures.short (omega (arith, asked, c.requires.workers)) items well in
+    let went = ran_well _ p f leader records leader.groups r led are c.count_blocks.ensures.short (few_workers c.args.workers (length ws) (sym asked) c.requires.workers) items well in
     let same = c.add_table.ensures.history in
     let t = tells (λ t. whole_of t) f.areas.items p.plan records blocks r.drawn.0 (lists_of f.drawn) r.own r.draws ws leader.groups f.table c.add_table.new.table went same in
     let home = ran_home _ _ p f leader r in

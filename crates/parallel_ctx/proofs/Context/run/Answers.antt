@@ -34,8 +34,8 @@ serve-backs-requires-clause-ready g c κs within =
     record {
       fresh = All-weaker (λ (h : Hand). IsFresh plan w h.seats h.ends) (CanWork asks w) (λ h f. (plan, f, can)) c.self.inside.hands.items c.self.invariant.hands;
       flags_each = search rules;
-      placed_room = subst (λ (n : ℕ). HasRoom n c.in_ok-placed.field-0.placed) c.len-asked.ensures c.in_ok-placed.ensures.placed;
-      backs_room = subst (λ (n : ℕ). HasRoom n c.in_ok-placed.field-0.backs) c.len-asked.ensures c.in_ok-placed.ensures.backs;
+      placed_room = subst (λ (n : ℕ). HasRoom n c.in_ok-placed.field-0.placed) c.len.ensures c.in_ok-placed.ensures.placed;
+      backs_room = subst (λ (n : ℕ). HasRoom n c.in_ok-placed.field-0.backs) c.len.ensures c.in_ok-placed.ensures.backs;
       lead = (plan, record { seats = c.self.invariant.leader; unheard = c.self.invariant.receivers; count = count }, leads);
     }
 
@@ -49,19 +49,19 @@ pub settle_all-workers-requires-clause-room : goal.settle_all-workers-requires-c
 settle_all-workers-requires-clause-room g c =
     let h = c.self.inside.hands in let b = c.serve-backs.result.backs in
     let e : length h.items ≡ length b.items = AllZip-length (Returns (g.W.Worker.did c.args.worker.now) c.self.inside.shared) h.items b.items c.serve-backs.ensures.workers in
-    omega (arith, e, h.ok.0, b.ok.0, c.len-asked.ensures, c.in_ok-workers.ensures.workers.1)
+    omega (arith, e, h.ok.0, b.ok.0, c.len.ensures, c.in_ok-placed.ensures.workers.1)
 
 pub settle_all-workers-requires-clause-claims_room : goal.settle_all-workers-requires-clause-claims_room
 settle_all-workers-requires-clause-claims_room g c =
     let h = c.self.inside.hands in let b = c.serve-backs.result.backs in
     let e : length h.items ≡ length b.items = AllZip-length (Returns (g.W.Worker.did c.args.worker.now) c.self.inside.shared) h.items b.items c.serve-backs.ensures.workers in
-    omega (arith, e, h.ok.0, b.ok.0, c.len-asked.ensures, c.in_ok-workers.ensures.claims.1, c.in_ok-workers.field-0.claims.ok.0, ap (λ (l : List ClaimSeat). length l) c.in_ok-workers.ensures.claims.0, c.push_reserved.ensures.len, c.push_reserved.ensures.capacity)
+    omega (arith, e, h.ok.0, b.ok.0, c.len.ensures, c.in_ok-placed.ensures.claims.1, c.in_ok-placed.field-0.claims.ok.0, ap (λ (l : List ClaimSeat). length l) c.in_ok-placed.ensures.claims.0, c.push_reserved.ensures.len, c.push_reserved.ensures.capacity)
 
 pub settle_all-workers-requires-clause-hashes_room : goal.settle_all-workers-requires-clause-hashes_room
 settle_all-workers-requires-clause-hashes_room g c =
     let h = c.self.inside.hands in let b = c.serve-backs.result.backs in
     let e : length h.items ≡ length b.items = AllZip-length (Returns (g.W.Worker.did c.args.worker.now) c.self.inside.shared) h.items b.items c.serve-backs.ensures.workers in
-    omega (arith, e, h.ok.0, b.ok.0, c.len-asked.ensures, c.in_ok-workers.ensures.hashes.1, c.in_ok-workers.field-0.hashes.ok.0, ap (λ (l : List HashSeat). length l) c.in_ok-workers.ensures.hashes.0, c.keep_seat.ensures.few, c.keep_seat.ensures.capacity)
+    omega (arith, e, h.ok.0, b.ok.0, c.len.ensures, c.in_ok-placed.ensures.hashes.1, c.in_ok-placed.field-0.hashes.ok.0, ap (λ (l : List HashSeat). length l) c.in_ok-placed.ensures.hashes.0, c.keep_seat.ensures.few, c.keep_seat.ensures.capacity)
 
 pub close_table-table-requires-clause-seats : goal.close_table-table-requires-clause-seats
 close_table-table-requires-clause-seats g c =
@@ -78,7 +78,7 @@ close_table-table-requires-clause-seats g c =
     let callers : HasCallers (length (own ∷ map hash_of bs)) w.hash = subst (λ (n : ℕ). HasCallers n w.hash) (let z : suc (length hs) ≡ suc (length (map hash_of bs)) = omega (arith, e, m) in z) c.self.invariant.hash in
     let are : c.settle_all-workers.result.hashes.items ≡ there (own ∷ map hash_of bs) =
     c.settle_all-workers.ensures.hashes
-    ∙ ap (λ (l : List HashSeat). l ++ there (map hash_of bs)) (c.keep_seat.ensures.kept ∙ ap (λ (l : List HashSeat). l ++ there (own ∷ [])) c.in_ok-workers.ensures.hashes.0)
+    ∙ ap (λ (l : List HashSeat). l ++ there (map hash_of bs)) (c.keep_seat.ensures.kept ∙ ap (λ (l : List HashSeat). l ++ there (own ∷ [])) c.in_ok-placed.ensures.hashes.0)
     ∙ sym (there_more (own ∷ []) (map hash_of bs)) in
     settled_seats w.region w.hash c.self.inside.leader.number c.self.inside.leader.hash c.self.invariant.leader.hash (own ∷ map hash_of bs) home callers c.settle_all-workers.result.hashes.items are
 
@@ -92,10 +92,10 @@ close_table-table-requires-clause-tables g c =
     let few = there_few os in
     let are : r.items ≡ there os =
     c.settle_all-workers.ensures.hashes
-    ∙ ap (λ (l : List HashSeat). l ++ there (map hash_of b.items)) (c.keep_seat.ensures.kept ∙ ap (λ (l : List HashSeat). l ++ there (own ∷ [])) c.in_ok-workers.ensures.hashes.0)
+    ∙ ap (λ (l : List HashSeat). l ++ there (map hash_of b.items)) (c.keep_seat.ensures.kept ∙ ap (λ (l : List HashSeat). l ++ there (own ∷ [])) c.in_ok-placed.ensures.hashes.0)
     ∙ sym (there_more (own ∷ []) (map hash_of b.items)) in
     let long = ap (λ (l : List HashSeat). length l) are in
-    (c.in_ok-workers.ensures.tables.0, omega (arith, e, m, few, long, h.ok.0, b.ok.0, r.ok.0, c.len-asked.ensures, c.in_ok-workers.ensures.tables.1))
+    (c.in_ok-placed.ensures.tables.0, omega (arith, e, m, few, long, h.ok.0, b.ok.0, r.ok.0, c.len.ensures, c.in_ok-placed.ensures.tables.1))
 
 pub close_table-table-requires-clause-areas : goal.close_table-table-requires-clause-areas
 close_table-table-requires-clause-areas g c =
@@ -107,10 +107,10 @@ close_table-table-requires-clause-areas g c =
     let few = there_few os in
     let are : r.items ≡ there os =
     c.settle_all-workers.ensures.hashes
-    ∙ ap (λ (l : List HashSeat). l ++ there (map hash_of b.items)) (c.keep_seat.ensures.kept ∙ ap (λ (l : List HashSeat). l ++ there (own ∷ [])) c.in_ok-workers.ensures.hashes.0)
+    ∙ ap (λ (l : List HashSeat). l ++ there (map hash_of b.items)) (c.keep_seat.ensures.kept ∙ ap (λ (l : List HashSeat). l ++ there (own ∷ [])) c.in_ok-placed.ensures.hashes.0)
     ∙ sym (there_more (own ∷ []) (map hash_of b.items)) in
     let long = ap (λ (l : List HashSeat). length l) are in
-    (c.in_ok-workers.ensures.areas.0, omega (arith, e, m, few, long, h.ok.0, b.ok.0, r.ok.0, c.len-asked.ensures, c.in_ok-workers.ensures.areas.1))
+    (c.in_ok-placed.ensures.areas.0, omega (arith, e, m, few, long, h.ok.0, b.ok.0, r.ok.0, c.len.ensures, c.in_ok-placed.ensures.areas.1))
 
 pub overflow_cast-launched : goal.overflow_cast-launched
 overflow_cast-launched g c =
@@ -132,7 +132,7 @@ close-drawn-requires g c =
     let one = c.serve-backs.result.leader.claim in
     let s = c.serve-backs.ensures.seats in
     let all : c.settle_all-workers.result.claims.items ≡ one ∷ map claim_of bs =
-    c.settle_all-workers.ensures.claims ∙ ap (λ (l : List ClaimSeat). l ++ map claim_of bs) (c.push_reserved.ensures.items ∙ ap (λ (l : List ClaimSeat). l ++ one ∷ []) c.in_ok-workers.ensures.claims.0) in
+    c.settle_all-workers.ensures.claims ∙ ap (λ (l : List ClaimSeat). l ++ map claim_of bs) (c.push_reserved.ensures.items ∙ ap (λ (l : List ClaimSeat). l ++ one ∷ []) c.in_ok-placed.ensures.claims.0) in
     subst (AreSeats w.claims) (sym all)
     (seats_after w.claims (c.self.inside.leader.claim ∷ map (λ (h : Hand). h.seats.claim) hs) (one ∷ map claim_of bs) c.self.invariant.seats
     ((s.claim, s.same), all_claims (g.W.Worker.did c.args.worker.now) (λ _. None) w c.self.inside.plan.value hs bs c.serve-backs.ensures.workers))
@@ -148,7 +148,7 @@ returns-clause-ran g c =
     let ws = c.settle_all-workers.result.workers.items in
     let one = c.serve-backs.result.leader.claim in
     let all : c.settle_all-workers.result.claims.items ≡ one ∷ map claim_of bs =
-    c.settle_all-workers.ensures.claims ∙ ap (λ (l : List ClaimSeat). l ++ map claim_of bs) (c.push_reserved.ensures.items ∙ ap (λ (l : List ClaimSeat). l ++ one ∷ []) c.in_ok-workers.ensures.claims.0) in
+    c.settle_all-workers.ensures.claims ∙ ap (λ (l : List ClaimSeat). l ++ map claim_of bs) (c.push_reserved.ensures.items ∙ ap (λ (l : List ClaimSeat). l ++ one ∷ []) c.in_ok-placed.ensures.claims.0) in
     let own = c.serve-backs.result.leader.hash in
     let os = own ∷ map hash_of bs in
     let first = c.self.invariant.seats.1 0 c.self.inside.leader.claim refl in
@@ -160,7 +160,7 @@ returns-clause-ran g c =
     let as_many : length os ≡ suc (length hs) = omega (arith, e, m) in
     let are : c.settle_all-workers.result.hashes.items ≡ there os =
     c.settle_all-workers.ensures.hashes
-    ∙ ap (λ (l : List HashSeat). l ++ there (map hash_of bs)) (c.keep_seat.ensures.kept ∙ ap (λ (l : List HashSeat). l ++ there (own ∷ [])) c.in_ok-workers.ensures.hashes.0)
+    ∙ ap (λ (l : List HashSeat). l ++ there (map hash_of bs)) (c.keep_seat.ensures.kept ∙ ap (λ (l : List HashSeat). l ++ there (own ∷ [])) c.in_ok-placed.ensures.hashes.0)
     ∙ sym (there_more (own ∷ []) (map hash_of bs)) in
     let t = c.close_table-table.ensures in
     let table = c.close_table-table.result.0 in
