@@ -52,7 +52,7 @@ fn chains_alone(alloc: Global, rows: &RowStore, column: u32) -> Result<Chains, A
 }
 
 /// The pairs of two tables, without a shared one.
-fn pairs_alone<R: Threads + Wait + Sync>(
+pub(crate) fn pairs_alone<R: Threads + Wait + Sync>(
     rt: &R,
     alloc: Global,
     left: &RowStore,
