@@ -5,7 +5,6 @@ use super::{
     Answered, Failing, LETTERS, NO_FAULTS, Pieces, USAGE, Wanted, ask, ask_alone, bytes_of, check,
 };
 use par_gather::{OpenGate, Ran};
-use std::alloc::{AllocError, Global};
 use std::test::Fail;
 
 /// Words, the input, the calls that fail, and what is answered: the status, and what the two sinks were given.
@@ -193,48 +192,6 @@ fn no_plan_alone(rt: HostRuntime) -> Result<(), Fail> {
         let input = bytes_of(rt.alloc(), TWO)?;
         let answer = ask_alone(rt.alloc(), words, input, NO_FAULTS)?;
         check(&rt, words, &answer, Wanted::of(2, b"", USAGE.as_bytes()));
-    }
-    Ok(())
-}
-
-/// 2,000 rows, of which row i has i modulo 7.
-fn sevens(alloc: Global) -> Result<Vec<u8>, AllocError> {
-    let mut text = Vec::from_slice(alloc, b"n\n")?;
-    for row in 1..=2_000u64 {
-        text.extend_from_slice(&[b'0' + (row % 7) as u8, b'\n'])?;
-    }
-    Ok(text)
-}
-
-/// The same in order.
-fn sorted_sevens(alloc: Global) -> Result<Vec<u8>, AllocError> {
-    let mut text = Vec::from_slice(alloc, b"n\n")?;
-    for digit in 0..7u8 {
-        for row in 1..=2_000u64 {
-            if row % 7 == u64::from(digit) {
-                text.extend_from_slice(&[b'0' + digit, b'\n'])?;
-            }
-        }
-    }
-    Ok(text)
-}
-
-/// How many rows `ran` has in order.
-fn merged_rows(answer: &Answered) -> Option<usize> {
-    match &answer.ran {
-        Some(Ran::Merge(merged)) => Some(merged.order.len()),
-        _ => None,
-    }
-}
-
-#[test]
-fn two_thousand_rows(rt: HostRuntime) -> Result<(), Fail> {
-    let sorted = sorted_sevens(rt.alloc())?;
-    for words in ["merge n 0", "merge n 1", "merge n 3"] {
-        let input = sevens(rt.alloc())?;
-        let answer = ask(&rt, rt.alloc(), words, input, NO_FAULTS, &OpenGate)?;
-        check(&rt, words, &answer, Wanted::of(0, sorted.as_slice(), b""));
-        assert!(rt; merged_rows(&answer) == Some(2_000), "{words}");
     }
     Ok(())
 }
