@@ -68,11 +68,7 @@ fn plan_with(kind: ItemKind) -> BoundPlan
 }
 
 /// The rows of a text with four columns, and such a plan.
-fn query_with(
-    rt: &HostRuntime,
-    text: &[u8],
-    kind: ItemKind,
-) -> Result<(RowStore, BoundPlan), Fail>
+fn query_with(rt: &HostRuntime, text: &[u8], kind: ItemKind) -> Result<(RowStore, BoundPlan), Fail>
     ensures few { IfOk result (λ query. length query.0 ≤ MOST_RECORDS) }
     ensures columns { IfOk result (λ query. HasColumns query.1 (header_width query.0)) }
 {

@@ -263,7 +263,12 @@ fn rises(text: &[u8], count: usize) -> bool {
 }
 
 /// Whether the pieces of three threads are the text of one, with so many groups.
-fn are_one_text<R: Threads + Sync>(rt: &R, alloc: Global, input: &[u8], groups: usize) -> Option<bool> {
+fn are_one_text<R: Threads + Sync>(
+    rt: &R,
+    alloc: Global,
+    input: &[u8],
+    groups: usize,
+) -> Option<bool> {
     let text = table_in_threads(rt, alloc, input, 1)?;
     let other = table_in_threads(rt, alloc, input, 3)?;
     Some(text == other && rises(text.as_slice(), groups))

@@ -38,7 +38,10 @@ fn words(rt: HostRuntime) -> Result<(), Fail> {
     for (words, begins_so, asked) in WORDS {
         let list = owned(rt.alloc(), words)?;
         let read = read_words(list.as_slice()).map(|asked| (asked.column, asked.workers));
-        assert!(rt; is_join(list.as_slice()) == begins_so && read == asked, "{words}");
+        assert!(rt;
+            is_join(list.as_slice()) == begins_so && read == asked,
+            "{words}"
+        );
     }
     Ok(())
 }

@@ -163,10 +163,7 @@ fn refused_rows(rt: HostRuntime) -> Result<(), Fail> {
     let table: [(&[u8], Option<Refused>); 3] = [
         (&short, None),
         (&long, Some(Refused { row: 1, cause: 2 })),
-        (
-            b"a,b\n1,2\n1\n3,4,5\n",
-            Some(Refused { row: 2, cause: 1 }),
-        ),
+        (b"a,b\n1,2\n1\n3,4,5\n", Some(Refused { row: 2, cause: 1 })),
     ];
     for (text, wanted) in table {
         assert!(rt; refused(rt.alloc(), text)? == wanted);

@@ -213,7 +213,10 @@ fn one_group_with_any_workers(rt: HostRuntime) -> Result<(), Fail> {
     let text = table(rt.alloc(), 768, 1, 0)?;
     for workers in [0, 1, 2, 8, 64] {
         if workers <= 64 {
-            assert!(rt; has_one_group(&rt, rt.alloc(), &text, workers)?, "{workers} workers");
+            assert!(rt;
+                has_one_group(&rt, rt.alloc(), &text, workers)?,
+                "{workers} workers"
+            );
         }
     }
     Ok(())

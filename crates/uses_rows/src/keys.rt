@@ -70,9 +70,11 @@ fn places_in_order_of_keys(rt: HostRuntime) -> Result<(), Fail> {
 /// Whether a key comes to the first place of a table that is cleared, and no former key is left.
 fn is_cleared(keys: &mut KeyTable, alloc: Global) -> Result<bool, AllocError> {
     keys.clear();
-    Ok(keys.find(b"pear").is_none()
-        && place_of(keys, alloc, b"fig")? == 0
-        && keys.find(b"fig") == Some(0))
+    Ok(
+        keys.find(b"pear").is_none()
+            && place_of(keys, alloc, b"fig")? == 0
+            && keys.find(b"fig") == Some(0),
+    )
 }
 
 #[test]

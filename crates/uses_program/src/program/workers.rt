@@ -1,9 +1,7 @@
 //! What `pargather` does with workers beside the caller's thread: they are at work at one time, and a fault or a
 //! refused row is answered as without them.
 
-use super::{
-    Answered, Failing, LETTERS, NO_FAULTS, Pieces, Wanted, X_TWICE, ask, bytes_of, check,
-};
+use super::{Answered, Failing, LETTERS, NO_FAULTS, Pieces, Wanted, X_TWICE, ask, bytes_of, check};
 use crossbeam_utils::Backoff;
 use par_gather::{Gate, OpenGate, Ran, TABLE};
 use std::alloc::AllocError;
@@ -83,7 +81,12 @@ fn launched(answer: &Answered) -> Option<u32> {
 fn all_are_at_work_at_once(rt: HostRuntime) -> Result<(), Fail> {
     let words = "--group g --agg count --workers 2";
     let answer = ask_meeting(&rt, words)?;
-    check(&rt, words, &answer, Wanted::of(TABLE, b"g,count\na,768\n", b""));
+    check(
+        &rt,
+        words,
+        &answer,
+        Wanted::of(TABLE, b"g,count\na,768\n", b""),
+    );
     assert!(rt; launched(&answer) == Some(2));
     Ok(())
 }
