@@ -99,7 +99,6 @@ impl<'a, G: Gate> Drop for Leader<'a, G> {
 }
 
 impl<'a, G: Gate> Lead for Leader<'a, G> {
-    ghost use Rattle.std.specs.Prelude.{◌≡◌, []};
     ghost use Rattle.par_model.specs.Columns.{HasColumns};
     ghost use Rattle.partial_agg.specs.Rows.{header_width};
     ghost use Rattle.row_blocks.specs.Blocks.{AreBlocks};
@@ -107,7 +106,7 @@ impl<'a, G: Gate> Lead for Leader<'a, G> {
     ghost use Rattle.gather_merge.specs.Order.{columns_at};
     ghost use Rattle.gather_merge.specs.RowWords.{AreWords};
 
-    ghost asks = { λ leader plan blocks. HasColumns plan (header_width leader.rows.now) × AreBlocks leader.rows.now blocks × AreWords (columns_at plan leader.rows.now) leader.words.now × (leader.order.items ≡ []) };
+    ghost asks = { λ leader plan blocks. HasColumns plan (header_width leader.rows.now) × AreBlocks leader.rows.now blocks × AreWords (columns_at plan leader.rows.now) leader.words.now };
 
     ghost led = { λ leader plan blocks draws used heard new. Led plan leader.rows.now blocks draws heard new.order.items new.failure };
 

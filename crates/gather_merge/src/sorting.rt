@@ -151,6 +151,17 @@ fn with_words(
     Ok(run)
 }
 
+/// Puts the rows of pairs in place of a list.
+fn put_rows(run: &[Keyed], list: &mut Vec<u64>) -> Result<(), AllocError>
+    ensures { OnOk result (list.new.items ≡ rows_of run.now) }
+{
+    list.clear();
+    for keyed in run {
+        list.push(keyed.row)?;
+    }
+    Ok(())
+}
+
 /// Puts numbers in the order of their rows. Takes 16 bytes for each while it runs.
 pub(crate) fn sort_rows(
     alloc: Global,
@@ -165,9 +176,24 @@ pub(crate) fn sort_rows(
 {
     let mut run = with_words(alloc, rows, plan, words, list)?;
     sort_level(rows, plan, words, &mut run, 0, 0, LEVELS);
-    list.clear();
-    for keyed in &run {
-        list.push(keyed.row)?;
-    }
-    Ok(())
+    put_rows(&run, list)
+}
+
+/// The same of lists that stand one behind the other, each in order: a stable sort keeps long runs of its input and merges
+/// them. Takes 32 bytes for each number while it runs.
+pub(crate) fn merge_rows(
+    alloc: Global,
+    rows: &RowStore,
+    plan: &BoundPlan,
+    words: &[u64],
+    list: &mut Vec<u64>,
+) -> Result<(), AllocError>
+    requires words { AreWords (columns_at plan.now rows.now) words.now }
+    ensures permutation { OnOk result (IsPermutation list.old.items list.new.items) }
+    ensures sorted { OnOk result (IsSorted (row_cmp plan.now rows.now) list.new.items) }
+{
+    let mut run = with_words(alloc, rows, plan, words, list)?;
+    run.sort()?;
+    sort_level(rows, plan, words, &mut run, 0, 0, LEVELS);
+    put_rows(&run, list)
 }
