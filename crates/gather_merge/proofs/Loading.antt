@@ -20,7 +20,7 @@ pub record AreWordsBelow (columns : ℕ → List (List ℕ)) (n : ℕ) (words : 
   pub bytes : (row : ℕ) → row < n → AreBytes (text_at columns 0 0 row)
 
 pub words_loaded : (columns : ℕ → List (List ℕ)) (n : ℕ) (old words : List ℕ) → length old ≡ n → AreLoaded columns old words → AreWordsBelow columns n words
-words_loaded columns n old words e a = record { long = a.long ∙ e; each = λ row l. a.each row 0 (omega (arith, l, e)); bytes = λ row l. a.bytes row 0 (omega (arith, l, e)) }
+words_loaded columns n old words e a = record { long = a.long ∙ e; each = λ row l. (a.each row 0 (omega (arith, l, e))).is; bytes = λ row l. (a.each row 0 (omega (arith, l, e))).bytes }
 
 empty : (groups : List ℕ) → get_or (map (field_of []) groups) 0 [] ≡ []
 empty [] = refl

@@ -33,8 +33,12 @@ pub record AreWords (columns : ℕ → List (List ℕ)) (words : List ℕ) : Typ
   pub each : (row : ℕ) → get_or words row 0 ≡ word (text_at columns 0 0 row)
   pub bytes : (row : ℕ) → AreBytes (text_at columns 0 0 row)
 
--- each place of a list has the word of the first column of the row of its number
+-- a number is the word of a row's first column
+pub record HasWord (columns : ℕ → List (List ℕ)) (row w : ℕ) : Type 0 where
+  pub is : w ≡ word (text_at columns 0 0 row)
+  pub bytes : AreBytes (text_at columns 0 0 row)
+
+-- each place of a list has the word of the row of its number
 pub record AreLoaded (columns : ℕ → List (List ℕ)) (old new : List ℕ) : Type 0 where
   pub long : length new ≡ length old
-  pub each : (row d : ℕ) → row < length old → slice_index_or new row d ≡ word (text_at columns 0 0 row)
-  pub bytes : (row d : ℕ) → row < length old → AreBytes (text_at columns 0 0 row)
+  pub each : (row d : ℕ) → row < length old → HasWord columns row (slice_index_or new row d)

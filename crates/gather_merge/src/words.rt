@@ -5,7 +5,7 @@
 
 ghost use Rattle.std.specs.Prelude.{◌≡◌, ◌<◌, ◌%◌, IfOk, get_or, nat_lt};
 ghost use Rattle.gather_merge.specs.Order.{columns_at};
-ghost use Rattle.gather_merge.specs.RowWords.{AreBytes, AreLoaded, AreWords, text_at, word};
+ghost use Rattle.gather_merge.specs.RowWords.{AreBytes, AreLoaded, AreWords, HasWord, text_at, word};
 
 use crate::comparing::{field_or_none, find_row};
 use csv_rows::RowStore;
@@ -61,10 +61,9 @@ pub(crate) fn text_from<'a>(
     }
 }
 
-/// Sets the word of a record's first column. Tells too that the column is of bytes.
+/// Sets the word of a record's first column.
 fn load_word(rows: &RowStore, plan: &BoundPlan, row: u64, place: &mut u64)
-    ensures is { place.new ≡ word (text_at (columns_at plan.now rows.now) 0 0 row) }
-    ensures bytes { AreBytes (text_at (columns_at plan.now rows.now) 0 0 row) }
+    ensures { HasWord (columns_at plan.now rows.now) row place.new }
 {
     *place = word_of(text_from(rows, plan, row, 0, 0));
 }

@@ -5,7 +5,7 @@
 ghost use Rattle.std.specs.Prelude.{◌≡◌, ◌≢◌, ◌⊎◌, ◌<◌, ◌≤◌, [], ℕ, All, IfErr, OnOk, false, length, take};
 ghost use Rattle.std.specs.Io.KnownBytes.{Appends};
 ghost use Rattle.gather_merge.specs.Order.{IsOrder, ordered};
-ghost use Rattle.merge_answers.specs.Pieces.{rows_text};
+ghost use Rattle.merge_answers.specs.Pieces.{AreKnown, rows_text};
 ghost use Rattle.par_io.specs.Faults.{Rose};
 ghost use Rattle.par_model.specs.Table.{table_text};
 ghost use Rattle.query_answer.specs.Held.{Puts};
@@ -16,10 +16,13 @@ use crate::ranges::put_in_threads;
 use csv_rows::RowStore;
 use gather_merge::Order;
 use par_io::Sink;
-use query_answer::{Held, put_record};
+use query_answer::{Held, begins_special, put_known, put_record};
 use std::alloc::Global;
 use std::thread::Threads;
 use table_query::{Ready, Stop};
+
+/// How many rows are looked up before they are put.
+const AHEAD: usize = 16;
 
 /// Writes the header and the rows in this order, with a text that is made by at most this many threads, the caller's
 /// among them.
@@ -75,15 +78,44 @@ fn put_all<R: Threads + Sync, O: Sink>(
     held.pass_on(out);
 }
 
-/// The rows, up to a write that fails.
+/// The rows, up to a write that fails. Rows in order lie all over the memory, so several at a time are looked up before the
+/// first of them is put.
 pub(crate) fn put_rows<O: Sink>(held: &mut Held, out: &mut O, rows: &RowStore, numbers: &[u64])
     requires { All (λ row. row < length rows.now) numbers.now }
     ensures { Puts O.taken O.faults out.old out.new held.old held.new (rows_text rows.now numbers.now) }
 {
-    for at in 0..numbers.len() {
+    let mut at = 0;
+    'blocks: while at < numbers.len() {
         if held.is_broken() {
             return;
         }
-        put_record(held, out, &rows.find(numbers[at]));
+        let end = at + AHEAD.min(numbers.len() - at);
+        put_block(held, out, rows, &numbers[at..end]);
+        at = end;
     }
+}
+
+/// A few rows.
+fn put_block<O: Sink>(held: &mut Held, out: &mut O, rows: &RowStore, numbers: &[u64])
+    requires rows { All (λ row. row < length rows.now) numbers.now }
+    requires few { length numbers.now ≤ AHEAD }
+    ensures { Puts O.taken O.faults out.old out.new held.old held.new (rows_text rows.now numbers.now) }
+{
+    let begins = look_ahead(rows, numbers);
+    for at in 0..numbers.len() {
+        put_known(held, out, &rows.find(numbers[at]), begins[at]);
+    }
+}
+
+/// Whether each of a few rows begins with a byte that calls for quotes.
+fn look_ahead(rows: &RowStore, numbers: &[u64]) -> [bool; AHEAD]
+    requires rows { All (λ row. row < length rows.now) numbers.now }
+    requires few { length numbers.now ≤ AHEAD }
+    ensures { AreKnown rows.now numbers.now result (length numbers.now) }
+{
+    let mut begins = [false; AHEAD];
+    for place in 0..numbers.len() {
+        begins[place] = begins_special(&rows.find(numbers[place]));
+    }
+    begins
 }

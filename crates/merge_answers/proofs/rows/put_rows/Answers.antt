@@ -1,56 +1,49 @@
-use Rattle.std.proofs.Common.{◌≡◌, ◌<◌, ◌∙◌, ℕ, List, ap, arith, drop, get_or, length, map, subst, sym, take}
+use Rattle.std.proofs.Common.{◌≡◌, ◌≤◌, ◌<◌, ◌+◌, ◌-◌, ◌∙◌, ℕ, List, ap, arith, drop, length, map, min, subst, sym, take}
 use Rattle.std.proofs.lemmas.List.{take_all}
-use Rattle.std.proofs.lemmas.List.Elements.{All-get_or}
-use Rattle.std.proofs.lemmas.Option.{get_or_from_slice_get, slice_get-get_or}
-use Rattle.csv.specs.Writing.{default_writer, row_text}
+use Rattle.std.proofs.lemmas.List.Elements.{All-drop, All-take}
 use Rattle.csv_rows.specs.Records.{record_at}
-use Rattle.par_model.specs.Table.{table_text}
 use Rattle.query_answer.specs.Held.{Puts}
 use Rattle.query_answer.proofs.Going.{puts-broken, puts-none, puts-then}
-use Rattle.query_answer.proofs.RowLines.{row-more, rows-cut, text-none}
+use Rattle.query_answer.proofs.RowLines.{rows-cut, text-none}
+use Rattle.merge_answers.specs.Pieces.{rows_text}
+use Rattle.merge_answers.proofs.Joined.{round-more}
 use Rattle.merge_answers.proofs.rows.put_rows.Goals as goal
 
-pub loop-at-init : goal.loop-at-init
-loop-at-init g c =
+pub blocks-init : goal.blocks-init
+blocks-init g c =
     let Text : List ℕ → Type 0 = Puts g.O.Sink.taken g.O.Sink.faults c.args.out.now c.args.out.now c.args.held.now c.args.held.now in
-    subst Text (sym text-none) (puts-none g.O.Sink.taken g.O.Sink.faults c.args.out.now c.args.held.now)
-
--- the number at a place of the order is that of a record
-pub find-requires : goal.find-requires
-find-requires g c =
-    let within : ℕ → Type 0 = λ row. row < length c.args.rows.now in
-    let lt : c.loop-at.at < length c.args.numbers.now = omega (arith, c.loop-at-test.true) in
-    All-get_or within c.args.numbers.now c.loop-at.at 0 lt c.requires
+    record { within = omega arith; puts = subst Text (sym text-none) (puts-none g.O.Sink.taken g.O.Sink.faults c.args.out.now c.args.held.now) }
 
 -- a write had failed
 pub returns-then-is_broken : goal.returns-then-is_broken
 returns-then-is_broken g c =
-    let f = record_at c.args.rows.now in
-    let order = c.args.numbers.now in
-    let i = c.loop-at.at in
-    let Text : List ℕ → Type 0 = Puts g.O.Sink.taken g.O.Sink.faults c.args.out.now c.loop-at.out c.args.held.now c.loop-at.held in
-    subst Text (rows-cut f order i)
-    (puts-broken g.O.Sink.taken g.O.Sink.faults c.args.out.now c.loop-at.out c.args.held.now c.loop-at.held (table_text (map f (take i order))) (table_text (map f (drop i order))) (sym c.is_broken.ensures ∙ c.if-is_broken.true) c.loop-at.invariant)
+    let records = c.args.rows.now in
+    let numbers = c.args.numbers.now in
+    let at = c.blocks.at in
+    let Text : List ℕ → Type 0 = Puts g.O.Sink.taken g.O.Sink.faults c.args.out.now c.blocks.out c.args.held.now c.blocks.held in
+    subst Text (rows-cut (record_at records) numbers at)
+    (puts-broken g.O.Sink.taken g.O.Sink.faults c.args.out.now c.blocks.out c.args.held.now c.blocks.held (rows_text records (take at numbers)) (rows_text records (drop at numbers)) (sym c.is_broken.ensures ∙ c.if-is_broken.true) c.blocks.invariant.puts)
 
-pub loop-at-preserved : goal.loop-at-preserved
-loop-at-preserved g c =
+pub put_block-requires-clause-rows : goal.put_block-requires-clause-rows
+put_block-requires-clause-rows g c =
+    let within : ℕ → Type 0 = λ row. row < length c.args.rows.now in
+    All-take within _ (drop c.blocks.at c.args.numbers.now) (All-drop within c.blocks.at c.args.numbers.now c.requires)
+
+pub blocks-preserved : goal.blocks-preserved
+blocks-preserved g c =
+    let records = c.args.rows.now in
+    let numbers = c.args.numbers.now in
     let taken = g.O.Sink.taken in
     let faults = g.O.Sink.faults in
-    let f = record_at c.args.rows.now in
-    let order = c.args.numbers.now in
-    let i = c.loop-at.at in
-    let row = get_or order i 0 in
-    let lt : i < length order = omega (arith, c.loop-at-test.true) in
-    let there : get_or order i row ≡ row = get_or_from_slice_get order i row row (slice_get-get_or order i 0 lt) in
-    let Text : List ℕ → Type 0 = Puts taken faults c.args.out.now c.put_record.new.out c.args.held.now c.put_record.new.held in
-    let Row : List (List ℕ) → Type 0 = λ fields. Puts taken faults c.loop-at.out c.put_record.new.out c.loop-at.held c.put_record.new.held (row_text default_writer fields) in
-    subst Text (row-more f order i row lt there)
-    (puts-then taken faults c.args.out.now c.loop-at.out c.put_record.new.out c.args.held.now c.loop-at.held c.put_record.new.held (table_text (map f (take i order))) (row_text default_writer (f row)) c.loop-at.invariant
-    (subst Row c.find.ensures c.put_record.ensures))
+    let Text : List ℕ → Type 0 = Puts taken faults c.args.out.now c.put_block.new.out c.args.held.now c.put_block.new.held in
+    record {
+      within = omega (arith, c.blocks.invariant.within);
+      puts = subst Text (round-more records numbers c.blocks.at _)
+          (puts-then taken faults c.args.out.now c.blocks.out c.put_block.new.out c.args.held.now c.blocks.held c.put_block.new.held (rows_text records (take c.blocks.at numbers)) _ c.blocks.invariant.puts c.put_block.ensures);
+    }
 
 pub returns : goal.returns
 returns g c =
-    let order = c.args.numbers.now in
-    let all : take c.loop-at.at order ≡ order = take_all c.loop-at.at order (omega (arith, c.loop-at-test.false)) in
-    let Text : List ℕ → Type 0 = Puts g.O.Sink.taken g.O.Sink.faults c.args.out.now c.loop-at.out c.args.held.now c.loop-at.held in
-    subst Text (ap (λ (rows : List ℕ). table_text (map (record_at c.args.rows.now) rows)) all) c.loop-at.invariant
+    let numbers = c.args.numbers.now in
+    let Text : List ℕ → Type 0 = Puts g.O.Sink.taken g.O.Sink.faults c.args.out.now c.blocks.out c.args.held.now c.blocks.held in
+    subst Text (ap (rows_text c.args.rows.now) (take_all c.blocks.at numbers (omega (arith, c.blocks-test.false)))) c.blocks.invariant.puts

@@ -1,7 +1,7 @@
 use Rattle.std.proofs.Common.{take}
 use Rattle.csv.specs.Writing.{default_writer, row_body}
 use Rattle.query_answer.specs.Held.{Puts}
-use Rattle.query_answer.proofs.record.put_fields.Given as goal
+use Rattle.query_answer.proofs.record.put_known_fields.Given as goal
 
 -- the fields so far
 abbrev pub invariant-loop-at : goal.invariant-loop-at
