@@ -14,9 +14,13 @@ use worker_run::{Gate, Job, WorkerEnd};
 
 /// The workers of a merge: each takes its list to memory of `alloc` and passes the gate.
 pub(crate) struct Team<'a, G: Gate + Sync> {
+    /// Where the lists come from.
     pub(crate) alloc: Global,
+    /// The table.
     pub(crate) rows: &'a RowStore,
+    /// The word of each record's first column, by its number.
     pub(crate) words: &'a [u64],
+    /// What each participant passes before each of its blocks.
     pub(crate) gate: &'a G,
 }
 
@@ -74,13 +78,19 @@ impl<'a, G: Gate + Sync> Worker for Team<'a, G> {
     }
 }
 
-/// The leader of a merge, with the order as far as it has come. `failure` says why there is none.
+/// The leader of a merge, and what came of it.
 pub(crate) struct Leader<'a, G: Gate> {
+    /// Where the lists come from.
     pub(crate) alloc: Global,
+    /// The table.
     pub(crate) rows: &'a RowStore,
+    /// The word of each record's first column, by its number.
     pub(crate) words: &'a [u64],
+    /// What it passes before each of its blocks.
     pub(crate) gate: &'a G,
+    /// The numbers of all rows in order, where there is no failure.
     pub(crate) order: Vec<u64>,
+    /// Why there is no order.
     pub(crate) failure: Option<MergeAnswer>,
 }
 

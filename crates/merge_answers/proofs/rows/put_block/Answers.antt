@@ -23,8 +23,8 @@ find-requires g c =
     let lt : c.loop-at.at < length c.args.numbers.now = omega (arith, c.loop-at-test.true) in
     All-get_or within c.args.numbers.now c.loop-at.at 0 lt c.requires.rows
 
-pub put_known-requires-clause-known : goal.put_known-requires-clause-known
-put_known-requires-clause-known g c e =
+pub put_known-requires : goal.put_known-requires
+put_known-requires g c e =
     let numbers = c.args.numbers.now in
     let i = c.loop-at.at in
     let lt : i < length numbers = omega (arith, c.loop-at-test.true) in

@@ -1,16 +1,9 @@
-use Rattle.std.proofs.Common.{◌≡◌, ◌<◌, ◌++◌, ◌∙◌, [], ℕ, List, ap, arith, get_or, length, subst, sym, take, true}
+use Rattle.std.proofs.Common.{◌<◌, ◌++◌, [], ℕ, List, arith, get_or, length, subst, sym, take}
 use Rattle.csv.proofs.WriteFacts.{row-step}
-use Rattle.csv.specs.Writing.{default_writer, field_text, needs_quotes, next_sep, row_body}
+use Rattle.csv.specs.Writing.{default_writer, field_text, next_sep, row_body}
 use Rattle.query_answer.specs.Held.{Puts}
 use Rattle.query_answer.proofs.Going.{puts-then}
 use Rattle.query_answer.proofs.record.put_known_fields.Goals as goal
-
-pub put_field-requires-clause-known : goal.put_field-requires-clause-known
-put_field-requires-clause-known g c e =
-    let row = c.args.row.now in
-    let known = c.is_first.ensures e in
-    let first : c.field.result.now ≡ get_or row 0 [] = c.field.ensures ∙ ap (λ (n : ℕ). get_or row n []) known.0 in
-    subst (λ (field : List ℕ). needs_quotes default_writer field ≡ true) (sym first) (c.requires.known known.1)
 
 pub loop-at-preserved : goal.loop-at-preserved
 loop-at-preserved g c =
