@@ -1,4 +1,4 @@
-use Rattle.std.proofs.Common.{◌≡◌, ◌≤◌, ◌<◌, ◌+◌, ◌-◌, ◌∙◌, ℕ, List, ap, arith, drop, length, map, min, subst, sym, take}
+use Rattle.std.proofs.Common.{◌≡◌, ◌≤◌, ◌<◌, ◌+◌, ◌-◌, ◌∙◌, ℕ, List, ap, arith, drop, length, map, min, rules, subst, sym, take}
 use Rattle.std.proofs.lemmas.List.{take_all}
 use Rattle.std.proofs.lemmas.List.Elements.{All-drop, All-take}
 use Rattle.csv_rows.specs.Records.{record_at}
@@ -27,7 +27,7 @@ returns-then-is_broken g c =
 pub put_round-requires : goal.put_round-requires
 put_round-requires g c =
     let within : ℕ → Type 0 = λ row. row < length c.args.rows.now in
-    λ κs bounds. All-take within _ (drop c.rounds.at c.args.numbers.now) (All-drop within c.rounds.at c.args.numbers.now c.requires)
+    (search rules, All-take within _ (drop c.rounds.at c.args.numbers.now) (All-drop within c.rounds.at c.args.numbers.now c.requires))
 
 pub rounds-preserved : goal.rounds-preserved
 rounds-preserved g c =
