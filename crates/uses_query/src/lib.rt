@@ -8,4 +8,6 @@ mod gathers;
 #[cfg(test)]
 mod generated;
 #[cfg(test)]
+mod meeting;
+#[cfg(test)]
 mod merges;

@@ -21,6 +21,15 @@ fn place_of(keys: &mut KeyTable, alloc: Global, key: &[u8]) -> Result<usize, All
     }
 }
 
+/// The keys `pear`, the empty one, `fig` and `pear\0`, in these places.
+fn four_keys(alloc: Global) -> Result<KeyTable, AllocError> {
+    let mut keys = KeyTable::new(alloc);
+    for key in [b"pear".as_slice(), b"", b"fig", b"pear\0"] {
+        keys.push(alloc, key)?;
+    }
+    Ok(keys)
+}
+
 #[test]
 fn places_of_keys(rt: HostRuntime) -> Result<(), Fail> {
     let table: [(&[u8], usize); 6] = [
@@ -35,12 +44,23 @@ fn places_of_keys(rt: HostRuntime) -> Result<(), Fail> {
     for (key, place) in table {
         assert_eq!(rt; place_of(&mut keys, rt.alloc(), key)?, place);
     }
-    assert_eq!(rt; keys.len(), 4);
-    assert!(rt; keys.find(b"plum").is_none());
+    assert_eq!(rt; (keys.len(), keys.find(b"plum")), (4, None));
+    Ok(())
+}
+
+#[test]
+fn places_in_order_of_keys(rt: HostRuntime) -> Result<(), Fail> {
+    let keys = four_keys(rt.alloc())?;
     let mut places = Vec::from_slice(rt.alloc(), &[0, 1, 2, 3])?;
     keys.sort(&mut places);
     let sorted: [usize; 4] = [1, 2, 0, 3];
     assert!(rt; places.as_slice() == sorted.as_slice());
+    Ok(())
+}
+
+#[test]
+fn a_cleared_table(rt: HostRuntime) -> Result<(), Fail> {
+    let mut keys = four_keys(rt.alloc())?;
     keys.clear();
     assert!(rt; keys.find(b"pear").is_none());
     assert_eq!(rt; place_of(&mut keys, rt.alloc(), b"fig")?, 0);

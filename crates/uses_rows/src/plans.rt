@@ -102,40 +102,60 @@ fn merges(rt: HostRuntime) -> Result<(), Fail> {
     Ok(())
 }
 
-/// A plan bound to a header, and one with a name that the header lacks.
+/// The plan of these words.
+fn plan_of(alloc: Global, words: &str) -> Result<Plan, Fail> {
+    let list = owned(alloc, words)?;
+    match Plan::of_words(alloc, list.as_slice()) {
+        Ok(plan) => Ok(plan),
+        Err(_) => Err(Fail::new("no plan")),
+    }
+}
+
+/// A header in which one name stands twice.
+fn header(alloc: Global) -> Result<RowStore, Fail> {
+    match rows(alloc, b"g,v,g\n") {
+        Ok(store) => Ok(store),
+        Err(_) => Err(Fail::new("no rows")),
+    }
+}
+
+/// Words with a group, an aggregate with a column and one without, and a filter.
+const WORDS: &str = "--group g --agg count,sum:v --where v<2 --workers 7";
+
+#[test]
+fn names_and_numbers(rt: HostRuntime) -> Result<(), Fail> {
+    let plan = plan_of(rt.alloc(), WORDS)?;
+    assert_eq!(rt; (plan.workers(), plan.area_pages()), (7, 2048));
+    for (at, name) in [(0, None), (1, Some("v")), (2, None)] {
+        assert_eq!(rt; plan.item_name(at), name);
+    }
+    assert_eq!(rt; plan.filter_name(), Some("v"));
+    Ok(())
+}
+
+/// A plan bound to a header.
 #[test]
 fn binds(rt: HostRuntime) -> Result<(), Fail> {
-    let Ok(store) = rows(rt.alloc(), b"g,v,g\n") else {
-        assert!(rt; false);
-        return Ok(());
-    };
-    let words = "--group g --agg count,sum:v --where v<2 --workers 7";
-    let list = owned(rt.alloc(), words)?;
-    if let Ok(plan) = Plan::of_words(rt.alloc(), list.as_slice()) {
-        assert_eq!(rt; plan.workers(), 7);
-        assert_eq!(rt; plan.area_pages(), 2048);
-        assert_eq!(rt; plan.item_name(0), None);
-        assert_eq!(rt; plan.item_name(1), Some("v"));
-        assert_eq!(rt; plan.item_name(2), None);
-        assert_eq!(rt; plan.filter_name(), Some("v"));
-    }
-    match bound_words(rt.alloc(), list.as_slice(), &store) {
-        Some(bound) => {
-            assert_eq!(rt; bound.groups[0], 0);
-            assert_eq!(rt; bound.items[1].column, 1);
-            assert_eq!(rt; bound.item_count, 2);
-            assert!(rt; bound.filter.is_some() && !bound.hash);
-        }
-        None => assert!(rt; false),
-    }
-    let list = owned(rt.alloc(), "--group g --agg sum:v,max:w --where u=1")?;
-    if let Ok(plan) = Plan::of_words(rt.alloc(), list.as_slice()) {
-        match plan.bind(&store) {
-            Ok(_bound) => assert!(rt; false),
-            Err(missing) => {
-                assert_eq!(rt; missing.at, 2);
-                assert_eq!(rt; plan.name(missing.at), "w");
-            }
+    let store = header(rt.alloc())?;
+    let list = owned(rt.alloc(), WORDS)?;
+    let bound = bound_words(rt.alloc(), list.as_slice(), &store).ok_or("no plan")?;
+    assert_eq!(rt;
+        (bound.groups[0], bound.items[1].column, bound.item_count),
+        (0, 1, 2)
+    );
+    assert!(rt; bound.filter.is_some() && !bound.hash);
+    Ok(())
+}
+
+/// A plan with names that the header lacks: the first of them is found.
+#[test]
+fn a_missing_name(rt: HostRuntime) -> Result<(), Fail> {
+    let store = header(rt.alloc())?;
+    let plan = plan_of(rt.alloc(), "--group g --agg sum:v,max:w --where u=1")?;
+    match plan.bind(&store) {
+        Ok(_bound) => assert!(rt; false),
+        Err(missing) => {
+            assert_eq!(rt; (missing.at, plan.name(missing.at)), (2, "w"));
         }
     }
     Ok(())
