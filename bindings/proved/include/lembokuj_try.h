@@ -3,7 +3,7 @@
  *
  * The calls of the libraries try once and never wait; those with _wait are loops over them here, which yield the processor.
  * Link with the library of what is used, or with both, and the toolchain's liblibc_c.a. lembokuj.h has more objects; it is
- * built without the proofs.
+ * built without the proofs. A program that takes both headers includes lembokuj.h first.
  *
  * Handles. An lk_handle (one side of a queue) and an lk_table_try (one caller of a table) are the program's own memory: two
  * words, all zero (LK_BLANK) before the call that fills them and after the one that closes them. A handle owns what it
