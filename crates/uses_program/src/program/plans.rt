@@ -3,7 +3,9 @@
 use super::{Answered, NO_FAULTS, Wanted, ask, check, check_each};
 use par_gather::{OpenGate, TABLE};
 use std::alloc::{AllocError, Global};
+use std::sync::Wait;
 use std::test::Fail;
+use std::thread::Threads;
 
 /// A thousand orders of an item whose name is quoted.
 fn orders(alloc: Global) -> Result<Vec<u8>, AllocError> {
@@ -55,23 +57,29 @@ fn keyed(alloc: Global, rows: u32) -> Result<Vec<u8>, AllocError> {
 }
 
 /// What a plan with so many workers answers over these rows.
-fn ask_keyed(rt: &HostRuntime, text: &[u8], workers: u32, plan: &str) -> Result<Answered, Fail> {
-    let words = format!(in rt.alloc();
+fn ask_keyed<R: Threads + Wait + Sync>(
+    rt: &R,
+    alloc: Global,
+    text: &[u8],
+    workers: u32,
+    plan: &str,
+) -> Result<Answered, AllocError> {
+    let words = format!(in alloc;
         "--group k --agg count,sum:v,avg:v --workers {workers} --plan {plan}"
     )?;
-    let input = Vec::from_slice(rt.alloc(), text)?;
-    Ok(ask(rt, rt.alloc(), words.as_str(), input, NO_FAULTS, &OpenGate)?)
+    let input = Vec::from_slice(alloc, text)?;
+    ask(rt, alloc, words.as_str(), input, NO_FAULTS, &OpenGate)
 }
 
 /// With 16 pages, the fewest with which there is a shared table, many groups find no room in it.
 #[test]
 fn the_same_bytes(rt: HostRuntime) -> Result<(), Fail> {
     let text = keyed(rt.alloc(), 3_000)?;
-    let first = ask_keyed(&rt, text.as_slice(), 0, "gather")?;
+    let first = ask_keyed(&rt, rt.alloc(), text.as_slice(), 0, "gather")?;
     assert_eq!(rt; first.status, TABLE);
     for plan in ["gather", "hash", "hash --area-pages 16"] {
         for workers in [0, 1, 3, 16, 64u32] {
-            let answer = ask_keyed(&rt, text.as_slice(), workers, plan)?;
+            let answer = ask_keyed(&rt, rt.alloc(), text.as_slice(), workers, plan)?;
             check(&rt, plan, &answer, Wanted::of(TABLE, first.out(), b""));
         }
     }

@@ -4,9 +4,11 @@
 use super::{Answered, Failing, LETTERS, NO_FAULTS, Pieces, Wanted, X_TWICE, ask, bytes_of, check};
 use crossbeam_utils::Backoff;
 use par_gather::{Gate, OpenGate, Ran, TABLE};
-use std::alloc::AllocError;
+use std::alloc::{AllocError, Global};
+use std::sync::Wait;
 use std::sync::atomic::{AtomicBool, AtomicU32, Ordering};
 use std::test::Fail;
+use std::thread::Threads;
 
 /// Holds each of three participants at its first block until all have come to one, for at most a million turns.
 #[derive(Drop)]
@@ -58,10 +60,14 @@ impl Gate for Meeting {
 const BLOCKS: Pieces<'static> = &[("g\n", 1), ("a\n", 768)];
 
 /// What these words answer over the blocks, if the three met.
-fn ask_meeting(rt: &HostRuntime, words: &str) -> Result<Answered, Fail> {
+fn ask_meeting<R: Threads + Wait + Sync>(
+    rt: &R,
+    alloc: Global,
+    words: &str,
+) -> Result<Answered, Fail> {
     let gate = Meeting::of_three();
-    let input = bytes_of(rt.alloc(), BLOCKS)?;
-    let answer = ask(rt, rt.alloc(), words, input, NO_FAULTS, &gate)?;
+    let input = bytes_of(alloc, BLOCKS)?;
+    let answer = ask(rt, alloc, words, input, NO_FAULTS, &gate)?;
     if gate.was_late() {
         return Err(Fail::new("one gave up waiting"));
     }
@@ -80,7 +86,7 @@ fn launched(answer: &Answered) -> Option<u32> {
 #[test]
 fn all_are_at_work_at_once(rt: HostRuntime) -> Result<(), Fail> {
     let words = "--group g --agg count --workers 2";
-    let answer = ask_meeting(&rt, words)?;
+    let answer = ask_meeting(&rt, rt.alloc(), words)?;
     check(
         &rt,
         words,
@@ -95,7 +101,7 @@ fn all_are_at_work_at_once(rt: HostRuntime) -> Result<(), Fail> {
 #[test]
 fn all_sort_at_once(rt: HostRuntime) -> Result<(), Fail> {
     let sorted = bytes_of(rt.alloc(), BLOCKS)?;
-    let answer = ask_meeting(&rt, "merge g 2")?;
+    let answer = ask_meeting(&rt, rt.alloc(), "merge g 2")?;
     let wanted = Wanted::of(TABLE, sorted.as_slice(), b"");
     check(&rt, "merge g 2", &answer, wanted);
     assert!(rt; launched(&answer) == Some(2));
@@ -117,10 +123,14 @@ fn two_refused_rows(rt: HostRuntime) -> Result<(), Fail> {
 }
 
 /// What is answered where these calls fail.
-fn ask_failing(rt: &HostRuntime, failing: Failing<'_>) -> Result<Answered, AllocError> {
+fn ask_failing<R: Threads + Wait + Sync>(
+    rt: &R,
+    alloc: Global,
+    failing: Failing<'_>,
+) -> Result<Answered, AllocError> {
     let words = "--group g --agg count --workers 2";
-    let input = bytes_of(rt.alloc(), LETTERS)?;
-    ask(rt, rt.alloc(), words, input, failing, &OpenGate)
+    let input = bytes_of(alloc, LETTERS)?;
+    ask(rt, alloc, words, input, failing, &OpenGate)
 }
 
 /// Sixteen bytes in pieces of 3: the eighth read, which finds the end, is the last.
@@ -132,7 +142,7 @@ fn failing_reads(rt: HostRuntime) -> Result<(), Fail> {
             reads: &reads,
             ..NO_FAULTS
         };
-        let answer = ask_failing(&rt, failing)?;
+        let answer = ask_failing(&rt, rt.alloc(), failing)?;
         assert_eq!(rt; answer.status, if call < 8 { 3 } else { 0 }, "read {call}");
     }
     Ok(())
@@ -148,7 +158,7 @@ fn failing_writes(rt: HostRuntime) -> Result<(), Fail> {
             writes: &writes,
             ..NO_FAULTS
         };
-        let answer = ask_failing(&rt, failing)?;
+        let answer = ask_failing(&rt, rt.alloc(), failing)?;
         let written = (5 * (call as usize - 1)).min(16);
         assert_eq!(rt; answer.status, if call < 5 { 4 } else { 0 }, "write {call}");
         assert_eq!(rt; answer.out(), &table[..written], "write {call}");
