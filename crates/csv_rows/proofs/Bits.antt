@@ -1,5 +1,5 @@
 -- What the bits of a mask say of the 64 bytes that it stands for.
-use Rattle.std.specs.Prelude.{◌==◌, ◌||◌}
+use Rattle.std.specs.Prelude.{◌==◌}
 use Rattle.std.proofs.Common.{bit_or, cond, eqb, map, ◌≡◌, ◌<◌, ◌≤◌, ◌+◌, ◌-◌, ◌∙◌, ◌≢◌, ◌↔◌, ◌++◌, ℕ, zero, suc, true, false, List, [], ◌∷◌, drop, get_or, length, slice_index, replicate, append-nil, refl, sym, ap, inl, inr, arith}
 use Rattle.std.specs.Int.{bit_at}
 use Rattle.std.proofs.lemmas.Bool.{cases_Bool, cases_eq, cases_lt, cases_order, eq-eqb, eqb-true, or_cases}

@@ -3,7 +3,7 @@ use Rattle.std.proofs.Common.{◌≡◌, ◌≤◌, ◌<◌, ◌+◌, ◌∙◌,
 use Rattle.std.proofs.Math.Seq.{drop-append_seam, take-append_seam}
 use Rattle.std.proofs.lemmas.List.{drop_more, get_or-drop, get_or-take, take-append-drop, take_more}
 use Rattle.csv_rows.specs.Records.{record_at}
-use Rattle.csv_rows.specs.Pieces.{IsPieceAt, joined}
+use Rattle.csv_rows.specs.InPieces.{IsPieceAt, joined}
 
 pub joined-none : {A : Type 0} → joined {A = A} [] ≡ []
 unfolding joined

@@ -1,6 +1,6 @@
 pub mod Cuts
+pub mod InPieces
 pub mod Masks
-pub mod Pieces
 pub mod Places
 pub mod Plain
 pub mod Records

@@ -4,7 +4,7 @@
 //! the records in turn keeps a [`NearRows`], which searches only where a piece ends.
 
 ghost use Rattle.std.specs.Prelude.{◌≡◌, ◌<◌, ◌≤◌, ◌+◌, [], IfErr, IfOk, IfSome, OnOk, get_or, length, slice_index_or, vec_len};
-ghost use Rattle.csv_rows.specs.Pieces.{IsPieceAt, joined};
+ghost use Rattle.csv_rows.specs.InPieces.{IsPieceAt, joined};
 ghost use Rattle.csv_rows.specs.Records.{field_of, record_at};
 ghost use Rattle.csv_rows.specs.declared.records.RowsAnswer.TheVariants as answer;
 
@@ -22,7 +22,7 @@ pub struct RowStore {
 
 impl Model for RowStore {
     ghost use Rattle.std.specs.Prelude.{ℕ, List};
-    ghost use Rattle.csv_rows.specs.Pieces.{IsLast, joined};
+    ghost use Rattle.csv_rows.specs.InPieces.{IsLast, joined};
 
     ghost Value = { List (List (List ℕ)) };
 
@@ -147,7 +147,7 @@ pub struct NearRows<'a> {
 
 impl<'a> Model for NearRows<'a> {
     ghost use Rattle.std.specs.Prelude.{ℕ, List};
-    ghost use Rattle.csv_rows.specs.Pieces.{IsPieceAt};
+    ghost use Rattle.csv_rows.specs.InPieces.{IsPieceAt};
 
     ghost Value = { List (List (List ℕ)) };
 

@@ -1,5 +1,5 @@
 -- What a try to receive leaves.
-use Rattle.std.proofs.Common.{◌≡◌, ℕ, zero, suc, ◌+◌, ◌-◌, ◌/◌, ◌<◌, ◌≤◌, ⊎_elim, inl, inr, List, [], ◌∷◌, ◌++◌, length, take, drop, cond, Bool, true, false, append-nil, get_or, All, Option, Some, refl, sym, ap, subst, ◌∙◌, arith, length-append}
+use Rattle.std.proofs.Common.{◌≡◌, ℕ, zero, suc, ◌+◌, ◌*◌, ◌-◌, ◌/◌, ◌<◌, ◌≤◌, ⊎_elim, inl, inr, List, [], ◌∷◌, ◌++◌, length, take, drop, cond, Bool, true, false, append-nil, get_or, All, Option, Some, refl, sym, ap, subst, ◌∙◌, arith, length-append}
 use Rattle.std.proofs.lemmas.List.{drop_all, take_all}
 use denote.Enum.Bare.{sameb}
 use Rattle.rel_pointer.specs.Bytes.{word_count, packed_words}
@@ -232,3 +232,18 @@ received_by q answer whole gone size words len ready unreturned now was counts h
 
 pub kept_by : (region region' : TableId) (q : Receiving) (told told' : Option Sending) (message : List ℕ) → region ≡ region' → told ≡ told' → incoming region q told message ≡ incoming region' q told' message
 kept_by region region' q told told' message e f = ap (λ (r : TableId). incoming r q told message) e ∙ ap (λ (s : Option Sending). incoming region' q s message) f
+
+-- ---- bounds, as plain numbers: a proof that cites these searches nothing that it knows beside them
+
+pub few_by : (now then before words words' : ℕ) → now ≡ then → words ≡ words' → then ≤ before + words + 1 → now ≤ before + words' + 1
+few_by now then before words words' e f h = omega arith
+
+-- the steps of a message that came whole
+pub steps_whole : (turn turn' first taken now old : ℕ) → turn + 4 * first ≤ old + 4 * taken → turn' ≤ turn + 1 → now ≡ taken → turn' + 4 * first ≤ old + 4 * now + 1
+steps_whole turn turn' first taken now old h f e = omega arith
+
+pub place_by : (len len' max size : ℕ) → len' ≡ len → len ≤ max → size ≡ max → len' ≤ size
+place_by len len' max size e h f = omega arith
+
+pub some_words : (words count : ℕ) → words ≡ suc count → 0 < words
+some_words words count e = omega arith

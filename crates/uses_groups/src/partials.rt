@@ -41,17 +41,9 @@ pub(crate) fn all_groups(
 }
 
 /// By the first two columns: the count and the sum of the third, of the rows in which the fourth is not 9.
-fn query(rt: &HostRuntime, text: &[u8]) -> Result<(RowStore, BoundPlan), Fail>
-    ensures few { IfOk result (λ query. length query.0 ≤ MOST_RECORDS) }
-    ensures columns { IfOk result (λ query. HasColumns query.1 (header_width query.0)) }
+fn count_plan() -> BoundPlan
+    ensures { HasColumns result 4 }
 {
-    let store = match rows(rt.alloc(), text) {
-        Ok(store) => store,
-        Err(_) => return Err(Fail::new("no rows")),
-    };
-    if store.width(0) != 4 {
-        return Err(Fail::new("not four columns"));
-    }
     let count = Item {
         kind: ItemKind::Count,
         column: 2,
@@ -64,7 +56,7 @@ fn query(rt: &HostRuntime, text: &[u8]) -> Result<(RowStore, BoundPlan), Fail>
         kind: ItemKind::Rows,
         column: 0,
     };
-    let plan = BoundPlan {
+    BoundPlan {
         groups: [0, 1, 0, 0, 0, 0, 0, 0],
         group_count: 2,
         items: [count, sum, unused, unused, unused, unused, unused, unused],
@@ -75,22 +67,13 @@ fn query(rt: &HostRuntime, text: &[u8]) -> Result<(RowStore, BoundPlan), Fail>
             op: FilterOp::NotEqual,
             value: 9,
         }),
-    };
-    Ok((store, plan))
+    }
 }
 
 /// The same with the greatest in place of the count.
-fn other_query(rt: &HostRuntime, text: &[u8]) -> Result<(RowStore, BoundPlan), Fail>
-    ensures few { IfOk result (λ query. length query.0 ≤ MOST_RECORDS) }
-    ensures columns { IfOk result (λ query. HasColumns query.1 (header_width query.0)) }
+fn greatest_plan() -> BoundPlan
+    ensures { HasColumns result 4 }
 {
-    let store = match rows(rt.alloc(), text) {
-        Ok(store) => store,
-        Err(_) => return Err(Fail::new("no rows")),
-    };
-    if store.width(0) != 4 {
-        return Err(Fail::new("not four columns"));
-    }
     let greatest = Item {
         kind: ItemKind::Max,
         column: 2,
@@ -103,7 +86,7 @@ fn other_query(rt: &HostRuntime, text: &[u8]) -> Result<(RowStore, BoundPlan), F
         kind: ItemKind::Rows,
         column: 0,
     };
-    let plan = BoundPlan {
+    BoundPlan {
         groups: [0, 1, 0, 0, 0, 0, 0, 0],
         group_count: 2,
         items: [
@@ -116,8 +99,31 @@ fn other_query(rt: &HostRuntime, text: &[u8]) -> Result<(RowStore, BoundPlan), F
             op: FilterOp::NotEqual,
             value: 9,
         }),
+    }
+}
+
+/// The rows of a text with four columns, and a plan over them.
+fn query_by(rt: &HostRuntime, text: &[u8], plan: BoundPlan) -> Result<(RowStore, BoundPlan), Fail>
+    requires { HasColumns plan 4 }
+    ensures few { IfOk result (λ query. length query.0 ≤ MOST_RECORDS) }
+    ensures columns { IfOk result (λ query. HasColumns query.1 (header_width query.0)) }
+{
+    let store = match rows(rt.alloc(), text) {
+        Ok(store) => store,
+        Err(_) => return Err(Fail::new("no rows")),
     };
+    if store.width(0) != 4 {
+        return Err(Fail::new("not four columns"));
+    }
     Ok((store, plan))
+}
+
+/// The same by the plan with the count.
+fn query(rt: &HostRuntime, text: &[u8]) -> Result<(RowStore, BoundPlan), Fail>
+    ensures few { IfOk result (λ query. length query.0 ≤ MOST_RECORDS) }
+    ensures columns { IfOk result (λ query. HasColumns query.1 (header_width query.0)) }
+{
+    query_by(rt, text, count_plan())
 }
 
 /// A table of one row, which begins with this many letters.
@@ -213,8 +219,11 @@ fn groups_of_a_block(rt: HostRuntime) -> Result<(), Fail> {
     Ok(())
 }
 
-/// Whether two maps give the same groups, this many, one after the other, and then the second no more.
+/// Whether two maps have the same groups, this many, one after the other.
 fn give_the_same(one: &mut GroupMap, other: &mut GroupMap, count: usize) -> bool {
+    if one.len() != count {
+        return false;
+    }
     for _ in 0..count {
         match (one.take_first(), other.take_first()) {
             (Some((key, state)), Some((same_key, same_state))) => {
@@ -233,7 +242,6 @@ fn give_the_same(one: &mut GroupMap, other: &mut GroupMap, count: usize) -> bool
 fn rows_by_hand(rt: HostRuntime) -> Result<(), Fail> {
     let mut by_hand = groups_by_hand(&rt, ROWS)?;
     let mut by_block = groups_of_text(&rt, ROWS)?;
-    assert_eq!(rt; by_hand.len(), 2);
     assert!(rt; give_the_same(&mut by_hand, &mut by_block, 2));
     Ok(())
 }
@@ -264,13 +272,18 @@ fn are_of_rows_twice(list: &Groups) -> bool {
         && state.slots[0].count == 4
 }
 
+/// The groups of [`ROWS`] twice.
+fn groups_twice(rt: &HostRuntime) -> Result<GroupMap, Fail> {
+    let groups = groups_of_text(rt, ROWS)?;
+    let mut others = GroupMap::new(rt.alloc());
+    add_twice(&groups, &mut others)?;
+    Ok(others)
+}
+
 /// Groups are read where they lie, and come to another map.
 #[test]
 fn lent_groups(rt: HostRuntime) -> Result<(), Fail> {
-    let groups = groups_of_text(&rt, ROWS)?;
-    assert_eq!(rt; groups.lent().len(), 2);
-    let mut others = GroupMap::new(rt.alloc());
-    add_twice(&groups, &mut others)?;
+    let others = groups_twice(&rt)?;
     assert!(rt; are_of_rows_twice(&others.into_groups()));
     Ok(())
 }
@@ -297,31 +310,33 @@ fn refusal_after(rt: &HostRuntime, letters: usize, rest: &[u8]) -> Result<Option
     Ok(refusal(&store, 1, &plan))
 }
 
-/// The row after a header, and why it is refused: the first cause that holds, and none where the filter leaves it out.
+/// Letters and what follows them, and why that row is refused: the first cause that holds, and none where the filter leaves
+/// it out.
+const REFUSALS: [(usize, &[u8], Option<(u8, u32)>); 19] = [
+    (1, b",y,9223372036854775807,0\n", None),
+    (1, b",y,-9223372036854775808,+0\n", None),
+    (1, b",y, +1 ,-1\n", None),
+    (1, b",y,1\n", Some((1, 0))),
+    (1, b",y,one,0,5\n", Some((1, 0))),
+    (240, b",y,one,none,5\n", Some((1, 0))),
+    (1, b",y,1,9223372036854775808\n", Some((4, 0))),
+    (240, b",y,one,none\n", Some((4, 0))),
+    (238, b",y,1,0\n", None),
+    (239, b",y,1,0\n", None),
+    (240, b",y,1,0\n", Some((2, 0))),
+    (240, b",y,one,0\n", Some((2, 0))),
+    (300, b",,1,0\n", Some((2, 0))),
+    (300, b",y,one,9\n", None),
+    (300, b",y,one,\n", None),
+    (1, b",y,9223372036854775808,0\n", Some((3, 1))),
+    (1, b",y,1\xFF,0\n", Some((3, 1))),
+    (1, b",y,,0\n", None),
+    (0, b",,,\n", None),
+];
+
 #[test]
 fn refusals(rt: HostRuntime) -> Result<(), Fail> {
-    let table: [(usize, &[u8], Option<(u8, u32)>); 19] = [
-        (1, b",y,9223372036854775807,0\n", None),
-        (1, b",y,-9223372036854775808,+0\n", None),
-        (1, b",y, +1 ,-1\n", None),
-        (1, b",y,1\n", Some((1, 0))),
-        (1, b",y,one,0,5\n", Some((1, 0))),
-        (240, b",y,one,none,5\n", Some((1, 0))),
-        (1, b",y,1,9223372036854775808\n", Some((4, 0))),
-        (240, b",y,one,none\n", Some((4, 0))),
-        (238, b",y,1,0\n", None),
-        (239, b",y,1,0\n", None),
-        (240, b",y,1,0\n", Some((2, 0))),
-        (240, b",y,one,0\n", Some((2, 0))),
-        (300, b",,1,0\n", Some((2, 0))),
-        (300, b",y,one,9\n", None),
-        (300, b",y,one,\n", None),
-        (1, b",y,9223372036854775808,0\n", Some((3, 1))),
-        (1, b",y,1\xFF,0\n", Some((3, 1))),
-        (1, b",y,,0\n", None),
-        (0, b",,,\n", None),
-    ];
-    for (letters, rest, want) in table {
+    for (letters, rest, want) in REFUSALS {
         let found = refusal_after(&rt, letters, rest)?;
         let want = want.map(|(cause, item)| Refusal { cause, item });
         assert!(rt; found == want, "{:?} of {letters} and {:?}", found, rest);
@@ -343,8 +358,7 @@ fn long_table(alloc: Global, rest: &[u8]) -> Result<Vec<u8>, AllocError> {
 fn blocks_of_rows(rt: HostRuntime) -> Result<(), Fail> {
     let text = long_table(rt.alloc(), b"")?;
     let mut groups = groups_of_text(&rt, text.as_slice())?;
-    let (_, state) = groups.take_first().ok_or("no group")?;
-    assert_eq!(rt; (state.rows, state.slots[1].sum), (600, 1800));
+    assert!(rt; gives(&mut groups, &[(b"\x01\0\0\0x\x01\0\0\0y", 600, 1800)]));
     Ok(())
 }
 
@@ -427,14 +441,15 @@ fn least_key_first(rt: HostRuntime) -> Result<(), Fail> {
 
 /// Takes the first of three groups, adds its key again with a value of 10, and then `c` with a value of 30. Whether
 /// the first was `a`.
-fn take_and_add(groups: &mut GroupMap) -> Result<bool, Fail> {
-    let (first, _) = groups.take_first().ok_or("no first group")?;
+fn take_and_add(groups: &mut GroupMap) -> Result<bool, AllocError> {
+    let Some((first, _)) = groups.take_first() else {
+        return Ok(false);
+    };
     if first.bytes() != b"a".as_slice() || groups.len() != 2 {
         return Ok(false);
     }
     groups.add(first, &one_value(10))?;
-    let last = GroupKey::of(b"c").ok_or("a short key")?;
-    groups.add(last, &one_value(30))?;
+    groups.add_bytes(b"c", &one_value(30))?;
     Ok(true)
 }
 
@@ -449,25 +464,40 @@ fn taken_and_added_again(rt: HostRuntime) -> Result<(), Fail> {
     Ok(())
 }
 
+/// A digit of a number: the one of this unit.
+fn digit(number: u64, unit: u64) -> u8
+    requires { 1 ≤ unit }
+{
+    b'0' + (number / unit % 10) as u8
+}
+
+/// The last four digits of a number.
+fn digits(number: u64) -> [u8; 4] {
+    [
+        digit(number, 1_000),
+        digit(number, 100),
+        digit(number, 10),
+        digit(number, 1),
+    ]
+}
+
 /// Rows of 9,000 groups, three of each, far from each other: enough for a look-ahead. A row's value is the number in its
 /// key.
 fn many_groups(alloc: Global) -> Result<Vec<u8>, AllocError> {
     let mut text = long_text(alloc, 0, b"")?;
     for n in 0..27_000_u64 {
-        let number = 1_000 + n * 7 % 9_000;
-        let line = format!(in alloc; "{number},y,{number},0\n")?;
-        text.extend_from_slice(line.as_bytes())?;
+        let [a, b, c, d] = digits(1_000 + n * 7 % 9_000);
+        let line = [a, b, c, d, b',', b'y', b',', a, b, c, d, b',', b'0', b'\n'];
+        text.extend_from_slice(&line)?;
     }
     Ok(text)
 }
 
 /// Takes the group of this number, the first of a map.
-fn take_number(alloc: Global, groups: &mut GroupMap, number: u64) -> Result<bool, AllocError> {
-    let digits = format!(in alloc; "{number}")?;
-    let mut bytes = Vec::from_slice(alloc, b"\x04\0\0\0")?;
-    bytes.extend_from_slice(digits.as_bytes())?;
-    bytes.extend_from_slice(b"\x01\0\0\0y")?;
-    Ok(match groups.take_first() {
+fn take_number(groups: &mut GroupMap, number: u64) -> bool {
+    let [a, b, c, d] = digits(number);
+    let bytes = [4, 0, 0, 0, a, b, c, d, 1, 0, 0, 0, b'y'];
+    match groups.take_first() {
         Some((key, state)) => {
             key.bytes() == bytes.as_slice()
                 && state.rows == 3
@@ -475,7 +505,7 @@ fn take_number(alloc: Global, groups: &mut GroupMap, number: u64) -> Result<bool
                 && state.slots[1].sum == 3 * i128::from(number)
         }
         None => false,
-    })
+    }
 }
 
 /// Adds the rows of a store to a map, block by block.
@@ -492,16 +522,16 @@ fn add_blocks(groups: &mut GroupMap, store: &RowStore, plan: &BoundPlan) -> Resu
 }
 
 /// Whether a map has the groups of [`many_groups`], and no other. They are taken.
-fn takes_all(alloc: Global, groups: &mut GroupMap) -> Result<bool, AllocError> {
+fn takes_all(groups: &mut GroupMap) -> bool {
     if groups.len() != 9_000 {
-        return Ok(false);
+        return false;
     }
     for number in 1_000..10_000 {
-        if !take_number(alloc, groups, number)? {
-            return Ok(false);
+        if !take_number(groups, number) {
+            return false;
         }
     }
-    Ok(groups.take_first().is_none())
+    groups.take_first().is_none()
 }
 
 /// A map whose table of keys grows, is emptied, and is filled and emptied again.
@@ -512,7 +542,7 @@ fn a_table_that_grows(rt: HostRuntime) -> Result<(), Fail> {
     let mut groups = GroupMap::new(rt.alloc());
     for _ in 0..2 {
         add_blocks(&mut groups, &store, &plan)?;
-        assert!(rt; takes_all(rt.alloc(), &mut groups)?);
+        assert!(rt; takes_all(&mut groups));
     }
     Ok(())
 }
@@ -528,8 +558,7 @@ fn states_combine(rt: HostRuntime) {
         least: -2,
         greatest: 9,
     };
-    assert_eq!(rt; (state.rows, state.slots[0].count), (2, 0));
-    assert_eq!(rt; state.slots[1], both);
+    assert!(rt; state.rows == 2 && state.slots[0].count == 0 && state.slots[1] == both);
 }
 
 #[test]
@@ -588,23 +617,25 @@ fn gives_states(groups: &mut GroupMap, states: &[AggState]) -> bool {
     groups.take_first().is_none()
 }
 
+/// Eight values in each row, by which states are made.
+const NUMBERS: [[i64; 8]; 9] = [
+    [0; 8],
+    [100, 5, 5, 5, 5, 0, 0, 0],
+    [100, 7, 7, 7, 7, 0, 0, 0],
+    [0, 0, 0, 0, 0, 0, 0, 0],
+    [100, 7, 7, 7, 3, 0, 0, 0],
+    [0, 7, 7, 7, 3, 0, 0, 0],
+    [100, 7, 7, 0, 3, 0, 100, 0],
+    [100, 7, 7, 0, 3, 0, 100, 9],
+    [1, 2, 3, 4, 5, 6, 7, 8],
+];
+
 /// States in which slots differ that were the same in all before them, or come that were empty: each key has the sum of
 /// its states, slot by slot.
 #[test]
 fn slots_of_all_kinds(rt: HostRuntime) -> Result<(), Fail> {
-    let table: [[i64; 8]; 9] = [
-        [0; 8],
-        [100, 5, 5, 5, 5, 0, 0, 0],
-        [100, 7, 7, 7, 7, 0, 0, 0],
-        [0, 0, 0, 0, 0, 0, 0, 0],
-        [100, 7, 7, 7, 3, 0, 0, 0],
-        [0, 7, 7, 7, 3, 0, 0, 0],
-        [100, 7, 7, 0, 3, 0, 100, 0],
-        [100, 7, 7, 0, 3, 0, 100, 9],
-        [1, 2, 3, 4, 5, 6, 7, 8],
-    ];
     let mut groups = GroupMap::new(rt.alloc());
-    let sums = add_by_turns(&mut groups, &table)?;
+    let sums = add_by_turns(&mut groups, &NUMBERS)?;
     assert!(rt; gives_states(&mut groups, &sums));
     Ok(())
 }
@@ -626,21 +657,29 @@ fn add_both_ways(
     Ok(())
 }
 
-/// Adds the rows of a text both ways, by the one plan or the other.
+/// Adds the rows of a text both ways, by this plan.
 fn add_text(
     rt: &HostRuntime,
     by_block: &mut GroupMap,
     by_hand: &mut GroupMap,
     text: &[u8],
-    other: bool,
+    plan: BoundPlan,
+) -> Result<(), Fail>
+    requires { HasColumns plan 4 }
+{
+    let (store, plan) = query_by(rt, text, plan)?;
+    add_both_ways(by_block, by_hand, &store, &plan)
+}
+
+/// Adds the rows of a text both ways, by one plan and then by the other.
+fn add_by_two_plans(
+    rt: &HostRuntime,
+    by_block: &mut GroupMap,
+    by_hand: &mut GroupMap,
+    text: &[u8],
 ) -> Result<(), Fail> {
-    if other {
-        let (store, plan) = other_query(rt, text)?;
-        add_both_ways(by_block, by_hand, &store, &plan)
-    } else {
-        let (store, plan) = query(rt, text)?;
-        add_both_ways(by_block, by_hand, &store, &plan)
-    }
+    add_text(rt, by_block, by_hand, text, count_plan())?;
+    add_text(rt, by_block, by_hand, text, greatest_plan())
 }
 
 /// A map of two plans: the second takes integers in the slot in which the first only counts.
@@ -649,8 +688,8 @@ fn groups_of_two_plans(rt: HostRuntime) -> Result<(), Fail> {
     let text = b"a,b,v,w\nx,y,4,4\nx,y,,5\nx,z,7,8\nx,y,6,-6\n";
     let mut by_block = GroupMap::new(rt.alloc());
     let mut by_hand = GroupMap::new(rt.alloc());
-    for other in [false, true, false, true] {
-        add_text(&rt, &mut by_block, &mut by_hand, text, other)?;
+    for _ in 0..2 {
+        add_by_two_plans(&rt, &mut by_block, &mut by_hand, text)?;
     }
     assert!(rt; give_the_same(&mut by_hand, &mut by_block, 2));
     Ok(())

@@ -194,14 +194,29 @@ fn is_one_group(got: &Gathered, workers: u32) -> bool {
         && got.finished.launched == workers
 }
 
+/// Whether these rows come to that group.
+fn has_one_group<R: Threads + Wait + Sync>(
+    rt: &R,
+    alloc: Global,
+    text: &[u8],
+    workers: u32,
+) -> Result<bool, Fail>
+    requires workers { workers ≤ 64 }
+{
+    let (store, plan) = query(alloc, text, false)?;
+    let got = gathered(rt, alloc, &store, &plan, workers, 0, &OpenGate)?;
+    Ok(is_one_group(&got, workers))
+}
+
 #[test]
 fn one_group_with_any_workers(rt: HostRuntime) -> Result<(), Fail> {
     let text = table(rt.alloc(), 768, 1, 0)?;
-    let (store, plan) = query(rt.alloc(), &text, false)?;
     for workers in [0, 1, 2, 8, 64] {
         if workers <= 64 {
-            let got = gathered(&rt, rt.alloc(), &store, &plan, workers, 0, &OpenGate)?;
-            assert!(rt; is_one_group(&got, workers), "with {workers} workers");
+            assert!(rt;
+                has_one_group(&rt, rt.alloc(), &text, workers)?,
+                "{workers} workers"
+            );
         }
     }
     Ok(())

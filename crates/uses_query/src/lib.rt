@@ -8,6 +8,4 @@ mod gathers;
 #[cfg(test)]
 mod generated;
 #[cfg(test)]
-mod meeting;
-#[cfg(test)]
 mod merges;

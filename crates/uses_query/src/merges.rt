@@ -6,7 +6,6 @@ ghost use Rattle.partial_agg.specs.Rows.{header_width};
 ghost use Rattle.gather_merge.specs.Answers.{OrdersRows};
 ghost use Rattle.gather_merge.specs.Order.{IsOrder};
 
-mod meeting;
 mod stopping;
 
 use csv_rows::{RowStore, rows};
@@ -97,20 +96,32 @@ fn is_order(merged: &Merged, list: &[u64]) -> bool {
     true
 }
 
-/// Whether the rows of a text come in this order, by its one column or by both of two.
+/// Whether this many workers were launched, and each came to its end.
+fn all_finished(merged: &Merged, workers: u32) -> bool {
+    for worker in &merged.finished.workers {
+        if worker.end != Some(WorkerEnd::Finished) {
+            return false;
+        }
+    }
+    merged.finished.launched == workers
+}
+
+/// Whether the rows of a text with this many columns come in this order, by its first column or by both of two, and all
+/// workers came to their ends.
 fn are_ordered<R: Threads + Wait + Sync>(
     rt: &R,
     alloc: Global,
     text: &[u8],
+    width: u32,
     both: bool,
     workers: u32,
     list: &[u64],
 ) -> Result<bool, Fail>
     requires workers { workers ≤ 64 }
 {
-    let (store, plan) = ordered_by(alloc, text, 2, both)?;
+    let (store, plan) = ordered_by(alloc, text, width, both)?;
     let got = merged(rt, alloc, &store, &plan, workers, &OpenGate)?;
-    Ok(is_order(&got, list))
+    Ok(is_order(&got, list) && all_finished(&got, workers))
 }
 
 #[test]
@@ -119,7 +130,7 @@ fn by_one_column_and_by_two(rt: HostRuntime) -> Result<(), Fail> {
     for workers in [0, 1, 2, 64] {
         if workers <= 64 {
             for (both, list) in [(false, [2, 4, 1, 3]), (true, [3, 4, 1, 2])] {
-                assert!(rt; are_ordered(&rt, rt.alloc(), text, both, workers, &list)?);
+                assert!(rt; are_ordered(&rt, rt.alloc(), text, 2, both, workers, &list)?);
             }
         }
     }
@@ -139,29 +150,14 @@ fn by_digits(alloc: Global, count: u64) -> Result<Vec<u64>, AllocError> {
     Ok(list)
 }
 
-/// Whether this many workers were launched, and each came to its end.
-fn all_finished(merged: &Merged, workers: u32) -> bool {
-    for worker in &merged.finished.workers {
-        if worker.end != Some(WorkerEnd::Finished) {
-            return false;
-        }
-    }
-    merged.finished.launched == workers
-}
-
 /// The place of each row of 2,000 is known.
 #[test]
 fn two_thousand_rows(rt: HostRuntime) -> Result<(), Fail> {
     let text = sevens(rt.alloc(), 2_000)?;
-    let (store, plan) = ordered_by(rt.alloc(), &text, 1, false)?;
     let list = by_digits(rt.alloc(), 2_000)?;
     for workers in [0, 1, 3] {
         if workers <= 64 {
-            let got = merged(&rt, rt.alloc(), &store, &plan, workers, &OpenGate)?;
-            assert!(rt;
-                is_order(&got, &list) && all_finished(&got, workers),
-                "with {workers} workers"
-            );
+            assert!(rt; are_ordered(&rt, rt.alloc(), &text, 1, false, workers, &list)?);
         }
     }
     Ok(())
@@ -169,9 +165,7 @@ fn two_thousand_rows(rt: HostRuntime) -> Result<(), Fail> {
 
 #[test]
 fn no_rows(rt: HostRuntime) -> Result<(), Fail> {
-    let (store, plan) = ordered_by(rt.alloc(), b"n\n", 1, false)?;
-    let got = merged(&rt, rt.alloc(), &store, &plan, 3, &OpenGate)?;
-    assert_eq!(rt; got.order.len(), 0);
+    assert!(rt; are_ordered(&rt, rt.alloc(), b"n\n", 1, false, 3, &[])?);
     Ok(())
 }
 

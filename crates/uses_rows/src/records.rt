@@ -3,7 +3,7 @@
 ghost use Rattle.std.specs.Prelude.{◌≡◌, IfSome};
 ghost use Rattle.csv_rows.specs.Records.{records_of};
 
-use csv_rows::{RowStore, read_all, read_integer, rows, rows_in_threads};
+use csv_rows::{RowStore, read_all, rows, rows_in_threads};
 use par_io::{MemSource, Source};
 use std::alloc::{AllocError, Global};
 use std::test::Fail;
@@ -78,45 +78,46 @@ fn agree(one: &RowStore, other: &RowStore) -> bool {
 
 /// Ragged rows, the first of them early, late and in the middle; quotes in odd places and quotes left open; bytes that
 /// are no text; line ends, byte order marks, and lines and fields that are empty.
+const ODD_TEXTS: [(&[u8], &[u8]); 31] = [
+    (b"a,b\n1\n1,2,3", b"a|b|/1|/1|2|3|/"),
+    (b"a,b\n1,2,\n,", b"a|b|/1|2||/||/"),
+    (b"a,b\n1,2\n3,4\n5", b"a|b|/1|2|/3|4|/5|/"),
+    (
+        b"a,b\n1,2\n3\n4,5\n6,7,8\n9,0",
+        b"a|b|/1|2|/3|/4|5|/6|7|8|/9|0|/",
+    ),
+    (b"a\n1,2\n3\n4", b"a|/1|2|/3|/4|/"),
+    (b"a,b,c", b"a|b|c|/"),
+    (b"a,b,c\n,,\n1,,3\n,2,", b"a|b|c|/|||/1||3|/|2||/"),
+    (b"a,b,c\n\n,,3\n,\n1,2,", b"a|b|c|/||3|/||/1|2||/"),
+    (b"a,,c,,\n1,22,,,333\n", b"a||c|||/1|22|||333|/"),
+    (b"\"x,\"\"y\"\"\",z\r\n\r\n1,2\r\n", b"x,\"y\"|z|/1|2|/"),
+    (b"a\"b\n\"c\"d\n", b"a\"b|/cd|/"),
+    (b"\"c\"x\"y\",d\n", b"cx\"y\"|d|/"),
+    (b" \"a\",\"\"\"\"\n", b" \"a\"|\"|/"),
+    (b"\"a\" ,b\n", b"a |b|/"),
+    (b"v\n\"x\ny,z", b"v|/x\ny,z|/"),
+    (b"v\n\"", b"v|/|/"),
+    (b"v\n\"a\"\"", b"v|/a\"|/"),
+    (b"v\n\"x\r\ny\",\"\r\"\n", b"v|/x\r\ny|\r|/"),
+    (b"\xFF\xFE,\xC3\n\0\n", b"\xFF\xFE|\xC3|/\0|/"),
+    (b"v\r\n1\r\n", b"v|/1|/"),
+    (b"v\r1\r2", b"v|/1|/2|/"),
+    (b"v\n\n\n1\r\n\r\n", b"v|/1|/"),
+    (b"v\n \n\t\n", b"v|/ |/\t|/"),
+    (b"v\n\"\"\n", b"v|/|/"),
+    (b",\n", b"||/"),
+    (b"\xEF\xBB\xBFg\n5\n", b"g|/5|/"),
+    (b"\xEF\xBB\xBF\"g,h\"\n5\n", b"g,h|/5|/"),
+    (b"\xEF\xBB\xBF\xEF\xBB\xBFg\n", b"\xEF\xBB\xBFg|/"),
+    (b"g\n\xEF\xBB\xBF5\n", b"g|/\xEF\xBB\xBF5|/"),
+    (b"\xEF\xBBg\n", b"\xEF\xBBg|/"),
+    (b"\xEF\xBB\xBF\n\ng\n", b"g|/"),
+];
+
 #[test]
 fn odd_text(rt: HostRuntime) -> Result<(), Fail> {
-    let table: [(&[u8], &[u8]); 31] = [
-        (b"a,b\n1\n1,2,3", b"a|b|/1|/1|2|3|/"),
-        (b"a,b\n1,2,\n,", b"a|b|/1|2||/||/"),
-        (b"a,b\n1,2\n3,4\n5", b"a|b|/1|2|/3|4|/5|/"),
-        (
-            b"a,b\n1,2\n3\n4,5\n6,7,8\n9,0",
-            b"a|b|/1|2|/3|/4|5|/6|7|8|/9|0|/",
-        ),
-        (b"a\n1,2\n3\n4", b"a|/1|2|/3|/4|/"),
-        (b"a,b,c", b"a|b|c|/"),
-        (b"a,b,c\n,,\n1,,3\n,2,", b"a|b|c|/|||/1||3|/|2||/"),
-        (b"a,b,c\n\n,,3\n,\n1,2,", b"a|b|c|/||3|/||/1|2||/"),
-        (b"a,,c,,\n1,22,,,333\n", b"a||c|||/1|22|||333|/"),
-        (b"\"x,\"\"y\"\"\",z\r\n\r\n1,2\r\n", b"x,\"y\"|z|/1|2|/"),
-        (b"a\"b\n\"c\"d\n", b"a\"b|/cd|/"),
-        (b"\"c\"x\"y\",d\n", b"cx\"y\"|d|/"),
-        (b" \"a\",\"\"\"\"\n", b" \"a\"|\"|/"),
-        (b"\"a\" ,b\n", b"a |b|/"),
-        (b"v\n\"x\ny,z", b"v|/x\ny,z|/"),
-        (b"v\n\"", b"v|/|/"),
-        (b"v\n\"a\"\"", b"v|/a\"|/"),
-        (b"v\n\"x\r\ny\",\"\r\"\n", b"v|/x\r\ny|\r|/"),
-        (b"\xFF\xFE,\xC3\n\0\n", b"\xFF\xFE|\xC3|/\0|/"),
-        (b"v\r\n1\r\n", b"v|/1|/"),
-        (b"v\r1\r2", b"v|/1|/2|/"),
-        (b"v\n\n\n1\r\n\r\n", b"v|/1|/"),
-        (b"v\n \n\t\n", b"v|/ |/\t|/"),
-        (b"v\n\"\"\n", b"v|/|/"),
-        (b",\n", b"||/"),
-        (b"\xEF\xBB\xBFg\n5\n", b"g|/5|/"),
-        (b"\xEF\xBB\xBF\"g,h\"\n5\n", b"g,h|/5|/"),
-        (b"\xEF\xBB\xBF\xEF\xBB\xBFg\n", b"\xEF\xBB\xBFg|/"),
-        (b"g\n\xEF\xBB\xBF5\n", b"g|/\xEF\xBB\xBF5|/"),
-        (b"\xEF\xBBg\n", b"\xEF\xBBg|/"),
-        (b"\xEF\xBB\xBF\n\ng\n", b"g|/"),
-    ];
-    for (text, want) in table {
+    for (text, want) in ODD_TEXTS {
         let found = shown_text(rt.alloc(), text)?;
         assert!(rt;
             found.as_slice() == want,
@@ -158,27 +159,28 @@ fn reads_alike<R: Threads + Sync>(
 
 /// Texts that stand where two threads' parts meet: empty lines, carriage returns, byte order marks, and quotes in odd
 /// places, open, doubled and with line feeds between them.
+const ODD_CUTS: [&[u8]; 15] = [
+    b"a,b\n1,2\n3,4\n5,6\n",
+    b"a,b\n1,2\n3,4,5\n6",
+    b"a\r\n1\r\n2\r\n3\r\n",
+    b"a\n\n\n\n1\n\n2\n",
+    b"\n\n\n\n\na\n",
+    b"a\r1\r2\r3",
+    b"\xEF\xBB\xBFg\n\xEF\xBB\xBF5\n\xEF\xBB\xBF6\n\xEF\xBB\xBF\n",
+    b"\xEF\xBB\xBF\"g\nh\"\n\xEF\xBB\xBF\"5\n6\"\n",
+    b"\xEF\xBB\n\xEF\xBB\xBF\n",
+    b"a\n\"x\ny\nz\nw\n",
+    b"a\n\"x\ny\",\"z\n\"\"\nw\"\nv\n",
+    b"a\"b\n\"c\"d\ne\"\"f\n\"\"\"\n\"\n",
+    b"\"a\",\"b\"\n\"1\n\",\"\n2\"\n3,4\n",
+    b"v\n\"\r\n\"\r\n\"\n",
+    b"a,\"\n,\",b\n,\"\"\n\"\",\n",
+];
+
 #[test]
 fn odd_cuts(rt: HostRuntime) -> Result<(), Fail> {
-    let texts: [&[u8]; 15] = [
-        b"a,b\n1,2\n3,4\n5,6\n",
-        b"a,b\n1,2\n3,4,5\n6",
-        b"a\r\n1\r\n2\r\n3\r\n",
-        b"a\n\n\n\n1\n\n2\n",
-        b"\n\n\n\n\na\n",
-        b"a\r1\r2\r3",
-        b"\xEF\xBB\xBFg\n\xEF\xBB\xBF5\n\xEF\xBB\xBF6\n\xEF\xBB\xBF\n",
-        b"\xEF\xBB\xBF\"g\nh\"\n\xEF\xBB\xBF\"5\n6\"\n",
-        b"\xEF\xBB\n\xEF\xBB\xBF\n",
-        b"a\n\"x\ny\nz\nw\n",
-        b"a\n\"x\ny\",\"z\n\"\"\nw\"\nv\n",
-        b"a\"b\n\"c\"d\ne\"\"f\n\"\"\"\n\"\n",
-        b"\"a\",\"b\"\n\"1\n\",\"\n2\"\n3,4\n",
-        b"v\n\"\r\n\"\r\n\"\n",
-        b"a,\"\n,\",b\n,\"\"\n\"\",\n",
-    ];
     let half = repeated(rt.alloc(), LINE, LINES / 2, b"")?;
-    for text in texts {
+    for text in ODD_CUTS {
         assert!(rt;
             reads_alike(&rt, rt.alloc(), half.as_slice(), text)?,
             "{text:?}"
@@ -217,36 +219,6 @@ fn even_table(rt: HostRuntime) -> Result<(), Fail> {
         assert!(rt; found == want);
     }
     Ok(())
-}
-
-/// Fields at the limits of 64 bits and past them, with spaces and signs, and with what is neither.
-#[test]
-fn integers_of_fields(rt: HostRuntime) {
-    let table: [(&[u8], Option<i64>); 20] = [
-        (b" +9223372036854775807 ", Some(i64::MAX)),
-        (b"+9223372036854775808", None),
-        (b"18446744073709551616", None),
-        (b"  -9223372036854775808", Some(i64::MIN)),
-        (b"-9223372036854775809", None),
-        (b"-00000000000000000000000000000000009", Some(-9)),
-        (b"-0", Some(0)),
-        (b"+0 ", Some(0)),
-        (b"   ", None),
-        (b"+", None),
-        (b"-", None),
-        (b"--1", None),
-        (b"+-1", None),
-        (b"- 1", None),
-        (b"1-", None),
-        (b"1\r", None),
-        (b"1\0", None),
-        (b"0x1", None),
-        (b"1,000", None),
-        (b"\xEF\xBC\x91", None),
-    ];
-    for (field, want) in table {
-        assert_eq!(rt; read_integer(field), want, "{field:?}");
-    }
 }
 
 /// The records of a source that gives pieces of 3 bytes, and of which this call fails.

@@ -1,4 +1,4 @@
-use Rattle.std.proofs.Common.{◌≡◌, ◌↔◌, ◌<◌, ℕ, eqb, get_or, length, map, sym, subst, ◌∙◌, arith, w8}
+use Rattle.std.proofs.Common.{◌≡◌, ◌↔◌, ◌<◌, eqb, get_or, length, map, sym, subst, ◌∙◌, arith, w8}
 use Rattle.std.specs.Int.{bit_at}
 use Rattle.std.proofs.lemmas.Simd.{bit_mask_l, bitmask_splat}
 use Rattle.csv_rows.proofs.Bits.{bit-of}

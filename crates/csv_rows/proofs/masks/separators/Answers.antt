@@ -1,4 +1,4 @@
-use Rattle.std.proofs.Common.{◌≡◌, ◌<◌, ◌+◌, ◌∙◌, ℕ, slice_index}
+use Rattle.std.proofs.Common.{◌≡◌, ◌<◌, ◌+◌, ◌∙◌, slice_index}
 use Rattle.std.proofs.lemmas.List.{get_or-drop, take_rest}
 use Rattle.csv_rows.proofs.Bits.{either-bit, same-bit}
 use Rattle.csv_rows.proofs.masks.separators.Goals as goal

@@ -1,7 +1,7 @@
 use Rattle.std.proofs.Common.{◌≡◌, ◌<◌, ◌∙◌, true, sym, length, arith, rules}
 use Rattle.std.specs.Result.{is_ok}
 use Rattle.csv_rows.specs.Records.{records_of}
-use Rattle.csv_rows.specs.Pieces.{joined}
+use Rattle.csv_rows.specs.InPieces.{joined}
 use Rattle.csv_rows.proofs.Joined.{joined-append}
 use Rattle.csv_rows.proofs.Parts.{parts-at}
 use Rattle.csv_rows.proofs.pieces.+fn-read_pieces-join+arg2+fn-read_pieces-join+arg3+read_pieces.Goals as goal

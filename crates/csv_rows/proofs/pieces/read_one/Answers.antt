@@ -1,6 +1,6 @@
 use Rattle.std.proofs.Common.{◌≡◌, ◌∙◌, List, ℕ, true, sym, ap, rules}
 use Rattle.std.specs.Result.{is_ok}
-use Rattle.csv_rows.specs.Pieces.{joined}
+use Rattle.csv_rows.specs.InPieces.{joined}
 use Rattle.csv_rows.proofs.Joined.{joined-none, joined-one}
 use Rattle.csv_rows.proofs.pieces.read_one.Goals as goal
 

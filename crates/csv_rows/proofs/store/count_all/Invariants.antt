@@ -1,5 +1,5 @@
 use Rattle.std.proofs.Common.{◌≡◌, ◌≤◌, length, take}
-use Rattle.csv_rows.specs.Pieces.{joined}
+use Rattle.csv_rows.specs.InPieces.{joined}
 use Rattle.csv_rows.proofs.store.count_all.Given as goal
 
 abbrev pub invariant-pieces : goal.invariant-pieces

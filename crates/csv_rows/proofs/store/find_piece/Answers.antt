@@ -1,6 +1,6 @@
 use Rattle.std.proofs.Common.{◌<◌, ℕ, List, [], get_or, length, refl, subst, sym, ap, arith}
 use Rattle.std.proofs.lemmas.List.{get_or_read}
-use Rattle.csv_rows.specs.Pieces.{IsPieceAt, joined}
+use Rattle.csv_rows.specs.InPieces.{IsPieceAt, joined}
 use Rattle.csv_rows.proofs.Joined.{joined-none, joined-piece, length-more}
 use Rattle.csv_rows.proofs.store.find_piece.Goals as goal
 

@@ -1,4 +1,4 @@
-use Rattle.std.proofs.Common.{◌≡◌, ℕ, ◌+◌, ◌*◌, ◌≤◌, Option, take, length, Some, sym, ap, subst, arith}
+use Rattle.std.proofs.Common.{◌≡◌, ℕ, ◌+◌, ◌*◌, ◌≤◌, Option, take, length, Some, ◌∙◌, sym, ap, subst, arith}
 use Rattle.rel_pointer.specs.Bytes.{word_count}
 use Rattle.ring_rule.specs.Ring.{Ring, Receiving}
 use Rattle.mq_ring.specs.Ends.{ReceivingEnd}
@@ -10,7 +10,7 @@ use Rattle.mq_handle.specs.declared.answers.ReceiveAnswer.TheVariants.{Message, 
 use Rattle.mq_handle.specs.ReceiveAnswers.{HasPlace, steps_beside}
 use Rattle.mq_handle.proofs.Hands.{Grows, hand_low}
 use Rattle.mq_handle.proofs.SendTries.{chosen_true, chosen_false}
-use Rattle.mq_handle.proofs.Receipts.{came, same_whole, gives_on, received_is, few_words, finds_same, finds_ring, hand_same}
+use Rattle.mq_handle.proofs.Receipts.{came, same_whole, gives_on, received_is, few_by, few_words, finds_same, finds_ring, hand_same, place_by, some_words, steps_whole}
 use Rattle.mq_handle.proofs.receiving.receive_frame.Goals as goal
 
 pub returns-in-Some-clause-answer : goal.returns-in-Some-clause-answer
@@ -28,7 +28,7 @@ returns-clause-hand c =
     let full = chosen_true _ _ c.loop-whole.whole c.loop-whole-test.false c.loop-whole.invariant.whole in
     let before : InHand c.loop-whole.rx.end.ring.max (before_of c.args.rx.now.end c.args.taken.words) c.args.rx.now.end.taken c.args.buffer.now c.args.taken.words c.args.taken.len =
     subst (λ (r : Ring). InHand r.max (before_of c.args.rx.now.end c.args.taken.words) c.args.rx.now.end.taken c.args.buffer.now c.args.taken.words c.args.taken.len) (sym c.loop-whole.invariant.takes.ring) c.requires.hand in
-    let room : length c.loop-whole.buffer ≡ c.loop-whole.rx.end.ring.max = omega (arith, c.loop-whole.auto.buffer, c.requires.room, ap (λ (r : Ring). r.max) c.loop-whole.invariant.takes.ring) in
+    let room = c.loop-whole.auto.buffer ∙ c.take_words-done.auto.buffer ∙ c.requires.room ∙ sym (ap (λ (r : Ring). r.max) c.loop-whole.invariant.takes.ring) in
     let m = came _ _ _ _ _ _ _ _ _ _ before c.requires.unfinished c.loop-whole.invariant.hand full room in
     let last : c.finish_taking.new.rx.end ≡ record c.loop-whole.rx.end { returned = c.finish_taking.new.rx.end.returned; turn = c.finish_taking.new.rx.end.turn } = ap (λ (o : ReceivingEnd). o.end) c.finish_taking.ensures.kept in
     subst (λ (q : Receiving). InHand q.ring.max (before_of q c.finish_taking.result.words) q.taken c.loop-whole.buffer c.finish_taking.result.words c.finish_taking.result.len) (sym last)
@@ -40,7 +40,7 @@ returns-clause-answer c =
     let full = chosen_true _ _ c.loop-whole.whole c.loop-whole-test.false c.loop-whole.invariant.whole in
     let before : InHand c.loop-whole.rx.end.ring.max (before_of c.args.rx.now.end c.args.taken.words) c.args.rx.now.end.taken c.args.buffer.now c.args.taken.words c.args.taken.len =
     subst (λ (r : Ring). InHand r.max (before_of c.args.rx.now.end c.args.taken.words) c.args.rx.now.end.taken c.args.buffer.now c.args.taken.words c.args.taken.len) (sym c.loop-whole.invariant.takes.ring) c.requires.hand in
-    let room : length c.loop-whole.buffer ≡ c.loop-whole.rx.end.ring.max = omega (arith, c.loop-whole.auto.buffer, c.requires.room, ap (λ (r : Ring). r.max) c.loop-whole.invariant.takes.ring) in
+    let room = c.loop-whole.auto.buffer ∙ c.take_words-done.auto.buffer ∙ c.requires.room ∙ sym (ap (λ (r : Ring). r.max) c.loop-whole.invariant.takes.ring) in
     let m = came _ _ _ _ _ _ _ _ _ _ before c.requires.unfinished c.loop-whole.invariant.hand full room in
     let last : c.finish_taking.new.rx.end ≡ record c.loop-whole.rx.end { returned = c.finish_taking.new.rx.end.returned; turn = c.finish_taking.new.rx.end.turn } = ap (λ (o : ReceivingEnd). o.end) c.finish_taking.ensures.kept in
     subst (λ (q : Receiving). IsReceived c.args.rx.now.end q (take c.finish_taking.result.len c.loop-whole.buffer)) (sym last)
@@ -50,8 +50,9 @@ returns-clause-answer c =
 pub returns-clause-place : goal.returns-clause-place
 returns-clause-place c =
     let full = chosen_true _ _ c.loop-whole.whole c.loop-whole-test.false c.loop-whole.invariant.whole in
-    let low = hand_low _ _ _ _ _ _ c.loop-whole.invariant.hand (omega (arith, full)) in
-    omega (arith, low.1, c.loop-whole.auto.buffer, c.requires.room, ap (λ (r : Ring). r.max) c.loop-whole.invariant.takes.ring, c.finish_taking.ensures.next.1)
+    let low = hand_low _ _ _ _ _ _ c.loop-whole.invariant.hand (some_words c.loop-whole.taken.words (word_count c.loop-whole.taken.len) full) in
+    place_by c.loop-whole.taken.len c.finish_taking.result.len c.loop-whole.rx.end.ring.max (length c.loop-whole.buffer) c.finish_taking.ensures.next.1 low.1
+    (c.loop-whole.auto.buffer ∙ c.take_words-done.auto.buffer ∙ c.requires.room ∙ sym (ap (λ (r : Ring). r.max) c.loop-whole.invariant.takes.ring))
 
 -- any other answer asks for no place
 none_asked : (answer : ReceiveAnswer) (old new : Receiving) (ready len room : ℕ) → Finds old new ready (Some answer) → HasPlace answer len room
@@ -70,7 +71,8 @@ returns-clause-few c =
     let before : InHand c.loop-whole.rx.end.ring.max (before_of c.args.rx.now.end c.args.taken.words) c.args.rx.now.end.taken c.args.buffer.now c.args.taken.words c.args.taken.len =
     subst (λ (r : Ring). InHand r.max (before_of c.args.rx.now.end c.args.taken.words) c.args.rx.now.end.taken c.args.buffer.now c.args.taken.words c.args.taken.len) (sym c.loop-whole.invariant.takes.ring) c.requires.hand in
     let few = few_words _ _ _ _ _ _ _ _ _ _ before c.loop-whole.invariant.hand in
-    omega (arith, few, ap (λ (o : ReceivingEnd). length o.end.taken) c.finish_taking.ensures.kept, ap (λ (r : Ring). word_count r.max) c.loop-whole.invariant.takes.ring)
+    few_by (length c.finish_taking.new.rx.end.taken) (length c.loop-whole.rx.end.taken) (length c.args.rx.now.end.taken) (word_count c.loop-whole.rx.end.ring.max) (word_count c.args.rx.now.end.ring.max)
+    (ap (λ (o : ReceivingEnd). length o.end.taken) c.finish_taking.ensures.kept) (ap (λ (r : Ring). word_count r.max) c.loop-whole.invariant.takes.ring) few
 
 pub returns-in-Some-clause-few : goal.returns-in-Some-clause-few
 returns-in-Some-clause-few c =
@@ -79,7 +81,8 @@ returns-in-Some-clause-few c =
     let few = few_words _ _ _ _ _ _ _ _ _ _ before c.loop-whole.invariant.hand in
     let found : Finds c.loop-whole.rx.end c.look_for_words-answer.new.rx.end c.look_for_words-answer.result.0.ready (Some c.in-Some.answer) =
     subst (λ (a : Option ReceiveAnswer). Finds c.loop-whole.rx.end c.look_for_words-answer.new.rx.end c.look_for_words-answer.result.0.ready a) c.in-Some.is c.look_for_words-answer.ensures.found in
-    omega (arith, few, ap length (finds_same c.loop-whole.rx.end c.look_for_words-answer.new.rx.end c.look_for_words-answer.result.0.ready c.in-Some.answer found), ap (λ (r : Ring). word_count r.max) c.loop-whole.invariant.takes.ring)
+    few_by (length c.look_for_words-answer.new.rx.end.taken) (length c.loop-whole.rx.end.taken) (length c.args.rx.now.end.taken) (word_count c.loop-whole.rx.end.ring.max) (word_count c.args.rx.now.end.ring.max)
+    (ap length (finds_same c.loop-whole.rx.end c.look_for_words-answer.new.rx.end c.look_for_words-answer.result.0.ready c.in-Some.answer found)) (ap (λ (r : Ring). word_count r.max) c.loop-whole.invariant.takes.ring) few
 
 pub returns-clause-grows : goal.returns-clause-grows
 returns-clause-grows c = subst (Grows c.args.rx.now.end.taken) (sym (ap (λ (o : ReceivingEnd). o.end.taken) c.finish_taking.ensures.kept)) c.loop-whole.invariant.takes.grows
@@ -105,7 +108,8 @@ returns-in-Some-clause-steps c =
 
 pub returns-clause-steps : goal.returns-clause-steps
 returns-clause-steps c =
-    omega (arith, c.loop-whole.invariant.steps, c.finish_taking.ensures.few, ap (λ (o : ReceivingEnd). length o.end.taken) c.finish_taking.ensures.kept)
+    steps_whole c.loop-whole.rx.end.turn c.finish_taking.new.rx.end.turn (length c.args.rx.now.end.taken) (length c.loop-whole.rx.end.taken) (length c.finish_taking.new.rx.end.taken) c.args.rx.now.end.turn
+    c.loop-whole.invariant.steps c.finish_taking.ensures.few (ap (λ (o : ReceivingEnd). length o.end.taken) c.finish_taking.ensures.kept)
 
 pub returns-in-Some-clause-hand : goal.returns-in-Some-clause-hand
 returns-in-Some-clause-hand c =
