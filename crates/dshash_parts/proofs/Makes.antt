@@ -7,7 +7,6 @@ use Rattle.dshash_parts.specs.declared.asks.TableAnswer.TheVariants.{Came, Size,
 use Rattle.dshash_parts.specs.declared.asks.TableAsk.{TableAsk}
 use Rattle.dshash_parts.specs.declared.asks.TableAsk.TheVariants.{Make, MakeShort, Look, Grow, List as ListAll, Take}
 use Rattle.dshash_parts.specs.declared.histories.PartitionName.{PartitionName}
-use Rattle.dshash_parts.specs.declared.histories.PartitionCalls.{PartitionCalls}
 use Rattle.dshash_parts.specs.declared.histories.PartitionCalls.TheVariants.{Call}
 
 -- what is so of a call is so of an ask of the same parts
