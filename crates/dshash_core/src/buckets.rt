@@ -20,12 +20,19 @@ use std::marker::Model;
 /// The buckets of a slice. Contracts see the items of each bucket's chain, in order.
 #[derive(Drop)]
 pub struct Buckets {
+    /// The words of the slice and of all items.
     part: Part,
+    /// The first word of the slice, which is that of bucket 0.
     slice: u64,
+    /// The words of the slice, at least one for each bucket.
     words: u64,
+    /// The number of buckets.
     buckets: u64,
+    /// The words of a key.
     key_words: u64,
+    /// The words of a value.
     value_words: u64,
+    /// The bytes of an item's chunk.
     item_bytes: u64,
 }
 

@@ -6,8 +6,20 @@ ghost use Rattle.dshash_core.specs.Key.{fnv_word, finalized, hash_of, packed_key
 
 use rel_pointer::{pack, unpack};
 
+/// The bytes of the longest byte string that is packed into a key.
+pub const MOST_PACKED_BYTES: usize = 248;
+
+/// The words of a packed key: the length of the byte string, and its bytes.
+pub const PACKED_WORDS: usize = 32;
+
 /// The prime of the hash.
 const PRIME: u32 = 0x0100_0193;
+
+/// The hash before the first byte.
+const OFFSET_BASIS: u32 = 0x811c_9dc5;
+
+/// The factor of the hash's last step.
+const SPREAD: u32 = 0x85eb_ca6b;
 
 /// The prime to the eighth power, modulo 2^32. Eight bytes that are 0 change the hash by this product alone, so the
 /// words of 0 behind a short packed key cost one step each and not eight.
@@ -31,7 +43,7 @@ fn finalize(hash: u32) -> u32
     ensures { result ≡ finalized hash }
 {
     let high = hash ^ (hash >> 16);
-    let product = high.wrapping_mul(0x85eb_ca6b);
+    let product = high.wrapping_mul(SPREAD);
     product ^ (product >> 13)
 }
 
@@ -40,34 +52,34 @@ fn finalize(hash: u32) -> u32
 pub fn hash_key(key: &[u64]) -> u32
     ensures { result ≡ hash_of key.now }
 {
-    let hash = key.iter().fold(0x811c_9dc5, |h, word| hash_word(h, *word));
+    let hash = key.iter().fold(OFFSET_BASIS, |h, word| hash_word(h, *word));
     finalize(hash)
 }
 
 /// A byte string as a key of 32 words, where it has at most 248 bytes.
-pub fn pack_key(bytes: &[u8]) -> Option<[u64; 32]>
+pub fn pack_key(bytes: &[u8]) -> Option<[u64; PACKED_WORDS]>
     ensures long { IsNone result ↔ (248 < length bytes.now) }
     ensures key { IfSome result (λ key. key ≡ packed_key bytes.now) }
     ensures packed { IfSome result IsPackedKey }
 {
-    if bytes.len() > 248 {
+    if bytes.len() > MOST_PACKED_BYTES {
         return None;
     }
-    let mut key = [0; 32];
+    let mut key = [0; PACKED_WORDS];
     key[0] = bytes.len() as u64;
-    for i in 0..31 {
+    for i in 0..PACKED_WORDS - 1 {
         key[1 + i] = pack(bytes, i as u64);
     }
     Some(key)
 }
 
 /// Writes the byte string of a packed key to the front of `out`, and gives its length.
-pub fn unpack_key(key: &[u64], out: &mut [u8; 248]) -> usize
+pub fn unpack_key(key: &[u64], out: &mut [u8; MOST_PACKED_BYTES]) -> usize
     requires { IsPackedKey key.now }
     ensures reads { (bytes : List ℕ) → AllBytes bytes → length bytes ≤ 248 → key.now ≡ packed_key bytes → (result ≡ length bytes) × (take result out.new ≡ bytes) }
     ensures encodes { key.now ≡ packed_key (take result out.new) }
 {
-    for i in 0..31 {
+    for i in 0..PACKED_WORDS - 1 {
         unpack(key[1 + i], out, i as u64);
     }
     key[0] as usize

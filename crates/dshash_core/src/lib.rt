@@ -6,8 +6,8 @@
 //! The buckets of a slice own the words of their chains and show them as lists of items (`buckets`); how many there
 //! are, and when there are too few, goes by the partition's size (`sizes`). A call finds its key's item and changes it,
 //! takes it out, or hangs a new one in (`calls`), and its answer says what it lacked (`outcome`); or the partition
-//! chooses the key that goes (`taking`). A listing walks all chains (`entries`). The partition puts these together, and shows one map (`partition`): `IsPartition` of specs/Cells
-//! is its invariant.
+//! chooses the key that goes (`taking`). A listing walks all chains (`entries`). The partition puts these together, and
+//! shows one map (`partition`): `IsPartition` of specs/Cells is its invariant.
 
 #![tactic(auto)]
 
@@ -24,7 +24,7 @@ mod words;
 
 pub use buckets::Buckets;
 pub use entries::{Entry, KeyWords};
-pub use key::{hash_key, item_bytes, pack_key, unpack_key};
+pub use key::{MOST_PACKED_BYTES, PACKED_WORDS, hash_key, item_bytes, pack_key, unpack_key};
 pub use object::CellObject;
 pub use outcome::CoreOut;
 pub use partition::Partition;

@@ -32,9 +32,13 @@ use std::mem;
 /// One partition. Contracts see its region, its slice, its size and the map of states under their keys.
 #[derive(Drop)]
 pub struct Partition<O: CellObject> {
+    /// The slice and the chains.
     buckets: Buckets,
+    /// Its size, from 7 to 20.
     size: u32,
+    /// The number of its keys.
     count: u64,
+    /// Room for the words of one value.
     buffer: Vec<u64>,
     /// The bucket from which `take_any` took last. It goes on from there.
     hand: u64,

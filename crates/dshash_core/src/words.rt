@@ -13,7 +13,9 @@ use region_words::{Chunk, Part, Region};
 /// Where an item stands, and which word links to it.
 #[derive(Clone, Copy)]
 pub struct Spot {
+    /// The word that has the item's place: its bucket's, or the first word of the item before it.
     pub link: u64,
+    /// The item's first word.
     pub item: u64,
 }
 

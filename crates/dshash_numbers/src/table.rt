@@ -12,7 +12,7 @@ ghost use Rattle.dshash_numbers.specs.declared.table.TheConstants.{MOST_KEY_BYTE
 
 use crate::number::{Number, NumberCall};
 use dsa_area::{Area, AreaPass, NoSpace};
-use dshash_core::{Entry, pack_key};
+use dshash_core::{Entry, MOST_PACKED_BYTES, PACKED_WORDS, pack_key};
 use dshash_parts::{DsNew, DsPass, Dshash};
 use dshash_scan::list_all;
 use region_words::Region;
@@ -20,10 +20,10 @@ use std::alloc::{AllocError, Global};
 use std::sync::Wait;
 
 /// The longest key, which is the longest that `pack_key` packs.
-pub const MOST_KEY_BYTES: usize = 248;
+pub const MOST_KEY_BYTES: usize = MOST_PACKED_BYTES;
 
 /// The words of a packed key.
-const KEY_WORDS: u32 = 32;
+const KEY_WORDS: u32 = PACKED_WORDS as u32;
 
 /// A table of numbers, with the pass of its one caller. Items and slices come from an area, whose pass the caller hands
 /// in with each call.

@@ -14,3 +14,4 @@ pub mod Lookups
 pub mod Done
 pub mod Takings
 pub mod Tries
+pub mod Makes

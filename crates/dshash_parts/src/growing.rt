@@ -12,7 +12,7 @@ use crate::requests::{ask, give};
 use crate::table::{DsPass, Dshash};
 use crate::turns::{grow_at, look_at};
 use dsa_area::{Area, AreaPass, NoSpace};
-use dshash_core::{CellObject, bucket_count};
+use dshash_core::{CellObject, PARTITIONS, bucket_count};
 use region_words::Region;
 use std::sync::Wait;
 
@@ -90,7 +90,7 @@ where
         (λ _. Swept O.stepped area.now (number_of pass.old) size 128 (sight_of pass.old apass.old) (sight_of pass.new apass.new))
         (λ lack. SweptUntil O.stepped area.now (number_of pass.old) size lack.pages lack.largest (sight_of pass.old apass.old) (sight_of pass.new apass.new)) }
 {
-    for number in 0..128 {
+    for number in 0..PARTITIONS {
         match grow_one(rt, table, r, area, pass, apass, number, size) {
             Ok(()) => {}
             Err(lack) => return Err(lack),

@@ -66,6 +66,15 @@ where
             TableAsk::Make(hash, key, call, spare) => {
                 TableAnswer::Came(partition.try_call_with_hash(r, hash, key.words(), &call, spare))
             }
+            TableAsk::MakeShort(hash, short, call, spare) => {
+                TableAnswer::Came(partition.try_call_with_hash(
+                    r,
+                    hash,
+                    short.words(),
+                    &call,
+                    spare,
+                ))
+            }
             TableAsk::Look => TableAnswer::Size(partition.size(), partition.count()),
             TableAsk::Grow(size, slice) => TableAnswer::LeftOver(grow(partition, r, size, slice)),
             TableAsk::List(alloc) => TableAnswer::Entries(partition.list(alloc, r)),

@@ -5,7 +5,7 @@ ghost use Rattle.lock_book.specs.Shown.{number_of};
 ghost use Rattle.dshash_parts.specs.Tables.{IsTable, Belongs};
 ghost use Rattle.dshash_scan.specs.Counts.{CountsTable};
 
-use dshash_core::CellObject;
+use dshash_core::{CellObject, PARTITIONS};
 use dshash_parts::{DsPass, Dshash};
 use region_words::Region;
 use std::sync::Wait;
@@ -29,7 +29,7 @@ where
     ensures counted { CountsTable O.stepped pass.old pass.new result }
 {
     let mut total = 0;
-    for number in 0..128 {
+    for number in 0..PARTITIONS {
         total += u128::from(table.count_one(rt, r, pass, number));
     }
     total

@@ -12,7 +12,7 @@ ghost use Rattle.dshash_parts.specs.Tables.{IsTable, Belongs};
 ghost use Rattle.dshash_scan.specs.Listings.{ListsOnce, ListsTable};
 
 pub use counting::count_all;
-use dshash_core::{CellObject, Entry};
+use dshash_core::{CellObject, Entry, PARTITIONS};
 use dshash_parts::{DsPass, Dshash};
 use region_words::Region;
 use std::alloc::{AllocError, Global};
@@ -40,7 +40,7 @@ where
     ensures all { IfOk result (λ v. ListsTable O.stepped pass.old pass.new (pairs_of v.items)) }
 {
     let mut all = Vec::new(alloc);
-    for number in 0..128 {
+    for number in 0..PARTITIONS {
         let mut entries = match table.list_one(rt, alloc, r, pass, number) {
             Ok(entries) => entries,
             Err(lack) => return Err(lack),

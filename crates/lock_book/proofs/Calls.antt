@@ -4,17 +4,17 @@ use mathlib.Core.Option.{some}
 use lib.ListN.{get_elem?}
 use Rattle.atomic_table.specs.Table.{Me}
 use Rattle.lock_book.specs.declared.view.Entry.{Entry}
-use Rattle.lock_book.specs.declared.view.Stage.TheVariants.{Idle, Holding}
+use Rattle.lock_book.specs.declared.view.Stage.TheVariants.{Holding}
 use Rattle.lock_book.specs.declared.view.View.{View}
 use Rattle.lock_book.specs.History.{entry, last_of, calls_by, IsLegal, row_at, put_row}
-use Rattle.lock_book.specs.Ruled.{mine_at, seen_at, at_stage, seeing, with_entry, Taken, IsSame}
+use Rattle.lock_book.specs.Ruled.{mine_at, seen_at, seeing, served, Taken, IsSame}
 use Rattle.lock_book.specs.Told.{IsPass, Adds}
-use Rattle.lock_book.proofs.Histories.{legal_snoc, last_snoc, calls_by_mine, calls_by_other, calls_at_here, calls_at_other, row_here, row_else, at_place}
+use Rattle.lock_book.proofs.Histories.{legal_snoc, calls_by_mine, calls_by_other, calls_at_here, calls_at_other, row_here, row_else, at_place}
 
 module _ {X N S C R : Type 0} (slot_name : X → N) (slot_state : X → S) (legal : N → ℕ → S → C → R → S → Type 0) where
   -- the view after all moves of a call
   abbrev pub after_call : View N S C R → ℕ → List (Entry S C R) → Entry S C R → View N S C R
-  after_call v at log e = at_stage (with_entry (seeing v at log (Holding at)) at e) Idle
+  after_call v at log e = served (seeing v at log (Holding at)) at e
 
   -- the value was taken, and the call c with the reply r and the state a after it is legal then
   module _ (at : ℕ) (m m' : Me X (View N S C R)) (d : Taken slot_name slot_state legal m at m') (c : C) (r : R) (a : S)
@@ -85,20 +85,15 @@ module _ {X N S C R : Type 0} (slot_name : X → N) (slot_state : X → S) (lega
     legal_now x e n c r a h o eo = let k = d.known o eo in let same = slot_is x e in
         subst (λ (s : S). legal o.0 n s c r a) (ap slot_state (sym same) ∙ k.2) (subst (λ (z : N). legal z n (slot_state x) c r a) (ap slot_name (sym same) ∙ k.1) h)
 
-    pub ended : (m3 m4 m5 : View N S C R) (c : C) (r : R) (a : S) → m3 ≡ m'.0 → m4 ≡ with_entry m3 at (entry m3.from c r a) → m5 ≡ at_stage m4 Idle
-        → m5 ≡ after_call m.0 at d.log (entry m.0.from c r a)
-    ended m3 m4 m5 c r a e3 e4 e5 = let e : m3 ≡ seeing m.0 at d.log (Holding at) = e3 ∙ d.view in
-        e5 ∙ ap (λ (z : View N S C R). at_stage z Idle) (e4 ∙ (λ n. with_entry (e n) at (entry (e n).from c r a)))
+    pub ended : (m3 m4 : View N S C R) (c : C) (r : R) (a : S) → m3 ≡ m'.0 → m4 ≡ served m3 at (entry m3.from c r a) → m4 ≡ after_call m.0 at d.log (entry m.0.from c r a)
+    ended m3 m4 c r a e3 e4 = let e : m3 ≡ seeing m.0 at d.log (Holding at) = e3 ∙ d.view in e4 ∙ (λ n. served (e n) at (entry (e n).from c r a))
 
-    module _ (m3 m4 m5 : View N S C R) (x : X) (c : C) (r : R) (a : S) (e3 : m3 ≡ m'.0) (e4 : m4 ≡ with_entry m3 at (entry m3.from c r a)) (e5 : m5 ≡ at_stage m4 Idle) (has : m'.1 ≡ (at, x) ∷ []) (h : legal (slot_name x) m.0.from (slot_state x) c r a) where
-      pub whole : Adds legal m.0.opens m.0.from (seen_at m.0) (mine_at m.0 0) (seen_at m5) (mine_at m5 0) at c r
-      whole = subst (λ (z : View N S C R). Adds legal m.0.opens m.0.from (seen_at m.0) (mine_at m.0 0) (seen_at z) (mine_at z 0) at c r) (sym (ended m3 m4 m5 c r a e3 e4 e5)) (called at m m' d c r a (legal_now x has m.0.from c r a h))
+    module _ (m3 m4 : View N S C R) (x : X) (c : C) (r : R) (a : S) (e3 : m3 ≡ m'.0) (e4 : m4 ≡ served m3 at (entry m3.from c r a)) (has : m'.1 ≡ (at, x) ∷ []) (h : legal (slot_name x) m.0.from (slot_state x) c r a) where
+      pub whole : Adds legal m.0.opens m.0.from (seen_at m.0) (mine_at m.0 0) (seen_at m4) (mine_at m4 0) at c r
+      whole = subst (λ (z : View N S C R). Adds legal m.0.opens m.0.from (seen_at m.0) (mine_at m.0 0) (seen_at z) (mine_at z 0) at c r) (sym (ended m3 m4 c r a e3 e4)) (called at m m' d c r a (legal_now x has m.0.from c r a h))
 
-      pub whole_stands : IsPass legal m.0.opens m.0.callers m.0.from (seen_at m.0) (mine_at m.0 0) → IsPass legal m.0.opens m.0.callers m.0.from (seen_at m5) (mine_at m5 0)
-      whole_stands before = subst (λ (z : View N S C R). IsPass legal m.0.opens m.0.callers m.0.from (seen_at z) (mine_at z 0)) (sym (ended m3 m4 m5 c r a e3 e4 e5)) (stands at m m' d c r a (legal_now x has m.0.from c r a h) before)
+      pub whole_stands : IsPass legal m.0.opens m.0.callers m.0.from (seen_at m.0) (mine_at m.0 0) → IsPass legal m.0.opens m.0.callers m.0.from (seen_at m4) (mine_at m4 0)
+      whole_stands before = subst (λ (z : View N S C R). IsPass legal m.0.opens m.0.callers m.0.from (seen_at z) (mine_at z 0)) (sym (ended m3 m4 c r a e3 e4)) (stands at m m' d c r a (legal_now x has m.0.from c r a h) before)
 
-    pub last_now : (m3 m4 : View N S C R) (c1 : C) (r1 : R) (a : S) → m3 ≡ m'.0 → m4 ≡ with_entry m3 at (entry m3.from c1 r1 a) → (s : S) → a ≡ last_of s (seen_at m4 at)
-    last_now m3 m4 c1 r1 a e3 e4 s = sym (ap (λ (z : View N S C R). last_of s (seen_at z at)) e4 ∙ (ap (last_of s) (row_here m3.seen at (seen_at m3 at ++ entry m3.from c1 r1 a ∷ [])) ∙ last_snoc s (seen_at m3 at) (entry m3.from c1 r1 a)))
-
-    pub same_pass : (m3 m4 m5 : View N S C R) (c : C) (r : R) (a : S) → m3 ≡ m'.0 → m4 ≡ with_entry m3 at (entry m3.from c r a) → m5 ≡ at_stage m4 Idle → IsSame m.0 m5
-    same_pass m3 m4 m5 c r a e3 e4 e5 = subst (IsSame m.0) (sym (ended m3 m4 m5 c r a e3 e4 e5)) record { opens = refl; callers = refl; from = refl; free = record { owns = refl; stage = refl } }
+    pub same_pass : (m3 m4 : View N S C R) (c : C) (r : R) (a : S) → m3 ≡ m'.0 → m4 ≡ served m3 at (entry m3.from c r a) → IsSame m.0 m4
+    same_pass m3 m4 c r a e3 e4 = subst (IsSame m.0) (sym (ended m3 m4 c r a e3 e4)) record { opens = refl; callers = refl; from = refl; free = record { owns = refl; stage = refl } }

@@ -108,7 +108,7 @@ module _ {X N S C R : Type 0} (slot_name : X → N) (slot_state : X → S) (lega
         same_seats = refl;
         same_from = refl;
         values = λ j o e. let t = total_set (λ (u : View N S C R). holders j u.stage) s.views id v w at in let hw : holders j w.stage ≡ holders j v.stage = refl in
-            same_value slot_name slot_state legal s.words s.words s.homes s.homes s.views (set s.views id w) j o (r.logs j) refl refl (λ x h. h) (omega arith) (r.each_value j o e);
+            same_value slot_name slot_state legal s.words s.words s.homes s.homes s.views (set s.views id w) j o (r.logs j) refl (λ x h. h) (omega arith) (r.each_value j o e);
         knows = merged_knows opens callers r.logs v kn idle;
         grows = λ j. starts_refl (r.logs j);
         bounded = r.bounded;
@@ -171,7 +171,7 @@ module _ {X N S C R : Type 0} (slot_name : X → N) (slot_state : X → S) (lega
           let hv : f v ≡ 0 = ap (holders j) idle in
           let hl : f left ≡ 0 = ap (holders j) left_idle in
           let hr : f right ≡ 0 = ap (holders j) right_idle in
-          same_value slot_name slot_state legal s.words s.words s.homes s.homes s.views cut j o (r.logs j) refl refl (λ x h. h) (omega arith) (r.each_value j o e);
+          same_value slot_name slot_state legal s.words s.words s.homes s.homes s.views cut j o (r.logs j) refl (λ x h. h) (omega arith) (r.each_value j o e);
       seats =
           let f : View N S C R → ℕ = λ u. length u.owns in
           let a = total_set f s.views id v left at in

@@ -1,5 +1,5 @@
 -- The moves of the lock and the commit keep the rule.
-use Rattle.std.proofs.Common.{◌≡◌, ◌≢◌, ℕ, ◌+◌, ◌*◌, ◌%◌, ◌<◌, ◌≤◌, eqb, List, [], ◌∷◌, ◌++◌, length, set, sym, refl, ap, ◌∙◌, subst, arith, length-set, length-append, get_or-set_other, get_or-set_same}
+use Rattle.std.proofs.Common.{◌≡◌, ◌≢◌, ℕ, zero, suc, ◌+◌, ◌<◌, eqb, List, [], ◌∷◌, ◌++◌, length, set, sym, refl, ap, ◌∙◌, subst, arith, length-set, get_or-set_other, get_or-set_same}
 use Rattle.std.specs.Prelude.{slice_index}
 use mathlib.Core.Option.{Option, none, some, some-injective}
 use Rattle.std.specs.Prelude.{Option as Maybe, Some, None}
@@ -12,15 +12,11 @@ use Rattle.lock_book.specs.declared.view.Entry.{Entry}
 use Rattle.lock_book.specs.declared.view.Stage.TheVariants.{Idle, Holding}
 use Rattle.lock_book.specs.declared.view.View.{View}
 use Rattle.lock_book.specs.History.{entry, last_of, calls_by, calls_at, StartsWith, IsLegal, row_at, put_row}
-use Rattle.lock_book.specs.Ruled.{total, holders, mine_at, seen_at, told_at, at_stage, seeing, with_entry, IsFree, StageOk, ValueOk, Ruled, Taken, tried, tried_once, missing, committed, given_back}
-use Rattle.lock_book.proofs.Histories.{starts_refl, starts_snoc, starts_trans, calls_by_mine, calls_by_other, calls_at_here, calls_at_other, legal_snoc, row_here, row_else, at_place}
-use Rattle.lock_book.proofs.Totals.{total_set, total_at, upd, upd_here, upd_else, there}
+use Rattle.lock_book.specs.Ruled.{holders, mine_at, seen_at, told_at, at_stage, seeing, with_entry, IsFree, StageOk, ValueOk, Ruled, Taken, tried, tried_once, missing, given_back, served}
+use Rattle.lock_book.proofs.Histories.{starts_refl, starts_snoc, starts_trans, calls_by_mine, calls_by_other, calls_at_here, calls_at_other, legal_snoc, last_snoc, row_here, row_else, at_place}
+use Rattle.lock_book.proofs.Totals.{total_set, total_at, upd, upd_here, upd_else, there, within}
 use Rattle.lock_book.proofs.Stages.{one_holder, no_holder, one_seat, stage_else}
 use Rattle.lock_book.proofs.Changes.{Change, changed, same_value, values_by}
-
--- a word of the value i is none of another value's
-apart_words : (ws : List ℕ) (k i n : ℕ) → 2 * i ≤ k → k < 2 * i + 2 → (j : ℕ) → j ≢ i → (slice_index (set ws k n) (2 * j) ≡ slice_index ws (2 * j)) × (slice_index (set ws k n) (2 * j + 1) ≡ slice_index ws (2 * j + 1))
-apart_words ws k i n lo hi j ne = (get_or-set_other ws k (2 * j) n 0 (λ e. ne (omega arith)), get_or-set_other ws k (2 * j + 1) n 0 (λ e. ne (omega arith)))
 
 abbrev pub held_slot : {X : Type 0} → X → List (ℕ × X) → X
 held_slot x [] = x
@@ -29,6 +25,12 @@ held_slot x (y ∷ ys) = y.1
 abbrev made_or : {A : Type 0} → A → Maybe A → A
 made_or a None = a
 made_or a (Some b) = b
+
+-- of two changes at one place the second is left
+set_twice : {A : Type 0} (xs : List A) (i : ℕ) (a b : A) → set (set xs i a) i b ≡ set xs i b
+set_twice [] i a b = refl
+set_twice (x ∷ xs) zero a b = refl
+set_twice {A} (x ∷ xs) (suc i) a b = ap (λ (l : List A). x ∷ l) (set_twice xs i a b)
 
 module _ {X N S C R : Type 0} (slot_name : X → N) (slot_state : X → S) (legal : N → ℕ → S → C → R → S → Type 0) (opens : List (N × S)) (callers : ℕ) where
   abbrev Rule : State X (View N S C R) → Type 0
@@ -42,17 +44,17 @@ module _ {X N S C R : Type 0} (slot_name : X → N) (slot_state : X → S) (lega
   sees v i log P here else = at_place (λ (j : ℕ). P j (row_at (put_row v.seen i log) j)) i (subst (P i) (sym (row_here v.seen i log)) here) (λ j ne. subst (P j) (sym (row_else v.seen i j log ne)) (else j ne))
 
   abbrev TryGoal : ℕ → ℕ → Me X (View N S C R) → ℕ → State X (View N S C R) → ℕ → Type 0
-  TryGoal slots id me i s n = (w : View N S C R) × (a : Act X) × Valid s.homes me.1 a × Rule (stepped s (2 * i) n id me.1 w a) × tried slot_name slot_state legal (step slots (2 * i) 0 1 none) me (slice_index s.words (2 * i)) (w, carried_after me.1 a)
+  TryGoal slots id me i s n = (w : View N S C R) × (a : Act X) × Valid s.homes me.1 a × Rule (stepped s (i) n id me.1 w a) × tried slot_name slot_state legal (step slots (i) 0 1 none) me (slice_index s.words (i)) (w, carried_after me.1 a)
 
   -- a seat that has no value takes one that is free; else nothing happens
   pub tries : (slots id : ℕ) (me : Me X (View N S C R)) (i : ℕ) → IsFree me.0 → i < length opens
-      → Allows Rule slots id me (2 * i) (λ n. either (eqb n 0) 1 n) (tried slot_name slot_state legal (step slots (2 * i) 0 1 none) me)
-  tries slots id me i free low s r _ at _ = exchanged (slice_index s.words (2 * i)) 0 1 (TryGoal slots id me i s) hit miss
+      → Allows Rule slots id me (i) (λ n. either (eqb n 0) 1 n) (tried slot_name slot_state legal (step slots (i) 0 1 none) me)
+  tries slots id me i free low s r _ at _ = exchanged (slice_index s.words (i)) 0 1 (TryGoal slots id me i s) hit miss
     where
-      miss : slice_index s.words (2 * i) ≢ 0 → TryGoal slots id me i s (slice_index s.words (2 * i))
-      miss ne = (me.0, keeps, tt, unmoved s r (2 * i) id me at, λ j e. ((λ h. absurd (ne h)), λ _. refl))
+      miss : slice_index s.words (i) ≢ 0 → TryGoal slots id me i s (slice_index s.words (i))
+      miss ne = (me.0, keeps, tt, unmoved s r (i) id me at, λ j e. ((λ h. absurd (ne h)), λ _. refl))
 
-      hit : slice_index s.words (2 * i) ≡ 0 → TryGoal slots id me i s 1
+      hit : slice_index s.words (i) ≡ 0 → TryGoal slots id me i s 1
       hit e =
           let v = me.0 in
           let k = r.each_seat id v at in
@@ -63,17 +65,17 @@ module _ {X N S C R : Type 0} (slot_name : X → N) (slot_state : X → S) (lega
           let home = ok.at_home (sym ok.locked ∙ e) in
           let x = home.0 in
           let w : View N S C R = seeing v i log (Holding i) in
-          let words = set s.words (2 * i) 1 in
+          let words = set s.words (i) 1 in
           let homes = set s.homes i none in
           let wide = r.wide in
-          let found : slice_index words (2 * i) ≡ 1 = get_or-set_same s.words (2 * i) 1 0 (omega arith) in
+          let found : slice_index words (i) ≡ 1 = get_or-set_same s.words (i) 1 0 (omega arith) in
           let idle : (j : ℕ) → holders j v.stage ≡ 0 = λ j. ap (holders j) free.stage in
           let c : Change slot_name slot_state legal opens callers s r id v w r.logs words homes = record {
             at = at;
-            wide = length-set s.words (2 * i) 1;
+            wide = length-set s.words (i) 1;
             same_seats = refl;
             same_from = refl;
-            values = values_by slot_name slot_state legal opens callers s r id v w r.logs words homes i at (λ j ne. refl) (apart_words s.words (2 * i) i 1 (omega arith) (omega arith))
+            values = values_by slot_name slot_state legal opens callers s r id v w r.logs words homes i at (λ j ne. refl) (λ j ne. get_or-set_other s.words i j 1 0 ne)
                 (λ j y ne eh. set_else s.homes i j none ne ∙ eh) (λ j ne. no_holder i j ne ∙ sym (idle j))
                 (λ o eo.
                 let was = r.each_value i o eo in
@@ -84,7 +86,6 @@ module _ {X N S C R : Type 0} (slot_name : X → N) (slot_state : X → S) (lega
                 record {
                   locked = omega arith;
                   alone = omega arith;
-                  tally = get_or-set_other s.words (2 * i) (2 * i + 1) 1 0 (λ h. omega arith) ∙ was.tally;
                   lawful = was.lawful;
                   at_home = λ z. absurd (omega arith);
                 });
@@ -108,7 +109,7 @@ module _ {X N S C R : Type 0} (slot_name : X → N) (slot_state : X → S) (lega
             home.1,
             changed slot_name slot_state legal opens callers s r id v w r.logs words homes c,
             λ j at_j.
-                let place : i ≡ j = omega arith in
+                let place : i ≡ j = at_j in
                 let told : Taken slot_name slot_state legal me i (w, (i, x) ∷ me.1) = record {
                   log = log;
                   slot = x;
@@ -125,19 +126,19 @@ module _ {X N S C R : Type 0} (slot_name : X → N) (slot_state : X → S) (lega
           )
 
   abbrev OnceGoal : ℕ → ℕ → Me X (View N S C R) → ℕ → State X (View N S C R) → ℕ → Type 0
-  OnceGoal slots id me i s n = (w : View N S C R) × (a : Act X) × Valid s.homes me.1 a × Rule (stepped s (2 * i) n id me.1 w a) × tried_once slot_name slot_state legal (step slots (2 * i) 0 1 none) me (slice_index s.words (2 * i)) (w, carried_after me.1 a)
+  OnceGoal slots id me i s n = (w : View N S C R) × (a : Act X) × Valid s.homes me.1 a × Rule (stepped s (i) n id me.1 w a) × tried_once slot_name slot_state legal (step slots (i) 0 1 none) me (slice_index s.words (i)) (w, carried_after me.1 a)
 
   -- the same of a single try, which is counted where the value is taken
   pub tries_once : (slots id : ℕ) (me : Me X (View N S C R)) (i : ℕ) → IsFree me.0 → i < length opens
-      → Allows Rule slots id me (2 * i) (λ n. either (eqb n 0) 1 n) (tried_once slot_name slot_state legal (step slots (2 * i) 0 1 none) me)
-  tries_once slots id me i free low s r len at few = exchanged (slice_index s.words (2 * i)) 0 1 (OnceGoal slots id me i s) hit miss
+      → Allows Rule slots id me (i) (λ n. either (eqb n 0) 1 n) (tried_once slot_name slot_state legal (step slots (i) 0 1 none) me)
+  tries_once slots id me i free low s r len at few = exchanged (slice_index s.words (i)) 0 1 (OnceGoal slots id me i s) hit miss
     where
-      hit : slice_index s.words (2 * i) ≡ 0 → OnceGoal slots id me i s 1
+      hit : slice_index s.words (i) ≡ 0 → OnceGoal slots id me i s 1
       hit e =
           let t : TryGoal slots id me i s 1 = subst (λ (n : ℕ). TryGoal slots id me i s (either (eqb n 0) 1 n)) e (tries slots id me i free low s r len at few) in
           (t.0, t.1, t.2, t.3, λ j ej. ((λ h. (t.4 j ej).0 h), λ ne. absurd (ne e)))
 
-      miss : slice_index s.words (2 * i) ≢ 0 → OnceGoal slots id me i s (slice_index s.words (2 * i))
+      miss : slice_index s.words (i) ≢ 0 → OnceGoal slots id me i s (slice_index s.words (i))
       miss ne =
           let v = me.0 in
           let k = r.each_seat id v at in
@@ -149,7 +150,7 @@ module _ {X N S C R : Type 0} (slot_name : X → N) (slot_state : X → S) (lega
             same_from = refl;
             values = λ j o eo.
                 let t = total_set (λ (u : View N S C R). holders j u.stage) s.views id v w at in
-                same_value slot_name slot_state legal s.words s.words s.homes s.homes s.views (set s.views id w) j o (r.logs j) refl refl (λ x h. h) (omega arith) (r.each_value j o eo);
+                same_value slot_name slot_state legal s.words s.words s.homes s.homes s.views (set s.views id w) j o (r.logs j) refl (λ x h. h) (omega arith) (r.each_value j o eo);
             knows = record { opened = k.opened; counted = k.counted; below = k.below; seen = k.seen; told = k.told; mine = k.mine; mine_seen = k.mine_seen; staged = k.staged };
             grows = λ j. starts_refl (r.logs j);
             bounded = r.bounded;
@@ -159,32 +160,25 @@ module _ {X N S C R : Type 0} (slot_name : X → N) (slot_state : X → S) (lega
             w,
             keeps,
             tt,
-            subst (λ (z : List ℕ). Rule record { words = z; homes = s.homes; views = set s.views id w }) (sym (set-get_or s.words (2 * i) 0)) (changed slot_name slot_state legal opens callers s r id v w r.logs s.words s.homes c),
+            subst (λ (z : List ℕ). Rule record { words = z; homes = s.homes; views = set s.views id w }) (sym (set-get_or s.words (i) 0)) (changed slot_name slot_state legal opens callers s r id v w r.logs s.words s.homes c),
             λ j ej. ((λ h. absurd (ne h)), λ _. refl),
           )
 
-  -- the seat that has the value adds its call to the history
-  pub commits : (made : X → Maybe (C × R)) (slots id : ℕ) (me : Me X (View N S C R)) (i : ℕ) (x : X) (ask : C) (reply : R) → me.0.stage ≡ Holding i → me.1 ≡ (i, x) ∷ [] → made x ≡ Some (ask, reply)
-      → ((o : N × S) → get_elem? me.0.opens i ≡ some o → legal o.0 me.0.from (last_of o.1 (seen_at me.0 i)) ask reply (slot_state x))
-      → Allows Rule slots id me (2 * i + 1) (λ n. (n + 1) % 18446744073709551616) (committed slot_name slot_state legal made (step slots (2 * i + 1) 1 0 none) me)
-  commits made slots id me i x ask reply holds has told lawful s r _ at _ =
-      let v = me.0 in
+  -- the state in which the seat v, which has the value, has added its call to the history, and nothing else has changed
+  commits : (s : State X (View N S C R)) → Rule s → (id : ℕ) (v : View N S C R) → get_elem? s.views id ≡ some v → (i : ℕ) (ask : C) (reply : R) (after : S) → v.stage ≡ Holding i
+      → ((o : N × S) → get_elem? v.opens i ≡ some o → legal o.0 v.from (last_of o.1 (seen_at v i)) ask reply after)
+      → Rule record { words = s.words; homes = s.homes; views = set s.views id (with_entry v i (entry v.from ask reply after)) }
+  commits s r id v at i ask reply after holds lawful =
       let k = r.each_seat id v at in
       let ok : StageOk opens callers r.logs v (Holding i) = subst (StageOk opens callers r.logs v) holds k.staged in
       let one = ok.0 in
       let low = ok.1 in
       let old : List (Entry S C R) = r.logs i in
-      let n : ℕ = slice_index s.words (2 * i + 1) in
-      let new : ℕ = (n + 1) % 18446744073709551616 in
-      let words = set s.words (2 * i + 1) new in
-      let e : Entry S C R = entry v.from ask reply (slot_state x) in
+      let e : Entry S C R = entry v.from ask reply after in
       let log : List (Entry S C R) = old ++ e ∷ [] in
       let now : ℕ → List (Entry S C R) = upd r.logs i log in
       let here : now i ≡ log = upd_here r.logs i log in
       let w : View N S C R = with_entry v i e in
-      let wide = r.wide in
-      let found : slice_index words (2 * i + 1) ≡ new = get_or-set_same s.words (2 * i + 1) new 0 (omega arith) in
-      let longer_by_one = length-append old (e ∷ []) in
       let bound = k.below (omega arith) in
       let some_owner : 0 < length v.owns = omega arith in
       let seen : seen_at v i ++ e ∷ [] ≡ log = ap (λ (m : List (Entry S C R)). m ++ e ∷ []) ok.2 in
@@ -192,7 +186,7 @@ module _ {X N S C R : Type 0} (slot_name : X → N) (slot_state : X → S) (lega
       let row : List (ℕ × Entry S C R) = row_at v.owns 0 in
       let mine_here : calls_at i (row ++ (i, e) ∷ []) ≡ calls_by (v.from + 0) log =
       calls_at_here i row e ∙ (ap (λ (m : List (Entry S C R)). m ++ e ∷ []) (k.mine 0 i some_owner ∙ ap (λ (y : ℕ). calls_by y old) first)
-      ∙ (sym (calls_by_mine v.from old ask reply (slot_state x)) ∙ ap (λ (y : ℕ). calls_by y log) (sym first))) in
+      ∙ (sym (calls_by_mine v.from old ask reply after) ∙ ap (λ (y : ℕ). calls_by y log) (sym first))) in
       let mine_now : (j : ℕ) → calls_at j (row ++ (i, e) ∷ []) ≡ calls_by (v.from + 0) (now j) = at_place (λ (j : ℕ). calls_at j (row ++ (i, e) ∷ []) ≡ calls_by (v.from + 0) (now j)) i
       (mine_here ∙ ap (calls_by (v.from + 0)) (sym here))
       (λ j ne. calls_at_other j i row e (λ z. ne (sym z)) ∙ (k.mine 0 j some_owner ∙ ap (calls_by (v.from + 0)) (sym (upd_else r.logs i log j ne)))) in
@@ -204,31 +198,29 @@ module _ {X N S C R : Type 0} (slot_name : X → N) (slot_state : X → S) (lega
       (subst (λ (m : List (Entry S C R)). StartsWith m old) (sym here) (starts_snoc old old (e ∷ []) (starts_refl old)))
       (λ j ne. subst (λ (m : List (Entry S C R)). StartsWith m (r.logs j)) (sym (upd_else r.logs i log j ne)) (starts_refl (r.logs j))) in
       let by_others : (m : ℕ) → v.from ≢ m → (j : ℕ) → calls_by m (now j) ≡ calls_by m (r.logs j) = λ m ne. at_place (λ (j : ℕ). calls_by m (now j) ≡ calls_by m (r.logs j)) i
-      (ap (calls_by m) here ∙ calls_by_other m v.from old ask reply (slot_state x) ne)
+      (ap (calls_by m) here ∙ calls_by_other m v.from old ask reply after ne)
       (λ j other. ap (calls_by m) (upd_else r.logs i log j other)) in
-      let c : Change slot_name slot_state legal opens callers s r id v w now words s.homes = record {
+      let c : Change slot_name slot_state legal opens callers s r id v w now s.words s.homes = record {
         at = at;
-        wide = length-set s.words (2 * i + 1) new;
+        wide = refl;
         same_seats = sym one;
         same_from = refl;
-        values = values_by slot_name slot_state legal opens callers s r id v w now words s.homes i at (upd_else r.logs i log) (apart_words s.words (2 * i + 1) i new (omega arith) (omega arith))
+        values = values_by slot_name slot_state legal opens callers s r id v w now s.words s.homes i at (upd_else r.logs i log) (λ j ne. refl)
             (λ j y ne eh. eh) (λ j ne. refl)
             (λ o eo.
             let was = r.each_value i o eo in
             let locked = was.locked in
             let alone = was.alone in
-            let tally = was.tally in
             let ts = total_set (λ (u : View N S C R). holders i u.stage) s.views id v w at in
             let held = total_at (λ (u : View N S C R). holders i u.stage) s.views id v at in
             let hv : holders i v.stage ≡ 1 = ap (holders i) holds ∙ one_holder i in
             let hw : holders i w.stage ≡ 1 = hv in
             let open_here : get_elem? v.opens i ≡ some o = ap (λ (z : List (N × S)). get_elem? z i) (k.opened some_owner) ∙ eo in
-            let rule_here : legal o.0 v.from (last_of o.1 old) ask reply (slot_state x) = subst (λ (m : List (Entry S C R)). legal o.0 v.from (last_of o.1 m) ask reply (slot_state x)) ok.2 (lawful o open_here) in
-            subst (ValueOk slot_name slot_state legal words s.homes (set s.views id w) i o) (sym here) record {
-              locked = get_or-set_other s.words (2 * i + 1) (2 * i) new 0 (λ h. omega arith) ∙ (let z : slice_index s.words (2 * i) ≡ total (λ (u : View N S C R). holders i u.stage) (set s.views id w) = omega arith in z);
+            let rule_here : legal o.0 v.from (last_of o.1 old) ask reply after = subst (λ (m : List (Entry S C R)). legal o.0 v.from (last_of o.1 m) ask reply after) ok.2 (lawful o open_here) in
+            subst (ValueOk slot_name slot_state legal s.words s.homes (set s.views id w) i o) (sym here) record {
+              locked = omega arith;
               alone = omega arith;
-              tally = found ∙ (let z : (n + 1) % 18446744073709551616 ≡ length log % 18446744073709551616 = omega arith in z);
-              lawful = legal_snoc (legal o.0) o.1 old v.from ask reply (slot_state x) was.lawful rule_here;
+              lawful = legal_snoc (legal o.0) o.1 old v.from ask reply after was.lawful rule_here;
               at_home = λ z. absurd (omega arith);
             });
         knows = record {
@@ -247,40 +239,29 @@ module _ {X N S C R : Type 0} (slot_name : X → N) (slot_state : X → S) (lega
         bounded = λ j m hi. by_others m (λ z. omega arith) j ∙ r.bounded j m hi;
         others_calls = λ j m out. by_others m (λ z. out (omega arith, omega arith)) j;
         others_stage = λ other u ne eu. let p = there opens i low in stage_else opens callers r.logs i log u u.stage (λ is. ne (one_seat s.views i id other v u (r.each_value i p.0 p.1).alone at eu holds is));
-      } in (
-        w,
-        keeps,
-        tt,
-        changed slot_name slot_state legal opens callers s r id v w now words s.homes c,
-        λ j y ask' reply' at_j has' told'.
-            let place : i ≡ j = omega arith in
-            let slot : x ≡ y = ap (held_slot x) (sym has ∙ has') in
-            let pair : (ask, reply) ≡ (ask', reply') = ap (made_or (ask, reply)) (sym told ∙ (ap made slot ∙ told')) in
-            (refl, λ n. with_entry v (place n) (entry v.from (pair n).0 (pair n).1 (slot_state (slot n)))),
-      )
+      } in changed slot_name slot_state legal opens callers s r id v w now s.words s.homes c
 
-  -- the seat gives the value back
-  pub gives_back : (slots id : ℕ) (me : Me X (View N S C R)) (i : ℕ) (x : X) → me.0.stage ≡ Holding i → me.1 ≡ (i, x) ∷ [] → i < slots
-      → ((o : N × S) → get_elem? me.0.opens i ≡ some o → (slot_name x ≡ o.0) × (slot_state x ≡ last_of o.1 (seen_at me.0 i)))
-      → Allows Rule slots id me (2 * i) (λ _. 0) (λ _. given_back slot_name slot_state legal (step slots (2 * i) 0 0 none) me 0)
-  gives_back slots id me i x holds has inside fits s r len at _ =
-      let v = me.0 in
+  -- the state in which the seat v, which has the value, has given it back, with the last state of what it has seen
+  frees : (s : State X (View N S C R)) → Rule s → (id : ℕ) (v : View N S C R) → get_elem? s.views id ≡ some v → (i : ℕ) (x : X) → v.stage ≡ Holding i → i < length s.homes
+      → ((o : N × S) → get_elem? v.opens i ≡ some o → (slot_name x ≡ o.0) × (slot_state x ≡ last_of o.1 (seen_at v i)))
+      → Rule record { words = set s.words i 0; homes = set s.homes i (some x); views = set s.views id (at_stage v Idle) }
+  frees s r id v at i x holds inside fits =
       let k = r.each_seat id v at in
       let ok : StageOk opens callers r.logs v (Holding i) = subst (StageOk opens callers r.logs v) holds k.staged in
       let one = ok.0 in
       let low = ok.1 in
-      let words = set s.words (2 * i) 0 in
+      let words = set s.words (i) 0 in
       let homes = set s.homes i (some x) in
       let w : View N S C R = at_stage v Idle in
       let wide = r.wide in
-      let found : slice_index words (2 * i) ≡ 0 = get_or-set_same s.words (2 * i) 0 0 (omega arith) in
+      let found : slice_index words (i) ≡ 0 = get_or-set_same s.words (i) 0 0 (omega arith) in
       let some_owner : 0 < length v.owns = omega arith in
       let c : Change slot_name slot_state legal opens callers s r id v w r.logs words homes = record {
         at = at;
-        wide = length-set s.words (2 * i) 0;
+        wide = length-set s.words (i) 0;
         same_seats = refl;
         same_from = refl;
-        values = values_by slot_name slot_state legal opens callers s r id v w r.logs words homes i at (λ j ne. refl) (apart_words s.words (2 * i) i 0 (omega arith) (omega arith))
+        values = values_by slot_name slot_state legal opens callers s r id v w r.logs words homes i at (λ j ne. refl) (λ j ne. get_or-set_other s.words i j 0 0 ne)
             (λ j y ne eh. set_else s.homes i j (some x) ne ∙ eh) (λ j ne. sym (ap (holders j) holds ∙ no_holder i j ne))
             (λ o eo.
             let was = r.each_value i o eo in
@@ -292,7 +273,6 @@ module _ {X N S C R : Type 0} (slot_name : X → N) (slot_state : X → S) (lega
             record {
               locked = omega arith;
               alone = omega arith;
-              tally = get_or-set_other s.words (2 * i) (2 * i + 1) 0 0 (λ h. omega arith) ∙ was.tally;
               lawful = was.lawful;
               at_home = λ z. (x, set_here s.homes i (some x) (omega arith), back.0, back.1 ∙ ap (last_of o.1) ok.2);
             });
@@ -301,10 +281,28 @@ module _ {X N S C R : Type 0} (slot_name : X → N) (slot_state : X → S) (lega
         bounded = r.bounded;
         others_calls = λ j m _. refl;
         others_stage = λ other u ne eu ok. ok;
-      } in (
-        w,
+      } in changed slot_name slot_state legal opens callers s r id v w r.logs words homes c
+
+  -- the seat that has the value adds its call to the history and gives the value back
+  pub gives_back : (made : X → Maybe (C × R)) (slots id : ℕ) (me : Me X (View N S C R)) (i : ℕ) (x : X) (ask : C) (reply : R) → me.0.stage ≡ Holding i → me.1 ≡ (i, x) ∷ [] → made x ≡ Some (ask, reply) → i < slots
+      → ((o : N × S) → get_elem? me.0.opens i ≡ some o → (slot_name x ≡ o.0) × legal o.0 me.0.from (last_of o.1 (seen_at me.0 i)) ask reply (slot_state x))
+      → Allows Rule slots id me i (λ _. 0) (λ _. given_back slot_name slot_state legal made (step slots i 0 0 none) me 0)
+  gives_back made slots id me i x ask reply holds has told inside fits s r len at _ =
+      let v = me.0 in
+      let e : Entry S C R = entry v.from ask reply (slot_state x) in
+      let w : View N S C R = with_entry v i e in
+      let log : List (Entry S C R) = seen_at v i ++ e ∷ [] in
+      let now_at = set_here s.views id w (within s.views id v at) in
+      let last : (o : N × S) → last_of o.1 (seen_at w i) ≡ slot_state x = λ o. ap (last_of o.1) (row_here v.seen i log) ∙ last_snoc o.1 (seen_at v i) e in
+      let now = commits s r id v at i ask reply (slot_state x) holds (λ o eo. (fits o eo).1) in
+      let done = frees record { words = s.words; homes = s.homes; views = set s.views id w } now id w now_at i x holds (omega (arith, len, inside)) (λ o eo. ((fits o eo).0, sym (last o))) in
+      let there : Rule record { words = set s.words i 0; homes = set s.homes i (some x); views = set s.views id (served v i e) } = subst (λ (z : List (View N S C R)). Rule record { words = set s.words i 0; homes = set s.homes i (some x); views = z }) (set_twice s.views id w (served v i e)) done in (
+        served v i e,
         gives,
         tt,
-        subst (λ (z : List (Option X)). Rule record { words = words; homes = z; views = set s.views id w }) (sym (ap (put_back s.homes) has)) (changed slot_name slot_state legal opens callers s r id v w r.logs words homes c),
-        (refl, refl),
+        subst (λ (z : List (Option X)). Rule record { words = set s.words i 0; homes = z; views = set s.views id (served v i e) }) (sym (ap (put_back s.homes) has)) there,
+        λ j y ask' reply' at_j has' told'.
+            let slot : x ≡ y = ap (held_slot x) (sym has ∙ has') in
+            let pair : (ask, reply) ≡ (ask', reply') = ap (made_or (ask, reply)) (sym told ∙ (ap made slot ∙ told')) in
+            (refl, λ n. served v (at_j n) (entry v.from (pair n).0 (pair n).1 (slot_state (slot n)))),
       )

@@ -1,6 +1,6 @@
 -- The rule of a shelf's table, and what each step tells.
 -- X is what a slot holds, N a name, S a state, C a call and R a reply.
-use Rattle.std.specs.Prelude.{◌≡◌, ◌≢◌, ℕ, ◌+◌, ◌*◌, ◌%◌, ◌^◌, ◌<◌, ◌≤◌, ◌==◌, if◌then◌else◌, List, [], ◌∷◌, ◌++◌, length, slice_index, replicate, Option, Some}
+use Rattle.std.specs.Prelude.{◌≡◌, ◌≢◌, ℕ, ◌+◌, ◌<◌, ◌≤◌, ◌==◌, if◌then◌else◌, List, [], ◌∷◌, ◌++◌, length, slice_index, replicate, Option, Some}
 use mathlib.Core.Option.{some}
 use lib.ListN.{get_elem?}
 use Rattle.atomic_table.specs.Table.{State, Me, Step, rest}
@@ -48,6 +48,10 @@ module _ {N S C R : Type 0} where
   -- the one caller of the seat made a call at the value i
   abbrev pub with_entry : (View N S C R) → ℕ → Entry S C R → (View N S C R)
   with_entry v i e = record v { owns = (row_at v.owns 0 ++ (i, e) ∷ []) ∷ []; seen = put_row v.seen i (seen_at v i ++ e ∷ []) }
+
+  -- the one caller of the seat made a call at the value i and gave the value back
+  abbrev pub served : (View N S C R) → ℕ → Entry S C R → (View N S C R)
+  served v i e = at_stage (with_entry v i e) Idle
 
   -- the seat tried once more, and found a value taken
   abbrev pub missing : (View N S C R) → (View N S C R)
@@ -103,12 +107,11 @@ module _ {N S C R : Type 0} where
       pub staged : StageOk v v.stage
 
   module _ {X : Type 0} (slot_name : X → N) (slot_state : X → S) (legal : N → ℕ → S → C → R → S → Type 0) where
-    -- what is true of the value i, which opened as o and has this history: one seat has it where the first of its two
-    -- words is 1 and none where it is 0, and then it is at home with its last state
+    -- what is true of the value i, which opened as o and has this history: one seat has it where its word is 1 and none
+    -- where it is 0, and then it is at home with its last state
     pub record ValueOk (words : List ℕ) (homes : List (mathlib.Core.Option.Option X)) (views : List (View N S C R)) (i : ℕ) (o : N × S) (log : List (Entry S C R)) : Type 0 where
-      pub locked : slice_index words (2 * i) ≡ total (λ v. holders i v.stage) views
+      pub locked : slice_index words i ≡ total (λ v. holders i v.stage) views
       pub alone : total (λ v. holders i v.stage) views ≤ 1
-      pub tally : slice_index words (2 * i + 1) ≡ length log % 2 ^ 64
       pub lawful : IsLegal (legal o.0) o.1 log
       pub at_home : total (λ v. holders i v.stage) views ≡ 0 → (x : X) × (get_elem? homes i ≡ some (some x)) × (slot_name x ≡ o.0) × (slot_state x ≡ last_of o.1 log)
 
@@ -116,7 +119,7 @@ module _ {N S C R : Type 0} where
     -- caller's entries are the calls that its seat made
     pub record Ruled (opens : List (N × S)) (callers : ℕ) (s : State X (View N S C R)) : Type 0 where
       pub logs : ℕ → List (Entry S C R)
-      pub wide : length s.words ≡ 2 * length opens
+      pub wide : length s.words ≡ length opens
       pub each_value : (i : ℕ) (o : N × S) → get_elem? opens i ≡ some o → ValueOk s.words s.homes s.views i o (logs i)
       pub bounded : (i n : ℕ) → callers ≤ n → calls_by n (logs i) ≡ []
       pub seats : total (λ v. length v.owns) s.views ≡ callers
@@ -136,20 +139,16 @@ module _ {N S C R : Type 0} where
 
     -- a try to take the value: where the word found is 0 the seat has it, and else nothing changed
     abbrev pub tried : Step X → Me X (View N S C R) → ℕ → Me X (View N S C R) → Type 0
-    tried st m r m' = (i : ℕ) → st.word ≡ 2 * i → (r ≡ 0 → Taken m i m') × (r ≢ 0 → m' ≡ m)
+    tried st m r m' = (i : ℕ) → st.word ≡ i → (r ≡ 0 → Taken m i m') × (r ≢ 0 → m' ≡ m)
 
     -- a single try to take the value: where the word found is 0 the seat has it, and else another has it, and the try is
     -- counted
     abbrev pub tried_once : Step X → Me X (View N S C R) → ℕ → Me X (View N S C R) → Type 0
-    tried_once st m r m' = (i : ℕ) → st.word ≡ 2 * i → (r ≡ 0 → Taken m i m') × (r ≢ 0 → m' ≡ (missing m.0, m.1))
+    tried_once st m r m' = (i : ℕ) → st.word ≡ i → (r ≡ 0 → Taken m i m') × (r ≢ 0 → m' ≡ (missing m.0, m.1))
 
-    -- the call that the slot tells of stands in the history
-    abbrev pub committed : (X → Option (C × R)) → Step X → Me X (View N S C R) → ℕ → Me X (View N S C R) → Type 0
-    committed made st m r m' = (i : ℕ) (x : X) (c : C) (y : R) → st.word ≡ 2 * i + 1 → m.1 ≡ (i, x) ∷ [] → made x ≡ Some (c, y) → (m'.1 ≡ m.1) × (m'.0 ≡ with_entry m.0 i (entry m.0.from c y (slot_state x)))
-
-    -- the value went back, and the seat has none
-    abbrev pub given_back : Step X → Me X (View N S C R) → ℕ → Me X (View N S C R) → Type 0
-    given_back st m r m' = (m'.1 ≡ rest m.1) × (m'.0 ≡ at_stage m.0 Idle)
+    -- the call that the slot tells of stands in the history, the value went back, and the seat has none
+    abbrev pub given_back : (X → Option (C × R)) → Step X → Me X (View N S C R) → ℕ → Me X (View N S C R) → Type 0
+    given_back made st m r m' = (i : ℕ) (x : X) (c : C) (y : R) → st.word ≡ i → m.1 ≡ (i, x) ∷ [] → made x ≡ Some (c, y) → (m'.1 ≡ rest m.1) × (m'.0 ≡ served m.0 i (entry m.0.from c y (slot_state x)))
 
     -- what was seen and what was told are beginnings of one legal history, and the longer of the two is seen
     pub record Looks (v w : (View N S C R)) : Type 0 where

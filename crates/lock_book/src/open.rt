@@ -9,11 +9,9 @@ ghost use Rattle.lock_book.specs.Shown.{AreAll, callers_of, count_of, mine_of, o
 use crate::Kept;
 use crate::noted::Noted;
 use crate::shelf::{Pass, Shelf};
-use crate::table::{Board, Callers, Held, Opens, Place, Slot, WORDS};
+use crate::table::{Board, Callers, Held, Opens, Place, Slot};
 use atomic_table::{Refused, Table};
 use std::alloc::{AllocError, Global};
-
-const MOST: usize = 1 << 60;
 
 /// Each value in a slot of its own.
 fn shelved<T: Kept>(alloc: Global, values: Vec<T>) -> Result<Vec<Held<T>>, AllocError>
@@ -69,12 +67,9 @@ impl<T: Kept> Shelf<T> {
         ensures fresh { IfOk result (λ r. (k : ℕ) (p : _) → get_elem? r.1.items k ≡ some p → (i : ℕ) → (seen_of p i ≡ []) × (mine_of p i ≡ [])) }
     {
         let count = values.len();
-        if count > MOST {
-            return Err(AllocError);
-        }
         let opens: Noted<Opens<T>> = Noted::of(&values);
         let slots = shelved(alloc, values)?;
-        let words = zeros(alloc, WORDS * count)?;
+        let words = zeros(alloc, count)?;
         let about = (opens, callers);
         let (board, whole) = match Table::new(alloc, words.as_slice(), slots, &about) {
             Ok(made) => made,

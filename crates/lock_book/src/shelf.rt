@@ -22,7 +22,7 @@ pub struct Shelf<T: Kept> {
     pub(crate) board: Board<T>,
     pub(crate) count: usize,
     pub(crate) callers: u32,
-    pub ghost sized: { (board.shared.table_id.words ≡ 2 * count) × (board.shared.table_id.slots ≡ count) × (length board.shared.key.0.value ≡ count) × (2 * count + 2 < 2 ^ 64) × (0 < count) },
+    pub ghost sized: { (board.shared.table_id.words ≡ count) × (board.shared.table_id.slots ≡ count) × (length board.shared.key.0.value ≡ count) × (0 < count) },
     pub ghost called_by: { board.shared.key.1 ≡ callers },
     pub ghost some_caller: { 0 < callers },
 }
@@ -87,7 +87,7 @@ impl<T: Kept> Pass<T> {
 impl<T: Kept> Shelf<T> {
     ghost use Rattle.lock_book.specs.Shown.{Belongs, Called, count_of, number_of, opens_of};
 
-    /// Takes a turn at the value `at`, and applies the call to it. The lock is held for `apply` and its commit alone.
+    /// Takes a turn at the value `at`, and applies the call to it. The lock is held for `apply` alone.
     /// It may wait for its turn, and takes no memory.
     pub fn call<R: Wait>(
         &self,

@@ -1,16 +1,16 @@
-//! The moves of the lock, one by one: take the value, apply the call, commit it, give the value back.
+//! The moves of the lock, one by one: take the value, apply the call, give the value back with the call in its history.
 //! What is known between two of them is the stage of the seat and the value that it carries.
 
-ghost use Rattle.std.specs.Prelude.{◌≡◌, ℕ, ◌+◌, ◌*◌, ◌^◌, ◌<◌, ◌≤◌, true, false, [], ◌∷◌, length, Some, unwrap_or};
+ghost use Rattle.std.specs.Prelude.{◌≡◌, ℕ, ◌<◌, true, false, [], ◌∷◌, length, Some, unwrap_or};
 ghost use mathlib.Core.Option.{some};
 ghost use lib.ListN.{get_elem?};
-ghost use Rattle.lock_book.specs.declared.view.Stage.TheVariants.{Idle, Holding};
-ghost use Rattle.lock_book.specs.Ruled.{IsFree, at_stage, with_entry, seen_at, Taken};
+ghost use Rattle.lock_book.specs.declared.view.Stage.TheVariants.{Holding};
+ghost use Rattle.lock_book.specs.Ruled.{IsFree, seen_at, served, Taken};
 ghost use Rattle.lock_book.specs.History.{entry, last_of, made_of};
 
 use crate::Kept;
 use crate::noted::Noted;
-use crate::table::{Board, Commit, Give, Held, Place, Take, WORDS};
+use crate::table::{Board, Give, Held, Place, Take};
 use crossbeam_utils::Backoff;
 use std::sync::Wait;
 
@@ -18,14 +18,13 @@ use std::sync::Wait;
 fn try_take<T: Kept>(board: &Board<T>, seat: &mut Place<T>, at: usize) -> bool
     requires own { seat.old.table_id ≡ board.now.shared.table_id }
     requires place { at < length board.now.shared.key.0.value }
-    requires word { (WORDS * at + WORDS ≤ board.now.shared.table_id.words) × (WORDS * at + WORDS < 2 ^ 64) }
+    requires word { at < board.now.shared.table_id.words }
     requires free { IsFree seat.old.me.0 }
     ensures own { seat.new.table_id ≡ seat.old.table_id }
     ensures taken { result ≡ true → Taken (λ x. T.name x.value) (λ x. T.state x.value) T.legal seat.old.me at seat.new.me }
     ensures not_free { result ≡ false → seat.new.me ≡ seat.old.me }
 {
-    let word = WORDS * at;
-    let found = board.shared.compare_exchange::<Take>(seat, word, 0, 1);
+    let found = board.shared.compare_exchange::<Take>(seat, at, 0, 1);
     found == 0
 }
 
@@ -34,7 +33,7 @@ fn try_take<T: Kept>(board: &Board<T>, seat: &mut Place<T>, at: usize) -> bool
 pub(crate) fn acquire<T: Kept, R: Wait>(rt: &R, board: &Board<T>, seat: &mut Place<T>, at: usize)
     requires own { seat.old.table_id ≡ board.now.shared.table_id }
     requires place { at < length board.now.shared.key.0.value }
-    requires word { (WORDS * at + WORDS ≤ board.now.shared.table_id.words) × (WORDS * at + WORDS < 2 ^ 64) }
+    requires word { at < board.now.shared.table_id.words }
     requires free { IsFree seat.old.me.0 }
     ensures own { seat.new.table_id ≡ seat.old.table_id }
     ensures taken { Taken (λ x. T.name x.value) (λ x. T.state x.value) T.legal seat.old.me at seat.new.me }
@@ -45,7 +44,7 @@ pub(crate) fn acquire<T: Kept, R: Wait>(rt: &R, board: &Board<T>, seat: &mut Pla
     let backoff = Backoff::new();
     for _ in rt.forever() {
         backoff.snooze();
-        let found = board.shared.peek(WORDS * at);
+        let found = board.shared.peek(at);
         if found == 0 && try_take(board, seat, at) {
             return;
         }
@@ -88,30 +87,16 @@ pub(crate) fn serve<T: Kept>(
     seat.slot_mut(&board.shared, at).apply(env, input)
 }
 
-/// Adds the call to the history of the value that the seat has.
-pub(crate) fn commit_call<T: Kept>(board: &Board<T>, seat: &mut Place<T>, at: usize)
-    requires own { seat.old.table_id ≡ board.now.shared.table_id }
-    requires word { (WORDS * at + WORDS ≤ board.now.shared.table_id.words) × (WORDS * at + WORDS < 2 ^ 64) }
-    requires holding { seat.old.me.0.stage ≡ Holding at }
-    requires held { (x : _) × (c : _) × (r : _) × (seat.old.me.1 ≡ (at, x) ∷ []) × (made_of T.call T.chosen T.reply x.made ≡ Some (c, r))
-        × ((o : _) → get_elem? seat.old.me.0.opens at ≡ some o → T.legal o.0 seat.old.me.0.from (last_of o.1 (seen_at seat.old.me.0 at)) c r (T.state x.value)) }
-    ensures own { seat.new.table_id ≡ seat.old.table_id }
-    ensures added { (x : _) (c : _) (r : _) → seat.old.me.1 ≡ (at, x) ∷ [] → made_of T.call T.chosen T.reply x.made ≡ Some (c, r)
-        → (seat.new.me.1 ≡ seat.old.me.1) × (seat.new.me.0 ≡ with_entry seat.old.me.0 at (entry seat.old.me.0.from c r (T.state x.value))) }
-{
-    board.shared.fetch_add::<Commit>(seat, WORDS * at + 1, 1);
-}
-
-/// Gives the value back.
+/// Adds the call to the history of the value that the seat has, and gives the value back: one store.
 pub(crate) fn release<T: Kept>(board: &Board<T>, seat: &mut Place<T>, at: usize)
     requires own { seat.old.table_id ≡ board.now.shared.table_id }
-    requires word { (WORDS * at + WORDS ≤ board.now.shared.table_id.words) × (WORDS * at + WORDS < 2 ^ 64) × (at < board.now.shared.table_id.slots) }
+    requires word { (at < board.now.shared.table_id.words) × (at < board.now.shared.table_id.slots) }
     requires holding { seat.old.me.0.stage ≡ Holding at }
-    requires held { (x : _) × (seat.old.me.1 ≡ (at, x) ∷ [])
-        × ((o : _) → get_elem? seat.old.me.0.opens at ≡ some o → (T.name x.value ≡ o.0) × (T.state x.value ≡ last_of o.1 (seen_at seat.old.me.0 at))) }
+    requires held { (x : _) × (c : _) × (r : _) × (seat.old.me.1 ≡ (at, x) ∷ []) × (made_of T.call T.chosen T.reply x.made ≡ Some (c, r))
+        × ((o : _) → get_elem? seat.old.me.0.opens at ≡ some o → (T.name x.value ≡ o.0) × T.legal o.0 seat.old.me.0.from (last_of o.1 (seen_at seat.old.me.0 at)) c r (T.state x.value)) }
     ensures own { seat.new.table_id ≡ seat.old.table_id }
-    ensures free { (x : _) → seat.old.me.1 ≡ (at, x) ∷ [] → seat.new.me.1 ≡ [] }
-    ensures view { seat.new.me.0 ≡ at_stage seat.old.me.0 Idle }
+    ensures added { (x : _) (c : _) (r : _) → seat.old.me.1 ≡ (at, x) ∷ [] → made_of T.call T.chosen T.reply x.made ≡ Some (c, r)
+        → (seat.new.me.1 ≡ []) × (seat.new.me.0 ≡ served seat.old.me.0 at (entry seat.old.me.0.from c r (T.state x.value))) }
 {
-    board.shared.store::<Give>(seat, WORDS * at, 0);
+    board.shared.store::<Give>(seat, at, 0);
 }

@@ -1,21 +1,20 @@
 //! The table of a shelf: its words, its slots and the steps on them.
 //!
-//! Of the value at place i, word 2 i is 1 while a caller has the value and 0 while it is free, and word 2 i + 1 is the
-//! length of its history modulo 2^64; slot i has the value while it is free. Who may change which, and when:
+//! Of the value at place i, word i is 1 while a caller has the value and 0 while it is free; slot i has the value while
+//! it is free. Who may change which, and when:
 //!
-//! - the lock's word from 0 to 1: any caller that has no value, by a compare-and-exchange, which takes the value out of
-//!   its slot (`Take`); where it finds 1 it changes nothing (`TakeOnce` is the same of a caller that will not wait);
+//! - the word from 0 to 1: any caller that has no value, by a compare-and-exchange, which takes the value out of its slot
+//!   (`Take`); where it finds 1 it changes nothing (`TakeOnce` is the same of a caller that will not wait);
 //! - the value: only the caller that has it reads or writes it;
-//! - length of the history: only the caller that has the value, by a fetch-add of 1 after it applied its call
-//!   (`Commit`);
-//! - the lock's word from 1 to 0: only the caller that has the value, by a store, which puts the value back (`Give`).
+//! - the word from 1 to 0: only the caller that has the value, by a store after it applied its call, which adds the call
+//!   to the history and puts the value back (`Give`).
 //!
 //! Nobody stands in line: a caller that found 1 reads the word until it is 0, backs off in between (`Backoff`), and
 //! tries again. A look (`Look`) is a load that changes nothing but what the caller knows. Passes are cut off and joined
 //! by `Callers`, and told what others have seen by `Note`. The rule is `Ruled` of specs/Ruled.
 
 ghost use Rattle.lock_book.specs.History.{made_of};
-ghost use Rattle.lock_book.specs.Ruled.{Ruled, newcomers, tried, tried_once, committed, given_back, looked, first_caller, other_callers, note, informed, together, nobody};
+ghost use Rattle.lock_book.specs.Ruled.{Ruled, newcomers, tried, tried_once, given_back, looked, first_caller, other_callers, note, informed, together, nobody};
 
 use crate::Kept;
 use crate::noted::Noted;
@@ -23,9 +22,6 @@ use crate::view::View;
 use atomic_table::{Join, Play, Seat, Split, Table, TableRule};
 use std::alloc::Global;
 use std::collections::LinkedList;
-
-/// How many words a value has.
-pub(crate) const WORDS: usize = 2;
 
 /// A locked value, with the input and the output of its last turn, which take no bytes.
 #[derive(Drop)]
@@ -74,18 +70,11 @@ impl<T: Kept> Play<Held<T>, Known<T>> for TakeOnce {
     ghost then = { tried_once (λ x. T.name x.value) (λ x. T.state x.value) T.legal };
 }
 
-/// A call goes into the history.
-pub struct Commit;
-
-impl<T: Kept> Play<Held<T>, Known<T>> for Commit {
-    ghost then = { committed (λ x. T.name x.value) (λ x. T.state x.value) T.legal (λ x. made_of T.call T.chosen T.reply x.made) };
-}
-
-/// The value goes back.
+/// A call goes into the history, and the value goes back.
 pub struct Give;
 
 impl<T: Kept> Play<Held<T>, Known<T>> for Give {
-    ghost then = { given_back (λ x. T.name x.value) (λ x. T.state x.value) T.legal };
+    ghost then = { given_back (λ x. T.name x.value) (λ x. T.state x.value) T.legal (λ x. made_of T.call T.chosen T.reply x.made) };
 }
 
 /// What was seen and what was told of are put together.

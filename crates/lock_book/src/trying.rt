@@ -4,7 +4,7 @@
 //! the seat counts the tries that found it taken (`misses`), and a call that gives its input back has counted one: a body
 //! that gives up of itself has not.
 
-ghost use Rattle.std.specs.Prelude.{◌≡◌, ◌+◌, ◌*◌, ◌^◌, ◌<◌, ◌≤◌, [], length, IfOk, IfErr, true, false, unwrap_or};
+ghost use Rattle.std.specs.Prelude.{◌≡◌, ◌<◌, [], length, IfOk, IfErr, true, false, unwrap_or};
 ghost use mathlib.Core.Option.{some};
 ghost use lib.ListN.{get_elem?};
 ghost use Rattle.lock_book.specs.Ruled.{IsFree, IsSame, Taken, mine_at, missing, seen_at};
@@ -12,21 +12,20 @@ ghost use Rattle.lock_book.specs.Told.{Adds, IsPass};
 
 use crate::Kept;
 use crate::shelf::{Pass, Shelf, give_back, lend};
-use crate::steps::{commit_call, release, serve};
-use crate::table::{Board, Place, TakeOnce, WORDS};
+use crate::steps::{release, serve};
+use crate::table::{Board, Place, TakeOnce};
 
 /// Whether the value `at` was free. The seat then has it; else the try is counted.
 fn try_once<T: Kept>(board: &Board<T>, seat: &mut Place<T>, at: usize) -> bool
     requires own { seat.old.table_id ≡ board.now.shared.table_id }
     requires place { at < length board.now.shared.key.0.value }
-    requires word { (WORDS * at + WORDS ≤ board.now.shared.table_id.words) × (WORDS * at + WORDS < 2 ^ 64) }
+    requires word { at < board.now.shared.table_id.words }
     requires free { IsFree seat.old.me.0 }
     ensures own { seat.new.table_id ≡ seat.old.table_id }
     ensures taken { result ≡ true → Taken (λ x. T.name x.value) (λ x. T.state x.value) T.legal seat.old.me at seat.new.me }
     ensures missed { result ≡ false → seat.new.me ≡ (missing seat.old.me.0, seat.old.me.1) }
 {
-    let word = WORDS * at;
-    let found = board.shared.compare_exchange::<TakeOnce>(seat, word, 0, 1);
+    let found = board.shared.compare_exchange::<TakeOnce>(seat, at, 0, 1);
     found == 0
 }
 
@@ -40,7 +39,7 @@ fn try_turn<T: Kept>(
 ) -> Result<T::Out, T::In>
     requires own { (seat.old.table_id ≡ board.now.shared.table_id) × (seat.old.me.1 ≡ []) }
     requires opened { seat.old.me.0.opens ≡ board.now.shared.key.0.value }
-    requires place { (at < length seat.old.me.0.opens) × (WORDS * at + WORDS ≤ board.now.shared.table_id.words) × (at < board.now.shared.table_id.slots) × (WORDS * at + WORDS < 2 ^ 64) }
+    requires place { (at < length seat.old.me.0.opens) × (at < board.now.shared.table_id.words) × (at < board.now.shared.table_id.slots) }
     requires free { IsFree seat.old.me.0 }
     requires stands { IsPass T.legal seat.old.me.0.opens seat.old.me.0.callers seat.old.me.0.from (seen_at seat.old.me.0) (mine_at seat.old.me.0 0) }
     requires input { (o : _) → get_elem? seat.old.me.0.opens at ≡ some o → T.env_fits o.0 env.now × T.in_fits o.0 seat.old.me.0.from input }
@@ -56,7 +55,6 @@ fn try_turn<T: Kept>(
         return Err(input);
     }
     let output = serve(board, seat, at, env, input);
-    commit_call(board, seat, at);
     release(board, seat, at);
     Ok(output)
 }

@@ -1,15 +1,15 @@
 //! A whole turn at one value, from taking it to giving it back.
 //! The invariant is `IsPass` of specs/Told: what is always true of a pass holds again after its call.
 
-ghost use Rattle.std.specs.Prelude.{◌≡◌, ◌+◌, ◌*◌, ◌^◌, ◌<◌, ◌≤◌, [], length, unwrap_or};
+ghost use Rattle.std.specs.Prelude.{◌≡◌, ◌<◌, [], length, unwrap_or};
 ghost use mathlib.Core.Option.{some};
 ghost use lib.ListN.{get_elem?};
 ghost use Rattle.lock_book.specs.Ruled.{IsFree, IsSame, mine_at, seen_at};
 ghost use Rattle.lock_book.specs.Told.{Adds, IsPass};
 
 use crate::Kept;
-use crate::steps::{acquire, commit_call, release, serve};
-use crate::table::{Board, Place, WORDS};
+use crate::steps::{acquire, release, serve};
+use crate::table::{Board, Place};
 use std::sync::Wait;
 
 /// Takes a turn at the value `at`, and applies the call.
@@ -23,7 +23,7 @@ pub(crate) fn take_turn<T: Kept, R: Wait>(
 ) -> T::Out
     requires own { (seat.old.table_id ≡ board.now.shared.table_id) × (seat.old.me.1 ≡ []) }
     requires opened { seat.old.me.0.opens ≡ board.now.shared.key.0.value }
-    requires place { (at < length seat.old.me.0.opens) × (WORDS * at + WORDS ≤ board.now.shared.table_id.words) × (at < board.now.shared.table_id.slots) × (WORDS * at + WORDS < 2 ^ 64) }
+    requires place { (at < length seat.old.me.0.opens) × (at < board.now.shared.table_id.words) × (at < board.now.shared.table_id.slots) }
     requires free { IsFree seat.old.me.0 }
     requires stands { IsPass T.legal seat.old.me.0.opens seat.old.me.0.callers seat.old.me.0.from (seen_at seat.old.me.0) (mine_at seat.old.me.0 0) }
     requires input { (o : _) → get_elem? seat.old.me.0.opens at ≡ some o → T.env_fits o.0 env.now × T.in_fits o.0 seat.old.me.0.from input }
@@ -35,7 +35,6 @@ pub(crate) fn take_turn<T: Kept, R: Wait>(
 {
     acquire(rt, board, seat, at);
     let output = serve(board, seat, at, env, input);
-    commit_call(board, seat, at);
     release(board, seat, at);
     output
 }

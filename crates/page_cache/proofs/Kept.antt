@@ -19,7 +19,7 @@ use Rattle.page_cache.specs.Pages.{after, may, owner_of, stepped}
 use Rattle.page_cache.specs.Tickets.{Answers, Asks, CacheEntry, CacheHistories}
 use Rattle.page_cache.specs.declared.page.Page.{Page}
 use Rattle.page_cache.specs.declared.page.PageCall.{PageCall}
-use Rattle.page_cache.specs.declared.page.PageCall.TheVariants.{Get, Replace, Put, Evict}
+use Rattle.page_cache.specs.declared.page.PageCall.TheVariants.{Get, Put, Evict}
 
 last_put-append : (page : Option Page) (xs ys : List (PageCall × Option Page)) → last_put page (xs ++ ys) ≡ last_put (last_put page xs) ys
 last_put-append page [] ys = refl
@@ -70,7 +70,6 @@ module _ (name : List ℕ) where
     -- others put no page under the name
     others_put : (by : ℕ) → by ≢ n → (c : PageCall) (reply : Option Page) → may by name c → put_by c reply ≡ None
     others_put by ne Get reply lets = refl
-    others_put by ne (Replace page) reply lets = absurd (ne (sym lets ∙ owner))
     others_put by ne (Put page) reply lets = absurd (ne (sym lets ∙ owner))
     others_put by ne Evict reply lets = refl
 
@@ -134,9 +133,6 @@ module _ (name : List ℕ) where
         made_step true was Get is there reply left made here = inl (left ∙ here ∙ sym (ap (last_put page) made))
         made_step false was Get is there reply left made here = inr (left ∙ here, ap (last_put None) made)
         made_step b was (Put new) is there reply left made here = inl (left ∙ sym (ap (last_put page) made))
-        made_step b (Some old) (Replace new) is there reply left made here = inl (left ∙ sym (ap (last_put page) made))
-        made_step true None (Replace new) is there reply left made here = inl (left ∙ here ∙ sym (ap (last_put page) made))
-        made_step false None (Replace new) is there reply left made here = inr (left, ap (last_put None) made)
         made_step true (Some old) Evict is there reply left made here = inr (left, record { page = old; spare = spare; unused = unused; freed = freed; call = call ∙ ap (λ (z : PageCall). Call name z spare) is; reply = reply })
         made_step true None Evict is there reply left made here = inl (left ∙ here ∙ sym (ap (last_put page) made))
         made_step false was Evict is there reply left made here = inr (left, ap (last_put None) made)

@@ -80,41 +80,6 @@ call_pays number item name call reply es m t u paid =
     let rest : List CacheEvent = Turn number (Call name call m.spare) (Made reply m.unused m.freed) ∷ m.after in
     subst (λ (z : List CacheEvent). Pays t z u) (sym m.is) (pays_append t t u m.before rest (none_pays t m.before m.none_before) (u, paid, gifts_pay u m.after m.gifts_after))
 
--- what those events make and take
-module _ (count : PageCall → Option Page → ℕ) where
-  total-append : (es fs : List CacheEvent) → total count (es ++ fs) ≡ total count es + total count fs
-  total-append [] fs = omega arith
-  total-append (e ∷ es) fs = let r = total-append es fs in omega (arith, r)
-
-  idle_total : (number : ℕ) (call : Asks) (reply : Answers) (es : List CacheEvent) → ((before : Option Page) (unused freed : Bool) → reply ≡ Made before unused freed → ⊥) → total count es ≡ 0 → total count (Turn number call reply ∷ es) ≡ 0
-  idle_total number call reply es h r = let i = idle count call reply h in omega (arith, i, r)
-
-  pub none_total : (es : List CacheEvent) → NoneMade es → total count es ≡ 0
-  none_total [] h = refl
-  none_total (Asked request ∷ es) h = let r = none_total es h in omega (arith, r)
-  none_total (Turn number call (Made reply unused freed) ∷ es) h = absurd h
-  none_total (Turn number call LacksItem ∷ es) h = idle_total number call LacksItem es (λ b u f e. absurd (cc)) (none_total es h)
-  none_total (Turn number call (HasToGrow size back) ∷ es) h = idle_total number call (HasToGrow size back) es (λ b u f e. absurd (cc)) (none_total es h)
-  none_total (Turn number call (HasSize size keys) ∷ es) h = idle_total number call (HasSize size keys) es (λ b u f e. absurd (cc)) (none_total es h)
-  none_total (Turn number call (Moved left) ∷ es) h = idle_total number call (Moved left) es (λ b u f e. absurd (cc)) (none_total es h)
-  none_total (Turn number call (Listed entries) ∷ es) h = idle_total number call (Listed entries) es (λ b u f e. absurd (cc)) (none_total es h)
-
-  gifts_total : (es : List CacheEvent) → AreGifts es → total count es ≡ 0
-  gifts_total [] h = refl
-  gifts_total (Asked (Gave bytes) ∷ es) h = let r = gifts_total es h in omega (arith, r)
-  gifts_total (Asked (Got bytes) ∷ es) h = absurd h
-  gifts_total (Asked (Missed bytes wanted largest) ∷ es) h = absurd h
-  gifts_total (Turn number call reply ∷ es) h = absurd h
-
-  pub call_total : (number item : ℕ) (name : List ℕ) (call : PageCall) (reply : Option Page) (es : List CacheEvent) → IsMade number item name call reply es → total count es ≡ count call reply
-  call_total number item name call reply es m =
-      let rest : List CacheEvent = Turn number (Call name call m.spare) (Made reply m.unused m.freed) ∷ m.after in
-      let is = ap (total count) m.is in
-      let both = total-append m.before rest in
-      let none = none_total m.before m.none_before in
-      let gifts = gifts_total m.after m.gifts_after in
-      omega (arith, is, both, none, gifts)
-
 -- ---- what own calls count
 
 module _ (count : PageCall → Option Page → ℕ) where

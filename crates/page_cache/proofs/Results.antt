@@ -1,10 +1,7 @@
--- What holds where a call went well, or did not.
-use Rattle.std.proofs.Common.{Result, Ok, Err, IfErr, OnOk}
+-- What holds where a call went well.
+use Rattle.std.proofs.Common.{◌≡◌, Result, Ok, Err, OnOk, refl}
 
-pub on_ok : {A E Q : Type 0} (r : Result A E) → Q → OnOk r Q
-on_ok (Ok a) q = q
-on_ok (Err e) q = tt
-
-pub if_err : {A E : Type 0} {P Q : E → Type 0} (r : Result A E) → ((e : E) → P e → Q e) → IfErr r P → IfErr r Q
-if_err (Ok a) f h = tt
-if_err (Err e) f h = f e h
+-- a result that is no refusal
+pub went_well : {A E Q : Type 0} (r : Result A E) → ((e : E) → r ≡ Err e → ⊥) → OnOk r Q → Q
+went_well (Ok a) none h = h
+went_well (Err e) none h = absurd (none e refl)

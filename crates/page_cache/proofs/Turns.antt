@@ -17,7 +17,7 @@ use Rattle.page_cache.specs.Pages.{after, stepped}
 use Rattle.page_cache.specs.Tickets.{Answers, Asks, CacheEntry, makes, of_turn, takes}
 use Rattle.page_cache.specs.declared.page.Page.{Page}
 use Rattle.page_cache.specs.declared.page.PageCall.{PageCall}
-use Rattle.page_cache.specs.declared.page.PageCall.TheVariants.{Get, Replace, Put, Evict}
+use Rattle.page_cache.specs.declared.page.PageCall.TheVariants.{Get, Put, Evict}
 
 module _ (m : KeyMap Page) (name : List ℕ) where
   put_new : (page : Page) → fin.get m name ≡ None → fin.len (fin.insert m name page) ≡ fin.len m + 1
@@ -42,8 +42,6 @@ module _ (m : KeyMap Page) (name : List ℕ) where
   made_counts : (call : PageCall) (page : Option Page) → fin.get m name ≡ page → fin.len (changed m name (after page call)) + takes call page ≡ fin.len m + makes call page
   made_counts Get (Some old) e = let l = put_over old old e in omega (arith, l)
   made_counts Get None e = let l = none_gone e in omega (arith, l)
-  made_counts (Replace new) (Some old) e = let l = put_over new old e in omega (arith, l)
-  made_counts (Replace new) None e = let l = none_gone e in omega (arith, l)
   made_counts (Put new) (Some old) e = let l = put_over new old e in omega (arith, l)
   made_counts (Put new) None e = let l = put_new new e in omega (arith, l)
   made_counts Evict (Some old) e = let l = one_gone old e in let s = has_one old e in omega (arith, l, s)

@@ -1,5 +1,5 @@
 -- Why a page was not put, and that an entry was evicted for another.
-use Rattle.std.specs.Prelude.{◌≡◌, ◌⊎◌, ◌+◌, ◌<◌, ℕ, List}
+use Rattle.std.specs.Prelude.{◌≡◌, ◌+◌, ◌<◌, ◌≤◌, ℕ, List}
 use Rattle.std.specs.FinMap as fin
 use Rattle.lock_book.specs.Shown.{seen_of}
 use Rattle.dshash_parts.specs.Promises.{CallRefused}
@@ -20,6 +20,6 @@ IsCause c before after name page (NoSpace pages largest) = CallRefused stepped c
 IsCause c before after name page NoneToEvict = (after.tickets ≡ 0) × ((k : ℕ) → k < 128 → fin.len (map_at (seen_of after.pass) k) ≡ 0)
 IsCause c before after name page Memory = after.tickets ≡ 0
 
--- between these two points of its life the caller made no entry, or it took one out too
+-- between these two points of its life the caller took out as many entries as it made, or more
 abbrev pub Evicts : CacheHistories → CacheHistories → Type 0
-Evicts before after = (counted makes after ≡ counted makes before) ⊎ (counted takes after ≡ counted takes before + 1)
+Evicts before after = counted makes after + counted takes before ≤ counted makes before + counted takes after

@@ -7,11 +7,10 @@ use Rattle.dshash_parts.specs.Tables.{map_at}
 use Rattle.dshash_parts.specs.Replays.{calls_of_key, made_of}
 use Rattle.dshash_parts.specs.declared.histories.PartitionCalls.TheVariants.{Call}
 use Rattle.dshash_parts.specs.declared.histories.PartitionReplies.TheVariants.{Made}
-use Rattle.page_cache.specs.Pages.{in_place_of}
 use Rattle.page_cache.specs.Tickets.{CacheEntry, CacheHistories}
 use Rattle.page_cache.specs.declared.page.Page.{Page}
 use Rattle.page_cache.specs.declared.page.PageCall.{PageCall}
-use Rattle.page_cache.specs.declared.page.PageCall.TheVariants.{Get, Replace, Put, Evict}
+use Rattle.page_cache.specs.declared.page.PageCall.TheVariants.{Get, Put, Evict}
 
 -- what stands under a name after all that was seen
 abbrev pub under : CacheHistories → List ℕ → Option Page
@@ -20,7 +19,6 @@ under seen name = fin.get (map_at seen (partition_of (hash_of name))) name
 -- the page that a call with its reply puts, if any
 abbrev pub put_by : PageCall → Option Page → Option Page
 put_by (Put page) before = Some page
-put_by (Replace page) before = in_place_of before page
 put_by Get before = None
 put_by Evict before = None
 

@@ -2,21 +2,11 @@
 use Rattle.std.specs.Prelude.{◌≡◌, ℕ, List, Option, Some, None, slice_index_or}
 use Rattle.page_cache.specs.declared.page.Page.{Page}
 use Rattle.page_cache.specs.declared.page.PageCall.{PageCall}
-use Rattle.page_cache.specs.declared.page.PageCall.TheVariants.{Get, Replace, Put, Evict}
-
--- the words of a page
-abbrev pub words_of : Page → List ℕ
-words_of page = page.words
-
--- the new page where there was one, and none where there was none
-abbrev pub in_place_of : Option Page → Page → Option Page
-in_place_of (Some old) new = Some new
-in_place_of None new = None
+use Rattle.page_cache.specs.declared.page.PageCall.TheVariants.{Get, Put, Evict}
 
 -- the page afterwards
 abbrev pub after : Option Page → PageCall → Option Page
 after page Get = page
-after page (Replace new) = in_place_of page new
 after page (Put new) = Some new
 after page Evict = None
 
@@ -31,6 +21,5 @@ owner_of name = slice_index_or name 0 0
 -- every caller may get a page and evict one; to put one is left to the name's owner
 abbrev pub may : ℕ → List ℕ → PageCall → Type 0
 may caller name Get = Unit {0}
-may caller name (Replace page) = owner_of name ≡ caller
 may caller name (Put page) = owner_of name ≡ caller
 may caller name Evict = Unit {0}

@@ -24,6 +24,10 @@ pub record IsSeat (c : Cache) (s : Seat) : Type 0 where
   pub paid : HasPaid c.area (number_of s.pass) c.share (sight_of s.pass s.apass) s.tickets
   pub hand : s.hand < 128
 
+-- the seat before and after a call of the cache, of the same caller
+abbrev pub StaysSeat : Cache → Seat → Seat → Type 0
+StaysSeat c before after = IsSeat c after × (number_of after.pass ≡ number_of before.pass)
+
 -- the seats of all callers, in order of their numbers
 pub record AreSeats (c : Cache) (seats : List Seat) : Type 0 where
   pub count : length seats ≡ callers_of c.table

@@ -14,7 +14,7 @@ use Rattle.dshash_parts.specs.declared.histories.PartitionReplies.TheVariants.{M
 use Rattle.page_cache.specs.Pages.{stepped}
 use Rattle.page_cache.specs.declared.page.Page.{Page}
 use Rattle.page_cache.specs.declared.page.PageCall.{PageCall}
-use Rattle.page_cache.specs.declared.page.PageCall.TheVariants.{Get, Replace, Put, Evict}
+use Rattle.page_cache.specs.declared.page.PageCall.TheVariants.{Get, Put, Evict}
 
 -- what is called of a partition of the cache, what it replies, and an entry of its history
 abbrev pub Asks : Type 0
@@ -36,7 +36,6 @@ CacheEvent = Event Page PageCall (Option Page)
 abbrev pub makes : PageCall → Option Page → ℕ
 makes (Put page) None = 1
 makes (Put page) (Some old) = 0
-makes (Replace page) before = 0
 makes Get before = 0
 makes Evict before = 0
 
@@ -45,7 +44,6 @@ abbrev pub takes : PageCall → Option Page → ℕ
 takes Evict (Some page) = 1
 takes Evict None = 0
 takes Get before = 0
-takes (Replace page) before = 0
 takes (Put page) before = 0
 
 -- of a turn at a partition what a call has that was made, and else none

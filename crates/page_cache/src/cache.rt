@@ -1,4 +1,4 @@
-//! The cache that all threads share, and the seat that each of them owns: how they are made.
+//! The cache that all threads share, and the seat that each of them owns: how they are made, and what is always true.
 //!
 //! There is a ticket for each entry that the cache may have. They are dealt to the seats in equal shares, and whoever
 //! makes an entry pays one.
@@ -9,6 +9,7 @@ ghost use lib.ListN.{get_elem?};
 ghost use Rattle.lock_book.specs.Shown.{mine_of, number_of, seen_of};
 ghost use Rattle.dsa_area.specs.Shown.{AreAll as AreAllOfArea, Belongs as AreaBelongs, IsArea, callers_of as area_callers};
 ghost use Rattle.dshash_parts.specs.Tables.{AreAll, IsTable, callers_of, key_words_of};
+ghost use Rattle.page_cache.specs.Moments.{AlwaysPaid, NeverMore};
 ghost use Rattle.page_cache.specs.Seats.{AreSeats, IsCache};
 
 use crate::page::Page;
@@ -132,3 +133,13 @@ pub fn open<R: Wait>(
     };
     Some((cache, seats))
 }
+
+/// The law: whatever the callers do, and in whatever order, at no moment are there more entries than their shares.
+pub fn never_more()
+    ensures { NeverMore }
+{}
+
+/// A caller pays for an entry before it makes it, so what a seat says of its life is true at each event of it.
+pub fn always_paid()
+    ensures { AlwaysPaid }
+{}

@@ -2,23 +2,20 @@
 //! owner, who alone puts pages there: what it gets is what it put, or that was evicted. At no moment there are more
 //! entries than the cache may have.
 //!
-//! `page` is what stands under a name; `cache` is what the threads share and what each of them owns; `calls` are the
-//! calls, and `laws` what is true of all of them together; `threads` and `closing` are a use.
+//! `page` is what stands under a name; `cache` is what the threads share and what each of them owns, and the laws of it;
+//! `calls` are the calls; `threads` is a use.
 
 #![tactic(auto)]
 
 mod cache;
 mod calls;
-mod closing;
-mod laws;
 mod page;
 mod threads;
 
 ghost use Rattle.std.specs.Prelude.{◌≤◌, ◌*◌, IfSome};
 
 use crate::cache::open;
-use crate::closing::{entries_left, passes_of};
-use crate::threads::all_work;
+use crate::threads::{all_work, entries_left, passes_of};
 use std::alloc::Global;
 use std::process::ExitCode;
 use std::sync::Wait;

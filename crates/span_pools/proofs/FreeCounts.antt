@@ -57,7 +57,7 @@ pub room_unmarked : (l : Layout) (marks records : WordMap) (p : ℕ) → mark_of
 room_unmarked l marks records p m = ap (λ (b : Bool). cond {A = ℕ} b (unwrap_or (at records (record_at l p)) 0) 0) m
 
 -- the bit and the record of a page stayed
-room_stays : (l : Layout) (marks marks2 records records2 : WordMap) (q : ℕ) → mark_of l marks2 q ≡ mark_of l marks q → (mark_of l marks q ≡ true → at records2 (record_at l q) ≡ at records (record_at l q))
+pub room_stays : (l : Layout) (marks marks2 records records2 : WordMap) (q : ℕ) → mark_of l marks2 q ≡ mark_of l marks q → (mark_of l marks q ≡ true → at records2 (record_at l q) ≡ at records (record_at l q))
     → room_at l marks2 records2 q ≡ room_at l marks records q
 room_stays l marks marks2 records records2 q m same = go (mark_of l marks q) refl
   where
@@ -65,10 +65,10 @@ room_stays l marks marks2 records records2 q m same = go (mark_of l marks q) ref
     go true e = ap (λ (b : Bool). cond {A = ℕ} b (unwrap_or (at records2 (record_at l q)) 0) 0) m ∙ ap (λ (o : Option ℕ). cond {A = ℕ} (mark_of l marks q) (unwrap_or o 0) 0) (same e)
     go false e = room_unmarked l marks2 records2 q (m ∙ e) ∙ sym (room_unmarked l marks records q e)
 
-unlike_record : (l : Layout) (p q : ℕ) → q ≢ p → (record_at l q < record_at l p) ⊎ (record_at l p + 7 ≤ record_at l q)
+pub unlike_record : (l : Layout) (p q : ℕ) → q ≢ p → (record_at l q < record_at l p) ⊎ (record_at l p + 7 ≤ record_at l q)
 unlike_record l p q n = ⊎_elim (λ (h : q < p). inl (omega arith)) (λ (h : p ≤ q). inr (omega arith)) (cases_lt q p)
 
-apart_record : (l : Layout) (p q : ℕ) → ((p + 16 ≤ q) ⊎ (q + 16 ≤ p)) → is_within (record_at l p) 112 (record_at l q) ≡ false
+pub apart_record : (l : Layout) (p q : ℕ) → ((p + 16 ≤ q) ⊎ (q + 16 ≤ p)) → is_within (record_at l p) 112 (record_at l q) ≡ false
 apart_record l p q h = false_from_ne_true (is_within (record_at l p) 112 (record_at l q)) (λ w.
     let i = within_is (record_at l p) 112 (record_at l q) w in ⊎_elim (λ (z : p + 16 ≤ q). omega (arith, i.1)) (λ (z : q + 16 ≤ p). omega (arith, i.0)) h)
 

@@ -12,3 +12,4 @@ pub mod Empty
 pub mod Frees
 pub mod Offers
 pub mod FreeCounts
+pub mod Spares

@@ -68,6 +68,10 @@ total f (suc n) = f n + total f n
 abbrev pub free_objects : Layout → WordMap → WordMap → ℕ
 free_objects l marks records = total (room_at l marks records) l.pages
 
+-- the superblock that is remembered as spare has a free object, by its record
+abbrev pub IsSpare : Layout → Option ℕ → WordMap → WordMap → Type 0
+IsSpare l spare marks records = (p : ℕ) → spare ≡ Some p → 0 < room_at l marks records p
+
 -- object i goes out: the record says so where its words are no longer owned, and those of the others are
 abbrev pub IsPopped : ℕ → (ℕ → ℕ) → (ℕ → Option ℕ) → ℕ → ℕ → ℕ → ℕ → Type 0
 IsPopped objects place word i room head used = (after : ℕ → Option ℕ) → after i ≡ None → ((j : ℕ) → j ≢ i → after j ≡ word j) → IsListed objects place after room head used

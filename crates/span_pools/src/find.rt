@@ -55,9 +55,11 @@ fn find_free(marks: &mut Part, records: &mut Part, r: &Region, layout: Layout) -
     None
 }
 
-/// A page whose superblock has a free object: the active one's, where that has one.
+/// A page whose superblock has a free object: the active one's, where that has one, and else the spare one, where there
+/// is one.
 pub(crate) fn free_page(
     active: Option<u64>,
+    spare: Option<u64>,
     marks: &mut Part,
     records: &mut Part,
     r: &Region,
@@ -68,6 +70,7 @@ pub(crate) fn free_page(
     requires bits { HasJust marks.old.words layout.marks (area.mark_words layout.pages) }
     requires has { (p : ℕ) → mark_of layout marks.old.words p ≡ true → (p < layout.pages) × IsSome (word_at records.old.words (record_at layout p)) }
     requires active { (p : ℕ) → active ≡ Some p → mark_of layout marks.old.words p ≡ true }
+    requires spare { (p : ℕ) → spare ≡ Some p → (mark_of layout marks.old.words p ≡ true) × HasRoom layout records.old.words p }
     ensures same { (marks.new ≡ marks.old) × (records.new ≡ records.old) }
     ensures found { IfSome result (λ p. (mark_of layout marks.old.words p ≡ true) × HasRoom layout records.old.words p) }
     ensures first { IfSome result (λ p. (q : ℕ) → active ≡ Some q → HasRoom layout records.old.words q → q ≡ p) }
@@ -78,7 +81,10 @@ pub(crate) fn free_page(
             return Some(page);
         }
     }
-    find_free(marks, records, r, layout)
+    match spare {
+        Some(page) => Some(page),
+        None => find_free(marks, records, r, layout),
+    }
 }
 
 /// Whether an object of the superblock at a page has this place.
@@ -93,14 +99,32 @@ fn is_object(layout: Layout, page: u64, place: u64) -> bool
     offset % layout.size == 0 && offset / layout.size < layout.objects
 }
 
+/// How many pages before a page the active superblock begins, where it has that page, and else 0.
+fn first_back(active: Option<u64>, page: u64) -> u64
+    ensures few { result < superblock_pages }
+    ensures begins { 0 < result → (p : ℕ) × (active ≡ Some p) × (p + result ≡ page) }
+{
+    match active {
+        Some(first) if first <= page && page - first < u64::from(SUPERBLOCK_PAGES) => page - first,
+        _ => 0,
+    }
+}
+
 /// The page whose superblock has an object at a place: looks at the bit of the place's page and those of the 15 pages
-/// before it.
-pub(crate) fn holder(marks: &mut Part, r: &Region, layout: Layout, place: u64) -> Option<u64>
+/// before it, and at one bit where the active superblock has the place.
+pub(crate) fn holder(
+    active: Option<u64>,
+    marks: &mut Part,
+    r: &Region,
+    layout: Layout,
+    place: u64,
+) -> Option<u64>
     requires here { marks.old.region ≡ r.now }
     requires layout { IsLayout layout }
     requires bits { HasJust marks.old.words layout.marks (area.mark_words layout.pages) }
     requires inside { (p : ℕ) → mark_of layout marks.old.words p ≡ true → p + superblock_pages ≤ layout.pages }
     requires apart { (p q : ℕ) → mark_of layout marks.old.words p ≡ true → mark_of layout marks.old.words q ≡ true → p < q → p + superblock_pages ≤ q }
+    requires active { (p : ℕ) → active ≡ Some p → mark_of layout marks.old.words p ≡ true }
     ensures same { marks.new ≡ marks.old }
     ensures found { IfSome result (λ p. (mark_of layout marks.old.words p ≡ true) × (i : ℕ) × (i < layout.objects) × (place ≡ place_of layout p i)) }
     ensures none { IfNone result ((p i : ℕ) → mark_of layout marks.old.words p ≡ true → i < layout.objects → place ≢ place_of layout p i) }
@@ -109,7 +133,7 @@ pub(crate) fn holder(marks: &mut Part, r: &Region, layout: Layout, place: u64) -
         return None;
     }
     let page = (place - layout.first) / PAGE_WORDS;
-    for back in 0..u64::from(SUPERBLOCK_PAGES) {
+    for back in first_back(active, page)..u64::from(SUPERBLOCK_PAGES) {
         if back > page {
             return None;
         }

@@ -6,7 +6,7 @@
 //! and its list only say so again. What the parts own is `IsPool` of `specs/View.antt`; what the calls answer is
 //! `IsLegal` of `specs/Legal.antt`.
 
-ghost use Rattle.std.specs.Prelude.{◌≡◌, ◌≢◌, ℕ, ◌+◌, ◌*◌, ◌/◌, ◌<◌, ◌≤◌, ◌^◌, [], None, Some, IfSome, IfNone, IfOk, IfErr, true, IsSome, is_some};
+ghost use Rattle.std.specs.Prelude.{◌≡◌, ◌≢◌, ℕ, ◌+◌, ◌*◌, ◌/◌, ◌<◌, ◌≤◌, ◌^◌, ◌⊎◌, [], None, Some, IfSome, IfNone, IfOk, IfErr, true, IsSome, is_some};
 ghost use Rattle.word_map.specs.WordMap.{HasJust};
 ghost use Rattle.size_classes.specs.Classes.{IsClass};
 ghost use Rattle.free_pages.specs.Area.{front, head_words, mark_words, marks_at, page_words};
@@ -34,6 +34,9 @@ pub struct Pool {
     /// How many objects of all superblocks are free. It only says again what the records say, so that nobody has to
     /// look at each.
     left: u64,
+    /// The page of a superblock with a free object, where one is remembered: one to which an object came back that was
+    /// not the active one. It is used where the active one is full, so that the bits need not be gone over.
+    spare: Option<u64>,
     /// The words of the class's bits.
     marks: Part,
     /// The control records of the superblocks.
@@ -44,7 +47,7 @@ pub struct Pool {
 
 impl Model for Pool {
     ghost use Rattle.std.specs.Prelude.{◌≡◌};
-    ghost use Rattle.span_pools.specs.View.{free_objects, state_of, IsPool};
+    ghost use Rattle.span_pools.specs.View.{free_objects, state_of, IsPool, IsSpare};
     ghost use Rattle.span_pools.specs.PoolView.{PoolView, pool_view_code, pool_view};
 
     ghost Value = { PoolView };
@@ -53,7 +56,7 @@ impl Model for Pool {
 
     ghost view = { λ p. pool_view p.marks.region p.layout (state_of p.layout p.active p.marks.words p.words.words) };
 
-    ghost invariant = { λ p. IsPool p.layout p.active p.marks p.records p.words × (p.left ≡ free_objects p.layout p.marks.words p.records.words) };
+    ghost invariant = { λ p. IsPool p.layout p.active p.marks p.records p.words × (p.left ≡ free_objects p.layout p.marks.words p.records.words) × IsSpare p.layout p.spare p.marks.words p.records.words };
 }
 
 impl Pool {
@@ -82,6 +85,7 @@ impl Pool {
             layout,
             active: None,
             left: 0,
+            spare: None,
             marks,
             records,
             words,
@@ -89,8 +93,8 @@ impl Pool {
     }
 
     /// A free object, which is live then: of the active superblock, where that has one. Costs the same for every state
-    /// while the active superblock has a free object, or none has; else it goes over the class's bits, a word at a
-    /// time.
+    /// while the active superblock has a free object, one that was not active got one back since, or none has; else it
+    /// goes over the class's bits, a word at a time.
     pub fn alloc(&mut self, r: &Region) -> Option<Chunk>
         requires here { self.old.region ≡ r.now }
         ensures same { self.new ≡ record self.old { state = self.new.state } }
@@ -103,6 +107,7 @@ impl Pool {
         }
         let page = free_page(
             self.active,
+            self.spare,
             &mut self.marks,
             &mut self.records,
             r,
@@ -110,6 +115,7 @@ impl Pool {
         )?;
         let (place, part) = take_object(&mut self.words, &mut self.records, r, self.layout, page);
         self.active = Some(page);
+        self.spare = other_than(self.spare, page);
         self.left -= 1;
         Some(Chunk {
             at: RelPtr::of(place),
@@ -158,7 +164,7 @@ impl Pool {
 
     /// Takes an object back. Where it was the last live one of a superblock that is not the active one, gives the
     /// superblock back. Hands the object back where no superblock has an object at this place and of this size. Looks
-    /// at 16 bits.
+    /// at one bit where the active superblock has the object, and else at 16 at most.
     pub fn free(&mut self, r: &Region, object: Chunk) -> Result<Option<Run>, Chunk>
         requires here { (self.old.region ≡ r.now) × (object.part.region ≡ r.now) }
         ensures same { self.new ≡ record self.old { state = self.new.state } }
@@ -172,7 +178,7 @@ impl Pool {
             return Err(object);
         }
         let place = object.at.word();
-        let Some(page) = holder(&mut self.marks, r, self.layout, place) else {
+        let Some(page) = holder(self.active, &mut self.marks, r, self.layout, place) else {
             return Err(object);
         };
         let Chunk {
@@ -192,6 +198,7 @@ impl Pool {
                 part,
             );
             self.left -= free;
+            self.spare = other_than(self.spare, page);
             return Ok(Some(Run {
                 at: RelPtr::of(self.layout.first + PAGE_WORDS * page),
                 pages: SUPERBLOCK_PAGES,
@@ -209,6 +216,7 @@ impl Pool {
             part,
         );
         self.left += 1;
+        self.spare = spare_with(self.active, self.spare, page);
         Ok(None)
     }
 }
@@ -221,6 +229,27 @@ fn is_page(active: Option<u64>, page: u64) -> bool
     match active {
         Some(other) => other == page,
         None => false,
+    }
+}
+
+/// What is remembered as spare, where that is no longer to be this page.
+fn other_than(spare: Option<u64>, page: u64) -> Option<u64>
+    ensures { (p : ℕ) → result ≡ Some p → (spare ≡ Some p) × (p ≢ page) }
+{
+    match spare {
+        Some(other) if other != page => Some(other),
+        _ => None,
+    }
+}
+
+/// What is remembered as spare, when an object came back to the superblock of a page: that one, where it is not active.
+fn spare_with(active: Option<u64>, spare: Option<u64>, page: u64) -> Option<u64>
+    ensures { (p : ℕ) → result ≡ Some p → (spare ≡ Some p) ⊎ (p ≡ page) }
+{
+    if is_page(active, page) {
+        spare
+    } else {
+        Some(page)
     }
 }
 

@@ -26,13 +26,13 @@ entries_left-requires-clause-seats g c =
         each = λ k s at.
             let d = map_at seat_of done k s at in
             let r = read_at done k d.0 d.1 in
-            subst (IsSeat c.in_ok-cache.cache) (ap seat_of (sym r.1) ∙ d.2) (came.own k d.0 (omega (arith, r.0, count)));
+            subst (IsSeat c.in_ok-cache.cache) (ap seat_of (sym r.1) ∙ d.2) (came.own k d.0 (omega (arith, r.0, count))).0;
         numbers = λ k s at.
             let d = map_at seat_of done k s at in
             let r = read_at done k d.0 d.1 in
             let low : k < length went = omega (arith, r.0, count) in
             let was = get_or went k d.0.0 in
-            ap (λ (z : Seat). number_of z.pass) (sym d.2 ∙ ap seat_of r.1) ∙ came.callers k d.0 low ∙ all.numbers k was (at_index went k was low (get_or_default went k d.0.0 was low));
+            ap (λ (z : Seat). number_of z.pass) (sym d.2 ∙ ap seat_of r.1) ∙ (came.own k d.0 low).1 ∙ all.numbers k was (at_index went k was low (get_or_default went k d.0.0 was low));
       },
       c.in-Ok-passes_of.ensures ∙ sym (map_map seat_of (λ (s : Seat). s.pass) done),
     )

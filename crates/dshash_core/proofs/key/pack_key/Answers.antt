@@ -7,5 +7,5 @@ returns-clause-key c = packs _ _ c.loop-i.invariant.long c.loop-i.invariant.head
 
 pub returns-clause-packed : goal.returns-clause-packed
 returns-clause-packed c =
-    is_packed _ c.args.bytes.now (all_bytes _ c.type_inv.bytes) c.if-bytes-gt248.false
+    is_packed _ c.args.bytes.now (all_bytes _ c.type_inv.bytes) c.if-bytes-gt-MOST_PACKED_BYTES.false
     (packs _ _ c.loop-i.invariant.long c.loop-i.invariant.head (λ k h. c.loop-i.invariant.words k (omega arith)))

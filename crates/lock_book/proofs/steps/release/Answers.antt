@@ -1,13 +1,10 @@
-use Rattle.std.proofs.Common.{arith, ◌∙◌, ap}
+use Rattle.std.proofs.Common.{◌∙◌, ap, refl}
 use Rattle.atomic_table.specs.Table.{rest}
 use Rattle.lock_book.proofs.Moves.{gives_back}
 use Rattle.lock_book.proofs.steps.release.Goals as goal
 
 pub store-requires : goal.store-requires
-store-requires g c = (c.requires.own, omega arith, gives_back _ _ _ _ _ _ _ _ c.args.at c.requires.held.0 c.requires.holding c.requires.held.1 c.requires.word.2 c.requires.held.2)
+store-requires g c = let h = c.requires.held in (c.requires.own, c.requires.word.0, gives_back _ _ _ _ _ _ _ _ _ c.args.at h.0 h.1 h.2 c.requires.holding h.3 h.4 c.requires.word.1 h.5)
 
-pub returns-clause-free : goal.returns-clause-free
-returns-clause-free g c = λ x e. c.store.ensures.2.0 ∙ ap rest e
-
-pub returns-clause-view : goal.returns-clause-view
-returns-clause-view g c = c.store.ensures.2.1
+pub returns-clause-added : goal.returns-clause-added
+returns-clause-added g c = λ x y r e told. let t = c.store.ensures.2 c.args.at x y r refl e told in (t.0 ∙ ap rest e, t.1)

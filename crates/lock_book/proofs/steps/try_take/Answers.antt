@@ -4,7 +4,7 @@ use Rattle.lock_book.proofs.Moves.{tries}
 use Rattle.lock_book.proofs.steps.try_take.Goals as goal
 
 pub compare_exchange-found-requires : goal.compare_exchange-found-requires
-compare_exchange-found-requires g c = (c.requires.own, omega arith, tries _ _ _ _ _ _ _ _ c.args.at c.requires.free c.requires.place)
+compare_exchange-found-requires g c = (c.requires.own, c.requires.word, tries _ _ _ _ _ _ _ _ c.args.at c.requires.free c.requires.place)
 
 pub returns-clause-taken : goal.returns-clause-taken
 returns-clause-taken g c = λ e. let free : c.compare_exchange-found.result ≡ 0 = grind (arith, nat_tests) in (c.compare_exchange-found.ensures.2 c.args.at refl).0 free

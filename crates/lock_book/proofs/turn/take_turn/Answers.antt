@@ -3,7 +3,7 @@ use lib.ListN.{get_elem?}
 use Rattle.lock_book.specs.History.{last_of}
 use Rattle.lock_book.specs.Ruled.{seen_at}
 use Rattle.lock_book.proofs.Totals.{there}
-use Rattle.lock_book.proofs.Calls.{slot_taken, slot_is, seen_now, legal_now, whole, whole_stands, last_now, same_pass}
+use Rattle.lock_book.proofs.Calls.{slot_taken, slot_is, seen_now, legal_now, whole, whole_stands, same_pass}
 use Rattle.lock_book.proofs.turn.take_turn.Goals as goal
 
 pub serve-output-requires-clause-held : goal.serve-output-requires-clause-held
@@ -19,35 +19,8 @@ serve-output-requires-clause-held g c κs within =
       subst (λ q. K.in_fits (K.name d.slot.value) q c.args.input) (sym (ap (λ v. v.from) d.view)) (subst (λ n. K.in_fits n c.args.seat.now.me.0.from c.args.input) (sym k.1) f.1),
     )
 
-pub commit_call-requires-clause-held : goal.commit_call-requires-clause-held
-commit_call-requires-clause-held g c κs within =
-    let K = g.T.Kept in
-    let d = c.acquire.ensures.taken in
-    let s = c.serve-output.ensures.served in
-    let same = c.serve-output.ensures.own.1 in
-    let none = c.requires.own.1 in
-    let x = s.0 in
-    let y = s.1 in
-    let seen = ap (λ v. seen_at v c.args.at) same ∙ seen_now (λ x. K.name x.value) (λ x. K.state x.value) K.legal c.args.at _ _ none d in (
-      y,
-      unwrap_or (K.chosen c.args.input c.serve-output.result) (K.call c.args.input),
-      K.reply c.serve-output.result,
-      s.3,
-      s.7,
-      λ o eo.
-          let h = legal_now (λ x. K.name x.value) (λ x. K.state x.value) K.legal c.args.at _ _ none d x s.2 c.acquire.new.seat.me.0.from (unwrap_or (K.chosen c.args.input c.serve-output.result) (K.call c.args.input)) (K.reply c.serve-output.result) (K.state y.value) s.4 o
-          (sym (ap (λ v. get_elem? v.opens c.args.at) (same ∙ d.view)) ∙ eo) in
-          subst (λ q. K.legal o.0 q (last_of o.1 (seen_at c.serve-output.new.seat.me.0 c.args.at)) (unwrap_or (K.chosen c.args.input c.serve-output.result) (K.call c.args.input)) (K.reply c.serve-output.result) (K.state y.value)) (sym (ap (λ v. v.from) same))
-          (subst (λ m. K.legal o.0 c.acquire.new.seat.me.0.from (last_of o.1 m) (unwrap_or (K.chosen c.args.input c.serve-output.result) (K.call c.args.input)) (K.reply c.serve-output.result) (K.state y.value)) (sym seen) h),
-    )
-
 pub release-requires-clause-holding : goal.release-requires-clause-holding
-release-requires-clause-holding g c κs within =
-    let K = g.T.Kept in
-    let d = c.acquire.ensures.taken in
-    let s = c.serve-output.ensures.served in
-    let a = c.commit_call.ensures.added s.1 (unwrap_or (K.chosen c.args.input c.serve-output.result) (K.call c.args.input)) (K.reply c.serve-output.result) s.3 s.7 in
-    ap (λ v. v.stage) a.1 ∙ (ap (λ v. v.stage) c.serve-output.ensures.own.1 ∙ ap (λ v. v.stage) d.view)
+release-requires-clause-holding g c κs within = ap (λ v. v.stage) c.serve-output.ensures.own.1 ∙ ap (λ v. v.stage) c.acquire.ensures.taken.view
 
 pub release-requires-clause-held : goal.release-requires-clause-held
 release-requires-clause-held g c κs within =
@@ -56,51 +29,62 @@ release-requires-clause-held g c κs within =
     let s = c.serve-output.ensures.served in
     let same = c.serve-output.ensures.own.1 in
     let none = c.requires.own.1 in
-    let a = c.commit_call.ensures.added s.1 (unwrap_or (K.chosen c.args.input c.serve-output.result) (K.call c.args.input)) (K.reply c.serve-output.result) s.3 s.7 in (
-      s.1,
-      a.0 ∙ s.3,
+    let call = unwrap_or (K.chosen c.args.input c.serve-output.result) (K.call c.args.input) in
+    let reply = K.reply c.serve-output.result in
+    let x = s.0 in
+    let y = s.1 in
+    let seen = ap (λ v. seen_at v c.args.at) same ∙ seen_now (λ x. K.name x.value) (λ x. K.state x.value) K.legal c.args.at _ _ none d in
+    let from = c.acquire.new.seat.me.0.from in (
+      y,
+      call,
+      reply,
+      s.3,
+      s.7,
       λ o eo.
-          let k = d.known o (sym (ap (λ v. get_elem? v.opens c.args.at) (same ∙ d.view)) ∙ (sym (ap (λ v. get_elem? v.opens c.args.at) a.1) ∙ eo)) in
-          let e = slot_is (λ x. K.name x.value) (λ x. K.state x.value) K.legal c.args.at _ _ none d s.0 s.2 in
-          (s.5 ∙ (ap (λ z. K.name z.value) (sym e) ∙ k.1), last_now (λ x. K.name x.value) (λ x. K.state x.value) K.legal c.args.at _ _ none d c.serve-output.new.seat.me.0 c.commit_call.new.seat.me.0 _ _ _ same a.1 o.1),
+          let opened = sym (ap (λ v. get_elem? v.opens c.args.at) (same ∙ d.view)) ∙ eo in
+          let h = legal_now (λ x. K.name x.value) (λ x. K.state x.value) K.legal c.args.at _ _ none d x s.2 from call reply (K.state y.value) s.4 o opened in
+          let e = slot_is (λ x. K.name x.value) (λ x. K.state x.value) K.legal c.args.at _ _ none d x s.2 in (
+            s.5 ∙ (ap (λ z. K.name z.value) (sym e) ∙ (d.known o opened).1),
+            subst (λ q. K.legal o.0 q (last_of o.1 (seen_at c.serve-output.new.seat.me.0 c.args.at)) call reply (K.state y.value)) (sym (ap (λ v. v.from) same))
+                (subst (λ m. K.legal o.0 from (last_of o.1 m) call reply (K.state y.value)) (sym seen) h),
+          ),
     )
 
 pub returns-clause-own : goal.returns-clause-own
 returns-clause-own g c =
-    let K = g.T.Kept in
     let s = c.serve-output.ensures.served in
-    let a = c.commit_call.ensures.added s.1 (unwrap_or (K.chosen c.args.input c.serve-output.result) (K.call c.args.input)) (K.reply c.serve-output.result) s.3 s.7 in
-    (c.release.ensures.own ∙ (c.commit_call.ensures.own ∙ (c.serve-output.ensures.own.0 ∙ c.acquire.ensures.own)), c.release.ensures.free s.1 (a.0 ∙ s.3))
+    (c.release.ensures.own ∙ (c.serve-output.ensures.own.0 ∙ c.acquire.ensures.own), (c.release.ensures.added s.1 _ _ s.3 s.7).0)
 
 pub returns-clause-same : goal.returns-clause-same
 returns-clause-same g c =
     let K = g.T.Kept in
     let s = c.serve-output.ensures.served in
-    let a = c.commit_call.ensures.added s.1 (unwrap_or (K.chosen c.args.input c.serve-output.result) (K.call c.args.input)) (K.reply c.serve-output.result) s.3 s.7 in
     same_pass (λ x. K.name x.value) (λ x. K.state x.value) K.legal c.args.at _ _ c.requires.own.1 c.acquire.ensures.taken
-    c.serve-output.new.seat.me.0 c.commit_call.new.seat.me.0 c.release.new.seat.me.0 _ _ _ c.serve-output.ensures.own.1 a.1 c.release.ensures.view
+    c.serve-output.new.seat.me.0 c.release.new.seat.me.0 _ _ _ c.serve-output.ensures.own.1 (c.release.ensures.added s.1 _ _ s.3 s.7).1
 
 pub returns-clause-called : goal.returns-clause-called
 returns-clause-called g c =
     let K = g.T.Kept in
     let d = c.acquire.ensures.taken in
     let s = c.serve-output.ensures.served in
-    let a = c.commit_call.ensures.added s.1 (unwrap_or (K.chosen c.args.input c.serve-output.result) (K.call c.args.input)) (K.reply c.serve-output.result) s.3 s.7 in
+    let call = unwrap_or (K.chosen c.args.input c.serve-output.result) (K.call c.args.input) in
+    let reply = K.reply c.serve-output.result in
     whole (λ x. K.name x.value) (λ x. K.state x.value) K.legal c.args.at _ _ c.requires.own.1 d
-    c.serve-output.new.seat.me.0 c.commit_call.new.seat.me.0 c.release.new.seat.me.0 s.0 (unwrap_or (K.chosen c.args.input c.serve-output.result) (K.call c.args.input)) (K.reply c.serve-output.result) (K.state s.1.value)
-    c.serve-output.ensures.own.1 a.1 c.release.ensures.view s.2
-    (subst (λ q. K.legal (K.name s.0.value) q (K.state s.0.value) (unwrap_or (K.chosen c.args.input c.serve-output.result) (K.call c.args.input)) (K.reply c.serve-output.result) (K.state s.1.value)) (ap (λ v. v.from) d.view) s.4)
+    c.serve-output.new.seat.me.0 c.release.new.seat.me.0 s.0 call reply (K.state s.1.value)
+    c.serve-output.ensures.own.1 (c.release.ensures.added s.1 call reply s.3 s.7).1 s.2
+    (subst (λ q. K.legal (K.name s.0.value) q (K.state s.0.value) call reply (K.state s.1.value)) (ap (λ v. v.from) d.view) s.4)
 
 pub returns-clause-stands : goal.returns-clause-stands
 returns-clause-stands g c =
     let K = g.T.Kept in
     let d = c.acquire.ensures.taken in
     let s = c.serve-output.ensures.served in
-    let a = c.commit_call.ensures.added s.1 (unwrap_or (K.chosen c.args.input c.serve-output.result) (K.call c.args.input)) (K.reply c.serve-output.result) s.3 s.7 in
+    let call = unwrap_or (K.chosen c.args.input c.serve-output.result) (K.call c.args.input) in
+    let reply = K.reply c.serve-output.result in
     whole_stands (λ x. K.name x.value) (λ x. K.state x.value) K.legal c.args.at _ _ c.requires.own.1 d
-    c.serve-output.new.seat.me.0 c.commit_call.new.seat.me.0 c.release.new.seat.me.0 s.0 (unwrap_or (K.chosen c.args.input c.serve-output.result) (K.call c.args.input)) (K.reply c.serve-output.result) (K.state s.1.value)
-    c.serve-output.ensures.own.1 a.1 c.release.ensures.view s.2
-    (subst (λ q. K.legal (K.name s.0.value) q (K.state s.0.value) (unwrap_or (K.chosen c.args.input c.serve-output.result) (K.call c.args.input)) (K.reply c.serve-output.result) (K.state s.1.value)) (ap (λ v. v.from) d.view) s.4)
+    c.serve-output.new.seat.me.0 c.release.new.seat.me.0 s.0 call reply (K.state s.1.value)
+    c.serve-output.ensures.own.1 (c.release.ensures.added s.1 call reply s.3 s.7).1 s.2
+    (subst (λ q. K.legal (K.name s.0.value) q (K.state s.0.value) call reply (K.state s.1.value)) (ap (λ v. v.from) d.view) s.4)
     c.requires.stands
 
 pub returns-clause-output : goal.returns-clause-output

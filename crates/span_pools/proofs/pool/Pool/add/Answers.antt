@@ -8,6 +8,7 @@ use Rattle.span_pools.proofs.Pools.{all_live, some_free, chunk_bytes}
 use Rattle.span_pools.proofs.Covers.{objects_small}
 use Rattle.span_pools.proofs.Adds.{coming, after_add, add_legal, part_just}
 use Rattle.span_pools.proofs.FreeCounts.{count_active, count_add, count_few}
+use Rattle.span_pools.proofs.Spares.{spare_added}
 use Rattle.span_pools.proofs.pool.Pool.add.Goals as goal
 
 pub overflow_add-self : goal.overflow_add-self
@@ -26,6 +27,8 @@ invariant_of-self c =
       ap (λ (z : ℕ). z + (c.self.inside.layout.objects - 1)) c.self.invariant.1
           ∙ sym (count_add c.self.inside.layout c.self.inside.active ((c.word.result - c.self.inside.layout.first) / 512) c.self.inside.marks c.set_mark.new.marks c.self.inside.records c.self.inside.words c.in-Some.control c.args.run.words c.admit-part.new.records c.admit-part.new.words c.admit-part.result
           c.self.invariant.0 run.fits run.control_is c.set_mark.ensures c.admit-part.ensures),
+      spare_added c.self.inside.layout c.self.inside.active c.self.inside.spare ((c.word.result - c.self.inside.layout.first) / 512) c.self.inside.marks c.set_mark.new.marks c.self.inside.records c.self.inside.words c.in-Some.control c.args.run.words c.admit-part.new.records c.admit-part.new.words c.admit-part.result
+          c.self.invariant.0 c.self.invariant.2 run.control_is c.set_mark.ensures c.admit-part.ensures,
     )
 
 pub invariant_of-result : goal.invariant_of-result

@@ -2,11 +2,12 @@ use Rattle.std.proofs.Common.{◌≡◌, ◌+◌, ◌-◌, ◌*◌, ◌/◌, ◌
 use Rattle.word_map.specs.WordMap.{HasJust}
 use Rattle.region_words.specs.Parts.{Owned}
 use Rattle.span_pools.specs.Legal.{IsAlloc, IsFull}
-use Rattle.span_pools.specs.View.{free_objects, mark_of, owns, state_of, IsTakenOut, IsPool}
+use Rattle.span_pools.specs.View.{free_objects, mark_of, owns, state_of, IsSpare, IsTakenOut, IsPool}
 use Rattle.span_pools.specs.PoolView.{PoolView}
 use Rattle.span_pools.proofs.Shapes.{object_owned}
 use Rattle.span_pools.proofs.Pools.{after_alloc, alloc_legal, all_live, chunk_just, chunk_bytes}
 use Rattle.span_pools.proofs.FreeCounts.{count_alloc, count_none}
+use Rattle.span_pools.proofs.Spares.{spare_room, spare_taken}
 use Rattle.span_pools.proofs.pool.Pool.alloc.Goals as goal
 
 one_less : (after before left : ℕ) → after + 1 ≡ before → left ≡ before → left - 1 ≡ after
@@ -24,6 +25,9 @@ returns-in_err-page-clause-full c = rw c.from_residual.ensures (
     subst (λ (b : PoolView). IsFull b.state (state_of c.self.inside.layout c.self.inside.active c.free_page.new.marks.words c.self.inside.words.words)) c.self.view_is
     (record { all_live = all_live c.self.inside.layout c.self.inside.active c.self.inside.marks c.self.inside.records c.self.inside.words c.self.invariant.0 c.in_err-page.ensures.none; same = ap (λ (o : Owned). state_of c.self.inside.layout c.self.inside.active o.words c.self.inside.words.words) c.in_err-page.ensures.same.0 }))
 
+pub free_page-requires-clause-spare : goal.free_page-requires-clause-spare
+free_page-requires-clause-spare c = spare_room c.self.inside.layout c.self.inside.active c.self.inside.spare c.self.inside.marks c.self.inside.records c.self.inside.words c.self.invariant.0 c.self.invariant.2
+
 pub take_object-place-requires-clause-whole : goal.take_object-place-requires-clause-whole
 take_object-place-requires-clause-whole c = λ i k low free inside. object_owned c.self.inside.layout (mark_of c.self.inside.layout c.self.inside.marks.words) (owns c.self.inside.words.words) _ i k c.self.invariant.0.layout c.self.invariant.0.shape c.in_ok-page.ensures.found.0 low free inside
 
@@ -40,11 +44,12 @@ invariant_of-result c =
 pub invariant_of-self-2 : goal.invariant_of-self-2
 invariant_of-self-2 c =
     let out : IsTakenOut c.self.inside.layout c.in_ok-page.page c.self.inside.records c.self.inside.words c.take_object-place.new.records c.take_object-place.new.words c.take_object-place.result.1 c.take_object-place.result.0 = subst (λ (o : Owned). IsTakenOut c.self.inside.layout c.in_ok-page.page o c.self.inside.words c.take_object-place.new.records c.take_object-place.new.words c.take_object-place.result.1 c.take_object-place.result.0) c.in_ok-page.ensures.same.1 c.take_object-place.ensures in
-    subst (λ (o : Owned). IsPool c.self.inside.layout (Some c.in_ok-page.page) o c.take_object-place.new.records c.take_object-place.new.words × (c.self.inside.left - 1 ≡ free_objects c.self.inside.layout o.words c.take_object-place.new.records.words)) (sym c.in_ok-page.ensures.same.0) (
+    subst (λ (o : Owned). IsPool c.self.inside.layout (Some c.in_ok-page.page) o c.take_object-place.new.records c.take_object-place.new.words × (c.self.inside.left - 1 ≡ free_objects c.self.inside.layout o.words c.take_object-place.new.records.words) × IsSpare c.self.inside.layout c.other_than-self-inside.result o.words c.take_object-place.new.records.words) (sym c.in_ok-page.ensures.same.0) (
       after_alloc c.self.inside.layout c.self.inside.active c.in_ok-page.page c.take_object-place.result.0 c.self.inside.marks c.self.inside.records c.self.inside.words c.take_object-place.new.records c.take_object-place.new.words c.take_object-place.result.1 c.self.invariant.0 c.in_ok-page.ensures.found.0 c.in_ok-page.ensures.first out,
       one_less (free_objects c.self.inside.layout c.self.inside.marks.words c.take_object-place.new.records.words) (free_objects c.self.inside.layout c.self.inside.marks.words c.self.inside.records.words) c.self.inside.left
           (count_alloc c.self.inside.layout c.self.inside.active c.in_ok-page.page c.take_object-place.result.0 c.self.inside.marks c.self.inside.records c.self.inside.words c.take_object-place.new.records c.take_object-place.new.words c.take_object-place.result.1 c.self.invariant.0 c.in_ok-page.ensures.found.0 c.in_ok-page.ensures.found.1 out)
           c.self.invariant.1,
+      spare_taken c.self.inside.layout c.self.inside.spare c.other_than-self-inside.result c.in_ok-page.page c.take_object-place.result.0 c.self.inside.marks.words c.self.inside.records c.self.inside.words c.take_object-place.new.records c.take_object-place.new.words c.take_object-place.result.1 c.self.invariant.2 c.other_than-self-inside.ensures out,
     )
 
 pub returns-clause-given : goal.returns-clause-given

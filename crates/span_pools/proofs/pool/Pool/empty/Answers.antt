@@ -3,6 +3,7 @@ use Rattle.region_words.specs.Parts.{Owned}
 use Rattle.span_pools.specs.PoolView.{pool_view}
 use Rattle.span_pools.proofs.Empty.{rest_none, empty_pool, empty_state}
 use Rattle.span_pools.proofs.FreeCounts.{count_empty}
+use Rattle.span_pools.proofs.Spares.{spare_none}
 use Rattle.span_pools.proofs.pool.Pool.empty.Goals as goal
 
 pub clear_marks-requires-clause-bits : goal.clear_marks-requires-clause-bits
@@ -15,6 +16,7 @@ invariant_of-result c = (
       (ap (λ (o : Owned). o.region) c.split-words.ensures.range ∙ sym (c.clear_marks.ensures.region ∙ ap (λ (o : Owned). o.region) c.split-words.ensures.rest))
       c.requires.layout c.clear_marks.ensures.bits c.clear_marks.ensures.clear _ _ (ap (λ (o : Owned). o.words) c.split-records.ensures.range) (ap (λ (o : Owned). o.words) c.split-words.ensures.range),
   sym (count_empty c.args.layout c.clear_marks.new.marks.words c.split-records.result.words c.clear_marks.ensures.clear),
+  spare_none c.args.layout c.clear_marks.new.marks.words c.split-records.result.words,
 )
 
 pub returns : goal.returns

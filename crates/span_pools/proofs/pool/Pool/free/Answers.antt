@@ -1,7 +1,7 @@
 use Rattle.std.proofs.Common.{◌≡◌, ◌≢◌, ℕ, ◌+◌, ◌-◌, ◌*◌, ◌/◌, ◌<◌, ◌≤◌, inl, inr, Some, false, refl, sym, ap, subst, ◌∙◌, arith}
 use Rattle.region_words.specs.Parts.{Owned}
 use Rattle.span_pools.specs.Legal.{IsStranger, IsEmptied, IsFreed}
-use Rattle.span_pools.specs.View.{free_objects, state_of, IsMarked, IsReleased, IsPutBack, IsPool}
+use Rattle.span_pools.specs.View.{free_objects, state_of, IsSpare, IsMarked, IsReleased, IsPutBack, IsPool}
 use Rattle.span_pools.specs.PoolView.{PoolView, IsSuperblock}
 use Rattle.word_map.specs.WordMap.{HasJust}
 use Rattle.span_pools.proofs.Pools.{no_bool}
@@ -10,6 +10,7 @@ use Rattle.span_pools.proofs.Covers.{objects_small}
 use Rattle.span_pools.proofs.RecordStores.{some_same}
 use Rattle.span_pools.proofs.Frees.{is_last, after_free, free_legal, last_whole, after_emptied, emptied_legal, run_just, stranger_is}
 use Rattle.span_pools.proofs.FreeCounts.{count_emptied, count_few, count_free}
+use Rattle.span_pools.proofs.Spares.{spare_emptied, spare_freed}
 use Rattle.span_pools.proofs.pool.Pool.free.Goals as goal
 use Rattle.span_pools.proofs.pool.Pool.free.Goals.{else-free-self-via-then-free-self+else-not-is_page, else-free-self-via-else-free-self}
 
@@ -77,6 +78,8 @@ invariant_of-self-then-not-is_page c =
       gone (free_objects c.self.inside.layout c.clear_mark.new.marks.words c.release-words.new.records.words) (free_objects c.self.inside.layout c.self.inside.marks.words c.self.inside.records.words) c.room-free.result c.self.inside.left
           (count_emptied c.self.inside.layout c.self.inside.active c.in-Some.page c.in-Some.ensures.found.1 c.args.object.at c.room-free.result c.self.inside.marks c.clear_mark.new.marks c.self.inside.records c.self.inside.words c.args.object.part c.release-words.new.records c.release-words.new.words c.release-words.result.0 c.release-words.result.1 c.self.invariant.0 c.in-Some.ensures.found.0 c.room-free.ensures.room mark out)
           c.self.invariant.1,
+      spare_emptied c.self.inside.layout c.self.inside.active c.self.inside.spare c.other_than-self-inside.result c.in-Some.page c.self.inside.marks c.clear_mark.new.marks c.self.inside.records c.self.inside.words c.args.object.part c.release-words.new.records c.release-words.new.words c.release-words.result.0 c.release-words.result.1
+          c.self.invariant.0 c.in-Some.ensures.found.0 c.self.invariant.2 c.other_than-self-inside.ensures mark out,
     )
 
 pub returns-then-not-is_page-clause-whole : goal.returns-then-not-is_page-clause-whole
@@ -107,12 +110,14 @@ returns-then-not-is_page-clause-run c =
 pub invariant_of-self-2 : goal.invariant_of-self-2
 invariant_of-self-2 c =
     let put : IsPutBack c.self.inside.layout c.in-Some.page c.self.inside.records c.self.inside.words c.put_object.new.records c.put_object.new.words c.word-place.result = subst (λ (o : Owned). IsPutBack c.self.inside.layout c.in-Some.page o c.self.inside.words c.put_object.new.records c.put_object.new.words c.word-place.result) c.room-free.ensures.same c.put_object.ensures in
-    subst (λ (o : Owned). IsPool c.self.inside.layout c.self.inside.active o c.put_object.new.records c.put_object.new.words × (c.self.inside.left + 1 ≡ free_objects c.self.inside.layout o.words c.put_object.new.records.words)) (sym c.in-Some.ensures.same) (
+    subst (λ (o : Owned). IsPool c.self.inside.layout c.self.inside.active o c.put_object.new.records c.put_object.new.words × (c.self.inside.left + 1 ≡ free_objects c.self.inside.layout o.words c.put_object.new.records.words) × IsSpare c.self.inside.layout c.spare_with-self-inside.result o.words c.put_object.new.records.words) (sym c.in-Some.ensures.same) (
       after_free c.self.inside.layout c.self.inside.active c.in-Some.page c.word-place.result c.self.inside.marks c.self.inside.records c.self.inside.words c.put_object.new.records c.put_object.new.words c.self.invariant.0 c.in-Some.ensures.found.0 put (elim c.else-free-self.branch [
         | else-free-self-via-then-free-self+else-not-is_page w ↦ inl (w.if-not-is_page.ensures.yes refl)
         | else-free-self-via-else-free-self w ↦ inr (λ x e s. w.if-free-self.false (ap (λ (z : ℕ). z + 1) (some_same c.room-free.result x (sym c.room-free.ensures.room ∙ e)) ∙ s))
       ]),
       ap (λ (z : ℕ). z + 1) c.self.invariant.1 ∙ sym (count_free c.self.inside.layout c.self.inside.active c.in-Some.page c.word-place.result c.self.inside.marks c.self.inside.records c.self.inside.words c.put_object.new.records c.put_object.new.words c.self.invariant.0 c.in-Some.ensures.found.0 put),
+      spare_freed c.self.inside.layout c.self.inside.active c.self.inside.spare c.spare_with-self-inside.result c.in-Some.page c.word-place.result c.self.inside.marks c.self.inside.records c.self.inside.words c.put_object.new.records c.put_object.new.words
+          c.self.invariant.0 c.in-Some.ensures.found.0 c.self.invariant.2 c.spare_with-self-inside.ensures put,
     )
 
 pub returns-clause-kept : goal.returns-clause-kept

@@ -3,7 +3,7 @@ use Rattle.std.specs.FinMap as fin
 use Rattle.dshash_parts.specs.Ending.{IsOf, left_of, whole_of}
 use Rattle.dshash_parts.specs.Tables.{callers_of, map_at}
 use Rattle.page_cache.specs.Tickets.{sum_below}
-use Rattle.page_cache.proofs.closing.entries_left.Given as goal
+use Rattle.page_cache.proofs.threads.entries_left.Given as goal
 
 abbrev pub invariant-loop-partition : goal.invariant-loop-partition
 invariant-loop-partition l = record {
