@@ -12,7 +12,7 @@ use crate::stop::Stop;
 use par_io::Sink;
 use plan_spec::Plan;
 use query_answer::write_each;
-use split_run::table_text;
+use split_run::{FEWEST_GROUPS, table_text};
 use std::alloc::Global;
 use std::thread::Threads;
 
@@ -33,7 +33,8 @@ pub(crate) fn write_table<R: Threads + Sync, O: Sink>(
     ensures write_fault { IfErr result (λ why. why ≡ stop.WriteFault → Rose (O.faults out.old) (O.faults out.new)) }
     ensures why { IfErr result (λ why. (why ≡ stop.WriteFault) ⊎ (why ≡ stop.Memory)) }
 {
-    let pieces = table_text(rt, alloc, plan, &read.bound, read.maps)?;
+    let ReadGroups { bound, maps } = read;
+    let pieces = table_text(rt, alloc, plan, &bound, maps, FEWEST_GROUPS)?;
     write_each(out, &pieces)?;
     Ok(())
 }

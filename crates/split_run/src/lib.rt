@@ -15,6 +15,6 @@ mod texts;
 mod together;
 mod window;
 
-pub use texts::table_text;
+pub use texts::{FEWEST_GROUPS, table_text};
 pub use together::put_together;
 pub use window::{add_rows, begin};

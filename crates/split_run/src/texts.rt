@@ -27,28 +27,30 @@ use result_text::{Part, behind, header_text, lines_text, text_of};
 use std::alloc::{AllocError, Global};
 use std::thread::{Threads, for_each_mut};
 
-/// The fewest groups of all participants for which ranges pay.
-const FEWEST_GROUPS: usize = 16_384;
+/// The fewest groups of all participants for which ranges pay: 16,384.
+pub const FEWEST_GROUPS: usize = 16_384;
 
 /// How many ranges there are for each participant.
 const RANGES: usize = 4;
 
 /// The text of the table of all rows, by the maps of participants that share them, in pieces, one behind the other. As many
 /// threads as maps work, the caller's among them; with one map all is done in the caller's thread. Beside the maps it takes
-/// memory for the text, a few bytes a group, and for each thread the groups of one range.
+/// memory for the text, a few bytes a group, and for each thread the groups of one range. Where the maps have fewer than
+/// `fewest` groups together ([`FEWEST_GROUPS`] by the program) there is one range, and it is the caller's thread's.
 pub fn table_text<R: Threads + Sync>(
     rt: &R,
     alloc: Global,
     plan: &Plan,
     bound: &BoundPlan,
     maps: Vec<GroupMap>,
+    fewest: usize,
 ) -> Result<Vec<Vec<u8>>, AllocError>
     requires bound { IsBoundFrom plan.now.plan bound.now }
     requires rows { (width : ℕ) × (rows : Table) × (length rows ≤ 2 ^ 50) × AreShared bound.now width rows maps.items }
     ensures { IfOk result (λ pieces. (header : List (List ℕ)) (width : ℕ) (rows : Table) → bound.now ≡ bound_plan header plan.now.plan → length rows ≤ 2 ^ 50 → AreShared bound.now width rows maps.items
         → IsAnswer plan.now.plan (header ∷ rows) (joined pieces.items)) }
 {
-    if bound.group_count == 0 || maps.len() < 2 || count_groups(&maps) < FEWEST_GROUPS {
+    if bound.group_count == 0 || maps.len() < 2 || count_groups(&maps) < fewest {
         let whole = put_together(rt, alloc, maps)?;
         let text = text_of(alloc, plan, bound, &whole.into_groups())?;
         return behind(alloc, text, Vec::new(alloc));
