@@ -106,7 +106,10 @@ fn ranges_are_the_table(rt: HostRuntime) -> Result<(), Fail> {
         let wanted = joined(alloc, &alone)?;
         for participants in [1, 2, 4, 65u32] {
             let pieces = given(&rt, alloc, &text, participants, 0)?;
-            assert!(rt; joined(alloc, &pieces)? == wanted, "{rows} rows of {keys} keys by {participants}");
+            assert!(rt;
+                joined(alloc, &pieces)? == wanted,
+                "{rows} rows of {keys} keys by {participants}"
+            );
             assert!(rt; pieces.len() == 1 || participants > 1);
         }
         let few = given(&rt, alloc, &text, 4, FEWEST_GROUPS)?;
