@@ -3,8 +3,6 @@
 #![tactic(auto)]
 
 #[cfg(test)]
-mod ranges;
-#[cfg(test)]
 mod shares;
 #[cfg(test)]
 mod windows;
