@@ -1,5 +1,5 @@
 #!/usr/bin/env python3
-"""Times pargather beside other programs on the same query, and checks each answer.
+"""Times pargather and parstream beside other programs on the same query, and checks each answer.
 
 usage: compare.py [--files a,b,c,d] [--times 5] [--workers 0,1,2,4] [--plans gather] [--only NAME,..] [--save FILE.json]
 
@@ -13,9 +13,11 @@ processor   user and system time of the command, its children, and of a server t
 memory      of the largest of its processes, in MiB, the command's own (starter.py)
 to the best wall time over that of the fastest peer that parses quotes and answered rightly
 
+`--files a16` is 16 times the rows of file a (940 MiB), which are above the limits of pargather; it is made where it is asked for.
+
 The files (files.py), the straight Rust program (baseline.rs, by rustc) and what the programs write lie in BENCH_DIR, or
-/tmp/lembokuj-bench. The program is crates/pargather/out/pargather, as `.ci/run` or `examples/run` leaves it, or the path
-in PARGATHER. Programs that are not installed are left out; `clickhouse.sh start` starts a server of Debian's package.
+/tmp/lembokuj-bench. The programs are crates/pargather/out/pargather and crates/parstream/out/parstream, as `.ci/run` or
+`examples/run` leaves them, or the paths in PARGATHER and PARSTREAM. Programs that are not installed are left out; `clickhouse.sh start` starts a server of Debian's package.
 """
 import argparse
 import csv
@@ -30,7 +32,7 @@ from dataclasses import dataclass
 from fractions import Fraction
 
 import files
-from queries import FILES, FOLDER, programs
+from queries import FILES, FOLDER, LONG, programs
 
 HERE = os.path.dirname(os.path.abspath(__file__))
 SLOW_SECONDS = 12
@@ -193,10 +195,13 @@ def main():
     if not os.path.exists(f"{FOLDER}/baseline"):
         subprocess.run(["rustc", "-O", "-o", f"{FOLDER}/baseline", f"{HERE}/baseline.rs"], check=True)
     pargather = os.path.abspath(os.environ.get("PARGATHER", f"{HERE}/../crates/pargather/out/pargather"))
+    parstream = os.path.abspath(os.environ.get("PARSTREAM", f"{HERE}/../crates/parstream/out/parstream"))
     saved = {}
     for name in asked.files.split(","):
         file = FILES[name]
-        listed = programs(file, pargather, asked.workers.split(","), asked.plans.split(","))
+        if name in LONG and not os.path.exists(file.path):
+            files.make_long(f"{FOLDER}/data")
+        listed = programs(file, pargather, parstream, asked.workers.split(","), asked.plans.split(","))
         if asked.only:
             listed = [p for p in listed if p.name.startswith(tuple(asked.only.split(",")))]
         runs, wrong = measure(file, listed, asked.times)

@@ -9,7 +9,7 @@ usage: files.py FOLDER
     c.csv       2,000,000 rows of k,v: 1,000,000 groups, two rows each
     d.csv           1,000 rows of g,v: 20 groups, so what is timed is starting and ending
 
-Each file has at most 64 MiB and 4,194,304 rows, the limits of pargather. Every sum is below 2^53 in magnitude, so that a
+`make_long` makes a16.csv, the rows of a.csv sixteen times, which are above these limits. Each other file has at most 64 MiB and 4,194,304 rows, the limits of pargather. Every sum is below 2^53 in magnitude, so that a
 program that sums floats finds it too.
 """
 import os
@@ -78,6 +78,15 @@ def make(folder):
     write(f"{folder}/b_bare.csv", (row for _, row in pairs))
     write(f"{folder}/c.csv", many_groups(random.Random(3)))
     write(f"{folder}/d.csv", few_rows(random.Random(4)))
+
+
+def make_long(folder):
+    """Writes the rows of a.csv 16 times behind its header."""
+    with open(f"{folder}/a.csv", "rb") as lines, open(f"{folder}/a16.csv", "wb") as out:
+        header, rows = lines.readline(), lines.read()
+        out.write(header)
+        for _ in range(16):
+            out.write(rows)
 
 
 if __name__ == "__main__":

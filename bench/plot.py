@@ -3,15 +3,15 @@
 
 usage: plot.py RUNS.json > PLOT.svg
 
-One panel a file: the wall time of pargather by workers, a line a plan, and across it the times of the straight Rust
-program and of the fastest peer that parses quotes.
+One panel a file: the wall time of pargather by workers, a line a plan, and that of parstream; across it the times of the
+straight Rust program and of the fastest peer that parses quotes.
 """
 import json
 import re
 import sys
 
 WIDTH, HEIGHT, LEFT, TOP, BOTTOM = 300, 250, 50, 40, 40
-COLOURS = {"gather": "#1f5fa8", "hash": "#b3541e"}
+COLOURS = {"pargather, gather": "#1f5fa8", "pargather, hash": "#b3541e", "parstream": "#2f7d32"}
 
 
 def least(runs):
@@ -19,10 +19,10 @@ def least(runs):
 
 
 def plans(programs):
-    """Of each plan its points: how many workers, and the least time."""
+    """Of each program and plan its points: how many workers, and the least time."""
     found = {}
     for name, program in programs.items():
-        words = re.fullmatch(r"pargather, (\w+), (\d+) workers?", name)
+        words = re.fullmatch(r"(pargather, \w+|parstream), (\d+) workers?", name)
         if words:
             found.setdefault(words[1], []).append((int(words[2]), least(program["runs"])))
     return {plan: sorted(points) for plan, points in found.items()}
@@ -56,7 +56,7 @@ def panel(at, name, programs):
         out.append(f'<path d="{path}" fill="none" stroke="{COLOURS[plan]}" stroke-width="2"/>')
         out += [f'<circle cx="{x(workers):.1f}" cy="{y(time):.1f}" r="3" fill="{COLOURS[plan]}"/>' for workers, time in points]
         out.append(f'<text x="{x(points[-1][0]):.1f}" y="{y(points[-1][1]) - 8:.1f}" text-anchor="end" fill="{COLOURS[plan]}">'
-                   f'pargather, {plan}</text>')
+                   f'{plan}</text>')
     return out
 
 

@@ -40,7 +40,10 @@ FILES = {
               "id,region,name,item,comment,amount,qty,day,note,code,flag,tail".split(","), bare="b_bare"),
     "c": File("c", ["k"], "v", ["k", "v"]),
     "d": File("d", ["g"], "v", ["g", "v"]),
+    "a16": File("a16", ["g"], "v", ["g", "v"]),
 }
+# Files above the limits of pargather, which only parstream is asked of ours.
+LONG = {"a16"}
 
 
 @dataclass
@@ -79,13 +82,15 @@ def counted(count, word):
     return f"{count} {word}" if count == 1 else f"{count} {word}s"
 
 
-def ours(file, pargather, workers, plans):
+def ours(file, pargather, parstream, workers, plans):
     value = file.value
     items = f"count,sum:{value},min:{value},max:{value},avg:{value}"
-    words = [pargather, "--group", ",".join(file.keys), "--agg", items]
-    for plan in plans:
+    words = ["--group", ",".join(file.keys), "--agg", items]
+    for plan in [] if file.name in LONG else plans:
         for count in workers:
-            yield f"pargather, {plan}, {counted(int(count), 'worker')}", words + ["--plan", plan, "--workers", str(count)]
+            yield f"pargather, {plan}, {counted(int(count), 'worker')}", [pargather, *words, "--plan", plan, "--workers", str(count)]
+    for count in workers:
+        yield f"parstream, {counted(int(count), 'worker')}", [parstream, *words, "--workers", str(count)]
 
 
 def sql(file, table):
@@ -141,7 +146,7 @@ def clickhouse_server():
         return 0
 
 
-def programs(file, pargather, workers, plans):
+def programs(file, pargather, parstream, workers, plans):
     """All programs that are there, each with its command for this file."""
     listed = []
 
@@ -149,7 +154,7 @@ def programs(file, pargather, workers, plans):
         text = command if isinstance(command, str) else shlex.join(command)
         listed.append(Program(name, text, path, kind, server))
 
-    for name, words in ours(file, pargather, workers, plans):
+    for name, words in ours(file, pargather, parstream, workers, plans):
         add(name, words, "ours")
     for threads in (1, 4):
         words = [f"{FOLDER}/baseline", ",".join(file.keys), file.value, str(threads)]

@@ -1,12 +1,11 @@
 -- The text of the groups of all rows of a source.
-use Rattle.std.proofs.Common.{◌≡◌, ◌∷◌, ◌∙◌, ℕ, List, Option, None, Some, Result, Ok, Err, IfErr, IfSome, ap, subst, sym, take}
+use Rattle.std.proofs.Common.{◌≡◌, ◌≤◌, ◌^◌, ◌∷◌, ◌∙◌, ℕ, List, Option, None, Some, Result, Ok, Err, IfErr, IfSome, length, ap, subst, sym, take}
 use Rattle.std.specs.Io.KnownBytes.{Appends}
 use Rattle.par_model.specs.Named.{bound_plan}
 use Rattle.par_model.specs.Outcome.{IsAnswer}
-use Rattle.partial_agg.specs.Groups.{AreGroups, GroupsByKey}
-use Rattle.partial_agg.specs.Listed.{listed}
 use Rattle.plan_spec.specs.Query.{Query}
 use Rattle.row_blocks.specs.Blocks.{Table}
+use Rattle.split_law.specs.Shares.{AreShared}
 use Rattle.par_stream.specs.Answers.{IsTableText}
 use Rattle.par_stream.specs.Outcome.{outcome}
 use Rattle.par_stream.specs.Reading.{AreGroupsOver}
@@ -18,16 +17,16 @@ pub IfErr-each : {T E : Type 0} (r : Result T E) (P : E → Type 0) → ((why : 
 IfErr-each (Ok x) P each = tt
 IfErr-each (Err why) P each = each why
 
--- a text answers a query over any rows of which the groups are those
+-- a text answers a query over any rows of which the maps have shares
 abbrev pub AnswersAny : Query → ReadGroups → List ℕ → Type 0
-AnswersAny query r text = (header : List (List ℕ)) (rows : Table) (m : GroupsByKey) → r.bound ≡ bound_plan header query.plan → AreGroups r.bound rows m → r.groups ≡ listed m → IsAnswer query.plan (header ∷ rows) text
+AnswersAny query r text = (header : List (List ℕ)) (width : ℕ) (rows : Table) → r.bound ≡ bound_plan header query.plan → length rows ≤ 2 ^ 50 → AreShared r.bound width rows r.maps.items → IsAnswer query.plan (header ∷ rows) text
 
 module _ (query : Query) (r : ReadGroups) (text : List ℕ) where
   pub table_text : (from : Option (List ℕ)) → AnswersAny query r text → AreGroupsOver query from r → IfSome from (λ bytes. IsTableText (Some query.plan) bytes text)
   table_text None answers over = tt
   table_text (Some bytes) answers over = record {
-    has_table = ap (outcome (Some query.plan)) over.all ∙ accepted_table query over.header r.bound over.bound over.rows over.accepted;
-    is_text = subst (λ (l : Table). IsAnswer query.plan l text) (sym over.all) (answers over.header over.rows over.whole over.bound.is over.are over.in_order);
+    has_table = ap (outcome (Some query.plan)) over.all ∙ accepted_table query over.header r.bound over.bound over.rows over.shared.accepted;
+    is_text = subst (λ (l : Table). IsAnswer query.plan l text) (sym over.all) (answers over.header (length over.header) over.rows over.bound.is over.few over.shared);
   }
 
   -- what was written of it

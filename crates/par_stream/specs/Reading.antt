@@ -69,14 +69,11 @@ pub record HasRows (plan : Plan) (from left : Option (List ℕ)) (s : Stream) (r
   pub shared : AreShared plan (length (record_at s.header 0)) rows s.maps.items
   pub reaches : Reaches from left (record_at s.header 0 ∷ rows) s.window.rest s.is_last
 
--- groups are those of all rows of a source, of which none is refused
+-- maps are those of shares of all rows of a source, of which none is refused
 pub record AreGroupsOver (query : Query) (from : Option (List ℕ)) (r : ReadGroups) : Type 0 where
   pub header : List (List ℕ)
   pub rows : Table
-  pub whole : GroupsByKey
   pub bound : IsBound query header r.bound
-  pub are : AreGroups r.bound rows whole
-  pub in_order : r.groups ≡ listed whole
-  pub accepted : All (IsAccepted r.bound (length header)) rows
+  pub shared : AreShared r.bound (length header) rows r.maps.items
   pub few : length rows ≤ 2 ^ 50
   pub all : HasAll from (header ∷ rows)

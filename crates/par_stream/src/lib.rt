@@ -123,5 +123,5 @@ fn answer_stream<R: Threads + Wait + Sync, S: Source, O: Sink>(
 {
     let plan = read_words(alloc, words)?;
     let read = read_groups(rt, alloc, &plan, source, window_bytes)?;
-    write_table(rt, alloc, &plan, &read, out)
+    write_table(rt, alloc, &plan, read, out)
 }

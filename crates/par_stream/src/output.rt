@@ -12,7 +12,7 @@ use crate::stop::Stop;
 use par_io::Sink;
 use plan_spec::Plan;
 use query_answer::write_each;
-use result_text::text_in_threads;
+use split_run::{FEWEST_GROUPS, table_text};
 use std::alloc::Global;
 use std::thread::Threads;
 
@@ -21,20 +21,20 @@ pub(crate) fn write_table<R: Threads + Sync, O: Sink>(
     rt: &R,
     alloc: Global,
     plan: &Plan,
-    read: &ReadGroups,
+    read: ReadGroups,
     out: &mut O,
 ) -> Result<(), Stop>
-    requires { (from : Option (List ℕ)) × AreGroupsOver plan.now from read.now }
-    ensures table { OnOk result ((from : Option (List ℕ)) → AreGroupsOver plan.now from read.now → IfSome from (λ bytes.
+    requires { (from : Option (List ℕ)) × AreGroupsOver plan.now from read }
+    ensures table { OnOk result ((from : Option (List ℕ)) → AreGroupsOver plan.now from read → IfSome from (λ bytes.
         (text : List ℕ) × IsTableText (Some plan.now.plan) bytes text × Appends (O.taken out.old) (O.taken out.new) text)) }
-    ensures part { IfErr result (λ why. why ≡ stop.WriteFault → (from : Option (List ℕ)) → AreGroupsOver plan.now from read.now → IfSome from (λ bytes.
+    ensures part { IfErr result (λ why. why ≡ stop.WriteFault → (from : Option (List ℕ)) → AreGroupsOver plan.now from read → IfSome from (λ bytes.
         (text : List ℕ) × IsTableText (Some plan.now.plan) bytes text × (n : ℕ) × Appends (O.taken out.old) (O.taken out.new) (take n text))) }
     ensures nothing { IfErr result (λ why. (why ≢ stop.WriteFault) → out.new ≡ out.old) }
     ensures write_fault { IfErr result (λ why. why ≡ stop.WriteFault → Rose (O.faults out.old) (O.faults out.new)) }
     ensures why { IfErr result (λ why. (why ≡ stop.WriteFault) ⊎ (why ≡ stop.Memory)) }
 {
-    let threads = plan.workers() as usize + 1;
-    let pieces = text_in_threads(rt, alloc, plan, &read.bound, &read.groups, threads)?;
+    let ReadGroups { bound, maps } = read;
+    let pieces = table_text(rt, alloc, plan, &bound, maps, FEWEST_GROUPS)?;
     write_each(out, &pieces)?;
     Ok(())
 }

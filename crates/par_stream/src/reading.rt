@@ -16,10 +16,10 @@ use crate::stop::Stop;
 use csv_rows::{RowStore, RowsAnswer, rows, rows_in_threads};
 use par_io::Source;
 use par_model::BoundPlan;
-use partial_agg::{GroupMap, Groups};
+use partial_agg::GroupMap;
 use plan_spec::Plan;
 use row_windows::{Window, WindowAnswer, header_end};
-use split_run::{add_rows, begin, put_together};
+use split_run::{add_rows, begin};
 use std::alloc::Global;
 use std::sync::Wait;
 use std::thread::Threads;
@@ -27,11 +27,11 @@ use std::thread::Threads;
 /// The most rows for which averages are exact: 2^50. A source with more of them ends as one without memory.
 const MOST_ROWS: u64 = 1_125_899_906_842_624;
 
-/// The groups of all rows, and the plan over the columns of the header.
+/// The maps of the participants, which share all rows, and the plan over the columns of the header.
 #[derive(Drop)]
 pub(crate) struct ReadGroups {
     pub(crate) bound: BoundPlan,
-    pub(crate) groups: Groups,
+    pub(crate) maps: Vec<GroupMap>,
 }
 
 /// A window that has a record, with its records, and whether it is the last.
@@ -72,7 +72,7 @@ pub(crate) fn read_groups<R: Threads + Wait + Sync, S: Source>(
     let mut stream = open(rt, alloc, plan, &bound, first)?;
     for _ in rt.forever() {
         if stream.is_last {
-            return end(rt, alloc, plan, bound, stream);
+            return Ok(end(plan, bound, stream));
         }
         stream = next_window(rt, alloc, plan, &bound, source, size, stream)?;
     }
@@ -272,22 +272,15 @@ fn next_window<R: Threads + Wait + Sync, S: Source>(
     })
 }
 
-/// The groups of all rows, after the last window.
-fn end<R: Threads + Sync>(
-    rt: &R,
-    alloc: Global,
-    plan: &Plan,
-    bound: BoundPlan,
-    stream: Stream,
-) -> Result<ReadGroups, Stop>
+/// The maps of all rows, after the last window.
+fn end(plan: &Plan, bound: BoundPlan, stream: Stream) -> ReadGroups
     requires stream { IsStream plan.now bound stream }
     requires last { stream.is_last ≡ true }
-    ensures groups { IfOk result (λ read. (from left : Option (List ℕ)) (rows : Table) → HasRows bound from left stream rows → AreGroupsOver plan.now from read) }
-    ensures why { IfErr result (λ why. why ≡ stop.Memory) }
+    ensures { (from left : Option (List ℕ)) (rows : Table) → HasRows bound from left stream rows → AreGroupsOver plan.now from result }
 {
-    let whole = put_together(rt, alloc, stream.maps)?;
-    Ok(ReadGroups {
+    let _of = plan;
+    ReadGroups {
         bound,
-        groups: whole.into_groups(),
-    })
+        maps: stream.maps,
+    }
 }

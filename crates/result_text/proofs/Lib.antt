@@ -1,10 +1,10 @@
 mod Answering
 mod Averages
-mod Columns
+pub mod Columns
 mod Even
 mod Fronts
 mod KeyColumns
-mod Occurring
+pub mod Occurring
 mod Small
 mod Sorting
 mod Tables
@@ -12,3 +12,4 @@ pub mod Uses
 mod Whole
 mod Zipped
 pub mod Ranges
+pub mod PartTexts

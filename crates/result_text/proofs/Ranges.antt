@@ -50,10 +50,10 @@ from plan groups refs size at (piece ∷ pieces) enough each =
 abbrev Part : Type 0
 Part = Result (Vec ℕ) AllocError
 
-ok_same : (a b : Vec ℕ) → Path Part (Ok a) (Ok b) → a ≡ b
+pub ok_same : (a b : Vec ℕ) → Path Part (Ok a) (Ok b) → a ≡ b
 ok_same a b e = cc
 
-at_ok : (pieces : List (Vec ℕ)) (n : ℕ) (d : Vec ℕ) → n < length pieces → Path Part (get_or (map Ok pieces) n (Ok d)) (Ok (get_or pieces n d))
+pub at_ok : (pieces : List (Vec ℕ)) (n : ℕ) (d : Vec ℕ) → n < length pieces → Path Part (get_or (map Ok pieces) n (Ok d)) (Ok (get_or pieces n d))
 at_ok [] n d lt = absurd (omega arith)
 at_ok (p ∷ ps) zero d lt = refl
 at_ok (p ∷ ps) (suc n) d lt = at_ok ps n d (omega arith)
@@ -61,7 +61,7 @@ at_ok (p ∷ ps) (suc n) d lt = at_ok ps n d (omega arith)
 abbrev ok : Vec ℕ → Part
 ok piece = Ok piece
 
-many_ok : (pieces : List (Vec ℕ)) (parts : List Part) → Path (List Part) (map Ok pieces) parts → length parts ≡ length pieces
+pub many_ok : (pieces : List (Vec ℕ)) (parts : List Part) → Path (List Part) (map Ok pieces) parts → length parts ≡ length pieces
 many_ok pieces parts e = sym (ap (length {A = Part}) e) ∙ length-map pieces ok
 
 -- the first piece, and then the texts of all parts

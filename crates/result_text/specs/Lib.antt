@@ -4,3 +4,4 @@ pub mod Text
 pub mod GroupOrder
 pub mod Written
 pub mod Pieces
+pub mod PartTexts

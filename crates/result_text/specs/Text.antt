@@ -1,5 +1,5 @@
 -- The table of some groups, and its text: the header, and a line for each group in order of its columns.
-use Rattle.std.specs.Prelude.{◌≡◌, ◌==◌, ◌&&◌, ◌++◌, ◌∷◌, [], ℕ, List, if◌then◌else◌, length, map}
+use Rattle.std.specs.Prelude.{◌≡◌, ◌≤◌, ◌==◌, ◌&&◌, ◌++◌, ◌∷◌, [], ℕ, List, All, if◌then◌else◌, length, map}
 use Rattle.std.specs.List.Sorted.{IsPermutation, IsStrictlySortedBy}
 use Rattle.par_model.specs.Key.{encoded}
 use Rattle.par_model.specs.Named.{NamedPlan}
@@ -37,3 +37,11 @@ pub record IsTextOf (names : NamedPlan) (plan : Plan) (groups : List Group) (tex
   pub table : List (List (List ℕ))
   pub each : IsGroupsTable names plan groups table
   pub is : text ≡ table_text table
+
+-- a text has the lines of some groups, in rising order of the groups' columns, and no header
+pub record AreLinesOf (plan : Plan) (groups : List Group) (text : List ℕ) : Type 0 where
+  pub lines : List Line
+  pub short : All (λ group. length group.key ≤ 248) groups
+  pub rising : IsStrictlySortedBy columns_cmp (map (λ line. line.0) lines)
+  pub same : IsPermutation groups (map group_of_line lines)
+  pub is : text ≡ table_text (map (line_record plan) lines)

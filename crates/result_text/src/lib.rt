@@ -14,19 +14,25 @@ ghost use Rattle.partial_agg.specs.Groups.{AreGroups, GroupsByKey};
 ghost use Rattle.partial_agg.specs.Listed.{listed};
 ghost use Rattle.result_text.specs.Pieces.{joined};
 ghost use Rattle.result_text.specs.Printable.{ArePrintable, IsBoundFrom};
-ghost use Rattle.result_text.specs.Text.{IsTextOf};
+ghost use Rattle.csv.specs.Writing.{default_writer, row_text};
+ghost use Rattle.par_model.specs.Table.{table_header};
+ghost use Rattle.result_text.specs.Text.{AreLinesOf, IsTextOf};
 
 mod decimal;
+mod laws;
 mod order;
 mod parts;
 mod table;
 mod values;
 
 use crate::order::in_order;
-use crate::parts::{behind, lines_in_threads};
+use crate::parts::{lines_in_threads, lines_of};
 use crate::table::TableWriter;
+pub use laws::parts_answer;
+pub use order::compare_columns;
 use par_model::BoundPlan;
 use partial_agg::Groups;
+pub use parts::{Part, behind};
 use plan_spec::Plan;
 use std::alloc::{AllocError, Global};
 use std::thread::Threads;
@@ -88,3 +94,23 @@ pub fn text_in_threads<R: Threads + Sync>(
 
 /// The fewest groups for which one more thread pays.
 const FEWEST_GROUPS: usize = 2048;
+
+/// The line of a table's header alone.
+pub fn header_text(alloc: Global, plan: &Plan, bound: &BoundPlan) -> Result<Vec<u8>, AllocError>
+    requires bound { IsBoundFrom plan.now.plan bound.now }
+    ensures { IfOk result (λ text. text.items ≡ row_text default_writer (table_header plan.now.plan)) }
+{
+    let mut table = TableWriter::new(alloc);
+    table.write_header(plan, bound)?;
+    table.into_text()
+}
+
+/// The lines of a table that some groups have, without its header, in order of the columns. Memory and time are those of
+/// [`text_of`].
+pub fn lines_text(alloc: Global, bound: &BoundPlan, groups: &Groups) -> Part
+    requires printable { ArePrintable bound.now groups.now }
+    ensures { IfOk result (λ text. AreLinesOf bound.now groups.now text.items) }
+{
+    let refs = in_order(alloc, groups, bound.group_count)?;
+    lines_of(alloc, bound, groups, &refs)
+}

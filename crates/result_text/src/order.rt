@@ -40,7 +40,7 @@ pub(crate) fn in_order<'a>(
     if are_alike(&refs, columns) {
         return Ok(refs);
     }
-    refs.sort_unstable_by(|a, b| compare(a.key, b.key, columns));
+    refs.sort_unstable_by(|a, b| compare_columns(a.key, b.key, columns));
     Ok(refs)
 }
 
@@ -94,8 +94,8 @@ fn is_alike(a: &[u8], b: &[u8], columns: u32) -> bool
     true
 }
 
-/// How two keys compare by this many columns.
-fn compare(a: &[u8], b: &[u8], columns: u32) -> Ordering
+/// How two keys compare by this many columns, one after another and each byte by byte, as the lines of a table stand.
+pub fn compare_columns(a: &[u8], b: &[u8], columns: u32) -> Ordering
     ensures { result ≡ columns_cmp (columns_in columns a.now) (columns_in columns b.now) }
 {
     let mut left = a;

@@ -14,7 +14,7 @@ use std::alloc::{AllocError, Global};
 use std::thread::{Threads, map_chunks};
 
 /// The text of a range of groups, or want of memory.
-pub(crate) type Part = Result<Vec<u8>, AllocError>;
+pub type Part = Result<Vec<u8>, AllocError>;
 
 /// The texts of the lines of the groups, by at most this many threads, and at least one.
 pub(crate) fn lines_in_threads<R: Threads + Sync>(
@@ -40,7 +40,12 @@ pub(crate) fn lines_in_threads<R: Threads + Sync>(
 }
 
 /// The text of the lines of a range of groups.
-fn lines_of(alloc: Global, bound: &BoundPlan, groups: &Groups, refs: &[GroupRef<'_>]) -> Part
+pub(crate) fn lines_of(
+    alloc: Global,
+    bound: &BoundPlan,
+    groups: &Groups,
+    refs: &[GroupRef<'_>],
+) -> Part
     requires small { All (λ group. All IsSmallSlot group.state.slots) groups.now }
     requires within { All (λ group. group.at < length groups.now) refs.now }
     ensures { IfOk result (λ text. text.items ≡ lines_text bound.now groups.now refs.now) }
@@ -51,11 +56,7 @@ fn lines_of(alloc: Global, bound: &BoundPlan, groups: &Groups, refs: &[GroupRef<
 }
 
 /// The texts behind a first one, if there was memory for all of them.
-pub(crate) fn behind(
-    alloc: Global,
-    first: Vec<u8>,
-    parts: Vec<Part>,
-) -> Result<Vec<Vec<u8>>, AllocError>
+pub fn behind(alloc: Global, first: Vec<u8>, parts: Vec<Part>) -> Result<Vec<Vec<u8>>, AllocError>
     ensures { IfOk result (λ pieces. map Ok pieces.items ≡ Ok first ∷ parts.items) }
 {
     let mut pieces = Vec::with_capacity(alloc, parts.len() + 1)?;

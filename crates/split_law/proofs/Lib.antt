@@ -1,2 +1,3 @@
 pub mod RowShares
 pub mod KeyParts
+pub mod PartMaps

@@ -1,14 +1,14 @@
 -- Shares of rows that grow, and are put together.
-use Rattle.std.proofs.Common.{◌≡◌, ◌<◌, ◌≤◌, ◌+◌, ◌*◌, ◌^◌, ◌++◌, ℕ, zero, suc, List, [], ◌∷◌, length, fold, map, drop, replicate, All, refl, ap, sym, subst, ◌∙◌, arith, length-append, append-nil, append_assoc}
+use Rattle.std.proofs.Common.{◌≡◌, ◌<◌, ◌+◌, ◌^◌, ◌++◌, ℕ, zero, suc, List, [], ◌∷◌, length, fold, map, drop, replicate, All, refl, ap, sym, subst, ◌∙◌, arith, length-append, append-nil, append_assoc}
 use Rattle.std.specs.FinMap as fin
-use Rattle.std.specs.List.{AllZip, flat_map}
+use Rattle.std.specs.List.{AllZip}
 use Rattle.std.specs.List.Sorted.{IsPermutation}
 use Rattle.std.proofs.lemmas.List.Concat.{flat_map-append}
 use Rattle.std.proofs.lemmas.List.Elements.{All-append, All-head, All-nil, All-tail}
 use Rattle.std.proofs.lemmas.List.Sorted.{All-permutation, IsPermutation-append, IsPermutation-append_comm, IsPermutation-append_left, IsPermutation-append_right, IsPermutation-refl, IsPermutation-sym, IsPermutation-trans, length_permutation}
-use Rattle.scan_claim.specs.Drawing.{below, flat, once_below, times}
+use Rattle.scan_claim.specs.Drawing.{below, flat}
 use Rattle.par_model.specs.Plan.{Plan}
-use Rattle.partial_agg.specs.Groups.{AreGroups, GroupsByKey, with_groups, with_rows}
+use Rattle.partial_agg.specs.Groups.{AreGroups, GroupsByKey, with_groups}
 use Rattle.partial_agg.specs.Rows.{IsAccepted}
 use Rattle.row_blocks.specs.Blocks.{Table, block_rows, rows_of_blocks}
 use Rattle.partial_agg.proofs.Adding.{maps_grow, no_groups}
@@ -18,7 +18,7 @@ use Rattle.row_blocks.proofs.Draws.{drawn_are_below}
 use Rattle.row_blocks.proofs.BlockRows.{rows_all}
 use Rattle.row_blocks.proofs.Permute.{flat_map-permutation, same-permutation}
 use Rattle.split_law.specs.Law.{BlocksCover, SharesBegin, SharesGrow, SharesJoin}
-use Rattle.split_law.specs.Shares.{Add, AreShared, together}
+use Rattle.split_law.specs.Shares.{Add, together}
 
 -- ---- blocks that were drawn each once
 

@@ -1,6 +1,6 @@
 -- However rows are shared out to participants and keys to parts, what is put together in the end is what one pass over
 -- all rows gives.
-use Rattle.std.specs.Prelude.{◌≡◌, ◌<◌, ◌≤◌, ◌+◌, ◌*◌, ◌^◌, ◌==◌, ◌++◌, ℕ, List, [], All, Option, None, drop, fold, if◌then◌else◌, length, map as map_list, replicate}
+use Rattle.std.specs.Prelude.{◌≡◌, ◌<◌, ◌≤◌, ◌+◌, ◌*◌, ◌^◌, ◌==◌, ◌++◌, ℕ, List, [], All, None, drop, fold, if◌then◌else◌, length, map as map_list, replicate}
 use Rattle.std.specs.FinMap as map
 use Rattle.std.specs.List.Sorted.{IsPermutation}
 use Rattle.scan_claim.specs.Drawing.{flat, once_below, times}
@@ -8,6 +8,8 @@ use Rattle.par_model.specs.Plan.{Plan}
 use Rattle.partial_agg.specs.Groups.{AreGroups, GroupsByKey, group_of, with_groups}
 use Rattle.partial_agg.specs.Rows.{IsAccepted}
 use Rattle.row_blocks.specs.Blocks.{Table, rows_of_blocks}
+use Rattle.partial_agg.specs.declared.groups.Group.{Group}
+use Rattle.split_law.specs.Parts.{AreListings, part_map}
 use Rattle.split_law.specs.Shares.{Add, AreShared, rows_in, together}
 
 -- blocks that were drawn each once have all rows
@@ -35,3 +37,9 @@ SharesJoin = (plan : Plan) (width : ℕ) (rows : Table) (maps : List GroupsByKey
 abbrev pub PartsTogether : Type 0
 PartsTogether = (plan : Plan) (part_of : List ℕ → ℕ) (part : ℕ) (rows : Table) (groups : GroupsByKey) (key : List ℕ) → AreGroups plan (rows_in plan part_of part rows) groups
     → map.get groups key ≡ (if part_of key == part then group_of plan rows key else None)
+
+-- where the groups of all participants are parted by their keys, and those of a part added up, it is the map of the rows of
+-- the part
+abbrev pub PartsJoin : Type 0
+PartsJoin = (plan : Plan) (width : ℕ) (part_of : List ℕ → ℕ) (part : ℕ) (rows : Table) (maps : List GroupsByKey) (lists : List (List Group)) → AreShared plan width rows maps → AreListings maps lists
+    → length rows < 2 ^ 64 → AreGroups plan (rows_in plan part_of part rows) (part_map part_of part lists)

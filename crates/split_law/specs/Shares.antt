@@ -1,5 +1,5 @@
 -- Rows that are shared out to participants, and the maps that these keep of them.
-use Rattle.std.specs.Prelude.{◌≡◌, ◌==◌, ◌<◌, ◌++◌, ℕ, Bool, List, [], ◌∷◌, All, filter}
+use Rattle.std.specs.Prelude.{◌≡◌, ◌==◌, ℕ, List, [], ◌∷◌, All, filter}
 use Rattle.std.specs.List.{AllZip, flat_map}
 use Rattle.std.specs.List.Sorted.{IsPermutation}
 use Rattle.par_model.specs.Key.{key_of}

@@ -7,7 +7,7 @@
 
 #![tactic(auto)]
 
-ghost use Rattle.split_law.specs.Law.{BlocksCover, PartsTogether, SharesBegin, SharesGrow, SharesJoin};
+ghost use Rattle.split_law.specs.Law.{BlocksCover, PartsJoin, PartsTogether, SharesBegin, SharesGrow, SharesJoin};
 
 /// Blocks that were drawn each once have all rows, and these are accepted where those of each participant are. A law: it
 /// does nothing when it runs.
@@ -35,4 +35,10 @@ pub fn shares_join()
 /// part alone, and is that of all its rows. A law: it does nothing when it runs.
 pub fn parts_together()
     ensures { PartsTogether }
+{}
+
+/// The groups of one part of the keys, added up over the maps of all participants, are the map of the rows of that part. A
+/// law: it does nothing when it runs.
+pub fn parts_join()
+    ensures { PartsJoin }
 {}

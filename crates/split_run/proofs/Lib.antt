@@ -1,4 +1,7 @@
 mod Blocks
 mod Joining
+mod Ordered
+mod Parting
 mod SeatedMaps
 mod Shared
+mod TableTexts

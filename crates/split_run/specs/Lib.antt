@@ -1,3 +1,5 @@
 pub mod Causes
 pub mod Hands
+pub mod Parted
+pub mod Ranges
 pub mod Together

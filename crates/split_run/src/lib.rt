@@ -9,8 +9,12 @@
 #![tactic(auto)]
 
 mod hands;
+mod parted;
+mod ranges;
+mod texts;
 mod together;
 mod window;
 
+pub use texts::{FEWEST_GROUPS, table_text};
 pub use together::put_together;
 pub use window::{add_rows, begin};

@@ -34,6 +34,15 @@ pub fn join<R: Threads, A: Send, B>(_rt: &R, f: impl FnOnce() -> A + Send, g: im
     })
 }
 
+/// As [`join`], with jobs that are lent.
+pub fn join_mut<R: Threads, A: Send, B>(
+    rt: &R,
+    f: &mut (impl FnMut() -> A + Send),
+    g: &mut impl FnMut() -> B,
+) -> (A, B) {
+    join(rt, f, g)
+}
+
 /// Calls `f` at each job, in order of the list, and gives the results in that order. Each runs in a thread of its own
 /// where one can be made. On `Err` memory ran out, and the results are dropped.
 pub fn map_vec<R: Threads + Sync, J: Send, X: Send, F: Fn(J) -> X + Sync>(

@@ -1,10 +1,7 @@
-use Rattle.std.proofs.Common.{◌≡◌, ℕ, List, Option, IfSome, Some, subst, sym, take}
+use Rattle.std.proofs.Common.{◌≡◌, ℕ, List, Option, IfSome, Some, length, subst, sym, take}
 use Rattle.std.specs.Global.{Vec}
 use Rattle.std.specs.Io.KnownBytes.{Appends}
-use Rattle.partial_agg.specs.declared.groups.Group.{Group}
-use Rattle.result_text.proofs.Uses.{printable-listed}
 use Rattle.result_text.specs.Pieces.{joined}
-use Rattle.result_text.specs.Printable.{ArePrintable}
 use Rattle.par_stream.specs.Answers.{IsTableText}
 use Rattle.par_stream.specs.Reading.{AreGroupsOver}
 use Rattle.par_stream.specs.declared.stop.Stop.{Stop}
@@ -12,11 +9,11 @@ use Rattle.par_stream.specs.declared.stop.Stop.TheVariants as stop
 use Rattle.par_stream.proofs.Tables.{IfErr-each, part_written, table_written}
 use Rattle.par_stream.proofs.output.write_table.Goals as goal
 
-pub text_in_threads-requires-clause-printable : goal.text_in_threads-requires-clause-printable
-text_in_threads-requires-clause-printable g c κs within =
-    let over = c.requires.1 in
-    let P : List Group → Type 0 = λ l. ArePrintable c.args.read.now.bound l in
-    subst P (sym over.in_order) (printable-listed c.args.read.now.bound over.rows over.whole over.few over.are)
+pub table_text-requires-clause-bound : goal.table_text-requires-clause-bound
+table_text-requires-clause-bound g c κs within = let over = c.requires.1 in record { header = over.header; is = over.bound.is }
+
+pub table_text-requires-clause-rows : goal.table_text-requires-clause-rows
+table_text-requires-clause-rows g c κs within = let over = c.requires.1 in (length over.header, over.rows, over.few, over.shared)
 
 pub returns-in_err-write_each-clause-part : goal.returns-in_err-write_each-clause-part
 returns-in_err-write_each-clause-part g c =
@@ -26,9 +23,9 @@ returns-in_err-write_each-clause-part g c =
     let failed = c.in_err-write_each.ensures.prefix in
     let Wrote : List (Vec ℕ) → Type 0 = λ pieces. Appends old new (take failed.0 (joined pieces)) in
     let wrote = subst Wrote c.deref.ensures.value failed.1 in
-    IfErr-each c.from_residual-in_err-write_each.result (λ (why : Stop). why ≡ stop.WriteFault → (from : Option (List ℕ)) → AreGroupsOver query from c.args.read.now
+    IfErr-each c.from_residual-in_err-write_each.result (λ (why : Stop). why ≡ stop.WriteFault → (from : Option (List ℕ)) → AreGroupsOver query from c.args.read
     → IfSome from (λ bytes. (text : List ℕ) × IsTableText (Some query.plan) bytes text × (n : ℕ) × Appends old new (take n text)))
-    (λ why _ from over. part_written query c.args.read.now (joined c.in_ok-pieces.pieces.items) from old new failed.0 c.in_ok-pieces.ensures.answer over wrote)
+    (λ why _ from over. part_written query c.args.read (joined c.in_ok-pieces.pieces.items) from old new failed.0 c.in_ok-pieces.ensures over wrote)
 
 pub returns-clause-table : goal.returns-clause-table
 returns-clause-table g c =
@@ -36,4 +33,4 @@ returns-clause-table g c =
     let new = g.O.Sink.taken c.write_each.new.out in
     let Wrote : List (Vec ℕ) → Type 0 = λ pieces. Appends old new (joined pieces) in
     let wrote = subst Wrote c.deref.ensures.value c.in_ok-write_each.ensures.whole in
-    λ from over. table_written c.args.plan.now c.args.read.now (joined c.in_ok-pieces.pieces.items) from old new c.in_ok-pieces.ensures.answer over wrote
+    λ from over. table_written c.args.plan.now c.args.read (joined c.in_ok-pieces.pieces.items) from old new c.in_ok-pieces.ensures over wrote

@@ -1,7 +1,7 @@
 use Rattle.std.proofs.Common.{◌≡◌, ◌-◌}
 use Rattle.par_model.specs.Table.{columns_cmp}
 use Rattle.result_text.specs.KeyColumns.{columns_in}
-use Rattle.result_text.proofs.order.compare.Given as goal
+use Rattle.result_text.proofs.order.compare_columns.Given as goal
 
 -- the columns that are left decide
 abbrev pub invariant-loop-at : goal.invariant-loop-at

@@ -1,6 +1,6 @@
 use Rattle.std.proofs.Common.{◌∙◌, sym}
 use Rattle.result_text.proofs.Columns.{columns_cmp-end, columns_cmp-equal, columns_cmp-start, columns_cmp-unequal}
-use Rattle.result_text.proofs.order.compare.Goals as goal
+use Rattle.result_text.proofs.order.compare_columns.Goals as goal
 
 pub loop-at-init : goal.loop-at-init
 loop-at-init c = columns_cmp-start c.args.columns c.args.a.now c.args.b.now

@@ -1,0 +1,29 @@
+use Rattle.std.proofs.Common.{◌≡◌, ◌≤◌, ◌∙◌, ap, sym, subst, arith, All, ℕ, List, length, length-take, map, take}
+use Rattle.std.proofs.lemmas.Result.{IfOk-weaker}
+use Rattle.std.specs.List.Sorted.{IsPermutation, IsSortedBy}
+use Rattle.par_model.specs.Plan.{Plan}
+use Rattle.partial_agg.specs.declared.groups.Group.{Group}
+use Rattle.result_text.specs.GroupOrder.{is_before, line_of}
+use Rattle.result_text.specs.Pieces.{lines_text}
+use Rattle.result_text.proofs.Sorting.{IsRead, all_read, all_refs, lines-groups, rising}
+use Rattle.result_text.proofs.lines_text.Goals as goal
+
+pub returns : goal.returns
+returns c =
+    let plan = c.args.bound.now in
+    let groups = c.args.groups.now in
+    let refs = c.in_ok-refs.refs.items in
+    let many = length plan.groups in
+    let view : length plan.groups ≡ length (take c.bound.inside.group_count c.bound.inside.groups) = ap (λ (p : Plan). length p.groups) (sym c.bound.view_is) in
+    let count : c.bound.inside.group_count ≡ length plan.groups = omega (arith, view, length-take c.bound.inside.group_count c.bound.inside.groups, c.bound.told, c.bound.invariant.groups_fit) in
+    let same = c.in_ok-refs.ensures.same in
+    let short = c.in_ok-refs.ensures.short in
+    let sorted = subst (λ (n : ℕ). IsSortedBy (is_before n) refs) count c.in_ok-refs.ensures.sorted in
+    let read = all_refs (IsRead many) groups refs same (all_read plan groups c.requires.printable short) in
+    IfOk-weaker c.lines_of.result _ _ (λ text is. record {
+      lines = map (line_of many groups) refs;
+      short = short;
+      rising = rising many groups refs c.requires.printable.different same read sorted;
+      same = subst (IsPermutation groups) (sym (lines-groups many groups refs read)) same;
+      is = is ∙ ap (lines_text plan groups) c.deref.ensures.value;
+    }) c.lines_of.ensures
