@@ -1,4 +1,4 @@
-use Rattle.std.proofs.Common.{ℕ, List, ap, subst}
+use Rattle.std.proofs.Common.{ℕ, List, subst}
 use Rattle.std.proofs.lemmas.List.Sorted.{All-permutation, IsPermutation-map}
 use Rattle.std.specs.List.Sorted.{IsPermutation}
 use Rattle.gather_merge.specs.declared.sorting.Keyed.{Keyed}
