@@ -1,11 +1,12 @@
 #!/usr/bin/env python3
 """Times calls of the shared objects by several threads beside the same loads in plain Rust, each kind on its own.
 
-usage: objects.py [--kinds lock,area,window,queue,puts,gets] [--times 5] [--calls PERCENT] [--save FILE.json]
+usage: objects.py [--kinds lock,area,..] [--builds proved,erased] [--times 5] [--calls PERCENT] [--save FILE.json]
 
 The loads, their peers and what the columns mean are in docs/PERFORMANCE.md, "The shared objects by themselves". `--calls 1`
-makes a hundredth of the calls, which shows that all runs and measures nothing. The program is
-crates/uses_load/out/uses_load, or the path in OBJECT_LOAD; the peers (objects.rs, by rustc) lie in BENCH_DIR, or
+makes a hundredth of the calls, which shows that all runs and measures nothing. The builds are the toolchain's
+(crates/uses_load/out/uses_load, or the path in OBJECT_LOAD) and cargo's of the erased sources
+(bindings/out/target/release/uses_load, or the path in ERASED_LOAD); the peers (objects.rs, by rustc) lie in BENCH_DIR, or
 /tmp/lembokuj-bench.
 """
 import argparse
@@ -19,7 +20,15 @@ from dataclasses import dataclass
 
 HERE = os.path.dirname(os.path.abspath(__file__))
 FOLDER = os.environ.get("BENCH_DIR", "/tmp/lembokuj-bench")
-OURS = os.environ.get("OBJECT_LOAD", os.path.normpath(f"{HERE}/../crates/uses_load/out/uses_load"))
+TOP = os.path.dirname(HERE)
+BUILDS = {
+    "proved": os.environ.get("OBJECT_LOAD", f"{TOP}/crates/uses_load/out/uses_load"),
+    "erased": os.environ.get("ERASED_LOAD", f"{TOP}/bindings/out/target/release/uses_load"),
+}
+HOW_TO_BUILD = {
+    "proved": "`rt run` in crates/uses_load or .ci/run builds it; OBJECT_LOAD names another place",
+    "erased": "`./erase && cargo build --release -p uses_load` in bindings builds it; ERASED_LOAD names another place",
+}
 PEERS = f"{FOLDER}/objects"
 JEMALLOC = "/usr/lib/x86_64-linux-gnu/libjemalloc.so.2"
 SEVERAL = [1, 2, 4]
@@ -36,13 +45,13 @@ class Load:
 
     @property
     def name(self):
-        unit = "" if self.kind == "lock" else f", {self.size:,} {'keys' if self.kind in ('puts', 'gets') else 'bytes'}"
+        unit = "" if self.kind == "lock" else f", {self.size:,} {'keys' if self.kind in TABLES else 'bytes'}"
         return f"{self.kind}{unit}, {self.threads} thread{'s' if self.threads > 1 else ''}"
 
     @property
     def calls(self):
         """The calls by which the two runs differ, of all threads; a message is one call of two threads."""
-        return (self.many - self.few) * (1 if self.kind == "queue" else self.threads)
+        return (self.many - self.few) * (1 if self.kind in QUEUES else self.threads)
 
 
 @dataclass
@@ -52,32 +61,28 @@ class Program:
     preload: str = ""
 
 
-KINDS = ["lock", "area", "window", "queue", "puts", "gets"]
+QUEUES = ["queue", "flushed"]
+TABLES = ["puts", "gets", "sets"]
+KINDS = ["lock", "area", "window", *QUEUES, *TABLES]
 
 
 def loads(kinds, percent):
     listed = [Load("lock", threads, 4_000_000 // threads, 1, 8) for threads in SEVERAL + [8, 64]]
     listed += [Load(kind, threads, 2_000_000 // threads, 1, size) for kind in ("area", "window") for size in (24, 600) for threads in SEVERAL]
-    listed += [Load("queue", 2, 2_000_000 if size == 8 else 300_000, 1, size) for size in (8, 1000)]
-    listed += [Load("puts", threads, 1_000_000 // threads, 1, size) for size in (1_000, 1_000_000) for threads in SEVERAL]
-    listed += [Load("gets", threads, 1_000_000 // threads, 1, size) for size in (1_000, 1_000_000) for threads in SEVERAL]
+    listed += [Load(kind, 2, 2_000_000 if size == 8 else 300_000, 1, size) for kind in QUEUES for size in (8, 1000)]
+    listed += [Load(kind, threads, 1_000_000 // threads, 1, size) for kind in TABLES for size in (1_000, 1_000_000) for threads in SEVERAL]
     for load in listed:
         load.many = max(load.many * percent // 100, 2)
     return [load for load in listed if load.kind in kinds]
 
 
-def programs(kind):
+def programs(kind, builds):
     allocators = [("system's allocator", "system", "")] + ([("jemalloc", "system", JEMALLOC)] if os.path.exists(JEMALLOC) else [])
     maps = [("HashMap, 1 mutex", "one", ""), ("HashMap, 128 mutexes", "many", "")]
-    peers = {
-        "lock": [("Mutex", "mutex", "")],
-        "area": allocators,
-        "window": allocators,
-        "queue": [("sync_channel", "channel", ""), ("plain ring", "ring", "")],
-        "puts": maps,
-        "gets": maps,
-    }[kind]
-    return [Program("ours", [OURS])] + [Program(name, [PEERS, form], preload) for name, form, preload in peers]
+    peers = {"lock": [("Mutex", "mutex", "")], "area": allocators, "window": allocators}
+    peers.update(dict.fromkeys(QUEUES, [("sync_channel", "channel", ""), ("plain ring", "ring", "")]))
+    peers.update(dict.fromkeys(TABLES, maps))
+    return [Program(build, [BUILDS[build]]) for build in builds] + [Program(name, [PEERS, form], preload) for name, form, preload in peers[kind]]
 
 
 def one_run(program, load, calls):
@@ -95,9 +100,9 @@ def one_run(program, load, calls):
     return wall, used.ru_utime + used.ru_stime, line
 
 
-def measured(load, times):
-    """Of each program the least wall and processor nanoseconds a call, and what the line says where it is another's."""
-    listed, found, lines = programs(load.kind), {}, {}
+def measured(load, builds, times):
+    """Of each program the least wall and processor nanoseconds a call. Each has to print the same line."""
+    listed, found, lines = programs(load.kind, builds), {}, {}
     for _ in range(times):
         for program in listed:
             for calls in (load.few, load.many):
@@ -115,14 +120,14 @@ def measured(load, times):
     return {program.name: {"ns": each(program.name, 0), "processor": each(program.name, 1)} for program in listed}
 
 
-def show(load, results):
+def show(load, builds, results):
+    """Nanoseconds a call, and behind them the time of each build over that one, in the order of the builds."""
     print(load.name)
     for name, each in results.items():
         columns = []
         for part in ("ns", "processor"):
-            ours = results["ours"][part]
-            ratio = f"{ours / each[part]:.2f}" if name != "ours" and ours and each[part] else ""
-            columns.append(f"{each[part]:9.1f} {part} {ratio:>6}")
+            ratios = [f"{results[build][part] / each[part]:.2f}" if name not in builds and each[part] else "" for build in builds]
+            columns.append(f"{each[part]:9.1f} {part} " + " ".join(f"{ratio:>6}" for ratio in ratios))
         print(f"    {name:22}{'   '.join(columns)}", flush=True)
 
 
@@ -138,24 +143,26 @@ def build_peers():
 def main():
     words = argparse.ArgumentParser(usage=__doc__.split("usage: ")[1].split("\n")[0])
     words.add_argument("--kinds", default=",".join(KINDS))
+    words.add_argument("--builds", default="proved")
     words.add_argument("--times", type=int, default=5)
     words.add_argument("--calls", type=int, default=100)
     words.add_argument("--save")
     asked = words.parse_args()
-    kinds = asked.kinds.split(",")
-    unknown = [kind for kind in kinds if kind not in KINDS]
+    kinds, builds = asked.kinds.split(","), asked.builds.split(",")
+    unknown = [word for word in kinds if word not in KINDS] + [word for word in builds if word not in BUILDS]
     if unknown or asked.times < 1 or asked.calls < 1:
-        words.error(f"no such kind: {', '.join(unknown)}" if unknown else "--times and --calls are at least 1")
-    if not os.access(OURS, os.X_OK):
-        sys.exit(f"no program at {OURS}: `rt run` in crates/uses_load or .ci/run builds it; OBJECT_LOAD names another place")
+        words.error(f"no such kind or build: {', '.join(unknown)}" if unknown else "--times and --calls are at least 1")
+    for build in builds:
+        if not os.access(BUILDS[build], os.X_OK):
+            sys.exit(f"no program at {BUILDS[build]}: {HOW_TO_BUILD[build]}")
     build_peers()
     print(f"{os.cpu_count()} processors, load {os.getloadavg()[0]:.1f}, {asked.times} runs each, {asked.calls} % of the calls")
     if not os.path.exists(JEMALLOC):
         print(f"without jemalloc: {JEMALLOC} is not there (Debian's libjemalloc2)")
     saved = {}
     for load in loads(kinds, asked.calls):
-        saved[load.name] = measured(load, asked.times)
-        show(load, saved[load.name])
+        saved[load.name] = measured(load, builds, asked.times)
+        show(load, builds, saved[load.name])
     print(f"load at the end {os.getloadavg()[0]:.1f}")
     if asked.save:
         with open(asked.save, "w", encoding="utf-8") as file:

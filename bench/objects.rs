@@ -2,7 +2,8 @@
 //! one shared object, lets so many threads make so many calls each, and prints the line that `uses_load` prints.
 //!
 //! The forms are `mutex` of the lock, `system` of area and window (the system's allocator, or one that is preloaded),
-//! `channel` and `ring` of the queue, `one` and `many` of puts and gets. docs/PERFORMANCE.md says what each load is.
+//! `channel` and `ring` of queue and flushed, `one` and `many` of puts, gets and sets. docs/PERFORMANCE.md says what each
+//! load is.
 use std::alloc::{alloc, dealloc, Layout};
 use std::cell::UnsafeCell;
 use std::collections::HashMap;
@@ -212,6 +213,10 @@ impl Table {
         self.part(key).lock().unwrap().insert(key, key).is_none()
     }
 
+    fn set(&self, key: u64, number: u64) -> bool {
+        self.part(key).lock().unwrap().insert(key, number).is_some()
+    }
+
     fn delete(&self, key: u64) -> bool {
         self.part(key).lock().unwrap().remove(&key) == Some(key)
     }
@@ -236,15 +241,24 @@ fn puts(parts: usize, threads: u64, calls: u64, keys: u64) -> u64 {
     })
 }
 
-fn gets(parts: usize, threads: u64, calls: u64, keys: u64) -> u64 {
+/// A table with the keys from 0 on, and calls of them, in an order of each thread's own. Says how many went well.
+fn present(parts: usize, threads: u64, calls: u64, keys: u64, call: impl Fn(&Table, u64, u64) -> bool + Sync) -> u64 {
     let table = Table::new(parts);
     for key in 0..keys {
         table.put(key);
     }
     in_threads(threads, |number| {
         let of = |i: u64| i.wrapping_add(number << 32).wrapping_mul(SPREAD) % keys;
-        (0..calls).filter(|i| table.has(of(*i))).count() as u64
+        (0..calls).filter(|i| call(&table, of(*i), *i)).count() as u64
     })
+}
+
+fn gets(parts: usize, threads: u64, calls: u64, keys: u64) -> u64 {
+    present(parts, threads, calls, keys, |table, key, _| table.has(key))
+}
+
+fn sets(parts: usize, threads: u64, calls: u64, keys: u64) -> u64 {
+    present(parts, threads, calls, keys, |table, key, number| table.set(key, number))
 }
 
 fn main() {
@@ -257,10 +271,11 @@ fn main() {
         ("mutex", "lock") => format!("{all} calls, value {}", lock(threads, calls)),
         ("system", "area") => format!("{all} pairs of {size} bytes, {} good", area(threads, calls, size)),
         ("system", "window") => format!("{all} pairs of {size} bytes, {} good", window(threads, calls, size)),
-        ("channel", "queue") => format!("{calls} messages of {size} bytes, {} came", channel(calls, size)),
-        ("ring", "queue") => format!("{calls} messages of {size} bytes, {} came", ring(calls, size)),
+        ("channel", "queue" | "flushed") => format!("{calls} messages of {size} bytes, {} came", channel(calls, size)),
+        ("ring", "queue" | "flushed") => format!("{calls} messages of {size} bytes, {} came", ring(calls, size)),
         ("one" | "many", "puts") => format!("{all} puts on {size} keys, {} new", puts(parts, threads, calls, size)),
         ("one" | "many", "gets") => format!("{all} gets on {size} keys, {} found", gets(parts, threads, calls, size)),
+        ("one" | "many", "sets") => format!("{all} sets on {size} keys, {} there", sets(parts, threads, calls, size)),
         _ => panic!("no such load"),
     };
     println!("{}: {threads} threads, {told}", words[1]);

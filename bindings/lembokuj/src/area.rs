@@ -62,8 +62,8 @@ impl From<dsa_area::NoSpace> for NoSpace {
     }
 }
 
-/// A new area in a region of its own, with a pass for each caller.
-pub(crate) fn new_area(pages: u32, callers: u32) -> Result<(Region, dsa_area::Area, Vec<AreaPass>), AreaError> {
+/// A new area in a region of its own, with so many passes for each caller.
+pub(crate) fn new_area(pages: u32, callers: u32, each: u32) -> Result<(Region, dsa_area::Area, Vec<AreaPass>), AreaError> {
     if pages > MOST_PAGES {
         return Err(AreaError::Pages);
     }
@@ -74,7 +74,7 @@ pub(crate) fn new_area(pages: u32, callers: u32) -> Result<(Region, dsa_area::Ar
     // Word 0 stands for no place.
     let (region, mut part) = Region::new(Global, words as usize + 1).map_err(|_| AreaError::Memory)?;
     let chunk = part.split_chunk(&region, 1, words);
-    let (area, passes) = dsa_area::Area::new(Global, &region, chunk, pages, callers).map_err(|_| AreaError::Memory)?;
+    let (area, passes) = dsa_area::Area::new(Global, &region, chunk, pages, callers * each).map_err(|_| AreaError::Memory)?;
     Ok((region, area, passes.into_std()))
 }
 
@@ -84,18 +84,20 @@ struct Shared {
     area: dsa_area::Area,
 }
 
-/// One caller: a handle and the chunks that came by it. The lock is taken by the handle's thread and by who drops one of
-/// its chunks, so it is free nearly always.
+/// How many passes a caller has: one for the calls of its handle, and one for the chunks that are dropped.
+const PASSES_EACH: u32 = 2;
+
+/// What the chunks that came by a handle keep of it. The lock is taken by who drops one of them, so it is free nearly
+/// always.
 struct Caller {
     shared: Arc<Shared>,
-    pass: Mutex<AreaPass>,
+    drops: Mutex<AreaPass>,
 }
 
-impl Caller {
+impl Shared {
     /// Takes a chunk back. That the area knows it is certain: it gave it, and nobody has it twice.
-    fn take_back(&self, chunk: region_words::Chunk) {
-        let mut pass = self.pass.lock().unwrap_or_else(PoisonError::into_inner);
-        let _ = self.shared.area.free(&crate::HOST, &self.shared.region, &mut pass, chunk);
+    fn take_back(&self, pass: &mut AreaPass, chunk: region_words::Chunk) {
+        let _ = self.area.free(&crate::HOST, &self.region, pass, chunk);
     }
 }
 
@@ -115,6 +117,7 @@ impl Caller {
 /// # Ok::<(), lembokuj::AreaError>(())
 /// ```
 pub struct Area {
+    pass: AreaPass,
     caller: Arc<Caller>,
 }
 
@@ -129,15 +132,17 @@ impl Area {
     /// them for their records, and a few words for each caller. Chunks of up to 8,192 bytes are cut from 16 pages at a
     /// time, for each of 36 size classes, and a class keeps such 16 pages once it has some.
     pub fn new(pages: u32, callers: u32) -> Result<Vec<Area>, AreaError> {
-        let (region, area, passes) = new_area(pages, callers)?;
+        let (region, area, passes) = new_area(pages, callers, PASSES_EACH)?;
         let shared = Arc::new(Shared { region, area });
-        let handle = |pass| Area {
+        let mut passes = passes.into_iter();
+        let handle = |(pass, drops)| Area {
+            pass,
             caller: Arc::new(Caller {
                 shared: Arc::clone(&shared),
-                pass: Mutex::new(pass),
+                drops: Mutex::new(drops),
             }),
         };
-        Ok(passes.into_iter().map(handle).collect())
+        Ok(std::iter::from_fn(|| passes.next().zip(passes.next())).map(handle).collect())
     }
 
     /// A chunk of at least so many bytes, at least 1: up to 8,192 bytes of a size class that holds it, and else of whole
@@ -148,8 +153,7 @@ impl Area {
             return Err(NoSpace { pages, largest: MOST_PAGES });
         }
         let shared = &self.caller.shared;
-        let mut pass = self.caller.pass.lock().unwrap_or_else(PoisonError::into_inner);
-        let chunk = shared.area.alloc(&crate::HOST, &shared.region, &mut pass, bytes.max(1))?;
+        let chunk = shared.area.alloc(&crate::HOST, &shared.region, &mut self.pass, bytes.max(1))?;
         Ok(Chunk {
             words: chunk.bytes / 8,
             chunk: Some(chunk),
@@ -157,13 +161,13 @@ impl Area {
         })
     }
 
-    /// Gives a chunk back through this handle, which is as dropping it, but takes no other caller's lock. A chunk of
-    /// another area is dropped: it goes back to its own.
+    /// Gives a chunk back through this handle, which is as dropping it, but takes none of the locks under which chunks
+    /// are dropped. A chunk of another area is dropped: it goes back to its own.
     pub fn free(&mut self, mut chunk: Chunk) {
         if self.is_home_of(&chunk)
             && let Some(inner) = chunk.chunk.take()
         {
-            self.caller.take_back(inner);
+            self.caller.shared.take_back(&mut self.pass, inner);
         }
     }
 
@@ -218,7 +222,8 @@ impl Chunk {
 impl Drop for Chunk {
     fn drop(&mut self) {
         if let Some(chunk) = self.chunk.take() {
-            self.caller.take_back(chunk);
+            let mut pass = self.caller.drops.lock().unwrap_or_else(PoisonError::into_inner);
+            self.caller.shared.take_back(&mut pass, chunk);
         }
     }
 }

@@ -189,7 +189,7 @@ impl<K: Words, V: Words> Table<K, V> {
     /// An empty table in an area of so many pages of 4 KiB, and a handle for each of its callers.
     pub fn with_pages(pages: u32, callers: u32) -> Result<Vec<Table<K, V>>, TableError> {
         let () = Self::SIZES;
-        let (region, area, mut area_passes) = new_area(pages, callers)?;
+        let (region, area, mut area_passes) = new_area(pages, callers, 1)?;
         let made = Dshash::new(
             &crate::HOST,
             Global,

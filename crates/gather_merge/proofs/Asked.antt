@@ -1,9 +1,9 @@
--- A source that was asked, among all sources.
-use Rattle.std.proofs.Common.{◌≡◌, ◌==◌, ◌&&◌, ◌<◌, ◌≤◌, ◌+◌, ◌++◌, Bool, true, ℕ, zero, suc, List, [], ◌∷◌, Vec, length, set, get_or, map, take, Any, refl, ap, ap₂, sym, subst, ◌∙◌, arith}
-use Rattle.std.specs.Global.{Global}
-use Rattle.std.specs.List.{AllZip}
-use Rattle.std.proofs.lemmas.Bool.{le-leb}
-use Rattle.std.proofs.lemmas.List.{length-map, take_more}
+-- A worker that was asked, among all workers.
+use Rattle.std.proofs.Common.{◌≡◌, ◌≢◌, ◌==◌, ◌&&◌, ◌<◌, ◌≤◌, ◌+◌, ◌++◌, Bool, true, false, ℕ, zero, suc, List, [], ◌∷◌, length, set, get_or, map, take, All, Any, Option, None, Some, is_some, refl, ap, sym, subst, ◌∙◌, append-nil, append_assoc, arith}
+use Rattle.std.specs.List.{AllZip, flat_map}
+use Rattle.std.proofs.lemmas.List.{get_or-set_other, length-map, length-set, take_more_set}
+use Rattle.std.proofs.lemmas.List.Concat.{flat_map-append}
+use Rattle.std.proofs.lemmas.List.Elements.{All-get_or, All-nil, All-push}
 use Rattle.std.proofs.lemmas.List.Quantifiers.{any-set}
 use Rattle.parallel_ctx.proofs.Queues.{same-trans}
 use Rattle.parallel_ctx.proofs.Zips.{AllZip-through}
@@ -12,12 +12,13 @@ use Rattle.ring_rule.specs.Ring.{Receiving}
 use Rattle.parallel_ctx.specs.Accounts.{is_over}
 use Rattle.parallel_ctx.specs.Tokens.{SameQueues}
 use Rattle.parallel_ctx.specs.declared.tokens.LeaderEnds.{LeaderEnds}
-use Rattle.gather_merge.specs.Hearing.{Gives, GivesOwn, Hears, HearsEnd, HearsFrom, IsPlain, NamedBy, Source, notices_of, own_source, queue_source, source_at, sources_of}
+use Rattle.gather_merge.specs.Hearing.{HasGivenNoRow, Hears, HearsAll, HearsEnd, HearsRows, IsOver, NamedBy, notices_of, rows_given}
+use Rattle.gather_merge.specs.declared.MergeAnswer.{MergeAnswer}
+use Rattle.gather_merge.specs.declared.MergeAnswer.TheVariants as merging
 use Rattle.gather_merge.specs.declared.hearing.Next.{Next}
 use Rattle.gather_merge.specs.declared.hearing.Next.TheVariants.{Row, Over, Names, Lost}
 use Rattle.worker_run.specs.Notices.{HasTakenAll, ReadsRow}
 use Rattle.gather_merge.specs.Sent.{row_of}
-use Rattle.gather_merge.specs.declared.hearing.OwnRows.{OwnRows}
 
 map-set : {A B : Type 0} (f : A → B) (xs : List A) (k : ℕ) (x : A) → map f (set xs k x) ≡ set (map f xs) k (f x)
 map-set f [] k x = refl
@@ -51,11 +52,6 @@ hears_end old new (Names r c i) e o h = record {
 }
 hears_end old new Lost e o h = absurd h
 
-source_in : (own : OwnRows) (queues : List LeaderEnds) (k : ℕ) (d : LeaderEnds) → k < length queues → source_at (sources_of own queues) (suc k) ≡ queue_source (get_or queues k d)
-source_in own [] k d l = absurd (omega (arith, l))
-source_in own (q ∷ queues) zero d l = refl
-source_in own (q ∷ queues) (suc k) d l = source_in own queues k d (omega (arith, l))
-
 named_in : (queues : List LeaderEnds) (k : ℕ) (q : LeaderEnds) (row cause item : ℕ) → k < length queues → Any (ReadsRow row cause item) (notices_of q) → NamedBy (map notices_of (set queues k q)) row cause
 named_in queues k q row cause item l a = record {
   item = item;
@@ -63,33 +59,57 @@ named_in queues k q row cause item l a = record {
       (any-set (λ notices. Any (ReadsRow row cause item) notices) (map notices_of queues) k (notices_of q) (omega (arith, l, length-map queues notices_of)) a);
 }
 
-pub hears_queue : (k : ℕ) (own : OwnRows) (queues : List LeaderEnds) (d q : LeaderEnds) (next : Next) → k < length queues → Hears (get_or queues k d) q next → HearsFrom (suc k) own own queues (set queues k q) next
-hears_queue k own queues d q next l h = record {
-  source = queue_source q;
-  others = ap (λ (ss : List Source). own_source own ∷ ss) (map-set queue_source queues k q);
-  gives = subst (λ (s : Source). Gives s (queue_source q) next) (sym (source_in own queues k d l)) h.gives;
-  names = λ row cause item e. named_in queues k q row cause item l (h.names row cause item e);
+-- ---- all rows of a worker
+
+-- a list with a part behind it, and one more at that part's end
+pub behind : (first before after part part' : List ℕ) (row : ℕ) → before ≡ first ++ part → after ≡ before ++ row ∷ [] → part' ≡ part ++ row ∷ [] → after ≡ first ++ part'
+behind first before after part part' row e f g =
+    f ∙ ap (λ (l : List ℕ). l ++ row ∷ []) e ∙ append_assoc first part (row ∷ []) ∙ ap (λ (l : List ℕ). first ++ l) (sym g)
+
+-- nothing stands behind a list yet
+pub behind-none : (first part : List ℕ) → part ≡ [] → first ≡ first ++ part
+behind-none first part e = sym (ap (λ (l : List ℕ). first ++ l) e ∙ append-nil first)
+
+-- ---- the rows of worker after worker
+
+-- the workers up to a place are over, and their rows stand behind a list; the others have given none
+pub record HeardTo (first list : List ℕ) (queues : List LeaderEnds) (at : ℕ) : Type 0 where
+  pub rows : list ≡ first ++ flat_map rows_given (take at queues)
+  pub over : All IsOver (take at queues)
+  pub unheard : (k : ℕ) (d : LeaderEnds) → at ≤ k → k < length queues → HasGivenNoRow (get_or queues k d)
+
+pub heard-none : (first : List ℕ) (queues : List LeaderEnds) → All HasGivenNoRow queues → HeardTo first first queues 0
+heard-none first queues h = record {
+  rows = sym (append-nil first);
+  over = All-nil IsOver;
+  unheard = λ k d from l. All-get_or HasGivenNoRow queues k d l h;
 }
 
--- ---- the leader's own list
+pub heard-more : (first list list' : List ℕ) (queues : List LeaderEnds) (at : ℕ) (q : LeaderEnds) → at < length queues → HeardTo first list queues at → list' ≡ list ++ rows_given q → IsOver q
+    → HeardTo first list' (set queues at q) (at + 1)
+heard-more first list list' queues at q l h e o =
+    let cut : take (at + 1) (set queues at q) ≡ take at queues ++ q ∷ [] = take_more_set queues at q l in
+    let rows : flat_map rows_given (take at queues ++ q ∷ []) ≡ flat_map rows_given (take at queues) ++ rows_given q =
+    flat_map-append rows_given (take at queues) (q ∷ []) ∙ ap (λ (r : List ℕ). flat_map rows_given (take at queues) ++ r) (append-nil (rows_given q)) in
+    record {
+      rows = e ∙ ap (λ (r : List ℕ). r ++ rows_given q) h.rows ∙ append_assoc first (flat_map rows_given (take at queues)) (rows_given q) ∙ ap (λ (r : List ℕ). first ++ r) (sym (ap (flat_map rows_given) cut ∙ rows));
+      over = subst (All IsOver) (sym cut) (All-push IsOver (take at queues) q h.over o);
+      unheard = λ k d from m.
+          let other : k ≢ at = λ (same : k ≡ at). absurd (omega (arith, from, same)) in
+          let long = length-set queues at q in
+          subst HasGivenNoRow (sym (get_or-set_other queues at k q d other)) (h.unheard k d (omega (arith, from)) (omega (arith, m, long)));
+    }
 
-pub gives_own : (own own' : OwnRows) (next : Next) → GivesOwn own own' next → (queues : List LeaderEnds) → HearsFrom 0 own own' queues queues next
-gives_own own own' next g queues = record {
-  source = own_source own';
-  others = refl;
-  gives = g.gives;
-  names = λ row cause item e. absurd (subst IsPlain e g.plain);
-}
+-- a worker that gave all its rows
+pub rows-well : (old new : List ℕ) (q : LeaderEnds) (r : Option MergeAnswer) → is_some r ≡ false → HearsRows old new q r → (new ≡ old ++ rows_given q) × IsOver q
+rows-well old new q None e h = h
+rows-well old new q (Some why) e h = cc
 
-pub own_over : (own : OwnRows) → length own.list.items ≤ own.given → GivesOwn own own Over
-own_over own l = record { list = refl; gives = (refl, le-leb (length own.list.items) own.given l); plain = tt }
-
-pub own_row : (own own' : OwnRows) (row d : ℕ) → own.given < length own.list.items → own'.list ≡ own.list → own'.given ≡ own.given + 1 → row ≡ get_or own.list.items own.given d → GivesOwn own own' (Row row)
-own_row own own' row d l same next is = record {
-  list = same;
-  gives = ap₂ (λ n (v : Vec ℕ Global). take n v.items) next same ∙ take_more own.list.items own.given d l ∙ ap (λ (r : ℕ). take own.given own.list.items ++ r ∷ []) (sym is);
-  plain = tt;
-}
+-- a worker that failed to fails the whole
+pub rows-failed : (old new old' new' : List ℕ) (queues : List LeaderEnds) (k : ℕ) (q : LeaderEnds) (r : Option MergeAnswer) → k < length queues → is_some r ≡ true → HearsRows old new q r → HearsAll old' new' (set queues k q) r
+rows-failed old new old' new' queues k q None l e h = cc
+rows-failed old new old' new' queues k q (Some (merging.Row row cause)) l e h = named_in queues k q row cause h.0 l h.1
+rows-failed old new old' new' queues k q (Some merging.Memory) l e h = tt
 
 -- ---- all queues
 

@@ -1,10 +1,10 @@
--- What a leader comes to, by what it took of its sources.
-use Rattle.std.proofs.Common.{◌≡◌, ◌&&◌, Bool, false, inl, inr, ℕ, suc, IsTrue, List, [], ◌∷◌, length, leb, map, take, All, Any, Option, None, Some, true, refl, ap, ap₂, sym, subst, ◌∙◌, arith, append-nil}
+-- What a leader comes to, by what it took of the workers.
+use Rattle.std.proofs.Common.{◌≡◌, ◌&&◌, ◌++◌, Bool, false, inl, inr, ℕ, suc, IsTrue, List, [], ◌∷◌, length, map, All, Any, Option, None, Some, is_some, true, refl, ap, sym, subst, ◌∙◌, arith, append-nil}
+use Rattle.std.specs.List.{flat_map}
 use Rattle.std.specs.List.Sorted.{IsPermutation, IsSorted}
-use Rattle.std.proofs.lemmas.Bool.{leb-true}
-use Rattle.std.proofs.lemmas.List.{length-map, take_all}
+use Rattle.std.proofs.lemmas.List.{length-map}
 use Rattle.std.proofs.lemmas.List.Sorted.{IsPermutation-refl}
-use Rattle.std.proofs.lemmas.List.Elements.{All-cons, All-head, All-map, All-nil, All-tail, All-weaker}
+use Rattle.std.proofs.lemmas.List.Elements.{All-head, All-map, All-nil, All-weaker}
 use Rattle.mq_handle.specs.Messages.{whole_of}
 use Rattle.row_blocks.specs.Blocks.{Table}
 use Rattle.par_model.specs.Plan.{Plan}
@@ -21,21 +21,19 @@ use Rattle.scan_claim.specs.Shown.{callers_of, draws_of}
 use Rattle.scan_claim.specs.declared.claims.ClaimSeat.{ClaimSeat}
 use Rattle.scan_claim.specs.declared.claims.Claims.{Claims}
 use Rattle.gather_merge.specs.Drawn.{HasDrawnAll, StopsDrawing}
-use Rattle.gather_merge.specs.Hearing.{AreOpen, HasGivenNoRow, HasGivenNone, HaveGivenNone, IsOpen, Source, notices_of, own_source, queue_source, rows_heard, sources_of, streams}
-use Rattle.gather_merge.specs.Leading.{Answers, Drains, Led}
+use Rattle.gather_merge.specs.Hearing.{AreOpen, HasGivenNoRow, HearsAll, IsOpen, IsOver, notices_of, rows_given, rows_heard}
+use Rattle.gather_merge.specs.Leading.{Answers, Led, Merges}
 use Rattle.worker_run.specs.Notices.{ReadsRow}
-use Rattle.worker_run.proofs.Judging.{all_apart}
 use Rattle.gather_merge.proofs.Stopping.{named_early}
 use Rattle.gather_merge.specs.Order.{row_cmp}
 use Rattle.gather_merge.specs.Sent.{row_of}
 use Rattle.gather_merge.specs.Streams.{IsMerge, IsStream}
 use Rattle.gather_merge.specs.declared.MergeAnswer.{MergeAnswer}
 use Rattle.gather_merge.specs.declared.MergeAnswer.TheVariants.{Row, Memory}
-use Rattle.gather_merge.specs.declared.hearing.OwnRows.{OwnRows}
 
-rows_are : (queues : List LeaderEnds) → streams (map queue_source queues) ≡ map rows_heard (map heard queues)
+rows_are : (queues : List LeaderEnds) → map rows_given queues ≡ map rows_heard (map heard queues)
 rows_are [] = refl
-rows_are (q ∷ queues) = ap (λ l. map row_of (whole_of q.tuples.end.taken) ∷ l) (rows_are queues)
+rows_are (q ∷ queues) = ap (λ l. rows_given q ∷ l) (rows_are queues)
 
 notices_are : (queues : List LeaderEnds) → map notices_of queues ≡ map (λ (h : Heard). h.errors) (map heard queues)
 notices_are [] = refl
@@ -45,43 +43,54 @@ both_over : (a b : Bool) → (a && b) ≡ true → (a ≡ true) × (b ≡ true)
 both_over true b e = (refl, e)
 both_over false b e = cc
 
--- a source that is over has no more rows and no more notices
-queues_over : (queues : List LeaderEnds) → All (λ (s : Source). s.over ≡ true) (map queue_source queues) → All (λ (q : LeaderEnds). ((heard q).tuples_over ≡ true) × ((heard q).errors_over ≡ true)) queues
-queues_over queues a = All-weaker (λ (q : LeaderEnds). (queue_source q).over ≡ true) (λ (q : LeaderEnds). ((heard q).tuples_over ≡ true) × ((heard q).errors_over ≡ true)) (λ q o. both_over (heard q).tuples_over (heard q).errors_over o) queues (all_apart (λ (s : Source). s.over ≡ true) queue_source queues a)
+-- a worker that is over has no more rows and no more notices
+over_are : (queues : List LeaderEnds) → All IsOver queues → All (λ (h : Heard). h.tuples_over ≡ true) (map heard queues)
+over_are queues a = All-map (λ (h : Heard). h.tuples_over ≡ true) heard queues (All-weaker IsOver (λ (q : LeaderEnds). (heard q).tuples_over ≡ true) (λ q o. (both_over (heard q).tuples_over (heard q).errors_over o).0) queues a)
 
-over_are : (queues : List LeaderEnds) → All (λ (s : Source). s.over ≡ true) (map queue_source queues) → All (λ (h : Heard). h.tuples_over ≡ true) (map heard queues)
-over_are queues a = All-map (λ (h : Heard). h.tuples_over ≡ true) heard queues (All-weaker (λ (q : LeaderEnds). ((heard q).tuples_over ≡ true) × ((heard q).errors_over ≡ true)) (λ (q : LeaderEnds). (heard q).tuples_over ≡ true) (λ q o. o.0) queues (queues_over queues a))
+notices_over : (queues : List LeaderEnds) → All IsOver queues → All (λ (h : Heard). h.errors_over ≡ true) (map heard queues)
+notices_over queues a = All-map (λ (h : Heard). h.errors_over ≡ true) heard queues (All-weaker IsOver (λ (q : LeaderEnds). (heard q).errors_over ≡ true) (λ q o. (both_over (heard q).tuples_over (heard q).errors_over o).1) queues a)
 
-notices_over : (queues : List LeaderEnds) → All (λ (s : Source). s.over ≡ true) (map queue_source queues) → All (λ (h : Heard). h.errors_over ≡ true) (map heard queues)
-notices_over queues a = All-map (λ (h : Heard). h.errors_over ≡ true) heard queues (All-weaker (λ (q : LeaderEnds). ((heard q).tuples_over ≡ true) × ((heard q).errors_over ≡ true)) (λ (q : LeaderEnds). (heard q).errors_over ≡ true) (λ q o. o.1) queues (queues_over queues a))
-
--- a list of which nothing was given, and queues of which nothing was taken
-pub none_given : (own : OwnRows) (queues : List LeaderEnds) → own.given ≡ 0 → All HasGivenNoRow queues → HaveGivenNone (sources_of own queues)
-none_given own queues e h = All-cons HasGivenNone (own_source own) (map queue_source queues) (ap (λ (n : ℕ). take n own.list.items) e) (All-map HasGivenNone queue_source queues h)
+-- lists one behind the other
+all_lists : (queues : List LeaderEnds) → flat_map (λ stream. stream) (map rows_given queues) ≡ flat_map rows_given queues
+all_lists [] = refl
+all_lists (q ∷ queues) = ap (λ l. rows_given q ++ l) (all_lists queues)
 
 module _ (plan : Plan) (records : Table) where
   pub stream_drawn : (claims : Claims) (claim : ClaimSeat) (list rows : List ℕ) → HasDrawnAll plan records claims claim list → IsPermutation list rows → IsSorted (row_cmp plan records) rows
       → IsStream plan (header_width records) records (draws_of claim) rows
   stream_drawn claims claim list rows d p s = record { accepted = d.drawn.accepted; each = subst (λ l. IsPermutation l rows) d.drawn.numbers p; rising = s }
 
-  pub led_merged : (blocks : ℕ) (draws rows : List ℕ) (own : OwnRows) (queues : List LeaderEnds) (order : List ℕ) (r : Option MergeAnswer) → own.list.items ≡ rows
-      → IsStream plan (header_width records) records draws rows → IsTrue (is_spent blocks draws) → Drains plan records (sources_of own queues) order queues r
+  -- ---- the merge
+
+  -- a worker whose rows were not all taken leaves no order
+  pub hears_failed : (own list order : List ℕ) (queues : List LeaderEnds) (r : Option MergeAnswer) → is_some r ≡ true → HearsAll own list queues r → Merges plan records own order queues r
+  hears_failed own list order queues None e h = cc
+  hears_failed own list order queues (Some (Row row cause)) e h = h
+  hears_failed own list order queues (Some Memory) e h = tt
+
+  -- all rows in order are the merge of all lists
+  pub merged_all : (own list order : List ℕ) (queues : List LeaderEnds) (r : Option MergeAnswer) → is_some r ≡ false → HearsAll own list queues r → IsPermutation list order → IsSorted (row_cmp plan records) order
+      → Merges plan records own order queues None
+  merged_all own list order queues None e h p s = record {
+    merge = record { each = subst (λ l. IsPermutation l order) (h.0 ∙ ap (λ l. own ++ l) (sym (all_lists queues))) p; rising = λ _. s };
+    over = h.1;
+  }
+  merged_all own list order queues (Some why) e h p s = cc
+
+  pub led_merged : (blocks : ℕ) (draws rows order : List ℕ) (queues : List LeaderEnds) (r : Option MergeAnswer)
+      → IsStream plan (header_width records) records draws rows → IsTrue (is_spent blocks draws) → Merges plan records rows order queues r
       → Led plan records blocks draws (map heard queues) order r
-  led_merged blocks draws rows own queues order None e s spent d =
-      let given : leb (length own.list.items) own.given ≡ true = All-head (λ (s : Source). s.over ≡ true) (own_source own) (map queue_source queues) d.over in
-      let whole : take own.given own.list.items ≡ own.list.items = take_all own.given own.list.items (leb-true (length own.list.items) own.given given) in
-      let are : streams (sources_of own queues) ≡ own.list.items ∷ map rows_heard (map heard queues) = ap₂ (λ (x : List ℕ) xs. x ∷ xs) whole (rows_are queues) in
-      record {
-        own = own.list.items;
-        stream = subst (IsStream plan (header_width records) records draws) (sym e) s;
-        merge = subst (λ ss. IsMerge (row_cmp plan records) ss order) are d.merge;
-        spent = spent;
-        over = over_are queues (All-tail (λ (s : Source). s.over ≡ true) (own_source own) (map queue_source queues) d.over);
-        errors_over = notices_over queues (All-tail (λ (s : Source). s.over ≡ true) (own_source own) (map queue_source queues) d.over);
-      }
-  led_merged blocks draws rows own queues order (Some (Row row cause)) e s spent d =
-      inr (record { item = d.item; named = subst (Any (λ notices. Any (ReadsRow row cause d.item) notices)) (notices_are queues) d.named })
-  led_merged blocks draws rows own queues order (Some Memory) e s spent d = tt
+  led_merged blocks draws rows order queues None s spent m = record {
+    own = rows;
+    stream = s;
+    merge = subst (λ ss. IsMerge (row_cmp plan records) (rows ∷ ss) order) (rows_are queues) m.merge;
+    spent = spent;
+    over = over_are queues m.over;
+    errors_over = notices_over queues m.over;
+  }
+  led_merged blocks draws rows order queues (Some (Row row cause)) s spent m =
+      inr (record { item = m.item; named = subst (Any (λ notices. Any (ReadsRow row cause m.item) notices)) (notices_are queues) m.named })
+  led_merged blocks draws rows order queues (Some Memory) s spent m = tt
 
   -- the leader's own rows alone are an order, where there are no queues
   pub led_alone : (blocks : ℕ) (draws rows order : List ℕ) (queues : List LeaderEnds) → length queues ≡ 0 → order ≡ rows → IsStream plan (header_width records) records draws rows → IsTrue (is_spent blocks draws)

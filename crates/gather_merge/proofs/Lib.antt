@@ -3,15 +3,12 @@ pub mod Chunks
 pub mod Compared
 pub mod Drawn
 pub mod Ends
-pub mod Falling
 pub mod Asked
 pub mod Law
 pub mod Levels
 pub mod Loading
-pub mod Refilling
 pub mod Stopping
 pub mod Led
-pub mod Merging
 pub mod Ordered
 pub mod Runs
 pub mod Sent

@@ -1,7 +1,7 @@
 -- Words as they are loaded: of each row's first column, and of the rows of pairs.
-use Rattle.std.proofs.Common.{◌≡◌, ◌<◌, ◌≤◌, ◌+◌, ◌-◌, ◌⊎◌, inl, inr, ◌++◌, ℕ, zero, suc, List, [], ◌∷◌, length, take, get_or, set, map, All, refl, ap, sym, subst, ◌∙◌, arith, length-append}
+use Rattle.std.proofs.Common.{◌≡◌, ◌<◌, ◌≤◌, ◌+◌, ◌⊎◌, inl, inr, ◌++◌, ℕ, zero, suc, List, [], ◌∷◌, length, take, get_or, set, map, All, refl, ap, sym, subst, ◌∙◌, arith}
 use Rattle.std.proofs.lemmas.Bool.{cases_lt}
-use Rattle.std.proofs.lemmas.List.{get_or_append_left, get_or-append_right, get_or_past}
+use Rattle.std.proofs.lemmas.List.{get_or_past}
 use Rattle.std.proofs.lemmas.List.Elements.{All-cons, All-head, All-nil, All-tail}
 use Rattle.row_blocks.specs.Blocks.{Table}
 use Rattle.par_model.specs.Plan.{Plan}
@@ -9,7 +9,7 @@ use Rattle.par_model.specs.Record.{field_of}
 use Rattle.gather_merge.specs.declared.sorting.Keyed.{Keyed}
 use Rattle.gather_merge.specs.Levels.{rows_of}
 use Rattle.gather_merge.specs.Order.{columns_at}
-use Rattle.gather_merge.specs.RowWords.{AreBytes, AreWords, text_at, word}
+use Rattle.gather_merge.specs.RowWords.{AreBytes, AreLoaded, AreWords, text_at, word}
 
 -- ---- the words of the first column
 
@@ -19,26 +19,8 @@ pub record AreWordsBelow (columns : ℕ → List (List ℕ)) (n : ℕ) (words : 
   pub each : (row : ℕ) → row < n → get_or words row 0 ≡ word (text_at columns 0 0 row)
   pub bytes : (row : ℕ) → row < n → AreBytes (text_at columns 0 0 row)
 
-pub words_none : (columns : ℕ → List (List ℕ)) (words : List ℕ) → words ≡ [] → AreWordsBelow columns 0 words
-words_none columns words e = record { long = ap (λ (l : List ℕ). length l) e; each = λ row l. absurd (omega (arith, l)); bytes = λ row l. absurd (omega (arith, l)) }
-
-pub words_more : (columns : ℕ → List (List ℕ)) (n w : ℕ) (words : List ℕ) → AreWordsBelow columns n words → w ≡ word (text_at columns 0 0 n) → AreBytes (text_at columns 0 0 n) → AreWordsBelow columns (n + 1) (words ++ w ∷ [])
-words_more columns n w words a e b = record {
-  long = length-append words (w ∷ []) ∙ omega (arith, a.long);
-  each = λ row l. each row l (cases_lt row n);
-  bytes = λ row l. bytes row l (cases_lt row n);
-}
-  where
-    each : (row : ℕ) → row < n + 1 → (row < n) ⊎ (n ≤ row) → get_or (words ++ w ∷ []) row 0 ≡ word (text_at columns 0 0 row)
-    each row l (inl h) = get_or_append_left words (w ∷ []) 0 row (omega (arith, h, a.long)) ∙ a.each row h
-    each row l (inr h) =
-        let is : row ≡ n = omega (arith, l, h) in
-        let none : row - length words ≡ 0 = omega (arith, l, h, a.long) in
-        get_or-append_right words (w ∷ []) (length words) row 0 refl (omega (arith, h, a.long)) ∙ ap (λ k. get_or (w ∷ []) k 0) none ∙ e ∙ ap (λ k. word (text_at columns 0 0 k)) (sym is)
-
-    bytes : (row : ℕ) → row < n + 1 → (row < n) ⊎ (n ≤ row) → AreBytes (text_at columns 0 0 row)
-    bytes row l (inl h) = a.bytes row h
-    bytes row l (inr h) = let is : n ≡ row = omega (arith, l, h) in subst (λ k. AreBytes (text_at columns 0 0 k)) is b
+pub words_loaded : (columns : ℕ → List (List ℕ)) (n : ℕ) (old words : List ℕ) → length old ≡ n → AreLoaded columns old words → AreWordsBelow columns n words
+words_loaded columns n old words e a = record { long = a.long ∙ e; each = λ row l. (a.each row 0 (omega (arith, l, e))).is; bytes = λ row l. (a.each row 0 (omega (arith, l, e))).bytes }
 
 empty : (groups : List ℕ) → get_or (map (field_of []) groups) 0 [] ≡ []
 empty [] = refl

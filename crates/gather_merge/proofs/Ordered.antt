@@ -1,6 +1,6 @@
 -- The order of the rows is a total order that tells any two rows apart, so a sorted list of given rows is one only.
 use Rattle.std.proofs.Common.{◌≡◌, ◌<◌, ◌+◌, ◌==◌, ℕ, suc, Bool, true, false, if◌then◌else◌, List, [], ◌∷◌, length, get_or, refl, ap, sym, subst, ◌∙◌, arith}
-use Rattle.std.specs.Cmp.{IsStrictWeakOrder, IsTotalOrder, nat_cmp_total, on_total, ranks, then_total}
+use Rattle.std.specs.Cmp.{IsTotalOrder, nat_cmp_total, on_total, ranks, then_total}
 use Rattle.std.specs.Cmp.Lexicographic.{lists_total, nat_list_cmp_total}
 use Rattle.std.specs.List.{AllByRecursion, sum_by}
 use Rattle.std.specs.List.Sorted.{IsPermutation, IsSorted}
@@ -10,7 +10,6 @@ use Rattle.std.specs.declared.cmp.Ordering.TheVariants.{Less, Equal, Greater}
 use Rattle.std.proofs.lemmas.List.Sorted.{IsPermutation-refl, ranks_by, sorted_far, sum_by-IsPermutation, sum_by_pushed}
 use Rattle.row_blocks.specs.Blocks.{Table}
 use Rattle.par_model.specs.Plan.{Plan}
-use Rattle.gather_merge.specs.Heads.{NotBefore}
 use Rattle.gather_merge.specs.Order.{IsOrder, columns_at, row_cmp}
 
 -- ---- the order of the rows
@@ -18,10 +17,6 @@ use Rattle.gather_merge.specs.Order.{IsOrder, columns_at, row_cmp}
 pub rows_total : (plan : Plan) (records : Table) → IsTotalOrder (row_cmp plan records)
 unfolding row_cmp
 rows_total plan records = then_total (on_total (columns_at plan records) (lists_total nat_list_cmp_total)) nat_cmp_total
-
--- as `sort_by` asks it
-pub rows_rank : (plan : Plan) (records : Table) → IsStrictWeakOrder (λ a b. is_lt (row_cmp plan records a b))
-rows_rank plan records = ranks_by (rows_total plan records) (λ a. a)
 
 second_level : (r s : Ordering) → ordering_then r s ≡ Equal → s ≡ Equal
 second_level Less s e = cc
@@ -38,6 +33,10 @@ unfolding row_cmp
 rows_apart plan records a b e = same_number a b (nat_cmp a b) (ranks a b) (second_level _ (nat_cmp a b) e)
 
 -- ---- one sorted list
+
+-- a row does not come before another
+abbrev pub NotBefore : (ℕ → ℕ → Ordering) → ℕ → ℕ → Type 0
+NotBefore cmp a b = is_lt (cmp a b) ≡ false
 
 module _ (cmp : ℕ → ℕ → Ordering) (o : IsTotalOrder cmp) (apart : (a b : ℕ) → cmp a b ≡ Equal → a ≡ b) where
   -- no element comes before an earlier one

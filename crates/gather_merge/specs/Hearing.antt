@@ -1,5 +1,6 @@
--- Where a leader's rows come from: its own list and the workers' queues, and what was given of each.
-use Rattle.std.specs.Prelude.{◌≡◌, ◌&&◌, ◌++◌, ℕ, Bool, List, [], ◌∷◌, All, Any, false, get_or, leb, length, map, set, take, true}
+-- Where a leader's rows come from beside its own: the workers' queues, and what was given of each.
+use Rattle.std.specs.Prelude.{◌≡◌, ◌&&◌, ◌++◌, ℕ, Bool, List, [], ◌∷◌, All, Any, Option, None, Some, false, map, true}
+use Rattle.std.specs.List.{flat_map}
 use Rattle.atomic_table.specs.Seated.{TableId}
 use Rattle.mq_handle.specs.Messages.{whole_of}
 use Rattle.parallel_ctx.specs.Accounts.{Heard, is_over}
@@ -9,54 +10,35 @@ use Rattle.partial_agg.specs.declared.map.BlockAnswer.TheVariants as answer
 use Rattle.ring_rule.specs.Ring.{Receiving}
 use Rattle.worker_run.specs.Notices.{ReadsRow}
 use Rattle.gather_merge.specs.Sent.{row_of}
+use Rattle.gather_merge.specs.declared.MergeAnswer.{MergeAnswer}
+use Rattle.gather_merge.specs.declared.MergeAnswer.TheVariants as merging
 use Rattle.gather_merge.specs.declared.hearing.Next.{Next}
 use Rattle.gather_merge.specs.declared.hearing.Next.TheVariants.{Row, Over, Names, Lost}
-use Rattle.gather_merge.specs.declared.hearing.OwnRows.{OwnRows}
 
--- ---- sources
+-- ---- what a worker gave
 
--- what a source has given so far, and whether there is no more
+-- what a worker has given so far, and whether there is no more
 pub record Source : Type 0 where
   pub rows : List ℕ
   pub over : Bool
-
--- the leader's own list
-abbrev pub own_source : OwnRows → Source
-own_source own = record { rows = take own.given own.list.items; over = leb (length own.list.items) own.given }
 
 -- a worker's queues; it is over when its last notice is read too
 abbrev pub queue_source : LeaderEnds → Source
 queue_source q = record { rows = map row_of (whole_of q.tuples.end.taken); over = is_over q.tuples.end && is_over q.errors.end }
 
--- all sources: the leader's own list, and then the queues
-abbrev pub sources_of : OwnRows → List LeaderEnds → List Source
-sources_of own queues = own_source own ∷ map queue_source queues
-
--- a source that has given nothing, and may give more
-abbrev pub no_source : Source
-no_source = record { rows = []; over = false }
-
--- a source has given nothing
-abbrev pub HasGivenNone : Source → Type 0
-HasGivenNone s = s.rows ≡ []
+-- the rows that were taken of a worker
+abbrev pub rows_given : LeaderEnds → List ℕ
+rows_given q = (queue_source q).rows
 
 -- no row was taken of a worker
 abbrev pub HasGivenNoRow : LeaderEnds → Type 0
-HasGivenNoRow q = HasGivenNone (queue_source q)
+HasGivenNoRow q = rows_given q ≡ []
 
--- none has given anything
-abbrev pub HaveGivenNone : List Source → Type 0
-HaveGivenNone sources = All HasGivenNone sources
+-- a worker has given all its rows, and its last notice is read
+abbrev pub IsOver : LeaderEnds → Type 0
+IsOver q = (queue_source q).over ≡ true
 
--- the source of this number, counted from 0
-abbrev pub source_at : List Source → ℕ → Source
-source_at sources at = get_or sources at no_source
-
--- the rows that each source has given
-abbrev pub streams : List Source → List (List ℕ)
-streams sources = map (λ (s : Source). s.rows) sources
-
--- the rows that were taken of a worker
+-- the rows that were taken of a worker, by what a leader tells of its ends
 abbrev pub rows_heard : Heard → List ℕ
 rows_heard h = map row_of h.tuples
 
@@ -96,34 +78,28 @@ HearsEnd new Over = is_over new ≡ true
 HearsEnd new (Names row cause item) = Any (ReadsRow row cause item) (whole_of new.taken)
 HearsEnd new Lost = ⊥
 
--- a source gave one more row, or has no more
+-- a worker gave one more row, or has no more
 abbrev pub Gives : Source → Source → Next → Type 0
 Gives old new (Row row) = new.rows ≡ old.rows ++ row ∷ []
 Gives old new Over = (new.rows ≡ old.rows) × (new.over ≡ true)
 Gives old new (Names row cause item) = Unit {0}
 Gives old new Lost = Unit {0}
 
--- the leader's own list names no row, and has nothing but rows
-abbrev pub IsPlain : Next → Type 0
-IsPlain (Row row) = Unit {0}
-IsPlain Over = Unit {0}
-IsPlain (Names row cause item) = ⊥
-IsPlain Lost = ⊥
-
--- what came of the leader's own list
-pub record GivesOwn (old new : OwnRows) (next : Next) : Type 0 where
-  pub list : new.list ≡ old.list
-  pub gives : Gives (own_source old) (own_source new) next
-  pub plain : IsPlain next
-
 -- what came of a worker's queues
 pub record Hears (old new : LeaderEnds) (next : Next) : Type 0 where
   pub gives : Gives (queue_source old) (queue_source new) next
   pub names : (row cause item : ℕ) → next ≡ Names row cause item → Any (ReadsRow row cause item) (notices_of new)
 
--- what came of a source, where the others stay
-pub record HearsFrom (from : ℕ) (own own' : OwnRows) (queues queues' : List LeaderEnds) (next : Next) : Type 0 where
-  pub source : Source
-  pub others : sources_of own' queues' ≡ set (sources_of own queues) from source
-  pub gives : Gives (source_at (sources_of own queues) from) source next
-  pub names : (row cause item : ℕ) → next ≡ Names row cause item → NamedBy (map notices_of queues') row cause
+-- ---- all rows
+
+-- all rows of a worker stand behind a list; or a notice of it names a refused row
+abbrev pub HearsRows : List ℕ → List ℕ → LeaderEnds → Option MergeAnswer → Type 0
+HearsRows old new q None = (new ≡ old ++ rows_given q) × IsOver q
+HearsRows old new q (Some (merging.Row row cause)) = (item : ℕ) × Any (ReadsRow row cause item) (notices_of q)
+HearsRows old new q (Some merging.Memory) = Unit {0}
+
+-- all rows of all workers stand behind a list, those of one worker after the other's; or a notice names a refused row
+abbrev pub HearsAll : List ℕ → List ℕ → List LeaderEnds → Option MergeAnswer → Type 0
+HearsAll old new queues None = (new ≡ old ++ flat_map rows_given queues) × All IsOver queues
+HearsAll old new queues (Some (merging.Row row cause)) = NamedBy (map notices_of queues) row cause
+HearsAll old new queues (Some merging.Memory) = Unit {0}

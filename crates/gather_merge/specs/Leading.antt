@@ -1,5 +1,5 @@
--- What a leader has merged so far, and why it may have given up.
-use Rattle.std.specs.Prelude.{◌≡◌, ◌<◌, ◌⊎◌, ℕ, List, [], ◌∷◌, All, IsTrue, Option, Some, None, length, map, true}
+-- What a leader has merged, and why it may have given up.
+use Rattle.std.specs.Prelude.{◌≡◌, ◌⊎◌, ℕ, List, [], ◌∷◌, All, IsTrue, Option, Some, None, map, true}
 use Rattle.row_blocks.specs.Blocks.{Table}
 use Rattle.par_model.specs.Plan.{Plan}
 use Rattle.parallel_ctx.specs.Accounts.{Heard}
@@ -9,45 +9,24 @@ use Rattle.partial_agg.specs.declared.map.BlockAnswer.{BlockAnswer}
 use Rattle.partial_agg.specs.declared.map.BlockAnswer.TheVariants as block
 use Rattle.scan_claim.specs.Drawing.{is_spent}
 use Rattle.worker_run.specs.Ended.{IsFirst, IsRefused}
-use Rattle.gather_merge.specs.Hearing.{NamedBy, notices_of, rows_heard, streams, Source}
-use Rattle.gather_merge.specs.Heads.{AreFalling}
-use Rattle.gather_merge.specs.Merging.{IsCovered, IsMerging, Refilled}
+use Rattle.gather_merge.specs.Hearing.{IsOver, NamedBy, notices_of, rows_given, rows_heard}
 use Rattle.gather_merge.specs.Order.{row_cmp}
 use Rattle.gather_merge.specs.Streams.{IsMerge, IsStream}
 use Rattle.gather_merge.specs.declared.MergeAnswer.{MergeAnswer}
 use Rattle.gather_merge.specs.declared.MergeAnswer.TheVariants.{Row, Memory}
-use Rattle.gather_merge.specs.declared.heads.Head.{Head}
 
--- ---- the steps of a merge
+-- ---- the merge
 
--- a source was asked for its next row
-abbrev pub Refills : Plan → Table → ℕ → List Source → List Source → List Head → List Head → List LeaderEnds → Option MergeAnswer → Type 0
-Refills plan records from sources sources' heads heads' queues None = Refilled (row_cmp plan records) from sources sources' heads heads'
-Refills plan records from sources sources' heads heads' queues (Some (Row row cause)) = NamedBy (map notices_of queues) row cause
-Refills plan records from sources sources' heads heads' queues (Some Memory) = Unit {0}
-
--- of each source the next row is a head, and nothing is in order yet
-pub record IsFilled (plan : Plan) (records : Table) (sources : List Source) (order : List ℕ) (heads : List Head) : Type 0 where
-  pub merging : IsMerging (row_cmp plan records) sources order heads
-  pub covered : (at : ℕ) → at < length sources → IsCovered sources heads at
-  pub falling : AreFalling plan records heads
-
--- what came of filling the heads
-abbrev pub Fills : Plan → Table → List Source → List Head → List LeaderEnds → Option MergeAnswer → Type 0
-Fills plan records sources heads queues None = IsFilled plan records sources [] heads
-Fills plan records sources heads queues (Some (Row row cause)) = NamedBy (map notices_of queues) row cause
-Fills plan records sources heads queues (Some Memory) = Unit {0}
-
--- all rows of all sources are merged
-pub record IsDrained (plan : Plan) (records : Table) (sources : List Source) (order : List ℕ) : Type 0 where
-  pub merge : IsMerge (row_cmp plan records) (streams sources) order
-  pub over : All (λ (s : Source). s.over ≡ true) sources
+-- all rows of the leader and of the workers are merged
+pub record IsMerged (plan : Plan) (records : Table) (own : List ℕ) (queues : List LeaderEnds) (order : List ℕ) : Type 0 where
+  pub merge : IsMerge (row_cmp plan records) (own ∷ map rows_given queues) order
+  pub over : All IsOver queues
 
 -- what came of merging
-abbrev pub Drains : Plan → Table → List Source → List ℕ → List LeaderEnds → Option MergeAnswer → Type 0
-Drains plan records sources order queues None = IsDrained plan records sources order
-Drains plan records sources order queues (Some (Row row cause)) = NamedBy (map notices_of queues) row cause
-Drains plan records sources order queues (Some Memory) = Unit {0}
+abbrev pub Merges : Plan → Table → List ℕ → List ℕ → List LeaderEnds → Option MergeAnswer → Type 0
+Merges plan records own order queues None = IsMerged plan records own queues order
+Merges plan records own order queues (Some (Row row cause)) = NamedBy (map notices_of queues) row cause
+Merges plan records own order queues (Some Memory) = Unit {0}
 
 -- ---- the leader
 

@@ -6,9 +6,7 @@ pub mod Law
 pub mod Answers
 pub mod Sent
 pub mod Ended
-pub mod Heads
 pub mod Hearing
 pub mod Drawn
-pub mod Merging
 pub mod Leading
 pub mod Used

@@ -1,5 +1,5 @@
 -- The words by which rows compare before anything of them is looked at.
-use Rattle.std.specs.Prelude.{◌≡◌, ◌<◌, ◌+◌, ◌*◌, ◌^◌, ℕ, zero, suc, List, [], ◌∷◌, drop, get_or, length, min}
+use Rattle.std.specs.Prelude.{◌≡◌, ◌<◌, ◌+◌, ◌*◌, ◌^◌, ℕ, zero, suc, List, [], ◌∷◌, drop, get_or, length, min, slice_index_or}
 use Rattle.std.specs.Ordering.{nat_cmp, ordering_then}
 use Rattle.std.specs.declared.cmp.Ordering.{Ordering}
 use Rattle.par_model.specs.Table.{columns_cmp}
@@ -32,3 +32,13 @@ tail_cmp columns column a b = ordering_then (columns_cmp (drop column (columns a
 pub record AreWords (columns : ℕ → List (List ℕ)) (words : List ℕ) : Type 0 where
   pub each : (row : ℕ) → get_or words row 0 ≡ word (text_at columns 0 0 row)
   pub bytes : (row : ℕ) → AreBytes (text_at columns 0 0 row)
+
+-- a number is the word of a row's first column
+pub record HasWord (columns : ℕ → List (List ℕ)) (row w : ℕ) : Type 0 where
+  pub is : w ≡ word (text_at columns 0 0 row)
+  pub bytes : AreBytes (text_at columns 0 0 row)
+
+-- each place of a list has the word of the row of its number
+pub record AreLoaded (columns : ℕ → List (List ℕ)) (old new : List ℕ) : Type 0 where
+  pub long : length new ≡ length old
+  pub each : (row d : ℕ) → row < length old → HasWord columns row (slice_index_or new row d)

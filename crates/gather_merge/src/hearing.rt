@@ -1,12 +1,13 @@
-//! Where the leader's rows come from: its own list, and the workers' queues. Source 0 is its own, and source n that of
-//! worker n. Each gives its rows in order, one after the other.
+//! Where the leader's rows come from beside its own: the workers' queues. Worker by worker it takes all rows of the tuple
+//! queue, and then the last notice. A worker whose turn has not come waits with a full queue.
 
-ghost use Rattle.std.specs.Prelude.{◌≡◌, ◌≤◌, All, Any, IfSome, false, length};
+ghost use Rattle.std.specs.Prelude.{◌≡◌, All, Any, IfSome, false};
 ghost use Rattle.std.specs.List.{AllZip};
 ghost use Rattle.parallel_ctx.specs.Tokens.{SameQueues};
-ghost use Rattle.gather_merge.specs.Hearing.{AreOpen, GivesOwn, HasGivenNoRow, Hears, HearsEnd, HearsFrom, IsNamedIn, IsOpen};
+ghost use Rattle.gather_merge.specs.Hearing.{AreOpen, HasGivenNoRow, Hears, HearsAll, HearsEnd, HearsRows, IsNamedIn, IsOpen};
 ghost use Rattle.gather_merge.specs.Sent.{row_of};
 
+use crate::MergeAnswer;
 use mq_handle::{ReceiveDone, Receiver};
 use parallel_ctx::LeaderEnds;
 use partial_agg::BlockAnswer;
@@ -14,9 +15,9 @@ use region_words::Region;
 use std::sync::Wait;
 use worker_run::{News, hear_last, hear_notices};
 
-/// What came of asking a source for its next row.
+/// What came of asking a worker for its next row.
 #[derive(Clone, Copy)]
-pub(crate) enum Next {
+enum Next {
     /// This row.
     Row(u64),
     /// There are no more.
@@ -108,45 +109,56 @@ pub(crate) fn hear_early<R: Wait>(
     None
 }
 
-/// The leader's own rows, in order, of which this many were given, from the first on.
-#[derive(Drop)]
-pub(crate) struct OwnRows {
-    pub(crate) list: Vec<u64>,
-    pub(crate) given: usize,
-}
-
-impl OwnRows {
-    /// Gives the next row.
-    fn next(&mut self) -> Next
-        ensures { GivesOwn self.old self.new result }
-    {
-        if self.given >= self.list.len() {
-            return Next::Over;
-        }
-        let row = self.list[self.given];
-        self.given += 1;
-        Next::Row(row)
-    }
-}
-
-/// Takes the next row of a source, and waits for it where it is a worker's.
-pub(crate) fn next_of<R: Wait>(
+/// Puts the rows of a worker behind the list, up to its last, and waits for them. It says why there is no order, if it
+/// learns that.
+fn hear_rows<R: Wait>(
     rt: &R,
     r: &Region,
-    from: usize,
-    own: &mut OwnRows,
-    queues: &mut [LeaderEnds],
-) -> Next
-    requires from { from ≤ length queues.old }
-    requires open { AreOpen r.now queues.old }
-    ensures list { own.new.list ≡ own.old.list }
-    ensures same { AllZip SameQueues queues.old queues.new }
-    ensures open { AreOpen r.now queues.new }
-    ensures heard { HearsFrom from own.old own.new queues.old queues.new result }
+    queue: &mut LeaderEnds,
+    list: &mut Vec<u64>,
+) -> Option<MergeAnswer>
+    requires open { IsOpen r.now queue.old }
+    requires unheard { HasGivenNoRow queue.old }
+    ensures same { SameQueues queue.old queue.new }
+    ensures open { IsOpen r.now queue.new }
+    ensures heard { HearsRows list.old.items list.new.items queue.new result }
 {
-    if from == 0 {
-        own.next()
-    } else {
-        hear(rt, r, &mut queues[from - 1])
+    for _ in rt.forever() {
+        match hear(rt, r, queue) {
+            Next::Row(row) => {
+                if list.push(row).is_err() {
+                    return Some(MergeAnswer::Memory);
+                }
+            }
+            Next::Over => return None,
+            Next::Names {
+                row,
+                cause,
+                item: _,
+            } => return Some(MergeAnswer::Row { row, cause }),
+            Next::Lost => return Some(MergeAnswer::Memory),
+        }
     }
+    unreachable!()
+}
+
+/// Puts the rows of all workers behind the list, one worker after the other.
+pub(crate) fn hear_all<R: Wait>(
+    rt: &R,
+    r: &Region,
+    queues: &mut [LeaderEnds],
+    list: &mut Vec<u64>,
+) -> Option<MergeAnswer>
+    requires open { AreOpen r.now queues.old }
+    requires unheard { All HasGivenNoRow queues.old }
+    ensures same { AllZip SameQueues queues.old queues.new }
+    ensures heard { HearsAll list.old.items list.new.items queues.new result }
+{
+    for worker in 0..queues.len() {
+        let failure = hear_rows(rt, r, &mut queues[worker], list);
+        if failure.is_some() {
+            return failure;
+        }
+    }
+    None
 }

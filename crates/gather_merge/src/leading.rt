@@ -1,24 +1,21 @@
-//! The leader of a merge: it draws blocks as the workers do, and then merges their streams with its own. It takes the
-//! least of all heads, puts it behind the order, and gets the next row of the stream that it came from. A stream of
-//! which no head is there has no more rows, so the least head is the least of all rows that are left.
+//! The leader of a merge: it draws blocks as the workers do and sorts their rows, takes the workers' rows, and merges all
+//! of these lists, each of which is in order.
 
-ghost use Rattle.std.specs.Prelude.{◌≡◌, ◌≤◌, [], suc, All, IfNone, length, map};
+ghost use Rattle.std.specs.Prelude.{◌≡◌, [], suc, All, length, map};
 ghost use Rattle.std.specs.List.{AllZip};
 ghost use Rattle.scan_claim.specs.Shown.{Belongs, blocks_of, callers_of, draws_of, number_of};
 ghost use Rattle.parallel_ctx.specs.Accounts.{heard};
 ghost use Rattle.parallel_ctx.specs.Tokens.{SameQueues};
 ghost use Rattle.worker_run.specs.Job.{IsJob};
-ghost use Rattle.gather_merge.specs.Heads.{AreFalling};
-ghost use Rattle.gather_merge.specs.Hearing.{AreOpen, HasGivenNoRow, HaveGivenNone, sources_of};
-ghost use Rattle.gather_merge.specs.Leading.{Drains, Fills, IsFilled, Led, Refills};
+ghost use Rattle.gather_merge.specs.Hearing.{AreOpen, HasGivenNoRow};
+ghost use Rattle.gather_merge.specs.Leading.{Led, Merges};
 ghost use Rattle.gather_merge.specs.Order.{columns_at};
 ghost use Rattle.gather_merge.specs.RowWords.{AreWords};
 
 use crate::MergeAnswer;
 use crate::drawing::draw_all;
-use crate::heads::{Head, put_head};
-use crate::hearing::{Next, OwnRows, next_of};
-use crate::sorting::sort_rows;
+use crate::hearing::hear_all;
+use crate::sorting::{merge_rows, sort_rows};
 use crate::verdicts::answer_of;
 use csv_rows::RowStore;
 use par_model::BoundPlan;
@@ -29,107 +26,8 @@ use std::alloc::Global;
 use std::sync::Wait;
 use worker_run::{Gate, Job};
 
-/// Gets the next row of a stream, and makes it the stream's head. It says why there is no order, if it learns that.
-fn refill<R: Wait>(
-    rt: &R,
-    r: &Region,
-    plan: &BoundPlan,
-    rows: &RowStore,
-    words: &[u64],
-    from: usize,
-    own: &mut OwnRows,
-    queues: &mut [LeaderEnds],
-    heads: &mut Vec<Head>,
-) -> Option<MergeAnswer>
-    requires words { AreWords (columns_at plan.now rows.now) words.now }
-    requires from { from ≤ length queues.old }
-    requires open { AreOpen r.now queues.old }
-    requires falling { AreFalling plan.now rows.now heads.old.items }
-    ensures list { own.new.list ≡ own.old.list }
-    ensures same { AllZip SameQueues queues.old queues.new }
-    ensures open { AreOpen r.now queues.new }
-    ensures falling { IfNone result (AreFalling plan.now rows.now heads.new.items) }
-    ensures refilled { Refills plan.now rows.now from (sources_of own.old queues.old) (sources_of own.new queues.new) heads.old.items heads.new.items queues.new result }
-{
-    match next_of(rt, r, from, own, queues) {
-        Next::Over => None,
-        Next::Names {
-            row,
-            cause,
-            item: _,
-        } => Some(MergeAnswer::Row { row, cause }),
-        Next::Lost => Some(MergeAnswer::Memory),
-        Next::Row(row) => match put_head(rows, plan, words, heads, Head { row, from }) {
-            Ok(()) => None,
-            Err(_) => Some(MergeAnswer::Memory),
-        },
-    }
-}
-
-/// Gets the first head of each stream.
-fn fill<R: Wait>(
-    rt: &R,
-    r: &Region,
-    plan: &BoundPlan,
-    rows: &RowStore,
-    words: &[u64],
-    own: &mut OwnRows,
-    queues: &mut [LeaderEnds],
-    heads: &mut Vec<Head>,
-) -> Option<MergeAnswer>
-    requires words { AreWords (columns_at plan.now rows.now) words.now }
-    requires open { AreOpen r.now queues.old }
-    requires fresh { HaveGivenNone (sources_of own.old queues.old) }
-    requires empty { heads.old.items ≡ [] }
-    ensures list { own.new.list ≡ own.old.list }
-    ensures same { AllZip SameQueues queues.old queues.new }
-    ensures open { AreOpen r.now queues.new }
-    ensures filled { Fills plan.now rows.now (sources_of own.new queues.new) heads.new.items queues.new result }
-{
-    for from in 0..queues.len() + 1 {
-        let failure = refill(rt, r, plan, rows, words, from, own, queues, heads);
-        if failure.is_some() {
-            return failure;
-        }
-    }
-    None
-}
-
-/// Puts the rows of all streams behind the order, the least first.
-fn drain<R: Wait>(
-    rt: &R,
-    r: &Region,
-    plan: &BoundPlan,
-    rows: &RowStore,
-    words: &[u64],
-    own: &mut OwnRows,
-    queues: &mut [LeaderEnds],
-    heads: &mut Vec<Head>,
-    order: &mut Vec<u64>,
-) -> Option<MergeAnswer>
-    requires words { AreWords (columns_at plan.now rows.now) words.now }
-    requires open { AreOpen r.now queues.old }
-    requires filled { IsFilled plan.now rows.now (sources_of own.old queues.old) order.old.items heads.old.items }
-    ensures list { own.new.list ≡ own.old.list }
-    ensures same { AllZip SameQueues queues.old queues.new }
-    ensures drained { Drains plan.now rows.now (sources_of own.new queues.new) order.new.items queues.new result }
-{
-    for _ in rt.forever() {
-        let Some(least) = heads.pop() else {
-            return None;
-        };
-        if order.push(least.row).is_err() {
-            return Some(MergeAnswer::Memory);
-        }
-        let failure = refill(rt, r, plan, rows, words, least.from, own, queues, heads);
-        if failure.is_some() {
-            return failure;
-        }
-    }
-    unreachable!()
-}
-
-/// Merges the leader's own rows, which are in order, with the workers' streams.
+/// Puts the workers' rows behind the leader's own, which are in order, and merges them. It says why there is no order, if
+/// there is none.
 fn merge_all<R: Wait>(
     rt: &R,
     alloc: Global,
@@ -137,24 +35,23 @@ fn merge_all<R: Wait>(
     plan: &BoundPlan,
     rows: &RowStore,
     words: &[u64],
-    own: &mut OwnRows,
     queues: &mut [LeaderEnds],
-    order: &mut Vec<u64>,
+    list: &mut Vec<u64>,
 ) -> Option<MergeAnswer>
     requires words { AreWords (columns_at plan.now rows.now) words.now }
     requires open { AreOpen r.now queues.old }
-    requires fresh { HaveGivenNone (sources_of own.old queues.old) }
-    requires empty { order.old.items ≡ [] }
-    ensures list { own.new.list ≡ own.old.list }
+    requires unheard { All HasGivenNoRow queues.old }
     ensures same { AllZip SameQueues queues.old queues.new }
-    ensures drained { Drains plan.now rows.now (sources_of own.new queues.new) order.new.items queues.new result }
+    ensures merged { Merges plan.now rows.now list.old.items list.new.items queues.new result }
 {
-    let mut heads = Vec::new(alloc);
-    let failure = fill(rt, r, plan, rows, words, own, queues, &mut heads);
+    let failure = hear_all(rt, r, queues, list);
     if failure.is_some() {
         return failure;
     }
-    drain(rt, r, plan, rows, words, own, queues, &mut heads, order)
+    match merge_rows(alloc, rows, plan, words, list) {
+        Ok(()) => None,
+        Err(_) => Some(MergeAnswer::Memory),
+    }
 }
 
 /// Draws blocks until there are no more, and merges. Where there is no order it says why, at once.
@@ -173,7 +70,6 @@ pub(crate) fn lead_all<G: Gate, R: Wait>(
     requires callers { callers_of job.now.claims.now ≡ suc (length queues.old) }
     requires open { AreOpen job.now.region.now queues.old }
     requires unheard { All HasGivenNoRow queues.old }
-    requires empty { order.old.items ≡ [] }
     ensures seat { Belongs job.now.claims.now claim.new × (number_of claim.new ≡ number_of claim.old) }
     ensures same { AllZip SameQueues queues.old queues.new }
     ensures led { Led job.now.plan.now job.now.rows.now (blocks_of job.now.claims.now) (draws_of claim.new) (map heard queues.new) order.new.items result }
@@ -189,8 +85,9 @@ pub(crate) fn lead_all<G: Gate, R: Wait>(
         *order = list;
         return None;
     }
-    let mut own = OwnRows { list, given: 0 };
-    merge_all(
-        rt, alloc, job.region, job.plan, job.rows, words, &mut own, queues, order,
-    )
+    let failure = merge_all(
+        rt, alloc, job.region, job.plan, job.rows, words, queues, &mut list,
+    );
+    *order = list;
+    failure
 }

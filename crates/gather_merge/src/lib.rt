@@ -30,7 +30,6 @@ use worker_run::{Gate, WorkerEnd};
 
 mod comparing;
 mod drawing;
-mod heads;
 mod hearing;
 mod laws;
 mod leading;
@@ -69,11 +68,11 @@ pub struct Merged {
 /// before a worker's want of memory; on either, and on want of memory of its own, the leader leaves its queues at once,
 /// which stops the workers. Fewer workers than asked for may start, also none.
 ///
-/// The blocks of 256 rows and their sorting are shared out. Each row of a worker is one message; taking the messages off
-/// and merging them is the leader's work, with at most 7 comparisons for each row, most of which are of words. A row is
-/// looked up once for each seven bytes of its columns by which it has to be told apart from others. Memory is 82 KB for
-/// each worker, 8 bytes a row for the words, 8 for the participants' lists, 16 more while these are sorted, and 8 for the
-/// order.
+/// The blocks of 256 rows and their sorting are shared out. Each row of a worker is one message. The leader takes the
+/// messages off, worker by worker, puts these streams behind its own rows, and merges all by a sort that keeps long runs:
+/// where the first words tell most rows apart that is a few comparisons of words for each row. A row is looked up once for
+/// each seven bytes of its columns by which it has to be told apart from others. Memory is 82 KB for each worker, 8 bytes a
+/// row for the words, 8 for the participants' lists, 8 for the order, and 32 more while all is merged.
 pub fn merge<G: Gate + Sync, R: Threads + Wait + Sync>(
     rt: &R,
     alloc: Global,
@@ -94,7 +93,7 @@ pub fn merge<G: Gate + Sync, R: Threads + Wait + Sync>(
     let Ok(context) = Context::build(rt, alloc, plan, workers, 0, count_blocks(rows)) else {
         return Err(MergeAnswer::Memory);
     };
-    let Ok(all_words) = first_words(alloc, rows, plan) else {
+    let Ok(all_words) = first_words(rt, alloc, rows, plan, workers as usize + 1) else {
         return Err(MergeAnswer::Memory);
     };
     let words = all_words.as_slice();

@@ -33,6 +33,13 @@ impl Order {
         self.list.len()
     }
 
+    /// The numbers as a list, which is lent.
+    pub fn numbers(&self) -> &[u64]
+        ensures { result.now ≡ self.now }
+    {
+        self.list.as_slice()
+    }
+
     /// The number of the row at this place.
     pub fn get(&self, at: usize) -> u64
         requires { at < length self.now }

@@ -14,9 +14,13 @@ use worker_run::{Gate, Job, WorkerEnd};
 
 /// The workers of a merge: each takes its list to memory of `alloc` and passes the gate.
 pub(crate) struct Team<'a, G: Gate + Sync> {
+    /// Where the lists come from.
     pub(crate) alloc: Global,
+    /// The table.
     pub(crate) rows: &'a RowStore,
+    /// The word of each record's first column, by its number.
     pub(crate) words: &'a [u64],
+    /// What each participant passes before each of its blocks.
     pub(crate) gate: &'a G,
 }
 
@@ -74,13 +78,19 @@ impl<'a, G: Gate + Sync> Worker for Team<'a, G> {
     }
 }
 
-/// The leader of a merge, with the order as far as it has come. `failure` says why there is none.
+/// The leader of a merge, and what came of it.
 pub(crate) struct Leader<'a, G: Gate> {
+    /// Where the lists come from.
     pub(crate) alloc: Global,
+    /// The table.
     pub(crate) rows: &'a RowStore,
+    /// The word of each record's first column, by its number.
     pub(crate) words: &'a [u64],
+    /// What it passes before each of its blocks.
     pub(crate) gate: &'a G,
+    /// The numbers of all rows in order, where there is no failure.
     pub(crate) order: Vec<u64>,
+    /// Why there is no order.
     pub(crate) failure: Option<MergeAnswer>,
 }
 
@@ -99,7 +109,6 @@ impl<'a, G: Gate> Drop for Leader<'a, G> {
 }
 
 impl<'a, G: Gate> Lead for Leader<'a, G> {
-    ghost use Rattle.std.specs.Prelude.{◌≡◌, []};
     ghost use Rattle.par_model.specs.Columns.{HasColumns};
     ghost use Rattle.partial_agg.specs.Rows.{header_width};
     ghost use Rattle.row_blocks.specs.Blocks.{AreBlocks};
@@ -107,7 +116,7 @@ impl<'a, G: Gate> Lead for Leader<'a, G> {
     ghost use Rattle.gather_merge.specs.Order.{columns_at};
     ghost use Rattle.gather_merge.specs.RowWords.{AreWords};
 
-    ghost asks = { λ leader plan blocks. HasColumns plan (header_width leader.rows.now) × AreBlocks leader.rows.now blocks × AreWords (columns_at plan leader.rows.now) leader.words.now × (leader.order.items ≡ []) };
+    ghost asks = { λ leader plan blocks. HasColumns plan (header_width leader.rows.now) × AreBlocks leader.rows.now blocks × AreWords (columns_at plan leader.rows.now) leader.words.now };
 
     ghost led = { λ leader plan blocks draws used heard new. Led plan leader.rows.now blocks draws heard new.order.items new.failure };
 

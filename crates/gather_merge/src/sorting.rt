@@ -151,6 +151,34 @@ fn with_words(
     Ok(run)
 }
 
+/// Puts the rows of pairs in place of a list.
+fn put_rows(run: &[Keyed], list: &mut Vec<u64>) -> Result<(), AllocError>
+    ensures { OnOk result (list.new.items ≡ rows_of run.now) }
+{
+    list.clear();
+    for keyed in run {
+        list.push(keyed.row)?;
+    }
+    Ok(())
+}
+
+/// Sorts rows beside their words of the first column, and puts them in place of a list.
+fn sort_pairs(
+    rows: &RowStore,
+    plan: &BoundPlan,
+    words: &[u64],
+    mut run: Vec<Keyed>,
+    list: &mut Vec<u64>,
+) -> Result<(), AllocError>
+    requires words { AreWords (columns_at plan.now rows.now) words.now }
+    requires worded { All (IsWorded (columns_at plan.now rows.now) 0 0) run.items }
+    ensures permutation { OnOk result (IsPermutation (rows_of run.items) list.new.items) }
+    ensures sorted { OnOk result (IsSorted (row_cmp plan.now rows.now) list.new.items) }
+{
+    sort_level(rows, plan, words, &mut run, 0, 0, LEVELS);
+    put_rows(&run, list)
+}
+
 /// Puts numbers in the order of their rows. Takes 16 bytes for each while it runs.
 pub(crate) fn sort_rows(
     alloc: Global,
@@ -163,11 +191,40 @@ pub(crate) fn sort_rows(
     ensures permutation { OnOk result (IsPermutation list.old.items list.new.items) }
     ensures sorted { OnOk result (IsSorted (row_cmp plan.now rows.now) list.new.items) }
 {
+    let run = with_words(alloc, rows, plan, words, list)?;
+    sort_pairs(rows, plan, words, run, list)
+}
+
+/// Rows beside their words of the first column, in order of the pairs. A stable sort keeps long runs of its input and
+/// merges them.
+fn merge_runs(
+    alloc: Global,
+    rows: &RowStore,
+    plan: &BoundPlan,
+    words: &[u64],
+    list: &[u64],
+) -> Result<Vec<Keyed>, AllocError>
+    requires words { AreWords (columns_at plan.now rows.now) words.now }
+    ensures rows { IfOk result (λ run. IsPermutation list.now (rows_of run.items)) }
+    ensures worded { IfOk result (λ run. All (IsWorded (columns_at plan.now rows.now) 0 0) run.items) }
+{
     let mut run = with_words(alloc, rows, plan, words, list)?;
-    sort_level(rows, plan, words, &mut run, 0, 0, LEVELS);
-    list.clear();
-    for keyed in &run {
-        list.push(keyed.row)?;
-    }
-    Ok(())
+    run.sort()?;
+    Ok(run)
+}
+
+/// The same of lists that stand one behind the other, each in order. Takes 32 bytes for each number while it runs.
+pub(crate) fn merge_rows(
+    alloc: Global,
+    rows: &RowStore,
+    plan: &BoundPlan,
+    words: &[u64],
+    list: &mut Vec<u64>,
+) -> Result<(), AllocError>
+    requires words { AreWords (columns_at plan.now rows.now) words.now }
+    ensures permutation { OnOk result (IsPermutation list.old.items list.new.items) }
+    ensures sorted { OnOk result (IsSorted (row_cmp plan.now rows.now) list.new.items) }
+{
+    let run = merge_runs(alloc, rows, plan, words, list)?;
+    sort_pairs(rows, plan, words, run, list)
 }

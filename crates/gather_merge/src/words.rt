@@ -5,12 +5,13 @@
 
 ghost use Rattle.std.specs.Prelude.{◌≡◌, ◌<◌, ◌%◌, IfOk, get_or, nat_lt};
 ghost use Rattle.gather_merge.specs.Order.{columns_at};
-ghost use Rattle.gather_merge.specs.RowWords.{AreBytes, AreWords, text_at, word};
+ghost use Rattle.gather_merge.specs.RowWords.{AreBytes, AreLoaded, AreWords, HasWord, text_at, word};
 
 use crate::comparing::{field_or_none, find_row};
 use csv_rows::RowStore;
 use par_model::BoundPlan;
 use std::alloc::{AllocError, Global};
+use std::thread::{Threads, for_each_mut};
 
 /// A byte of a text; zero behind its end.
 fn byte_at(text: &[u8], at: usize) -> u64
@@ -60,18 +61,46 @@ pub(crate) fn text_from<'a>(
     }
 }
 
-/// The word of each record's first column. In time linear in the records, and with 8 bytes for each.
-pub(crate) fn first_words(
+/// Sets the word of a record's first column.
+fn load_word(rows: &RowStore, plan: &BoundPlan, row: u64, place: &mut u64)
+    ensures { HasWord (columns_at plan.now rows.now) row place.new }
+{
+    *place = word_of(text_from(rows, plan, row, 0, 0));
+}
+
+/// Sets the word of each record's first column at the record's number, in at most this many threads.
+fn load_all<R: Threads + Sync>(
+    rt: &R,
+    rows: &RowStore,
+    plan: &BoundPlan,
+    threads: usize,
+    words: &mut Vec<u64>,
+)
+    requires threads { 0 < threads }
+    ensures { AreLoaded (columns_at plan.now rows.now) words.old.items words.new.items }
+{
+    for_each_mut(
+        rt,
+        words.as_mut_slice(),
+        threads,
+        &|row, place| { load_word(rows, plan, row as u64, place) },
+    );
+}
+
+/// The word of each record's first column, made by at most this many threads. In time linear in the records, and with 8
+/// bytes for each.
+pub(crate) fn first_words<R: Threads + Sync>(
+    rt: &R,
     alloc: Global,
     rows: &RowStore,
     plan: &BoundPlan,
+    threads: usize,
 ) -> Result<Vec<u64>, AllocError>
+    requires threads { 0 < threads }
     ensures { IfOk result (λ words. AreWords (columns_at plan.now rows.now) words.items) }
 {
-    let mut words = Vec::new(alloc);
-    for row in 0..rows.count() + 1 {
-        words.push(word_of(text_from(rows, plan, row, 0, 0)))?;
-    }
+    let mut words = vec![in alloc; 0u64; rows.count() as usize + 1]?;
+    load_all(rt, rows, plan, threads, &mut words);
     Ok(words)
 }
 

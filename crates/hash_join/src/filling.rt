@@ -1,5 +1,8 @@
 //! What each participant of the first round does: it draws blocks of the left table and puts their rows into the shared
 //! table, each under its key.
+//!
+//! One that lacks memory sets a flag, by which the others stop at their next block. No contract sees a plain atomic, and
+//! none needs to: whoever is told to stop lacks memory too, as far as anybody is told.
 
 ghost use Rattle.std.specs.Prelude.{◌≡◌, ◌<◌, ◌+◌, ◌*◌, ◌++◌, ◌∷◌, ℕ, [], List, OnOk, false, length};
 ghost use Rattle.scan_claim.specs.Shown.{Belongs, blocks_of, draws_of};
@@ -17,18 +20,22 @@ use row_blocks::BLOCK_ROWS;
 use scan_claim::{ClaimSeat, Claims};
 use std::alloc::{AllocError, Global};
 use std::sync::Wait;
+use std::sync::atomic::{AtomicBool, Ordering};
 
 /// A participant's tokens, and what came of the rows of its blocks.
 #[derive(Drop)]
 pub(crate) struct Filler {
+    /// Its pass of the area that the items come from.
     pub(crate) area: AreaPass,
+    /// Its pass of the table.
     pub(crate) table: DsPass<LastRow>,
+    /// Its seat at the counter of blocks.
     pub(crate) claim: ClaimSeat,
     /// The rows that the table took, in order, each with the row before.
     pub(crate) links: Vec<Link>,
     /// The rows for which the table found no space.
     pub(crate) spilled: Vec<u64>,
-    /// There was no memory for a row.
+    /// There was no memory for a row, of its own or of another participant that stopped before.
     pub(crate) lacks_memory: bool,
 }
 
@@ -110,13 +117,14 @@ fn put_block<R: Wait>(
     Ok(())
 }
 
-/// Draws blocks until there are no more, and puts their rows into the table.
+/// Draws blocks until there are no more or another participant has stopped, and puts their rows into the table.
 fn put_blocks<R: Wait>(
     rt: &R,
     store: &Store,
     rows: &RowStore,
     column: u32,
     claims: &Claims,
+    stop: &AtomicBool,
     filler: &mut Filler,
 ) -> Result<(), AllocError>
     requires store { IsStore store.now }
@@ -132,6 +140,9 @@ fn put_blocks<R: Wait>(
     ensures filled { OnOk result (HasFilled rows.now column claims.now filler.new) }
 {
     for _ in rt.forever() {
+        if stop.load(Ordering::SeqCst) {
+            return Err(AllocError);
+        }
         let Some(block) = filler.claim.claim(claims) else {
             return Ok(());
         };
@@ -151,6 +162,7 @@ pub(crate) fn fill<R: Wait>(
     rows: &RowStore,
     column: u32,
     claims: &Claims,
+    stop: &AtomicBool,
     filler: &mut Filler,
 )
     requires store { IsStore store.now }
@@ -165,5 +177,8 @@ pub(crate) fn fill<R: Wait>(
     ensures same { IsSame filler.old filler.new }
     ensures filled { filler.new.lacks_memory ≡ false → HasFilled rows.now column claims.now filler.new }
 {
-    filler.lacks_memory = put_blocks(rt, store, rows, column, claims, filler).is_err();
+    filler.lacks_memory = put_blocks(rt, store, rows, column, claims, stop, filler).is_err();
+    if filler.lacks_memory {
+        stop.store(true, Ordering::SeqCst);
+    }
 }

@@ -28,14 +28,19 @@ use row_blocks::count_blocks;
 use scan_claim::{ClaimSeat, Claims, Drawn};
 use std::alloc::{AllocError, Global};
 use std::sync::Wait;
+use std::sync::atomic::AtomicBool;
 use std::thread::{Threads, for_each_mut};
 
 /// What the first round comes to.
 #[derive(Drop)]
 pub(crate) struct Gathered {
+    /// The chains of all left rows.
     pub(crate) chains: Chains,
+    /// Which participant drew which blocks.
     pub(crate) drawn: Drawn,
+    /// The table, which is closed.
     pub(crate) table: ClosedTable<LastRow>,
+    /// The participants' passes of the area, in order of their numbers.
     pub(crate) areas: Vec<AreaPass>,
 }
 
@@ -50,10 +55,15 @@ struct Round {
 /// What the participants brought home, in order of their numbers.
 #[derive(Drop)]
 pub(crate) struct Home {
+    /// Their passes of the area.
     pub(crate) areas: Vec<AreaPass>,
+    /// Their passes of the table.
     pub(crate) tables: Vec<DsPass<LastRow>>,
+    /// Their seats at the counter of blocks.
     pub(crate) claims: Vec<ClaimSeat>,
+    /// The rows that the table took of each, with the row before.
     pub(crate) links: Vec<Vec<Link>>,
+    /// The rows of each for which the table found no space.
     pub(crate) spilled: Vec<Vec<u64>>,
 }
 
@@ -137,11 +147,12 @@ fn fill_all<R: Threads + Wait + Sync>(
     ensures filled { AreFilled rows.now column store.now claims.now fillers.old.items fillers.new.items }
 {
     let threads = fillers.len().max(1);
+    let stop = AtomicBool::new(false);
     for_each_mut(
         rt,
         fillers.as_mut_slice(),
         threads,
-        &|_, filler| { fill(rt, store, rows, column, claims, filler) },
+        &|_, filler| { fill(rt, store, rows, column, claims, &stop, filler) },
     );
 }
 

@@ -24,15 +24,20 @@ pub(crate) const KEY_WORDS: u32 = 32;
 /// A table, with the area of its items. Threads share it by reference.
 #[derive(Drop)]
 pub(crate) struct Store {
+    /// The words of the area.
     pub(crate) region: Region,
+    /// Where the table's items come from.
     pub(crate) area: Area,
+    /// The last row of each key.
     pub(crate) table: Dshash<LastRow>,
 }
 
 /// The passes of all callers, in order of their numbers.
 #[derive(Drop)]
 pub(crate) struct Passes {
+    /// Those of the area.
     pub(crate) areas: Vec<AreaPass>,
+    /// Those of the table.
     pub(crate) tables: Vec<DsPass<LastRow>>,
 }
 

@@ -3,7 +3,7 @@
 //! A handle is 16 bytes of C's, all zero before its first call, which belong to one call at a time. Each call here tries
 //! once, looks itself whether it may be made, and answers a code (`c_queue`'s `Code`, by its number); so none asks
 //! anything of C but what C's types say: that a pointer is good, and that the bytes of a handle are those that the last
-//! call left. The waiting calls are loops in C over these, in `bindings/lk_queue/include/lembokuj_try.h`, which also
+//! call left. The waiting calls are loops in C over these, in `bindings/proved/include/lembokuj_try.h`, which also
 //! tests pointers before it follows them.
 //!
 //! A contract speaks of the side that a handle owns: the messages that it has sent or received, and what a call adds to

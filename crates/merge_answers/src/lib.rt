@@ -1,8 +1,9 @@
 //! Rows in order, from the words `merge COLUMNS N` to what is written: with workers that sort their rows beside the
 //! caller's thread.
 //!
-//! What comes before the rows is the crate `table_query`'s. Here they are put in order, and go out one by one: only all
-//! rows, or where a write failed a prefix of them, go to `out`.
+//! What comes before the rows is the crate `table_query`'s. Here they are put in order, and go out one behind the other:
+//! only all rows, or where a write failed a prefix of them, go to `out`. Without workers they are written one by one; with
+//! workers, all threads make their text.
 
 #![tactic(auto)]
 
@@ -17,7 +18,9 @@ ghost use Rattle.table_query.specs.declared.stop.Stop.TheVariants as stop;
 ghost use Rattle.merge_answers.specs.Ordered.{IsMergedBy, IsOrderText, merge_plan_of, merge_workers_of};
 
 mod names;
+mod ranges;
 mod rows;
+mod text;
 
 pub use gather_merge::Merged;
 use gather_merge::merge;
@@ -35,7 +38,7 @@ use worker_run::Gate;
 /// participant passes the gate before each of its blocks. `Err` says why there are none; its line is still to be written.
 ///
 /// Time is linear in the input, but for the order of the rows. Memory is the input, its records, 16 bytes a row, 82 KB for
-/// each worker, and 64 KiB of bytes that wait to be written.
+/// each worker, and 64 KiB of bytes that wait to be written; with workers, the text of 16,384 rows for each thread besides.
 pub fn answer_merge<R: Threads + Wait + Sync, S: Source, O: Sink, G: Gate + Sync>(
     rt: &R,
     alloc: Global,
@@ -76,6 +79,7 @@ pub fn answer_merge<R: Threads + Wait + Sync, S: Source, O: Sink, G: Gate + Sync
         Ok(merged) => merged,
         Err(answer) => return Err(stop_of_merge(alloc, &ready.plan, answer)),
     };
-    write_rows(alloc, &ready, &merged.order, out)?;
+    let threads = ready.plan.workers() as usize + 1;
+    write_rows(rt, alloc, &ready, &merged.order, threads, out)?;
     Ok(merged)
 }

@@ -1,28 +1,37 @@
-//! The writing of rows in order: the header and then the rows. They go out one by one, so nothing of the table is copied
-//! but what waits for the next write.
+//! The writing of rows in order: the header and then the rows. With one thread they go out one by one, so nothing of the
+//! table is copied but what waits for the next write. With more, the text of the next rows is made by all threads, each of
+//! a range of them, and then goes out, before that of the rows behind them is made.
 
-ghost use Rattle.std.specs.Prelude.{◌≡◌, ◌≢◌, ◌⊎◌, ◌<◌, [], ℕ, All, IfErr, OnOk, false, length, map, take};
+ghost use Rattle.std.specs.Prelude.{◌≡◌, ◌≢◌, ◌⊎◌, ◌<◌, ◌≤◌, [], ℕ, All, IfErr, OnOk, false, length, take};
 ghost use Rattle.std.specs.Io.KnownBytes.{Appends};
-ghost use Rattle.csv_rows.specs.Records.{record_at};
 ghost use Rattle.gather_merge.specs.Order.{IsOrder, ordered};
+ghost use Rattle.merge_answers.specs.Pieces.{AreKnown, rows_text};
 ghost use Rattle.par_io.specs.Faults.{Rose};
 ghost use Rattle.par_model.specs.Table.{table_text};
 ghost use Rattle.query_answer.specs.Held.{Puts};
 ghost use Rattle.table_query.specs.Ready.{IsBound};
 ghost use Rattle.table_query.specs.declared.stop.Stop.TheVariants as stop;
 
+use crate::ranges::put_in_threads;
 use csv_rows::RowStore;
 use gather_merge::Order;
 use par_io::Sink;
-use query_answer::{Held, put_record};
+use query_answer::{Held, begins_special, put_known, put_record};
 use std::alloc::Global;
+use std::thread::Threads;
 use table_query::{Ready, Stop};
 
-/// Writes the header and the rows in this order.
-pub(crate) fn write_rows<O: Sink>(
+/// How many rows are looked up before they are put.
+const AHEAD: usize = 16;
+
+/// Writes the header and the rows in this order, with a text that is made by at most this many threads, the caller's
+/// among them.
+pub(crate) fn write_rows<R: Threads + Sync, O: Sink>(
+    rt: &R,
     alloc: Global,
     ready: &Ready,
     order: &Order,
+    threads: usize,
     out: &mut O,
 ) -> Result<(), Stop>
     requires bound { IsBound ready.now }
@@ -34,7 +43,15 @@ pub(crate) fn write_rows<O: Sink>(
     ensures why { IfErr result (λ why. (why ≡ stop.WriteFault) ⊎ (why ≡ stop.Memory)) }
 {
     let mut held = Held::new(alloc)?;
-    put_all(&mut held, out, &ready.rows, order);
+    put_all(
+        rt,
+        alloc,
+        &mut held,
+        out,
+        &ready.rows,
+        order.numbers(),
+        threads,
+    );
     if held.is_broken() {
         return Err(Stop::WriteFault);
     }
@@ -42,26 +59,63 @@ pub(crate) fn write_rows<O: Sink>(
 }
 
 /// The header and the rows, and then what waits.
-fn put_all<O: Sink>(held: &mut Held, out: &mut O, rows: &RowStore, order: &Order)
+fn put_all<R: Threads + Sync, O: Sink>(
+    rt: &R,
+    alloc: Global,
+    held: &mut Held,
+    out: &mut O,
+    rows: &RowStore,
+    numbers: &[u64],
+    threads: usize,
+)
     requires header { 0 < length rows.now }
-    requires rows { All (λ row. row < length rows.now) order.now }
-    ensures puts { Puts O.taken O.faults out.old out.new held.old held.new (table_text (ordered rows.now order.now)) }
+    requires rows { All (λ row. row < length rows.now) numbers.now }
+    ensures puts { Puts O.taken O.faults out.old out.new held.old held.new (table_text (ordered rows.now numbers.now)) }
     ensures none { held.new.is_broken ≡ false → held.new.bytes ≡ [] }
 {
     put_record(held, out, &rows.find(0));
-    put_each(held, out, rows, order);
+    put_in_threads(rt, alloc, held, out, rows, numbers, threads);
     held.pass_on(out);
 }
 
-/// The rows, up to a write that fails.
-fn put_each<O: Sink>(held: &mut Held, out: &mut O, rows: &RowStore, order: &Order)
-    requires { All (λ row. row < length rows.now) order.now }
-    ensures { Puts O.taken O.faults out.old out.new held.old held.new (table_text (map (record_at rows.now) order.now)) }
+/// The rows, up to a write that fails. Rows in order lie all over the memory, so several at a time are looked up before the
+/// first of them is put.
+pub(crate) fn put_rows<O: Sink>(held: &mut Held, out: &mut O, rows: &RowStore, numbers: &[u64])
+    requires { All (λ row. row < length rows.now) numbers.now }
+    ensures { Puts O.taken O.faults out.old out.new held.old held.new (rows_text rows.now numbers.now) }
 {
-    for at in 0..order.len() {
+    let mut at = 0;
+    'stretches: while at < numbers.len() {
         if held.is_broken() {
             return;
         }
-        put_record(held, out, &rows.find(order.get(at)));
+        let end = at + AHEAD.min(numbers.len() - at);
+        put_block(held, out, rows, &numbers[at..end]);
+        at = end;
     }
+}
+
+/// A few rows.
+fn put_block<O: Sink>(held: &mut Held, out: &mut O, rows: &RowStore, numbers: &[u64])
+    requires rows { All (λ row. row < length rows.now) numbers.now }
+    requires few { length numbers.now ≤ AHEAD }
+    ensures { Puts O.taken O.faults out.old out.new held.old held.new (rows_text rows.now numbers.now) }
+{
+    let begins = look_ahead(rows, numbers);
+    for at in 0..numbers.len() {
+        put_known(held, out, &rows.find(numbers[at]), begins[at]);
+    }
+}
+
+/// Whether each of a few rows begins with a byte that calls for quotes.
+fn look_ahead(rows: &RowStore, numbers: &[u64]) -> [bool; AHEAD]
+    requires rows { All (λ row. row < length rows.now) numbers.now }
+    requires few { length numbers.now ≤ AHEAD }
+    ensures { AreKnown rows.now numbers.now result (length numbers.now) }
+{
+    let mut begins = [false; AHEAD];
+    for place in 0..numbers.len() {
+        begins[place] = begins_special(&rows.find(numbers[place]));
+    }
+    begins
 }

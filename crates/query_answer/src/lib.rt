@@ -15,6 +15,6 @@ mod text;
 
 pub use held::Held;
 pub use line::write_pieces;
-pub use record::{put_fields, put_record};
+pub use record::{begins_special, put_fields, put_known, put_record};
 pub use status::{MISUSED, NO_MEMORY, READ_FAULT, REFUSED, TABLE, TOO_LARGE, WRITE_FAULT};
 pub use text::write_each;

@@ -1,8 +1,9 @@
 //! The writing of a record, in the bytes that the crate `csv` writes for it: field by field, from where they lie.
 
-ghost use Rattle.std.specs.Prelude.{◌≡◌, ◌++◌, ◌∷◌, [], if◌then◌else◌};
+ghost use Rattle.std.specs.Prelude.{◌≡◌, ◌++◌, ◌∷◌, [], if◌then◌else◌, true};
 ghost use Rattle.csv.specs.Writing.{default_writer, escaped, field_text, is_blank, needs_byte, needs_quotes, next_sep, row_body, row_text};
 ghost use Rattle.query_answer.specs.Held.{Puts};
+ghost use Rattle.query_answer.specs.Special.{BeginsSpecial};
 
 use crate::held::Held;
 use csv_rows::Record;
@@ -12,7 +13,23 @@ use par_io::Sink;
 pub fn put_record<O: Sink>(held: &mut Held, out: &mut O, row: &Record<'_>)
     ensures { Puts O.taken O.faults out.old out.new held.old held.new (row_text default_writer row.now) }
 {
-    put_fields(held, out, row);
+    put_known(held, out, row, false);
+}
+
+/// Whether a record begins with a byte that calls for quotes. It reads where the record lies, and its first byte: whoever
+/// asks this of several records before they are put waits for the memory of all of them at once.
+pub fn begins_special(row: &Record<'_>) -> bool
+    ensures { result ≡ true → BeginsSpecial row.now }
+{
+    row.width() > 0 && starts_special(row.field(0))
+}
+
+/// Puts a record that is known to begin with a byte that calls for quotes, or of which nothing is known.
+pub fn put_known<O: Sink>(held: &mut Held, out: &mut O, row: &Record<'_>, begins: bool)
+    requires known { begins ≡ true → BeginsSpecial row.now }
+    ensures { Puts O.taken O.faults out.old out.new held.old held.new (row_text default_writer row.now) }
+{
+    put_known_fields(held, out, row, begins);
     held.put(out, row_end(row));
 }
 
@@ -20,10 +37,25 @@ pub fn put_record<O: Sink>(held: &mut Held, out: &mut O, row: &Record<'_>)
 pub fn put_fields<O: Sink>(held: &mut Held, out: &mut O, row: &Record<'_>)
     ensures { Puts O.taken O.faults out.old out.new held.old held.new (row_body default_writer row.now) }
 {
+    put_known_fields(held, out, row, false);
+}
+
+/// The same, where it may be known that the record begins with a byte that calls for quotes.
+fn put_known_fields<O: Sink>(held: &mut Held, out: &mut O, row: &Record<'_>, begins: bool)
+    requires known { begins ≡ true → BeginsSpecial row.now }
+    ensures { Puts O.taken O.faults out.old out.new held.old held.new (row_body default_writer row.now) }
+{
     for at in 0..row.width() {
         held.put(out, separator(at));
-        put_field(held, out, row.field(at));
+        put_field(held, out, row.field(at), is_first(at, begins));
     }
+}
+
+/// What is known of the field at a place, where something is known of the first.
+fn is_first(at: u32, begins: bool) -> bool
+    ensures { result ≡ true → (at ≡ 0) × (begins ≡ true) }
+{
+    at == 0 && begins
 }
 
 /// What stands before the field at a place.
@@ -51,17 +83,33 @@ fn is_blank(row: &Record<'_>) -> bool
     width == 0 || row.field(0).is_empty()
 }
 
-/// Puts a field, in quotes where it needs them.
-fn put_field<O: Sink>(held: &mut Held, out: &mut O, field: &[u8])
+/// Puts a field, in quotes where it needs them, as may be known.
+fn put_field<O: Sink>(held: &mut Held, out: &mut O, field: &[u8], special: bool)
+    requires known { special ≡ true → needs_quotes default_writer field.now ≡ true }
     ensures { Puts O.taken O.faults out.old out.new held.old held.new (field_text default_writer field.now) }
 {
-    if has_special(field) {
+    if is_quoted(field, special) {
         held.put(out, b"\"");
         put_escaped(held, out, field);
         held.put(out, b"\"");
     } else {
         held.put(out, field);
     }
+}
+
+/// Whether a field calls for quotes, as may be known.
+fn is_quoted(field: &[u8], special: bool) -> bool
+    requires known { special ≡ true → needs_quotes default_writer field.now ≡ true }
+    ensures { result ≡ needs_quotes default_writer field.now }
+{
+    special || has_special(field)
+}
+
+/// Whether the first byte of a field calls for quotes.
+fn starts_special(field: &[u8]) -> bool
+    ensures { result ≡ true → needs_quotes default_writer field.now ≡ true }
+{
+    !field.is_empty() && is_special(field[0])
 }
 
 /// Whether a byte of the field calls for quotes.

@@ -12,7 +12,8 @@ use par_model::{
     AggState, BoundPlan, Filter, FilterOp, Item, ItemKind, NO_VALUES, Refusal, SlotState,
 };
 use partial_agg::{
-    BLOCK_ROWS, BlockAnswer, GroupKey, GroupMap, add_row, combine, empty, kept, key_of, refusal,
+    BLOCK_ROWS, BlockAnswer, Group, GroupKey, GroupMap, Groups, add_row, combine, empty, kept,
+    key_of, refusal,
 };
 use std::alloc::{AllocError, Global};
 use std::test::Fail;
@@ -40,17 +41,9 @@ pub(crate) fn all_groups(
 }
 
 /// By the first two columns: the count and the sum of the third, of the rows in which the fourth is not 9.
-fn query(rt: &HostRuntime, text: &[u8]) -> Result<(RowStore, BoundPlan), Fail>
-    ensures few { IfOk result (λ query. length query.0 ≤ MOST_RECORDS) }
-    ensures columns { IfOk result (λ query. HasColumns query.1 (header_width query.0)) }
+fn count_plan() -> BoundPlan
+    ensures { HasColumns result 4 }
 {
-    let store = match rows(rt.alloc(), text) {
-        Ok(store) => store,
-        Err(_) => return Err(Fail::new("no rows")),
-    };
-    if store.width(0) != 4 {
-        return Err(Fail::new("not four columns"));
-    }
     let count = Item {
         kind: ItemKind::Count,
         column: 2,
@@ -63,7 +56,7 @@ fn query(rt: &HostRuntime, text: &[u8]) -> Result<(RowStore, BoundPlan), Fail>
         kind: ItemKind::Rows,
         column: 0,
     };
-    let plan = BoundPlan {
+    BoundPlan {
         groups: [0, 1, 0, 0, 0, 0, 0, 0],
         group_count: 2,
         items: [count, sum, unused, unused, unused, unused, unused, unused],
@@ -74,22 +67,13 @@ fn query(rt: &HostRuntime, text: &[u8]) -> Result<(RowStore, BoundPlan), Fail>
             op: FilterOp::NotEqual,
             value: 9,
         }),
-    };
-    Ok((store, plan))
+    }
 }
 
 /// The same with the greatest in place of the count.
-fn other_query(rt: &HostRuntime, text: &[u8]) -> Result<(RowStore, BoundPlan), Fail>
-    ensures few { IfOk result (λ query. length query.0 ≤ MOST_RECORDS) }
-    ensures columns { IfOk result (λ query. HasColumns query.1 (header_width query.0)) }
+fn greatest_plan() -> BoundPlan
+    ensures { HasColumns result 4 }
 {
-    let store = match rows(rt.alloc(), text) {
-        Ok(store) => store,
-        Err(_) => return Err(Fail::new("no rows")),
-    };
-    if store.width(0) != 4 {
-        return Err(Fail::new("not four columns"));
-    }
     let greatest = Item {
         kind: ItemKind::Max,
         column: 2,
@@ -102,7 +86,7 @@ fn other_query(rt: &HostRuntime, text: &[u8]) -> Result<(RowStore, BoundPlan), F
         kind: ItemKind::Rows,
         column: 0,
     };
-    let plan = BoundPlan {
+    BoundPlan {
         groups: [0, 1, 0, 0, 0, 0, 0, 0],
         group_count: 2,
         items: [
@@ -115,8 +99,31 @@ fn other_query(rt: &HostRuntime, text: &[u8]) -> Result<(RowStore, BoundPlan), F
             op: FilterOp::NotEqual,
             value: 9,
         }),
+    }
+}
+
+/// The rows of a text with four columns, and a plan over them.
+fn query_by(rt: &HostRuntime, text: &[u8], plan: BoundPlan) -> Result<(RowStore, BoundPlan), Fail>
+    requires { HasColumns plan 4 }
+    ensures few { IfOk result (λ query. length query.0 ≤ MOST_RECORDS) }
+    ensures columns { IfOk result (λ query. HasColumns query.1 (header_width query.0)) }
+{
+    let store = match rows(rt.alloc(), text) {
+        Ok(store) => store,
+        Err(_) => return Err(Fail::new("no rows")),
     };
+    if store.width(0) != 4 {
+        return Err(Fail::new("not four columns"));
+    }
     Ok((store, plan))
+}
+
+/// The same by the plan with the count.
+fn query(rt: &HostRuntime, text: &[u8]) -> Result<(RowStore, BoundPlan), Fail>
+    ensures few { IfOk result (λ query. length query.0 ≤ MOST_RECORDS) }
+    ensures columns { IfOk result (λ query. HasColumns query.1 (header_width query.0)) }
+{
+    query_by(rt, text, count_plan())
 }
 
 /// A table of one row, which begins with this many letters.
@@ -153,107 +160,222 @@ fn add_by_hand(
 /// and for a null, one of them with fields that would be refused.
 const ROWS: &[u8] = b"a,b,v,w\nxy,z,2,0\nx,yz,1,1\nx,yz,one,9\nxy,z,,2\nxy,z,-5,3\nxy,z,7,\n";
 
+/// The groups of the rows of a text, block by block.
+fn groups_of_text(rt: &HostRuntime, text: &[u8]) -> Result<GroupMap, Fail> {
+    let (store, plan) = query(rt, text)?;
+    match all_groups(rt.alloc(), &store, &plan) {
+        Ok(groups) => Ok(groups),
+        Err(_) => Err(Fail::new("a row is refused")),
+    }
+}
+
+/// The groups of the rows of a text, by the calls for one row.
+fn groups_by_hand(rt: &HostRuntime, text: &[u8]) -> Result<GroupMap, Fail> {
+    let (store, plan) = query(rt, text)?;
+    let mut groups = GroupMap::new(rt.alloc());
+    for row in 1..=store.count() {
+        add_by_hand(&mut groups, &store, row, &plan)?;
+    }
+    Ok(groups)
+}
+
+/// Whether this is the group of a key, with this many rows and these two slots.
+fn is_group(group: &Group, key: &[u8], rows: u64, slots: [SlotState; 2]) -> bool {
+    group.key.bytes() == key
+        && group.state.rows == rows
+        && group.state.slots[0] == slots[0]
+        && group.state.slots[1] == slots[1]
+}
+
+/// Whether these are the groups of [`ROWS`].
+fn are_of_rows(list: &Groups) -> bool {
+    if list.len() != 2 {
+        return false;
+    }
+    let one = SlotState {
+        count: 1,
+        ..NO_VALUES
+    };
+    let two = SlotState {
+        count: 2,
+        ..NO_VALUES
+    };
+    let sums = SlotState {
+        count: 2,
+        sum: -3,
+        least: -5,
+        greatest: 2,
+    };
+    let ones = [one, one_value(1).slots[1]];
+    is_group(&list.get(0), b"\x01\0\0\0x\x02\0\0\0yz", 1, ones)
+        && is_group(&list.get(1), b"\x02\0\0\0xy\x01\0\0\0z", 3, [two, sums])
+}
+
 #[test]
 fn groups_of_a_block(rt: HostRuntime) -> Result<(), Fail> {
-    let (store, plan) = query(&rt, ROWS)?;
-    let Ok(groups) = all_groups(rt.alloc(), &store, &plan) else {
-        return Err(Fail::new("a row is refused"));
-    };
+    let groups = groups_of_text(&rt, ROWS)?;
     assert_eq!(rt; groups.len(), 2);
-    let list = groups.into_groups();
-    assert_eq!(rt; list.len(), 2);
-    let first = list.get(0);
-    assert!(rt; first.key.bytes() == b"\x01\0\0\0x\x02\0\0\0yz".as_slice());
-    assert_eq!(rt; first.state.rows, 1);
-    let second = list.get(1);
-    assert!(rt; second.key.bytes() == b"\x02\0\0\0xy\x01\0\0\0z".as_slice());
-    assert_eq!(rt; second.state.rows, 3);
-    assert_eq!(rt; second.state.slots[0].count, 2);
-    assert_eq!(rt; second.state.slots[1].sum, -3);
-    assert_eq!(rt; second.state.slots[1].least, -5);
-    assert_eq!(rt; second.state.slots[1].greatest, 2);
+    assert!(rt; are_of_rows(&groups.into_groups()));
     Ok(())
+}
+
+/// Whether two maps have the same groups, this many, one after the other.
+fn give_the_same(one: &mut GroupMap, other: &mut GroupMap, count: usize) -> bool {
+    if one.len() != count {
+        return false;
+    }
+    for _ in 0..count {
+        match (one.take_first(), other.take_first()) {
+            (Some((key, state)), Some((same_key, same_state))) => {
+                if key != same_key || state != same_state {
+                    return false;
+                }
+            }
+            _ => return false,
+        }
+    }
+    other.take_first().is_none()
 }
 
 /// The calls for one row come to the groups of the calls for a block.
 #[test]
 fn rows_by_hand(rt: HostRuntime) -> Result<(), Fail> {
-    let (store, plan) = query(&rt, ROWS)?;
-    let mut by_hand = GroupMap::new(rt.alloc());
-    for row in 1..=store.count() {
-        add_by_hand(&mut by_hand, &store, row, &plan)?;
-    }
-    let Ok(mut by_block) = all_groups(rt.alloc(), &store, &plan) else {
-        return Err(Fail::new("a row is refused"));
-    };
-    assert_eq!(rt; by_hand.len(), 2);
-    for _ in 0..2 {
-        let (key, state) = by_hand.take_first().ok_or("no group by hand")?;
-        let (same_key, same_state) = by_block.take_first().ok_or("no group of the block")?;
-        assert!(rt; key == same_key);
-        assert!(rt; state == same_state);
-    }
-    assert!(rt; by_block.take_first().is_none());
+    let mut by_hand = groups_by_hand(&rt, ROWS)?;
+    let mut by_block = groups_of_text(&rt, ROWS)?;
+    assert!(rt; give_the_same(&mut by_hand, &mut by_block, 2));
     Ok(())
 }
 
-/// The row after a header, and why it is refused: the first cause that holds, and none where the filter leaves it out.
+/// Adds each group of a map twice to another map. The groups are read where they lie, into one state.
+fn add_twice(groups: &GroupMap, others: &mut GroupMap) -> Result<(), AllocError> {
+    let mut state = empty();
+    let lent = groups.lent();
+    for at in 0..lent.len() {
+        lent.read_state(at, &mut state, 2);
+        others.add_bytes(lent.key(at), &state)?;
+        others.add_bytes(lent.key(at), &state)?;
+    }
+    Ok(())
+}
+
+/// Whether these are the groups of [`ROWS`] twice, by the second of them, which is read into a state that was used.
+fn are_of_rows_twice(list: &Groups) -> bool {
+    list.keys_rise();
+    let lent = list.lent();
+    if lent.len() != 2 {
+        return false;
+    }
+    let mut state = one_value(7);
+    lent.read_state(1, &mut state, 1);
+    lent.key(1) == b"\x02\0\0\0xy\x01\0\0\0z".as_slice()
+        && state.rows == 6
+        && state.slots[0].count == 4
+}
+
+/// The groups of [`ROWS`] twice.
+fn groups_twice(rt: &HostRuntime) -> Result<GroupMap, Fail> {
+    let groups = groups_of_text(rt, ROWS)?;
+    let mut others = GroupMap::new(rt.alloc());
+    add_twice(&groups, &mut others)?;
+    Ok(others)
+}
+
+/// Groups are read where they lie, and come to another map.
+#[test]
+fn lent_groups(rt: HostRuntime) -> Result<(), Fail> {
+    let others = groups_twice(&rt)?;
+    assert!(rt; are_of_rows_twice(&others.into_groups()));
+    Ok(())
+}
+
+/// A map whose groups were lent is emptied and filled again.
+#[test]
+fn a_cleared_map(rt: HostRuntime) -> Result<(), Fail> {
+    let mut groups = groups_of_text(&rt, ROWS)?;
+    let lent = groups.lent().len();
+    groups.clear();
+    assert_eq!(rt; (lent, groups.len()), (2, 0));
+    groups.add_bytes(b"\x01\0\0\0x", &one_value(1))?;
+    assert_eq!(rt; groups.len(), 1);
+    Ok(())
+}
+
+/// Why the one row of [`long_text`] is refused.
+fn refusal_after(rt: &HostRuntime, letters: usize, rest: &[u8]) -> Result<Option<Refusal>, Fail> {
+    let text = long_text(rt.alloc(), letters, rest)?;
+    let (store, plan) = query(rt, text.as_slice())?;
+    if store.count() != 1 {
+        return Err(Fail::new("not one row"));
+    }
+    Ok(refusal(&store, 1, &plan))
+}
+
+/// Letters and what follows them, and why that row is refused: the first cause that holds, and none where the filter leaves
+/// it out.
+const REFUSALS: [(usize, &[u8], Option<(u8, u32)>); 19] = [
+    (1, b",y,9223372036854775807,0\n", None),
+    (1, b",y,-9223372036854775808,+0\n", None),
+    (1, b",y, +1 ,-1\n", None),
+    (1, b",y,1\n", Some((1, 0))),
+    (1, b",y,one,0,5\n", Some((1, 0))),
+    (240, b",y,one,none,5\n", Some((1, 0))),
+    (1, b",y,1,9223372036854775808\n", Some((4, 0))),
+    (240, b",y,one,none\n", Some((4, 0))),
+    (238, b",y,1,0\n", None),
+    (239, b",y,1,0\n", None),
+    (240, b",y,1,0\n", Some((2, 0))),
+    (240, b",y,one,0\n", Some((2, 0))),
+    (300, b",,1,0\n", Some((2, 0))),
+    (300, b",y,one,9\n", None),
+    (300, b",y,one,\n", None),
+    (1, b",y,9223372036854775808,0\n", Some((3, 1))),
+    (1, b",y,1\xFF,0\n", Some((3, 1))),
+    (1, b",y,,0\n", None),
+    (0, b",,,\n", None),
+];
+
 #[test]
 fn refusals(rt: HostRuntime) -> Result<(), Fail> {
-    let table: [(usize, &[u8], Option<(u8, u32)>); 19] = [
-        (1, b",y,9223372036854775807,0\n", None),
-        (1, b",y,-9223372036854775808,+0\n", None),
-        (1, b",y, +1 ,-1\n", None),
-        (1, b",y,1\n", Some((1, 0))),
-        (1, b",y,one,0,5\n", Some((1, 0))),
-        (240, b",y,one,none,5\n", Some((1, 0))),
-        (1, b",y,1,9223372036854775808\n", Some((4, 0))),
-        (240, b",y,one,none\n", Some((4, 0))),
-        (238, b",y,1,0\n", None),
-        (239, b",y,1,0\n", None),
-        (240, b",y,1,0\n", Some((2, 0))),
-        (240, b",y,one,0\n", Some((2, 0))),
-        (300, b",,1,0\n", Some((2, 0))),
-        (300, b",y,one,9\n", None),
-        (300, b",y,one,\n", None),
-        (1, b",y,9223372036854775808,0\n", Some((3, 1))),
-        (1, b",y,1\xFF,0\n", Some((3, 1))),
-        (1, b",y,,0\n", None),
-        (0, b",,,\n", None),
-    ];
-    for (letters, rest, want) in table {
-        let text = long_text(rt.alloc(), letters, rest)?;
-        let (store, plan) = query(&rt, text.as_slice())?;
-        assert_eq!(rt; store.count(), 1);
-        let found = refusal(&store, 1, &plan);
+    for (letters, rest, want) in REFUSALS {
+        let found = refusal_after(&rt, letters, rest)?;
         let want = want.map(|(cause, item)| Refusal { cause, item });
         assert!(rt; found == want, "{:?} of {letters} and {:?}", found, rest);
     }
     Ok(())
 }
 
-/// Two blocks and a bit, and then a refused row behind them.
-#[test]
-fn blocks_of_rows(rt: HostRuntime) -> Result<(), Fail> {
-    let mut text = long_text(rt.alloc(), 0, b"")?;
+/// Two blocks and a bit, and then this.
+fn long_table(alloc: Global, rest: &[u8]) -> Result<Vec<u8>, AllocError> {
+    let mut text = long_text(alloc, 0, b"")?;
     for _ in 0..600 {
         text.extend_from_slice(b"x,y,3,0\n")?;
     }
-    let (store, plan) = query(&rt, text.as_slice())?;
-    let Ok(mut groups) = all_groups(rt.alloc(), &store, &plan) else {
-        return Err(Fail::new("a row is refused"));
-    };
-    let (_, state) = groups.take_first().ok_or("no group")?;
-    assert_eq!(rt; state.rows, 600);
-    assert_eq!(rt; state.slots[1].sum, 1800);
-    text.extend_from_slice(b"x,y,three,0\nx,y,3\n")?;
-    let (store, plan) = query(&rt, text.as_slice())?;
+    text.extend_from_slice(rest)?;
+    Ok(text)
+}
+
+#[test]
+fn blocks_of_rows(rt: HostRuntime) -> Result<(), Fail> {
+    let text = long_table(rt.alloc(), b"")?;
+    let mut groups = groups_of_text(&rt, text.as_slice())?;
+    assert!(rt; gives(&mut groups, &[(b"\x01\0\0\0x\x01\0\0\0y", 600, 1800)]));
+    Ok(())
+}
+
+/// The row of a text that is named as refused, with its cause and item, if there is one.
+fn named_row(rt: &HostRuntime, text: &[u8]) -> Result<Option<(u64, u8, u32)>, Fail> {
+    let (store, plan) = query(rt, text)?;
     match all_groups(rt.alloc(), &store, &plan) {
-        Err(BlockAnswer::Row { row, cause, item }) => {
-            assert_eq!(rt; (row, cause, item), (601, 3, 1));
-        }
-        Err(BlockAnswer::Memory) | Ok(_) => return Err(Fail::new("no row is refused")),
+        Err(BlockAnswer::Row { row, cause, item }) => Ok(Some((row, cause, item))),
+        Err(BlockAnswer::Memory) | Ok(_) => Ok(None),
     }
+}
+
+/// Two rows are refused behind two blocks and a bit: the first is named.
+#[test]
+fn a_refused_row_behind_blocks(rt: HostRuntime) -> Result<(), Fail> {
+    let text = long_table(rt.alloc(), b"x,y,three,0\nx,y,3\n")?;
+    assert_eq!(rt; named_row(&rt, text.as_slice())?, Some((601, 3, 1)));
     Ok(())
 }
 
@@ -268,6 +390,29 @@ fn one_value(n: i64) -> AggState {
         greatest: n,
     };
     state
+}
+
+/// A map of these keys, each with the sum of its values.
+fn filled(alloc: Global, added: &[(&[u8], i64)]) -> Result<GroupMap, Fail> {
+    let mut groups = GroupMap::new(alloc);
+    for (bytes, n) in added {
+        let key = GroupKey::of(bytes).ok_or("a short key")?;
+        groups.add(key, &one_value(*n))?;
+    }
+    Ok(groups)
+}
+
+/// Whether a map gives these keys with their rows and sums, one after the other, and then no more.
+fn gives(groups: &mut GroupMap, table: &[(&[u8], u64, i128)]) -> bool {
+    for (bytes, rows, sum) in table {
+        let Some((key, state)) = groups.take_first() else {
+            return false;
+        };
+        if key.bytes() != *bytes || state.rows != *rows || state.slots[1].sum != *sum {
+            return false;
+        }
+    }
+    groups.take_first().is_none()
 }
 
 /// A map that is filled by hand and emptied from its least key on: keys that differ only past their sixteenth byte, or
@@ -289,45 +434,51 @@ fn least_key_first(rt: HostRuntime) -> Result<(), Fail> {
         (b"", 5),
         (b"sixteen letters.A", 9),
     ];
-    let mut groups = GroupMap::new(rt.alloc());
-    for (bytes, n) in added {
-        let key = GroupKey::of(bytes).ok_or("a short key")?;
-        groups.add(key, &one_value(n))?;
-    }
-    for (bytes, rows, sum) in table {
-        let (key, state) = groups.take_first().ok_or("no group")?;
-        assert!(rt; key.bytes() == bytes);
-        assert_eq!(rt; state.rows, rows);
-        assert_eq!(rt; state.slots[1].sum, sum);
-    }
-    assert!(rt; groups.take_first().is_none());
+    let mut groups = filled(rt.alloc(), &added)?;
+    assert!(rt; gives(&mut groups, &table));
     Ok(())
+}
+
+/// Takes the first of three groups, adds its key again with a value of 10, and then `c` with a value of 30. Whether
+/// the first was `a`.
+fn take_and_add(groups: &mut GroupMap) -> Result<bool, AllocError> {
+    let Some((first, _)) = groups.take_first() else {
+        return Ok(false);
+    };
+    if first.bytes() != b"a".as_slice() || groups.len() != 2 {
+        return Ok(false);
+    }
+    groups.add(first, &one_value(10))?;
+    groups.add_bytes(b"c", &one_value(30))?;
+    Ok(true)
 }
 
 /// A key that was taken comes again while others are left: it begins anew, and has its turn again.
 #[test]
 fn taken_and_added_again(rt: HostRuntime) -> Result<(), Fail> {
     let added: [(&[u8], i64); 3] = [(b"b", 2), (b"a", 1), (b"c", 3)];
-    let mut groups = GroupMap::new(rt.alloc());
-    for (bytes, n) in added {
-        let key = GroupKey::of(bytes).ok_or("a short key")?;
-        groups.add(key, &one_value(n))?;
-    }
-    let (first, _) = groups.take_first().ok_or("no first group")?;
-    assert!(rt; first.bytes() == b"a".as_slice());
-    assert_eq!(rt; groups.len(), 2);
-    groups.add(first, &one_value(10))?;
-    let last = GroupKey::of(b"c").ok_or("a short key")?;
-    groups.add(last, &one_value(30))?;
     let left: [(&[u8], u64, i128); 3] = [(b"a", 1, 10), (b"b", 1, 2), (b"c", 2, 33)];
-    for (bytes, rows, sum) in left {
-        let (key, state) = groups.take_first().ok_or("no group")?;
-        assert!(rt; key.bytes() == bytes);
-        assert_eq!(rt; state.rows, rows);
-        assert_eq!(rt; state.slots[1].sum, sum);
-    }
-    assert!(rt; groups.take_first().is_none());
+    let mut groups = filled(rt.alloc(), &added)?;
+    assert!(rt; take_and_add(&mut groups)?);
+    assert!(rt; gives(&mut groups, &left));
     Ok(())
+}
+
+/// A digit of a number: the one of this unit.
+fn digit(number: u64, unit: u64) -> u8
+    requires { 1 ≤ unit }
+{
+    b'0' + (number / unit % 10) as u8
+}
+
+/// The last four digits of a number.
+fn digits(number: u64) -> [u8; 4] {
+    [
+        digit(number, 1_000),
+        digit(number, 100),
+        digit(number, 10),
+        digit(number, 1),
+    ]
 }
 
 /// Rows of 9,000 groups, three of each, far from each other: enough for a look-ahead. A row's value is the number in its
@@ -335,20 +486,18 @@ fn taken_and_added_again(rt: HostRuntime) -> Result<(), Fail> {
 fn many_groups(alloc: Global) -> Result<Vec<u8>, AllocError> {
     let mut text = long_text(alloc, 0, b"")?;
     for n in 0..27_000_u64 {
-        let number = 1_000 + n * 7 % 9_000;
-        let line = format!(in alloc; "{number},y,{number},0\n")?;
-        text.extend_from_slice(line.as_bytes())?;
+        let [a, b, c, d] = digits(1_000 + n * 7 % 9_000);
+        let line = [a, b, c, d, b',', b'y', b',', a, b, c, d, b',', b'0', b'\n'];
+        text.extend_from_slice(&line)?;
     }
     Ok(text)
 }
 
 /// Takes the group of this number, the first of a map.
-fn take_number(alloc: Global, groups: &mut GroupMap, number: u64) -> Result<bool, AllocError> {
-    let digits = format!(in alloc; "{number}")?;
-    let mut bytes = Vec::from_slice(alloc, b"\x04\0\0\0")?;
-    bytes.extend_from_slice(digits.as_bytes())?;
-    bytes.extend_from_slice(b"\x01\0\0\0y")?;
-    Ok(match groups.take_first() {
+fn take_number(groups: &mut GroupMap, number: u64) -> bool {
+    let [a, b, c, d] = digits(number);
+    let bytes = [4, 0, 0, 0, a, b, c, d, 1, 0, 0, 0, b'y'];
+    match groups.take_first() {
         Some((key, state)) => {
             key.bytes() == bytes.as_slice()
                 && state.rows == 3
@@ -356,7 +505,33 @@ fn take_number(alloc: Global, groups: &mut GroupMap, number: u64) -> Result<bool
                 && state.slots[1].sum == 3 * i128::from(number)
         }
         None => false,
-    })
+    }
+}
+
+/// Adds the rows of a store to a map, block by block.
+fn add_blocks(groups: &mut GroupMap, store: &RowStore, plan: &BoundPlan) -> Result<(), Fail>
+    requires few { length store.now ≤ MOST_RECORDS }
+    requires columns { HasColumns plan.now (header_width store.now) }
+{
+    for block in 0..store.count().div_ceil(BLOCK_ROWS) {
+        if groups.add_block(store, plan, block).is_err() {
+            return Err(Fail::new("a block is not added"));
+        }
+    }
+    Ok(())
+}
+
+/// Whether a map has the groups of [`many_groups`], and no other. They are taken.
+fn takes_all(groups: &mut GroupMap) -> bool {
+    if groups.len() != 9_000 {
+        return false;
+    }
+    for number in 1_000..10_000 {
+        if !take_number(groups, number) {
+            return false;
+        }
+    }
+    groups.take_first().is_none()
 }
 
 /// A map whose table of keys grows, is emptied, and is filled and emptied again.
@@ -366,16 +541,8 @@ fn a_table_that_grows(rt: HostRuntime) -> Result<(), Fail> {
     let (store, plan) = query(&rt, text.as_slice())?;
     let mut groups = GroupMap::new(rt.alloc());
     for _ in 0..2 {
-        for block in 0..store.count().div_ceil(BLOCK_ROWS) {
-            if groups.add_block(&store, &plan, block).is_err() {
-                return Err(Fail::new("a block is not added"));
-            }
-        }
-        assert_eq!(rt; groups.len(), 9_000);
-        for number in 1_000..10_000 {
-            assert!(rt; take_number(rt.alloc(), &mut groups, number)?, "{number}");
-        }
-        assert!(rt; groups.take_first().is_none());
+        add_blocks(&mut groups, &store, &plan)?;
+        assert!(rt; takes_all(&mut groups));
     }
     Ok(())
 }
@@ -385,12 +552,13 @@ fn states_combine(rt: HostRuntime) {
     let mut state = one_value(-2);
     combine(&mut state, &empty());
     combine(&mut state, &one_value(9));
-    assert_eq!(rt; state.rows, 2);
-    assert_eq!(rt; state.slots[0].count, 0);
-    assert_eq!(rt; state.slots[1].count, 2);
-    assert_eq!(rt; state.slots[1].sum, 7);
-    assert_eq!(rt; state.slots[1].least, -2);
-    assert_eq!(rt; state.slots[1].greatest, 9);
+    let both = SlotState {
+        count: 2,
+        sum: 7,
+        least: -2,
+        greatest: 9,
+    };
+    assert!(rt; state.rows == 2 && state.slots[0].count == 0 && state.slots[1] == both);
 }
 
 #[test]
@@ -422,35 +590,53 @@ fn state_by(numbers: &[i64; 8]) -> AggState {
     state
 }
 
+/// Adds states to a map, to the keys `a` and `b` by turns. Their sums.
+fn add_by_turns(groups: &mut GroupMap, table: &[[i64; 8]]) -> Result<[AggState; 2], Fail> {
+    let mut sums = [empty(); 2];
+    for (i, numbers) in table.iter().enumerate() {
+        let state = state_by(numbers);
+        let name: &[u8] = if i % 2 == 0 { b"a" } else { b"b" };
+        groups.add(GroupKey::of(name).ok_or("a short key")?, &state)?;
+        combine(&mut sums[i % 2], &state);
+    }
+    Ok(sums)
+}
+
+/// Whether a map gives these states one after the other, and then no more.
+fn gives_states(groups: &mut GroupMap, states: &[AggState]) -> bool {
+    for state in states {
+        match groups.take_first() {
+            Some((_, same)) => {
+                if same != *state {
+                    return false;
+                }
+            }
+            None => return false,
+        }
+    }
+    groups.take_first().is_none()
+}
+
+/// Eight values in each row, by which states are made.
+const NUMBERS: [[i64; 8]; 9] = [
+    [0; 8],
+    [100, 5, 5, 5, 5, 0, 0, 0],
+    [100, 7, 7, 7, 7, 0, 0, 0],
+    [0, 0, 0, 0, 0, 0, 0, 0],
+    [100, 7, 7, 7, 3, 0, 0, 0],
+    [0, 7, 7, 7, 3, 0, 0, 0],
+    [100, 7, 7, 0, 3, 0, 100, 0],
+    [100, 7, 7, 0, 3, 0, 100, 9],
+    [1, 2, 3, 4, 5, 6, 7, 8],
+];
+
 /// States in which slots differ that were the same in all before them, or come that were empty: each key has the sum of
 /// its states, slot by slot.
 #[test]
 fn slots_of_all_kinds(rt: HostRuntime) -> Result<(), Fail> {
-    let table: [[i64; 8]; 9] = [
-        [0; 8],
-        [100, 5, 5, 5, 5, 0, 0, 0],
-        [100, 7, 7, 7, 7, 0, 0, 0],
-        [0, 0, 0, 0, 0, 0, 0, 0],
-        [100, 7, 7, 7, 3, 0, 0, 0],
-        [0, 7, 7, 7, 3, 0, 0, 0],
-        [100, 7, 7, 0, 3, 0, 100, 0],
-        [100, 7, 7, 0, 3, 0, 100, 9],
-        [1, 2, 3, 4, 5, 6, 7, 8],
-    ];
     let mut groups = GroupMap::new(rt.alloc());
-    let mut sums = [empty(); 2];
-    for (i, numbers) in table.iter().enumerate() {
-        let name: &[u8] = if i % 2 == 0 { b"a" } else { b"b" };
-        let key = GroupKey::of(name).ok_or("a short key")?;
-        let state = state_by(numbers);
-        groups.add(key, &state)?;
-        combine(&mut sums[i % 2], &state);
-    }
-    for sum in sums {
-        let (_, state) = groups.take_first().ok_or("no group")?;
-        assert!(rt; state == sum);
-    }
-    assert!(rt; groups.take_first().is_none());
+    let sums = add_by_turns(&mut groups, &NUMBERS)?;
+    assert!(rt; gives_states(&mut groups, &sums));
     Ok(())
 }
 
@@ -464,35 +650,47 @@ fn add_both_ways(
     requires few { length store.now ≤ MOST_RECORDS }
     requires columns { HasColumns plan.now (header_width store.now) }
 {
-    for block in 0..store.count().div_ceil(BLOCK_ROWS) {
-        if by_block.add_block(store, plan, block).is_err() {
-            return Err(Fail::new("a block is not added"));
-        }
-    }
+    add_blocks(by_block, store, plan)?;
     for row in 1..=store.count() {
         add_by_hand(by_hand, store, row, plan)?;
     }
     Ok(())
 }
 
+/// Adds the rows of a text both ways, by this plan.
+fn add_text(
+    rt: &HostRuntime,
+    by_block: &mut GroupMap,
+    by_hand: &mut GroupMap,
+    text: &[u8],
+    plan: BoundPlan,
+) -> Result<(), Fail>
+    requires { HasColumns plan 4 }
+{
+    let (store, plan) = query_by(rt, text, plan)?;
+    add_both_ways(by_block, by_hand, &store, &plan)
+}
+
+/// Adds the rows of a text both ways, by one plan and then by the other.
+fn add_by_two_plans(
+    rt: &HostRuntime,
+    by_block: &mut GroupMap,
+    by_hand: &mut GroupMap,
+    text: &[u8],
+) -> Result<(), Fail> {
+    add_text(rt, by_block, by_hand, text, count_plan())?;
+    add_text(rt, by_block, by_hand, text, greatest_plan())
+}
+
 /// A map of two plans: the second takes integers in the slot in which the first only counts.
 #[test]
 fn groups_of_two_plans(rt: HostRuntime) -> Result<(), Fail> {
     let text = b"a,b,v,w\nx,y,4,4\nx,y,,5\nx,z,7,8\nx,y,6,-6\n";
-    let (store, plan) = query(&rt, text)?;
-    let (other_store, other) = other_query(&rt, text)?;
     let mut by_block = GroupMap::new(rt.alloc());
     let mut by_hand = GroupMap::new(rt.alloc());
     for _ in 0..2 {
-        add_both_ways(&mut by_block, &mut by_hand, &store, &plan)?;
-        add_both_ways(&mut by_block, &mut by_hand, &other_store, &other)?;
+        add_by_two_plans(&rt, &mut by_block, &mut by_hand, text)?;
     }
-    for _ in 0..2 {
-        let (key, state) = by_hand.take_first().ok_or("no group by hand")?;
-        let (same_key, same_state) = by_block.take_first().ok_or("no group of the blocks")?;
-        assert!(rt; key == same_key);
-        assert!(rt; state == same_state);
-    }
-    assert!(rt; by_block.take_first().is_none());
+    assert!(rt; give_the_same(&mut by_hand, &mut by_block, 2));
     Ok(())
 }

@@ -85,17 +85,52 @@ fn groups_of(alloc: Global, bound: &BoundPlan, store: &RowStore) -> Option<Group
     }
 }
 
-/// The text of the table of some words over at most 256 rows.
-fn table(alloc: Global, words: &str, input: &str) -> Option<Vec<u8>> {
-    let store = rows(alloc, input.as_bytes()).ok()?;
+/// The plan of some words.
+fn plan_of(alloc: Global, words: &str) -> Option<Plan> {
     let list = owned(alloc, words).ok()?;
-    let plan = Plan::of_words(alloc, list.as_slice()).ok()?;
-    let bound = plan.bind(&store).ok()?;
+    Plan::of_words(alloc, list.as_slice()).ok()
+}
+
+/// The text of the table of a plan over at most 256 rows.
+fn text_over(alloc: Global, plan: &Plan, store: &RowStore) -> Option<Vec<u8>> {
+    let bound = plan.bind(store).ok()?;
     if store.count() > BLOCK_ROWS {
         return None;
     }
-    let map = groups_of(alloc, &bound, &store)?;
-    answer(alloc, &plan, &bound, &store, map).ok()
+    let map = groups_of(alloc, &bound, store)?;
+    answer(alloc, plan, &bound, store, map).ok()
+}
+
+/// The text of the table of some words over at most 256 rows.
+fn table(alloc: Global, words: &str, input: &str) -> Option<Vec<u8>> {
+    let store = rows(alloc, input.as_bytes()).ok()?;
+    let plan = plan_of(alloc, words)?;
+    text_over(alloc, &plan, &store)
+}
+
+/// The bytes of some pieces.
+fn bytes_of(alloc: Global, pieces: &[Vec<u8>]) -> Option<Vec<u8>> {
+    let mut text = Vec::new(alloc);
+    for piece in pieces {
+        text.extend_from_slice(piece.as_slice()).ok()?;
+    }
+    Some(text)
+}
+
+/// The pieces of the text of the table of a plan over any number of rows, by this many threads.
+fn pieces_over<R: Threads + Sync>(
+    rt: &R,
+    alloc: Global,
+    plan: &Plan,
+    store: &RowStore,
+    threads: usize,
+) -> Option<Vec<Vec<u8>>> {
+    let bound = plan.bind(store).ok()?;
+    if store.count() == 0 || !reads_below(&bound, store.width(0)) {
+        return None;
+    }
+    let map = all_groups(alloc, store, &bound).ok()?;
+    answer_in_threads(rt, alloc, plan, &bound, store, map, threads).ok()
 }
 
 /// The text of the counts of all names over any number of rows, by this many threads.
@@ -106,19 +141,9 @@ fn table_in_threads<R: Threads + Sync>(
     threads: usize,
 ) -> Option<Vec<u8>> {
     let store = rows(alloc, input).ok()?;
-    let list = owned(alloc, "--group k --agg count,sum:v").ok()?;
-    let plan = Plan::of_words(alloc, list.as_slice()).ok()?;
-    let bound = plan.bind(&store).ok()?;
-    if store.count() == 0 || !reads_below(&bound, store.width(0)) {
-        return None;
-    }
-    let map = all_groups(alloc, &store, &bound).ok()?;
-    let pieces = answer_in_threads(rt, alloc, &plan, &bound, &store, map, threads).ok()?;
-    let mut text = Vec::new(alloc);
-    for piece in &pieces {
-        text.extend_from_slice(piece.as_slice()).ok()?;
-    }
-    Some(text)
+    let plan = plan_of(alloc, "--group k --agg count,sum:v")?;
+    let pieces = pieces_over(rt, alloc, &plan, &store, threads)?;
+    bytes_of(alloc, pieces.as_slice())
 }
 
 fn owned(alloc: Global, words: &str) -> Result<Vec<String>, AllocError> {
@@ -132,68 +157,70 @@ fn owned(alloc: Global, words: &str) -> Result<Vec<String>, AllocError> {
     Ok(list)
 }
 
+/// Words, the input, and the text of the table.
+const TABLES: [(&str, &str, &str); 16] = [
+    (
+        "--group g --agg sum:v,avg:v",
+        "g,v\na,1\nb,2\na,3\n",
+        "g,sum(v),avg(v)\na,4,2.0000\nb,2,2.0000\n",
+    ),
+    ("--agg count,sum:v", "g,v\n", "count,sum(v)\n0,\n"),
+    ("--agg sum:v", "g,v\n", "sum(v)\n\"\"\n"),
+    ("--group g --agg count", "g,v\n", "g,count\n"),
+    (
+        "--group g --agg count,count:v,avg:v",
+        "g,v\na,\na,-1\na,0\na,0\n",
+        "g,count,count(v),avg(v)\na,4,3,-0.3333\n",
+    ),
+    (
+        "--agg sum:v",
+        "v\n9223372036854775807\n9223372036854775807\n",
+        "sum(v)\n18446744073709551614\n",
+    ),
+    (
+        "--group a,b --agg sum:v",
+        "a,b,v\nx,yz,1\nxy,z,2\n",
+        "a,b,sum(v)\nx,yz,1\nxy,z,2\n",
+    ),
+    // An encoded key begins with a length: in their order `b` would come before `aa`.
+    (
+        "--group a,b --agg count",
+        "a,b\nb,x\naa,x\na,zz\na,b\n,x\na,b\n",
+        "a,b,count\n,x,1\na,b,2\na,zz,1\naa,x,1\nb,x,1\n",
+    ),
+    (
+        "--group item --agg count",
+        "item\n\"box, large\"\n\"box, large\"\n",
+        "item,count\n\"box, large\",2\n",
+    ),
+    (
+        "--group g --agg min:v,max:v,avg:v",
+        "g,v\na,\nb, 7 \nb,-3\nb,+5\n",
+        "g,min(v),max(v),avg(v)\na,,,\nb,-3,7,3.0000\n",
+    ),
+    ("--agg avg:v", "v\n1\n1\n0\n", "avg(v)\n0.6667\n"),
+    (
+        "--agg avg:v",
+        "v\n0\n0\n0\n0\n0\n0\n0\n",
+        "avg(v)\n0.0000\n",
+    ),
+    ("--agg avg:v", "v\n-9999\n-10000\n", "avg(v)\n-9999.5000\n"),
+    (
+        "--agg avg:v",
+        "v\n-9223372036854775808\n-9223372036854775808\n",
+        "avg(v)\n-9223372036854775808.0000\n",
+    ),
+    ("--group g --agg max:v", "g,v\n,\n", "g,max(v)\n,\n"),
+    (
+        "--agg count,count --group v,v",
+        "v\n\"a\"\"b\"\n",
+        "v,v,count,count\n\"a\"\"b\",\"a\"\"b\",1,1\n",
+    ),
+];
+
 #[test]
 fn tables(rt: HostRuntime) -> Result<(), Fail> {
-    let table_rows: [(&str, &str, &str); 16] = [
-        (
-            "--group g --agg sum:v,avg:v",
-            "g,v\na,1\nb,2\na,3\n",
-            "g,sum(v),avg(v)\na,4,2.0000\nb,2,2.0000\n",
-        ),
-        ("--agg count,sum:v", "g,v\n", "count,sum(v)\n0,\n"),
-        ("--agg sum:v", "g,v\n", "sum(v)\n\"\"\n"),
-        ("--group g --agg count", "g,v\n", "g,count\n"),
-        (
-            "--group g --agg count,count:v,avg:v",
-            "g,v\na,\na,-1\na,0\na,0\n",
-            "g,count,count(v),avg(v)\na,4,3,-0.3333\n",
-        ),
-        (
-            "--agg sum:v",
-            "v\n9223372036854775807\n9223372036854775807\n",
-            "sum(v)\n18446744073709551614\n",
-        ),
-        (
-            "--group a,b --agg sum:v",
-            "a,b,v\nx,yz,1\nxy,z,2\n",
-            "a,b,sum(v)\nx,yz,1\nxy,z,2\n",
-        ),
-        // An encoded key begins with a length: in their order `b` would come before `aa`.
-        (
-            "--group a,b --agg count",
-            "a,b\nb,x\naa,x\na,zz\na,b\n,x\na,b\n",
-            "a,b,count\n,x,1\na,b,2\na,zz,1\naa,x,1\nb,x,1\n",
-        ),
-        (
-            "--group item --agg count",
-            "item\n\"box, large\"\n\"box, large\"\n",
-            "item,count\n\"box, large\",2\n",
-        ),
-        (
-            "--group g --agg min:v,max:v,avg:v",
-            "g,v\na,\nb, 7 \nb,-3\nb,+5\n",
-            "g,min(v),max(v),avg(v)\na,,,\nb,-3,7,3.0000\n",
-        ),
-        ("--agg avg:v", "v\n1\n1\n0\n", "avg(v)\n0.6667\n"),
-        (
-            "--agg avg:v",
-            "v\n0\n0\n0\n0\n0\n0\n0\n",
-            "avg(v)\n0.0000\n",
-        ),
-        ("--agg avg:v", "v\n-9999\n-10000\n", "avg(v)\n-9999.5000\n"),
-        (
-            "--agg avg:v",
-            "v\n-9223372036854775808\n-9223372036854775808\n",
-            "avg(v)\n-9223372036854775808.0000\n",
-        ),
-        ("--group g --agg max:v", "g,v\n,\n", "g,max(v)\n,\n"),
-        (
-            "--agg count,count --group v,v",
-            "v\n\"a\"\"b\"\n",
-            "v,v,count,count\n\"a\"\"b\",\"a\"\"b\",1,1\n",
-        ),
-    ];
-    for (words, input, want) in table_rows {
+    for (words, input, want) in TABLES {
         let text = table(rt.alloc(), words, input).ok_or("no table")?;
         assert!(rt; text.as_slice() == want.as_bytes(), "{words}");
     }
@@ -235,15 +262,25 @@ fn rises(text: &[u8], count: usize) -> bool {
     lines == count.saturating_add(2)
 }
 
-/// The pieces of three threads are the text of one, whether the columns have one length or not.
+/// Whether the pieces of three threads are the text of one, with so many groups.
+fn are_one_text<R: Threads + Sync>(
+    rt: &R,
+    alloc: Global,
+    input: &[u8],
+    groups: usize,
+) -> Option<bool> {
+    let text = table_in_threads(rt, alloc, input, 1)?;
+    let other = table_in_threads(rt, alloc, input, 3)?;
+    Some(text == other && rises(text.as_slice(), groups))
+}
+
+/// Whether the columns have one length or not.
 #[test]
 fn texts_of_threads(rt: HostRuntime) -> Result<(), Fail> {
     for several in [false, true] {
         let input = many_rows(rt.alloc(), 6200, several)?;
-        let text = table_in_threads(&rt, rt.alloc(), input.as_slice(), 1).ok_or("no table")?;
-        assert!(rt; rises(text.as_slice(), 6200));
-        let other = table_in_threads(&rt, rt.alloc(), input.as_slice(), 3).ok_or("no table")?;
-        assert!(rt; other.as_slice() == text.as_slice());
+        let is_one = are_one_text(&rt, rt.alloc(), input.as_slice(), 6200).ok_or("no table")?;
+        assert!(rt; is_one);
     }
     Ok(())
 }

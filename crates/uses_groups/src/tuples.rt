@@ -50,44 +50,69 @@ fn the_empty_group(rt: HostRuntime) -> Result<(), Fail> {
     Ok(())
 }
 
-/// A slot at the limits of its numbers, and the bytes of a small one.
+/// A slot without values.
+const NONE: SlotState = SlotState {
+    count: 0,
+    sum: 0,
+    least: 0,
+    greatest: 0,
+};
+
+/// A state whose one slot is at the limits of its numbers.
+const STATE: AggState = AggState {
+    rows: 258,
+    slots: [
+        SlotState {
+            count: 1,
+            sum: i128::MIN,
+            least: i64::MIN,
+            greatest: -1,
+        },
+        NONE,
+        NONE,
+        NONE,
+        NONE,
+        NONE,
+        NONE,
+        NONE,
+    ],
+};
+
+/// The key of one column with the field `x`.
+const KEY: &[u8] = b"\x01\0\0\0x";
+
+/// The tuple of [`KEY`] and [`STATE`] as it is written out by hand: its front, and the last bytes of two numbers.
+fn is_written(tuple: &Tuple) -> bool {
+    let front = b"\x05\0\0\0\x01\0\0\0x\x02\x01\0\0\0\0\0\0\x01\x01".as_slice();
+    tuple.len == 58
+        && &tuple.bytes[..19] == front
+        && tuple.bytes[41] == 0x80
+        && tuple.bytes[57] == 0xff
+}
+
 #[test]
 fn there_and_back(rt: HostRuntime) -> Result<(), Fail> {
-    let least = SlotState {
-        count: 1,
-        sum: i128::MIN,
-        least: i64::MIN,
-        greatest: -1,
-    };
-    let none = SlotState {
-        count: 0,
-        sum: 0,
-        least: 0,
-        greatest: 0,
-    };
-    let state = AggState {
-        rows: 258,
-        slots: [least, none, none, none, none, none, none, none],
-    };
-    let key = GroupKey::of(b"\x01\0\0\0x").ok_or("a short key")?;
-    let tuple = encode(&key, &state, 1);
-    assert_eq!(rt; tuple.len, 58);
-    let front = b"\x05\0\0\0\x01\0\0\0x\x02\x01\0\0\0\0\0\0\x01\x01".as_slice();
-    assert!(rt; &tuple.bytes[..19] == front);
-    assert_eq!(rt; tuple.bytes[41], 0x80);
-    assert_eq!(rt; tuple.bytes[57], 0xff);
+    let key = GroupKey::of(KEY).ok_or("a short key")?;
+    let tuple = encode(&key, &STATE, 1);
+    assert!(rt; is_written(&tuple));
     let (back, same) = decode(&tuple.bytes[..58])?;
-    assert!(rt; back.bytes() == key.bytes());
-    assert!(rt; same == state);
-    let mut again = Tuple::new();
-    encode_into(&mut again, b"another key", &empty(), 0);
-    encode_into(&mut again, key.bytes(), &state, 1);
-    assert_eq!(rt; again.len, 58);
-    assert!(rt; again.bytes[..58] == tuple.bytes[..58]);
+    assert!(rt; back.bytes() == KEY && same == STATE);
+    Ok(())
+}
+
+/// A tuple and a state that were used are written over, and a state stays where the bytes are no tuple.
+#[test]
+fn over_what_was_used(rt: HostRuntime) -> Result<(), Fail> {
+    let mut tuple = Tuple::new();
+    encode_into(&mut tuple, b"another key", &empty(), 0);
+    encode_into(&mut tuple, KEY, &STATE, 1);
+    let key = GroupKey::of(KEY).ok_or("a short key")?;
+    let same = encode(&key, &STATE, 1);
+    assert!(rt; tuple.len == 58 && tuple.bytes[..58] == same.bytes[..58]);
     let mut read = empty();
-    assert!(rt; decode_into(&again.bytes[..58], &mut read)? == key.bytes());
-    assert!(rt; read == state);
-    assert!(rt; decode_into(&again.bytes[..57], &mut read).is_err());
-    assert!(rt; read == state);
+    assert!(rt; decode_into(&tuple.bytes[..58], &mut read)? == KEY);
+    assert!(rt; read == STATE);
+    assert!(rt; decode_into(&tuple.bytes[..57], &mut read).is_err());
+    assert!(rt; read == STATE);
     Ok(())
 }

@@ -49,6 +49,28 @@ fn has_pairs(joined: &Joined, pairs: &[(u64, u64)]) -> bool {
     true
 }
 
+/// Checks the pairs of two texts with so many workers, and that each participant has its pass of the table's area.
+fn check_with<R: Threads + Wait + Sync>(
+    rt: &R,
+    alloc: Global,
+    left: &[u8],
+    right: &[u8],
+    columns: (u32, u32),
+    pairs: &[(u64, u64)],
+    workers: u32,
+) -> Result<(), Fail> {
+    match joined(rt, alloc, left, right, columns, workers)? {
+        Ok(joined) => {
+            if has_pairs(&joined, pairs) && joined.areas.len() == workers as usize + 1 {
+                Ok(())
+            } else {
+                Err(Fail::new("other pairs or other passes"))
+            }
+        }
+        Err(_) => Err(Fail::new("no pairs")),
+    }
+}
+
 /// Checks the pairs of two texts, with several numbers of workers.
 fn check<R: Threads + Wait + Sync>(
     rt: &R,
@@ -59,17 +81,7 @@ fn check<R: Threads + Wait + Sync>(
     pairs: &[(u64, u64)],
 ) -> Result<(), Fail> {
     for workers in [0, 3] {
-        match joined(rt, alloc, left, right, columns, workers)? {
-            Ok(joined) => {
-                if !has_pairs(&joined, pairs) {
-                    return Err(Fail::new("other pairs"));
-                }
-                if joined.areas.len() != workers as usize + 1 {
-                    return Err(Fail::new("other passes"));
-                }
-            }
-            Err(_) => return Err(Fail::new("no pairs")),
-        }
+        check_with(rt, alloc, left, right, columns, pairs, workers)?;
     }
     Ok(())
 }
@@ -113,24 +125,9 @@ fn any_number_of_workers(rt: HostRuntime) -> Result<(), Fail> {
         (7, 5),
     ];
     for workers in [0, 1, 3, 64] {
-        match joined(&rt, rt.alloc(), left, right, (0, 0), workers)? {
-            Ok(joined) => {
-                assert!(rt; has_pairs(&joined, &pairs));
-                assert_eq!(rt; joined.areas.len(), workers as usize + 1);
-            }
-            Err(_) => return Err(Fail::new("no pairs")),
-        }
+        check_with(&rt, rt.alloc(), left, right, (0, 0), &pairs, workers)?;
     }
     Ok(())
-}
-
-/// This many rows with the same field, under a header.
-fn ones(alloc: Global, count: u64) -> Result<Vec<u8>, AllocError> {
-    let mut text = Vec::from_slice(alloc, b"id\n")?;
-    for _ in 0..count {
-        text.extend_from_slice(b"1\n")?;
-    }
-    Ok(text)
 }
 
 /// A header and a row of one field, of this many bytes.
@@ -143,77 +140,88 @@ fn long_field(alloc: Global, bytes: u64) -> Result<Vec<u8>, AllocError> {
     Ok(text)
 }
 
-/// The row that is refused of two texts that are joined on their first columns.
-fn refused<R: Threads + Wait + Sync>(
+/// Why there is no join of two texts on their first columns, or else how many pairs there are.
+fn counted<R: Threads + Wait + Sync>(
     rt: &R,
     alloc: Global,
     left: &[u8],
     right: &[u8],
-) -> Result<JoinAnswer, Fail> {
-    match joined(rt, alloc, left, right, (0, 0), 1)? {
-        Ok(_) => Err(Fail::new("no row is refused")),
-        Err(why) => Ok(why),
+    workers: u32,
+) -> Result<Result<usize, JoinAnswer>, Fail> {
+    match joined(rt, alloc, left, right, (0, 0), workers)? {
+        Ok(joined) => Ok(Ok(joined.pairs.len())),
+        Err(why) => Ok(Err(why)),
     }
+}
+
+/// A refused row of the right table, or of the left one.
+fn row(right: bool, row: u64, cause: u8) -> JoinAnswer {
+    JoinAnswer::Row { right, row, cause }
 }
 
 #[test]
 fn refused_rows(rt: HostRuntime) -> Result<(), Fail> {
     let short = long_field(rt.alloc(), 248)?;
     let long = long_field(rt.alloc(), 249)?;
-    check(&rt, rt.alloc(), &short, &short, (0, 0), &[(1, 1)])?;
-    let of_right = |row, cause| JoinAnswer::Row {
-        right: true,
-        row,
-        cause,
-    };
-    let of_left = JoinAnswer::Row {
-        right: false,
-        row: 2,
-        cause: 1,
-    };
-    assert!(rt; refused(&rt, rt.alloc(), &short, &long)? == of_right(1, 2));
-    assert!(rt; refused(&rt, rt.alloc(), b"a,b\n1,2\n1\n", &long)? == of_left);
-    assert!(rt; refused(&rt, rt.alloc(), &short, b"a\n1\n2\n1,2\n")? == of_right(3, 1));
-    Ok(())
+    let table: [(&[u8], &[u8], JoinAnswer); 3] = [
+        (&short, &long, row(true, 1, 2)),
+        (b"a,b\n1,2\n1\n", &long, row(false, 2, 1)),
+        (&short, b"a\n1\n2\n1,2\n", row(true, 3, 1)),
+    ];
+    for (left, right, why) in table {
+        assert!(rt; counted(&rt, rt.alloc(), left, right, 1)? == Err(why));
+    }
+    check(&rt, rt.alloc(), &short, &short, (0, 0), &[(1, 1)])
+}
+
+/// This many rows, whose keys come again after 300 rows.
+fn keyed(alloc: Global, count: u64) -> Result<Vec<u8>, AllocError> {
+    let mut text = Vec::from_slice(alloc, b"k\n")?;
+    for row in 1..=count {
+        let key = row % 300;
+        let line = [
+            b'a' + (key / 26 / 26) as u8,
+            b'a' + (key / 26 % 26) as u8,
+            b'a' + (key % 26) as u8,
+            b'\n',
+        ];
+        text.extend_from_slice(&line)?;
+    }
+    Ok(text)
 }
 
 /// 300 keys in 600 left rows and 300 right rows: more blocks than one, and partitions with more keys than they had
 /// buckets at first.
 #[test]
 fn several_blocks(rt: HostRuntime) -> Result<(), Fail> {
-    let mut left = Vec::from_slice(rt.alloc(), b"k\n")?;
-    let mut right = Vec::from_slice(rt.alloc(), b"k\n")?;
-    let mut pairs = Vec::new(rt.alloc());
-    for row in 1..=600u64 {
-        let key = row % 300;
-        let text = [
-            b'a' + (key / 26 / 26) as u8,
-            b'a' + (key / 26 % 26) as u8,
-            b'a' + (key % 26) as u8,
-            b'\n',
-        ];
-        left.extend_from_slice(&text)?;
-        if row <= 300 {
-            right.extend_from_slice(&text)?;
-        }
-        pairs.push((row, if row <= 300 { row } else { row - 300 }))?;
+    let left = keyed(rt.alloc(), 600)?;
+    let right = keyed(rt.alloc(), 300)?;
+    let mut pairs = [(0, 0); 600];
+    for at in 0..600 {
+        let row = at as u64;
+        pairs[at] = (row + 1, row % 300 + 1);
     }
     check(&rt, rt.alloc(), &left, &right, (0, 0), &pairs)
 }
 
+/// A header, rows with one field, and then rows with another.
+fn of_two_keys(alloc: Global, ones: u64, twos: u64) -> Result<Vec<u8>, AllocError> {
+    let mut text = Vec::from_slice(alloc, b"id\n")?;
+    for row in 0..ones.saturating_add(twos) {
+        text.extend_from_slice(if row < ones { b"1\n" } else { b"2\n" })?;
+    }
+    Ok(text)
+}
+
 #[test]
 fn as_many_pairs_as_there_may_be(rt: HostRuntime) -> Result<(), Fail> {
-    let thousand = ones(rt.alloc(), 1024)?;
-    let more = ones(rt.alloc(), 1025)?;
+    let thousand = of_two_keys(rt.alloc(), 1024, 0)?;
+    let more = of_two_keys(rt.alloc(), 1025, 0)?;
     for workers in [0, 3] {
-        match joined(&rt, rt.alloc(), &thousand, &thousand, (0, 0), workers)? {
-            Ok(joined) => assert_eq!(rt; joined.pairs.len(), MOST_PAIRS),
-            Err(_) => return Err(Fail::new("no pairs")),
-        }
-        match joined(&rt, rt.alloc(), &more, &thousand, (0, 0), workers)? {
-            Ok(_) => return Err(Fail::new("too few pairs")),
-            Err(why) => assert!(rt; why == JoinAnswer::TooManyPairs),
-        }
+        let most = counted(&rt, rt.alloc(), &thousand, &thousand, workers)?;
+        assert!(rt; most == Ok(MOST_PAIRS));
+        let none = counted(&rt, rt.alloc(), &more, &thousand, workers)?;
+        assert!(rt; none == Err(JoinAnswer::TooManyPairs));
     }
     Ok(())
 }
@@ -222,16 +230,11 @@ fn as_many_pairs_as_there_may_be(rt: HostRuntime) -> Result<(), Fail> {
 /// stop, and the answer is that of the first.
 #[test]
 fn too_many_pairs_of_one_participant(rt: HostRuntime) -> Result<(), Fail> {
-    let left = ones(rt.alloc(), 4200)?;
-    let mut right = ones(rt.alloc(), 256)?;
-    for _ in 0..20_000 {
-        right.extend_from_slice(b"2\n")?;
-    }
+    let left = of_two_keys(rt.alloc(), 4200, 0)?;
+    let right = of_two_keys(rt.alloc(), 256, 20_000)?;
     for workers in [0, 1, 3] {
-        match joined(&rt, rt.alloc(), &left, &right, (0, 0), workers)? {
-            Ok(_) => return Err(Fail::new("too few pairs")),
-            Err(why) => assert!(rt; why == JoinAnswer::TooManyPairs),
-        }
+        let none = counted(&rt, rt.alloc(), &left, &right, workers)?;
+        assert!(rt; none == Err(JoinAnswer::TooManyPairs));
     }
     Ok(())
 }

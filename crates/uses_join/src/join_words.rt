@@ -2,13 +2,12 @@
 //! joined records.
 
 ghost use Rattle.std.specs.Prelude.{◌≡◌, ◌<◌, IfOk, true};
-ghost use Rattle.join_pairs.specs.Gathered.{ChainsAll};
-ghost use Rattle.join_pairs.specs.Join.{AllAccepted, keyed, width_of};
-ghost use Rattle.row_blocks.specs.Blocks.{numbers_of};
+ghost use Rattle.join_pairs.specs.Join.{width_of};
 ghost use Rattle.join_query.specs.Writable.{AreWritable, HasHeaders, IsFull};
 
+use crate::pairs::pairs_alone;
 use csv_rows::RowStore;
-use join_pairs::{Chains, Pairs, chain_all, find_pairs, first_refused};
+use join_pairs::{Pairs, first_refused};
 use join_query::{Cause, Ready, Stop, find_separator, is_join, prepare, read_words, write_joined};
 use par_io::{MemSink, MemSource};
 use std::alloc::{AllocError, Global};
@@ -17,7 +16,7 @@ use std::test::Fail;
 use std::thread::Threads;
 
 /// Words that stand between spaces.
-fn owned(alloc: Global, words: &str) -> Result<Vec<String>, AllocError> {
+pub(crate) fn owned(alloc: Global, words: &str) -> Result<Vec<String>, AllocError> {
     let mut list = Vec::new(alloc);
     for word in words.split(' ') {
         list.push(String::from_str(alloc, word)?)?;
@@ -25,20 +24,24 @@ fn owned(alloc: Global, words: &str) -> Result<Vec<String>, AllocError> {
     Ok(list)
 }
 
+/// Words, whether they begin as those that ask for a join, and what they ask for.
+const WORDS: [(&str, bool, Option<(&str, u32)>); 5] = [
+    ("join id 3", true, Some(("id", 3))),
+    ("join a,b 00064", true, Some(("a,b", 64))),
+    ("join  3", true, None),
+    ("join id 65", true, None),
+    ("Join id 3", false, None),
+];
+
 #[test]
 fn words(rt: HostRuntime) -> Result<(), Fail> {
-    let table: [(&str, bool, Option<(&str, u32)>); 5] = [
-        ("join id 3", true, Some(("id", 3))),
-        ("join a,b 00064", true, Some(("a,b", 64))),
-        ("join  3", true, None),
-        ("join id 65", true, None),
-        ("Join id 3", false, None),
-    ];
-    for (words, begins_so, asked) in table {
+    for (words, begins_so, asked) in WORDS {
         let list = owned(rt.alloc(), words)?;
-        assert_eq!(rt; is_join(list.as_slice()), begins_so);
         let read = read_words(list.as_slice()).map(|asked| (asked.column, asked.workers));
-        assert!(rt; read == asked, "{words}");
+        assert!(rt;
+            is_join(list.as_slice()) == begins_so && read == asked,
+            "{words}"
+        );
     }
     Ok(())
 }
@@ -56,6 +59,12 @@ fn separators(rt: HostRuntime) {
     for (bytes, place) in table {
         assert!(rt; find_separator(bytes) == place);
     }
+}
+
+/// Whether a reason has this status, and says this line of the name `id`.
+fn is_said(alloc: Global, stop: Stop, status: u8, line: &[u8]) -> Result<bool, AllocError> {
+    let mut err = MemSink::new(alloc, 5, 100, Vec::new(alloc))?;
+    Ok(stop.end("id", &mut err) == status && err.written() == line)
 }
 
 /// Reasons to have no table that the worked rows of a join do not come to.
@@ -85,9 +94,7 @@ fn lines(rt: HostRuntime) -> Result<(), Fail> {
         (Stop::Memory, 5, b"pargather: out of memory\n"),
     ];
     for (stop, status, line) in table {
-        let mut err = MemSink::new(rt.alloc(), 5, 100, Vec::new(rt.alloc()))?;
-        assert_eq!(rt; stop.end("id", &mut err), status);
-        assert_eq!(rt; err.written(), line);
+        assert!(rt; is_said(rt.alloc(), stop, status, line)?, "{status}");
     }
     Ok(())
 }
@@ -108,41 +115,8 @@ fn ready_of<R: Threads + Sync>(rt: &R, alloc: Global, text: &[u8]) -> Result<Rea
     }
 }
 
-/// The numbers of the rows whose field of the column is not empty.
-fn keyed_rows(alloc: Global, rows: &RowStore, column: u32) -> Result<Vec<u64>, AllocError>
-    requires column { column < width_of rows.now }
-    requires accepted { AllAccepted rows.now column }
-    ensures { IfOk result (λ v. v.items ≡ keyed rows.now column (numbers_of rows.now)) }
-{
-    let mut keyed = Vec::new(alloc);
-    for row in 1..rows.count() + 1 {
-        if !rows.field(row, column).is_empty() {
-            keyed.push(row)?;
-        }
-    }
-    Ok(keyed)
-}
-
-/// The chains of all rows of a table, none of which went into a shared table.
-fn chains_alone(alloc: Global, rows: &RowStore, column: u32) -> Result<Chains, AllocError>
-    requires column { column < width_of rows.now }
-    requires accepted { AllAccepted rows.now column }
-    ensures { IfOk result (λ c. ChainsAll rows.now column c) }
-{
-    let mut spilled = Vec::new(alloc);
-    spilled.push(keyed_rows(alloc, rows, column)?)?;
-    chain_all(
-        alloc,
-        rows,
-        column,
-        &Vec::new(alloc),
-        &Vec::new(alloc),
-        &spilled,
-    )
-}
-
 /// The pairs of two tables, without a shared one.
-fn pairs_alone<R: Threads + Wait + Sync>(
+fn pairs_of_ready<R: Threads + Wait + Sync>(
     rt: &R,
     alloc: Global,
     ready: &Ready,
@@ -155,8 +129,8 @@ fn pairs_alone<R: Threads + Wait + Sync>(
     {
         return Err(Fail::new("a row is refused"));
     }
-    let chains = chains_alone(alloc, &ready.left, ready.left_column)?;
-    match find_pairs(rt, alloc, &chains, &ready.right, ready.right_column, 2) {
+    let columns = (ready.left_column, ready.right_column);
+    match pairs_alone(rt, alloc, &ready.left, &ready.right, columns, 2) {
         Ok(pairs) => Ok(pairs),
         Err(_) => Err(Fail::new("no pairs")),
     }
@@ -183,15 +157,18 @@ fn are_writable(left: &RowStore, right: &RowStore, pairs: &Pairs) -> bool
     is_full(left, 0) && is_full(right, 0)
 }
 
+/// Writes the records of the pairs, where each has a field. Whether they were written.
+fn write_pairs(alloc: Global, ready: &Ready, pairs: &Pairs, out: &mut MemSink) -> bool {
+    are_writable(&ready.left, &ready.right, pairs)
+        && write_joined(alloc, &ready.left, &ready.right, pairs, out).is_ok()
+}
+
 #[test]
 fn tables_that_are_read_and_joined(rt: HostRuntime) -> Result<(), Fail> {
     let ready = ready_of(&rt, rt.alloc(), b"id,a\n1,x\n2,y\n%\nb,id\np,1\nq,3\nr,1\n")?;
-    let pairs = pairs_alone(&rt, rt.alloc(), &ready)?;
-    if !are_writable(&ready.left, &ready.right, &pairs) {
-        return Err(Fail::new("a row without a field"));
-    }
+    let pairs = pairs_of_ready(&rt, rt.alloc(), &ready)?;
     let mut out = MemSink::new(rt.alloc(), 5, 100, Vec::new(rt.alloc()))?;
-    assert!(rt; write_joined(rt.alloc(), &ready.left, &ready.right, &pairs, &mut out).is_ok());
+    assert!(rt; write_pairs(rt.alloc(), &ready, &pairs, &mut out));
     assert_eq!(rt; out.written(), b"id,a,b,id\n1,x,p,1\n1,x,r,1\n".as_slice());
     Ok(())
 }

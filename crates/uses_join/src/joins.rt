@@ -1,5 +1,6 @@
 //! Worked rows: words, bytes and failing calls, and what the call answers.
 
+use crate::join_words::owned;
 use join_query::{MISUSED, TABLE, join_tables};
 use par_io::{MemSink, MemSource};
 use std::alloc::{AllocError, Global};
@@ -24,13 +25,30 @@ struct Run<'a> {
     failing_lines: &'a [u64],
 }
 
-/// The status, how many passes the table's area had, and what the two sinks were given.
+/// The status, how many passes the table's area had, and the two sinks after the call.
 #[derive(Drop)]
 struct Answered {
     status: u8,
     passes: usize,
-    out: Vec<u8>,
-    err: Vec<u8>,
+    out: MemSink,
+    err: MemSink,
+}
+
+impl Answered {
+    fn is(&self, status: u8, out: &[u8], err: &[u8]) -> bool {
+        self.status == status && self.out.written() == out && self.err.written() == err
+    }
+}
+
+/// A sink with this room.
+fn sink(alloc: Global, room: usize, failing: &[u64]) -> Result<MemSink, AllocError> {
+    MemSink::new(alloc, 5, room, Vec::from_slice(alloc, failing)?)
+}
+
+/// A source of these bytes.
+fn source(alloc: Global, input: &[u8], failing: &[u64]) -> Result<MemSource, AllocError> {
+    let failing = Vec::from_slice(alloc, failing)?;
+    Ok(MemSource::new(Vec::from_slice(alloc, input)?, 7, failing))
 }
 
 impl<'a> Run<'a> {
@@ -54,24 +72,31 @@ impl<'a> Run<'a> {
         rt: &R,
         alloc: Global,
     ) -> Result<Answered, AllocError> {
-        let mut words = Vec::new(alloc);
-        for word in self.words.split(' ') {
-            words.push(String::from_str(alloc, word)?)?;
-        }
-        let input = Vec::from_slice(alloc, self.input)?;
-        let mut source = MemSource::new(input, 7, Vec::from_slice(alloc, self.failing_reads)?);
-        let mut out = MemSink::new(alloc, 5, 900, Vec::from_slice(alloc, self.failing_writes)?)?;
-        let mut err = MemSink::new(alloc, 5, 200, Vec::from_slice(alloc, self.failing_lines)?)?;
-        let result = join_tables(rt, alloc, words.as_slice(), &mut source, &mut out, &mut err);
-        let (status, passes) = match result {
-            Ok(joined) => (TABLE, joined.areas.len()),
-            Err(status) => (status, 0),
-        };
+        let mut out = sink(alloc, 900, self.failing_writes)?;
+        let mut err = sink(alloc, 200, self.failing_lines)?;
+        let (status, passes) = self.call(rt, alloc, &mut out, &mut err)?;
         Ok(Answered {
             status,
             passes,
-            out: Vec::from_slice(alloc, out.written())?,
-            err: Vec::from_slice(alloc, err.written())?,
+            out,
+            err,
+        })
+    }
+
+    /// The status, and how many passes the table's area had.
+    fn call<R: Threads + Wait + Sync>(
+        &self,
+        rt: &R,
+        alloc: Global,
+        out: &mut MemSink,
+        err: &mut MemSink,
+    ) -> Result<(u8, usize), AllocError> {
+        let mut source = source(alloc, self.input, self.failing_reads)?;
+        let words = owned(alloc, self.words)?;
+        let result = join_tables(rt, alloc, words.as_slice(), &mut source, out, err);
+        Ok(match result {
+            Ok(joined) => (TABLE, joined.areas.len()),
+            Err(status) => (status, 0),
         })
     }
 }
@@ -84,14 +109,8 @@ fn check<R: Threads + Wait + Sync>(
 ) -> Result<(), Fail> {
     for (run, status, out, err) in runs {
         let answer = run.answer(rt, alloc)?;
-        if answer.status != *status {
-            return Err(Fail::new("another status"));
-        }
-        if answer.out.as_slice() != out.as_bytes() {
-            return Err(Fail::new("other records"));
-        }
-        if answer.err.as_slice() != err.as_bytes() {
-            return Err(Fail::new("another line"));
+        if !answer.is(*status, out.as_bytes(), err.as_bytes()) {
+            return Err(Fail::new("another answer"));
         }
     }
     Ok(())
@@ -106,10 +125,8 @@ fn any_number_of_workers_gives_the_same_bytes(rt: HostRuntime) -> Result<(), Fai
         ("join id 64", 65),
     ] {
         let answer = Run::of(words, TWO).answer(&rt, rt.alloc())?;
-        assert_eq!(rt; answer.status, TABLE);
+        assert!(rt; answer.is(TABLE, JOINED.as_bytes(), b""), "{words}");
         assert_eq!(rt; answer.passes, passes);
-        assert_eq!(rt; answer.out.as_slice(), JOINED.as_bytes());
-        assert!(rt; answer.err.is_empty());
     }
     Ok(())
 }
@@ -169,9 +186,7 @@ fn words_that_are_none(rt: HostRuntime) -> Result<(), Fail> {
             ..Run::of(words, TWO)
         };
         let answer = run.answer(&rt, rt.alloc())?;
-        assert_eq!(rt; answer.status, MISUSED);
-        assert!(rt; answer.out.is_empty());
-        assert_eq!(rt; answer.err.as_slice(), USAGE.as_bytes());
+        assert!(rt; answer.is(MISUSED, b"", USAGE.as_bytes()), "{words}");
     }
     Ok(())
 }
@@ -272,13 +287,18 @@ fn with_keys(alloc: Global, left: u64, right: u64) -> Result<Vec<u8>, AllocError
 }
 
 #[test]
-fn long_keys(rt: HostRuntime) -> Result<(), Fail> {
-    let short = with_keys(rt.alloc(), 248, 248)?;
+fn longest_keys(rt: HostRuntime) -> Result<(), Fail> {
+    let text = with_keys(rt.alloc(), 248, 248)?;
+    let answer = Run::over("join id 1", &text).answer(&rt, rt.alloc())?;
+    assert_eq!(rt; answer.status, TABLE);
+    assert_eq!(rt; answer.out.written().len(), 6 + 248 + 1 + 248 + 1);
+    Ok(())
+}
+
+#[test]
+fn longer_keys(rt: HostRuntime) -> Result<(), Fail> {
     let left = with_keys(rt.alloc(), 249, 249)?;
     let right = with_keys(rt.alloc(), 248, 249)?;
-    let answer = Run::over("join id 1", &short).answer(&rt, rt.alloc())?;
-    assert_eq!(rt; answer.status, TABLE);
-    assert_eq!(rt; answer.out.len(), 6 + 248 + 1 + 248 + 1);
     let runs = [
         (
             Run::over("join id 1", &left),

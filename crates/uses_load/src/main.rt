@@ -3,8 +3,8 @@
 //! It is what `bench/objects.py` times: it takes no time itself, and prints one line that no schedule changes, with
 //! what it was asked and how many of the calls went as they have to.
 //!
-//! `words` reads what is asked; `lock`, `area`, `queue` and `table` are the loads, a file a kind of object; `counter`
-//! is what stands behind the lock, and `counts` adds up what the threads counted.
+//! `words` reads what is asked; `lock`, `area`, `queue`, `table` (new keys) and `present` (keys that are there) are the
+//! loads; `counter` is what stands behind the lock, and `counts` adds up what the threads counted.
 
 #![tactic(auto)]
 
@@ -12,6 +12,7 @@ mod area;
 mod counter;
 mod counts;
 mod lock;
+mod present;
 mod queue;
 mod table;
 #[cfg(test)]
@@ -20,8 +21,9 @@ mod words;
 
 use crate::area::{area_load, window_load};
 use crate::lock::lock_load;
+use crate::present::{gets_load, sets_load};
 use crate::queue::queue_load;
-use crate::table::{gets_load, puts_load};
+use crate::table::puts_load;
 use crate::words::{Kind, Load, load_of};
 use std::alloc::{AllocError, Global};
 use std::env;
@@ -34,9 +36,10 @@ use std::thread::Threads;
 const WRONG_WORDS: u8 = 2;
 
 /// How the program is called.
-const USAGE: &str = "usage: uses_load lock|area|window|queue|puts|gets THREADS CALLS [SIZE]
+const USAGE: &str =
+    "usage: uses_load lock|area|window|queue|flushed|puts|gets|sets THREADS CALLS [SIZE]
 each of 1 to 64 THREADS makes CALLS calls, up to 2^32; SIZE is 8 to 1000000: the bytes of a chunk (area, window) or of a
-message (queue, which takes 2 threads), or the keys of the table (puts, gets)";
+message (queue, flushed, which take 2 threads), or the keys of the table (puts, gets, sets)";
 
 /// The words after the program's name. Where one is no UTF-8 there are none.
 fn given_words(rt: &HostRuntime) -> io::Result<Vec<String>> {
@@ -76,9 +79,15 @@ fn line<R: Threads + Wait + Sync>(rt: &R, alloc: Global, load: Load) -> Result<S
             format!(in alloc; "window: {threads} threads, {all} pairs of {size} bytes, {good} good")
         }
         Kind::Queue => {
-            let came = queue_load(rt, alloc, calls, size)?;
+            let came = queue_load(rt, alloc, calls, size, false)?;
             format!(in alloc;
                 "queue: {threads} threads, {calls} messages of {size} bytes, {came} came"
+            )
+        }
+        Kind::Flushed => {
+            let came = queue_load(rt, alloc, calls, size, true)?;
+            format!(in alloc;
+                "flushed: {threads} threads, {calls} messages of {size} bytes, {came} came"
             )
         }
         Kind::Puts => {
@@ -88,6 +97,10 @@ fn line<R: Threads + Wait + Sync>(rt: &R, alloc: Global, load: Load) -> Result<S
         Kind::Gets => {
             let found = gets_load(rt, alloc, threads, calls, size)?;
             format!(in alloc; "gets: {threads} threads, {all} gets on {size} keys, {found} found")
+        }
+        Kind::Sets => {
+            let there = sets_load(rt, alloc, threads, calls, size)?;
+            format!(in alloc; "sets: {threads} threads, {all} sets on {size} keys, {there} there")
         }
     }
 }

@@ -13,6 +13,12 @@ use std::thread::{Threads, join};
 /// The words of the queue's ring: 64 KiB.
 const RING_WORDS: u64 = 8192;
 
+/// The words of a ring beside its cells: two counts and a flag.
+const RING_HEAD: u64 = 3;
+
+/// The bytes of a message's number.
+const NUMBER_BYTES: usize = 8;
+
 /// A new region, and in its words behind word 0 a queue of messages of up to this many bytes.
 fn new_queue(alloc: Global, most: u32) -> Result<(Region, Sender, Receiver), AllocError>
     requires few { most ≤ 1000000 }
@@ -23,9 +29,9 @@ fn new_queue(alloc: Global, most: u32) -> Result<(Region, Sender, Receiver), All
     if !is_ring_size(RING_WORDS) {
         return Err(AllocError);
     }
-    let (r, part) = Region::new(alloc, RING_WORDS as usize + 4)?;
-    let mut part = part;
-    let chunk = part.split_chunk(&r, 1, RING_WORDS + 3);
+    let words = RING_WORDS + RING_HEAD;
+    let (r, mut part) = Region::new(alloc, words as usize + 1)?;
+    let chunk = part.split_chunk(&r, 1, words);
     let (tx, rx) = Ring::create(&r, chunk, RING_WORDS, 0, most);
     match attach(alloc, tx, rx) {
         Ok((s, q)) => Ok((r, s, q)),
@@ -33,8 +39,16 @@ fn new_queue(alloc: Global, most: u32) -> Result<(Region, Sender, Receiver), All
     }
 }
 
-/// Sends this many messages, each with its number in front, without flush, and goes. Says how many were sent.
-fn send_all<R: Wait>(rt: &R, r: &Region, mut s: Sender, mut message: Vec<u8>, calls: u64) -> u64
+/// Sends this many messages, each with its number in front, and goes. With `flush` each is shown to the receiver at once.
+/// Says how many were sent.
+fn send_all<R: Wait>(
+    rt: &R,
+    r: &Region,
+    mut s: Sender,
+    mut message: Vec<u8>,
+    calls: u64,
+    flush: bool,
+) -> u64
     requires here { s.region ≡ r.now }
     requires stays { s.end.gone ≡ false }
     requires fresh { left_of s.end.put ≡ [] }
@@ -42,8 +56,8 @@ fn send_all<R: Wait>(rt: &R, r: &Region, mut s: Sender, mut message: Vec<u8>, ca
     ensures { result ≤ calls }
 {
     for number in 0..calls {
-        message[..8].copy_from_slice(&number.to_le_bytes());
-        let SendDone::Sent = s.send(rt, r, message.as_slice(), false) else {
+        message[..NUMBER_BYTES].copy_from_slice(&number.to_le_bytes());
+        let SendDone::Sent = s.send(rt, r, message.as_slice(), flush) else {
             return number;
         };
     }
@@ -79,6 +93,7 @@ fn stream<R: Threads + Wait + Sync>(
     q: Receiver,
     message: Vec<u8>,
     calls: u64,
+    flush: bool,
 ) -> u64
     requires here { (s.region ≡ r.now) × (q.region ≡ r.now) }
     requires stays { (s.end.gone ≡ false) × (q.end.gone ≡ false) }
@@ -91,7 +106,7 @@ fn stream<R: Threads + Wait + Sync>(
         rt,
         || -> u64
             requires { (s.region ≡ r.now) × (s.end.gone ≡ false) × (left_of s.end.put ≡ []) × (8 ≤ length message.items) }
-        { send_all(rt, r, s, message, calls) },
+        { send_all(rt, r, s, message, calls, flush) },
         || -> u64
             requires { (q.region ≡ r.now) × (q.end.gone ≡ false) }
             ensures { result ≤ calls }
@@ -100,12 +115,14 @@ fn stream<R: Threads + Wait + Sync>(
     came
 }
 
-/// Has one thread send this many messages of this many bytes to another. Says how many came as they were sent.
+/// Has one thread send this many messages of this many bytes to another, each shown at once with `flush`. Says how many
+/// came as they were sent.
 pub fn queue_load<R: Threads + Wait + Sync>(
     rt: &R,
     alloc: Global,
     calls: u64,
     bytes: u64,
+    flush: bool,
 ) -> Result<u64, AllocError>
     requires some { 8 ≤ bytes }
     requires few { bytes ≤ 1000000 }
@@ -113,5 +130,5 @@ pub fn queue_load<R: Threads + Wait + Sync>(
 {
     let (r, s, q) = new_queue(alloc, bytes as u32)?;
     let message = vec![in alloc; 0u8; bytes as usize]?;
-    Ok(stream(rt, &r, s, q, message, calls))
+    Ok(stream(rt, &r, s, q, message, calls, flush))
 }

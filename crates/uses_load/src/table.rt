@@ -1,4 +1,4 @@
-//! A hash table of `dshash_parts`, in an area of its own, whose keys all threads put, delete and get.
+//! A hash table of `dshash_parts`, in an area of its own, into which all threads put new keys.
 
 ghost use Rattle.std.specs.Prelude.{◌≡◌, ℕ, ◌+◌, ◌^◌, ◌<◌, ◌≤◌, length, IfOk};
 ghost use mathlib.Core.Option.{some};
@@ -20,22 +20,25 @@ use std::thread::{Threads, map_vec};
 /// A caller's two passes.
 #[derive(Drop)]
 pub struct Passes {
-    table: DsPass<Number>,
-    area: AreaPass,
+    pub(crate) table: DsPass<Number>,
+    pub(crate) area: AreaPass,
 }
-
-/// An odd number whose multiples are spread over all words.
-const SPREAD: u64 = 0x9E37_79B9_7F4A_7C15;
 
 /// How many keys are a caller's own: those from its number times as many on.
 const KEYS_EACH: u64 = 4_294_967_296;
+
+/// The pages of a table with few keys.
+const LEAST_PAGES: u32 = 1024;
+
+/// How many keys more a page more is for.
+const PAGE_KEYS: u64 = 64;
 
 /// Pages enough for this many items, for the bucket slices, and for the old ones beside the new while the table grows.
 fn pages_for(keys: u64) -> u32
     requires { keys ≤ 1000000 }
     ensures { result ≤ 65536 }
 {
-    1024 + (keys / 64) as u32
+    LEAST_PAGES + (keys / PAGE_KEYS) as u32
 }
 
 /// As many passes of the table as of the area, two by two.
@@ -69,7 +72,7 @@ fn paired(
 
 /// A table of keys of one word in an area with room for this many of them; the passes of one caller, and those of the
 /// others.
-fn table_for<R: Wait>(
+pub(crate) fn table_for<R: Wait>(
     rt: &R,
     alloc: Global,
     keys: u64,
@@ -197,55 +200,6 @@ fn puts<R: Wait>(
     new
 }
 
-/// Puts the keys from 0 on, this many of them.
-fn fill<R: Wait>(
-    rt: &R,
-    table: &Dshash<Number>,
-    r: &Region,
-    area: &Area,
-    passes: &mut Passes,
-    keys: u64,
-)
-    requires table { IsTable r.now table.now }
-    requires keys { key_words_of table.now ≡ 1 }
-    requires area { IsArea r.now area.now }
-    requires own { HasBoth table.now area.now passes.old }
-    ensures own { HasBoth table.now area.now passes.new }
-{
-    for key in 0..keys {
-        replies(rt, table, r, area, passes, key, NumberCall::Put(key), None);
-    }
-}
-
-/// Gets this many of the keys from 0 on, in an order of the caller's own. Says how many were found.
-fn gets<R: Wait>(
-    rt: &R,
-    table: &Dshash<Number>,
-    r: &Region,
-    area: &Area,
-    mut passes: Passes,
-    calls: u64,
-    keys: u64,
-) -> u64
-    requires table { IsTable r.now table.now }
-    requires keys { key_words_of table.now ≡ 1 }
-    requires area { IsArea r.now area.now }
-    requires own { HasBoth table.now area.now passes }
-    requires some { 1 ≤ keys }
-    ensures { result ≤ calls }
-{
-    let number = u64::from(passes.area.number());
-    let mut found = 0;
-    for i in 0..calls {
-        let key = i.wrapping_add(number << 32).wrapping_mul(SPREAD) % keys;
-        let stands = table.find(rt, r, &mut passes.table, &[key], &NumberCall::Get);
-        if stands == Some(key) {
-            found += 1;
-        }
-    }
-    found
-}
-
 /// Has this many threads put this many new keys each, of which `keys` are there at once. Says how many were new.
 pub fn puts_load<R: Threads + Wait + Sync>(
     rt: &R,
@@ -272,34 +226,4 @@ pub fn puts_load<R: Threads + Wait + Sync>(
         { puts(rt, shared, here, shared_area, own, calls, most) },
     )?;
     Ok(sum_of(new.as_slice()))
-}
-
-/// Puts `keys` keys into a table, and has this many threads get one of them this many times each. Says how many were
-/// found.
-pub fn gets_load<R: Threads + Wait + Sync>(
-    rt: &R,
-    alloc: Global,
-    threads: u32,
-    calls: u64,
-    keys: u64,
-) -> Result<u64, AllocError>
-    requires some { 1 ≤ threads }
-    requires threads_few { threads ≤ 64 }
-    requires calls_few { calls ≤ 2 ^ 32 }
-    requires keys_some { 1 ≤ keys }
-    requires keys_few { keys ≤ 1000000 }
-{
-    let (region, area, table, mut first, passes) = table_for(rt, alloc, keys, threads)?;
-    fill(rt, &table, &region, &area, &mut first, keys);
-    let here = &region;
-    let shared_area = &area;
-    let shared = &table;
-    let found = map_vec(
-        rt,
-        passes,
-        &|own: Passes| -> u64
-            requires { IsTable here.now shared.now × (key_words_of shared.now ≡ 1) × IsArea here.now shared_area.now × HasBoth shared.now shared_area.now own × (1 ≤ keys) }
-        { gets(rt, shared, here, shared_area, own, calls, keys) },
-    )?;
-    Ok(sum_of(found.as_slice()))
 }

@@ -2,8 +2,9 @@
 
 use crate::area::{area_load, window_load};
 use crate::lock::lock_load;
+use crate::present::{gets_load, sets_load};
 use crate::queue::queue_load;
-use crate::table::{gets_load, puts_load};
+use crate::table::puts_load;
 use crate::words::load_of;
 use std::alloc::{AllocError, Global};
 use std::test::Fail;
@@ -14,11 +15,12 @@ fn each_call_goes_as_it_has_to(rt: HostRuntime) -> Result<(), Fail> {
     assert_eq!(rt; area_load(&rt, rt.alloc(), 2, 500, 24)?, 1000);
     assert_eq!(rt; area_load(&rt, rt.alloc(), 2, 50, 10000)?, 100);
     assert_eq!(rt; window_load(&rt, rt.alloc(), 2, 500, 600)?, 1000);
-    assert_eq!(rt; queue_load(&rt, rt.alloc(), 1000, 8)?, 1000);
-    assert_eq!(rt; queue_load(&rt, rt.alloc(), 200, 1000)?, 200);
+    assert_eq!(rt; queue_load(&rt, rt.alloc(), 1000, 8, true)?, 1000);
+    assert_eq!(rt; queue_load(&rt, rt.alloc(), 200, 1000, false)?, 200);
     assert_eq!(rt; puts_load(&rt, rt.alloc(), 2, 500, 100)?, 1000);
     assert_eq!(rt; puts_load(&rt, rt.alloc(), 2, 1000, 2000)?, 2000);
     assert_eq!(rt; gets_load(&rt, rt.alloc(), 2, 500, 300)?, 1000);
+    assert_eq!(rt; sets_load(&rt, rt.alloc(), 2, 500, 300)?, 1000);
     Ok(())
 }
 
@@ -37,6 +39,7 @@ fn wrong_words_are_told_from_a_load(rt: HostRuntime) -> Result<(), Fail> {
         "lock 2 1000",
         "window 4 1000 24",
         "queue 2 10 1000",
+        "flushed 2 10",
         "puts 64 4294967296 1000000",
     ] {
         assert!(rt; is_load(rt.alloc(), line)?);
@@ -48,6 +51,7 @@ fn wrong_words_are_told_from_a_load(rt: HostRuntime) -> Result<(), Fail> {
         "lock 65 1000",
         "lock two 1000",
         "queue 3 10",
+        "flushed 1 10",
         "area 2 1 7",
         "lock 1 1 8 8",
     ] {

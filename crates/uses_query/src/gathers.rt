@@ -113,28 +113,51 @@ fn gathered<G: Gate + Sync, R: Threads + Wait + Sync>(
     }
 }
 
-/// The row that is named.
+/// The row that is named, with this many workers, and with a table in this many pages if these are not none.
 fn refused<R: Threads + Wait + Sync>(
     rt: &R,
     alloc: Global,
-    store: &RowStore,
-    plan: &BoundPlan,
+    text: &[u8],
     workers: u32,
     area_pages: u32,
 ) -> Result<u64, Fail>
-    requires columns { HasColumns plan.now (header_width store.now) }
     requires workers { workers ≤ 64 }
     requires pages { area_pages ≤ 65536 }
 {
-    match gather(rt, alloc, store, plan, workers, area_pages, &OpenGate) {
+    let (store, plan) = query(alloc, text, area_pages > 0)?;
+    match gather(rt, alloc, &store, &plan, workers, area_pages, &OpenGate) {
         Ok(_) => Err(Fail::new("no row is refused")),
         Err(GatherAnswer::Memory) => Err(Fail::new("memory")),
         Err(GatherAnswer::Row { row, .. }) => Ok(row),
     }
 }
 
+/// Whether there are this many groups of this many rows each.
+fn are_even(got: &Gathered, names: usize, each: u64) -> bool {
+    if got.groups.len() != names {
+        return false;
+    }
+    for at in 0..names {
+        let group = got.groups.get(at);
+        if group.state.rows != each {
+            return false;
+        }
+    }
+    true
+}
+
+/// Whether each worker came to its end.
+fn all_finished(got: &Gathered) -> bool {
+    for worker in &got.finished.workers {
+        if worker.end != Some(WorkerEnd::Finished) {
+            return false;
+        }
+    }
+    true
+}
+
 /// This many groups of this many rows each, with this many workers, and with a table in this many pages if these are
-/// not none.
+/// not none. How many workers were launched.
 fn even_groups<G: Gate + Sync, R: Threads + Wait + Sync>(
     rt: &R,
     alloc: Global,
@@ -150,40 +173,50 @@ fn even_groups<G: Gate + Sync, R: Threads + Wait + Sync>(
 {
     let (store, plan) = query(alloc, text, area_pages > 0)?;
     let got = gathered(rt, alloc, &store, &plan, workers, area_pages, gate)?;
-    if got.finished.table.is_some() != (area_pages > 0) {
-        return Err(Fail::new("a table too many, or too few"));
+    let has_table = got.finished.table.is_some();
+    if has_table == (area_pages > 0) && are_even(&got, names, each) && all_finished(&got) {
+        Ok(got.finished.launched)
+    } else {
+        Err(Fail::new("other groups, another end, or a table too many or too few"))
     }
-    if got.groups.len() != names {
-        return Err(Fail::new("another number of groups"));
+}
+
+/// Whether there is one group, `a`, of 768 rows of the value 2, from this many workers.
+fn is_one_group(got: &Gathered, workers: u32) -> bool {
+    if got.groups.len() != 1 {
+        return false;
     }
-    for at in 0..names {
-        let group = got.groups.get(at);
-        if group.state.rows != each {
-            return Err(Fail::new("another number of rows"));
-        }
-    }
-    for worker in &got.finished.workers {
-        if worker.end != Some(WorkerEnd::Finished) {
-            return Err(Fail::new("another end"));
-        }
-    }
-    Ok(got.finished.launched)
+    let group = got.groups.get(0);
+    group.key.bytes() == b"\x01\0\0\0a".as_slice()
+        && group.state.rows == 768
+        && group.state.slots[1].sum == 1536
+        && got.finished.workers.len() == workers as usize
+        && got.finished.launched == workers
+}
+
+/// Whether these rows come to that group.
+fn has_one_group<R: Threads + Wait + Sync>(
+    rt: &R,
+    alloc: Global,
+    text: &[u8],
+    workers: u32,
+) -> Result<bool, Fail>
+    requires workers { workers ≤ 64 }
+{
+    let (store, plan) = query(alloc, text, false)?;
+    let got = gathered(rt, alloc, &store, &plan, workers, 0, &OpenGate)?;
+    Ok(is_one_group(&got, workers))
 }
 
 #[test]
 fn one_group_with_any_workers(rt: HostRuntime) -> Result<(), Fail> {
     let text = table(rt.alloc(), 768, 1, 0)?;
-    let (store, plan) = query(rt.alloc(), &text, false)?;
     for workers in [0, 1, 2, 8, 64] {
         if workers <= 64 {
-            let got = gathered(&rt, rt.alloc(), &store, &plan, workers, 0, &OpenGate)?;
-            assert_eq!(rt; got.groups.len(), 1, "with {workers} workers");
-            let group = got.groups.get(0);
-            assert!(rt; group.key.bytes() == b"\x01\0\0\0a".as_slice());
-            assert_eq!(rt; group.state.rows, 768);
-            assert_eq!(rt; group.state.slots[1].sum, 1536);
-            assert_eq!(rt; got.finished.workers.len(), workers as usize);
-            assert_eq!(rt; got.finished.launched, workers);
+            assert!(rt;
+                has_one_group(&rt, rt.alloc(), &text, workers)?,
+                "{workers} workers"
+            );
         }
     }
     Ok(())
@@ -205,18 +238,12 @@ fn many_groups_with_any_workers(rt: HostRuntime) -> Result<(), Fail> {
 #[test]
 fn no_rows(rt: HostRuntime) -> Result<(), Fail> {
     let text = table(rt.alloc(), 0, 1, 0)?;
-    assert_eq!(rt;
-        even_groups(&rt, rt.alloc(), &text, 0, 0, 0, 0, &OpenGate)?,
-        0
-    );
-    assert_eq!(rt;
-        even_groups(&rt, rt.alloc(), &text, 0, 0, 3, 0, &OpenGate)?,
-        3
-    );
-    assert_eq!(rt;
-        even_groups(&rt, rt.alloc(), &text, 0, 0, 3, 16, &OpenGate)?,
-        3
-    );
+    for (workers, pages) in [(0, 0), (3, 0), (3, 16)] {
+        if workers <= 64 && pages <= 65_536 {
+            let launched = even_groups(&rt, rt.alloc(), &text, 0, 0, workers, pages, &OpenGate)?;
+            assert_eq!(rt; launched, workers);
+        }
+    }
     Ok(())
 }
 
@@ -225,13 +252,12 @@ fn no_rows(rt: HostRuntime) -> Result<(), Fail> {
 fn a_refused_row(rt: HostRuntime) -> Result<(), Fail> {
     for bad in [1, 257, 2_500, 5_000] {
         let text = wide_table(rt.alloc(), 5_000, 1_250, bad)?;
-        let (store, plan) = query(rt.alloc(), &text, false)?;
-        assert_eq!(rt; refused(&rt, rt.alloc(), &store, &plan, 0, 0)?, bad);
-        assert_eq!(rt; refused(&rt, rt.alloc(), &store, &plan, 1, 0)?, bad);
-        assert_eq!(rt; refused(&rt, rt.alloc(), &store, &plan, 4, 0)?, bad);
-        let (store, plan) = query(rt.alloc(), &text, true)?;
-        assert_eq!(rt; refused(&rt, rt.alloc(), &store, &plan, 0, 32)?, bad);
-        assert_eq!(rt; refused(&rt, rt.alloc(), &store, &plan, 4, 32)?, bad);
+        for (workers, pages) in [(0, 0), (1, 0), (4, 0), (0, 32), (4, 32)] {
+            if workers <= 64 && pages <= 65_536 {
+                let row = refused(&rt, rt.alloc(), &text, workers, pages)?;
+                assert_eq!(rt; row, bad, "{workers} workers, {pages} pages");
+            }
+        }
     }
     Ok(())
 }

@@ -1,6 +1,5 @@
 //! Worked words, and what they answer.
 
-use gather_run::Gathered;
 use gen_query::{GenAnswer, answer_generated};
 use par_io::MemSink;
 use std::alloc::{AllocError, Global};
@@ -9,69 +8,94 @@ use std::test::Fail;
 use std::thread::Threads;
 use worker_run::OpenGate;
 
-/// What words answer, and what the sink was given. The words stand between spaces; these writes fail, and the sink takes
-/// 5 bytes a call.
-fn answer<R: Threads + Wait + Sync>(
-    rt: &R,
-    alloc: Global,
-    words: &str,
-    failing_writes: &[u64],
-) -> Result<(Result<Gathered, GenAnswer>, Vec<u8>), AllocError> {
+/// Words that stand between spaces.
+fn owned(alloc: Global, words: &str) -> Result<Vec<String>, AllocError> {
     let mut list = Vec::new(alloc);
     for word in words.split(' ') {
         list.push(String::from_str(alloc, word)?)?;
     }
-    let mut out = MemSink::new(alloc, 5, 200, Vec::from_slice(alloc, failing_writes)?)?;
-    let answered = answer_generated(rt, alloc, list.as_slice(), &mut out, &OpenGate);
-    Ok((answered, Vec::from_slice(alloc, out.written())?))
+    Ok(list)
 }
 
-/// An empty line stands for words that are none.
+/// A sink that takes 5 bytes a call, of which these fail.
+fn sink(alloc: Global, failing: &[u64]) -> Result<MemSink, AllocError> {
+    MemSink::new(alloc, 5, 200, Vec::from_slice(alloc, failing)?)
+}
+
+/// How many workers words ask for and how many groups they come to, or why there are none.
+fn ask<R: Threads + Wait + Sync>(
+    rt: &R,
+    alloc: Global,
+    words: &str,
+    out: &mut MemSink,
+) -> Result<Result<(usize, usize), GenAnswer>, AllocError> {
+    let list = owned(alloc, words)?;
+    match answer_generated(rt, alloc, list.as_slice(), out, &OpenGate) {
+        Ok(got) => Ok(Ok((got.finished.workers.len(), got.groups.len()))),
+        Err(why) => Ok(Err(why)),
+    }
+}
+
+/// Whether words say this line, or are none where it is empty.
+fn says<R: Threads + Wait + Sync>(
+    rt: &R,
+    alloc: Global,
+    words: &str,
+    line: &str,
+) -> Result<bool, AllocError> {
+    let mut out = sink(alloc, &[])?;
+    let answer = ask(rt, alloc, words, &mut out)?;
+    let is_well = if line.is_empty() {
+        answer == Err(GenAnswer::Usage)
+    } else {
+        answer.is_ok()
+    };
+    Ok(is_well && out.written() == line.as_bytes())
+}
+
+/// Words, and the line that they say. An empty line stands for words that are none.
+const ROWS: [(&str, &str); 13] = [
+    ("gen 1 0", "rows 0 groups 0 sum 0\n"),
+    ("gen 1 1", "rows 1 groups 1 sum -1000\n"),
+    ("gen 1 2", "rows 2 groups 2 sum -56\n"),
+    (
+        "gen 00000000000000000001 0000002",
+        "rows 2 groups 2 sum -56\n",
+    ),
+    ("gen 0 5", ""),
+    ("gen 1 4194305", ""),
+    ("gen 1", ""),
+    ("gen 1 2 3", ""),
+    ("gen 18446744073709551616 1", ""),
+    ("gen 000000000000000000001 1", ""),
+    ("gen 1 00000002", ""),
+    ("gen +1 2", ""),
+    ("generate 1 2", ""),
+];
+
 #[test]
 fn answers_worked_words(rt: HostRuntime) -> Result<(), Fail> {
-    let rows = [
-        ("gen 1 0", "rows 0 groups 0 sum 0\n"),
-        ("gen 1 1", "rows 1 groups 1 sum -1000\n"),
-        ("gen 1 2", "rows 2 groups 2 sum -56\n"),
-        (
-            "gen 00000000000000000001 0000002",
-            "rows 2 groups 2 sum -56\n",
-        ),
-        ("gen 0 5", ""),
-        ("gen 1 4194305", ""),
-        ("gen 1", ""),
-        ("gen 1 2 3", ""),
-        ("gen 18446744073709551616 1", ""),
-        ("gen 000000000000000000001 1", ""),
-        ("gen 1 00000002", ""),
-        ("gen +1 2", ""),
-        ("generate 1 2", ""),
-    ];
-    for (at, (words, line)) in rows.iter().enumerate() {
-        let (answered, out) = answer(&rt, rt.alloc(), words, &[])?;
-        assert_eq!(rt; out.as_slice(), line.as_bytes(), "line of row {at}");
-        match answered {
-            Ok(_) => assert!(rt; !line.is_empty(), "row {at}"),
-            Err(why) => assert_eq!(rt; why, GenAnswer::Usage, "row {at}"),
-        }
+    for (words, line) in ROWS {
+        assert!(rt; says(&rt, rt.alloc(), words, line)?, "{words}");
     }
-    let (largest, _) = answer(&rt, rt.alloc(), "gen 18446744073709551615 1", &[])?;
-    assert!(rt; largest.is_ok());
+    Ok(())
+}
+
+#[test]
+fn largest_seed(rt: HostRuntime) -> Result<(), Fail> {
+    let mut out = sink(rt.alloc(), &[])?;
+    assert!(rt; ask(&rt, rt.alloc(), "gen 18446744073709551615 1", &mut out)?.is_ok());
     Ok(())
 }
 
 /// The second write fails: a front of the line was taken.
 #[test]
 fn failing_write(rt: HostRuntime) -> Result<(), Fail> {
-    let (answered, out) = answer(&rt, rt.alloc(), "gen 1 2", &[2])?;
-    assert_eq!(rt; out.as_slice(), b"rows ".as_slice());
-    match answered {
-        Ok(_) => Err(Fail::new("the write did not fail")),
-        Err(why) => {
-            assert_eq!(rt; why, GenAnswer::WriteFault);
-            Ok(())
-        }
-    }
+    let mut out = sink(rt.alloc(), &[2])?;
+    let answer = ask(&rt, rt.alloc(), "gen 1 2", &mut out)?;
+    assert!(rt; answer == Err(GenAnswer::WriteFault));
+    assert!(rt; out.written() == b"rows ".as_slice());
+    Ok(())
 }
 
 /// What a plain loop says of the rows: it marks each group that it meets.
@@ -96,13 +120,10 @@ fn plain_line(alloc: Global, seed: u64, rows: u64) -> Result<String, AllocError>
 /// A hundred thousand rows say what a plain loop says, and two workers were asked for.
 #[test]
 fn says_what_a_plain_loop_says(rt: HostRuntime) -> Result<(), Fail> {
-    let (answered, out) = answer(&rt, rt.alloc(), "gen 7 100000", &[])?;
     let wanted = plain_line(rt.alloc(), 7, 100_000)?;
-    assert_eq!(rt; out.as_slice(), wanted.as_bytes());
-    let Ok(gathered) = answered else {
-        return Err(Fail::new("no groups"));
-    };
-    assert_eq!(rt; gathered.finished.workers.len(), 2);
-    assert_eq!(rt; gathered.groups.len(), 1_000);
+    let mut out = sink(rt.alloc(), &[])?;
+    let answer = ask(&rt, rt.alloc(), "gen 7 100000", &mut out)?;
+    assert!(rt; answer == Ok((2, 1_000)));
+    assert!(rt; out.written() == wanted.as_bytes());
     Ok(())
 }

@@ -6,7 +6,6 @@ ghost use Rattle.partial_agg.specs.Rows.{header_width};
 ghost use Rattle.gather_merge.specs.Answers.{OrdersRows};
 ghost use Rattle.gather_merge.specs.Order.{IsOrder};
 
-mod meeting;
 mod stopping;
 
 use csv_rows::{RowStore, rows};
@@ -97,43 +96,68 @@ fn is_order(merged: &Merged, list: &[u64]) -> bool {
     true
 }
 
+/// Whether this many workers were launched, and each came to its end.
+fn all_finished(merged: &Merged, workers: u32) -> bool {
+    for worker in &merged.finished.workers {
+        if worker.end != Some(WorkerEnd::Finished) {
+            return false;
+        }
+    }
+    merged.finished.launched == workers
+}
+
+/// Whether the rows of a text with this many columns come in this order, by its first column or by both of two, and all
+/// workers came to their ends.
+fn are_ordered<R: Threads + Wait + Sync>(
+    rt: &R,
+    alloc: Global,
+    text: &[u8],
+    width: u32,
+    both: bool,
+    workers: u32,
+    list: &[u64],
+) -> Result<bool, Fail>
+    requires workers { workers ≤ 64 }
+{
+    let (store, plan) = ordered_by(alloc, text, width, both)?;
+    let got = merged(rt, alloc, &store, &plan, workers, &OpenGate)?;
+    Ok(is_order(&got, list) && all_finished(&got, workers))
+}
+
 #[test]
 fn by_one_column_and_by_two(rt: HostRuntime) -> Result<(), Fail> {
     let text = b"g,v\nb,1\na,2\nb,0\na,1\n";
     for workers in [0, 1, 2, 64] {
         if workers <= 64 {
-            let (store, plan) = ordered_by(rt.alloc(), text, 2, false)?;
-            let got = merged(&rt, rt.alloc(), &store, &plan, workers, &OpenGate)?;
-            assert!(rt; is_order(&got, &[2, 4, 1, 3]));
-            let (store, plan) = ordered_by(rt.alloc(), text, 2, true)?;
-            let got = merged(&rt, rt.alloc(), &store, &plan, workers, &OpenGate)?;
-            assert!(rt; is_order(&got, &[3, 4, 1, 2]));
+            for (both, list) in [(false, [2, 4, 1, 3]), (true, [3, 4, 1, 2])] {
+                assert!(rt; are_ordered(&rt, rt.alloc(), text, 2, both, workers, &list)?);
+            }
         }
     }
     Ok(())
 }
 
-/// The place of each row of 2,000 is known: those with the digit 0 come first, each digit's in order of their numbers.
-#[test]
-fn two_thousand_rows(rt: HostRuntime) -> Result<(), Fail> {
-    let text = sevens(rt.alloc(), 2_000)?;
-    let (store, plan) = ordered_by(rt.alloc(), &text, 1, false)?;
-    let mut list = Vec::new(rt.alloc());
+/// The numbers of these rows by their digits: those with the digit 0 come first, each digit's in order of their numbers.
+fn by_digits(alloc: Global, count: u64) -> Result<Vec<u64>, AllocError> {
+    let mut list = Vec::new(alloc);
     for digit in 0..7 {
-        for row in 1..=2_000 {
+        for row in 1..=count {
             if row % 7 == digit {
                 list.push(row)?;
             }
         }
     }
+    Ok(list)
+}
+
+/// The place of each row of 2,000 is known.
+#[test]
+fn two_thousand_rows(rt: HostRuntime) -> Result<(), Fail> {
+    let text = sevens(rt.alloc(), 2_000)?;
+    let list = by_digits(rt.alloc(), 2_000)?;
     for workers in [0, 1, 3] {
         if workers <= 64 {
-            let got = merged(&rt, rt.alloc(), &store, &plan, workers, &OpenGate)?;
-            assert!(rt; is_order(&got, &list), "with {workers} workers");
-            assert_eq!(rt; got.finished.launched, workers);
-            for worker in &got.finished.workers {
-                assert!(rt; worker.end == Some(WorkerEnd::Finished));
-            }
+            assert!(rt; are_ordered(&rt, rt.alloc(), &text, 1, false, workers, &list)?);
         }
     }
     Ok(())
@@ -141,22 +165,36 @@ fn two_thousand_rows(rt: HostRuntime) -> Result<(), Fail> {
 
 #[test]
 fn no_rows(rt: HostRuntime) -> Result<(), Fail> {
-    let (store, plan) = ordered_by(rt.alloc(), b"n\n", 1, false)?;
-    let got = merged(&rt, rt.alloc(), &store, &plan, 3, &OpenGate)?;
-    assert_eq!(rt; got.order.len(), 0);
+    assert!(rt; are_ordered(&rt, rt.alloc(), b"n\n", 1, false, 3, &[])?);
     Ok(())
+}
+
+/// Why the rows of a text have no order by their one column, or by the first of two.
+fn refused<G: Gate + Sync, R: Threads + Wait + Sync>(
+    rt: &R,
+    alloc: Global,
+    text: &[u8],
+    width: u32,
+    workers: u32,
+    gate: &G,
+) -> Result<MergeAnswer, Fail>
+    requires workers { workers ≤ 64 }
+{
+    let (store, plan) = ordered_by(alloc, text, width, false)?;
+    match merge(rt, alloc, &store, &plan, workers, gate) {
+        Ok(_) => Err(Fail::new("no row is refused")),
+        Err(why) => Ok(why),
+    }
 }
 
 /// With no workers the first refused row is named, and else one that is refused.
 #[test]
 fn a_refused_row(rt: HostRuntime) -> Result<(), Fail> {
-    let (store, plan) = ordered_by(rt.alloc(), b"g,v\na,1\nb\nc,d,e\n", 2, false)?;
+    let text = b"g,v\na,1\nb\nc,d,e\n";
     for workers in [0, 1, 4] {
         if workers <= 64 {
-            match merge(&rt, rt.alloc(), &store, &plan, workers, &OpenGate) {
-                Ok(_) => return Err(Fail::new("no row is refused")),
-                Err(why) => assert!(rt; why == MergeAnswer::Row { row: 2, cause: 1 }),
-            }
+            let why = refused(&rt, rt.alloc(), text, 2, workers, &OpenGate)?;
+            assert!(rt; why == MergeAnswer::Row { row: 2, cause: 1 });
         }
     }
     Ok(())

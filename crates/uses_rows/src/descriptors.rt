@@ -7,6 +7,7 @@ use par_model::{BoundPlan, Filter, FilterOp, Item, ItemKind};
 use plan_spec::{BadDescriptor, PLAN_KEY, plan_in, read_plan, write_plan};
 use region_words::{Chunk, Part, Region};
 use shm_toc::Toc;
+use std::alloc::Global;
 use std::test::Fail;
 
 /// An item that is not used.
@@ -139,6 +140,30 @@ const WORDS: [u64; 32] = [
     0,
 ];
 
+/// The plan that is written into a new region and read there.
+fn read_back(alloc: Global, plan: &BoundPlan) -> Result<BoundPlan, Fail> {
+    let (region, mut part) = Region::new(alloc, 64)?;
+    let words = first_words(&region, &mut part);
+    Ok(through_a_table(&region, words, plan).ok_or("no room")?)
+}
+
+/// What is read of these words in a new region.
+fn read_words(alloc: Global, words: &[u64; 32]) -> Result<Result<BoundPlan, BadDescriptor>, Fail> {
+    let (region, mut part) = Region::new(alloc, 64)?;
+    let part = first_words(&region, &mut part);
+    Ok(plan_of_words(&region, part, words).ok_or("no room")?)
+}
+
+/// Whether two plans are the same, place by place.
+fn are_same(one: &BoundPlan, other: &BoundPlan) -> bool {
+    one.groups == other.groups
+        && one.group_count == other.group_count
+        && one.items == other.items
+        && one.item_count == other.item_count
+        && one.hash == other.hash
+        && one.filter == other.filter
+}
+
 #[test]
 fn a_plan_reads_back(rt: HostRuntime) -> Result<(), Fail> {
     let relations = [
@@ -150,16 +175,8 @@ fn a_plan_reads_back(rt: HostRuntime) -> Result<(), Fail> {
         FilterOp::GreaterEqual,
     ];
     for op in relations {
-        let (region, mut part) = Region::new(rt.alloc(), 64)?;
-        let words = first_words(&region, &mut part);
         let plan = plan_with(op, i64::MIN);
-        let read = through_a_table(&region, words, &plan).expect(&rt, "a plan");
-        assert_eq!(rt; read.groups, plan.groups);
-        assert_eq!(rt; read.group_count, 2);
-        assert_eq!(rt; read.items, plan.items);
-        assert_eq!(rt; read.item_count, 3);
-        assert!(rt; read.hash);
-        assert_eq!(rt; read.filter, plan.filter);
+        assert!(rt; are_same(&read_back(rt.alloc(), &plan)?, &plan));
     }
     Ok(())
 }
@@ -185,11 +202,9 @@ fn words_are_read(rt: HostRuntime) -> Result<(), Fail> {
         (31, 1, Some(31)),
     ];
     for (place, word, want) in table {
-        let (region, mut part) = Region::new(rt.alloc(), 64)?;
-        let part = first_words(&region, &mut part);
         let mut words = WORDS;
         *words.get_mut(place).expect(&rt, "a place") = word;
-        let read = plan_of_words(&region, part, &words).expect(&rt, "room");
+        let read = read_words(rt.alloc(), &words)?;
         assert_eq!(rt; read.err().map(|bad| bad.at), want);
     }
     Ok(())
@@ -198,21 +213,14 @@ fn words_are_read(rt: HostRuntime) -> Result<(), Fail> {
 #[test]
 fn both_versions_are_read(rt: HostRuntime) -> Result<(), Fail> {
     for version in [1, 2] {
-        let (region, mut part) = Region::new(rt.alloc(), 64)?;
-        let part = first_words(&region, &mut part);
         let mut words = WORDS;
         words[0] = version;
-        let read = plan_of_words(&region, part, &words).expect(&rt, "room");
-        let read = read.ok().expect(&rt, "a plan");
-        let plan = plan_with(FilterOp::LessEqual, -2);
-        assert_eq!(rt; read.groups, plan.groups);
-        assert_eq!(rt; read.items, plan.items);
-        assert_eq!(rt;
-            (read.group_count, read.item_count, read.hash),
-            (2, 3, true)
-        );
-        let filter = if version == 2 { plan.filter } else { None };
-        assert_eq!(rt; read.filter, filter);
+        let mut plan = plan_with(FilterOp::LessEqual, -2);
+        if version == 1 {
+            plan.filter = None;
+        }
+        let read = read_words(rt.alloc(), &words)?.ok().ok_or("no plan")?;
+        assert!(rt; are_same(&read, &plan));
     }
     Ok(())
 }

@@ -21,53 +21,97 @@ fn place_of(keys: &mut KeyTable, alloc: Global, key: &[u8]) -> Result<usize, All
     }
 }
 
+/// The keys `pear`, the empty one, `fig` and `pear\0`, in these places.
+fn four_keys(alloc: Global) -> Result<KeyTable, AllocError> {
+    let mut keys = KeyTable::new(alloc);
+    for key in [b"pear".as_slice(), b"", b"fig", b"pear\0"] {
+        keys.push(alloc, key)?;
+    }
+    Ok(keys)
+}
+
+/// Keys, and the places that they come to one after the other.
+const PLACES: [(&[u8], usize); 6] = [
+    (b"pear", 0),
+    (b"", 1),
+    (b"fig", 2),
+    (b"pear", 0),
+    (b"pear\0", 3),
+    (b"fig", 2),
+];
+
+/// Whether each key comes to its place.
+fn come_to_places(keys: &mut KeyTable, alloc: Global) -> Result<bool, AllocError> {
+    for (key, place) in PLACES {
+        if place_of(keys, alloc, key)? != place {
+            return Ok(false);
+        }
+    }
+    Ok(keys.len() == 4 && keys.find(b"plum").is_none())
+}
+
 #[test]
 fn places_of_keys(rt: HostRuntime) -> Result<(), Fail> {
-    let table: [(&[u8], usize); 6] = [
-        (b"pear", 0),
-        (b"", 1),
-        (b"fig", 2),
-        (b"pear", 0),
-        (b"pear\0", 3),
-        (b"fig", 2),
-    ];
     let mut keys = KeyTable::new(rt.alloc());
-    for (key, place) in table {
-        assert_eq!(rt; place_of(&mut keys, rt.alloc(), key)?, place);
-    }
-    assert_eq!(rt; keys.len(), 4);
-    assert!(rt; keys.find(b"plum").is_none());
+    assert!(rt; come_to_places(&mut keys, rt.alloc())?);
+    Ok(())
+}
+
+#[test]
+fn places_in_order_of_keys(rt: HostRuntime) -> Result<(), Fail> {
+    let keys = four_keys(rt.alloc())?;
     let mut places = Vec::from_slice(rt.alloc(), &[0, 1, 2, 3])?;
     keys.sort(&mut places);
     let sorted: [usize; 4] = [1, 2, 0, 3];
     assert!(rt; places.as_slice() == sorted.as_slice());
-    keys.clear();
-    assert!(rt; keys.find(b"pear").is_none());
-    assert_eq!(rt; place_of(&mut keys, rt.alloc(), b"fig")?, 0);
-    assert_eq!(rt; keys.find(b"fig"), Some(0));
     Ok(())
 }
 
-/// Guesses at the places of keys, and that a wrong one finds the same.
+/// Whether a key comes to the first place of a table that is cleared, and no former key is left.
+fn is_cleared(keys: &mut KeyTable, alloc: Global) -> Result<bool, AllocError> {
+    keys.clear();
+    Ok(
+        keys.find(b"pear").is_none()
+            && place_of(keys, alloc, b"fig")? == 0
+            && keys.find(b"fig") == Some(0),
+    )
+}
+
+#[test]
+fn a_cleared_table(rt: HostRuntime) -> Result<(), Fail> {
+    let mut keys = four_keys(rt.alloc())?;
+    assert!(rt; is_cleared(&mut keys, rt.alloc())?);
+    Ok(())
+}
+
+/// A key, its last byte, and its place in [`four_keys`].
+const GUESSES: [(&[u8], u8, Option<usize>); 4] = [
+    (b"pear", b'r', Some(0)),
+    (b"fig", b'g', Some(2)),
+    (b"", 0, Some(1)),
+    (b"plum", b'm', None),
+];
+
+/// Whether a guess at a key is its place, and a wrong guess finds the same.
+fn is_found(keys: &KeyTable, key: &[u8], last: u8, place: Option<usize>) -> bool {
+    let mut guess = [7];
+    keys.guess(&[hash_of(key)], &[last], &mut guess);
+    if !key.is_empty() && guess[0] != place.unwrap_or(usize::MAX) {
+        return false;
+    }
+    for at in [guess[0], 0, 1, 2, 9] {
+        if keys.find_at(at, key) != place {
+            return false;
+        }
+    }
+    true
+}
+
 #[test]
 fn guessed_places(rt: HostRuntime) -> Result<(), Fail> {
-    let table: [(&[u8], u8, Option<usize>); 4] = [
-        (b"pear", b'r', Some(0)),
-        (b"fig", b'g', Some(1)),
-        (b"", 0, Some(2)),
-        (b"plum", b'm', None),
-    ];
-    let mut keys = KeyTable::new(rt.alloc());
-    for key in [b"pear".as_slice(), b"fig", b""] {
-        keys.push(rt.alloc(), key)?;
-    }
-    for (key, last, place) in table {
-        let mut guess = [7];
-        keys.guess(&[hash_of(key)], &[last], &mut guess);
-        assert!(rt; key.is_empty() || guess[0] == place.unwrap_or(usize::MAX));
-        for at in [guess[0], 0, 1, 9] {
-            assert_eq!(rt; keys.find_at(at, key), place);
-        }
+    let keys = four_keys(rt.alloc())?;
+    for (key, last, place) in GUESSES {
+        assert!(rt; is_found(&keys, key, last, place), "{key:?}");
     }
     Ok(())
 }

@@ -33,109 +33,138 @@ fn bound_words(alloc: Global, words: &[String], store: &RowStore) -> Option<Boun
     plan.bind(store).ok()
 }
 
-/// Words that are a plan, and words that are none.
+/// Words, and whether they are a plan.
+const PLANS: [(&str, bool); 22] = [
+    ("--agg count", true),
+    ("--agg=count,sum:v,avg:a:b", true),
+    (
+        "--group g,h --agg count --where v>=-3 --workers 64 --plan hash --area-pages 0",
+        true,
+    ),
+    ("--where=v=9223372036854775807 --agg count", true),
+    ("--agg count --", true),
+    ("--where=-v=1 --agg count", true),
+    ("--group g", false),
+    ("", false),
+    ("--agg avg", false),
+    ("--agg sum:", false),
+    ("--agg count,", false),
+    ("--agg count --agg count", false),
+    ("--group g,,h --agg count", false),
+    ("--group a,b,c,d,e,f,g,h,i --agg count", false),
+    ("--agg count --where v=", false),
+    ("--agg count --where v==1", false),
+    ("--agg count --where =1", false),
+    ("--agg count --workers 65", false),
+    ("--agg count --workers +1", false),
+    ("--agg count --plan sort", false),
+    ("--agg count --area-pages 65537", false),
+    ("--help", false),
+];
+
+/// Whether words are a plan.
+fn is_plan(alloc: Global, words: &str) -> Result<bool, Fail> {
+    let list = owned(alloc, words)?;
+    match Plan::of_words(alloc, list.as_slice()) {
+        Ok(_plan) => Ok(true),
+        Err(PlanAnswer::Usage) => Ok(false),
+        Err(PlanAnswer::Memory) => Err(Fail::new("memory")),
+    }
+}
+
 #[test]
 fn plans(rt: HostRuntime) -> Result<(), Fail> {
-    let table: [(&str, bool); 22] = [
-        ("--agg count", true),
-        ("--agg=count,sum:v,avg:a:b", true),
-        (
-            "--group g,h --agg count --where v>=-3 --workers 64 --plan hash --area-pages 0",
-            true,
-        ),
-        ("--where=v=9223372036854775807 --agg count", true),
-        ("--agg count --", true),
-        ("--where=-v=1 --agg count", true),
-        ("--group g", false),
-        ("", false),
-        ("--agg avg", false),
-        ("--agg sum:", false),
-        ("--agg count,", false),
-        ("--agg count --agg count", false),
-        ("--group g,,h --agg count", false),
-        ("--group a,b,c,d,e,f,g,h,i --agg count", false),
-        ("--agg count --where v=", false),
-        ("--agg count --where v==1", false),
-        ("--agg count --where =1", false),
-        ("--agg count --workers 65", false),
-        ("--agg count --workers +1", false),
-        ("--agg count --plan sort", false),
-        ("--agg count --area-pages 65537", false),
-        ("--help", false),
-    ];
-    for (words, is_plan) in table {
-        let list = owned(rt.alloc(), words)?;
-        match Plan::of_words(rt.alloc(), list.as_slice()) {
-            Ok(_plan) => assert!(rt; is_plan, "{words}"),
-            Err(PlanAnswer::Usage) => assert!(rt; !is_plan, "{words}"),
-            Err(PlanAnswer::Memory) => assert!(rt; false, "{words}"),
-        }
+    for (words, wanted) in PLANS {
+        assert!(rt; is_plan(rt.alloc(), words)? == wanted, "{words}");
     }
     Ok(())
 }
 
-/// Words that ask for rows in order, and words that do not.
+/// Words, whether they begin as those that ask for rows in order, and whether they do.
+const MERGES: [(&str, bool, bool); 10] = [
+    ("merge g 0", true, true),
+    ("merge a,b,c,d,e,f,g,h 00064", true, true),
+    ("merge --agg 1", true, true),
+    ("merge g", true, false),
+    ("merge g 1 1", true, false),
+    ("merge g,,h 1", true, false),
+    ("merge a,b,c,d,e,f,g,h,i 1", true, false),
+    ("merge g 65", true, false),
+    ("merge g 000001", true, false),
+    ("Merge g 1", false, false),
+];
+
+/// Whether words begin as those that ask for rows in order, and whether they do.
+fn is_merge_plan(alloc: Global, words: &str) -> Result<(bool, bool), Fail> {
+    let list = owned(alloc, words)?;
+    let begins = is_merge(list.as_slice());
+    match Plan::of_merge_words(alloc, list.as_slice()) {
+        Ok(_plan) => Ok((begins, true)),
+        Err(PlanAnswer::Usage) => Ok((begins, false)),
+        Err(PlanAnswer::Memory) => Err(Fail::new("memory")),
+    }
+}
+
 #[test]
 fn merges(rt: HostRuntime) -> Result<(), Fail> {
-    let table: [(&str, bool, bool); 10] = [
-        ("merge g 0", true, true),
-        ("merge a,b,c,d,e,f,g,h 00064", true, true),
-        ("merge --agg 1", true, true),
-        ("merge g", true, false),
-        ("merge g 1 1", true, false),
-        ("merge g,,h 1", true, false),
-        ("merge a,b,c,d,e,f,g,h,i 1", true, false),
-        ("merge g 65", true, false),
-        ("merge g 000001", true, false),
-        ("Merge g 1", false, false),
-    ];
-    for (words, begins_so, is_plan) in table {
-        let list = owned(rt.alloc(), words)?;
-        let begins = is_merge(list.as_slice());
-        assert_eq!(rt; begins, begins_so);
-        match Plan::of_merge_words(rt.alloc(), list.as_slice()) {
-            Ok(_plan) => assert!(rt; is_plan, "{words}"),
-            Err(PlanAnswer::Usage) => assert!(rt; !is_plan, "{words}"),
-            Err(PlanAnswer::Memory) => assert!(rt; false, "{words}"),
-        }
+    for (words, begins_so, wanted) in MERGES {
+        let found = is_merge_plan(rt.alloc(), words)?;
+        assert!(rt; found == (begins_so, wanted), "{words}");
     }
     Ok(())
 }
 
-/// A plan bound to a header, and one with a name that the header lacks.
+/// The plan of these words.
+fn plan_of(alloc: Global, words: &str) -> Result<Plan, Fail> {
+    let list = owned(alloc, words)?;
+    match Plan::of_words(alloc, list.as_slice()) {
+        Ok(plan) => Ok(plan),
+        Err(_) => Err(Fail::new("no plan")),
+    }
+}
+
+/// A header in which one name stands twice.
+fn header(alloc: Global) -> Result<RowStore, Fail> {
+    match rows(alloc, b"g,v,g\n") {
+        Ok(store) => Ok(store),
+        Err(_) => Err(Fail::new("no rows")),
+    }
+}
+
+/// Words with a group, an aggregate with a column and one without, and a filter.
+const WORDS: &str = "--group g --agg count,sum:v --where v<2 --workers 7";
+
+#[test]
+fn names_and_numbers(rt: HostRuntime) -> Result<(), Fail> {
+    let plan = plan_of(rt.alloc(), WORDS)?;
+    assert!(rt; plan.workers() == 7 && plan.area_pages() == 2048);
+    for (at, name) in [(0, None), (1, Some("v")), (2, None)] {
+        assert!(rt; plan.item_name(at) == name, "{at}");
+    }
+    assert!(rt; plan.filter_name() == Some("v"));
+    Ok(())
+}
+
+/// A plan bound to a header.
 #[test]
 fn binds(rt: HostRuntime) -> Result<(), Fail> {
-    let Ok(store) = rows(rt.alloc(), b"g,v,g\n") else {
-        assert!(rt; false);
-        return Ok(());
-    };
-    let words = "--group g --agg count,sum:v --where v<2 --workers 7";
-    let list = owned(rt.alloc(), words)?;
-    if let Ok(plan) = Plan::of_words(rt.alloc(), list.as_slice()) {
-        assert_eq!(rt; plan.workers(), 7);
-        assert_eq!(rt; plan.area_pages(), 2048);
-        assert_eq!(rt; plan.item_name(0), None);
-        assert_eq!(rt; plan.item_name(1), Some("v"));
-        assert_eq!(rt; plan.item_name(2), None);
-        assert_eq!(rt; plan.filter_name(), Some("v"));
-    }
-    match bound_words(rt.alloc(), list.as_slice(), &store) {
-        Some(bound) => {
-            assert_eq!(rt; bound.groups[0], 0);
-            assert_eq!(rt; bound.items[1].column, 1);
-            assert_eq!(rt; bound.item_count, 2);
-            assert!(rt; bound.filter.is_some() && !bound.hash);
-        }
-        None => assert!(rt; false),
-    }
-    let list = owned(rt.alloc(), "--group g --agg sum:v,max:w --where u=1")?;
-    if let Ok(plan) = Plan::of_words(rt.alloc(), list.as_slice()) {
-        match plan.bind(&store) {
-            Ok(_bound) => assert!(rt; false),
-            Err(missing) => {
-                assert_eq!(rt; missing.at, 2);
-                assert_eq!(rt; plan.name(missing.at), "w");
-            }
+    let store = header(rt.alloc())?;
+    let list = owned(rt.alloc(), WORDS)?;
+    let bound = bound_words(rt.alloc(), list.as_slice(), &store).ok_or("no plan")?;
+    assert!(rt; bound.groups[0] == 0 && bound.items[1].column == 1 && bound.item_count == 2);
+    assert!(rt; bound.filter.is_some() && !bound.hash);
+    Ok(())
+}
+
+/// A plan with names that the header lacks: the first of them is found.
+#[test]
+fn a_missing_name(rt: HostRuntime) -> Result<(), Fail> {
+    let store = header(rt.alloc())?;
+    let plan = plan_of(rt.alloc(), "--group g --agg sum:v,max:w --where u=1")?;
+    match plan.bind(&store) {
+        Ok(_bound) => assert!(rt; false),
+        Err(missing) => {
+            assert!(rt; missing.at == 2 && plan.name(missing.at) == "w");
         }
     }
     Ok(())

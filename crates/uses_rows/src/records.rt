@@ -3,10 +3,11 @@
 ghost use Rattle.std.specs.Prelude.{◌≡◌, IfSome};
 ghost use Rattle.csv_rows.specs.Records.{records_of};
 
-use csv_rows::{RowStore, RowsAnswer, read_all, read_integer, rows, rows_in_threads};
+use csv_rows::{RowStore, read_all, rows, rows_in_threads};
 use par_io::{MemSource, Source};
 use std::alloc::{AllocError, Global};
 use std::test::Fail;
+use std::thread::Threads;
 
 /// The records of what a source has left, if it can be read: the caller of CALLING.md.
 fn stored_records<S: Source>(alloc: Global, source: &mut S) -> Option<RowStore>
@@ -35,13 +36,22 @@ const LINE: &[u8] = b"1234567\n";
 /// How many such lines are enough for two threads.
 const LINES: u64 = 16_384;
 
-/// This many such lines.
-fn lines(alloc: Global, count: u64) -> Result<Vec<u8>, AllocError> {
+/// A piece this many times, and then the rest.
+fn repeated(alloc: Global, piece: &[u8], times: u64, rest: &[u8]) -> Result<Vec<u8>, AllocError> {
     let mut text = Vec::new(alloc);
-    for _line in 0..count {
-        text.extend_from_slice(LINE)?;
+    for _ in 0..times {
+        text.extend_from_slice(piece)?;
     }
+    text.extend_from_slice(rest)?;
     Ok(text)
+}
+
+/// The records of a text as [`shown`] has them.
+fn shown_text(alloc: Global, text: &[u8]) -> Result<Vec<u8>, Fail> {
+    match rows(alloc, text) {
+        Ok(store) => Ok(shown(alloc, &store)?),
+        Err(_) => Err(Fail::new("no rows")),
+    }
 }
 
 /// Whether two stores have as many records, and the same ones near the middle of [`LINES`] lines.
@@ -68,117 +78,132 @@ fn agree(one: &RowStore, other: &RowStore) -> bool {
 
 /// Ragged rows, the first of them early, late and in the middle; quotes in odd places and quotes left open; bytes that
 /// are no text; line ends, byte order marks, and lines and fields that are empty.
+const ODD_TEXTS: [(&[u8], &[u8]); 31] = [
+    (b"a,b\n1\n1,2,3", b"a|b|/1|/1|2|3|/"),
+    (b"a,b\n1,2,\n,", b"a|b|/1|2||/||/"),
+    (b"a,b\n1,2\n3,4\n5", b"a|b|/1|2|/3|4|/5|/"),
+    (
+        b"a,b\n1,2\n3\n4,5\n6,7,8\n9,0",
+        b"a|b|/1|2|/3|/4|5|/6|7|8|/9|0|/",
+    ),
+    (b"a\n1,2\n3\n4", b"a|/1|2|/3|/4|/"),
+    (b"a,b,c", b"a|b|c|/"),
+    (b"a,b,c\n,,\n1,,3\n,2,", b"a|b|c|/|||/1||3|/|2||/"),
+    (b"a,b,c\n\n,,3\n,\n1,2,", b"a|b|c|/||3|/||/1|2||/"),
+    (b"a,,c,,\n1,22,,,333\n", b"a||c|||/1|22|||333|/"),
+    (b"\"x,\"\"y\"\"\",z\r\n\r\n1,2\r\n", b"x,\"y\"|z|/1|2|/"),
+    (b"a\"b\n\"c\"d\n", b"a\"b|/cd|/"),
+    (b"\"c\"x\"y\",d\n", b"cx\"y\"|d|/"),
+    (b" \"a\",\"\"\"\"\n", b" \"a\"|\"|/"),
+    (b"\"a\" ,b\n", b"a |b|/"),
+    (b"v\n\"x\ny,z", b"v|/x\ny,z|/"),
+    (b"v\n\"", b"v|/|/"),
+    (b"v\n\"a\"\"", b"v|/a\"|/"),
+    (b"v\n\"x\r\ny\",\"\r\"\n", b"v|/x\r\ny|\r|/"),
+    (b"\xFF\xFE,\xC3\n\0\n", b"\xFF\xFE|\xC3|/\0|/"),
+    (b"v\r\n1\r\n", b"v|/1|/"),
+    (b"v\r1\r2", b"v|/1|/2|/"),
+    (b"v\n\n\n1\r\n\r\n", b"v|/1|/"),
+    (b"v\n \n\t\n", b"v|/ |/\t|/"),
+    (b"v\n\"\"\n", b"v|/|/"),
+    (b",\n", b"||/"),
+    (b"\xEF\xBB\xBFg\n5\n", b"g|/5|/"),
+    (b"\xEF\xBB\xBF\"g,h\"\n5\n", b"g,h|/5|/"),
+    (b"\xEF\xBB\xBF\xEF\xBB\xBFg\n", b"\xEF\xBB\xBFg|/"),
+    (b"g\n\xEF\xBB\xBF5\n", b"g|/\xEF\xBB\xBF5|/"),
+    (b"\xEF\xBBg\n", b"\xEF\xBBg|/"),
+    (b"\xEF\xBB\xBF\n\ng\n", b"g|/"),
+];
+
 #[test]
 fn odd_text(rt: HostRuntime) -> Result<(), Fail> {
-    let table: [(&[u8], &[u8]); 31] = [
-        (b"a,b\n1\n1,2,3", b"a|b|/1|/1|2|3|/"),
-        (b"a,b\n1,2,\n,", b"a|b|/1|2||/||/"),
-        (b"a,b\n1,2\n3,4\n5", b"a|b|/1|2|/3|4|/5|/"),
-        (
-            b"a,b\n1,2\n3\n4,5\n6,7,8\n9,0",
-            b"a|b|/1|2|/3|/4|5|/6|7|8|/9|0|/",
-        ),
-        (b"a\n1,2\n3\n4", b"a|/1|2|/3|/4|/"),
-        (b"a,b,c", b"a|b|c|/"),
-        (b"a,b,c\n,,\n1,,3\n,2,", b"a|b|c|/|||/1||3|/|2||/"),
-        (b"a,b,c\n\n,,3\n,\n1,2,", b"a|b|c|/||3|/||/1|2||/"),
-        (b"a,,c,,\n1,22,,,333\n", b"a||c|||/1|22|||333|/"),
-        (b"\"x,\"\"y\"\"\",z\r\n\r\n1,2\r\n", b"x,\"y\"|z|/1|2|/"),
-        (b"a\"b\n\"c\"d\n", b"a\"b|/cd|/"),
-        (b"\"c\"x\"y\",d\n", b"cx\"y\"|d|/"),
-        (b" \"a\",\"\"\"\"\n", b" \"a\"|\"|/"),
-        (b"\"a\" ,b\n", b"a |b|/"),
-        (b"v\n\"x\ny,z", b"v|/x\ny,z|/"),
-        (b"v\n\"", b"v|/|/"),
-        (b"v\n\"a\"\"", b"v|/a\"|/"),
-        (b"v\n\"x\r\ny\",\"\r\"\n", b"v|/x\r\ny|\r|/"),
-        (b"\xFF\xFE,\xC3\n\0\n", b"\xFF\xFE|\xC3|/\0|/"),
-        (b"v\r\n1\r\n", b"v|/1|/"),
-        (b"v\r1\r2", b"v|/1|/2|/"),
-        (b"v\n\n\n1\r\n\r\n", b"v|/1|/"),
-        (b"v\n \n\t\n", b"v|/ |/\t|/"),
-        (b"v\n\"\"\n", b"v|/|/"),
-        (b",\n", b"||/"),
-        (b"\xEF\xBB\xBFg\n5\n", b"g|/5|/"),
-        (b"\xEF\xBB\xBF\"g,h\"\n5\n", b"g,h|/5|/"),
-        (b"\xEF\xBB\xBF\xEF\xBB\xBFg\n", b"\xEF\xBB\xBFg|/"),
-        (b"g\n\xEF\xBB\xBF5\n", b"g|/\xEF\xBB\xBF5|/"),
-        (b"\xEF\xBBg\n", b"\xEF\xBBg|/"),
-        (b"\xEF\xBB\xBF\n\ng\n", b"g|/"),
-    ];
-    for (text, want) in table {
-        match rows(rt.alloc(), text) {
-            Ok(store) => {
-                let found = shown(rt.alloc(), &store)?;
-                assert!(rt;
-                    found.as_slice() == want,
-                    "{:?} of {:?}",
-                    found.as_slice(),
-                    text
-                );
-            }
-            Err(why) => assert!(rt; false, "{why:?} of {text:?}"),
-        }
-    }
-    for text in [b"".as_slice(), b"\n\r\n", b"\xEF\xBB\xBF", b"\r\r"] {
-        assert!(rt; rows(rt.alloc(), text).is_err(), "{text:?}");
+    for (text, want) in ODD_TEXTS {
+        let found = shown_text(rt.alloc(), text)?;
+        assert!(rt;
+            found.as_slice() == want,
+            "{:?} of {:?}",
+            found.as_slice(),
+            text
+        );
     }
     Ok(())
 }
 
+#[test]
+fn no_text(rt: HostRuntime) {
+    for text in [b"".as_slice(), b"\n\r\n", b"\xEF\xBB\xBF", b"\r\r"] {
+        assert!(rt; rows(rt.alloc(), text).is_err(), "{text:?}");
+    }
+}
+
+/// Whether a text is read by two threads as by one where it stands in the middle of [`LINES`] lines, of which this is one
+/// half.
+fn reads_alike<R: Threads + Sync>(
+    rt: &R,
+    alloc: Global,
+    half: &[u8],
+    text: &[u8],
+) -> Result<bool, AllocError> {
+    let front = half.len().saturating_sub(text.len() / 2);
+    let mut long = Vec::from_slice(alloc, &half[..front])?;
+    long.extend_from_slice(text)?;
+    long.extend_from_slice(half)?;
+    match (
+        rows_in_threads(rt, alloc, long.as_slice(), 2),
+        rows(alloc, long.as_slice()),
+    ) {
+        (Ok(store), Ok(whole)) => Ok(agree(&store, &whole)),
+        _ => Ok(false),
+    }
+}
+
 /// Texts that stand where two threads' parts meet: empty lines, carriage returns, byte order marks, and quotes in odd
 /// places, open, doubled and with line feeds between them.
+const ODD_CUTS: [&[u8]; 15] = [
+    b"a,b\n1,2\n3,4\n5,6\n",
+    b"a,b\n1,2\n3,4,5\n6",
+    b"a\r\n1\r\n2\r\n3\r\n",
+    b"a\n\n\n\n1\n\n2\n",
+    b"\n\n\n\n\na\n",
+    b"a\r1\r2\r3",
+    b"\xEF\xBB\xBFg\n\xEF\xBB\xBF5\n\xEF\xBB\xBF6\n\xEF\xBB\xBF\n",
+    b"\xEF\xBB\xBF\"g\nh\"\n\xEF\xBB\xBF\"5\n6\"\n",
+    b"\xEF\xBB\n\xEF\xBB\xBF\n",
+    b"a\n\"x\ny\nz\nw\n",
+    b"a\n\"x\ny\",\"z\n\"\"\nw\"\nv\n",
+    b"a\"b\n\"c\"d\ne\"\"f\n\"\"\"\n\"\n",
+    b"\"a\",\"b\"\n\"1\n\",\"\n2\"\n3,4\n",
+    b"v\n\"\r\n\"\r\n\"\n",
+    b"a,\"\n,\",b\n,\"\"\n\"\",\n",
+];
+
 #[test]
 fn odd_cuts(rt: HostRuntime) -> Result<(), Fail> {
-    let texts: [&[u8]; 15] = [
-        b"a,b\n1,2\n3,4\n5,6\n",
-        b"a,b\n1,2\n3,4,5\n6",
-        b"a\r\n1\r\n2\r\n3\r\n",
-        b"a\n\n\n\n1\n\n2\n",
-        b"\n\n\n\n\na\n",
-        b"a\r1\r2\r3",
-        b"\xEF\xBB\xBFg\n\xEF\xBB\xBF5\n\xEF\xBB\xBF6\n\xEF\xBB\xBF\n",
-        b"\xEF\xBB\xBF\"g\nh\"\n\xEF\xBB\xBF\"5\n6\"\n",
-        b"\xEF\xBB\n\xEF\xBB\xBF\n",
-        b"a\n\"x\ny\nz\nw\n",
-        b"a\n\"x\ny\",\"z\n\"\"\nw\"\nv\n",
-        b"a\"b\n\"c\"d\ne\"\"f\n\"\"\"\n\"\n",
-        b"\"a\",\"b\"\n\"1\n\",\"\n2\"\n3,4\n",
-        b"v\n\"\r\n\"\r\n\"\n",
-        b"a,\"\n,\",b\n,\"\"\n\"\",\n",
-    ];
-    let half = lines(rt.alloc(), LINES / 2)?;
-    let half = lines(rt.alloc(), LINES / 2)?;
-    for text in texts {
-        let mut long = half.clone()?;
-        long.truncate(half.len().saturating_sub(text.len() / 2));
-        long.extend_from_slice(text)?;
-        long.extend_from_slice(half.as_slice())?;
-        match (
-            rows_in_threads(&rt, rt.alloc(), long.as_slice(), 2),
-            rows(rt.alloc(), long.as_slice()),
-        ) {
-            (Ok(store), Ok(whole)) => assert!(rt; agree(&store, &whole), "{text:?}"),
-            _ => assert!(rt; false, "{text:?}"),
-        }
+    let half = repeated(rt.alloc(), LINE, LINES / 2, b"")?;
+    for text in ODD_CUTS {
+        assert!(rt;
+            reads_alike(&rt, rt.alloc(), half.as_slice(), text)?,
+            "{text:?}"
+        );
     }
     Ok(())
+}
+
+/// Whether this row is the last of a store, and has two fields, of which this is the second.
+fn ends_in(store: &RowStore, row: u64, field: &[u8]) -> bool {
+    if store.count() != row {
+        return false;
+    }
+    let record = store.find(row);
+    store.width(row) == 2 && record.width() == 2 && record.field(1) == field
 }
 
 /// A table that is long enough for four threads.
 #[test]
 fn long_table(rt: HostRuntime) -> Result<(), Fail> {
-    let mut text = Vec::new(rt.alloc());
-    for _row in 0..40_000 {
-        text.extend_from_slice(b"12,\"3\n4\"\n")?;
-    }
+    let text = repeated(rt.alloc(), b"12,\"3\n4\"\n", 40_000, b"")?;
     match rows_in_threads(&rt, rt.alloc(), text.as_slice(), 4) {
-        Ok(store) => {
-            let last = store.count();
-            assert!(rt; last == 39_999 && store.width(last) == 2);
-            let record = store.find(last);
-            assert!(rt; record.width() == 2 && record.field(1) == b"3\n4".as_slice());
-        }
+        Ok(store) => assert!(rt; ends_in(&store, 39_999, b"3\n4")),
         Err(why) => assert!(rt; false, "{why:?}"),
     }
     Ok(())
@@ -187,71 +212,30 @@ fn long_table(rt: HostRuntime) -> Result<(), Fail> {
 /// A longer table of one width, and then one row of another.
 #[test]
 fn even_table(rt: HostRuntime) -> Result<(), Fail> {
-    let mut text = Vec::new(rt.alloc());
-    let mut want = Vec::new(rt.alloc());
-    for _row in 0..300 {
-        text.extend_from_slice(b"12,3\n")?;
-        want.extend_from_slice(b"12|3|/")?;
-    }
     for (line, record) in [(b"".as_slice(), b"".as_slice()), (b"4\n", b"4|/")] {
-        text.extend_from_slice(line)?;
-        want.extend_from_slice(record)?;
-        match rows(rt.alloc(), text.as_slice()) {
-            Ok(store) => {
-                let found = shown(rt.alloc(), &store)?;
-                assert!(rt; found.as_slice() == want.as_slice());
-            }
-            Err(why) => assert!(rt; false, "{why:?}"),
-        }
+        let text = repeated(rt.alloc(), b"12,3\n", 300, line)?;
+        let want = repeated(rt.alloc(), b"12|3|/", 300, record)?;
+        let found = shown_text(rt.alloc(), text.as_slice())?;
+        assert!(rt; found == want);
     }
     Ok(())
 }
 
-/// Fields at the limits of 64 bits and past them, with spaces and signs, and with what is neither.
-#[test]
-fn integers_of_fields(rt: HostRuntime) {
-    let table: [(&[u8], Option<i64>); 20] = [
-        (b" +9223372036854775807 ", Some(i64::MAX)),
-        (b"+9223372036854775808", None),
-        (b"18446744073709551616", None),
-        (b"  -9223372036854775808", Some(i64::MIN)),
-        (b"-9223372036854775809", None),
-        (b"-00000000000000000000000000000000009", Some(-9)),
-        (b"-0", Some(0)),
-        (b"+0 ", Some(0)),
-        (b"   ", None),
-        (b"+", None),
-        (b"-", None),
-        (b"--1", None),
-        (b"+-1", None),
-        (b"- 1", None),
-        (b"1-", None),
-        (b"1\r", None),
-        (b"1\0", None),
-        (b"0x1", None),
-        (b"1,000", None),
-        (b"\xEF\xBC\x91", None),
-    ];
-    for (field, want) in table {
-        assert_eq!(rt; read_integer(field), want, "{field:?}");
+/// The records of a source that gives pieces of 3 bytes, and of which this call fails.
+fn shown_source(alloc: Global, call: u64) -> Result<Option<Vec<u8>>, AllocError> {
+    let bytes = Vec::from_slice(alloc, b"g,v\na,1\n")?;
+    let mut source = MemSource::new(bytes, 3, Vec::from_slice(alloc, &[call])?);
+    match stored_records(alloc, &mut source) {
+        Some(store) => Ok(Some(shown(alloc, &store)?)),
+        None => Ok(None),
     }
 }
 
 /// A source that gives small pieces, and one that fails.
 #[test]
 fn sources(rt: HostRuntime) -> Result<(), Fail> {
-    for (fail, is_read) in [(0, true), (2, false)] {
-        let bytes = Vec::from_slice(rt.alloc(), b"g,v\na,1\n")?;
-        let fail = vec![in rt.alloc(); fail]?;
-        let mut source = MemSource::new(bytes, 3, fail);
-        match stored_records(rt.alloc(), &mut source) {
-            Some(store) => {
-                assert!(rt; is_read);
-                let text = shown(rt.alloc(), &store)?;
-                assert_eq!(rt; text.as_slice(), b"g|v|/a|1|/".as_slice());
-            }
-            None => assert!(rt; !is_read),
-        }
-    }
+    let text = shown_source(rt.alloc(), 0)?.ok_or("no records")?;
+    assert_eq!(rt; text.as_slice(), b"g|v|/a|1|/".as_slice());
+    assert!(rt; shown_source(rt.alloc(), 2)?.is_none());
     Ok(())
 }

@@ -2,11 +2,14 @@
 
 ghost use Rattle.std.specs.Prelude.{All};
 ghost use Rattle.std.specs.List.{AllZip};
+ghost use Rattle.par_model.specs.Columns.{HasColumns};
 ghost use Rattle.parallel_ctx.specs.Tokens.{AreHere, SameQueues};
+ghost use Rattle.partial_agg.specs.Rows.{header_width};
 
 use super::{query, table};
 use crossbeam_utils::Backoff;
 use csv_rows::RowStore;
+use par_model::BoundPlan;
 use parallel_ctx::{Context, Lead, LeaderEnds, Seats, Shared, Worker, WorkerEnds};
 use region_words::Region;
 use row_blocks::count_blocks;
@@ -14,6 +17,7 @@ use std::alloc::Global;
 use std::sync::Wait;
 use std::sync::atomic::{AtomicBool, Ordering};
 use std::test::Fail;
+use std::thread::Threads;
 use worker_run::{Gate, WorkerEnd, work};
 
 /// Holds a worker until it is opened, for at most a million turns.
@@ -135,22 +139,33 @@ impl<'a> Lead for Leaver<'a> {
     }
 }
 
-#[test]
-fn a_worker_is_stopped(rt: HostRuntime) -> Result<(), Fail> {
-    let text = table(rt.alloc(), 3, 2, 0)?;
-    let (rows, plan) = query(rt.alloc(), &text, false)?;
+/// Whether the one worker over these rows ends stopped.
+fn is_stopped<R: Threads + Wait + Sync>(
+    rt: &R,
+    alloc: Global,
+    rows: &RowStore,
+    plan: &BoundPlan,
+) -> Result<bool, Fail>
+    requires columns { HasColumns plan.now (header_width rows.now) }
+{
     let gate = Barred {
         open: AtomicBool::new(false),
     };
     let held = Held {
-        alloc: rt.alloc(),
-        rows: &rows,
+        alloc,
+        rows,
         gate: &gate,
     };
     let mut leaver = Leaver { gate: &gate };
-    let context = Context::build(&rt, rt.alloc(), &plan, 1, 0, count_blocks(&rows))?;
-    let finished = context.run(&rt, rt.alloc(), &held, &mut leaver)?;
-    assert_eq!(rt; finished.launched, 1);
-    assert!(rt; finished.workers[0].end == Some(WorkerEnd::Stopped));
+    let context = Context::build(rt, alloc, plan, 1, 0, count_blocks(rows))?;
+    let finished = context.run(rt, alloc, &held, &mut leaver)?;
+    Ok(finished.launched == 1 && finished.workers[0].end == Some(WorkerEnd::Stopped))
+}
+
+#[test]
+fn a_worker_is_stopped(rt: HostRuntime) -> Result<(), Fail> {
+    let text = table(rt.alloc(), 3, 2, 0)?;
+    let (rows, plan) = query(rt.alloc(), &text, false)?;
+    assert!(rt; is_stopped(&rt, rt.alloc(), &rows, &plan)?);
     Ok(())
 }

@@ -1,8 +1,9 @@
 //! A row that a worker refuses stops the leader at one of its next blocks, and not after all of them.
 
-use super::ordered_by;
+use super::refused;
 use crossbeam_utils::Backoff;
-use gather_merge::{MergeAnswer, merge};
+use gather_merge::MergeAnswer;
+use std::alloc::{AllocError, Global};
 use std::sync::atomic::{AtomicBool, AtomicU32, Ordering};
 use std::test::Fail;
 use worker_run::Gate;
@@ -34,22 +35,25 @@ impl Gate for Slow {
     }
 }
 
-/// One of the first two blocks has a refused row. Whoever draws it, the leader does not come to the last of 20 blocks.
-#[test]
-fn a_refused_row_stops_the_leader(rt: HostRuntime) -> Result<(), Fail> {
-    let mut text = Vec::from_slice(rt.alloc(), b"n\n")?;
+/// 20 blocks of rows, of which the 300th is refused.
+fn long_text(alloc: Global) -> Result<Vec<u8>, AllocError> {
+    let mut text = Vec::from_slice(alloc, b"n\n")?;
     for row in 1..=5_120 {
         text.extend_from_slice(if row == 300 { b"b,c\n" } else { b"a\n" })?;
     }
-    let (store, plan) = ordered_by(rt.alloc(), &text, 1, false)?;
+    Ok(text)
+}
+
+/// One of the first two blocks has a refused row. Whoever draws it, the leader does not come to the last of 20 blocks.
+#[test]
+fn a_refused_row_stops_the_leader(rt: HostRuntime) -> Result<(), Fail> {
     let gate = Slow {
         worker_came: AtomicBool::new(false),
         leaders: AtomicU32::new(0),
     };
-    match merge(&rt, rt.alloc(), &store, &plan, 1, &gate) {
-        Ok(_) => return Err(Fail::new("no row is refused")),
-        Err(why) => assert!(rt; why == MergeAnswer::Row { row: 300, cause: 1 }),
-    }
+    let text = long_text(rt.alloc())?;
+    let why = refused(&rt, rt.alloc(), &text, 1, 1, &gate)?;
+    assert!(rt; why == MergeAnswer::Row { row: 300, cause: 1 });
     assert!(rt; gate.leaders.load(Ordering::SeqCst) < 19);
     Ok(())
 }

@@ -1,0 +1,235 @@
+/* lembokuj_try.h: queues of messages, and hash tables that many threads share, over the proved libraries liblk_queue.a and
+ * liblk_table.a.
+ *
+ * The calls of the libraries try once and never wait; those with _wait are loops over them here, which yield the processor.
+ * Link with the library of what is used, or with both, and the toolchain's liblibc_c.a. lembokuj.h has more objects; it is
+ * built without the proofs. A program that takes both headers includes lembokuj.h first.
+ *
+ * Handles. An lk_handle (one side of a queue) and an lk_table_try (one caller of a table) are the program's own memory: two
+ * words, all zero (LK_BLANK) before the call that fills them and after the one that closes them. A handle owns what it
+ * stands for. Do not copy it, but to move it: of two copies one has to be forgotten. The memory of a queue goes with its
+ * second side, that of a table with its last caller.
+ *
+ * Threads. A handle is used by one call at a time; different handles of one object are used at once, each in its thread. A
+ * handle may go to another thread by whatever orders the two: a start or join of a thread, a lock, an atomic.
+ *
+ * Wrong use. A null pointer and a blank handle are LK_NULL, a handle of a queue's other side LK_KIND, a side that has left
+ * LK_GONE. A handle whose words are anything else than the last call left there is not found out. No call keeps a pointer
+ * of the program's.
+ *
+ * Codes. 0 is done, above 0 is an answer, below 0 nothing was sent, received or done to a key. Those that lembokuj.h has
+ * too have its numbers. */
+#ifndef LEMBOKUJ_TRY_H
+#define LEMBOKUJ_TRY_H
+
+#include <sched.h>
+#include <stdbool.h>
+#include <stddef.h>
+#include <stdint.h>
+
+#ifdef __cplusplus
+extern "C" {
+#endif
+
+#ifndef LEMBOKUJ_H
+enum {
+    LK_OK = 0,
+    LK_WOULD_BLOCK = 1,    /* a queue: full (send the same message again), or no whole message yet; a table: another is there */
+    LK_DETACHED = 2,       /* the other side has left; a receiver: and all was received */
+    LK_ABSENT = 3,         /* it is done, and the key was not there */
+    LK_NULL = -1,          /* a pointer is null, or a handle blank */
+    LK_KIND = -2,          /* a handle of the other side */
+    LK_NO_MEMORY = -4,     /* the system gave no memory */
+    LK_BAD_SIZE = -5,      /* a size out of range */
+    LK_BAD_CALLERS = -6,   /* no callers, more than 4,096, or all of them have handles */
+    LK_TOO_LONG = -7,      /* the message is longer than the queue's greatest */
+    LK_OTHER_MESSAGE = -8, /* a part of another message is on the ring: send that one again first */
+    LK_NO_SPACE = -9,      /* the caller's own words are used up */
+};
+
+/* A flag of the sends: the receiver may see the message only after a later call. At most a quarter of the ring stays
+ * unseen. */
+enum { LK_LATER = 1 };
+#endif
+
+enum {
+    LK_GROWN = 4,          /* the key's partition has grown first, and nothing was done to the key: call again */
+    LK_GONE = -17,         /* this side has left */
+    LK_SHORT_BUFFER = -18, /* the program's bytes have no room for the queue's greatest message */
+    LK_IN_USE = -19,       /* a handle is not blank, or both pointers are one */
+    LK_STILL_IN = -20,     /* lk_raw_queue_close: this side has not left yet */
+};
+
+#define LK_BLANK {NULL, 0}
+
+/* ---- Queues: messages from one sender to one receiver ---- */
+
+typedef struct lk_handle {
+    void *at;
+    uint64_t full;
+} lk_handle;
+
+/* What liblk_queue.a exports. Each pointer has to be good, and the two handles of lk_raw_queue_new have to differ. */
+int32_t lk_raw_queue_new(uint64_t ring_words, uint32_t max_bytes, lk_handle *tx, lk_handle *rx);
+int32_t lk_raw_queue_send(lk_handle *tx, const uint8_t *bytes, size_t len, bool now);
+int32_t lk_raw_queue_flush(lk_handle *tx);
+int32_t lk_raw_queue_receive(lk_handle *rx, uint8_t *out, size_t room, size_t *len);
+int32_t lk_raw_queue_leave(lk_handle *handle);
+int32_t lk_raw_queue_close(lk_handle *handle);
+
+/* A queue over a ring of ring_words words of 8 bytes, a power of two up to 2^20, for messages of at most max_bytes bytes,
+ * 2^20 at most. A message may be longer than the ring, and then needs a receiver at work. Both handles have to be blank.
+ * LK_BAD_SIZE, LK_NO_MEMORY, LK_IN_USE. */
+static inline int lk_queue_new_try(uint64_t ring_words, uint32_t max_bytes, lk_handle *tx, lk_handle *rx) {
+    if (!tx || !rx) return LK_NULL;
+    if (tx == rx) return LK_IN_USE;
+    return lk_raw_queue_new(ring_words, max_bytes, tx, rx);
+}
+
+/* Sends a message, or answers LK_WOULD_BLOCK; then a part of it may be on the ring, and until it is sent no other may be
+ * (LK_OTHER_MESSAGE). LK_DETACHED where the receiver has left, LK_TOO_LONG. The bytes are copied. */
+static inline int lk_queue_send_try(lk_handle *tx, const void *bytes, size_t len, int flags) {
+    if (!tx || (!bytes && len)) return LK_NULL;
+    return lk_raw_queue_send(tx, bytes ? (const uint8_t *)bytes : (const uint8_t *)"", len, !(flags & LK_LATER));
+}
+
+/* The same, and waits while the ring is full. */
+static inline int lk_queue_send_wait(lk_handle *tx, const void *bytes, size_t len, int flags) {
+    int code;
+    while ((code = lk_queue_send_try(tx, bytes, len, flags)) == LK_WOULD_BLOCK) sched_yield();
+    return code;
+}
+
+/* Shows the receiver all that was sent. */
+static inline int lk_queue_flush_try(lk_handle *tx) {
+    return tx ? lk_raw_queue_flush(tx) : LK_NULL;
+}
+
+/* At LK_OK the next message is in out[0 .. *len]. The room has to be the queue's max_bytes at least: else
+ * LK_SHORT_BUFFER, and *len is how much it has to be. LK_WOULD_BLOCK where no whole message is there, LK_DETACHED where
+ * the sender has left and all was received. */
+static inline int lk_queue_receive_try(lk_handle *rx, void *out, size_t room, size_t *len) {
+    uint8_t none = 0;
+    if (!rx || !len || (!out && room)) return LK_NULL;
+    return lk_raw_queue_receive(rx, out ? (uint8_t *)out : &none, room, len);
+}
+
+/* The same, and waits while no whole message is there. */
+static inline int lk_queue_receive_wait(lk_handle *rx, void *out, size_t room, size_t *len) {
+    int code;
+    while ((code = lk_queue_receive_try(rx, out, room, len)) == LK_WOULD_BLOCK) sched_yield();
+    return code;
+}
+
+/* Leaves the queue on one side, and tells the other. What was sent can still be received. A second time: LK_GONE. */
+static inline int lk_queue_leave_try(lk_handle *handle) {
+    return handle ? lk_raw_queue_leave(handle) : LK_NULL;
+}
+
+/* Leaves, where that was not done, and gives the side's memory back; the handle is blank then. */
+static inline int lk_queue_close_try(lk_handle *handle) {
+    if (!handle) return LK_NULL;
+    lk_raw_queue_leave(handle);
+    return lk_raw_queue_close(handle);
+}
+
+/* ---- Hash tables: 64-bit words under 64-bit keys, for many callers ----
+ *
+ * Words. Each caller brings words of 8 bytes. A new key takes 4 of its caller's, and whoever takes a key out has them for
+ * a key of its own. The table has 128 partitions; one that has more keys than three quarters of its buckets (1, 2, 4 ..)
+ * doubles them before a new key comes in, and takes as many words as it has buckets then, of the caller who brings the
+ * key. For n keys whose hashes are spread that makes 7 n to 10 n words in all. */
+
+typedef struct lk_table_try {
+    void *at;
+    uint64_t full;
+} lk_table_try;
+
+/* What liblk_table.a exports. Each pointer has to be good, and the two handles of lk_raw_table_share have to differ. */
+int32_t lk_raw_table_new(uint32_t callers, uint64_t words, lk_table_try *first);
+int32_t lk_raw_table_share(uint64_t words, lk_table_try *from, lk_table_try *next);
+int32_t lk_raw_table_put(lk_table_try *table, uint64_t key, uint64_t word, uint64_t *old);
+int32_t lk_raw_table_add(lk_table_try *table, uint64_t key, uint64_t more, uint64_t *old);
+int32_t lk_raw_table_get(lk_table_try *table, uint64_t key, uint64_t *word);
+int32_t lk_raw_table_delete(lk_table_try *table, uint64_t key, uint64_t *old);
+int32_t lk_raw_table_close(lk_table_try *table);
+
+/* An empty table for so many callers, and a handle of the first one, who has all words. The handle has to be blank.
+ * LK_BAD_SIZE (above 67,108,735 words), LK_BAD_CALLERS, LK_NO_MEMORY, LK_IN_USE. */
+static inline int lk_table_new_try(uint32_t callers, uint64_t words, lk_table_try *first) {
+    return first ? lk_raw_table_new(callers, words, first) : LK_NULL;
+}
+
+/* A handle of a further caller, who gets so many of this one's words, at least 1. It has to be blank. LK_BAD_CALLERS where
+ * all callers have handles, LK_NO_SPACE, LK_IN_USE; LK_NO_MEMORY, and then the further caller may be lost with its words. */
+static inline int lk_table_share_try(lk_table_try *from, uint64_t words, lk_table_try *next) {
+    if (!from || !next) return LK_NULL;
+    if (from == next) return LK_IN_USE;
+    return lk_raw_table_share(words, from, next);
+}
+
+/* Puts a value under a key. LK_OK: the key was there, and *old (which may be NULL) is its value before. LK_ABSENT: it was
+ * not. LK_WOULD_BLOCK and LK_GROWN: call again. LK_NO_SPACE: a new key, or its partition, has no room. */
+static inline int lk_table_put_try(lk_table_try *table, uint64_t key, uint64_t value, uint64_t *old) {
+    uint64_t none = 0;
+    return table ? lk_raw_table_put(table, key, value, old ? old : &none) : LK_NULL;
+}
+
+/* Adds to the value of a key, modulo 2^64; a key that is not there has it then. The same codes. */
+static inline int lk_table_add_try(lk_table_try *table, uint64_t key, uint64_t more, uint64_t *old) {
+    uint64_t none = 0;
+    return table ? lk_raw_table_add(table, key, more, old ? old : &none) : LK_NULL;
+}
+
+/* LK_OK: *value is the key's. LK_ABSENT: there is no such key. LK_WOULD_BLOCK. */
+static inline int lk_table_get_try(lk_table_try *table, uint64_t key, uint64_t *value) {
+    return table && value ? lk_raw_table_get(table, key, value) : LK_NULL;
+}
+
+/* Takes a key out. LK_OK: it was there, and *old (which may be NULL) was its value. LK_ABSENT, LK_WOULD_BLOCK. */
+static inline int lk_table_delete_try(lk_table_try *table, uint64_t key, uint64_t *old) {
+    uint64_t none = 0;
+    return table ? lk_raw_table_delete(table, key, old ? old : &none) : LK_NULL;
+}
+
+/* The caller goes, and the handle is blank. */
+static inline int lk_table_close_try(lk_table_try *table) {
+    return table ? lk_raw_table_close(table) : LK_NULL;
+}
+
+/* Whether a call that answered so is to be made again: another caller had the partition, or it had to grow. */
+static inline bool lk_table_again(int code) {
+    if (code == LK_WOULD_BLOCK) sched_yield();
+    return code == LK_WOULD_BLOCK || code == LK_GROWN;
+}
+
+/* The same calls, again and again as long as that is so. */
+static inline int lk_table_put_wait(lk_table_try *table, uint64_t key, uint64_t value, uint64_t *old) {
+    int code;
+    while (lk_table_again(code = lk_table_put_try(table, key, value, old))) continue;
+    return code;
+}
+
+static inline int lk_table_add_wait(lk_table_try *table, uint64_t key, uint64_t more, uint64_t *old) {
+    int code;
+    while (lk_table_again(code = lk_table_add_try(table, key, more, old))) continue;
+    return code;
+}
+
+static inline int lk_table_get_wait(lk_table_try *table, uint64_t key, uint64_t *value) {
+    int code;
+    while (lk_table_again(code = lk_table_get_try(table, key, value))) continue;
+    return code;
+}
+
+static inline int lk_table_delete_wait(lk_table_try *table, uint64_t key, uint64_t *old) {
+    int code;
+    while (lk_table_again(code = lk_table_delete_try(table, key, old))) continue;
+    return code;
+}
+
+#ifdef __cplusplus
+}
+#endif
+
+#endif

@@ -1,0 +1,6 @@
+pub mod Handles
+pub mod Lists
+pub mod Owned
+pub mod Shares
+pub mod Slices
+pub mod Tries

@@ -1,0 +1,47 @@
+-- What a turn at a key's partition makes of a try.
+use Rattle.std.proofs.Common.{◌≡◌, ℕ, Bool, false, [], ◌∷◌, Option, Some, None, IfNone, is_some, sym, ap, ◌∙◌, subst}
+use Rattle.region_words.specs.declared.chunk.Chunk.{Chunk}
+use Rattle.lock_book.specs.Shown.{number_of, seen_of}
+use Rattle.dshash_core.specs.declared.outcome.CoreOut.{CoreOut}
+use Rattle.dshash_core.specs.declared.outcome.CoreOut.TheVariants.{Done, NeedItem, TooFull}
+use Rattle.dshash_parts.specs.Asked.{outcome_of}
+use Rattle.dshash_parts.specs.Tables.{Turned}
+use Rattle.dshash_parts.specs.Tries.{Tells}
+use Rattle.dshash_parts.specs.declared.histories.PartitionCalls.TheVariants.{Call}
+use Rattle.dshash_parts.specs.declared.histories.PartitionReplies.TheVariants.{LacksItem}
+use Rattle.dshash_parts.proofs.Sizes.{turn_legal}
+use Rattle.c_table.specs.Words.{after, stepped}
+use Rattle.c_table.specs.Tries.{FindsFull, IsMade, LacksAnItem, home_of}
+use Rattle.c_table.specs.declared.shared.Share.{Share}
+use Rattle.c_table.specs.declared.word.Word.{Word}
+use Rattle.c_table.specs.declared.word.WordCall.{WordCall}
+
+module _ (s t : Share) (key : ℕ) (call : WordCall) where
+  -- a call that was made
+  pub made : (spare : Bool) (out : CoreOut Word ℕ WordCall (Option ℕ)) (reply : Option ℕ) (unused freed : Option Chunk) → out ≡ Done reply unused freed
+      → Turned stepped s.pass t.pass (home_of key) (Call (key ∷ []) call spare) (outcome_of out) → Tells stepped (number_of s.pass) (seen_of t.pass) (key ∷ []) call out → IsMade s t key call reply
+  made spare out reply unused freed e turn told =
+      let done = subst (λ (z : CoreOut Word ℕ WordCall (Option ℕ)). Turned stepped s.pass t.pass (home_of key) (Call (key ∷ []) call spare) (outcome_of z)) e turn in
+      let tells = subst (λ (z : CoreOut Word ℕ WordCall (Option ℕ)). Tells stepped (number_of s.pass) (seen_of t.pass) (key ∷ []) call z) e told in
+      record {
+        event = (spare, is_some unused, is_some freed, done);
+        last = tells.1;
+        stands = tells.0.stands ∙ ap (λ (z : Option ℕ). after z call) (sym tells.0.replied);
+      }
+
+  -- a call that lacks an item brought none
+  pub lacks : (P : Type 0) (spare : Option Chunk) (out : CoreOut Word ℕ WordCall (Option ℕ)) → out ≡ NeedItem
+      → Turned stepped s.pass t.pass (home_of key) (Call (key ∷ []) call (is_some spare)) (outcome_of out) → IfNone spare P → LacksAnItem s t key call × P
+  lacks P spare out e turn less =
+      let need : Turned stepped s.pass t.pass (home_of key) (Call (key ∷ []) call (is_some spare)) LacksItem = subst (λ (z : CoreOut Word ℕ WordCall (Option ℕ)). Turned stepped s.pass t.pass (home_of key) (Call (key ∷ []) call (is_some spare)) (outcome_of z)) e turn in
+      bare spare need less (turn_legal stepped _ _ _ _ _ (home_of key) (Call (key ∷ []) call (is_some spare)) LacksItem need).1.is.1.bare
+    where
+      bare : (spare : Option Chunk) → Turned stepped s.pass t.pass (home_of key) (Call (key ∷ []) call (is_some spare)) LacksItem → IfNone spare P → is_some spare ≡ false → LacksAnItem s t key call × P
+      bare None turn less e = (turn, less)
+      bare (Some x) turn less e = absurd (cc)
+
+  -- a call that found its partition full
+  pub full : (spare : Bool) (out : CoreOut Word ℕ WordCall (Option ℕ)) (size : ℕ) (back : Option Chunk) → out ≡ TooFull size back
+      → Turned stepped s.pass t.pass (home_of key) (Call (key ∷ []) call spare) (outcome_of out) → FindsFull s t key call size
+  full spare out size back e turn =
+      (spare, is_some back, subst (λ (z : CoreOut Word ℕ WordCall (Option ℕ)). Turned stepped s.pass t.pass (home_of key) (Call (key ∷ []) call spare) (outcome_of z)) e turn)

@@ -1,0 +1,48 @@
+-- What a call does to a handle, by its code. A blank handle has None.
+use Rattle.std.specs.Prelude.{◌≡◌, ℕ, ◌⊎◌, Option, None, Some, IsSome, Result, Ok, Err}
+use Rattle.c_table.specs.Made.{IsFirst, IsFurther, IsRefused}
+use Rattle.c_table.specs.Tries.{Tries}
+use Rattle.c_table.specs.declared.code.Code.{Code}
+use Rattle.c_table.specs.declared.code.Code.TheVariants.{Absent, Blank, Done, InUse, NoMemory}
+use Rattle.c_table.specs.declared.shared.Share.{Share}
+use Rattle.c_table.specs.declared.word.WordCall.{WordCall}
+
+-- what an answer says by a code and a word that is written: the word is the one that stood there
+abbrev pub Answers : Result (Option ℕ) Code → ℕ → ℕ → Code → Type 0
+Answers (Ok (Some found)) before after code = (code ≡ Done) × (after ≡ found)
+Answers (Ok None) before after code = (code ≡ Absent) × (after ≡ before)
+Answers (Err why) before after code = (code ≡ why) × (after ≡ before)
+
+-- a try of a call of a key: a blank handle stays blank and has the code Blank
+abbrev pub Changes : Option Share → Option Share → ℕ → WordCall → ℕ → ℕ → Code → Type 0
+Changes None new key call before after code = (new ≡ None) × (code ≡ Blank) × (after ≡ before)
+Changes (Some s) new key call before after code = (t : Share) × (answer : Result (Option ℕ) Code) × (new ≡ Some t) × Tries s t key call answer × Answers answer before after code
+
+-- the caller goes, and the handle is blank
+abbrev pub Closes : Option Share → Option Share → Code → Type 0
+Closes None new code = (new ≡ None) × (code ≡ Blank)
+Closes (Some s) new code = (new ≡ None) × (code ≡ Done)
+
+-- a caller is put into a blank handle, where there is memory
+abbrev pub Fills : Share → Option Share → Code → Type 0
+Fills s new Done = new ≡ Some s
+Fills s new NoMemory = new ≡ None
+Fills s new code = ⊥
+
+-- the handle of the first caller of a new table
+abbrev pub Opens : ℕ → ℕ → Option Share → Option Share → Code → Type 0
+Opens callers words first first' Done = (first ≡ None) × ((s : Share) × (first' ≡ Some s) × IsFirst callers words s)
+Opens callers words first first' InUse = IsSome first × (first' ≡ first)
+Opens callers words first first' code = IsRefused callers words code × (first ≡ None) × (first' ≡ None)
+
+-- a further caller: of a caller whose share was s and is t, by what came of it
+abbrev pub SharesOne : ℕ → Share → Share → Option Share → Code → Type 0
+SharesOne words s t next Done = (u : Share) × (next ≡ Some u) × IsFurther words s t (Ok u)
+SharesOne words s t next NoMemory = (next ≡ None) × (IsFurther words s t (Err NoMemory) ⊎ ((u : Share) × IsFurther words s t (Ok u)))
+SharesOne words s t next code = (next ≡ None) × IsFurther words s t (Err code)
+
+-- the handle of a further caller, from that of this one
+abbrev pub Shares : ℕ → Option Share → Option Share → Option Share → Option Share → Code → Type 0
+Shares words from (Some u) from' next' code = (code ≡ InUse) × (from' ≡ from) × (next' ≡ Some u)
+Shares words None None from' next' code = (code ≡ Blank) × (from' ≡ None) × (next' ≡ None)
+Shares words (Some s) None from' next' code = (t : Share) × (from' ≡ Some t) × SharesOne words s t next' code

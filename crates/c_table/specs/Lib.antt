@@ -1,0 +1,9 @@
+pub mod Words
+pub mod Numbers
+pub mod Reserves
+pub mod Shares
+pub mod Tries
+pub mod Made
+pub mod Codes
+pub mod Owned
+pub mod Calls

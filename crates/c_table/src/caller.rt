@@ -1,0 +1,177 @@
+//! One caller of a table, and its calls.
+
+ghost use Rattle.std.specs.Prelude.{◌≡◌, ◌+◌, ◌*◌, ◌/◌, ◌<◌, ◌≤◌, ◌^◌, IfNone, IfSome, IfOk, IfErr};
+ghost use Rattle.std.specs.List.{All};
+ghost use Rattle.dshash_core.specs.Cells.{buckets_of};
+ghost use Rattle.c_table.specs.Reserves.{IsItem, IsReserve};
+ghost use Rattle.c_table.specs.Tries.{Grows, Stays, Tries};
+ghost use Rattle.c_table.specs.Shares.{IsShare};
+ghost use Rattle.c_table.specs.declared.word.WordCall.TheVariants.{Get};
+
+use crate::code::Code;
+use crate::reserve::Reserve;
+use crate::shared::Share;
+use crate::word::WordCall;
+use dshash_core::{CoreOut, bucket_count, hash_key, partition_of_hash};
+use dshash_parts::Busy;
+use region_words::{Chunk, Region};
+use std::marker::Model;
+
+/// The words of an item: its link, the hash, the key's word and the word under it.
+const ITEM_WORDS: u64 = 4;
+
+/// One caller: contracts see its share of the table.
+#[derive(Drop)]
+pub struct Caller {
+    pub(crate) share: Share,
+}
+
+impl Model for Caller {
+    ghost use Rattle.c_table.specs.Codes.{share_code};
+    ghost use Rattle.c_table.specs.Shares.{IsShare};
+    ghost use Rattle.c_table.specs.declared.shared.Share.{Share};
+
+    ghost Value = { Share };
+
+    ghost coded = { share_code };
+
+    ghost view = { λ c. c.share };
+
+    ghost invariant = { λ c. IsShare c.share };
+}
+
+/// An item that holds no key, where the caller has one or the words for one.
+fn take_item(r: &Region, reserve: &mut Reserve, items: &mut Vec<Chunk>) -> Option<Chunk>
+    requires reserve { IsReserve r.now reserve.old }
+    requires items { All (IsItem r.now) items.old.items }
+    ensures reserve { IsReserve r.now reserve.new }
+    ensures items { All (IsItem r.now) items.new.items }
+    ensures item { IfSome result (IsItem r.now) }
+    ensures none { IfNone result (reserve.new.left < 4) }
+{
+    match items.pop() {
+        Some(item) => Some(item),
+        None => reserve.cut(r, ITEM_WORDS),
+    }
+}
+
+/// Keeps an item, where there is one. One for which there is no memory is dropped.
+fn keep_item(r: &Region, items: &mut Vec<Chunk>, item: Option<Chunk>)
+    requires items { All (IsItem r.now) items.old.items }
+    requires item { IfSome item (IsItem r.now) }
+    ensures items { All (IsItem r.now) items.new.items }
+{
+    if let Some(item) = item {
+        let _dropped = items.push(item);
+    }
+}
+
+/// A slice of this many words at least: the one that is kept, or one of the caller's words.
+fn take_slice(
+    r: &Region,
+    reserve: &mut Reserve,
+    kept: &mut Option<Chunk>,
+    words: u64,
+) -> Option<Chunk>
+    requires reserve { IsReserve r.now reserve.old }
+    requires kept { IfSome kept.old (λ c. c.part.region ≡ r.now) }
+    ensures reserve { IsReserve r.now reserve.new }
+    ensures kept { kept.new ≡ None }
+    ensures slice { IfSome result (λ c. (c.part.region ≡ r.now) × (words ≤ c.bytes / 8)) }
+    ensures none { IfNone result (reserve.new.left < words) }
+{
+    match kept.take() {
+        Some(slice) if slice.bytes / 8 >= words => Some(slice),
+        _ => reserve.cut(r, words),
+    }
+}
+
+impl Caller {
+    /// The word under a key. One turn at the key's partition.
+    pub fn try_get(&mut self, key: u64) -> Result<Option<u64>, Code>
+        ensures { Tries self.old self.new key Get result }
+    {
+        let share = &mut self.share;
+        let shared = &share.shared;
+        match shared
+            .table
+            .try_find(&shared.region, &mut share.pass, &[key], &WordCall::Get)
+        {
+            Ok(found) => Ok(found),
+            Err(Busy) => Err(Code::WouldBlock),
+        }
+    }
+
+    /// Changes the word under a key, and answers what stood there. One turn at the key's partition, and where that has to
+    /// grow, one more, in which it does. A new key takes an item of four words, and a partition that grows a slice, of
+    /// the caller's own words.
+    pub fn try_change(&mut self, key: u64, call: WordCall) -> Result<Option<u64>, Code>
+        ensures { Tries self.old self.new key call result }
+    {
+        change(&mut self.share, key, call)
+    }
+}
+
+/// Changes the word under a key, by one caller's share.
+fn change(share: &mut Share, key: u64, call: WordCall) -> Result<Option<u64>, Code>
+    requires share { IsShare share.old }
+    ensures share { IsShare share.new }
+    ensures tries { Tries share.old share.new key call result }
+{
+    let spare = take_item(&share.shared.region, &mut share.reserve, &mut share.items);
+    let shared = &share.shared;
+    match shared
+        .table
+        .try_call(&shared.region, &mut share.pass, &[key], &call, spare)
+    {
+        Ok(
+            CoreOut::Done {
+                reply,
+                unused,
+                freed,
+            },
+        ) => {
+            keep_item(&share.shared.region, &mut share.items, unused);
+            keep_item(&share.shared.region, &mut share.items, freed);
+            Ok(reply)
+        }
+        Ok(CoreOut::NeedItem) => Err(Code::NoSpace),
+        Ok(CoreOut::TooFull { size, spare }) => {
+            keep_item(&share.shared.region, &mut share.items, spare);
+            Err(grow(share, key, size + 1))
+        }
+        Err(spare) => {
+            keep_item(&share.shared.region, &mut share.items, spare);
+            Err(Code::WouldBlock)
+        }
+    }
+}
+
+/// The partition of a key grows to this size.
+fn grow(share: &mut Share, key: u64, size: u32) -> Code
+    requires share { IsShare share.old }
+    requires size { (8 ≤ size) × (size ≤ 20) }
+    ensures share { IsShare share.new }
+    ensures stays { Stays share.old share.new }
+    ensures grown { Grows share.old share.new key size result }
+{
+    let number = partition_of_hash(hash_key(&[key]));
+    let shared = &share.shared;
+    let words = bucket_count(size);
+    let Some(slice) = take_slice(&shared.region, &mut share.reserve, &mut share.slice, words) else {
+        return Code::NoSpace;
+    };
+    match shared
+        .table
+        .try_grow(&shared.region, &mut share.pass, number, size, slice)
+    {
+        Ok(left) => {
+            share.slice = Some(left);
+            Code::Grown
+        }
+        Err(slice) => {
+            share.slice = Some(slice);
+            Code::WouldBlock
+        }
+    }
+}

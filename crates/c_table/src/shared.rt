@@ -1,0 +1,28 @@
+//! What the callers of a table share, and what each has of its own.
+
+use crate::reserve::Reserve;
+use crate::word::Word;
+use dshash_parts::{DsPass, Dshash};
+use region_words::{Chunk, Region};
+use std::sync::Arc;
+
+/// What all callers share.
+#[derive(Drop)]
+pub struct Shared {
+    pub(crate) region: Region,
+    pub(crate) table: Dshash<Word>,
+}
+
+/// What one caller has.
+#[derive(Drop)]
+pub struct Share {
+    pub(crate) shared: Arc<Shared>,
+    pub(crate) pass: DsPass<Word>,
+    /// The passes of callers that have no share yet.
+    pub(crate) others: Vec<DsPass<Word>>,
+    pub(crate) reserve: Reserve,
+    /// Items that hold no key.
+    pub(crate) items: Vec<Chunk>,
+    /// A slice that no partition has.
+    pub(crate) slice: Option<Chunk>,
+}

@@ -1,0 +1,117 @@
+//! The table's calls for a program in C.
+//!
+//! A handle is 16 bytes of C's, all zero before its first call, which belong to one call at a time. Each call here tries
+//! once, looks itself whether it may be made, and answers a code (`c_table`'s `Code`, by its number); so none asks
+//! anything of C but what C's types say: that a pointer is good, and that the bytes of a handle are those that the last
+//! call left. The waiting calls are loops in C over these, in `bindings/proved/include/lembokuj_try.h`, which also
+//! tests pointers before it follows them.
+//!
+//! A contract speaks of the caller that a handle owns: the turns at the partitions that its pass shows. All handles of one
+//! table share its partitions, each behind a lock of its own, and a partition's turns are one legal history
+//! (`dshash_parts`), of which each pass has seen a beginning.
+
+#![tactic(auto)]
+
+ghost use Rattle.std.specs.Prelude.{◌≡◌};
+ghost use Rattle.c_table.specs.Numbers.{number_of};
+ghost use Rattle.c_table.specs.Calls.{Changes, Closes, Opens, Shares};
+ghost use Rattle.c_table.specs.declared.code.Code.{Code as TheCode};
+ghost use Rattle.c_table.specs.declared.word.WordCall.TheVariants as verb;
+
+use c_table::{Handle, WordCall, open, share};
+use std::alloc::Global;
+
+/// Makes a table for this many callers, and its first caller, with all words that are brought, in a blank handle. It takes
+/// memory for the words, the locks and the passes.
+#[unsafe(no_mangle)]
+pub extern "C" fn lk_raw_table_new(
+    alloc: Global,
+    callers: u32,
+    words: u64,
+    first: &mut Handle,
+) -> i32
+    ensures { (code : TheCode) × (result ≡ number_of code) × Opens callers words first.old.value first.new.value code }
+{
+    open(alloc, callers, words, first).number()
+}
+
+/// A further caller in a blank handle, who gets so many words of the one that is asked. It takes memory for the handle's
+/// caller.
+#[unsafe(no_mangle)]
+pub extern "C" fn lk_raw_table_share(
+    alloc: Global,
+    words: u64,
+    from: &mut Handle,
+    next: &mut Handle,
+) -> i32
+    ensures { (code : TheCode) × (result ≡ number_of code) × Shares words from.old.value next.old.value from.new.value next.new.value code }
+{
+    share(alloc, words, from, next).number()
+}
+
+/// Tries to put a word under a key; where the key was there, its word is written to `old`. The costs are those of
+/// `c_table::Caller::try_change`.
+#[unsafe(no_mangle)]
+pub extern "C" fn lk_raw_table_put(
+    alloc: Global,
+    table: &mut Handle,
+    key: u64,
+    word: u64,
+    old: &mut u64,
+) -> i32
+    ensures { (code : TheCode) × (result ≡ number_of code) × Changes table.old.value table.new.value key (verb.Put word) old.old old.new code }
+{
+    table
+        .try_change(alloc, key, WordCall::Put(word), old)
+        .number()
+}
+
+/// Tries to add to the word under a key, modulo 2^64; a key that is not there has it then.
+#[unsafe(no_mangle)]
+pub extern "C" fn lk_raw_table_add(
+    alloc: Global,
+    table: &mut Handle,
+    key: u64,
+    more: u64,
+    old: &mut u64,
+) -> i32
+    ensures { (code : TheCode) × (result ≡ number_of code) × Changes table.old.value table.new.value key (verb.Add more) old.old old.new code }
+{
+    table
+        .try_change(alloc, key, WordCall::Add(more), old)
+        .number()
+}
+
+/// Tries to read the word under a key, which is written to `word` where the key is there. One turn.
+#[unsafe(no_mangle)]
+pub extern "C" fn lk_raw_table_get(
+    alloc: Global,
+    table: &mut Handle,
+    key: u64,
+    word: &mut u64,
+) -> i32
+    ensures { (code : TheCode) × (result ≡ number_of code) × Changes table.old.value table.new.value key verb.Get word.old word.new code }
+{
+    table.try_get(alloc, key, word).number()
+}
+
+/// Tries to take a key out; where it was there, its word is written to `old`.
+#[unsafe(no_mangle)]
+pub extern "C" fn lk_raw_table_delete(
+    alloc: Global,
+    table: &mut Handle,
+    key: u64,
+    old: &mut u64,
+) -> i32
+    ensures { (code : TheCode) × (result ≡ number_of code) × Changes table.old.value table.new.value key verb.Delete old.old old.new code }
+{
+    table.try_change(alloc, key, WordCall::Delete, old).number()
+}
+
+/// The caller goes, and the handle is blank. The table's memory goes with its last caller.
+#[unsafe(no_mangle)]
+pub extern "C" fn lk_raw_table_close(alloc: Global, table: &mut Handle) -> i32
+    ensures { (code : TheCode) × (result ≡ number_of code) × Closes table.old.value table.new.value code }
+{
+    table.close(alloc).number()
+}

@@ -1,0 +1,49 @@
+use Rattle.std.proofs.Common.{◌≡◌, ◌≤◌, ◌<◌, ◌+◌, ◌-◌, ◌∙◌, ℕ, List, ap, arith, drop, length, map, min, rules, subst, sym, take}
+use Rattle.std.proofs.lemmas.List.{take_all}
+use Rattle.std.proofs.lemmas.List.Elements.{All-drop, All-take}
+use Rattle.csv_rows.specs.Records.{record_at}
+use Rattle.query_answer.specs.Held.{Puts}
+use Rattle.query_answer.proofs.Going.{puts-broken, puts-none, puts-then}
+use Rattle.query_answer.proofs.RowLines.{rows-cut, text-none}
+use Rattle.merge_answers.specs.Pieces.{rows_text}
+use Rattle.merge_answers.proofs.Joined.{round-more}
+use Rattle.merge_answers.proofs.ranges.put_in_threads.Goals as goal
+
+pub rounds-init : goal.rounds-init
+rounds-init g c =
+    let Text : List ℕ → Type 0 = Puts g.O.Sink.taken g.O.Sink.faults c.args.out.now c.args.out.now c.args.held.now c.args.held.now in
+    record { within = omega arith; puts = subst Text (sym text-none) (puts-none g.O.Sink.taken g.O.Sink.faults c.args.out.now c.args.held.now) }
+
+-- a write had failed
+pub returns-then-is_broken : goal.returns-then-is_broken
+returns-then-is_broken g c =
+    let records = c.args.rows.now in
+    let numbers = c.args.numbers.now in
+    let at = c.rounds.at in
+    let Text : List ℕ → Type 0 = Puts g.O.Sink.taken g.O.Sink.faults c.args.out.now c.rounds.out c.args.held.now c.rounds.held in
+    subst Text (rows-cut (record_at records) numbers at)
+    (puts-broken g.O.Sink.taken g.O.Sink.faults c.args.out.now c.rounds.out c.args.held.now c.rounds.held (rows_text records (take at numbers)) (rows_text records (drop at numbers)) (sym c.is_broken.ensures ∙ c.if-is_broken.true) c.rounds.invariant.puts)
+
+pub put_round-requires : goal.put_round-requires
+put_round-requires g c =
+    let within : ℕ → Type 0 = λ row. row < length c.args.rows.now in
+    (search rules, All-take within _ (drop c.rounds.at c.args.numbers.now) (All-drop within c.rounds.at c.args.numbers.now c.requires))
+
+pub rounds-preserved : goal.rounds-preserved
+rounds-preserved g c =
+    let records = c.args.rows.now in
+    let numbers = c.args.numbers.now in
+    let taken = g.O.Sink.taken in
+    let faults = g.O.Sink.faults in
+    let Text : List ℕ → Type 0 = Puts taken faults c.args.out.now c.put_round.new.out c.args.held.now c.put_round.new.held in
+    record {
+      within = omega (arith, c.rounds.invariant.within);
+      puts = subst Text (round-more records numbers c.rounds.at _)
+          (puts-then taken faults c.args.out.now c.rounds.out c.put_round.new.out c.args.held.now c.rounds.held c.put_round.new.held (rows_text records (take c.rounds.at numbers)) _ c.rounds.invariant.puts c.put_round.ensures);
+    }
+
+pub returns : goal.returns
+returns g c =
+    let numbers = c.args.numbers.now in
+    let Text : List ℕ → Type 0 = Puts g.O.Sink.taken g.O.Sink.faults c.args.out.now c.rounds.out c.args.held.now c.rounds.held in
+    subst Text (ap (rows_text c.args.rows.now) (take_all c.rounds.at numbers (omega (arith, c.rounds-test.false)))) c.rounds.invariant.puts

@@ -1,0 +1,198 @@
+//! A hash table of `dshash_parts` that is filled first, and whose keys all threads get, or put another number under.
+
+ghost use Rattle.std.specs.Prelude.{◌≡◌, ◌^◌, ◌<◌, ◌≤◌};
+ghost use Rattle.dsa_area.specs.Shown.{IsArea};
+ghost use Rattle.dshash_parts.specs.Tables.{IsTable, key_words_of};
+ghost use Rattle.uses_load.specs.Passes.{HasBoth};
+
+use crate::counts::sum_of;
+use crate::table::{Passes, table_for};
+use dsa_area::Area;
+use dshash_numbers::{Number, NumberCall};
+use dshash_parts::Dshash;
+use region_words::Region;
+use std::alloc::{AllocError, Global};
+use std::sync::Wait;
+use std::thread::{Threads, map_vec};
+
+/// An odd number whose multiples are spread over all words.
+const SPREAD: u64 = 0x9E37_79B9_7F4A_7C15;
+
+/// How far apart the callers' orders of the keys begin, as a power of two.
+const ORDER_BITS: u32 = 32;
+
+/// The key that a caller names at its `i`-th call, of those from 0 on.
+fn nth_key(caller: u32, i: u64, keys: u64) -> u64
+    requires some { 1 ≤ keys }
+    ensures { result < keys }
+{
+    let from = u64::from(caller) << ORDER_BITS;
+    i.wrapping_add(from).wrapping_mul(SPREAD) % keys
+}
+
+/// Puts a number under a key. Says whether the key was there.
+fn changes<R: Wait>(
+    rt: &R,
+    table: &Dshash<Number>,
+    r: &Region,
+    area: &Area,
+    passes: &mut Passes,
+    key: u64,
+    number: u64,
+) -> bool
+    requires table { IsTable r.now table.now }
+    requires keys { key_words_of table.now ≡ 1 }
+    requires area { IsArea r.now area.now }
+    requires own { HasBoth table.now area.now passes.old }
+    ensures own { HasBoth table.now area.now passes.new }
+{
+    match table.call(
+        rt,
+        r,
+        area,
+        &mut passes.table,
+        &mut passes.area,
+        &[key],
+        &NumberCall::Put(number),
+    ) {
+        Ok(before) => before.is_some(),
+        Err(_) => false,
+    }
+}
+
+/// Puts the keys from 0 on, this many of them, each with itself as its number.
+fn fill<R: Wait>(
+    rt: &R,
+    table: &Dshash<Number>,
+    r: &Region,
+    area: &Area,
+    passes: &mut Passes,
+    keys: u64,
+)
+    requires table { IsTable r.now table.now }
+    requires keys { key_words_of table.now ≡ 1 }
+    requires area { IsArea r.now area.now }
+    requires own { HasBoth table.now area.now passes.old }
+    ensures own { HasBoth table.now area.now passes.new }
+{
+    for key in 0..keys {
+        changes(rt, table, r, area, passes, key, key);
+    }
+}
+
+/// Gets this many of the keys from 0 on, in an order of the caller's own. Says how many were found.
+fn gets<R: Wait>(
+    rt: &R,
+    table: &Dshash<Number>,
+    r: &Region,
+    area: &Area,
+    mut passes: Passes,
+    calls: u64,
+    keys: u64,
+) -> u64
+    requires table { IsTable r.now table.now }
+    requires keys { key_words_of table.now ≡ 1 }
+    requires area { IsArea r.now area.now }
+    requires own { HasBoth table.now area.now passes }
+    requires some { 1 ≤ keys }
+    ensures { result ≤ calls }
+{
+    let number = passes.area.number();
+    let mut found = 0;
+    for i in 0..calls {
+        let key = nth_key(number, i, keys);
+        let stands = table.find(rt, r, &mut passes.table, &[key], &NumberCall::Get);
+        if stands == Some(key) {
+            found += 1;
+        }
+    }
+    found
+}
+
+/// Puts other numbers under this many of the keys from 0 on, in an order of the caller's own. Says how many were there.
+fn sets<R: Wait>(
+    rt: &R,
+    table: &Dshash<Number>,
+    r: &Region,
+    area: &Area,
+    mut passes: Passes,
+    calls: u64,
+    keys: u64,
+) -> u64
+    requires table { IsTable r.now table.now }
+    requires keys { key_words_of table.now ≡ 1 }
+    requires area { IsArea r.now area.now }
+    requires own { HasBoth table.now area.now passes }
+    requires some { 1 ≤ keys }
+    ensures { result ≤ calls }
+{
+    let number = passes.area.number();
+    let mut there = 0;
+    for i in 0..calls {
+        let key = nth_key(number, i, keys);
+        if changes(rt, table, r, area, &mut passes, key, i) {
+            there += 1;
+        }
+    }
+    there
+}
+
+/// Puts `keys` keys into a table, and has this many threads get one of them this many times each. Says how many were
+/// found.
+pub fn gets_load<R: Threads + Wait + Sync>(
+    rt: &R,
+    alloc: Global,
+    threads: u32,
+    calls: u64,
+    keys: u64,
+) -> Result<u64, AllocError>
+    requires some { 1 ≤ threads }
+    requires threads_few { threads ≤ 64 }
+    requires calls_few { calls ≤ 2 ^ 32 }
+    requires keys_some { 1 ≤ keys }
+    requires keys_few { keys ≤ 1000000 }
+{
+    let (region, area, table, mut first, passes) = table_for(rt, alloc, keys, threads)?;
+    fill(rt, &table, &region, &area, &mut first, keys);
+    let here = &region;
+    let shared_area = &area;
+    let shared = &table;
+    let found = map_vec(
+        rt,
+        passes,
+        &|own: Passes| -> u64
+            requires { IsTable here.now shared.now × (key_words_of shared.now ≡ 1) × IsArea here.now shared_area.now × HasBoth shared.now shared_area.now own × (1 ≤ keys) }
+        { gets(rt, shared, here, shared_area, own, calls, keys) },
+    )?;
+    Ok(sum_of(found.as_slice()))
+}
+
+/// Puts `keys` keys into a table, and has this many threads put another number under one of them this many times each.
+/// Says how many were there.
+pub fn sets_load<R: Threads + Wait + Sync>(
+    rt: &R,
+    alloc: Global,
+    threads: u32,
+    calls: u64,
+    keys: u64,
+) -> Result<u64, AllocError>
+    requires some { 1 ≤ threads }
+    requires threads_few { threads ≤ 64 }
+    requires calls_few { calls ≤ 2 ^ 32 }
+    requires keys_some { 1 ≤ keys }
+    requires keys_few { keys ≤ 1000000 }
+{
+    let (region, area, table, mut first, passes) = table_for(rt, alloc, keys, threads)?;
+    fill(rt, &table, &region, &area, &mut first, keys);
+    let here = &region;
+    let shared_area = &area;
+    let shared = &table;
+    let there = map_vec(
+        rt,
+        passes,
+        &|own: Passes| -> u64
+            requires { IsTable here.now shared.now × (key_words_of shared.now ≡ 1) × IsArea here.now shared_area.now × HasBoth shared.now shared_area.now own × (1 ≤ keys) }
+        { sets(rt, shared, here, shared_area, own, calls, keys) },
+    )?;
+    Ok(sum_of(there.as_slice()))
+}
