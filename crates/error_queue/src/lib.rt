@@ -14,6 +14,8 @@ ghost use Rattle.error_queue.specs.declared.ErrorMessage.{ErrorMessage};
 const ROW_TAG: u8 = b'E';
 /// The only byte of a message that ends a queue in order.
 const END_TAG: u8 = b'X';
+/// The bytes of the longest message.
+pub const MESSAGE_BYTES: usize = 14;
 
 /// A message of an error queue.
 #[derive(Debug, Clone, Copy, PartialEq, Eq)]
@@ -35,8 +37,9 @@ pub enum ErrorRead {
 }
 
 impl ErrorMessage {
-    /// Writes the message to the front of `out` and gives the number of its bytes, 14 or 1. The bytes behind them stay.
-    pub fn write(&self, out: &mut [u8; 14]) -> usize
+    /// Writes the message to the front of `out` and gives the number of its bytes, [`MESSAGE_BYTES`] or 1. The bytes
+    /// behind them stay.
+    pub fn write(&self, out: &mut [u8; MESSAGE_BYTES]) -> usize
         ensures bytes { take result out.new ≡ encoding self.now }
         ensures length { result ≡ length (encoding self.now) }
         ensures rest { drop result out.new ≡ drop result out.old }
@@ -47,7 +50,7 @@ impl ErrorMessage {
                 out[1..9].copy_from_slice(&row.to_le_bytes());
                 out[9] = cause;
                 out[10..14].copy_from_slice(&item.to_le_bytes());
-                14
+                MESSAGE_BYTES
             }
             ErrorMessage::End => {
                 out[0] = END_TAG;

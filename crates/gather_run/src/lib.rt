@@ -22,6 +22,7 @@ ghost use Rattle.partial_agg.specs.Rows.{header_width};
 ghost use Rattle.gather_run.specs.Answers.{AreAllGroups, IsCause, IsFirstCause};
 ghost use Rattle.gather_run.specs.Drained.{AddsAll, SameHistories};
 ghost use Rattle.gather_run.specs.Used.{IsUsed};
+ghost use Rattle.plan_spec.specs.declared.plan.TheConstants.{MOST_AREA_PAGES};
 
 use agg_cell::AggObject;
 use agg_table::drain;
@@ -110,7 +111,7 @@ pub fn gather<G: Gate + Sync, R: Threads + Wait + Sync>(
 ) -> Result<Gathered, GatherAnswer>
     requires columns { HasColumns plan.now (header_width rows.now) }
     requires workers { workers ≤ 64 }
-    requires pages { area_pages ≤ 65536 }
+    requires pages { area_pages ≤ MOST_AREA_PAGES }
     ensures groups { IfOk result (λ g. AreAllGroups plan.now rows.now g.groups) }
     ensures row { IfErr result (λ why. IsCause plan.now rows.now why) }
     ensures first { workers ≡ 0 → IfErr result (λ why. IsFirstCause plan.now rows.now why) }

@@ -7,6 +7,7 @@ ghost use Rattle.dsa_area.specs.Shown.{pages_of};
 ghost use Rattle.parallel_ctx.specs.Making.{AreDealt, IsMaking, firsts, hash_size, with_queue};
 ghost use Rattle.shm_toc.specs.Table.{free_bytes_of, place_of, table_of};
 ghost use Rattle.std.specs.Vec.Iter.{into_iter_items};
+ghost use Rattle.plan_spec.specs.declared.plan.TheConstants.{MOST_AREA_PAGES};
 
 use agg_table::{HashPart, HashSeat, LEAST_PAGES, open};
 use dsa_area::area_words;
@@ -29,7 +30,7 @@ pub(crate) fn wants_table(plan: &BoundPlan, pages: u32) -> bool
 
 /// The words that a table of groups takes of the segment: those of its area, and four for the entry of that.
 pub(crate) fn hash_words(with_table: bool, pages: u32) -> u64
-    requires { pages ≤ 65536 }
+    requires { pages ≤ MOST_AREA_PAGES }
     ensures size { result ≡ hash_size with_table pages }
     ensures small { result ≤ 40000000 }
     ensures whole { result % 4 ≡ 0 }
@@ -43,7 +44,7 @@ pub(crate) fn hash_words(with_table: bool, pages: u32) -> u64
 /// The chunk of the area, under its key.
 fn area_chunk(r: &Region, toc: &mut Toc, pages: u32) -> Chunk
     requires here { toc.old.region ≡ r.now }
-    requires few { pages ≤ 65536 }
+    requires few { pages ≤ MOST_AREA_PAGES }
     requires room { 8 * area_size pages + 16 ≤ free_bytes_of (table_of toc.old.words) }
     requires unused { place_of (table_of toc.old.words).entries 2 ≡ None }
     ensures here { toc.new.region ≡ toc.old.region }
@@ -71,7 +72,7 @@ pub(crate) fn open_hash<R: Wait>(
     callers: u32,
 ) -> Result<(Option<HashPart>, Vec<HashSeat>), AllocError>
     requires here { toc.old.region ≡ r.now }
-    requires few { pages ≤ 65536 }
+    requires few { pages ≤ MOST_AREA_PAGES }
     requires enough { with_table ≡ true → 16 ≤ pages }
     requires callers { 1 ≤ callers }
     requires making { IsMaking (table_of toc.old.words) 2 (8 * hash_size with_table pages) }

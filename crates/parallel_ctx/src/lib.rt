@@ -14,6 +14,7 @@ ghost use Rattle.std.specs.Prelude.{◌≡◌, ◌≤◌, ◌^◌, IfOk, OnErr, 
 ghost use Rattle.scan_claim.specs.Shown.{blocks_of};
 ghost use Rattle.parallel_ctx.specs.Making.{HasTable};
 ghost use Rattle.parallel_ctx.specs.Ran.{Ran};
+ghost use Rattle.plan_spec.specs.declared.plan.TheConstants.{MOST_AREA_PAGES};
 
 mod hashing;
 mod home;
@@ -89,7 +90,7 @@ impl Context {
         blocks: u64,
     ) -> Result<Context, AllocError>
         requires workers { workers ≤ 64 }
-        requires pages { area_pages ≤ 65536 }
+        requires pages { area_pages ≤ MOST_AREA_PAGES }
         requires blocks { blocks ≤ 2 ^ 32 }
         ensures plan { IfOk result (λ c. c.plan ≡ plan.now) }
         ensures blocks { IfOk result (λ c. blocks_of c.shared.claims ≡ blocks) }

@@ -4,6 +4,7 @@ pub mod Fills
 pub mod Filters
 pub mod Present
 pub mod Merges
+pub mod Missing
 pub mod Numbers
 pub mod Padded
 pub mod Parsed

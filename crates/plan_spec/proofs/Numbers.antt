@@ -9,6 +9,7 @@ use Rattle.std.specs.List.{list_all}
 use Rattle.std.specs.Prelude.{◌&&◌, if◌then◌else◌}
 use Rattle.std.specs.Str.Parse.{digits_value}
 use Rattle.plan_spec.specs.Grammar.{number_in}
+use Rattle.plan_spec.specs.declared.grammar.TheConstants.{MOST_NUMBER}
 
 fails-first : (a b c : Bool) (n : ℕ) → b ≡ false → (if a && (b && c) then Some n else None) ≡ None
 fails-first true b c n e = rw e refl
@@ -24,7 +25,7 @@ pub none-at-other : (most : ℕ) (text : List ℕ) (i : ℕ) → i < length text
 none-at-other most text i lt e = fails-first _ _ _ _ (list_all_at is_ascii_digit text i 0 lt e)
 
 -- digits whose front is too large for one more
-pub none-at-more : (most : ℕ) (text : List ℕ) (i value : ℕ) → most ≤ 65536 → i < length text → value ≡ digits_value 10 (take i text) → 6553 < value → number_in most text ≡ None
+pub none-at-more : (most : ℕ) (text : List ℕ) (i value : ℕ) → most ≤ MOST_NUMBER → i < length text → value ≡ digits_value 10 (take i text) → 6553 < value → number_in most text ≡ None
 none-at-more most text i value small lt sofar large =
     let more = digits_value_more 10 text i lt in
     let up = digits_value-take-le 10 text (i + 1) (omega arith) in

@@ -4,6 +4,7 @@ use Rattle.par_model.specs.Named.{NamedItem}
 use Rattle.par_model.specs.declared.plan.ItemKind.TheVariants as kind
 use Rattle.plan_spec.specs.Grammar.{names_in, number_in}
 use Rattle.plan_spec.specs.Query.{Query, query_by}
+use Rattle.plan_spec.specs.declared.plan.TheConstants.{MOST_WORKERS}
 
 -- words that begin with `merge`
 abbrev pub is_merge : List (List ℕ) → Bool
@@ -15,8 +16,8 @@ row_count = record { kind = kind.Rows; column = None }
 
 -- a query that groups by these columns, counts rows, and is made by this many workers
 abbrev pub merge_query : List ℕ → List ℕ → Option Query
-merge_query columns workers = query_by (names_in columns) (Some (row_count ∷ [])) (Some None) (Some false) (number_in 64 workers) (Some 0)
+merge_query columns workers = query_by (names_in columns) (Some (row_count ∷ [])) (Some None) (Some false) (number_in MOST_WORKERS workers) (Some 0)
 
--- the query of the words, if they are `merge`, one to eight names between commas, and a number up to 64
+-- the query of the words, if they are `merge`, one to eight names between commas, and a number of workers
 unfoldable pub merge_of : List (List ℕ) → Option Query
 merge_of words = if is_merge words && (length words == 3) then merge_query (slice_index_or words 1 []) (slice_index_or words 2 []) else None

@@ -4,6 +4,8 @@ use Rattle.std.specs.Borrow.{Bor}
 use Rattle.par_model.specs.Named.{NamedFilter, NamedItem, NamedPlan}
 use Rattle.plan_spec.specs.Grammar.{filter_in, hash_in, items_in, names_in, number_in}
 use Rattle.plan_spec.specs.Options.{is_command_line, value_of}
+use Rattle.plan_spec.specs.declared.plan.TheConstants.{MOST_AREA_PAGES, MOST_WORKERS}
+use Rattle.plan_spec.specs.declared.read.TheConstants.{AREA_PAGES, WORKERS}
 
 -- a plan by the names of its columns, the number of workers, and the pages of the shared area
 pub record Query : Type 0 where
@@ -52,5 +54,5 @@ unfoldable pub query_of : List (List ℕ) → Option Query
 query_of words =
     if is_command_line words
     then query_by (groups_given (value_of (codes "group") words)) (items_given (value_of (codes "agg") words)) (filter_given (value_of (codes "where") words))
-    (hash_given (value_of (codes "plan") words)) (number_given 64 2 (value_of (codes "workers") words)) (number_given 65536 2048 (value_of (codes "area-pages") words))
+    (hash_given (value_of (codes "plan") words)) (number_given MOST_WORKERS WORKERS (value_of (codes "workers") words)) (number_given MOST_AREA_PAGES AREA_PAGES (value_of (codes "area-pages") words))
     else None

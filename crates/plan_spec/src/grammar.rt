@@ -13,6 +13,9 @@ use csv_rows::read_integer;
 use par_model::{FilterOp, ItemKind};
 use std::alloc::{AllocError, Global};
 
+/// The greatest bound of a number.
+pub const MOST_NUMBER: u32 = 65_536;
+
 /// One to eight names between commas.
 pub(crate) fn names(alloc: Global, text: &str) -> Result<Vec<String>, PlanAnswer>
     ensures names { IfOk result (λ v. names_in text.now ≡ Some (map string_bytes v.items)) }
@@ -228,9 +231,9 @@ fn relation(bytes: &[u8]) -> Option<(FilterOp, &[u8])>
     }
 }
 
-/// One to five digits, with a value up to `most`, which is at most 65,536. Takes no memory.
+/// One to five digits, with a value up to `most`, which is at most [`MOST_NUMBER`]. Takes no memory.
 pub fn number(text: &str, most: u32) -> Option<u32>
-    requires { most ≤ 65536 }
+    requires { most ≤ MOST_NUMBER }
     ensures { result ≡ number_in most text.now }
 {
     let digits = text.as_bytes();

@@ -18,6 +18,6 @@ mod read;
 
 pub use bind::{NoColumn, column};
 pub use descriptor::{BadDescriptor, PLAN_KEY, has_one_plan, plan_in, read_plan, write_plan};
-pub use grammar::number;
+pub use grammar::{MOST_NUMBER, number};
 pub use merging::is_merge;
-pub use plan::{Plan, PlanAnswer};
+pub use plan::{MOST_AREA_PAGES, MOST_WORKERS, Plan, PlanAnswer};

@@ -5,7 +5,7 @@ ghost use Rattle.plan_spec.specs.Merging.{is_merge, merge_of, merge_query, row_c
 ghost use Rattle.plan_spec.specs.declared.plan.PlanAnswer.TheVariants as answer;
 
 use crate::grammar::{names, number, row_count};
-use crate::plan::{Plan, PlanAnswer, PlanItem};
+use crate::plan::{MOST_WORKERS, Plan, PlanAnswer, PlanItem};
 use std::alloc::{AllocError, Global};
 
 /// Whether words begin with `merge`.
@@ -21,7 +21,7 @@ pub fn is_merge(words: &[String]) -> bool
 impl Plan {
     /// The plan of the words `merge COLUMNS N` after a program's name, which put rows in the order of these columns by
     /// N workers: it groups by the columns and counts rows. COLUMNS is one to eight names between commas, none empty,
-    /// and N is one to five digits, up to 64.
+    /// and N is one to five digits, up to [`MOST_WORKERS`].
     pub fn of_merge_words(alloc: Global, words: &[String]) -> Result<Plan, PlanAnswer>
         ensures plan { IfOk result (λ plan. merge_of (map string_bytes words.now) ≡ Some plan) }
         ensures usage { result ≡ Err answer.Usage → merge_of (map string_bytes words.now) ≡ None }
@@ -39,7 +39,7 @@ fn merge_plan(alloc: Global, columns: &str, workers: &str) -> Result<Plan, PlanA
     ensures usage { result ≡ Err answer.Usage → merge_query columns.now workers.now ≡ None }
 {
     let groups = names(alloc, columns)?;
-    let Some(workers) = number(workers, 64) else {
+    let Some(workers) = number(workers, MOST_WORKERS) else {
         return Err(PlanAnswer::Usage);
     };
     let Ok(items) = row_counts(alloc) else {

@@ -8,6 +8,12 @@ ghost use Rattle.par_model.specs.Table.{item_text};
 use par_model::{FilterOp, ItemKind};
 use std::marker::Model;
 
+/// The most workers that words may ask for.
+pub const MOST_WORKERS: u32 = 64;
+
+/// The most pages that words may ask for.
+pub const MOST_AREA_PAGES: u32 = 65_536;
+
 /// Why words gave no plan: they are none, or memory ran out.
 #[derive(Debug, Drop)]
 pub enum PlanAnswer {
@@ -63,9 +69,9 @@ pub struct Plan {
     pub(crate) filter: Option<PlanFilter>,
     /// Whether the workers share a hash table of groups.
     pub(crate) hash: bool,
-    /// How many workers are asked for, 64 at most.
+    /// How many workers are asked for, [`MOST_WORKERS`] at most.
     pub(crate) workers: u32,
-    /// The pages of that table's area, 65,536 at most.
+    /// The pages of that table's area, [`MOST_AREA_PAGES`] at most.
     pub(crate) area_pages: u32,
 }
 
@@ -82,18 +88,18 @@ impl Model for Plan {
 }
 
 impl Plan {
-    /// How many workers are asked for, up to 64.
+    /// How many workers are asked for, up to [`MOST_WORKERS`].
     pub fn workers(&self) -> u32
         ensures value { result ≡ self.now.workers }
-        ensures within { result ≤ 64 }
+        ensures within { result ≤ MOST_WORKERS }
     {
         self.workers
     }
 
-    /// How many pages the shared area is to have, up to 65,536.
+    /// How many pages the shared area is to have, up to [`MOST_AREA_PAGES`].
     pub fn area_pages(&self) -> u32
         ensures value { result ≡ self.now.area_pages }
-        ensures within { result ≤ 65536 }
+        ensures within { result ≤ MOST_AREA_PAGES }
     {
         self.area_pages
     }

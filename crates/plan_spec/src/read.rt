@@ -4,10 +4,16 @@ ghost use Rattle.std.specs.Prelude.{◌≡◌, ◌≤◌, None, Some, IfOk, map,
 ghost use Rattle.plan_spec.specs.Query.{filter_given, groups_given, hash_given, items_given, number_given, query_by, query_of, text_of};
 ghost use Rattle.plan_spec.specs.declared.plan.PlanAnswer.TheVariants as answer;
 
-use crate::grammar::{filter, hash, items, names, number};
+use crate::grammar::{MOST_NUMBER, filter, hash, items, names, number};
 use crate::options::{OptionValues, option_values};
-use crate::plan::{Plan, PlanAnswer, PlanFilter, PlanItem};
+use crate::plan::{MOST_AREA_PAGES, MOST_WORKERS, Plan, PlanAnswer, PlanFilter, PlanItem};
 use std::alloc::Global;
+
+/// The workers where words ask for none.
+const WORKERS: u32 = 2;
+
+/// The pages where words ask for none.
+const AREA_PAGES: u32 = 2_048;
 
 impl Plan {
     /// The plan of the words after a program's name: a simple command of `clap` with the options
@@ -24,19 +30,19 @@ impl Plan {
     }
 }
 
-/// The plan of the options' values.
+/// The plan of the options' values. What takes no memory is read first.
 fn read_values(alloc: Global, given: &OptionValues<'_>) -> Result<Plan, PlanAnswer>
     ensures plan { IfOk result (λ plan. query_by (groups_given (text_of given.now.group)) (items_given (text_of given.now.agg)) (filter_given (text_of given.now.filter))
-        (hash_given (text_of given.now.plan)) (number_given 64 2 (text_of given.now.workers)) (number_given 65536 2048 (text_of given.now.area_pages)) ≡ Some plan) }
+        (hash_given (text_of given.now.plan)) (number_given MOST_WORKERS WORKERS (text_of given.now.workers)) (number_given MOST_AREA_PAGES AREA_PAGES (text_of given.now.area_pages)) ≡ Some plan) }
     ensures usage { result ≡ Err answer.Usage → query_by (groups_given (text_of given.now.group)) (items_given (text_of given.now.agg)) (filter_given (text_of given.now.filter))
-        (hash_given (text_of given.now.plan)) (number_given 64 2 (text_of given.now.workers)) (number_given 65536 2048 (text_of given.now.area_pages)) ≡ None }
+        (hash_given (text_of given.now.plan)) (number_given MOST_WORKERS WORKERS (text_of given.now.workers)) (number_given MOST_AREA_PAGES AREA_PAGES (text_of given.now.area_pages)) ≡ None }
 {
+    let hash = hash_read(given.plan)?;
+    let workers = number_read(given.workers, MOST_WORKERS, WORKERS)?;
+    let area_pages = number_read(given.area_pages, MOST_AREA_PAGES, AREA_PAGES)?;
+    let filter = filter_read(alloc, given.filter)?;
     let groups = groups_read(alloc, given.group)?;
     let items = items_read(alloc, given.agg)?;
-    let filter = filter_read(alloc, given.filter)?;
-    let hash = hash_read(given.plan)?;
-    let workers = number_read(given.workers, 64, 2)?;
-    let area_pages = number_read(given.area_pages, 65536, 2048)?;
     Ok(Plan {
         groups,
         items,
@@ -91,7 +97,7 @@ fn hash_read(given: Option<&str>) -> Result<bool, PlanAnswer>
 }
 
 fn number_read(given: Option<&str>, most: u32, missing: u32) -> Result<u32, PlanAnswer>
-    requires most { most ≤ 65536 }
+    requires most { most ≤ MOST_NUMBER }
     requires missing { missing ≤ most }
     ensures number { IfOk result (λ n. number_given most missing (text_of given.entry) ≡ Some n) }
     ensures within { IfOk result (λ n. n ≤ most) }

@@ -14,6 +14,7 @@ use Rattle.std.proofs.lemmas.Bool.{le-ltb, ltb-false, ltb-true}
 use Rattle.tuple_codec.proofs.Shapes.{by_slots, refusal-at}
 use Rattle.tuple_codec.specs.Tuple.{IsSlot, IsTuple, key_length, refusal, shape_refusal, signed_word, slot_bytes, slots_refusal, sum_bytes, tuple_bytes, word}
 use Rattle.tuple_codec.proofs.Words.{length-slot_bytes, length-slots_bytes, length-word, word-same}
+use Rattle.par_model.specs.Refuse.{longest_key}
 
 pub tuple_bytes-is : (key : List ℕ) (state : AggState) (slots : ℕ)
     → tuple_bytes key state slots ≡ to_le_bytes w32 (length key) ++ (key ++ (word state.rows ++ (slots ∷ concat (map slot_bytes (take slots state.slots)))))
@@ -92,7 +93,7 @@ length-tuple key state slots h =
       length-take-le slots state.slots h,
     )
 
-pub key_length-tuple : (key : List ℕ) (state : AggState) (slots : ℕ) → length key ≤ 248 → key_length (tuple_bytes key state slots) ≡ length key
+pub key_length-tuple : (key : List ℕ) (state : AggState) (slots : ℕ) → length key ≤ longest_key → key_length (tuple_bytes key state slots) ≡ length key
 key_length-tuple key state slots h =
     ap key_length (tuple_bytes-is key state slots)
     ∙ from_le_bytes-to_le_bytes_4 (length key) (omega arith)

@@ -7,6 +7,7 @@ use Rattle.par_model.specs.declared.state.AggState.{AggState}
 use Rattle.par_model.specs.declared.state.SlotState.{SlotState}
 use Rattle.tuple_codec.specs.declared.read.TupleRead.{TupleRead}
 use Rattle.tuple_codec.specs.declared.read.TupleRead.TheVariants as refused
+use Rattle.par_model.specs.Refuse.{longest_key}
 
 -- a number in 8 bytes
 unfoldable pub word : ℕ → List ℕ
@@ -34,7 +35,7 @@ IsSlot slot = (slot.count < 2 ^ 64) × FitsSigned w128 slot.sum × FitsSigned w6
 
 -- a group that has a tuple with this many slots, past which all are zeros
 pub record IsTuple (key : List ℕ) (state : AggState) (slots : ℕ) : Type 0 where
-  pub key_fits : length key ≤ 248
+  pub key_fits : length key ≤ longest_key
   pub key_bytes : AllByRecursion (λ byte. byte < 2 ^ 8) key
   pub rows : state.rows < 2 ^ 64
   pub few : slots ≤ 8
@@ -50,7 +51,7 @@ slots_refusal at left slots = if nat_lt left (40 * slots) then Some (refused.Sho
 abbrev pub shape_refusal : ℕ → ℕ → ℕ → Option TupleRead
 shape_refusal size key slots =
     if nat_lt size 4 then Some (refused.Short 0)
-    else (if nat_lt 248 key then Some (refused.Range 0)
+    else (if nat_lt longest_key key then Some (refused.Range 0)
     else (if nat_lt size (4 + key) then Some (refused.Short 4)
     else (if nat_lt size (12 + key) then Some (refused.Short (4 + key))
     else (if nat_lt size (13 + key) then Some (refused.Short (12 + key))

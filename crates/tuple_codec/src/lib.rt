@@ -10,4 +10,4 @@ mod read;
 mod write;
 
 pub use read::{TupleRead, decode, decode_into};
-pub use write::{Tuple, encode, encode_into};
+pub use write::{TUPLE_BYTES, Tuple, encode, encode_into};

@@ -9,12 +9,13 @@ ghost use Rattle.tuple_codec.specs.Tuple.{IsSlot, IsTuple, slot_bytes, tuple_byt
 use par_model::{AggState, SlotState};
 use partial_agg::GroupKey;
 
-const LONGEST: usize = 581;
+/// The bytes of the longest tuple, with the longest key and eight slots.
+pub const TUPLE_BYTES: usize = 581;
 
 /// A tuple: the first `len` bytes. Those behind them tell nothing.
 #[derive(Debug, Drop)]
 pub struct Tuple {
-    pub bytes: [u8; 581],
+    pub bytes: [u8; TUPLE_BYTES],
     pub len: u32,
 }
 
@@ -24,7 +25,7 @@ impl Tuple {
         ensures { result.len ≡ 0 }
     {
         Tuple {
-            bytes: [0; LONGEST],
+            bytes: [0; TUPLE_BYTES],
             len: 0,
         }
     }
@@ -63,7 +64,7 @@ pub fn encode_into(tuple: &mut Tuple, key: &[u8], state: &AggState, slots: u32)
 
 /// Adds bytes behind those that are there.
 fn push(tuple: &mut Tuple, part: &[u8])
-    requires { tuple.old.len + length part.now ≤ LONGEST }
+    requires { tuple.old.len + length part.now ≤ TUPLE_BYTES }
     ensures bytes { take tuple.new.len tuple.new.bytes ≡ take tuple.old.len tuple.old.bytes ++ part.now }
     ensures len { tuple.new.len ≡ tuple.old.len + length part.now }
     ensures fit { (i : ℕ) → slice_index part.now i < 2 ^ 8 }
@@ -77,7 +78,7 @@ fn push(tuple: &mut Tuple, part: &[u8])
 /// Adds slots.
 fn push_slots(tuple: &mut Tuple, slots: &[SlotState; 8], count: usize)
     requires few { count ≤ 8 }
-    requires room { tuple.old.len + 40 * count ≤ LONGEST }
+    requires room { tuple.old.len + 40 * count ≤ TUPLE_BYTES }
     ensures bytes { take tuple.new.len tuple.new.bytes ≡ take tuple.old.len tuple.old.bytes ++ concat (map slot_bytes (take count slots.now)) }
     ensures len { tuple.new.len ≡ tuple.old.len + 40 * count }
     ensures long { length slots.now ≡ 8 }
@@ -89,7 +90,7 @@ fn push_slots(tuple: &mut Tuple, slots: &[SlotState; 8], count: usize)
 }
 
 fn push_slot(tuple: &mut Tuple, slot: &SlotState)
-    requires { tuple.old.len + 40 ≤ LONGEST }
+    requires { tuple.old.len + 40 ≤ TUPLE_BYTES }
     ensures bytes { take tuple.new.len tuple.new.bytes ≡ take tuple.old.len tuple.old.bytes ++ slot_bytes slot.now }
     ensures len { tuple.new.len ≡ tuple.old.len + 40 }
     ensures numbers { IsSlot slot.now }
@@ -104,7 +105,7 @@ fn push_slot(tuple: &mut Tuple, slot: &SlotState)
 
 #[tactic(auto, unfolding(crate::specs::Tuple::word))]
 fn push_word(tuple: &mut Tuple, n: u64)
-    requires { tuple.old.len + 8 ≤ LONGEST }
+    requires { tuple.old.len + 8 ≤ TUPLE_BYTES }
     ensures bytes { take tuple.new.len tuple.new.bytes ≡ take tuple.old.len tuple.old.bytes ++ word n }
     ensures len { tuple.new.len ≡ tuple.old.len + 8 }
     ensures fits { n < 2 ^ 64 }

@@ -33,6 +33,8 @@ use Rattle.worker_run.proofs.Ends.{has_finished, has_given_up, has_stopped, stop
 use Rattle.worker_run.proofs.Giving.{table_finished, tabling-block, tabling-start, tabling_tuples}
 use Rattle.worker_run.proofs.Sent.{no_entries}
 use Rattle.worker_run.proofs.Working.{fresh_ready, fresh_silent, working-block, working-flush, working-start, working_zeros}
+use Rattle.tuple_codec.specs.declared.write.TheConstants.{TUPLE_BYTES}
+use Rattle.error_queue.specs.declared.TheConstants.{MESSAGE_BYTES}
 
 pub none_are_few : (groups : GroupsByKey) → groups ≡ map.empty → map.len groups < most_kept
 none_are_few groups e =
@@ -70,21 +72,21 @@ module _ (plan : Plan) (records : Table) where
   -- ---- what holds between two blocks
 
   pub at_work-start : (region : TableId) (number : ℕ) (p : Option HashPart) (s : Option HashSeat) (groups : GroupsByKey) (errors tuples : Sending) → IsHashSeat region number p s → groups ≡ map.empty
-      → IsFreshQueue 14 errors → IsFreshQueue 581 tuples → IsAtWork plan records [] (use_in s) groups errors tuples
+      → IsFreshQueue MESSAGE_BYTES errors → IsFreshQueue TUPLE_BYTES tuples → IsAtWork plan records [] (use_in s) groups errors tuples
   at_work-start region number None None groups errors tuples h e f g =
       subst (λ (m : GroupsByKey). IsWorking plan records [] m errors tuples) (sym e)
-      (working-start plan records errors tuples (fresh_silent plan records 14 errors f) (fresh_silent plan records 581 tuples g) (fresh_ready plan records 14 errors f) (fresh_ready plan records 581 tuples g))
+      (working-start plan records errors tuples (fresh_silent plan records MESSAGE_BYTES errors f) (fresh_silent plan records TUPLE_BYTES tuples g) (fresh_ready plan records MESSAGE_BYTES errors f) (fresh_ready plan records TUPLE_BYTES tuples g))
   at_work-start region number None (Some s) groups errors tuples h e f g = absurd h
   at_work-start region number (Some p) None groups errors tuples h e f g = absurd h
   at_work-start region number (Some p) (Some s) groups errors tuples h e f g =
-      (e, tabling-start plan records (use_of s) errors tuples h.2.turns (fresh_silent plan records 14 errors f) (fresh_silent plan records 581 tuples g) (fresh_ready plan records 14 errors f) (fresh_ready plan records 581 tuples g))
+      (e, tabling-start plan records (use_of s) errors tuples h.2.turns (fresh_silent plan records MESSAGE_BYTES errors f) (fresh_silent plan records TUPLE_BYTES tuples g) (fresh_ready plan records MESSAGE_BYTES errors f) (fresh_ready plan records TUPLE_BYTES tuples g))
 
   module _ (draws : List ℕ) (groups : GroupsByKey) (errors tuples : Sending) where
-    pub errors_ready : (used : Option Use) → IsAtWork plan records draws used groups errors tuples → IsReady 14 errors
+    pub errors_ready : (used : Option Use) → IsAtWork plan records draws used groups errors tuples → IsReady MESSAGE_BYTES errors
     errors_ready None w = w.errors_ready
     errors_ready (Some u) w = w.1.errors_ready
 
-    pub tuples_ready : (used : Option Use) → IsAtWork plan records draws used groups errors tuples → IsReady 581 tuples
+    pub tuples_ready : (used : Option Use) → IsAtWork plan records draws used groups errors tuples → IsReady TUPLE_BYTES tuples
     tuples_ready None w = w.tuples_ready
     tuples_ready (Some u) w = w.1.tuples_ready
 

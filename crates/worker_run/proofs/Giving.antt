@@ -27,6 +27,8 @@ use Rattle.worker_run.specs.declared.WorkerEnd.TheVariants.{Finished}
 use Rattle.worker_run.proofs.Ends.{written_are}
 use Rattle.worker_run.proofs.Sent.{has_sent_more, has_sent_nothing, no_entries, none_sent, still_ready, written-join}
 use Rattle.worker_run.proofs.Working.{late_draw, more_blocks, no_rows}
+use Rattle.tuple_codec.specs.declared.write.TheConstants.{TUPLE_BYTES}
+use Rattle.error_queue.specs.declared.TheConstants.{MESSAGE_BYTES}
 
 -- ---- groups, one after another
 
@@ -37,7 +39,7 @@ pub record IsGiving (slots : ℕ) (groups left : GroupsByKey) (u v : Use) (old n
   pub zeros : AllByRecursion (HasZeros slots) (map.entries left)
   pub gives : GivesGroups slots done u v old new
 
-gives_none : (slots : ℕ) (u : Use) (s : Sending) → IsReady 581 s → GivesGroups slots [] u u s s
+gives_none : (slots : ℕ) (u : Use) (s : Sending) → IsReady TUPLE_BYTES s → GivesGroups slots [] u u s s
 gives_none slots u s r = record {
   put = [];
   left = [];
@@ -45,7 +47,7 @@ gives_none slots u s r = record {
       subst (λ (gs : List Group). HasPut gs u (ps ++ []) (ls ++ [])) (sym (append-nil before))
       (subst (λ (gs : List Group). HasPut before u gs (ls ++ [])) (sym (append-nil ps)) (subst (λ (gs : List Group). HasPut before u ps gs) (sym (append-nil ls)) h));
   written = tt;
-  sent = has_sent_nothing 581 s r;
+  sent = has_sent_nothing TUPLE_BYTES s r;
 }
 
 gives_more : (slots : ℕ) (done : List Group) (u v w : Use) (old mid new : Sending) (g : Group) → GivesGroups slots done u v old mid → GivesGroup slots v w mid new g → GivesGroups slots (done ++ g ∷ []) u w old new
@@ -68,7 +70,7 @@ gives_more slots done u v w old mid new g x (inr p) = record {
   sent = subst (HasSent old new) (sym (map-append (λ (group : Group). tuple_bytes group.0 group.1 slots) x.left (g ∷ []))) (has_sent_more old mid new (tuples_of slots x.left) (tuple_bytes g.0 g.1 slots ∷ []) x.sent p.2);
 }
 
-pub giving-start : (slots : ℕ) (groups : GroupsByKey) (u : Use) (s : Sending) → AllByRecursion (HasZeros slots) (map.entries groups) → IsReady 581 s → IsGiving slots groups groups u u s s
+pub giving-start : (slots : ℕ) (groups : GroupsByKey) (u : Use) (s : Sending) → AllByRecursion (HasZeros slots) (map.entries groups) → IsReady TUPLE_BYTES s → IsGiving slots groups groups u u s s
 giving-start slots groups u s z r = record { done = []; split = refl; zeros = z; gives = gives_none slots u s r }
 
 pub giving-step : (slots : ℕ) (groups left left' : GroupsByKey) (u v w : Use) (old mid new : Sending) (g : Group) → IsGiving slots groups left u v old mid → map.entries left ≡ g ∷ map.entries left' → GivesGroup slots v w mid new g
@@ -99,14 +101,14 @@ stopped_giving slots groups left u v old mid new i s = record {
 }
 
 -- a group that was sent was ready, and one that was put changed nothing
-pub given_ready : (slots : ℕ) (u v : Use) (old new : Sending) (g : Group) → IsReady 581 old → GivesGroup slots u v old new g → IsReady 581 new
-given_ready slots u v old new g r (inl p) = subst (IsReady 581) (sym p.1) r
-given_ready slots u v old new g r (inr p) = still_ready 581 old new (tuple_bytes g.0 g.1 slots ∷ []) r p.2
+pub given_ready : (slots : ℕ) (u v : Use) (old new : Sending) (g : Group) → IsReady TUPLE_BYTES old → GivesGroup slots u v old new g → IsReady TUPLE_BYTES new
+given_ready slots u v old new g r (inl p) = subst (IsReady TUPLE_BYTES) (sym p.1) r
+given_ready slots u v old new g r (inr p) = still_ready TUPLE_BYTES old new (tuple_bytes g.0 g.1 slots ∷ []) r p.2
 
 -- ---- blocks
 
 module _ (plan : Plan) (records : Table) where
-  pub tabling-start : (u : Use) (errors tuples : Sending) → ((number : ℕ) → u.turns number ≡ []) → whole_of errors.put ≡ [] → whole_of tuples.put ≡ [] → IsReady 14 errors → IsReady 581 tuples → IsTabling plan records [] u errors tuples
+  pub tabling-start : (u : Use) (errors tuples : Sending) → ((number : ℕ) → u.turns number ≡ []) → whole_of errors.put ≡ [] → whole_of tuples.put ≡ [] → IsReady MESSAGE_BYTES errors → IsReady TUPLE_BYTES tuples → IsTabling plan records [] u errors tuples
   tabling-start u errors tuples none e f r s = record {
     put = [];
     left = [];
@@ -134,7 +136,7 @@ module _ (plan : Plan) (records : Table) where
     written = written-join (length plan.items) w.left x.left w.written x.written;
     silent = w.silent;
     errors_ready = w.errors_ready;
-    tuples_ready = still_ready 581 tuples tuples' (tuples_of (length plan.items) x.left) w.tuples_ready x.sent;
+    tuples_ready = still_ready TUPLE_BYTES tuples tuples' (tuples_of (length plan.items) x.left) w.tuples_ready x.sent;
   }
 
   -- ---- the ends

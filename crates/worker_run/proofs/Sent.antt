@@ -10,6 +10,7 @@ use Rattle.ring_rule.specs.Ring.{Sending}
 use Rattle.tuple_codec.specs.Tuple.{IsTuple, tuple_bytes}
 use Rattle.gather_law.specs.Tuples.{Group}
 use Rattle.worker_run.specs.Sent.{AreWritten, FoundGone, HasSent, HasSentAll, HasSentThese, IsReady, StoppedSending, tuples_of}
+use Rattle.tuple_codec.specs.declared.write.TheConstants.{TUPLE_BYTES}
 
 pub has_sent_nothing : (n : ℕ) (s : Sending) → IsReady n s → HasSent s s []
 has_sent_nothing n s r = record { ring = refl; stays = r.stays; fresh = r.fresh; sent = sym (append-nil (whole_of s.put)) }
@@ -31,8 +32,8 @@ written-join slots (g ∷ gs) hs a b = (a.0, written-join slots gs hs a.1 b)
 
 -- ---- groups that are sent one after another
 
-pub these_none : (slots : ℕ) (groups : List Group) (s : Sending) → IsReady 581 s → HasSentThese slots (take 0 groups) s s
-these_none slots groups s r = record { written = tt; sent = has_sent_nothing 581 s r }
+pub these_none : (slots : ℕ) (groups : List Group) (s : Sending) → IsReady TUPLE_BYTES s → HasSentThese slots (take 0 groups) s s
+these_none slots groups s r = record { written = tt; sent = has_sent_nothing TUPLE_BYTES s r }
 
 pub these_more : (slots : ℕ) (groups : List Group) (at : ℕ) (old mid new : Sending) (g : Group) → ((d : Group) → get_or groups at d ≡ g) → at < length groups → HasSentThese slots (take at groups) old mid → IsTuple g.0 g.1 slots
     → HasSent mid new (tuple_bytes g.0 g.1 slots ∷ []) → HasSentThese slots (take (at + 1) groups) old new

@@ -22,13 +22,15 @@ use Rattle.worker_run.specs.Job.{DrawsNone}
 use Rattle.worker_run.specs.Sent.{HasSentGroups, HasZeros, IsFreshQueue, IsReady, tuples_of}
 use Rattle.worker_run.specs.Working.{IsWorking}
 use Rattle.worker_run.proofs.Sent.{still_ready, written-join}
+use Rattle.tuple_codec.specs.declared.write.TheConstants.{TUPLE_BYTES}
+use Rattle.error_queue.specs.declared.TheConstants.{MESSAGE_BYTES}
 
 whole_nothing : whole_of [] ≡ []
 unfolding whole_of
 whole_nothing = refl
 
 module _ (plan : Plan) (records : Table) where
-  pub working-start : (errors tuples : Sending) → whole_of errors.put ≡ [] → whole_of tuples.put ≡ [] → IsReady 14 errors → IsReady 581 tuples → IsWorking plan records [] map.empty errors tuples
+  pub working-start : (errors tuples : Sending) → whole_of errors.put ≡ [] → whole_of tuples.put ≡ [] → IsReady MESSAGE_BYTES errors → IsReady TUPLE_BYTES tuples → IsWorking plan records [] map.empty errors tuples
   working-start errors tuples e f r s = record {
     batches = [];
     last = [];
@@ -100,7 +102,7 @@ module _ (plan : Plan) (records : Table) where
         written = written-join slots w.done s.all.done w.written these.written;
         silent = w.silent;
         errors_ready = w.errors_ready;
-        tuples_ready = still_ready 581 tuples tuples' (tuples_of slots s.all.done) w.tuples_ready these.sent;
+        tuples_ready = still_ready TUPLE_BYTES tuples tuples' (tuples_of slots s.all.done) w.tuples_ready these.sent;
       }
 
   pub no_rows : (blocks n : ℕ) → AreBlocks records blocks → blocks ≤ n → block_rows records n ≡ []

@@ -13,6 +13,7 @@ use Rattle.scan_claim.specs.declared.claims.ClaimSeat.{ClaimSeat}
 use Rattle.worker_run.specs.Sent.{IsFreshQueue}
 use Rattle.worker_run.specs.Steps.{KeepsQueues}
 use Rattle.worker_run.specs.declared.job.Job.{Job}
+use Rattle.error_queue.specs.declared.TheConstants.{MESSAGE_BYTES}
 
 -- the counter hands out the blocks of the rows, and they have the columns that the plan asks for
 pub record IsJob {G : Type 0} (job : Job G) : Type 0 where
@@ -42,7 +43,7 @@ pub record AreHands {G : Type 0} (job : Job G) (claim : ClaimSeat) (errors tuple
 pub record AreFreshHands {G : Type 0} (job : Job G) (longest : ℕ) (claim : ClaimSeat) (errors tuples : SendingEnd) : Type 0 where
   pub hands : AreHands job claim errors tuples
   pub fresh : draws_of claim ≡ []
-  pub errors_fresh : IsFreshQueue 14 errors.end
+  pub errors_fresh : IsFreshQueue MESSAGE_BYTES errors.end
   pub tuples_fresh : IsFreshQueue longest tuples.end
 
 -- the same seat, which may have drawn, and the same ends, which may have sent and are open

@@ -19,6 +19,8 @@ use Rattle.worker_run.specs.Sent.{AreWritten, HasSent, HasSentGroups, IsReady, t
 use Rattle.worker_run.specs.Working.{IsWorking, most_kept}
 use Rattle.worker_run.specs.declared.WorkerEnd.{WorkerEnd}
 use Rattle.worker_run.specs.declared.WorkerEnd.TheVariants.{Finished, Stopped, Refused, NoMemory}
+use Rattle.tuple_codec.specs.declared.write.TheConstants.{TUPLE_BYTES}
+use Rattle.error_queue.specs.declared.TheConstants.{MESSAGE_BYTES}
 
 -- the groups of some blocks, each block's in the order of their keys
 abbrev pub groups_of_blocks : Plan → Table → List ℕ → List Group
@@ -50,8 +52,8 @@ pub record IsTabling (plan : Plan) (records : Table) (draws : List ℕ) (u : Use
   pub sent : whole_of tuples.put ≡ tuples_of (length plan.items) left
   pub written : AreWritten (length plan.items) left
   pub silent : whole_of errors.put ≡ []
-  pub errors_ready : IsReady 14 errors
-  pub tuples_ready : IsReady 581 tuples
+  pub errors_ready : IsReady MESSAGE_BYTES errors
+  pub tuples_ready : IsReady TUPLE_BYTES tuples
 
 -- a worker between two blocks, with a table or without; with one it keeps no groups
 abbrev pub IsAtWork : Plan → Table → List ℕ → Option Use → GroupsByKey → Sending → Sending → Type 0

@@ -11,6 +11,8 @@ use Rattle.ring_rule.specs.Ring.{Sending}
 use Rattle.gather_law.specs.Tuples.{Group, groups_of}
 use Rattle.row_blocks.specs.Blocks.{Table, rows_of_blocks}
 use Rattle.worker_run.specs.Sent.{AreWritten, IsReady, tuples_of}
+use Rattle.tuple_codec.specs.declared.write.TheConstants.{TUPLE_BYTES}
+use Rattle.error_queue.specs.declared.TheConstants.{MESSAGE_BYTES}
 
 -- a worker goes on to its next block with fewer groups than this
 abbrev pub most_kept : ℕ
@@ -29,5 +31,5 @@ pub record IsWorking (plan : Plan) (records : Table) (draws : List ℕ) (groups 
   pub sent : whole_of tuples.put ≡ tuples_of (length plan.items) done
   pub written : AreWritten (length plan.items) done
   pub silent : whole_of errors.put ≡ []
-  pub errors_ready : IsReady 14 errors
-  pub tuples_ready : IsReady 581 tuples
+  pub errors_ready : IsReady MESSAGE_BYTES errors
+  pub tuples_ready : IsReady TUPLE_BYTES tuples

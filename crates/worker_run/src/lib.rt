@@ -21,6 +21,8 @@ ghost use Rattle.plan_spec.specs.Planned.{HasPlan};
 ghost use Rattle.worker_run.specs.Sent.{IsFreshQueue};
 ghost use Rattle.worker_run.specs.Ended.{sends_of};
 ghost use Rattle.worker_run.specs.Tabled.{EndsWith};
+ghost use Rattle.tuple_codec.specs.declared.write.TheConstants.{TUPLE_BYTES};
+ghost use Rattle.error_queue.specs.declared.TheConstants.{MESSAGE_BYTES};
 
 use agg_table::{HashPart, HashSeat};
 use csv_rows::RowStore;
@@ -88,8 +90,8 @@ pub fn work<G: Gate, R: Wait>(
     requires hash { IsHashSeat r.now number part.now seat.old }
     requires errors_here { errors.old.region ≡ r.now }
     requires here { tuples.old.region ≡ r.now }
-    requires errors_fresh { IsFreshQueue 14 errors.old.end }
-    requires tuples_fresh { IsFreshQueue 581 tuples.old.end }
+    requires errors_fresh { IsFreshQueue MESSAGE_BYTES errors.old.end }
+    requires tuples_fresh { IsFreshQueue TUPLE_BYTES tuples.old.end }
     ensures toc { toc.new ≡ toc.old }
     ensures seat { Belongs claims.now claim.new × (number_of claim.new ≡ number_of claim.old) }
     ensures hash { StaysSeated part.now seat.old seat.new }

@@ -14,7 +14,7 @@ ghost use Rattle.worker_run.specs.declared.WorkerEnd.{WorkerEnd};
 
 use crate::WorkerEnd;
 use crossbeam_utils::Backoff;
-use error_queue::ErrorMessage;
+use error_queue::{ErrorMessage, MESSAGE_BYTES};
 use mq_handle::{ReceiveAnswer, Receiver, SendDone, Sender};
 use partial_agg::BlockAnswer;
 use region_words::Region;
@@ -23,11 +23,11 @@ use std::sync::Wait;
 /// Sends a notice on the error queue, with flush. Answers false where the receiver is gone.
 fn send_notice<R: Wait>(rt: &R, r: &Region, errors: &mut Sender, notice: &ErrorMessage) -> bool
     requires here { errors.old.region ≡ r.now }
-    requires ready { IsReady 14 errors.old.end }
+    requires ready { IsReady MESSAGE_BYTES errors.old.end }
     ensures kept { errors.new ≡ record errors.old { end = errors.new.end } }
     ensures sent { MatchBool result (HasSent errors.old.end errors.new.end (encoding notice.now ∷ [])) (FoundGone errors.old.end errors.new.end []) }
 {
-    let mut bytes = [0; 14];
+    let mut bytes = [0; MESSAGE_BYTES];
     let len = notice.write(&mut bytes);
     match errors.send(rt, r, &bytes[..len], true) {
         SendDone::Sent => true,
@@ -46,7 +46,7 @@ fn refuse<R: Wait>(
     item: u32,
 ) -> WorkerEnd
     requires here { errors.old.region ≡ r.now }
-    requires ready { IsReady 14 errors.old.end }
+    requires ready { IsReady MESSAGE_BYTES errors.old.end }
     ensures end { result ≡ WorkerEnd.Refused row cause item }
     ensures fits { IsMessage (ErrorMessage.Row row cause item) }
     ensures kept { errors.new ≡ record errors.old { end = errors.new.end } }
@@ -59,7 +59,7 @@ fn refuse<R: Wait>(
 /// Names the refused row that stopped a block, if it was one, and gives the worker's end.
 pub fn give_up<R: Wait>(rt: &R, r: &Region, errors: &mut Sender, why: BlockAnswer) -> WorkerEnd
     requires here { errors.old.region ≡ r.now }
-    requires ready { IsReady 14 errors.old.end }
+    requires ready { IsReady MESSAGE_BYTES errors.old.end }
     ensures kept { errors.new ≡ record errors.old { end = errors.new.end } }
     ensures ring { errors.new.end.ring ≡ errors.old.end.ring }
     ensures stays { errors.new.end.gone ≡ false }
@@ -75,7 +75,7 @@ pub fn give_up<R: Wait>(rt: &R, r: &Region, errors: &mut Sender, why: BlockAnswe
 /// where the receiver is gone.
 fn say_end<R: Wait>(rt: &R, r: &Region, errors: &mut Sender, _tuples: &Sender) -> bool
     requires here { errors.old.region ≡ r.now }
-    requires ready { IsReady 14 errors.old.end }
+    requires ready { IsReady MESSAGE_BYTES errors.old.end }
     requires published { IsPublished _tuples.now.end }
     ensures kept { errors.new ≡ record errors.old { end = errors.new.end } }
     ensures sent { MatchBool result (HasSent errors.old.end errors.new.end (encoding ErrorMessage.End ∷ [])) (FoundGone errors.old.end errors.new.end []) }
@@ -92,7 +92,7 @@ pub fn end_in_order<R: Wait>(
     tuples: &mut Sender,
 ) -> WorkerEnd
     requires errors_here { errors.old.region ≡ r.now }
-    requires ready { IsReady 14 errors.old.end }
+    requires ready { IsReady MESSAGE_BYTES errors.old.end }
     requires here { tuples.old.region ≡ r.now }
     requires stays { tuples.old.end.gone ≡ false }
     ensures errors_kept { errors.new ≡ record errors.old { end = errors.new.end } }

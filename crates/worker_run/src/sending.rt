@@ -10,6 +10,8 @@ ghost use Rattle.par_model.specs.declared.refusal.TheConstants.{LONGEST_KEY};
 ghost use Rattle.tuple_codec.specs.Tuple.{IsTuple, tuple_bytes};
 ghost use Rattle.worker_run.specs.Sent.{FoundGone, HasSent, HasSentGroups, HasSentThese, HasZeros, IsReady, StoppedSending, pairs_of};
 ghost use Rattle.worker_run.specs.Steps.{Finishes, KeepsQueues};
+ghost use Rattle.tuple_codec.specs.declared.write.TheConstants.{TUPLE_BYTES};
+ghost use Rattle.error_queue.specs.declared.TheConstants.{MESSAGE_BYTES};
 
 use crate::WorkerEnd;
 use crate::notices::end_in_order;
@@ -32,7 +34,7 @@ pub(crate) fn send_group<R: Wait>(
     slots: u32,
 ) -> bool
     requires here { tuples.old.region ≡ r.now }
-    requires ready { IsReady 581 tuples.old.end }
+    requires ready { IsReady TUPLE_BYTES tuples.old.end }
     requires key { length key.now ≤ LONGEST_KEY }
     requires few { slots ≤ 8 }
     requires zeros { HasZeros slots (key.now, state.now) }
@@ -58,7 +60,7 @@ fn send_lent<R: Wait>(
     slots: u32,
 ) -> bool
     requires here { tuples.old.region ≡ r.now }
-    requires ready { IsReady 581 tuples.old.end }
+    requires ready { IsReady TUPLE_BYTES tuples.old.end }
     requires few { slots ≤ 8 }
     requires zeros { All (HasZeros slots) (pairs_of groups.now) }
     ensures kept { tuples.new ≡ record tuples.old { end = tuples.new.end } }
@@ -85,7 +87,7 @@ pub(crate) fn send_groups<R: Wait>(
     slots: u32,
 ) -> bool
     requires here { tuples.old.region ≡ r.now }
-    requires ready { IsReady 581 tuples.old.end }
+    requires ready { IsReady TUPLE_BYTES tuples.old.end }
     requires few { slots ≤ 8 }
     requires zeros { AllByRecursion (HasZeros slots) (map.entries groups.old) }
     ensures kept { tuples.new ≡ record tuples.old { end = tuples.new.end } }
@@ -108,9 +110,9 @@ pub(crate) fn finish<R: Wait>(
     slots: u32,
 ) -> WorkerEnd
     requires errors_here { errors.old.region ≡ r.now }
-    requires errors_ready { IsReady 14 errors.old.end }
+    requires errors_ready { IsReady MESSAGE_BYTES errors.old.end }
     requires here { tuples.old.region ≡ r.now }
-    requires ready { IsReady 581 tuples.old.end }
+    requires ready { IsReady TUPLE_BYTES tuples.old.end }
     requires few { slots ≤ 8 }
     requires zeros { AllByRecursion (HasZeros slots) (map.entries groups.old) }
     ensures errors_kept { errors.new ≡ record errors.old { end = errors.new.end } }

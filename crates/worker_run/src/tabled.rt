@@ -7,6 +7,7 @@ ghost use Rattle.std.specs.List.{AllByRecursion};
 ghost use Rattle.agg_table.specs.Shown.{Grew, IsPart, IsSeat, use_of};
 ghost use Rattle.worker_run.specs.Sent.{HasZeros, IsReady, StoppedSending};
 ghost use Rattle.worker_run.specs.Tabled.{GivesGroup, GivesGroups};
+ghost use Rattle.tuple_codec.specs.declared.write.TheConstants.{TUPLE_BYTES};
 
 use crate::sending::send_group;
 use agg_table::{HashPart, HashSeat};
@@ -32,7 +33,7 @@ fn give_group<R: Wait>(
     requires part { IsPart r.now part.now }
     requires seat { IsSeat part.now seat.old }
     requires here { tuples.old.region ≡ r.now }
-    requires ready { IsReady 581 tuples.old.end }
+    requires ready { IsReady TUPLE_BYTES tuples.old.end }
     requires few { slots ≤ 8 }
     requires zeros { HasZeros slots (key.now, state.now) }
     ensures seat { IsSeat part.now seat.new × Grew seat.old seat.new }
@@ -58,7 +59,7 @@ pub(crate) fn give_groups<R: Wait>(
     requires part { IsPart r.now part.now }
     requires seat { IsSeat part.now seat.old }
     requires here { tuples.old.region ≡ r.now }
-    requires ready { IsReady 581 tuples.old.end }
+    requires ready { IsReady TUPLE_BYTES tuples.old.end }
     requires few { slots ≤ 8 }
     requires zeros { AllByRecursion (HasZeros slots) (map.entries groups.old) }
     ensures seat { IsSeat part.now seat.new × Grew seat.old seat.new }

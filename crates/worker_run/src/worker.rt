@@ -12,6 +12,7 @@ ghost use Rattle.worker_run.specs.Job.{AreFreshHands, AreHands, IsJob, IsSeated,
 ghost use Rattle.worker_run.specs.Sent.{HasZeros, IsReady, StoppedSending};
 ghost use Rattle.worker_run.specs.Tabled.{EndsWith, IsAtWork, PassesOn, SendsMany};
 ghost use Rattle.worker_run.specs.Working.{most_kept};
+ghost use Rattle.tuple_codec.specs.declared.write.TheConstants.{TUPLE_BYTES};
 
 use crate::WorkerEnd;
 use crate::gate::Gate;
@@ -48,7 +49,7 @@ fn send_many<R: Wait>(
     slots: u32,
 ) -> bool
     requires here { tuples.old.region ≡ r.now }
-    requires ready { IsReady 581 tuples.old.end }
+    requires ready { IsReady TUPLE_BYTES tuples.old.end }
     requires few { slots ≤ 8 }
     requires zeros { AllByRecursion (HasZeros slots) (map.entries groups.old) }
     ensures kept { tuples.new ≡ record tuples.old { end = tuples.new.end } }
@@ -73,7 +74,7 @@ fn pass_on<R: Wait>(
 ) -> bool
     requires seat { IsSeated r.now part.now seat.old }
     requires here { tuples.old.region ≡ r.now }
-    requires ready { IsReady 581 tuples.old.end }
+    requires ready { IsReady TUPLE_BYTES tuples.old.end }
     requires few { slots ≤ 8 }
     requires zeros { AllByRecursion (HasZeros slots) (map.entries groups.old) }
     ensures seat { StaysSeated part.now seat.old seat.new }
@@ -133,7 +134,7 @@ pub(crate) fn work_all<G: Gate, R: Wait>(
     tuples: &mut Sender,
 ) -> WorkerEnd
     requires job { IsJob job.now }
-    requires hands { AreFreshHands job.now 581 claim.old errors.old tuples.old }
+    requires hands { AreFreshHands job.now TUPLE_BYTES claim.old errors.old tuples.old }
     requires seat { IsHashSeat job.now.region.now job.now.number job.now.table.now seat.old }
     ensures hands { KeepsHands job.now claim.old errors.old tuples.old claim.new errors.new tuples.new }
     ensures seat { StaysSeated job.now.table.now seat.old seat.new }

@@ -2,10 +2,11 @@ use Rattle.std.proofs.Common.{◌≡◌, ◌≤◌, ℕ, List, arith, length, le
 use Rattle.par_model.specs.declared.state.AggState.{AggState}
 use Rattle.tuple_codec.specs.Tuple.{IsTuple, tuple_bytes}
 use Rattle.tuple_codec.proofs.Unique.{length-tuple}
+use Rattle.tuple_codec.specs.declared.write.TheConstants.{TUPLE_BYTES}
 use Rattle.worker_run.proofs.sending.send_group.Goals as goal
 
 -- a tuple is not longer than the longest
-fits : (key : List ℕ) (state : AggState) (slots size : ℕ) → IsTuple key state slots → size ≡ length (tuple_bytes key state slots) → size ≤ 581
+fits : (key : List ℕ) (state : AggState) (slots size : ℕ) → IsTuple key state slots → size ≡ length (tuple_bytes key state slots) → size ≤ TUPLE_BYTES
 fits key state slots size t e =
     let few : slots ≤ length state.slots = omega (arith, t.few, t.long) in
     omega (arith, e, length-tuple key state slots few, t.key_fits, t.few)

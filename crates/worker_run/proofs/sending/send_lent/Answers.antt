@@ -7,6 +7,7 @@ use Rattle.gather_law.specs.Tuples.{Group}
 use Rattle.worker_run.specs.Sent.{HasSentThese, pairs_of}
 use Rattle.worker_run.proofs.Lent.{read_lent}
 use Rattle.worker_run.proofs.Sent.{still_ready, these_more, these_none, these_stopped}
+use Rattle.tuple_codec.specs.declared.write.TheConstants.{TUPLE_BYTES}
 use Rattle.worker_run.proofs.sending.send_lent.Goals as goal
 
 pub loop-at-init : goal.loop-at-init
@@ -30,7 +31,7 @@ loop-at-preserved g c =
     let read = read_lent c.args.slots c.args.groups.now c.loop-at.at c.key.result.now c.read_state.new.state c.loop-at.state lt c.requires.zeros c.key.ensures.key c.read_state.ensures.rows c.read_state.ensures.front c.read_state.ensures.rest is.rest in
     record {
       kept = search rules;
-      ready = still_ready 581 c.loop-at.tuples.end c.send_group.new.tuples.end _ is.ready sent;
+      ready = still_ready TUPLE_BYTES c.loop-at.tuples.end c.send_group.new.tuples.end _ is.ready sent;
       rest = c.read_state.ensures.rest ∙ is.rest;
       these = these_more c.args.slots pairs c.loop-at.at c.args.tuples.now.end c.loop-at.tuples.end c.send_group.new.tuples.end (c.key.result.now, c.read_state.new.state) read within is.these c.if-not-send_group.ensures.tuple sent;
     }

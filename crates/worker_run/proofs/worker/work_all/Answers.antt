@@ -4,6 +4,7 @@ use Rattle.worker_run.specs.Tabled.{IsAtWork}
 use Rattle.worker_run.proofs.AtWork.{at_work-start}
 use Rattle.worker_run.proofs.Hands.{hands_then, keeps_fresh, keeps_through}
 use Rattle.worker_run.proofs.Seated.{seated_at_first, seated_then, stays_seated, stays_through}
+use Rattle.tuple_codec.specs.declared.write.TheConstants.{TUPLE_BYTES}
 use Rattle.worker_run.proofs.worker.work_all.Goals as goal
 
 pub loop-init : goal.loop-init
@@ -14,7 +15,7 @@ loop-init g c =
       can_next = tt;
       finite = tt;
       hands = c.requires.hands.hands;
-      kept = keeps_fresh job 581 c.args.claim.now c.args.errors.now c.args.tuples.now c.requires.hands;
+      kept = keeps_fresh job TUPLE_BYTES c.args.claim.now c.args.errors.now c.args.tuples.now c.requires.hands;
       seat = seated;
       stays = stays_seated job.region.now job.table.now c.args.seat.now seated;
       working = subst (λ (ds : List ℕ). IsAtWork job.plan.now job.rows.now ds (use_in c.args.seat.now) c.new-groups.result c.args.errors.now.end c.args.tuples.now.end) (sym c.requires.hands.fresh)

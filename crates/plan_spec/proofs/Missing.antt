@@ -1,0 +1,22 @@
+-- A query of which a part does not read.
+use Rattle.std.proofs.Common.{◌≡◌, ℕ, Bool, List, Option, Some, None, refl}
+use Rattle.par_model.specs.Named.{NamedFilter, NamedItem}
+use Rattle.plan_spec.specs.Query.{query_by}
+
+pub no_hash : (workers pages : Option ℕ) (groups : Option (List (List ℕ))) (items : Option (List NamedItem)) (filter : Option (Option NamedFilter)) → query_by groups items filter None workers pages ≡ None
+no_hash workers pages None items filter = refl
+no_hash workers pages (Some g) None filter = refl
+no_hash workers pages (Some g) (Some i) None = refl
+no_hash workers pages (Some g) (Some i) (Some f) = refl
+
+pub no_workers : (groups : Option (List (List ℕ))) (items : Option (List NamedItem)) (filter : Option (Option NamedFilter)) (hash : Bool) (pages : Option ℕ) → query_by groups items filter (Some hash) None pages ≡ None
+no_workers None items filter hash pages = refl
+no_workers (Some g) None filter hash pages = refl
+no_workers (Some g) (Some i) None hash pages = refl
+no_workers (Some g) (Some i) (Some f) hash pages = refl
+
+pub no_pages : (groups : Option (List (List ℕ))) (items : Option (List NamedItem)) (filter : Option (Option NamedFilter)) (hash : Bool) (workers : ℕ) → query_by groups items filter (Some hash) (Some workers) None ≡ None
+no_pages None items filter hash workers = refl
+no_pages (Some g) None filter hash workers = refl
+no_pages (Some g) (Some i) None hash workers = refl
+no_pages (Some g) (Some i) (Some f) hash workers = refl
