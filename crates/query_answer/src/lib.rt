@@ -9,12 +9,15 @@
 
 mod held;
 mod line;
+mod lines;
+mod memory;
 mod record;
 mod status;
 mod text;
 
 pub use held::Held;
 pub use line::write_pieces;
+pub use lines::{Lines, put_in_threads};
 pub use record::{begins_special, put_fields, put_known, put_record};
 pub use status::{MISUSED, NO_MEMORY, READ_FAULT, REFUSED, TABLE, TOO_LARGE, WRITE_FAULT};
 pub use text::write_each;
