@@ -113,7 +113,7 @@ fn put_rows<O: Sink>(held: &mut Held, out: &mut O, rows: &RowStore, numbers: &[u
     ensures { Puts O.taken O.faults out.old out.new held.old held.new (rows_text rows.now numbers.now) }
 {
     let mut at = 0;
-    'blocks: while at < numbers.len() {
+    'stretches: while at < numbers.len() {
         if held.is_broken() {
             return;
         }

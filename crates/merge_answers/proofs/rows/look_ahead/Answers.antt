@@ -1,24 +1,31 @@
 use Rattle.std.proofs.Common.{◌≡◌, ◌≢◌, ◌<◌, ◌≤◌, ◌+◌, ◌⊎◌, ◌∙◌, Bool, ℕ, List, ap, arith, false, get_or, inl, inr, length, set, subst, sym, true}
 use Rattle.std.proofs.lemmas.Bool.{cases_lt}
-use Rattle.std.proofs.lemmas.List.{get_or-set_other, get_or-set_same}
+use Rattle.std.proofs.lemmas.List.{get_or-set_other, get_or-set_same, get_or_past, length-set}
 use Rattle.std.proofs.lemmas.List.Elements.{All-get_or}
 use Rattle.csv_rows.specs.Records.{record_at}
 use Rattle.query_answer.specs.Special.{BeginsSpecial}
 use Rattle.merge_answers.specs.Pieces.{AreKnown}
 use Rattle.merge_answers.proofs.rows.look_ahead.Goals as goal
 
+no : false ≡ true → ⊥
+no e = cc
+
 -- one row more
-known-more : (records : List (List (List ℕ))) (numbers : List ℕ) (begins : List Bool) (n : ℕ) (b : Bool) → n < length begins → AreKnown records numbers begins n → (b ≡ true → BeginsSpecial (record_at records (get_or numbers n 0)))
+known-more : (records : List (List (List ℕ))) (numbers : List ℕ) (begins : List Bool) (n : ℕ) (b : Bool) → AreKnown records numbers begins n → (b ≡ true → BeginsSpecial (record_at records (get_or numbers n 0)))
     → AreKnown records numbers (set begins n b) (n + 1)
-known-more records numbers begins n b l a h k m e = by (cases_lt k n)
+known-more records numbers begins n b a h k m e = by (cases_lt k n) (cases_lt n (length begins))
   where
-    by : (k < n) ⊎ (n ≤ k) → BeginsSpecial (record_at records (get_or numbers k 0))
-    by (inl before) =
+    by : (k < n) ⊎ (n ≤ k) → (n < length begins) ⊎ (length begins ≤ n) → BeginsSpecial (record_at records (get_or numbers k 0))
+    by (inl before) p =
         let other : k ≢ n = λ (same : k ≡ n). absurd (omega (arith, before, same)) in
         a k before (sym (get_or-set_other begins n k b false other) ∙ e)
-    by (inr last) =
+    by (inr last) (inl l) =
         let same : n ≡ k = omega (arith, m, last) in
         subst (λ (i : ℕ). BeginsSpecial (record_at records (get_or numbers i 0))) same (h (sym (get_or-set_same begins n b false l) ∙ ap (λ (i : ℕ). get_or (set begins n b) i false) same ∙ e))
+    by (inr last) (inr past) =
+        let same : n ≡ k = omega (arith, m, last) in
+        let none : get_or (set begins n b) n false ≡ false = get_or_past (set begins n b) n false (omega (arith, past, length-set begins n b)) in
+        absurd (no (sym none ∙ ap (λ (i : ℕ). get_or (set begins n b) i false) same ∙ e))
 
 pub loop-place-init : goal.loop-place-init
 loop-place-init c = record { known = λ k l. absurd (omega (arith, l)) }
@@ -31,9 +38,6 @@ find-requires c =
 
 pub loop-place-preserved : goal.loop-place-preserved
 loop-place-preserved c =
-    let begins = c.loop-place.begins in
-    let n = c.loop-place.place in
-    let here : n < length begins = omega (arith, c.loop-place-test.true, c.requires.few, c.loop-place.auto) in
     record {
-      known = known-more c.args.rows.now c.args.numbers.now begins n c.begins_special.result here c.loop-place.invariant.known (λ e. subst BeginsSpecial c.find.ensures (c.begins_special.ensures e));
+      known = known-more c.args.rows.now c.args.numbers.now c.loop-place.begins c.loop-place.place c.begins_special.result c.loop-place.invariant.known (λ e. subst BeginsSpecial c.find.ensures (c.begins_special.ensures e));
     }

@@ -1,4 +1,4 @@
-use Rattle.std.proofs.Common.{◌≡◌, ◌<◌, ◌∙◌, ℕ, List, ap, arith, false, get_or, length, map, rules, subst, sym, take, true}
+use Rattle.std.proofs.Common.{◌≡◌, ◌<◌, ◌∙◌, ℕ, List, ap, arith, get_or, length, map, subst, sym, take}
 use Rattle.std.proofs.lemmas.List.{take_all}
 use Rattle.std.proofs.lemmas.List.Elements.{All-get_or}
 use Rattle.std.proofs.lemmas.Option.{get_or_from_slice_get, slice_get-get_or}
@@ -24,12 +24,10 @@ find-requires g c =
     All-get_or within c.args.numbers.now c.loop-at.at 0 lt c.requires.rows
 
 pub put_known-requires : goal.put_known-requires
-put_known-requires g c e =
-    let numbers = c.args.numbers.now in
+put_known-requires g c =
     let i = c.loop-at.at in
-    let lt : i < length numbers = omega (arith, c.loop-at-test.true) in
-    let marked : get_or c.look_ahead-begins.result i false ≡ true = search rules in
-    subst BeginsSpecial (sym c.find.ensures) (c.look_ahead-begins.ensures i lt marked)
+    let lt : i < length c.args.numbers.now = omega (arith, c.loop-at-test.true) in
+    record { known = λ marked. subst BeginsSpecial (sym c.find.ensures) (c.look_ahead-begins.ensures i lt marked) }
 
 pub loop-at-preserved : goal.loop-at-preserved
 loop-at-preserved g c =

@@ -4,8 +4,8 @@ use Rattle.merge_answers.specs.Pieces.{rows_text}
 use Rattle.merge_answers.proofs.rows.put_rows.Given as goal
 
 -- the rows so far
-abbrev pub invariant-blocks : goal.invariant-blocks
-invariant-blocks g l = record { within : l.at ≤ length l.numbers; puts : Puts g.O.Sink.taken g.O.Sink.faults l.fn.out l.out l.fn.held l.held (rows_text l.rows (take l.at l.numbers)) }
+abbrev pub invariant-stretches : goal.invariant-stretches
+invariant-stretches g l = record { within : l.at ≤ length l.numbers; puts : Puts g.O.Sink.taken g.O.Sink.faults l.fn.out l.out l.fn.held l.held (rows_text l.rows (take l.at l.numbers)) }
 
-abbrev pub decreases-blocks : goal.decreases-blocks
-decreases-blocks g l = length l.numbers - l.at
+abbrev pub decreases-stretches : goal.decreases-stretches
+decreases-stretches g l = length l.numbers - l.at
