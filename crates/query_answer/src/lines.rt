@@ -108,7 +108,9 @@ fn texts_of<R: Threads + Sync, L: Lines>(
         alloc,
         items,
         RANGE,
-        &|_, range| { text_of(alloc, lines, range) },
+        &|_, range|
+            requires { All (L.fits lines.now) range.now }
+        { text_of(alloc, lines, range) },
     )
 }
 

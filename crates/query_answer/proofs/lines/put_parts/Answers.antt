@@ -17,7 +17,7 @@ pub put_part-requires-clause-fits : goal.put_part-requires-clause-fits
 put_part-requires-clause-fits g c =
     let fits = g.L.Lines.fits c.args.lines.now in
     let start = c.loop-at.at * 16384 in
-    All-take fits _ (drop start c.args.items.now) (All-drop fits start c.args.items.now c.requires.fits)
+    λ κs bounds. All-take fits _ (drop start c.args.items.now) (All-drop fits start c.args.items.now c.requires.fits)
 
 -- the part has the text of its range
 pub put_part-requires-clause-text : goal.put_part-requires-clause-text
@@ -30,7 +30,7 @@ put_part-requires-clause-text g c =
     let cut = ap (λ (n : ℕ). take (start + n - start) (drop start items)) c.min.ensures ∙ range_is 16384 start items in
     let its : IfOk part (λ text. text.items ≡ lines_text f (take 16384 (drop start items))) =
     subst (λ (p : Result (Vec ℕ) AllocError). IfOk p (λ text. text.items ≡ lines_text f (take 16384 (drop start items)))) (sym c.index-parts-at.is) (c.requires.parts.each at part (omega (arith, c.loop-at-test.true))) in
-    subst (λ range. IfOk part (λ text. text.items ≡ lines_text f range)) (sym cut) its
+    λ κs bounds. subst (λ range. IfOk part (λ text. text.items ≡ lines_text f range)) (sym cut) its
 
 pub loop-at-preserved : goal.loop-at-preserved
 loop-at-preserved g c =
