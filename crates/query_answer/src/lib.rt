@@ -1,5 +1,6 @@
 //! What the forms of a program over comma-separated bytes have in common once their rows are read: the exit statuses,
-//! the line that says why there is no answer, and the writing of a text in pieces or of records, one by one, to a sink.
+//! the line that says why there is no answer, and the writing of a text in pieces or of records, one by one or by several
+//! threads, to a sink.
 //!
 //! A form knows what stops it, and which text its line has. This crate writes the text as a line, and knows nothing of
 //! where it comes from. Records go through a buffer whose memory is taken beforehand, so an answer that was begun is
