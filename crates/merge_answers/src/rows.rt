@@ -94,15 +94,7 @@ fn put_all<R: Threads + Sync, O: Sink>(
     ensures none { held.new.is_broken ≡ false → held.new.bytes ≡ [] }
 {
     put_record(held, out, &rows.find(0));
-    put_in_threads(
-        rt,
-        alloc,
-        held,
-        out,
-        &Numbered { rows },
-        numbers,
-        threads,
-    );
+    put_in_threads(rt, alloc, held, out, &Numbered { rows }, numbers, threads);
     held.pass_on(out);
 }
 
