@@ -41,6 +41,13 @@ impl Pairs {
         self.list.len()
     }
 
+    /// The pairs as a list, which is lent.
+    pub fn list(&self) -> &[Pair]
+        ensures { result.now ≡ self.now }
+    {
+        self.list.as_slice()
+    }
+
     /// The pair at this place.
     pub fn get(&self, at: usize) -> &Pair
         requires { at < length self.now }

@@ -18,9 +18,7 @@ ghost use Rattle.table_query.specs.declared.stop.Stop.TheVariants as stop;
 ghost use Rattle.merge_answers.specs.Ordered.{IsMergedBy, IsOrderText, merge_plan_of, merge_workers_of};
 
 mod names;
-mod ranges;
 mod rows;
-mod text;
 
 pub use gather_merge::Merged;
 use gather_merge::merge;

@@ -12,11 +12,10 @@ ghost use Rattle.query_answer.specs.Held.{Puts};
 ghost use Rattle.table_query.specs.Ready.{IsBound};
 ghost use Rattle.table_query.specs.declared.stop.Stop.TheVariants as stop;
 
-use crate::ranges::put_in_threads;
 use csv_rows::RowStore;
 use gather_merge::Order;
 use par_io::Sink;
-use query_answer::{Held, begins_special, put_known, put_record};
+use query_answer::{Held, Lines, begins_special, put_in_threads, put_known, put_record};
 use std::alloc::Global;
 use std::thread::Threads;
 use table_query::{Ready, Stop};
@@ -58,6 +57,27 @@ pub(crate) fn write_rows<R: Threads + Sync, O: Sink>(
     Ok(())
 }
 
+/// The rows of a store, by their numbers.
+#[derive(Drop)]
+struct Numbered<'a> {
+    rows: &'a RowStore,
+}
+
+impl<'a> Lines for Numbered<'a> {
+    ghost use Rattle.std.specs.Prelude.{◌<◌, length};
+    ghost use Rattle.csv_rows.specs.Records.{record_at};
+
+    type Item = u64;
+
+    ghost fits = { λ lines row. row < length lines.rows.now };
+
+    ghost record_of = { λ lines row. record_at lines.rows.now row };
+
+    fn put_lines<O: Sink>(&self, held: &mut Held, out: &mut O, items: &[u64]) {
+        put_rows(held, out, self.rows, items);
+    }
+}
+
 /// The header and the rows, and then what waits.
 fn put_all<R: Threads + Sync, O: Sink>(
     rt: &R,
@@ -74,13 +94,13 @@ fn put_all<R: Threads + Sync, O: Sink>(
     ensures none { held.new.is_broken ≡ false → held.new.bytes ≡ [] }
 {
     put_record(held, out, &rows.find(0));
-    put_in_threads(rt, alloc, held, out, rows, numbers, threads);
+    put_in_threads(rt, alloc, held, out, &Numbered { rows }, numbers, threads);
     held.pass_on(out);
 }
 
 /// The rows, up to a write that fails. Rows in order lie all over the memory, so several at a time are looked up before the
 /// first of them is put.
-pub(crate) fn put_rows<O: Sink>(held: &mut Held, out: &mut O, rows: &RowStore, numbers: &[u64])
+fn put_rows<O: Sink>(held: &mut Held, out: &mut O, rows: &RowStore, numbers: &[u64])
     requires { All (λ row. row < length rows.now) numbers.now }
     ensures { Puts O.taken O.faults out.old out.new held.old held.new (rows_text rows.now numbers.now) }
 {

@@ -1,4 +1,5 @@
 pub mod Going
+pub mod Joined
 pub mod Pieces
 pub mod Records
 pub mod RowLines

@@ -1,4 +1,5 @@
 pub mod Held
 pub mod Lines
 pub mod Words
+pub mod Parts
 pub mod Special

@@ -15,7 +15,7 @@ returns-in_err-joined-clause-why g c =
 pub write_joined-requires-clause-pairs : goal.write_joined-requires-clause-pairs
 write_joined-requires-clause-pairs g c =
     let ready = c.in_ok-ready.ready in
-    joined_writable ready.left ready.right ready.left_column ready.right_column c.args.asked.now.workers c.in_ok-joined.joined c.in_ok-ready.ensures.left_column c.in_ok-ready.ensures.right_column c.in_ok-joined.ensures.joined
+    λ κs bounds. joined_writable ready.left ready.right ready.left_column ready.right_column c.args.asked.now.workers c.in_ok-joined.joined c.in_ok-ready.ensures.left_column c.in_ok-ready.ensures.right_column c.in_ok-joined.ensures.joined
 
 pub returns-in_err-write_joined-clause-part : goal.returns-in_err-write_joined-clause-part
 returns-in_err-write_joined-clause-part g c =

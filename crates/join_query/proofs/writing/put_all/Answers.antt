@@ -21,7 +21,7 @@ returns-clause-puts g c =
     let Rest : List ℕ → Type 0 = Puts taken faults c.put_beside.new.out c.pass_on.new.out c.put_beside.new.held c.pass_on.new.self in
     let All : List ℕ → Type 0 = Puts taken faults c.args.out.now c.pass_on.new.out c.args.held.now c.pass_on.new.self in
     let both : c.find.result ++ c.find-2.result ≡ header = ap₂ (λ (a b : List (List ℕ)). a ++ b) c.find.ensures c.find-2.ensures in
-    let rest = puts-then taken faults c.put_beside.new.out c.put_pairs.new.out c.pass_on.new.out c.put_beside.new.held c.put_pairs.new.held c.pass_on.new.self rows [] c.put_pairs.ensures c.pass_on.ensures.puts in
+    let rest = puts-then taken faults c.put_beside.new.out c.put_in_threads.new.out c.pass_on.new.out c.put_beside.new.held c.put_in_threads.new.held c.pass_on.new.self rows [] c.put_in_threads.ensures c.pass_on.ensures.puts in
     subst All (text-first header records)
     (puts-then taken faults c.args.out.now c.put_beside.new.out c.pass_on.new.out c.args.held.now c.put_beside.new.held c.pass_on.new.self (row_text default_writer header) rows (subst Header both c.put_beside.ensures)
     (subst Rest (append-nil rows) rest))

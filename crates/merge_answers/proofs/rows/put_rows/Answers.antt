@@ -6,7 +6,7 @@ use Rattle.query_answer.specs.Held.{Puts}
 use Rattle.query_answer.proofs.Going.{puts-broken, puts-none, puts-then}
 use Rattle.query_answer.proofs.RowLines.{rows-cut, text-none}
 use Rattle.merge_answers.specs.Pieces.{rows_text}
-use Rattle.merge_answers.proofs.Joined.{round-more}
+use Rattle.query_answer.proofs.Joined.{round-more}
 use Rattle.merge_answers.proofs.rows.put_rows.Goals as goal
 
 pub stretches-init : goal.stretches-init
@@ -38,7 +38,7 @@ stretches-preserved g c =
     let Text : List ℕ → Type 0 = Puts taken faults c.args.out.now c.put_block.new.out c.args.held.now c.put_block.new.held in
     record {
       within = omega (arith, c.stretches.invariant.within);
-      puts = subst Text (round-more records numbers c.stretches.at _)
+      puts = subst Text (round-more (record_at records) numbers c.stretches.at _)
           (puts-then taken faults c.args.out.now c.stretches.out c.put_block.new.out c.args.held.now c.stretches.held c.put_block.new.held (rows_text records (take c.stretches.at numbers)) _ c.stretches.invariant.puts c.put_block.ensures);
     }
 
