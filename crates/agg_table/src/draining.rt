@@ -12,6 +12,7 @@ use crate::part::HashPart;
 use agg_cell::AggObject;
 use dshash_core::{Entry, Partition, unpack_key};
 use dshash_parts::ClosedTable;
+use par_model::LONGEST_KEY;
 use partial_agg::{GroupKey, GroupMap};
 use region_words::Region;
 use std::alloc::{AllocError, Global};
@@ -20,10 +21,10 @@ use std::alloc::{AllocError, Global};
 fn group_key(words: &[u64]) -> GroupKey
     requires { IsPackedKey words.now }
     ensures bytes { AllBytes result }
-    ensures short { length result ≤ 248 }
+    ensures short { length result ≤ LONGEST_KEY }
     ensures packs { words.now ≡ packed_key result }
 {
-    let mut bytes = [0; 248];
+    let mut bytes = [0; LONGEST_KEY];
     let count = unpack_key(words, &mut bytes);
     match GroupKey::of(&bytes[..count]) {
         Some(key) => key,

@@ -20,6 +20,9 @@ const KEY_WORDS: u32 = 32;
 /// The least pages of an area that has room for an empty table: its 128 slices are objects of one superblock.
 pub const LEAST_PAGES: u32 = 16;
 
+/// The most pages of an area.
+pub const MOST_PAGES: u32 = 65_536;
+
 /// The two passes of each participant together.
 fn pair_up(
     alloc: Global,
@@ -53,7 +56,7 @@ pub fn open<R: Wait>(
 ) -> Result<(HashPart, Vec<HashSeat>), AllocError>
     requires here { chunk.part.region ≡ r.now }
     requires size { chunk.bytes ≡ 8 * area_size pages }
-    requires pages { (LEAST_PAGES ≤ pages) × (pages ≤ 65536) }
+    requires pages { (LEAST_PAGES ≤ pages) × (pages ≤ MOST_PAGES) }
     requires callers { 1 ≤ callers }
     ensures part { IfOk result (λ t. IsPart r.now t.0) }
     ensures pages { IfOk result (λ t. pages_of t.0.area ≡ pages) }

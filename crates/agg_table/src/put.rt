@@ -2,6 +2,7 @@
 
 ghost use Rattle.std.specs.Prelude.{◌≡◌, ◌≤◌, MatchBool, length};
 ghost use Rattle.dshash_core.specs.Key.{packed_key};
+ghost use Rattle.par_model.specs.declared.refusal.TheConstants.{LONGEST_KEY};
 ghost use Rattle.rel_pointer.specs.Bytes.{AllBytes};
 ghost use Rattle.agg_table.specs.Calls.{IsLeft, IsPut};
 ghost use Rattle.agg_table.specs.Shown.{Grew, IsPart, IsSeat, use_of};
@@ -15,7 +16,7 @@ use std::sync::Wait;
 
 /// A key's bytes as the words of a packed key.
 fn words_of(bytes: &[u8]) -> [u64; 32]
-    requires { length bytes.now ≤ 248 }
+    requires { length bytes.now ≤ LONGEST_KEY }
     ensures packed { result ≡ packed_key bytes.now }
     ensures bytes { AllBytes bytes.now }
 {
