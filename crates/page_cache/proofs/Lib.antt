@@ -1,4 +1,4 @@
-pub mod Sums
+pub mod PartitionSums
 pub mod Paid
 pub mod Results
 pub mod Seats

@@ -14,7 +14,7 @@ use Rattle.page_cache.specs.Tickets.{CacheEntry, CacheEvent, CacheHistories, Has
 use Rattle.page_cache.specs.declared.page.Page.{Page}
 use Rattle.page_cache.specs.declared.page.PageCall.{PageCall}
 use Rattle.page_cache.proofs.Paid.{paid_counts, pays_front}
-use Rattle.page_cache.proofs.Sums.{sum_both, sum_same}
+use Rattle.page_cache.proofs.PartitionSums.{sum_both, sum_same}
 use Rattle.page_cache.proofs.Turns.{history_counts}
 
 abbrev made : CacheEntry → ℕ

@@ -20,7 +20,7 @@ use Rattle.page_cache.specs.Pages.{stepped}
 use Rattle.page_cache.specs.Tickets.{Answers, Asks, CacheEntry, CacheEvent, CacheHistories, HasPaid, Pays, counted, makes, nothing, of_event, of_turn, takes}
 use Rattle.page_cache.specs.declared.page.Page.{Page}
 use Rattle.page_cache.specs.declared.page.PageCall.{PageCall}
-use Rattle.page_cache.proofs.Sums.{sum_more, sum_same, sum_zero}
+use Rattle.page_cache.proofs.PartitionSums.{sum_more, sum_same, sum_zero}
 
 -- ---- tickets
 

@@ -3,4 +3,4 @@ pub mod QuoteScans
 pub mod Stretches
 pub mod Later
 pub mod Cuts
-pub mod Front
+pub mod InFront

@@ -1,6 +1,6 @@
 mod Blocks
 mod Joining
-mod Ordered
+mod Rising
 mod Parting
 mod SeatedMaps
 mod Shared

@@ -33,7 +33,7 @@ use Rattle.split_run.specs.Parted.{ArePartedFrom, AreRangeTexts, HasParted, IsRe
 use Rattle.split_run.specs.Ranges.{count_of, range_of}
 use Rattle.split_run.specs.declared.parted.Parted.{Parted}
 use Rattle.split_run.specs.declared.ranges.Ranges.{Ranges}
-use Rattle.split_run.proofs.Ordered.{filter_few, range_below, rises}
+use Rattle.split_run.proofs.Rising.{filter_few, range_below, rises}
 
 -- ---- what the ranges were found of
 

@@ -1,2 +1,2 @@
-mod Popped
+mod Elements
 mod Counted

@@ -8,7 +8,7 @@ use Rattle.page_cache.specs.Pages.{stepped}
 use Rattle.page_cache.specs.Tickets.{sum_below}
 use Rattle.page_cache.proofs.Endings.{all_passes, end_moment}
 use Rattle.page_cache.proofs.Moments.{never_more}
-use Rattle.page_cache.proofs.Sums.{sum_last, sum_same}
+use Rattle.page_cache.proofs.PartitionSums.{sum_last, sum_same}
 use Rattle.page_cache.proofs.threads.entries_left.Goals as goal
 
 pub close-closed-requires-clause-all : goal.close-closed-requires-clause-all

@@ -2,7 +2,7 @@ use Rattle.std.proofs.Common.{◌≡◌, ◌∙◌, false, inl, inr, sym, arith,
 use Rattle.csv_rows.specs.declared.place.Place.TheVariants as place
 use Rattle.csv_rows.proofs.Scans.{place-none}
 use Rattle.row_windows.specs.Seams.{is_line_end}
-use Rattle.row_windows.proofs.Front.{all-more, none-more}
+use Rattle.row_windows.proofs.InFront.{all-more, none-more}
 use Rattle.row_windows.proofs.Later.{not-not-quoted}
 use Rattle.row_windows.proofs.QuoteScans.{one-more}
 use Rattle.row_windows.proofs.header.first_end.Goals as goal

@@ -1,6 +1,6 @@
 use Rattle.std.proofs.Common.{refl}
 use Rattle.row_windows.proofs.Cuts.{cut-marked}
-use Rattle.row_windows.proofs.Front.{few-whole, one-front}
+use Rattle.row_windows.proofs.InFront.{few-whole, one-front}
 use Rattle.row_windows.proofs.header.header_end.Goals as goal
 
 pub returns-in-Some-clause-cut : goal.returns-in-Some-clause-cut

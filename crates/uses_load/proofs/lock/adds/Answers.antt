@@ -1,5 +1,5 @@
 use Rattle.std.proofs.Common.{◌∙◌, ap, arith, length, refl}
-use Rattle.uses_load.proofs.Popped.{one_more}
+use Rattle.uses_load.proofs.Elements.{one_more}
 use Rattle.uses_load.proofs.lock.adds.Goals as goal
 
 pub loop-init : goal.loop-init

@@ -2,7 +2,7 @@ use Rattle.std.proofs.Common.{◌<◌, ◌∙◌, get_or, length, ap, sym, subst
 use Rattle.atomic_table.proofs.Lists.{at_index}
 use Rattle.std.proofs.lemmas.List.{get_or_default}
 use Rattle.lock_book.specs.Shown.{Belongs, mine_of, number_of}
-use Rattle.uses_load.proofs.Popped.{read_at}
+use Rattle.uses_load.proofs.Elements.{read_at}
 use Rattle.uses_load.proofs.lock.lock_load.Goals as goal
 
 pub all_add-requires-clause-own : goal.all_add-requires-clause-own

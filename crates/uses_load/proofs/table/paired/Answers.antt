@@ -1,7 +1,7 @@
 use Rattle.std.proofs.Common.{◌∙◌, length, sym, ap, arith}
 use mathlib.Core.Option.{some-ne-none}
 use lib.ListN.{get_elem?}
-use Rattle.uses_load.proofs.Popped.{of_last, of_front, of_pushed, one_more}
+use Rattle.uses_load.proofs.Elements.{of_last, of_front, of_pushed, one_more}
 use Rattle.uses_load.proofs.table.paired.Goals as goal
 
 pub loop-pass-init : goal.loop-pass-init

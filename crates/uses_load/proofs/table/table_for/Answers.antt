@@ -1,5 +1,5 @@
 use Rattle.std.proofs.Common.{arith}
-use Rattle.uses_load.proofs.Popped.{of_last, of_front, one_more}
+use Rattle.uses_load.proofs.Elements.{of_last, of_front, one_more}
 use Rattle.uses_load.proofs.table.table_for.Goals as goal
 
 pub new-requires-clause-area_own : goal.new-requires-clause-area_own

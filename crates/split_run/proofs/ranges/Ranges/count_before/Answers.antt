@@ -1,7 +1,7 @@
 use Rattle.std.proofs.Common.{rules, arith, sym}
 use Rattle.std.proofs.lemmas.List.Sorted.{IsPartitionPoint-from_clause}
 use Rattle.split_run.specs.Ranges.{is_before}
-use Rattle.split_run.proofs.Ordered.{filter_point, ordered_parts}
+use Rattle.split_run.proofs.Rising.{filter_point, ordered_parts}
 use Rattle.split_run.proofs.ranges.Ranges.count_before.Goals as goal
 
 pub returns : goal.returns
