@@ -158,9 +158,15 @@ fn are_writable(left: &RowStore, right: &RowStore, pairs: &Pairs) -> bool
 }
 
 /// Writes the records of the pairs, where each has a field. Whether they were written.
-fn write_pairs(alloc: Global, ready: &Ready, pairs: &Pairs, out: &mut MemSink) -> bool {
+fn write_pairs<R: Threads + Sync>(
+    rt: &R,
+    alloc: Global,
+    ready: &Ready,
+    pairs: &Pairs,
+    out: &mut MemSink,
+) -> bool {
     are_writable(&ready.left, &ready.right, pairs)
-        && write_joined(alloc, &ready.left, &ready.right, pairs, out).is_ok()
+        && write_joined(rt, alloc, &ready.left, &ready.right, pairs, 2, out).is_ok()
 }
 
 #[test]
@@ -168,7 +174,7 @@ fn tables_that_are_read_and_joined(rt: HostRuntime) -> Result<(), Fail> {
     let ready = ready_of(&rt, rt.alloc(), b"id,a\n1,x\n2,y\n%\nb,id\np,1\nq,3\nr,1\n")?;
     let pairs = pairs_of_ready(&rt, rt.alloc(), &ready)?;
     let mut out = MemSink::new(rt.alloc(), 5, 100, Vec::new(rt.alloc()))?;
-    assert!(rt; write_pairs(rt.alloc(), &ready, &pairs, &mut out));
+    assert!(rt; write_pairs(&rt, rt.alloc(), &ready, &pairs, &mut out));
     assert_eq!(rt; out.written(), b"id,a,b,id\n1,x,p,1\n1,x,r,1\n".as_slice());
     Ok(())
 }
