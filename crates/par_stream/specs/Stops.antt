@@ -88,6 +88,10 @@ Tells query left (stop.Refused row why) = NamesRefusal query left row why
 Tells query left stop.WriteFault = IfSome left (λ bytes. outcome_over (Some query.plan) bytes ≡ Table)
 Tells query left stop.Memory = ⊤
 
+-- why the rows of a window behind some others were not added to the maps of these, which are of so many rows
+abbrev pub TellsOfRows : Query → Plan → List (List ℕ) → List GroupsByKey → ℕ → Stretch → Stop → Type 0
+TellsOfRows query plan header maps count w why = (from : Option (List ℕ)) (rows : Table) → count ≡ length rows → AreShared plan (length header) rows maps → Begins from (upto header rows w) → Tells query from why
+
 -- likewise of words that ask for a query, or for none
 abbrev pub TellsOf : Option Query → Option (List ℕ) → Stop → Type 0
 TellsOf None left why = (why ≡ stop.Usage) ⊎ (why ≡ stop.Memory)

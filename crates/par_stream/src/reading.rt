@@ -21,37 +21,38 @@ use plan_spec::Plan;
 use row_windows::{Window, WindowAnswer, header_end};
 use split_run::{add_rows, begin};
 use std::alloc::Global;
+use std::mem;
 use std::sync::Wait;
-use std::thread::Threads;
+use std::thread::{Threads, join_mut};
 
 /// The most rows for which averages are exact: 2^50. A source with more of them ends as one without memory.
 const MOST_ROWS: u64 = 1_125_899_906_842_624;
 
-/// The maps of the participants, which share all rows, and the plan over the columns of the header.
+/// The maps of all rows, one for each participant, and the plan over the columns of the header.
 #[derive(Drop)]
 pub(crate) struct ReadGroups {
     pub(crate) bound: BoundPlan,
     pub(crate) maps: Vec<GroupMap>,
 }
 
-/// A window that has a record, with its records, and whether it is the last.
+/// A window that begins with the header, whose record stands beside it, and whether it is the last.
 #[derive(Drop)]
 pub(crate) struct First {
     pub(crate) window: Window,
-    pub(crate) store: RowStore,
+    pub(crate) header: RowStore,
     pub(crate) is_last: bool,
 }
 
-/// What there is after a window: that window, another for the next, the header, the participants' maps, how many rows they
-/// have, and whether the window is the last.
+/// What there is before the rows of a window are added: that window, whether it is the last, another for the next, the
+/// header, the participants' maps, and how many rows they have.
 #[derive(Drop)]
 pub(crate) struct Stream {
     pub(crate) window: Window,
+    pub(crate) is_last: bool,
     pub(crate) spare: Window,
     pub(crate) header: RowStore,
     pub(crate) maps: Vec<GroupMap>,
     pub(crate) count: u64,
-    pub(crate) is_last: bool,
 }
 
 /// Reads the whole source, in windows of so many bytes or more.
@@ -67,12 +68,12 @@ pub(crate) fn read_groups<R: Threads + Wait + Sync, S: Source>(
     ensures read_fault { IfErr result (λ why. why ≡ stop.ReadFault → Rose (S.faults source.old) (S.faults source.new)) }
     ensures no_write { IfErr result (λ why. (why ≡ stop.WriteFault) → ⊥) }
 {
-    let first = first_window(rt, alloc, plan, source, size)?;
-    let bound = bind(alloc, plan, &first.store)?;
-    let mut stream = open(rt, alloc, plan, &bound, first)?;
+    let first = first_window(rt, alloc, source, size)?;
+    let bound = bind(alloc, plan, &first.header)?;
+    let mut stream = open(alloc, plan, &bound, first)?;
     for _ in rt.forever() {
         if stream.is_last {
-            return Ok(end(plan, bound, stream));
+            return end(rt, alloc, plan, bound, stream);
         }
         stream = next_window(rt, alloc, plan, &bound, source, size, stream)?;
     }
@@ -80,16 +81,15 @@ pub(crate) fn read_groups<R: Threads + Wait + Sync, S: Source>(
 }
 
 /// The first window that has a record.
-fn first_window<R: Threads + Wait + Sync, S: Source>(
+fn first_window<R: Wait, S: Source>(
     rt: &R,
     alloc: Global,
-    plan: &Plan,
     source: &mut S,
     size: usize,
 ) -> Result<First, Stop>
     ensures first { IfOk result IsFirst }
-    ensures reaches { IfOk result (λ f. Reaches (S.left source.old) (S.left source.new) f.store f.window.rest f.is_last) }
-    ensures why { IfErr result (Tells plan.now (S.left source.old)) }
+    ensures reaches { IfOk result (λ f. Reaches (S.left source.old) (S.left source.new) (window_records f.window) f.window.rest f.is_last) }
+    ensures why { IfErr result (λ why. (query : _) → Tells query (S.left source.old) why) }
     ensures read_fault { IfErr result (λ why. why ≡ stop.ReadFault → Rose (S.faults source.old) (S.faults source.new)) }
     ensures faults { S.faults source.old ≤ S.faults source.new }
     ensures no_write { IfErr result (λ why. (why ≡ stop.WriteFault) → ⊥) }
@@ -97,10 +97,10 @@ fn first_window<R: Threads + Wait + Sync, S: Source>(
     let mut window = Window::new(alloc);
     for _ in rt.forever() {
         let is_last = fill(&mut window, source, size, 0)?;
-        match stored(rt, alloc, plan, &window) {
-            Ok(store) => return Ok(First {
+        match part_header(alloc, &mut window) {
+            Ok(header) => return Ok(First {
                 window,
-                store,
+                header,
                 is_last,
             }),
             Err(RowsAnswer::NoHeader) if is_last => return Err(Stop::NoHeader),
@@ -140,9 +140,18 @@ fn fill<S: Source>(window: &mut Window, source: &mut S, size: usize, row: u64) -
 {
     match window.fill(source, size) {
         Ok(is_last) => Ok(is_last),
-        Err(WindowAnswer::ReadFault) => Err(Stop::ReadFault),
-        Err(WindowAnswer::LongRecord) => Err(Stop::LongRecord(row)),
-        Err(WindowAnswer::Memory) => Err(Stop::Memory),
+        Err(why) => Err(stop_of_window(why, row)),
+    }
+}
+
+/// The reason that stands for a window that was not filled, before which there are so many records.
+fn stop_of_window(why: WindowAnswer, row: u64) -> Stop
+    ensures { result ≡ stop_of_window why row }
+{
+    match why {
+        WindowAnswer::ReadFault => Stop::ReadFault,
+        WindowAnswer::LongRecord => Stop::LongRecord(row),
+        WindowAnswer::Memory => Stop::Memory,
     }
 }
 
@@ -160,53 +169,41 @@ fn stored<R: Threads + Sync>(
     rows_in_threads(rt, alloc, window.table(), plan.workers() as usize + 1)
 }
 
-/// Adds the rows of the first window, and parts its header from them.
-fn open<R: Threads + Wait + Sync>(
-    rt: &R,
-    alloc: Global,
-    plan: &Plan,
-    bound: &BoundPlan,
-    first: First,
-) -> Result<Stream, Stop>
+/// Makes the maps of the participants, before any row.
+fn open(alloc: Global, plan: &Plan, bound: &BoundPlan, first: First) -> Result<Stream, Stop>
     requires first { IsFirst first }
-    requires bound { IsBound plan.now (record_at first.store 0) bound.now }
+    requires bound { IsBound plan.now (record_at first.header 0) bound.now }
     ensures stream { IfOk result (IsStream plan.now bound.now) }
-    ensures rows { IfOk result (λ s. (from left : Option (List ℕ)) → Reaches from left first.store first.window.rest first.is_last → (rows : Table) × HasRows bound.now from left s rows) }
-    ensures why { IfErr result (λ why. (from left : Option (List ℕ)) → Reaches from left first.store first.window.rest first.is_last → Tells plan.now from why) }
-    ensures kind { IfErr result (λ why. ((why ≡ stop.ReadFault) ⊎ (why ≡ stop.WriteFault)) → ⊥) }
+    ensures rows { IfOk result (λ s. (from left : Option (List ℕ)) → Reaches from left (window_records first.window) first.window.rest first.is_last → HasRows bound.now from left s []) }
+    ensures why { IfErr result (λ why. why ≡ stop.Memory) }
 {
+    let _bound = bound;
     let First {
-        mut window,
-        store,
+        window,
+        header,
         is_last,
     } = first;
     let maps = begin(alloc, plan.workers() + 1)?;
-    let count = store.count();
-    let maps = match add_rows(rt, alloc, &store, bound, maps) {
-        Ok(maps) => maps,
-        Err(why) => return Err(stop_of_block(alloc, plan, 0, why)),
-    };
-    let header = part_header(alloc, &mut window)?;
     Ok(Stream {
         window,
+        is_last,
         spare: Window::new(alloc),
         header,
         maps,
-        count,
-        is_last,
+        count: 0,
     })
 }
 
 /// Makes the line of the header, which the window's lines begin with, that of the windows behind it, and gives its record.
-fn part_header(alloc: Global, window: &mut Window) -> Result<RowStore, Stop>
+fn part_header(alloc: Global, window: &mut Window) -> Result<RowStore, RowsAnswer>
     requires none { window.old.header ≡ [] }
-    requires some { 0 < length (records_of window.old.lines) }
     ensures one { IfOk result (λ header. length header ≡ 1) }
     ensures record { IfOk result (λ header. header ≡ records_of window.new.header) }
     ensures first { OnOk result ((more : Table) × (records_of window.old.lines ≡ records_of window.new.header ++ more)) }
+    ensures same { OnOk result (window.new.header ++ window.new.lines ≡ window.old.lines) }
     ensures cut { OnOk result (IsCut window.old.lines → IsCut window.new.header) }
-    ensures rest { OnOk result (window.new.rest ≡ window.old.rest) }
-    ensures why { IfErr result (λ why. why ≡ stop.Memory) }
+    ensures rest { window.new.rest ≡ window.old.rest }
+    ensures no_header { result ≡ Err parsing.NoHeader → (window.new ≡ window.old) × (records_of window.old.lines ≡ []) }
 {
     let lines = window.table();
     let at = header_end(lines).unwrap_or(lines.len());
@@ -215,11 +212,11 @@ fn part_header(alloc: Global, window: &mut Window) -> Result<RowStore, Stop>
             window.set_header(at);
             Ok(header)
         }
-        Err(_) => Err(Stop::Memory),
+        Err(why) => Err(why),
     }
 }
 
-/// Reads the window behind the one at hand, and adds its rows.
+/// Adds the rows of the window at hand, and reads the one behind it: at the same time where there are workers.
 fn next_window<R: Threads + Wait + Sync, S: Source>(
     rt: &R,
     alloc: Global,
@@ -241,46 +238,94 @@ fn next_window<R: Threads + Wait + Sync, S: Source>(
 {
     let Stream {
         window,
+        is_last: _,
         mut spare,
         header,
-        maps,
+        mut maps,
         count,
-        is_last: _,
     } = stream;
     spare.follow(&window)?;
-    let is_last = fill(&mut spare, source, size, count + 1)?;
-    let store = match stored(rt, alloc, plan, &spare) {
-        Ok(store) => store,
-        Err(_) => return Err(Stop::Memory),
+    let (added, filled) = if plan.workers() == 0 {
+        let count = add_window(rt, alloc, plan, bound, &window, &mut maps, count)?;
+        (Ok(count), spare.fill(source, size))
+    } else {
+        add_beside(rt, alloc, plan, bound, &window, &mut maps, count, &mut spare, source, size)
     };
-    let more = store.count();
-    let maps = match add_rows(rt, alloc, &store, bound, maps) {
-        Ok(maps) => maps,
-        Err(why) => return Err(stop_of_block(alloc, plan, count, why)),
+    let count = added?;
+    let is_last = match filled {
+        Ok(is_last) => is_last,
+        Err(why) => return Err(stop_of_window(why, count + 1)),
     };
-    let count = count + more;
-    if count > MOST_ROWS {
-        return Err(Stop::Memory);
-    }
     Ok(Stream {
         window: spare,
+        is_last,
         spare: window,
         header,
         maps,
         count,
-        is_last,
     })
 }
 
-/// The maps of all rows, after the last window.
-fn end(plan: &Plan, bound: BoundPlan, stream: Stream) -> ReadGroups
-    requires stream { IsStream plan.now bound stream }
-    requires last { stream.is_last ≡ true }
-    ensures { (from left : Option (List ℕ)) (rows : Table) → HasRows bound from left stream rows → AreGroupsOver plan.now from result }
+/// Adds the rows of a window while the one behind it is read in the caller's thread.
+fn add_beside<R: Threads + Wait + Sync, S: Source>(
+    rt: &R,
+    alloc: Global,
+    plan: &Plan,
+    bound: &BoundPlan,
+    window: &Window,
+    maps: &mut Vec<GroupMap>,
+    count: u64,
+    next: &mut Window,
+    source: &mut S,
+    size: usize,
+) -> (Result<u64, Stop>, Result<bool, WindowAnswer>)
 {
-    let _of = plan;
-    ReadGroups {
-        bound,
-        maps: stream.maps,
+    let mut add = || add_window(rt, alloc, plan, bound, window, maps, count);
+    let mut read = || next.fill(source, size);
+    join_mut(rt, &mut add, &mut read)
+}
+
+/// Adds the rows of a window to the maps, which have so many rows, and says how many they have then.
+fn add_window<R: Threads + Wait + Sync>(
+    rt: &R,
+    alloc: Global,
+    plan: &Plan,
+    bound: &BoundPlan,
+    window: &Window,
+    maps: &mut Vec<GroupMap>,
+    count: u64,
+) -> Result<u64, Stop>
+{
+    let Ok(store) = stored(rt, alloc, plan, window) else {
+        return Err(Stop::Memory);
+    };
+    let olds = mem::replace(maps, Vec::new(alloc));
+    match add_rows(rt, alloc, &store, bound, olds) {
+        Ok(news) => *maps = news,
+        Err(why) => return Err(stop_of_block(alloc, plan, count, why)),
     }
+    let count = count + store.count();
+    if count > MOST_ROWS {
+        return Err(Stop::Memory);
+    }
+    Ok(count)
+}
+
+/// Adds the rows of the last window.
+fn end<R: Threads + Wait + Sync>(
+    rt: &R,
+    alloc: Global,
+    plan: &Plan,
+    bound: BoundPlan,
+    stream: Stream,
+) -> Result<ReadGroups, Stop>
+{
+    let Stream {
+        window,
+        mut maps,
+        count,
+        ..
+    } = stream;
+    let _count = add_window(rt, alloc, plan, &bound, &window, &mut maps, count)?;
+    Ok(ReadGroups { bound, maps })
 }
