@@ -3,6 +3,8 @@
 #![tactic(auto)]
 
 #[cfg(test)]
+mod ranges;
+#[cfg(test)]
 mod shares;
 #[cfg(test)]
 mod windows;
