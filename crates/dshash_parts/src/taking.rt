@@ -76,7 +76,8 @@ where
         ensures owned { (k : List ℕ) → IsOwner O.stepped O.may (number_of pass.old) k → IsOwnCell O.stepped (seen_of pass.new) (mine_of pass.new) k }
         ensures cells { (k : List ℕ) → IsOneCell O.stepped (seen_of pass.new) k }
     {
-        match self.take_out(rt, alloc, r, pass, partition, call)? {
+        let taken = self.take_out(rt, alloc, r, pass, partition, call)?;
+        match taken {
             Some(Taken { key, reply, item }) => {
                 give(rt, area, r, apass, item);
                 Ok(Some((key, reply)))

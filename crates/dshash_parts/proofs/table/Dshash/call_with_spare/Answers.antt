@@ -4,9 +4,10 @@ use Rattle.dsa_area.specs.Sizes.{chunk_size}
 use Rattle.lock_book.specs.Shown.{number_of, seen_of, mine_of}
 use Rattle.dshash_core.specs.Key.{hash_of}
 use Rattle.dshash_core.specs.Cells.{partition_of}
-use Rattle.dshash_parts.specs.Tables.{item_of, size_at}
+use Rattle.dshash_parts.specs.Tables.{IsSpare, item_of, size_at}
 use Rattle.dshash_parts.specs.Traces.{sight_of}
 use Rattle.dshash_parts.specs.Promises.{one_if}
+use Rattle.dshash_parts.specs.Rounds.{Underway}
 use Rattle.dshash_parts.proofs.Uses.{partition_low, seen_cells, seen_roomy}
 use Rattle.dshash_parts.proofs.Owners.{allowed, lawful, own_cells}
 use Rattle.dshash_parts.proofs.Rounds.{starts}
@@ -25,9 +26,10 @@ turns-init g c =
       caller = refl;
       area_own = c.requires.area_own;
       area_caller = refl;
-      spare = c.requires.spare;
-      none = refl;
-      underway = starts (partition_of (hash_of c.args.key.now)) (item_of c.args.self.now) c.args.key.now c.args.call.now g.O.CellObject.stepped c.args.area.now (number_of c.args.pass.now) (sight_of c.args.pass.now c.args.apass.now) (is_some c.args.spare.now) low;
+      spare = subst (λ (o : Option Chunk). IsSpare c.args.r.now c.args.self.now o) (sym c.take-held.ensures.value) c.requires.spare;
+      none = c.take-held.ensures.after;
+      underway = subst (λ (o : Option Chunk). Underway (partition_of (hash_of c.args.key.now)) (item_of c.args.self.now) c.args.key.now c.args.call.now g.O.CellObject.stepped c.args.area.now (number_of c.args.pass.now) (is_some c.args.spare.now) (is_some o) (sight_of c.args.pass.now c.args.apass.now) (sight_of c.args.pass.now c.args.apass.now)) (sym c.take-held.ensures.value)
+          (starts (partition_of (hash_of c.args.key.now)) (item_of c.args.self.now) c.args.key.now c.args.call.now g.O.CellObject.stepped c.args.area.now (number_of c.args.pass.now) (sight_of c.args.pass.now c.args.apass.now) (is_some c.args.spare.now) low);
     }
 
 pub keep_one-requires-clause-unused : goal.keep_one-requires-clause-unused

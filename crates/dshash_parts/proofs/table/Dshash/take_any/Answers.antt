@@ -3,4 +3,6 @@ use Rattle.dshash_parts.specs.Traces.{Gave, Requested}
 use Rattle.dshash_parts.proofs.table.Dshash.take_any.Goals as goal
 
 pub returns-in-Some-clause-gave : goal.returns-in-Some-clause-gave
-returns-in-Some-clause-gave g c = subst (λ (bytes : ℕ). Requested c.args.area.now c.args.apass.now c.give.new.apass (Gave bytes)) c.in-Some.ensures.item.1 c.give.ensures.gave
+returns-in-Some-clause-gave g c =
+    let item = rw c.in-Some.is at c.in_ok-taken.ensures.item in
+    subst (λ (bytes : ℕ). Requested c.args.area.now c.args.apass.now c.give.new.apass (Gave bytes)) item.1 c.give.ensures.gave
