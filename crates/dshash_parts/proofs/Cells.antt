@@ -1,5 +1,5 @@
 -- Laws for the callers of a table: what a call that was made tells of the cell of its key, and when one is refused.
-use Rattle.std.proofs.Common.{◌≡◌, ℕ, ◌+◌, ◌≤◌, ⊎_elim, true, false, List, [], ◌∷◌, Option, refl, sym, ap, subst, ◌∙◌}
+use Rattle.std.proofs.Common.{◌≡◌, ℕ, ◌+◌, ◌≤◌, ⊎_elim, Bool, true, false, List, [], ◌∷◌, Option, refl, sym, ap, subst, ◌∙◌}
 use Rattle.std.specs.FinMap as fin
 use Rattle.lock_book.specs.declared.view.Entry.{Entry}
 use Rattle.lock_book.specs.History.{entry, last_of, IsLegal}
@@ -12,7 +12,7 @@ use Rattle.dshash_parts.specs.States.{PartitionState, fresh}
 use Rattle.dshash_parts.specs.Legal.{PartitionLegal}
 use Rattle.dshash_parts.specs.Tables.{state_at}
 use Rattle.dshash_parts.specs.Traces.{Event, Turn, Asked, Missed, Sight, Trace}
-use Rattle.dshash_parts.specs.Promises.{HadToGrow, LackedItem, IsLastCall, IsRefused, SawSize, slice_size}
+use Rattle.dshash_parts.specs.Promises.{HadToGrow, LackedItem, IsLastCall, IsRefusedWith, SawSize, slice_size}
 use Rattle.dshash_parts.specs.declared.histories.PartitionCalls.{PartitionCalls}
 use Rattle.dshash_parts.specs.declared.histories.PartitionCalls.TheVariants.{Call}
 use Rattle.dshash_parts.specs.declared.histories.PartitionReplies.{PartitionReplies}
@@ -52,7 +52,7 @@ module _ {S C R : Type 0} (step : Option S → C → Option S × R) (a : Area) (
   was_taken v w k c r (Asked request ∷ es) x h = ⊎_elim (λ (e : Turn k c r ≡ Asked request). absurd (cc)) (λ (rest : Among (Turn k c r) es). was_taken x.0 w k c r es x.2 rest) h
 
   -- a call is refused only where it would put in a key that was not there
-  pub refused_inserts : (v w : Sight S C R) (number item : ℕ) (key : List ℕ) (call : C) (wanted largest : ℕ) (es : List (Event S C R)) → IsRefused number item key call wanted largest es → Trace step a n v w es
+  pub refused_inserts : {held : Bool} (v w : Sight S C R) (number item : ℕ) (key : List ℕ) (call : C) (wanted largest : ℕ) (es : List (Event S C R)) → IsRefusedWith number item key call held wanted largest es → Trace step a n v w es
       → (m : KeyMap S) × (would_insert m key (next_of step m key call) ≡ true)
   refused_inserts v w number item key call wanted largest es x t =
       let end : List (Event S C R) = Asked (Missed x.bytes wanted largest) ∷ x.after in

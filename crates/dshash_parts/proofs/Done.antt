@@ -17,7 +17,7 @@ use Rattle.dsa_area.specs.declared.area.AreaPass.{AreaPass}
 use Rattle.dshash_core.specs.Chains.{Among}
 use Rattle.dshash_parts.specs.Done.{IsMissing, PageEntry, done_in, done_of, is_lack, lacks}
 use Rattle.dshash_parts.specs.Legal.{PartitionLegal}
-use Rattle.dshash_parts.specs.Promises.{IsCause, IsMade, IsRefused}
+use Rattle.dshash_parts.specs.Promises.{IsCause, IsMadeWith, IsRefusedWith}
 use Rattle.dshash_parts.specs.States.{PartitionState, fresh}
 use Rattle.dshash_parts.specs.Traces.{AreGifts, Asked, Event, Gave, Got, Makes, Missed, NoneMade, Sight, Trace, Turn, turns_at}
 use Rattle.dshash_parts.specs.declared.histories.PartitionCalls.{PartitionCalls}
@@ -201,7 +201,7 @@ module _ {S C R X : Type 0} (of : List ℕ → C → R → X) where
       ∙ ap (λ (l : List X). done_in of (v.mine k) ++ l) (done_map g.more ∙ ap done_by g.are)
 
   -- the events of a call that was made have just this one
-  pub made_done : (k number item : ℕ) (key : List ℕ) (call : C) (reply : R) (es : List (Event S C R)) → IsMade number item key call reply es
+  pub made_done : {held kept : Bool} (k number item : ℕ) (key : List ℕ) (call : C) (reply : R) (es : List (Event S C R)) → IsMadeWith number item key call held kept reply es
       → done_by (turns_at k es) ≡ cond {A = List X} (number == k) (of key call reply ∷ []) []
   made_done k number item key call reply es m =
       let last = Turn number (Call key call m.spare) (Made reply m.unused m.freed) in
@@ -245,7 +245,7 @@ module _ {S C R : Type 0} where
   entry_there P call reply (e ∷ es) (inr r) p = let a = entry_there P call reply es r p in (suc a.0, a.1, omega (arith, a.2), a.3, a.4)
 
   -- of a call that was refused an entry says that it was not made
-  pub missed_there : (number item : ℕ) (key : List ℕ) (call : C) (wanted largest : ℕ) (es : List (Event S C R)) → IsRefused number item key call wanted largest es
+  pub missed_there : {held : Bool} (number item : ℕ) (key : List ℕ) (call : C) (wanted largest : ℕ) (es : List (Event S C R)) → IsRefusedWith number item key call held wanted largest es
       → (more : List (Entry (PartitionState S) (PartitionCalls C) (PartitionReplies S R))) → map pair_of more ≡ turns_at number es
       → Any (λ (e : Entry (PartitionState S) (PartitionCalls C) (PartitionReplies S R)). IsMissing key call e.call e.reply) more
   missed_there number item key call wanted largest es r more are = by r.cause
@@ -261,5 +261,5 @@ module _ {S C R : Type 0} where
       by (inr x) = there (Call key call x.3.0) (HasToGrow x.0 x.3.0) x.3.1 (refl, refl)
 
   -- and a request was refused among its events
-  pub refused_misses : (number item : ℕ) (key : List ℕ) (call : C) (wanted largest : ℕ) (es : List (Event S C R)) → IsRefused number item key call wanted largest es → 1 ≤ misses es
+  pub refused_misses : {held : Bool} (number item : ℕ) (key : List ℕ) (call : C) (wanted largest : ℕ) (es : List (Event S C R)) → IsRefusedWith number item key call held wanted largest es → 1 ≤ misses es
   refused_misses number item key call wanted largest es r = subst (λ (l : List (Event S C R)). 1 ≤ misses l) (sym r.is) (misses_among r.bytes wanted largest r.before r.after)

@@ -1,5 +1,5 @@
 -- A call of the table, turn by turn: each turn and what was asked of the area after it lead on, or end the call.
-use Rattle.std.proofs.Common.{◌≡◌, ℕ, ◌+◌, ◌<◌, ◌≤◌, ⊎_elim, Bool, true, false, ◌&&◌, List, [], ◌∷◌, ◌++◌, Option, refl, sym, ap, subst, ◌∙◌, arith, append_assoc}
+use Rattle.std.proofs.Common.{◌≡◌, ℕ, ◌+◌, ◌<◌, ◌≤◌, ⊎_elim, Bool, true, false, ◌&&◌, ◌||◌, List, [], ◌∷◌, ◌++◌, Option, refl, sym, ap, subst, ◌∙◌, arith, append_assoc}
 use Rattle.dsa_area.specs.Sizes.{chunk_size}
 use Rattle.dsa_area.specs.declared.area.Area.{Area}
 use Rattle.dshash_core.specs.Chains.{Among}
@@ -13,12 +13,12 @@ use Rattle.dshash_parts.specs.declared.histories.PartitionCalls.TheVariants.{Cal
 use Rattle.dshash_parts.specs.declared.histories.PartitionReplies.{PartitionReplies}
 use Rattle.dshash_parts.specs.declared.histories.PartitionReplies.TheVariants.{Made, LacksItem, HasToGrow, HasSize}
 use Rattle.dshash_parts.specs.Traces.{Event, Turn, Asked, Requested, Got, Missed, Sight, sight, Trace, fulls}
-use Rattle.dshash_parts.specs.Promises.{AllGrew, IsMade, IsRefused, IsLastCall, slice_size}
+use Rattle.dshash_parts.specs.Promises.{AllGrew, IsMadeWith, IsRefusedWith, IsLastCall, slice_size}
 use Rattle.dshash_parts.specs.Sweeps.{Swept, SweptAndGave, GaveBack}
 use Rattle.dshash_parts.specs.Rounds.{Underway}
 use Rattle.dshash_parts.proofs.Sizes.{turn_legal, grow_tells}
 use Rattle.dshash_parts.proofs.Sweeps.{trace_append}
-use Rattle.dshash_parts.proofs.Rounds.{gift, gifts as both_gifts, gifts_among, grew_on, gift_trace, made_end, call_made, item_end, item_refused, slice_end, stuck, slice_refused, got_item, all_grew}
+use Rattle.dshash_parts.proofs.Rounds.{gift, gift_among, grew_on, gift_trace, made_end, made_gave, call_made, item_end, item_refused, slice_end, stuck, slice_refused, got_item, all_grew}
 
 first_holds : (b c : Bool) → (b && c) ≡ true → b ≡ true
 first_holds true c h = refl
@@ -38,25 +38,37 @@ module _ {S C R : Type 0} (number item : ℕ) (key : List ℕ) (call : C) (step 
       → AtPartition step n s m s' m' number c r
   here at who s m s' m' c r e w x = subst (λ (z : ℕ). AtPartition step z s m s' m' number c r) w (subst (λ (z : ℕ). AtPartition step who s m s' m' z c r) e x)
 
+  -- a call was made, and then the spare item was given back, where there was one
+  pub gave_spare : {held : Bool} (s m : Histories (PartitionState S) (PartitionCalls C) (PartitionReplies S R)) (p q : AreaPass) (kept : Bool) (reply : R)
+      → (es : List (Event S C R)) × IsMadeWith number item key call held kept reply es × Trace step a n v (sight s m p) es × AllGrew number item key call es s
+      → GaveBack a p q (chunk_size item) kept → number_of q ≡ number_of p
+      → (es : List (Event S C R)) × IsMadeWith number item key call held false reply es × Trace step a n v (sight s m q) es × AllGrew number item key call es s
+  gave_spare s m p q kept reply x gave same =
+      let tail : List (Event S C R) = gift (chunk_size item) kept in (
+        x.0 ++ tail,
+        made_gave number item key call kept reply x.0 x.1,
+        trace_append step a n v (sight s m p) (sight s m q) x.0 tail x.2 (gift_trace step a n s m p q (chunk_size item) kept gave same),
+        grew_on number item key call step a n v s s x.0 tail x.3 (λ size h k few. let e = gift_among (chunk_size item) kept (Turn number (Call key call h.0) (HasToGrow size h.0)) h.1 in absurd (cc)) (λ k few. omega arith),
+      )
+
   module _ (at who : ℕ) (s m s' m' : Histories (PartitionState S) (PartitionCalls C) (PartitionReplies S R)) (spare : Bool) (same_at : at ≡ number) (same_who : who ≡ n) where
-    -- the call was made, and what was not needed went back
-    pub made : (p q u : AreaPass) (reply : R) (unused freed : Bool) → Underway number item key call step a n spare v (sight s m p) → size_at s number ≤ 20
-        → AtPartition step who s m s' m' at (Call key call spare) (Made reply unused freed) → GaveBack a p q (chunk_size item) unused → number_of q ≡ number_of p → GaveBack a q u (chunk_size item) freed → number_of u ≡ number_of q
+    -- the call was made; of the item that it did not use and the one that it freed one is kept, and the other went back
+    pub made : {held : Bool} (p q : AreaPass) (reply : R) (unused freed kept : Bool) → kept ≡ (unused || freed) → Underway number item key call step a n held spare v (sight s m p) → size_at s number ≤ 20
+        → AtPartition step who s m s' m' at (Call key call spare) (Made reply unused freed) → GaveBack a p q (chunk_size item) (unused && freed) → number_of q ≡ number_of p
         → ((k : ℕ) → k < 128 → size_at s k ≤ size_at s' k)
-        → (es : List (Event S C R)) × IsMade number item key call reply es × Trace step a n v (sight s' m' u) es × AllGrew number item key call es s'
-    made p q u reply unused freed x low turn gave same gave' same' grows =
+        → (es : List (Event S C R)) × IsMadeWith number item key call held kept reply es × Trace step a n v (sight s' m' q) es × AllGrew number item key call es s'
+    made {held} p q reply unused freed kept is_kept x low turn gave same grows =
         let t = here at who s m s' m' (Call key call spare) (Made reply unused freed) same_at same_who turn in
         let l = turn_legal step n s m s' m' number (Call key call spare) (Made reply unused freed) t in
         let brought : unused ≡ true → spare ≡ true = λ h. first_holds spare _ (sym l.1.is.1.unused_is ∙ h) in
         let begun : fulls x.events + 7 ≤ size_at s number = x.rounds in
         let rounds : fulls x.events ≤ 13 = omega arith in
-        let tail : List (Event S C R) = made_end number item key call spare reply unused freed in
-        let gifts : Trace step a n (sight s' m' p) (sight s' m' u) (gift (chunk_size item) unused ++ gift (chunk_size item) freed) = trace_append step a n (sight s' m' p) (sight s' m' q) (sight s' m' u) (gift (chunk_size item) unused) (gift (chunk_size item) freed) (gift_trace step a n s' m' p q (chunk_size item) unused gave same) (gift_trace step a n s' m' q u (chunk_size item) freed gave' same') in (
+        let tail : List (Event S C R) = made_end number item key call spare reply unused freed in (
           x.events ++ tail,
-          call_made number item key call x.events spare reply unused freed x.is rounds brought,
-          trace_append step a n v (sight s m p) (sight s' m' u) x.events tail x.trace (sight s' m' p, (t, refl), gifts),
+          subst (λ (z : Bool). IsMadeWith number item key call held z reply (x.events ++ tail)) (sym is_kept) (call_made number item key call x.events spare reply unused freed x.is rounds brought),
+          trace_append step a n v (sight s m p) (sight s' m' q) x.events tail x.trace (sight s' m' p, (t, refl), gift_trace step a n s' m' p q (chunk_size item) (unused && freed) gave same),
           grew_on number item key call step a n v s s' x.events tail x.grew
-              (λ size h k few. absurd (⊎_elim (λ e. absurd (cc)) (λ (r : Among (Turn number (Call key call h.0) (HasToGrow size h.0)) (both_gifts (chunk_size item) unused freed)). let e = gifts_among (chunk_size item) unused freed (Turn number (Call key call h.0) (HasToGrow size h.0)) r in absurd (cc)) h.1))
+              (λ size h k few. absurd (⊎_elim (λ e. absurd (cc)) (λ (r : Among (Turn number (Call key call h.0) (HasToGrow size h.0)) (gift (chunk_size item) (unused && freed))). let e = gift_among (chunk_size item) (unused && freed) (Turn number (Call key call h.0) (HasToGrow size h.0)) r in absurd (cc)) h.1))
               grows,
         )
 
@@ -74,12 +86,12 @@ module _ {S C R : Type 0} (number item : ℕ) (key : List ℕ) (call : C) (step 
         (none, subst (λ (z : Bool). AtPartition step n s m s' m' number (Call key call z) LacksItem) none t)
 
     -- an item was lacked, and there was none
-    pub no_item : (p q : AreaPass) (wanted largest : ℕ) → Underway number item key call step a n spare v (sight s m p) → size_at s number ≤ 20
+    pub no_item : {held : Bool} (p q : AreaPass) (wanted largest : ℕ) → Underway number item key call step a n held spare v (sight s m p) → size_at s number ≤ 20
         → AtPartition step who s m s' m' at (Call key call spare) LacksItem → Requested a p q (Missed item wanted largest) → number_of q ≡ number_of p
-        → (es : List (Event S C R)) × IsRefused number item key call wanted largest es × Trace step a n v (sight s' m' q) es
-    no_item p q wanted largest x low turn missed same =
+        → (es : List (Event S C R)) × IsRefusedWith number item key call held wanted largest es × Trace step a n v (sight s' m' q) es
+    no_item {held} p q wanted largest x low turn missed same =
         let b = bare turn in
-        let y : Underway number item key call step a n false v (sight s m p) = subst (λ (z : Bool). Underway number item key call step a n z v (sight s m p)) b.0 x in
+        let y : Underway number item key call step a n held false v (sight s m p) = subst (λ (z : Bool). Underway number item key call step a n held z v (sight s m p)) b.0 x in
         let begun : fulls y.events + 7 ≤ size_at s number = y.rounds in
         let rounds : fulls y.events ≤ 13 = omega arith in
         let tail : List (Event S C R) = item_end number item key call wanted largest in (
@@ -89,11 +101,11 @@ module _ {S C R : Type 0} (number item : ℕ) (key : List ℕ) (call : C) (step 
         )
 
     -- an item was lacked, and came
-    pub item_came : (p q : AreaPass) → Underway number item key call step a n spare v (sight s m p) → number < 128 → ((k : ℕ) → k < 128 → size_at s k ≤ size_at s' k)
-        → AtPartition step who s m s' m' at (Call key call spare) LacksItem → Requested a p q (Got item) → number_of q ≡ number_of p → Underway number item key call step a n true v (sight s' m' q)
-    item_came p q x low grows turn got same =
+    pub item_came : {held : Bool} (p q : AreaPass) → Underway number item key call step a n held spare v (sight s m p) → number < 128 → ((k : ℕ) → k < 128 → size_at s k ≤ size_at s' k)
+        → AtPartition step who s m s' m' at (Call key call spare) LacksItem → Requested a p q (Got item) → number_of q ≡ number_of p → Underway number item key call step a n held true v (sight s' m' q)
+    item_came {held} p q x low grows turn got same =
         let b = bare turn in
-        let y : Underway number item key call step a n false v (sight s m p) = subst (λ (z : Bool). Underway number item key call step a n z v (sight s m p)) b.0 x in
+        let y : Underway number item key call step a n held false v (sight s m p) = subst (λ (z : Bool). Underway number item key call step a n held z v (sight s m p)) b.0 x in
         got_item number item key call step a n v s m s' m' p q y b.1 low grows got same
 
     module _ (size : ℕ) (back : Bool) (turn : AtPartition step who s m s' m' at (Call key call spare) (HasToGrow size back)) (grows : size_at s number ≤ size_at s' number) where
@@ -109,17 +121,17 @@ module _ {S C R : Type 0} (number item : ℕ) (key : List ℕ) (call : C) (step 
       full_size = grow_tells step n s m s' m' number key call spare spare size hands_back.1
 
       -- it had to grow, and all partitions did
-      pub all_came : (third : ℕ) (s'' m'' : Histories (PartitionState S) (PartitionCalls C) (PartitionReplies S R)) (p q : AreaPass) (next : Bool) → next ≡ back → third ≡ n → Underway number item key call step a n spare v (sight s m p)
-          → Swept step a third (size + 1) 128 (sight s' m' p) (sight s'' m'' q) → number < 128 → ((k : ℕ) → k < 128 → size + 1 ≤ size_at s'' k) → ((k : ℕ) → k < 128 → size_at s k ≤ size_at s'' k) → Underway number item key call step a n next v (sight s'' m'' q)
-      all_came third s'' m'' p q next kept same x swept here large rises =
+      pub all_came : {held : Bool} (third : ℕ) (s'' m'' : Histories (PartitionState S) (PartitionCalls C) (PartitionReplies S R)) (p q : AreaPass) (next : Bool) → next ≡ back → third ≡ n → Underway number item key call step a n held spare v (sight s m p)
+          → Swept step a third (size + 1) 128 (sight s' m' p) (sight s'' m'' q) → number < 128 → ((k : ℕ) → k < 128 → size + 1 ≤ size_at s'' k) → ((k : ℕ) → k < 128 → size_at s k ≤ size_at s'' k) → Underway number item key call step a n held next v (sight s'' m'' q)
+      all_came {held} third s'' m'' p q next kept same x swept here large rises =
           let told : size_at s' number ≡ size = full_size.0 in
           let low : size_at s number ≤ size = omega arith in
           let w : Swept step a n (size + 1) 128 (sight s' m' p) (sight s'' m'' q) = subst (λ (z : ℕ). Swept step a z (size + 1) 128 (sight s' m' p) (sight s'' m'' q)) same swept in
-          subst (λ (z : Bool). Underway number item key call step a n z v (sight s'' m'' q)) (sym (kept ∙ hands_back.0)) (all_grew number item key call step a n v s m s' m' s'' m'' p q spare size x hands_back.1 here low w large rises)
+          subst (λ (z : Bool). Underway number item key call step a n held z v (sight s'' m'' q)) (sym (kept ∙ hands_back.0)) (all_grew number item key call step a n v s m s' m' s'' m'' p q spare size x hands_back.1 here low w large rises)
 
       -- it had to grow, and there was no slice for some partition
-      pub no_slice : (third wanted largest : ℕ) (p : AreaPass) (w : Sight S C R) (sent : Bool) → sent ≡ back → third ≡ n → Underway number item key call step a n spare v (sight s m p)
-          → SweptAndGave step a third (size + 1) wanted largest (chunk_size item) sent (sight s' m' p) w → (es : List (Event S C R)) × IsRefused number item key call wanted largest es × Trace step a n v w es
+      pub no_slice : {held : Bool} (third wanted largest : ℕ) (p : AreaPass) (w : Sight S C R) (sent : Bool) → sent ≡ back → third ≡ n → Underway number item key call step a n held spare v (sight s m p)
+          → SweptAndGave step a third (size + 1) wanted largest (chunk_size item) sent (sight s' m' p) w → (es : List (Event S C R)) × IsRefusedWith number item key call held wanted largest es × Trace step a n v w es
       no_slice third wanted largest p w sent kept same x swept =
           let told : size_at s' number ≡ size = full_size.0 in
           let small : size < 20 = full_size.2 in

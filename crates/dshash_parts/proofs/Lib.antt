@@ -5,6 +5,7 @@ pub mod Sizes
 pub mod Grows
 pub mod Sweeps
 pub mod Rounds
+pub mod Spares
 pub mod Ends
 pub mod Opening
 pub mod Cells

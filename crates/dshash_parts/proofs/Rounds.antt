@@ -1,5 +1,5 @@
 -- The rounds of a call, one after another, and its end.
-use Rattle.std.proofs.Common.{◌≡◌, ℕ, ◌+◌, ◌<◌, ◌≤◌, ⊎_elim, inl, inr, Bool, true, false, not, ◌&&◌, List, [], ◌∷◌, ◌++◌, Option, refl, sym, ap, subst, ◌∙◌, arith, append_assoc}
+use Rattle.std.proofs.Common.{◌≡◌, ℕ, ◌+◌, ◌<◌, ◌≤◌, ⊎_elim, inl, inr, Bool, true, false, not, ◌&&◌, ◌||◌, List, [], ◌∷◌, ◌++◌, Option, refl, sym, ap, subst, ◌∙◌, arith, append_assoc}
 use Rattle.dsa_area.specs.Sizes.{chunk_size}
 use Rattle.dsa_area.specs.declared.area.Area.{Area}
 use Rattle.dsa_area.specs.declared.area.AreaPass.{AreaPass}
@@ -13,7 +13,7 @@ use Rattle.dshash_parts.specs.declared.histories.PartitionCalls.TheVariants.{Cal
 use Rattle.dshash_parts.specs.declared.histories.PartitionReplies.{PartitionReplies}
 use Rattle.dshash_parts.specs.declared.histories.PartitionReplies.TheVariants.{Made, LacksItem, HasToGrow, HasSize, Moved, Listed}
 use Rattle.dshash_parts.specs.Traces.{Event, Turn, Asked, Requested, Got, Missed, Gave, Sight, sight, Trace, granted, given, asked, fulls, NoneMade, AreGifts}
-use Rattle.dshash_parts.specs.Promises.{AllGrew, HadToGrow, IsLeftOver, LackedItem, IsMade, IsRefused, one_if, slice_size}
+use Rattle.dshash_parts.specs.Promises.{AllGrew, HadToGrow, IsFrugal, IsLeftOver, LackedItem, IsMadeWith, IsRefusedWith, one_if, slice_size}
 use Rattle.dshash_parts.specs.Sweeps.{IsSweep, AreSweeps, GivesLeftOvers, Swept, GaveBack}
 use Rattle.dshash_parts.specs.Rounds.{AreCaused, IsUnderway, Underway}
 use Rattle.dshash_parts.proofs.Sweeps.{among_back, among_front, among_parts, trace_append, granted_append, given_append, asked_append}
@@ -109,10 +109,10 @@ module _ {S C R : Type 0} (number item : ℕ) (key : List ℕ) (call : C) where
   abbrev pub item_round : List (Event S C R)
   item_round = Turn number (Call key call false) LacksItem ∷ Asked (Got item) ∷ []
 
-  pub underway_none : IsUnderway {S = S} {C = C} {R = R} number item key call false []
-  underway_none = record { none = tt; balance = refl; caused = record { moves = λ k to left h. absurd h; grants = λ bytes h. absurd h; gifts = λ bytes h. absurd h }; asks = omega arith }
+  pub underway_none : (held : Bool) → IsUnderway {S = S} {C = C} {R = R} number item key call held held []
+  underway_none held = record { none = tt; balance = omega arith; caused = record { moves = λ k to left h. absurd h; grants = λ bytes h. absurd h; gifts = λ bytes h. absurd h }; asks = omega arith }
 
-  pub underway_item : (es : List (Event S C R)) → IsUnderway number item key call false es → IsUnderway number item key call true (es ++ item_round)
+  pub underway_item : {held : Bool} (es : List (Event S C R)) → IsUnderway number item key call held false es → IsUnderway number item key call held true (es ++ item_round)
   underway_item es x = record {
     none = none_append es item_round x.none tt;
     balance = let p = granted_append es item_round in let q = given_append es item_round in let b = x.balance in omega arith;
@@ -137,8 +137,8 @@ module _ {S C R : Type 0} (number item : ℕ) (key : List ℕ) (call : C) where
             (λ (r : Among (Asked (Gave bytes)) sweep). let l = gave bytes r in (l.0, l.1, among_back (Turn l.0 (Moves l.1) (Moved bytes)) es (growth spare size sweep) (inr l.2))) x);
       }
 
-  pub underway_growth : (es : List (Event S C R)) (spare : Bool) (size : ℕ) (sweep : List (Event S C R)) → IsUnderway number item key call spare es → AreSweeps (size + 1) sweep → GivesLeftOvers sweep → granted sweep ≡ given sweep → asked sweep ≤ 128
-      → IsUnderway number item key call spare (es ++ growth spare size sweep)
+  pub underway_growth : {held : Bool} (es : List (Event S C R)) (spare : Bool) (size : ℕ) (sweep : List (Event S C R)) → IsUnderway number item key call held spare es → AreSweeps (size + 1) sweep → GivesLeftOvers sweep → granted sweep ≡ given sweep → asked sweep ≤ 128
+      → IsUnderway number item key call held spare (es ++ growth spare size sweep)
   underway_growth es spare size sweep x h gave even few =
       let quiet = sweeps_quiet (size + 1) sweep h in record {
         none = none_append es (growth spare size sweep) x.none quiet.0;
@@ -158,33 +158,25 @@ taken true false h = refl
 taken false true h = absurd (let e : false ≡ true = h refl in cc)
 taken false false h = refl
 
-module _ {S C R : Type 0} where
-  abbrev pub gifts : ℕ → Bool → Bool → List (Event S C R)
-  gifts bytes a b = gift bytes a ++ gift bytes b
-
--- what two gifts are
-record OnlyGifts (S C R : Type 0) (bytes : ℕ) (a b : Bool) : Type 0 where
-  are : AreGifts {S = S} {C = C} {R = R} (gifts bytes a b)
-  given_are : given {S = S} {C = C} {R = R} (gifts bytes a b) ≡ one_if a + one_if b
-  granted_none : granted {S = S} {C = C} {R = R} (gifts bytes a b) ≡ 0
-  asked_none : asked {S = S} {C = C} {R = R} (gifts bytes a b) ≡ 0
-  fulls_none : fulls {S = S} {C = C} {R = R} (gifts bytes a b) ≡ 0
-  none : NoneMade {S = S} {C = C} {R = R} (gifts bytes a b)
-
-only_gifts : (S C R : Type 0) (bytes : ℕ) (a b : Bool) → OnlyGifts S C R bytes a b
-only_gifts S C R bytes true true = record { are = tt; given_are = refl; granted_none = refl; asked_none = refl; fulls_none = refl; none = tt }
-only_gifts S C R bytes true false = record { are = tt; given_are = refl; granted_none = refl; asked_none = refl; fulls_none = refl; none = tt }
-only_gifts S C R bytes false true = record { are = tt; given_are = refl; granted_none = refl; asked_none = refl; fulls_none = refl; none = tt }
-only_gifts S C R bytes false false = record { are = tt; given_are = refl; granted_none = refl; asked_none = refl; fulls_none = refl; none = tt }
+-- of two items one is kept, and where there are both the other is not
+both_or_one : (a b : Bool) → one_if a + one_if b ≡ one_if (a && b) + one_if (a || b)
+both_or_one true true = refl
+both_or_one true false = refl
+both_or_one false true = refl
+both_or_one false false = refl
 
 module _ {S C R : Type 0} where
-  -- what stands among gifts is a gift of these bytes
-  gift_among : (bytes : ℕ) (b : Bool) (e : Event S C R) → Among e (gift bytes b) → e ≡ Asked (Gave bytes)
+  gifts_append : (es fs : List (Event S C R)) → AreGifts es → AreGifts fs → AreGifts (es ++ fs)
+  gifts_append [] fs x y = y
+  gifts_append (Turn number call reply ∷ es) fs x y = absurd x
+  gifts_append (Asked (Got bytes) ∷ es) fs x y = absurd x
+  gifts_append (Asked (Missed bytes wanted largest) ∷ es) fs x y = absurd x
+  gifts_append (Asked (Gave bytes) ∷ es) fs x y = gifts_append es fs x y
+
+  -- what stands in a gift is a gift of these bytes
+  pub gift_among : (bytes : ℕ) (b : Bool) (e : Event S C R) → Among e (gift bytes b) → e ≡ Asked (Gave bytes)
   gift_among bytes true e x = ⊎_elim (λ (same : e ≡ Asked (Gave bytes)). same) (λ z. absurd z) x
   gift_among bytes false e x = absurd x
-
-  pub gifts_among : (bytes : ℕ) (a b : Bool) (e : Event S C R) → Among e (gifts bytes a b) → e ≡ Asked (Gave bytes)
-  gifts_among bytes a b e x = ⊎_elim (λ (l : Among e (gift bytes a)). gift_among bytes a e l) (λ (r : Among e (gift bytes b)). gift_among bytes b e r) (among_parts e (gift bytes a) (gift bytes b) x)
 
 -- what a gift is, or none
 record OnlyGift (S C R : Type 0) (bytes : ℕ) (spare : Bool) : Type 0 where
@@ -200,29 +192,40 @@ only_gift S C R bytes true = record { are = tt; given_are = refl; granted_none =
 only_gift S C R bytes false = record { are = tt; given_are = refl; granted_none = refl; asked_none = refl; fulls_none = refl; none = tt }
 
 module _ {S C R : Type 0} (number item : ℕ) (key : List ℕ) (call : C) where
-  -- the end of a call that was made
+  -- the end of a call that was made: of the item that it did not use and the one that it freed, where there are both, one
+  -- is given back
   abbrev pub made_end : Bool → R → Bool → Bool → List (Event S C R)
-  made_end spare reply unused freed = Turn number (Call key call spare) (Made reply unused freed) ∷ gifts (chunk_size item) unused freed
+  made_end spare reply unused freed = Turn number (Call key call spare) (Made reply unused freed) ∷ gift (chunk_size item) (unused && freed)
 
-  pub call_made : (es : List (Event S C R)) (spare : Bool) (reply : R) (unused freed : Bool) → IsUnderway number item key call spare es → fulls es ≤ 13 → (unused ≡ true → spare ≡ true) → IsMade number item key call reply (es ++ made_end spare reply unused freed)
+  -- a gift of an item has its cause in itself
+  gift_caused : (es : List (Event S C R)) (b : Bool) → AreCaused number item key call es (gift (chunk_size item) b)
+  gift_caused es b = record {
+    moves = λ k to left y. let e = gift_among (chunk_size item) b (Turn k (Moves to) (Moved left)) y in absurd (cc);
+    grants = λ bytes y. let e = gift_among (chunk_size item) b (Asked (Got bytes)) y in absurd (cc);
+    gifts = λ bytes y. let e = gift_among (chunk_size item) b (Asked (Gave bytes)) y in let same : bytes ≡ chunk_size item = cc in inl same;
+  }
+
+  pub call_made : {held : Bool} (es : List (Event S C R)) (spare : Bool) (reply : R) (unused freed : Bool) → IsUnderway number item key call held spare es → fulls es ≤ 13 → (unused ≡ true → spare ≡ true)
+      → IsMadeWith number item key call held (unused || freed) reply (es ++ made_end spare reply unused freed)
   call_made es spare reply unused freed x few h =
       let tail : List (Event S C R) = made_end spare reply unused freed in
-      let g : OnlyGifts S C R (chunk_size item) unused freed = only_gifts S C R (chunk_size item) unused freed in
+      let g : OnlyGift S C R (chunk_size item) (unused && freed) = only_gift S C R (chunk_size item) (unused && freed) in
+      let late : AreCaused number item key call (es ++ tail) (gift (chunk_size item) (unused && freed)) = gift_caused (es ++ tail) (unused && freed) in
       let caused = caused_both number item key call es tail x.caused (record {
-        moves = λ k to left y. absurd (⊎_elim (λ e. absurd (cc)) (λ (r : Among (Turn k (Moves to) (Moved left)) (gifts (chunk_size item) unused freed)). let e = gifts_among (chunk_size item) unused freed (Turn k (Moves to) (Moved left)) r in absurd (cc)) y);
-        grants = λ bytes y. absurd (⊎_elim (λ e. absurd (cc)) (λ (r : Among (Asked (Got bytes)) (gifts (chunk_size item) unused freed)). let e = gifts_among (chunk_size item) unused freed (Asked (Got bytes)) r in absurd (cc)) y);
-        gifts = λ bytes y. inl (⊎_elim (λ e. absurd (cc)) (λ (r : Among (Asked (Gave bytes)) (gifts (chunk_size item) unused freed)). let e = gifts_among (chunk_size item) unused freed (Asked (Gave bytes)) r in let same : bytes ≡ chunk_size item = cc in same) y);
+        moves = λ k to left y. ⊎_elim (λ e. absurd (cc)) (λ (r : Among (Turn k (Moves to) (Moved left)) (gift (chunk_size item) (unused && freed))). late.moves k to left r) y;
+        grants = λ bytes y. ⊎_elim (λ e. absurd (cc)) (λ (r : Among (Asked (Got bytes)) (gift (chunk_size item) (unused && freed))). late.grants bytes r) y;
+        gifts = λ bytes y. ⊎_elim (λ e. absurd (cc)) (λ (r : Among (Asked (Gave bytes)) (gift (chunk_size item) (unused && freed))). late.gifts bytes r) y;
       }) in
       record {
         before = es;
-        after = gifts (chunk_size item) unused freed;
+        after = gift (chunk_size item) (unused && freed);
         spare = spare;
         unused = unused;
         freed = freed;
         is = refl;
         none_before = x.none;
         gifts_after = g.are;
-        balance = let p = granted_append es tail in let q = given_append es tail in let b = x.balance in let t = taken spare unused h in let u = g.given_are in let v = g.granted_none in omega arith;
+        balance = let p = granted_append es tail in let q = given_append es tail in let b = x.balance in let t = taken spare unused h in let o = both_or_one unused freed in let u = g.given_are in let v = g.granted_none in omega arith;
         frugal = record {
           moves = caused.moves;
           grants = caused.grants;
@@ -232,11 +235,38 @@ module _ {S C R : Type 0} (number item : ℕ) (key : List ℕ) (call : C) where
         };
       }
 
+  -- a call that was made, and whose spare item was given back then, where there was one
+  pub made_gave : {held : Bool} (kept : Bool) (reply : R) (es : List (Event S C R)) → IsMadeWith number item key call held kept reply es → IsMadeWith number item key call held false reply (es ++ gift (chunk_size item) kept)
+  made_gave kept reply es x =
+      let tail : List (Event S C R) = gift (chunk_size item) kept in
+      let g : OnlyGift S C R (chunk_size item) kept = only_gift S C R (chunk_size item) kept in
+      let f : IsFrugal number item key call es = x.frugal in
+      let caused = caused_both number item key call es tail (record { moves = f.moves; grants = f.grants; gifts = f.gifts }) (gift_caused (es ++ tail) kept) in
+      let last : List (Event S C R) = Turn number (Call key call x.spare) (Made reply x.unused x.freed) ∷ x.after in
+      record {
+        before = x.before;
+        after = x.after ++ tail;
+        spare = x.spare;
+        unused = x.unused;
+        freed = x.freed;
+        is = ap (λ (z : List (Event S C R)). z ++ tail) x.is ∙ append_assoc x.before last tail;
+        none_before = x.none_before;
+        gifts_after = gifts_append x.after tail x.gifts_after g.are;
+        balance = let p = granted_append es tail in let q = given_append es tail in let b = x.balance in let u = g.given_are in let v = g.granted_none in omega arith;
+        frugal = record {
+          moves = caused.moves;
+          grants = caused.grants;
+          gifts = caused.gifts;
+          asks = let p = asked_append es tail in let q = fulls_append es tail in let b = f.asks in let u = g.asked_none in let v = g.fulls_none in omega arith;
+          rounds = let q = fulls_append es tail in let r = f.rounds in let v = g.fulls_none in omega arith;
+        };
+      }
+
   -- the end of a call for which there was no item
   abbrev pub item_end : ℕ → ℕ → List (Event S C R)
   item_end wanted largest = Turn number (Call key call false) LacksItem ∷ Asked (Missed item wanted largest) ∷ []
 
-  pub item_refused : (es : List (Event S C R)) (wanted largest : ℕ) → IsUnderway number item key call false es → fulls es ≤ 13 → IsRefused number item key call wanted largest (es ++ item_end wanted largest)
+  pub item_refused : {held : Bool} (es : List (Event S C R)) (wanted largest : ℕ) → IsUnderway number item key call held false es → fulls es ≤ 13 → IsRefusedWith number item key call held wanted largest (es ++ item_end wanted largest)
   item_refused es wanted largest x few =
       let tail : List (Event S C R) = item_end wanted largest in
       let lacks : List (Event S C R) = Turn number (Call key call false) LacksItem ∷ [] in
@@ -299,8 +329,8 @@ module _ {S C R : Type 0} (number item : ℕ) (key : List ℕ) (call : C) where
             (among_parts (Asked (Gave bytes)) sweep (stuck size k found keys wanted largest spare) r)) x;
       }
 
-  pub slice_refused : (es : List (Event S C R)) (spare : Bool) (size : ℕ) (sweep : List (Event S C R)) (k found keys wanted largest : ℕ) → IsUnderway number item key call spare es → fulls es + 1 ≤ 13 → AreSweeps (size + 1) sweep → GivesLeftOvers sweep → granted sweep ≡ given sweep → asked sweep ≤ 127 → found < size + 1
-      → IsRefused number item key call wanted largest (es ++ slice_end spare size sweep k found keys wanted largest)
+  pub slice_refused : {held : Bool} (es : List (Event S C R)) (spare : Bool) (size : ℕ) (sweep : List (Event S C R)) (k found keys wanted largest : ℕ) → IsUnderway number item key call held spare es → fulls es + 1 ≤ 13 → AreSweeps (size + 1) sweep → GivesLeftOvers sweep → granted sweep ≡ given sweep → asked sweep ≤ 127 → found < size + 1
+      → IsRefusedWith number item key call held wanted largest (es ++ slice_end spare size sweep k found keys wanted largest)
   slice_refused es spare size sweep k found keys wanted largest x few h gave even asks small =
       let rest : List (Event S C R) = stuck size k found keys wanted largest spare in
       let tail : List (Event S C R) = slice_end spare size sweep k found keys wanted largest in
@@ -338,8 +368,8 @@ module _ {S C R : Type 0} (number item : ℕ) (key : List ℕ) (call : C) where
       }
 
   module _ (step : Option S → C → Option S × R) (a : Area) (n : ℕ) (v : Sight S C R) where
-    pub starts : 7 ≤ size_at v.seen number → Underway number item key call step a n false v v
-    starts low = record { events = []; is = underway_none number item key call; trace = refl; rounds = omega arith; grew = λ size k h. absurd h.1 }
+    pub starts : (held : Bool) → 7 ≤ size_at v.seen number → Underway number item key call step a n held held v v
+    starts held low = record { events = []; is = underway_none number item key call held; trace = refl; rounds = omega arith; grew = λ size k h. absurd h.1 }
 
     -- what has grown stays so, when later events tell of no other size at which the partition had to grow
     pub grew_on : (s s' : Histories (PartitionState S) (PartitionCalls C) (PartitionReplies S R)) (es fs : List (Event S C R)) → AllGrew number item key call es s → ((size : ℕ) → HadToGrow number item key call fs size → (k : ℕ) → k < 128 → size + 1 ≤ size_at s' k)
@@ -350,9 +380,9 @@ module _ {S C R : Type 0} (number item : ℕ) (key : List ℕ) (call : C) where
         (among_parts (Turn number (Call key call h.0) (HasToGrow size h.0)) es fs h.1)
 
     -- a round that got an item
-    pub got_item : (s m s' m' : Histories (PartitionState S) (PartitionCalls C) (PartitionReplies S R)) (p q : AreaPass) → Underway number item key call step a n false v (sight s m p)
+    pub got_item : {held : Bool} (s m s' m' : Histories (PartitionState S) (PartitionCalls C) (PartitionReplies S R)) (p q : AreaPass) → Underway number item key call step a n held false v (sight s m p)
         → AtPartition step n s m s' m' number (Call key call false) LacksItem → number < 128 → ((k : ℕ) → k < 128 → size_at s k ≤ size_at s' k) → Requested a p q (Got item) → number_of q ≡ number_of p
-        → Underway number item key call step a n true v (sight s' m' q)
+        → Underway number item key call step a n held true v (sight s' m' q)
     got_item s m s' m' p q u turn low grows got same = record {
       events = u.events ++ item_round number item key call;
       is = underway_item number item key call u.events u.is;
@@ -362,9 +392,9 @@ module _ {S C R : Type 0} (number item : ℕ) (key : List ℕ) (call : C) where
     }
 
     -- a round in which all partitions grew
-    pub all_grew : (s m s' m' s'' m'' : Histories (PartitionState S) (PartitionCalls C) (PartitionReplies S R)) (p q : AreaPass) (spare : Bool) (size : ℕ) → Underway number item key call step a n spare v (sight s m p)
+    pub all_grew : {held : Bool} (s m s' m' s'' m'' : Histories (PartitionState S) (PartitionCalls C) (PartitionReplies S R)) (p q : AreaPass) (spare : Bool) (size : ℕ) → Underway number item key call step a n held spare v (sight s m p)
         → AtPartition step n s m s' m' number (Call key call spare) (HasToGrow size spare) → number < 128 → size_at s number ≤ size → (w : Swept step a n (size + 1) 128 (sight s' m' p) (sight s'' m'' q))
-        → ((k : ℕ) → k < 128 → size + 1 ≤ size_at s'' k) → ((k : ℕ) → k < 128 → size_at s k ≤ size_at s'' k) → Underway number item key call step a n spare v (sight s'' m'' q)
+        → ((k : ℕ) → k < 128 → size + 1 ≤ size_at s'' k) → ((k : ℕ) → k < 128 → size_at s k ≤ size_at s'' k) → Underway number item key call step a n held spare v (sight s'' m'' q)
     all_grew s m s' m' s'' m'' p q spare size u turn here low w large grows = record {
       events = u.events ++ growth number item key call spare size w.events;
       is = underway_growth number item key call u.events spare size w.events u.is w.sweeps w.gifts w.balance w.few;

@@ -16,17 +16,18 @@ module _ {S C R : Type 0} (number item : ℕ) (key : List ℕ) (call : C) where
     pub grants : (bytes : ℕ) → Among (Asked (Got bytes)) fs → ((bytes ≡ item) × LackedItem number item key call es) ⊎ ((size : ℕ) × HadToGrow number item key call es size × (bytes ≡ slice_size (size + 1)))
     pub gifts : (bytes : ℕ) → Among (Asked (Gave bytes)) fs → (bytes ≡ chunk_size item) ⊎ IsLeftOver es bytes
 
-  -- the call was not made yet, and of what was granted the spare item alone is left, where there is one
-  pub record IsUnderway (spare : Bool) (es : List (Event S C R)) : Type 0 where
+  -- the call was not made yet, and of what the caller held first or was granted the spare item alone is left, where there
+  -- is one
+  pub record IsUnderway (held spare : Bool) (es : List (Event S C R)) : Type 0 where
     pub none : NoneMade es
-    pub balance : granted es ≡ given es + one_if spare
+    pub balance : one_if held + granted es ≡ given es + one_if spare
     pub caused : AreCaused es es
     pub asks : asked es ≤ one_if spare + 128 * fulls es
 
   -- These events led there. Each time that the partition had to grow it grew by a size at least
-  pub record Underway (step : Option S → C → Option S × R) (a : Area) (n : ℕ) (spare : Bool) (v w : Sight S C R) : Type 0 where
+  pub record Underway (step : Option S → C → Option S × R) (a : Area) (n : ℕ) (held spare : Bool) (v w : Sight S C R) : Type 0 where
     pub events : List (Event S C R)
-    pub is : IsUnderway spare events
+    pub is : IsUnderway held spare events
     pub trace : Trace step a n v w events
     pub rounds : fulls events + 7 ≤ size_at w.seen number
     pub grew : AllGrew number item key call events w.seen

@@ -1,5 +1,5 @@
 -- What a contract sees of a table, and one event of it.
-use Rattle.std.specs.Prelude.{◌≡◌, ◌≢◌, ℕ, ◌^◌, ◌<◌, ◌≤◌, List, [], ◌∷◌, Option}
+use Rattle.std.specs.Prelude.{◌≡◌, ◌≢◌, ℕ, ◌^◌, ◌<◌, ◌≤◌, List, [], ◌∷◌, Option, IfSome}
 use mathlib.Core.Option.{some}
 use lib.ListN.{get_elem?}
 use Rattle.atomic_table.specs.Seated.{TableId}
@@ -9,6 +9,7 @@ use Rattle.lock_book.specs.declared.shelf.Pass.{Pass}
 use Rattle.lock_book.specs.Shown as shelf
 use Rattle.lock_book.specs.Shown.{count_of, opens_of}
 use Rattle.lock_book.specs.Told.{Histories, MakesAll}
+use Rattle.region_words.specs.declared.chunk.Chunk.{Chunk}
 use Rattle.dsa_area.specs.Sizes.{chunk_size}
 use Rattle.dshash_core.specs.Cells.{KeyMap}
 use Rattle.dshash_parts.specs.States.{PartitionState, fresh}
@@ -32,6 +33,10 @@ item_of t = t.item_bytes
 -- how many callers a table has
 abbrev pub callers_of : {O S C R : Type 0} → Dshash O S C R → ℕ
 callers_of t = shelf.callers_of t.shelf
+
+-- a spare item for a table in this region, or none: a chunk of as many bytes as the area grants for an item
+abbrev pub IsSpare : {O S C R : Type 0} → TableId → Dshash O S C R → Option Chunk → Type 0
+IsSpare region t spare = IfSome spare (λ c. (c.part.region ≡ region) × (c.bytes ≡ chunk_size (item_of t)))
 
 -- g are the meanings of the locked partitions' members
 module _ {O S C R : Type 0} {g : Ghosts (Numbered O S C R) TableId (TableAsk O S C R) (TableAnswer O S C R) PartitionName (PartitionState S) (PartitionCalls C) (PartitionReplies S R)} where

@@ -1,21 +1,25 @@
 //! A call of a key: turns at its partition, and between them what it lacks.
 //!
+//! A caller may keep a spare item between its calls: the item of a key that one of them took out is the one that the next
+//! insertion takes. So a key that comes for one that goes costs two turns, one each, and asks nothing of the area.
+//!
 //! Where a turn says that the call lacks an item, one is got from the area, and the call is tried again with it. Where
 //! the partition has to grow first, all partitions of its size or less do, and the call is tried again. No lock is held
 //! in between, so others' turns may come there; the call itself is one turn, the last.
 
-ghost use Rattle.std.specs.Prelude.{◌≡◌, ℕ, ◌<◌, ◌≤◌, List, length, is_some, IfNone, IfSome, IfOk, IfErr, MatchResult};
+ghost use Rattle.std.specs.Prelude.{◌≡◌, ℕ, ◌<◌, ◌≤◌, ◌&&◌, ◌||◌, List, length, is_some, None, IfSome, IfOk, IfErr, OnErr};
 ghost use Rattle.std.specs.FinMap as fin;
 ghost use Rattle.lock_book.specs.Shown.{number_of, seen_of, mine_of};
+ghost use Rattle.dsa_area.specs.Sizes.{chunk_size};
 ghost use Rattle.dsa_area.specs.Shown.{Belongs as AreaBelongs, IsArea, number_of as area_number};
 ghost use Rattle.dshash_core.specs.Key.{hash_of};
 ghost use Rattle.dshash_core.specs.Cells.{IsRoomy, partition_of};
 ghost use Rattle.dshash_parts.specs.Legal.{AreAllowed};
-ghost use Rattle.dshash_parts.specs.Tables.{IsTable, key_words_of, item_of, map_at, size_at, Belongs};
+ghost use Rattle.dshash_parts.specs.Tables.{IsSpare, IsTable, key_words_of, item_of, map_at, size_at, Belongs};
 ghost use Rattle.dshash_parts.specs.Traces.{sight_of};
 ghost use Rattle.dshash_parts.specs.Owners.{IsOwner, IsOwnCell};
 ghost use Rattle.dshash_parts.specs.Replays.{IsOneCell};
-ghost use Rattle.dshash_parts.specs.Promises.{CallMade, CallRefused, IsLastCall};
+ghost use Rattle.dshash_parts.specs.Promises.{CallMade, CallMadeWith, CallRefused, CallRefusedWith, IsLastCall};
 ghost use Rattle.dshash_parts.specs.Sweeps.{Swept, SweptAndGave, GaveBack};
 
 use crate::growing::grow_all;
@@ -38,6 +42,41 @@ fn give_back<R: Wait>(rt: &R, area: &Area, r: &Region, apass: &mut AreaPass, chu
 {
     if let Some(chunk) = chunk {
         give(rt, area, r, apass, chunk);
+    }
+}
+
+/// Of the item that a call did not use and the one that it freed one is kept. The other, where there are both, goes to the
+/// area.
+pub(crate) fn keep_one<R: Wait, O: CellObject + Send>(
+    rt: &R,
+    table: &Dshash<O>,
+    r: &Region,
+    area: &Area,
+    apass: &mut AreaPass,
+    unused: Option<Chunk>,
+    freed: Option<Chunk>,
+) -> Option<Chunk>
+where
+    O::State: Send,
+    O::Call: Send,
+    O::Reply: Send,
+    requires area { IsArea r.now area.now }
+    requires own { AreaBelongs area.now apass.old }
+    requires unused { IsSpare r.now table.now unused }
+    requires freed { IsSpare r.now table.now freed }
+    ensures own { AreaBelongs area.now apass.new }
+    ensures caller { area_number apass.new ≡ area_number apass.old }
+    ensures spare { IsSpare r.now table.now result }
+    ensures kept { is_some result ≡ (is_some unused || is_some freed) }
+    ensures gave { GaveBack area.now apass.old apass.new (chunk_size (item_of table.now)) (is_some unused && is_some freed) }
+{
+    let _ = table;
+    match unused {
+        Some(kept) => {
+            give_back(rt, area, r, apass, freed);
+            Some(kept)
+        }
+        None => freed,
     }
 }
 
@@ -120,31 +159,98 @@ where
         ensures cells { (k : List ℕ) → IsOneCell O.stepped (seen_of pass.new) k }
         ensures roomy { (k : ℕ) → k < 128 → IsRoomy (size_at (seen_of pass.new) k) (fin.len (map_at (seen_of pass.new) k)) }
     {
+        let mut spare = None;
+        match self.call_with_spare(rt, r, area, pass, apass, &mut spare, key, call) {
+            Ok(reply) => {
+                self.give_spare(rt, r, area, apass, spare);
+                Ok(reply)
+            }
+            Err(lack) => Err(lack),
+        }
+    }
+
+    /// As `call`, by a caller that keeps a spare item from one call to the next, or has none: a chunk of as many bytes as
+    /// the area grants for an item of this table. An insertion takes it, and asks the area for none then. The item of a
+    /// key that is taken out is kept as the spare one; where the caller has one already, it goes to the area. A refused
+    /// call keeps none.
+    ///
+    /// A key that is taken out and a new key that is put in are one turn each. The spare item is live in the area until
+    /// an insertion takes it or `give_spare` gives it back.
+    pub fn call_with_spare<R: Wait>(
+        &self,
+        rt: &R,
+        r: &Region,
+        area: &Area,
+        pass: &mut DsPass<O>,
+        apass: &mut AreaPass,
+        spare: &mut Option<Chunk>,
+        key: &[u64],
+        call: &O::Call,
+    ) -> Result<O::Reply, NoSpace>
+        requires table { IsTable r.now self.now }
+        requires own { Belongs self.now pass.old }
+        requires area { IsArea r.now area.now }
+        requires area_own { AreaBelongs area.now apass.old }
+        requires spare { IsSpare r.now self.now spare.old }
+        requires key { length key.now ≡ key_words_of self.now }
+        requires may { O.may (number_of pass.old) key.now call.now }
+        ensures own { Belongs self.now pass.new }
+        ensures caller { number_of pass.new ≡ number_of pass.old }
+        ensures area_own { AreaBelongs area.now apass.new }
+        ensures area_caller { area_number apass.new ≡ area_number apass.old }
+        ensures spare { IsSpare r.now self.now spare.new }
+        ensures made { IfOk result (CallMadeWith O.stepped self.now area.now pass.old apass.old pass.new apass.new key.now call.now (is_some spare.old) (is_some spare.new)) }
+        ensures refused { IfErr result (λ lack. CallRefusedWith O.stepped self.now area.now pass.old apass.old pass.new apass.new key.now call.now (is_some spare.old) lack.pages lack.largest) }
+        ensures none_kept { OnErr result (spare.new ≡ None) }
+        ensures last { IfOk result (λ reply. IsLastCall (number_of pass.old) key.now call.now reply (seen_of pass.new (partition_of (hash_of key.now)))) }
+        ensures allowed { (i : ℕ) → i < 128 → AreAllowed O.may (seen_of pass.new i) }
+        ensures owned { (k : List ℕ) → IsOwner O.stepped O.may (number_of pass.old) k → IsOwnCell O.stepped (seen_of pass.new) (mine_of pass.new) k }
+        ensures cells { (k : List ℕ) → IsOneCell O.stepped (seen_of pass.new) k }
+        ensures roomy { (k : ℕ) → k < 128 → IsRoomy (size_at (seen_of pass.new) k) (fin.len (map_at (seen_of pass.new) k)) }
+    {
         let hash = hash_key(key);
         let number = partition_of_hash(hash);
-        let mut spare = None;
+        let mut held = spare.take();
         'turns: loop {
-            match try_at(rt, self, r, pass, number, hash, key, call, spare) {
+            match try_at(rt, self, r, pass, number, hash, key, call, held) {
                 CoreOut::Done {
                     reply,
                     unused,
                     freed,
                 } => {
-                    give_back(rt, area, r, apass, unused);
-                    give_back(rt, area, r, apass, freed);
+                    *spare = keep_one(rt, self, r, area, apass, unused, freed);
                     return Ok(reply);
                 }
                 CoreOut::NeedItem => match ask(rt, area, r, apass, self.item_bytes) {
-                    Ok(item) => spare = Some(item),
+                    Ok(item) => held = Some(item),
                     Err(lack) => return Err(lack),
                 },
                 CoreOut::TooFull { size, spare: kept } => {
                     match double(rt, self, r, area, pass, apass, size + 1, kept) {
-                        Ok(kept) => spare = kept,
+                        Ok(kept) => held = kept,
                         Err(lack) => return Err(lack),
                     }
                 }
             }
         }
+    }
+
+    /// Gives the spare item of a caller back to the area, where it has one. One that the area refuses is dropped.
+    pub fn give_spare<R: Wait>(
+        &self,
+        rt: &R,
+        r: &Region,
+        area: &Area,
+        apass: &mut AreaPass,
+        spare: Option<Chunk>,
+    )
+        requires area { IsArea r.now area.now }
+        requires area_own { AreaBelongs area.now apass.old }
+        requires spare { IsSpare r.now self.now spare }
+        ensures area_own { AreaBelongs area.now apass.new }
+        ensures area_caller { area_number apass.new ≡ area_number apass.old }
+        ensures gave { GaveBack area.now apass.old apass.new (chunk_size (item_of self.now)) (is_some spare) }
+    {
+        give_back(rt, area, r, apass, spare);
     }
 }

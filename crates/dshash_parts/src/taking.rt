@@ -4,7 +4,7 @@
 //! An entry is taken by a call of the object's, made of a key that the partition chooses. In the history that is a call
 //! of that key as any other, so the key's calls are those of one cell, whoever made them.
 
-ghost use Rattle.std.specs.Prelude.{◌≡◌, ℕ, ◌<◌, true, false, List, length, is_some, IfOk, OnErr, IfNone, IfSome};
+ghost use Rattle.std.specs.Prelude.{◌≡◌, ℕ, ◌<◌, true, false, List, length, is_some, Some, IfOk, OnErr, IfNone, IfSome};
 ghost use Rattle.std.specs.FinMap as fin;
 ghost use Rattle.lock_book.specs.Shown.{number_of, seen_of, mine_of};
 ghost use Rattle.dsa_area.specs.Sizes.{chunk_size};
@@ -16,7 +16,7 @@ ghost use Rattle.dshash_parts.specs.Legal.{AreAllowed};
 ghost use Rattle.dshash_parts.specs.Owners.{IsOwner, IsOwnCell};
 ghost use Rattle.dshash_parts.specs.Replays.{IsOneCell};
 ghost use Rattle.dshash_parts.specs.Sweeps.{GaveBack};
-ghost use Rattle.dshash_parts.specs.Tables.{IsTable, Turned, item_of, key_words_of, map_at, Belongs};
+ghost use Rattle.dshash_parts.specs.Tables.{IsSpare, IsTable, Turned, item_of, key_words_of, map_at, Belongs};
 ghost use Rattle.dshash_parts.specs.Takes.{IsTakenOut};
 ghost use Rattle.dshash_parts.specs.declared.histories.PartitionCalls.TheVariants.{Call, Looks};
 ghost use Rattle.dshash_parts.specs.declared.histories.PartitionReplies.TheVariants.{HasSize, Made};
@@ -76,13 +76,46 @@ where
         ensures owned { (k : List ℕ) → IsOwner O.stepped O.may (number_of pass.old) k → IsOwnCell O.stepped (seen_of pass.new) (mine_of pass.new) k }
         ensures cells { (k : List ℕ) → IsOneCell O.stepped (seen_of pass.new) k }
     {
-        let words = vec![in alloc; 0u64; self.key_words as usize]?;
-        match take_turn(rt, self, r, pass, partition, call, words) {
+        let taken = self.take_out(rt, alloc, r, pass, partition, call)?;
+        match taken {
             Some(Taken { key, reply, item }) => {
                 give(rt, area, r, apass, item);
                 Ok(Some((key, reply)))
             }
             None => Ok(None),
         }
+    }
+
+    /// As `take_any`, and hands the entry's item out with it, where that gives it to the area: the caller may keep it as
+    /// its spare one (`call_with_spare`). It asks nothing of the area.
+    pub fn take_out<R: Wait>(
+        &self,
+        rt: &R,
+        alloc: Global,
+        r: &Region,
+        pass: &mut DsPass<O>,
+        partition: u32,
+        call: &O::Call,
+    ) -> Result<Option<Taken<O>>, AllocError>
+        requires table { IsTable r.now self.now }
+        requires own { Belongs self.now pass.old }
+        requires number { partition < 128 }
+        requires removes { AlwaysRemoves O.stepped call.now }
+        requires may { (key : List ℕ) → partition_of (hash_of key) ≡ partition → O.may (number_of pass.old) key call.now }
+        ensures own { Belongs self.now pass.new }
+        ensures caller { number_of pass.new ≡ number_of pass.old }
+        ensures event { IfOk result (λ t. IfSome t (λ e. Turned O.stepped pass.old pass.new partition (Call e.key call.now false) (Made e.reply false true))) }
+        ensures look { IfOk result (λ t. IfNone t ((size : ℕ) × Turned O.stepped pass.old pass.new partition Looks (HasSize size 0))) }
+        ensures none { IfOk result (λ t. IfNone t (fin.len (map_at (seen_of pass.new) partition) ≡ 0)) }
+        ensures taken { IfOk result (λ t. IfSome t (λ e. IsTakenOut O.stepped (number_of pass.old) call.now e.key e.reply (seen_of pass.new partition))) }
+        ensures key { IfOk result (λ t. IfSome t (λ e. (length e.key ≡ key_words_of self.now) × (partition_of (hash_of e.key) ≡ partition))) }
+        ensures item { IfOk result (λ t. IfSome t (λ e. IsSpare r.now self.now (Some e.item))) }
+        ensures refused { OnErr result (pass.new ≡ pass.old) }
+        ensures allowed { (i : ℕ) → i < 128 → AreAllowed O.may (seen_of pass.new i) }
+        ensures owned { (k : List ℕ) → IsOwner O.stepped O.may (number_of pass.old) k → IsOwnCell O.stepped (seen_of pass.new) (mine_of pass.new) k }
+        ensures cells { (k : List ℕ) → IsOneCell O.stepped (seen_of pass.new) k }
+    {
+        let words = vec![in alloc; 0u64; self.key_words as usize]?;
+        Ok(take_turn(rt, self, r, pass, partition, call, words))
     }
 }

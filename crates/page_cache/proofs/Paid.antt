@@ -9,7 +9,7 @@ use Rattle.dsa_area.specs.declared.area.AreaPass.{AreaPass}
 use Rattle.dshash_core.specs.Key.{hash_of}
 use Rattle.dshash_core.specs.Cells.{partition_of}
 use Rattle.dshash_parts.specs.Legal.{IsOurs}
-use Rattle.dshash_parts.specs.Promises.{IsMade}
+use Rattle.dshash_parts.specs.Promises.{IsMadeWith}
 use Rattle.dshash_parts.specs.Tables.{AtPartition}
 use Rattle.dshash_parts.specs.Traces.{AreGifts, Asked, Gave, Got, Missed, NoneMade, Sight, Trace, Turn}
 use Rattle.dshash_parts.specs.declared.histories.PartitionCalls.TheVariants.{Call, Looks, Moves, Lists}
@@ -75,7 +75,7 @@ gifts_pay t (Asked (Missed bytes wanted largest) ∷ es) h = absurd h
 gifts_pay t (Turn number call reply ∷ es) h = absurd h
 
 -- the events of a call that was made pay for that call
-pub call_pays : (number item : ℕ) (name : List ℕ) (call : PageCall) (reply : Option Page) (es : List CacheEvent) → IsMade number item name call reply es → (t u : ℕ) → u + makes call reply ≡ t + takes call reply → Pays t es u
+pub call_pays : {held kept : Bool} (number item : ℕ) (name : List ℕ) (call : PageCall) (reply : Option Page) (es : List CacheEvent) → IsMadeWith number item name call held kept reply es → (t u : ℕ) → u + makes call reply ≡ t + takes call reply → Pays t es u
 call_pays number item name call reply es m t u paid =
     let rest : List CacheEvent = Turn number (Call name call m.spare) (Made reply m.unused m.freed) ∷ m.after in
     subst (λ (z : List CacheEvent). Pays t z u) (sym m.is) (pays_append t t u m.before rest (none_pays t m.before m.none_before) (u, paid, gifts_pay u m.after m.gifts_after))

@@ -1,16 +1,16 @@
 -- What the calls of the table make of a caller's life.
-use Rattle.std.proofs.Common.{◌≡◌, ℕ, ◌+◌, true, false, List, [], ◌∷◌, Option, Some, refl, sym, subst, arith}
+use Rattle.std.proofs.Common.{◌≡◌, ℕ, ◌+◌, Bool, true, false, List, [], ◌∷◌, Option, Some, refl, sym, ap, subst, arith}
 use Rattle.dsa_area.specs.Shown.{number_of as area_number}
 use Rattle.dsa_area.specs.declared.area.Area.{Area}
 use Rattle.dsa_area.specs.declared.area.AreaPass.{AreaPass}
-use Rattle.dshash_parts.specs.Promises.{IsMade}
+use Rattle.dshash_parts.specs.Promises.{IsMadeWith}
 use Rattle.dshash_parts.specs.Sweeps.{GaveBack}
 use Rattle.dshash_parts.specs.Tables.{AtPartition}
 use Rattle.dshash_parts.specs.Traces.{Asked, Gave, NoneMade, Sight, Trace, Turn, sight}
 use Rattle.dshash_parts.specs.declared.histories.PartitionCalls.TheVariants.{Call}
 use Rattle.dshash_parts.specs.declared.histories.PartitionReplies.TheVariants.{Made}
 use Rattle.page_cache.specs.Pages.{stepped}
-use Rattle.page_cache.specs.Tickets.{Answers, Asks, CacheEvent, CacheHistories, HasPaid, makes, of_turn, takes}
+use Rattle.page_cache.specs.Tickets.{Answers, Asks, CacheEvent, CacheHistories, HasPaid, Pays, makes, of_turn, takes}
 use Rattle.page_cache.specs.declared.page.Page.{Page}
 use Rattle.page_cache.specs.declared.page.PageCall.{PageCall}
 use Rattle.page_cache.specs.declared.page.PageCall.TheVariants.{Evict}
@@ -27,16 +27,29 @@ module _ (a : Area) (n m share : ℕ) (same : m ≡ n) where
   turned seen mine seen' mine' u w t number call reply x turn left free = stays (sight seen' mine' w) t
       (paid_on a n share (sight seen mine u) (sight seen' mine' w) t t (Turn number call reply ∷ []) x (sight seen' mine' w, (turn, left), refl) (t, free, refl))
 
-  -- a turn by which an entry was taken out, whose item went back
-  pub took : (seen mine seen' mine' : CacheHistories) (u w : AreaPass) (t left number bytes : ℕ) (name : List ℕ) (reply : Option Page) (page : Page) → HasPaid a n share (sight seen mine u) t
-      → AtPartition stepped n seen mine seen' mine' number (Call name Evict false) (Made reply false true) → reply ≡ Some page → GaveBack a u w bytes true → area_number w ≡ area_number u → left ≡ t + 1 → HasPaid a m share (sight seen' mine' w) left
-  took seen mine seen' mine' u w t left number bytes name reply page x turn told gave alike more = stays (sight seen' mine' w) left
-      (paid_on a n share (sight seen mine u) (sight seen' mine' w) t left (Turn number (Call name Evict false) (Made (Some page) false true) ∷ Asked (Gave bytes) ∷ []) x
-      (sight seen' mine' u, (subst (λ (r : Option Page). AtPartition stepped n seen mine seen' mine' number (Call name Evict false) (Made r false true)) told turn, refl), (sight seen' mine' w, (gave, alike, refl, refl), refl))
-      (left, omega (arith, more), (left, refl, refl)))
+  -- what is given back after it, if anything
+  abbrev gift : ℕ → Bool → List CacheEvent
+  gift bytes true = Asked (Gave bytes) ∷ []
+  gift bytes false = []
+
+  gift_trace : (seen mine : CacheHistories) (u w : AreaPass) (bytes : ℕ) (some : Bool) → GaveBack a u w bytes some → area_number w ≡ area_number u → Trace stepped a n (sight seen mine u) (sight seen mine w) (gift bytes some)
+  gift_trace seen mine u w bytes true gave alike = (sight seen mine w, (gave, alike, refl, refl), refl)
+  gift_trace seen mine u w bytes false gave alike = ap (sight seen mine) gave
+
+  gift_pays : (t bytes : ℕ) (some : Bool) → Pays t (gift bytes some) t
+  gift_pays t bytes true = (t, refl, refl)
+  gift_pays t bytes false = refl
+
+  -- a turn by which an entry was taken out, whose item is kept; another one went back, where there was one
+  pub took : (seen mine seen' mine' : CacheHistories) (u w : AreaPass) (t left number bytes : ℕ) (some : Bool) (name : List ℕ) (reply : Option Page) (page : Page) → HasPaid a n share (sight seen mine u) t
+      → AtPartition stepped n seen mine seen' mine' number (Call name Evict false) (Made reply false true) → reply ≡ Some page → GaveBack a u w bytes some → area_number w ≡ area_number u → left ≡ t + 1 → HasPaid a m share (sight seen' mine' w) left
+  took seen mine seen' mine' u w t left number bytes some name reply page x turn told gave alike more = stays (sight seen' mine' w) left
+      (paid_on a n share (sight seen mine u) (sight seen' mine' w) t left (Turn number (Call name Evict false) (Made (Some page) false true) ∷ gift bytes some) x
+      (sight seen' mine' u, (subst (λ (r : Option Page). AtPartition stepped n seen mine seen' mine' number (Call name Evict false) (Made r false true)) told turn, refl), gift_trace seen' mine' u w bytes some gave alike)
+      (left, omega (arith, more), gift_pays left bytes some))
 
   -- the events of a call that was made
-  pub called : (v w : Sight Page PageCall (Option Page)) (t u number item : ℕ) (name : List ℕ) (call : PageCall) (reply : Option Page) (es : List CacheEvent) → HasPaid a n share v t → IsMade number item name call reply es → Trace stepped a n v w es
+  pub called : {held kept : Bool} (v w : Sight Page PageCall (Option Page)) (t u number item : ℕ) (name : List ℕ) (call : PageCall) (reply : Option Page) (es : List CacheEvent) → HasPaid a n share v t → IsMadeWith number item name call held kept reply es → Trace stepped a n v w es
       → u + makes call reply ≡ t + takes call reply → HasPaid a m share w u
   called v w t u number item name call reply es x made trace paid = stays w u (paid_on a n share v w t u es x trace (call_pays number item name call reply es made t u paid))
 

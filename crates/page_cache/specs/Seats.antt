@@ -4,7 +4,7 @@ use mathlib.Core.Option.{some}
 use lib.ListN.{get_elem?}
 use Rattle.lock_book.specs.Shown.{number_of}
 use Rattle.dsa_area.specs.Shown.{Belongs as AreaBelongs, IsArea}
-use Rattle.dshash_parts.specs.Tables.{Belongs, IsTable, callers_of, key_words_of}
+use Rattle.dshash_parts.specs.Tables.{Belongs, IsSpare, IsTable, callers_of, key_words_of}
 use Rattle.dshash_parts.specs.Traces.{sight_of}
 use Rattle.page_cache.specs.Tickets.{HasPaid}
 use Rattle.page_cache.specs.declared.cache.Cache.{Cache}
@@ -16,13 +16,14 @@ pub record IsCache (c : Cache) : Type 0 where
   pub table : IsTable c.region c.table
   pub names : key_words_of c.table ≡ 2
 
--- The seat's passes are of this cache. It began with a share of the tickets, has paid one for each entry that it made,
--- and got one for each that it took out
+-- The seat's passes are of this cache, and so is its spare item, if it has one. It began with a share of the tickets, has
+-- paid one for each entry that it made, and got one for each that it took out
 pub record IsSeat (c : Cache) (s : Seat) : Type 0 where
   pub own : Belongs c.table s.pass
   pub area_own : AreaBelongs c.area s.apass
   pub paid : HasPaid c.area (number_of s.pass) c.share (sight_of s.pass s.apass) s.tickets
   pub hand : s.hand < 128
+  pub spare : IsSpare c.region c.table s.spare
 
 -- the seat before and after a call of the cache, of the same caller
 abbrev pub StaysSeat : Cache → Seat → Seat → Type 0

@@ -15,7 +15,7 @@ ghost use Rattle.page_cache.specs.Seats.{AreSeats, IsCache};
 use crate::page::Page;
 use dsa_area::{Area, AreaPass, area_words};
 use dshash_parts::{DsPass, Dshash};
-use region_words::Region;
+use region_words::{Chunk, Region};
 use std::alloc::{AllocError, Global};
 use std::sync::Wait;
 
@@ -41,6 +41,8 @@ pub struct Seat {
     pub tickets: u64,
     /// The partition from which it evicts next.
     pub hand: u32,
+    /// The item of an entry that it evicted, for the next one that it makes.
+    pub spare: Option<Chunk>,
 }
 
 /// A region with an area of this many pages behind its first word, and a pass for each caller.
@@ -86,6 +88,7 @@ fn seats_for(
             apass,
             tickets: cache.share,
             hand: 0,
+            spare: None,
         })?;
     }
     Ok(seats)

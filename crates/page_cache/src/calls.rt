@@ -45,7 +45,8 @@ pub fn get<R: Wait>(rt: &R, cache: &Cache, seat: &mut Seat, name: &[u64; 2]) -> 
 }
 
 /// Takes an entry out of the partition at the hand, whosever it is, by a caller with no ticket, and moves the hand on.
-/// Says whether there was one, and then the caller has a ticket.
+/// Its item is the caller's spare one then, for the entry that it makes next. Says whether there was one, and then the
+/// caller has a ticket.
 fn evict<R: Wait>(rt: &R, alloc: Global, cache: &Cache, seat: &mut Seat) -> Result<bool, AllocError>
     requires cache { IsCache cache.now }
     requires seat { IsSeat cache.now seat.old }
@@ -59,17 +60,19 @@ fn evict<R: Wait>(rt: &R, alloc: Global, cache: &Cache, seat: &mut Seat) -> Resu
 {
     let partition = seat.hand;
     seat.hand = (partition + 1) % PARTITIONS;
-    match cache.table.take_any(
+    match cache.table.take_out(
         rt,
         alloc,
         &cache.region,
-        &cache.area,
         &mut seat.pass,
-        &mut seat.apass,
         partition,
         &PageCall::Evict,
     ) {
-        Ok(Some(_evicted)) => {
+        Ok(Some(evicted)) => {
+            let spare = seat.spare.replace(evicted.item);
+            cache
+                .table
+                .give_spare(rt, &cache.region, &cache.area, &mut seat.apass, spare);
             seat.tickets = 1;
             Ok(true)
         }
@@ -122,12 +125,13 @@ pub fn put<R: Wait>(
     if let Err(why) = make_room(rt, alloc, cache, seat) {
         return Err(why);
     }
-    match cache.table.call(
+    match cache.table.call_with_spare(
         rt,
         &cache.region,
         &cache.area,
         &mut seat.pass,
         &mut seat.apass,
+        &mut seat.spare,
         name,
         &PageCall::Put(*page),
     ) {

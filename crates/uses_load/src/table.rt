@@ -4,7 +4,7 @@ ghost use Rattle.std.specs.Prelude.{◌≡◌, ℕ, ◌+◌, ◌^◌, ◌<◌, �
 ghost use mathlib.Core.Option.{some};
 ghost use lib.ListN.{get_elem?};
 ghost use Rattle.dsa_area.specs.Shown.{Belongs as AreaBelongs, IsArea};
-ghost use Rattle.dshash_parts.specs.Tables.{IsTable, Belongs, key_words_of};
+ghost use Rattle.dshash_parts.specs.Tables.{IsSpare, IsTable, Belongs, key_words_of};
 ghost use Rattle.uses_load.specs.Passes.{AreBoth, HasBoth};
 
 use crate::area::area_for;
@@ -12,7 +12,7 @@ use crate::counts::sum_of;
 use dsa_area::{Area, AreaPass};
 use dshash_numbers::{Number, NumberCall};
 use dshash_parts::{DsPass, Dshash};
-use region_words::Region;
+use region_words::{Chunk, Region};
 use std::alloc::{AllocError, Global};
 use std::sync::Wait;
 use std::thread::{Threads, map_vec};
@@ -113,6 +113,7 @@ fn replies<R: Wait>(
     r: &Region,
     area: &Area,
     passes: &mut Passes,
+    spare: &mut Option<Chunk>,
     key: u64,
     call: NumberCall,
     reply: Option<u64>,
@@ -121,14 +122,17 @@ fn replies<R: Wait>(
     requires keys { key_words_of table.now ≡ 1 }
     requires area { IsArea r.now area.now }
     requires own { HasBoth table.now area.now passes.old }
+    requires spare { IsSpare r.now table.now spare.old }
     ensures own { HasBoth table.now area.now passes.new }
+    ensures spare { IsSpare r.now table.now spare.new }
 {
-    match table.call(
+    match table.call_with_spare(
         rt,
         r,
         area,
         &mut passes.table,
         &mut passes.area,
+        spare,
         &[key],
         &call,
     ) {
@@ -145,6 +149,7 @@ fn put_next<R: Wait>(
     r: &Region,
     area: &Area,
     passes: &mut Passes,
+    spare: &mut Option<Chunk>,
     at: u64,
     most: u64,
 ) -> bool
@@ -152,8 +157,10 @@ fn put_next<R: Wait>(
     requires keys { key_words_of table.now ≡ 1 }
     requires area { IsArea r.now area.now }
     requires own { HasBoth table.now area.now passes.old }
+    requires spare { IsSpare r.now table.now spare.old }
     requires few { at < 2 ^ 32 }
     ensures own { HasBoth table.now area.now passes.new }
+    ensures spare { IsSpare r.now table.now spare.new }
 {
     let key = u64::from(passes.area.number()) * KEYS_EACH + at;
     if most <= at {
@@ -164,6 +171,7 @@ fn put_next<R: Wait>(
             r,
             area,
             passes,
+            spare,
             old,
             NumberCall::Delete,
             Some(old),
@@ -171,10 +179,12 @@ fn put_next<R: Wait>(
             return false;
         }
     }
-    replies(rt, table, r, area, passes, key, NumberCall::Put(key), None)
+    let call = NumberCall::Put(key);
+    replies(rt, table, r, area, passes, spare, key, call, None)
 }
 
-/// Puts this many keys of the caller's own, of which `most` at most are there at once. Says how many were new.
+/// Puts this many keys of the caller's own, of which `most` at most are there at once. The item of a key that goes is kept
+/// for the next one. Says how many were new.
 fn puts<R: Wait>(
     rt: &R,
     table: &Dshash<Number>,
@@ -191,12 +201,14 @@ fn puts<R: Wait>(
     requires few { calls ≤ 2 ^ 32 }
     ensures { result ≤ calls }
 {
+    let mut spare = None;
     let mut new = 0;
     for at in 0..calls {
-        if put_next(rt, table, r, area, &mut passes, at, most) {
+        if put_next(rt, table, r, area, &mut passes, &mut spare, at, most) {
             new += 1;
         }
     }
+    table.give_spare(rt, r, area, &mut passes.area, spare);
     new
 }
 

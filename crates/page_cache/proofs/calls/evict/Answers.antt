@@ -1,4 +1,6 @@
-use Rattle.std.proofs.Common.{refl, arith}
+use Rattle.std.proofs.Common.{is_some, refl, arith}
+use Rattle.dsa_area.specs.Sizes.{chunk_size}
+use Rattle.dshash_parts.specs.Tables.{item_of}
 use Rattle.page_cache.proofs.Steps.{took, turned}
 use Rattle.page_cache.proofs.calls.evict.Goals as goal
 
@@ -8,8 +10,15 @@ returns-in-Ok-Some-clause-seat g c =
     let f = c.in-Ok-Some.ensures in
     let event = rw c.in-Ok-Some.field-0-is at f.event in
     let taken = rw c.in-Ok-Some.field-0-is at f.taken in
-    let gave = rw c.in-Ok-Some.field-0-is at f.gave in (
-      record { own = f.own; area_own = f.area_own; paid = took _ _ _ _ f.caller _ _ _ _ _ _ _ _ _ _ _ _ taken.state s.paid event taken.replied gave f.area_caller (omega (arith, c.requires.none)); hand = omega arith },
+    let item = rw c.in-Ok-Some.field-0-is at f.item in
+    let gave = c.give_spare.ensures in (
+      record {
+        own = f.own;
+        area_own = gave.area_own;
+        paid = took _ _ _ _ f.caller _ _ _ _ _ _ _ _ _ (chunk_size (item_of c.args.cache.now.table)) (is_some c.replace-spare.result) _ _ taken.state s.paid event taken.replied gave.gave gave.area_caller (omega (arith, c.requires.none));
+        hand = omega arith;
+        spare = item;
+      },
       f.caller,
     )
 
@@ -17,6 +26,6 @@ pub returns-in-Ok-None-clause-seat : goal.returns-in-Ok-None-clause-seat
 returns-in-Ok-None-clause-seat g c =
     let s = c.requires.seat in
     let f = c.in-Ok-None.ensures in (
-      record { own = f.own; area_own = f.area_own; paid = turned _ _ _ _ f.caller _ _ _ _ _ _ _ _ _ _ s.paid (rw c.in-Ok-None.field-0-is at f.look).1 (rw c.in-Ok-None.field-0-is at f.gave) refl; hand = omega arith },
+      record { own = f.own; area_own = s.area_own; paid = turned _ _ _ _ f.caller _ _ _ _ _ _ _ _ _ _ s.paid (rw c.in-Ok-None.field-0-is at f.look).1 refl refl; hand = omega arith; spare = s.spare },
       f.caller,
     )

@@ -10,7 +10,7 @@ pub returns-clause-seat : goal.returns-clause-seat
 returns-clause-seat g c =
     let s = c.requires.seat in
     let f = c.find.ensures in
-    (record { own = f.own; area_own = s.area_own; paid = turned _ _ _ _ f.caller _ _ _ _ _ _ _ _ _ _ s.paid f.event refl refl; hand = s.hand }, f.caller)
+    (record { own = f.own; area_own = s.area_own; paid = turned _ _ _ _ f.caller _ _ _ _ _ _ _ _ _ _ s.paid f.event refl refl; hand = s.hand; spare = s.spare }, f.caller)
 
 pub returns-clause-same : goal.returns-clause-same
 returns-clause-same g c = looked_up _ _ _ _ _ _ _ c.find.ensures.event
@@ -21,4 +21,4 @@ returns-clause-kept g c = λ owner.
     let name = c.args.name.now in
     let q = c.find.new.pass in
     kept_as (seen_of q) (mine_of q) (mine_of c.args.seat.now.pass) name (under (seen_of q) name) c.find.result (f.found.replied ∙ sym f.found.stands) (returns-clause-same g c)
-    (seat_kept c.args.cache.now (record { pass = q; apass = c.args.seat.now.apass; tickets = c.args.seat.now.tickets; hand = c.args.seat.now.hand }) c.requires.cache (returns-clause-seat g c).0 name (owner ∙ sym f.caller))
+    (seat_kept c.args.cache.now (record { pass = q; apass = c.args.seat.now.apass; tickets = c.args.seat.now.tickets; hand = c.args.seat.now.hand; spare = c.args.seat.now.spare }) c.requires.cache (returns-clause-seat g c).0 name (owner ∙ sym f.caller))

@@ -25,7 +25,7 @@ returns-in-Ok-Some-clause-seat g c =
     let s = room.0 in
     let f = c.in-Ok-Some.ensures in
     let m = f.made in (
-      record { own = f.own; area_own = f.area_own; paid = called _ _ _ _ f.caller _ _ _ _ _ _ _ _ _ m.0 s.paid m.1 m.2 (ap (λ o. c.make_room.new.seat.tickets + makes (Put c.args.page.now) o) c.in-Ok-Some.field-0-is); hand = s.hand },
+      record { own = f.own; area_own = f.area_own; paid = called _ _ _ _ f.caller _ _ _ _ _ _ _ _ _ m.0 s.paid m.1 m.2 (ap (λ o. c.make_room.new.seat.tickets + makes (Put c.args.page.now) o) c.in-Ok-Some.field-0-is); hand = s.hand; spare = f.spare },
       f.caller ∙ room.1,
     )
 
@@ -34,11 +34,11 @@ returns-in-Ok-Some-clause-stands g c =
     let f = c.in-Ok-Some.ensures in
     let name = c.args.name.now in
     let home = partition_of (hash_of name) in
-    (cell_told stepped home _ name _ _ (seen_of c.call.new.pass home) (lawful stepped may home _ (f.own.stands.lawful home _ (c.requires.cache.table.parts home (partition_low name)))) f.last).1
+    (cell_told stepped home _ name _ _ (seen_of c.call_with_spare.new.pass home) (lawful stepped may home _ (f.own.stands.lawful home _ (c.requires.cache.table.parts home (partition_low name)))) f.last).1
 
 pub returns-in-Ok-Some-clause-kept : goal.returns-in-Ok-Some-clause-kept
 returns-in-Ok-Some-clause-kept g c =
-    let q = c.call.new.pass in
+    let q = c.call_with_spare.new.pass in
     let name = c.args.name.now in
     let seat = returns-in-Ok-Some-clause-seat g c in
     stands_kept (seen_of q) (mine_of q) name c.args.page.now (seat_kept c.args.cache.now _ c.requires.cache seat.0 name (c.requires.owner ∙ sym seat.1)) (returns-in-Ok-Some-clause-stands g c)
@@ -54,7 +54,7 @@ returns-in-Ok-None-clause-seat g c =
     let m = f.made in
     let some : 0 < c.make_room.new.seat.tickets = went_well c.make_room.result c.in_default.not-Err c.make_room.ensures.ticket in
     let one : makes (Put c.args.page.now) c.in-Ok-None.field-0 ≡ 1 = ap (makes (Put c.args.page.now)) c.in-Ok-None.field-0-is in (
-      record { own = f.own; area_own = f.area_own; paid = called _ _ _ _ f.caller _ _ _ _ _ _ _ _ _ m.0 s.paid m.1 m.2 (omega (arith, some, one)); hand = s.hand },
+      record { own = f.own; area_own = f.area_own; paid = called _ _ _ _ f.caller _ _ _ _ _ _ _ _ _ m.0 s.paid m.1 m.2 (omega (arith, some, one)); hand = s.hand; spare = f.spare },
       f.caller ∙ room.1,
     )
 
@@ -63,11 +63,11 @@ returns-in-Ok-None-clause-stands g c =
     let f = c.in-Ok-None.ensures in
     let name = c.args.name.now in
     let home = partition_of (hash_of name) in
-    (cell_told stepped home _ name _ _ (seen_of c.call.new.pass home) (lawful stepped may home _ (f.own.stands.lawful home _ (c.requires.cache.table.parts home (partition_low name)))) f.last).1
+    (cell_told stepped home _ name _ _ (seen_of c.call_with_spare.new.pass home) (lawful stepped may home _ (f.own.stands.lawful home _ (c.requires.cache.table.parts home (partition_low name)))) f.last).1
 
 pub returns-in-Ok-None-clause-kept : goal.returns-in-Ok-None-clause-kept
 returns-in-Ok-None-clause-kept g c =
-    let q = c.call.new.pass in
+    let q = c.call_with_spare.new.pass in
     let name = c.args.name.now in
     let seat = returns-in-Ok-None-clause-seat g c in
     stands_kept (seen_of q) (mine_of q) name c.args.page.now (seat_kept c.args.cache.now _ c.requires.cache seat.0 name (c.requires.owner ∙ sym seat.1)) (returns-in-Ok-None-clause-stands g c)
@@ -81,7 +81,7 @@ returns-in-Err-call-clause-seat g c =
     let s = room.0 in
     let f = c.in-Err-call.ensures in
     let m = f.refused in
-    (record { own = f.own; area_own = f.area_own; paid = refused _ _ _ _ f.caller _ _ _ m.0 s.paid m.1.none m.2; hand = s.hand }, f.caller ∙ room.1)
+    (record { own = f.own; area_own = f.area_own; paid = refused _ _ _ _ f.caller _ _ _ m.0 s.paid m.1.none m.2; hand = s.hand; spare = f.spare }, f.caller ∙ room.1)
 
 pub returns-in-Err-call-clause-evicted : goal.returns-in-Err-call-clause-evicted
 returns-in-Err-call-clause-evicted g c = evicts c.args.cache.now c.args.seat.now _ c.requires.seat (returns-in-Err-call-clause-seat g c).0

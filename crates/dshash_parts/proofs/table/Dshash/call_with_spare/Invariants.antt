@@ -1,14 +1,13 @@
-use Rattle.std.proofs.Common.{◌≡◌, ◌+◌, ◌-◌, ◌*◌, is_some, IfSome}
+use Rattle.std.proofs.Common.{◌≡◌, ◌+◌, ◌-◌, ◌*◌, None, is_some}
 use Rattle.lock_book.specs.Shown.{Belongs, number_of, seen_of}
 use Rattle.dsa_area.specs.Shown as area
-use Rattle.dsa_area.specs.Sizes.{chunk_size}
 use Rattle.dshash_core.specs.Key.{hash_of}
 use Rattle.dshash_core.specs.Cells.{partition_of}
-use Rattle.dshash_parts.specs.Tables.{item_of, size_at}
+use Rattle.dshash_parts.specs.Tables.{IsSpare, item_of, size_at}
 use Rattle.dshash_parts.specs.Traces.{sight_of}
 use Rattle.dshash_parts.specs.Promises.{one_if}
 use Rattle.dshash_parts.specs.Rounds.{Underway}
-use Rattle.dshash_parts.proofs.table.Dshash.call.Given as goal
+use Rattle.dshash_parts.proofs.table.Dshash.call_with_spare.Given as goal
 
 abbrev pub invariant-turns : goal.invariant-turns
 invariant-turns g l = record {
@@ -16,10 +15,11 @@ invariant-turns g l = record {
   caller : number_of l.pass ≡ number_of l.fn.pass;
   area_own : area.Belongs l.area l.apass;
   area_caller : area.number_of l.apass ≡ area.number_of l.fn.apass;
-  spare : IfSome l.spare (λ c. (c.part.region ≡ l.r) × (c.bytes ≡ chunk_size l.self.item_bytes));
-  underway : Underway (partition_of (hash_of l.key)) (item_of l.self) l.key l.call g.O.CellObject.stepped l.area (number_of l.fn.pass) (is_some l.spare) (sight_of l.fn.pass l.fn.apass) (sight_of l.pass l.apass);
+  spare : IsSpare l.r l.self l.held;
+  none : l.spare ≡ None;
+  underway : Underway (partition_of (hash_of l.key)) (item_of l.self) l.key l.call g.O.CellObject.stepped l.area (number_of l.fn.pass) (is_some l.fn.spare) (is_some l.held) (sight_of l.fn.pass l.fn.apass) (sight_of l.pass l.apass);
 }
 
 -- how far the size of the key's partition may still grow, and whether an item is still to be got
 abbrev pub decreases-turns : goal.decreases-turns
-decreases-turns g l = 2 * (20 - size_at (seen_of l.pass) (partition_of (hash_of l.key))) + (1 - one_if (is_some l.spare))
+decreases-turns g l = 2 * (20 - size_at (seen_of l.pass) (partition_of (hash_of l.key))) + (1 - one_if (is_some l.held))
