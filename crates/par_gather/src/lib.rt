@@ -10,12 +10,13 @@
 
 #![tactic(auto)]
 
-ghost use Rattle.std.specs.Prelude.{◌≡◌, ◌≢◌, ◌⊎◌, ℕ, List, IfSome, None, Contains};
+ghost use Rattle.std.specs.Prelude.{◌≡◌, ◌≢◌, ◌⊎◌, ℕ, List, Option, IfSome, None, Contains};
 ghost use Rattle.par_io.specs.Faults.{Rose};
 ghost use Rattle.query_answer.specs.Lines.{IsSaid, line, statuses};
 ghost use Rattle.query_answer.specs.Words.{texts};
 ghost use Rattle.par_gather.specs.Answers.{Answers, IsLine, IsStatus};
 ghost use Rattle.par_gather.specs.Query.{ReadsNothing, input_of, query_of, usage_of};
+ghost use Rattle.par_gather.specs.declared.Ran.{Ran};
 
 mod form;
 mod forms;
@@ -104,6 +105,31 @@ pub fn pargather<R: Threads + Wait + Sync, S: Source, O: Sink, E: Sink, G: Gate 
         Form::Join => in_join(rt, alloc, words, source, out, err, ran),
         Form::Gen => in_gen(rt, alloc, words, out, err, gate, ran),
     }
+}
+
+/// Answers the query as [`pargather`] does, with a gate that is open, and keeps nothing of how it was made: the program's
+/// own call.
+pub fn answer<R: Threads + Wait + Sync, S: Source, O: Sink, E: Sink>(
+    rt: &R,
+    alloc: Global,
+    words: &[String],
+    source: &mut S,
+    out: &mut O,
+    err: &mut E,
+) -> u8
+    ensures statuses { Contains statuses result }
+    ensures nothing { (result ≢ TABLE) → (result ≢ WRITE_FAULT) → out.new ≡ out.old }
+    ensures read_fault { result ≡ READ_FAULT → Rose (S.faults source.old) (S.faults source.new) }
+    ensures write_fault { result ≡ WRITE_FAULT → Rose (O.faults out.old) (O.faults out.new) }
+    ensures quiet { result ≡ TABLE → err.new ≡ err.old }
+    ensures answers { (ran : Option Ran) × Answers (query_of (texts words.now)) (S.left source.old) result ran (O.taken out.old) (O.taken out.new) }
+    ensures complete { ¬ Rose (S.faults source.old) (S.faults source.new) → ¬ Rose (O.faults out.old) (O.faults out.new)
+        → IfSome (input_of (query_of (texts words.now)) (S.left source.old)) (λ bytes. (result ≡ NO_MEMORY) ⊎ IsStatus (query_of (texts words.now)) bytes result) }
+    ensures unread { ReadsNothing (query_of (texts words.now)) → source.new ≡ source.old }
+    ensures line { (result ≢ TABLE) → (said : List ℕ) × IsLine (query_of (texts words.now)) (S.left source.old) result said
+        × IsSaid (E.taken err.old) (E.taken err.new) (E.faults err.old) (E.faults err.new) said }
+{
+    pargather(rt, alloc, words, source, out, err, &OpenGate, &mut None)
 }
 
 /// Answers a command line that is not the text of words, as one of which a word is no UTF-8: by the line that says how the

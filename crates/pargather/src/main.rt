@@ -5,7 +5,7 @@
 
 #![tactic(auto)]
 
-use par_gather::{NO_MEMORY, OpenGate, pargather, say_usage};
+use par_gather::{NO_MEMORY, answer, say_usage};
 use par_io::{StdSink, StdSource};
 use std::env::Env;
 use std::io::ErrorKind;
@@ -59,15 +59,13 @@ fn main(rt: HostRuntime) -> ExitCode {
         let status = say_usage(words.as_slice(), &mut StdSink::new(rt.stderr()));
         return ExitCode::from(status);
     };
-    let status = pargather(
+    let status = answer(
         &rt,
         rt.alloc(),
         words.as_slice(),
         &mut StdSource::new(rt.stdin()),
         &mut StdSink::new(rt.stdout()),
         &mut StdSink::new(rt.stderr()),
-        &OpenGate,
-        &mut None,
     );
     ExitCode::from(status)
 }
