@@ -1,6 +1,7 @@
-use Rattle.std.proofs.Common.{is_some, refl, arith}
+use Rattle.std.proofs.Common.{Option, is_some, refl, sym, subst, arith}
+use Rattle.region_words.specs.declared.chunk.Chunk.{Chunk}
 use Rattle.dsa_area.specs.Sizes.{chunk_size}
-use Rattle.dshash_parts.specs.Tables.{item_of}
+use Rattle.dshash_parts.specs.Tables.{IsSpare, item_of}
 use Rattle.page_cache.proofs.Steps.{took, turned}
 use Rattle.page_cache.proofs.calls.evict.Goals as goal
 
@@ -17,7 +18,7 @@ returns-in-Ok-Some-clause-seat g c =
         area_own = gave.area_own;
         paid = took _ _ _ _ f.caller _ _ _ _ _ _ _ _ _ (chunk_size (item_of c.args.cache.now.table)) (is_some c.replace-spare.result) _ _ taken.state s.paid event taken.replied gave.gave gave.area_caller (omega (arith, c.requires.none));
         hand = omega arith;
-        spare = item;
+        spare = subst (λ (o : Option Chunk). IsSpare c.args.cache.now.region c.args.cache.now.table o) (sym c.replace-spare.ensures.after) item;
       },
       f.caller,
     )

@@ -75,13 +75,13 @@ returns-in-Ok-None-clause-kept g c =
 pub returns-in-Ok-None-clause-evicted : goal.returns-in-Ok-None-clause-evicted
 returns-in-Ok-None-clause-evicted g c = evicts c.args.cache.now c.args.seat.now _ c.requires.seat (returns-in-Ok-None-clause-seat g c).0
 
-pub returns-in-Err-call-clause-seat : goal.returns-in-Err-call-clause-seat
-returns-in-Err-call-clause-seat g c =
+pub returns-in-Err-call_with_spare-clause-seat : goal.returns-in-Err-call_with_spare-clause-seat
+returns-in-Err-call_with_spare-clause-seat g c =
     let room = c.make_room.ensures.seat in
     let s = room.0 in
-    let f = c.in-Err-call.ensures in
+    let f = c.in-Err-call_with_spare.ensures in
     let m = f.refused in
     (record { own = f.own; area_own = f.area_own; paid = refused _ _ _ _ f.caller _ _ _ m.0 s.paid m.1.none m.2; hand = s.hand; spare = f.spare }, f.caller ∙ room.1)
 
-pub returns-in-Err-call-clause-evicted : goal.returns-in-Err-call-clause-evicted
-returns-in-Err-call-clause-evicted g c = evicts c.args.cache.now c.args.seat.now _ c.requires.seat (returns-in-Err-call-clause-seat g c).0
+pub returns-in-Err-call_with_spare-clause-evicted : goal.returns-in-Err-call_with_spare-clause-evicted
+returns-in-Err-call_with_spare-clause-evicted g c = evicts c.args.cache.now c.args.seat.now _ c.requires.seat (returns-in-Err-call_with_spare-clause-seat g c).0
