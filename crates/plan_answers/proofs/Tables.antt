@@ -1,5 +1,6 @@
 -- The table of a query that is ready to run: what its text and the answers on its rows say of the outcome.
-use Rattle.std.proofs.Common.{[], ◌≡◌, ◌+◌, ◌-◌, ◌∙◌, inl, inr, take, ℕ, List, ◌∷◌, refl, ap, arith, subst, sym, None, Some, Option, Contains, IfSome}
+use Rattle.std.proofs.Common.{[], ◌≡◌, ◌+◌, ◌-◌, ◌∙◌, inl, inr, take, ℕ, List, ◌∷◌, refl, ap, arith, subst, sym, None, Some, Option, Contains, IfSome, Result, Ok, Err, ◌⊎◌}
+use Rattle.std.specs.Prelude.{IfErr, IfOk, OnOk}
 use Rattle.std.specs.Io.KnownBytes.{Appends}
 use Rattle.csv_rows.specs.Records.{record_at}
 use Rattle.gather_run.specs.Answers.{IsCause, IsFirstCause}
@@ -30,7 +31,8 @@ use Rattle.table_query.specs.Stops.{IsExplained, IsFirstStop}
 use Rattle.plan_answers.specs.Stops.{Restates, RestatesGather}
 use Rattle.table_query.specs.declared.input.Ready.{Ready}
 use Rattle.table_query.specs.declared.stop.Stop.{Stop}
-use Rattle.table_query.proofs.Outcomes.{memory_explained, memory_first, plan_is, refused_explained, refused_first_stop}
+use Rattle.table_query.specs.declared.stop.Stop.TheVariants as stop
+use Rattle.table_query.proofs.Outcomes.{memory_explained, memory_first, plan_is, refused_explained, refused_first_stop, unwritten_explained}
 use Rattle.table_query.proofs.RefusedRows.{refused_first, refused_in-has}
 
 module _ (asked : Option Query) where
@@ -72,6 +74,27 @@ module _ (asked : Option Query) where
       → (text : List ℕ) × IsGroupsText r g.groups text × Appends old new text → IfSome left (λ bytes. (text : List ℕ) × IsTableText (plan_in asked) bytes text × IsMadeBy asked bytes text g × Appends old new text)
   made_written None r g old new ready none used t = tt
   made_written (Some bytes) r g old new ready none used t = (t.0, table_text (Some bytes) r g.groups t.0 ready none t.1, made_text (Some bytes) r g t.0 ready used t.1, t.2)
+
+  -- and they are given back beside it
+  pub made_given : (left : Option (List ℕ)) (r : Ready) (g : Gathered) (result : Result Gathered Stop) (old new : Option (List ℕ)) → IsReady asked left r → refused_in r.bound r.rows ≡ [] → IsUsed r.bound r.rows r.plan.workers r.plan.area_pages g.finished
+      → IfOk result (λ given. given ≡ g) → OnOk result ((text : List ℕ) × IsGroupsText r g.groups text × Appends old new text)
+      → IfOk result (λ given. IfSome left (λ bytes. (text : List ℕ) × IsTableText (plan_in asked) bytes text × IsMadeBy asked bytes text given × Appends old new text))
+  made_given left r g (Ok given) old new ready none used same t =
+      subst (λ (it : Gathered). IfSome left (λ bytes. (text : List ℕ) × IsTableText (plan_in asked) bytes text × IsMadeBy asked bytes text it × Appends old new text)) (sym same) (made_written left r g old new ready none used t)
+  made_given left r g (Err why) old new ready none used same t = tt
+
+  -- a part of it, where a write failed
+  pub part_given : (left : Option (List ℕ)) (r : Ready) (g : Gathered) (result : Result Gathered Stop) (old new : Option (List ℕ)) → IsReady asked left r → refused_in r.bound r.rows ≡ []
+      → IfErr result (λ why. why ≡ stop.WriteFault → (text : List ℕ) × IsGroupsText r g.groups text × (n : ℕ) × Appends old new (take n text))
+      → IfErr result (λ why. why ≡ stop.WriteFault → IfSome left (λ bytes. (text : List ℕ) × IsTableText (plan_in asked) bytes text × (n : ℕ) × Appends old new (take n text)))
+  part_given left r g (Ok given) old new ready none t = tt
+  part_given left r g (Err why) old new ready none t = λ e. part_written left r g.groups old new ready none (t e)
+
+  -- the reason that there is none
+  pub none_given : (left : Option (List ℕ)) (r : Ready) (result : Result Gathered Stop) → IsReady asked left r → refused_in r.bound r.rows ≡ []
+      → IfErr result (λ why. (why ≡ stop.WriteFault) ⊎ (why ≡ stop.Memory)) → IfErr result (λ why. IsExplained (plan_in asked) left why)
+  none_given left r (Ok given) ready none is = tt
+  none_given left r (Err why) ready none is = unwritten_explained asked left r why ready none is
 
   -- ---- the answers of the two ways to group
 

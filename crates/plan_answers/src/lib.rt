@@ -27,7 +27,7 @@ pub use alone::aggregate_alone;
 pub use gather_run::Gathered;
 use gather_run::gather;
 use names::stop_of_gather;
-use output::write_table_in_threads;
+use output::write_gathered;
 use par_io::{Sink, Source};
 use std::alloc::Global;
 use std::sync::Wait;
@@ -70,7 +70,7 @@ pub fn answer_plan<R: Threads + Wait + Sync, S: Source, O: Sink, G: Gate + Sync>
         IsFirstStop (plan_of (texts words.now)) why (outcome_over (plan_of (texts words.now)) bytes))) }
 {
     let ready = prepare(alloc, Wanted::Groups, words, source, &InThreads { rt })?;
-    let gathered = match gather(
+    match gather(
         rt,
         alloc,
         &ready.rows,
@@ -79,10 +79,7 @@ pub fn answer_plan<R: Threads + Wait + Sync, S: Source, O: Sink, G: Gate + Sync>
         ready.plan.area_pages(),
         gate,
     ) {
-        Ok(gathered) => gathered,
-        Err(answer) => return Err(stop_of_gather(alloc, &ready.plan, answer)),
-    };
-    let threads = ready.plan.workers() as usize + 1;
-    write_table_in_threads(rt, alloc, &ready, &gathered.groups, threads, out)?;
-    Ok(gathered)
+        Ok(gathered) => write_gathered(rt, alloc, &ready, gathered, out),
+        Err(answer) => Err(stop_of_gather(alloc, &ready.plan, answer)),
+    }
 }

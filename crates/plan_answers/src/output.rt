@@ -1,7 +1,7 @@
 //! The writing of a table: as a whole, or in pieces where several threads make its text. A piece is written as it was
 //! made, so the text never stands in one list, and nothing is written before all pieces are there.
 
-ghost use Rattle.std.specs.Prelude.{◌≡◌, ◌≢◌, ◌⊎◌, ℕ, List, IfErr, OnOk, take};
+ghost use Rattle.std.specs.Prelude.{◌≡◌, ◌≢◌, ◌⊎◌, ℕ, List, IfErr, IfOk, OnOk, take};
 ghost use Rattle.std.specs.Io.KnownBytes.{Appends};
 ghost use Rattle.par_io.specs.Faults.{Rose};
 ghost use Rattle.plan_answers.specs.Grouping.{ListsGroups};
@@ -9,6 +9,7 @@ ghost use Rattle.table_query.specs.Ready.{IsBound};
 ghost use Rattle.plan_answers.specs.Grouping.{IsGroupsText};
 ghost use Rattle.table_query.specs.declared.stop.Stop.TheVariants as stop;
 
+use gather_run::Gathered;
 use par_io::{Failed, Sink, write_whole};
 use partial_agg::Groups;
 use query_answer::write_each;
@@ -61,4 +62,26 @@ pub(crate) fn write_table_in_threads<R: Threads + Sync, O: Sink>(
         Ok(()) => Ok(()),
         Err(Failed) => Err(Stop::WriteFault),
     }
+}
+
+/// Writes the table of what was gathered, with a text that is made by as many threads as gathered, and gives that back.
+pub(crate) fn write_gathered<R: Threads + Sync, O: Sink>(
+    rt: &R,
+    alloc: Global,
+    ready: &Ready,
+    gathered: Gathered,
+    out: &mut O,
+) -> Result<Gathered, Stop>
+    requires bound { IsBound ready.now }
+    requires groups { ListsGroups ready.now.bound ready.now.rows gathered.groups }
+    ensures given { IfOk result (λ given. given ≡ gathered) }
+    ensures table { OnOk result ((text : List ℕ) × IsGroupsText ready.now gathered.groups text × Appends (O.taken out.old) (O.taken out.new) text) }
+    ensures part { IfErr result (λ why. why ≡ stop.WriteFault → (text : List ℕ) × IsGroupsText ready.now gathered.groups text × (n : ℕ) × Appends (O.taken out.old) (O.taken out.new) (take n text)) }
+    ensures nothing { IfErr result (λ why. (why ≢ stop.WriteFault) → out.new ≡ out.old) }
+    ensures write_fault { IfErr result (λ why. why ≡ stop.WriteFault → Rose (O.faults out.old) (O.faults out.new)) }
+    ensures why { IfErr result (λ why. (why ≡ stop.WriteFault) ⊎ (why ≡ stop.Memory)) }
+{
+    let threads = ready.plan.workers() as usize + 1;
+    write_table_in_threads(rt, alloc, ready, &gathered.groups, threads, out)?;
+    Ok(gathered)
 }

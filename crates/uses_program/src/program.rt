@@ -1,5 +1,5 @@
-//! The library `par_gather` as the program `pargather` calls it, over sources and sinks in memory: worked rows, and what no clause
-//! says. Rows stand in tables, each gone through by one test.
+//! The libraries `par_gather` and `par_stream` as the programs `pargather` and `parstream` call them, over sources and sinks in
+//! memory: worked rows, and what no clause says. Rows stand in tables, each gone through by one test.
 
 mod forms;
 mod plans;
@@ -9,6 +9,7 @@ mod workers;
 
 use par_gather::{Gate, OpenGate, Ran, aggregate_alone, pargather};
 use par_io::{MemSink, MemSource};
+use par_stream::{WINDOW_BYTES, stream_table};
 use std::alloc::{AllocError, Global};
 use std::process::Abort;
 use std::sync::Wait;
@@ -21,7 +22,20 @@ type Pieces<'a> = &'a [(&'a str, u32)];
 const USAGE: &str =
     "pargather: usage: pargather [--group COLUMNS] --agg ITEMS [--where FILTER] [--workers N] [--plan gather|hash] [--area-pages N]\n";
 
+const STREAM_USAGE: &str =
+    "parstream: usage: parstream [--group COLUMNS] --agg ITEMS [--where FILTER] [--workers N]\n";
+
 const LETTERS: Pieces<'static> = &[("g,v\na,1\nb,2\na,3\n", 1)];
+
+/// Rows of which the 300th and the 550th are refused.
+const X_TWICE: Pieces<'static> = &[
+    ("v\n", 1),
+    ("1\n", 299),
+    ("x\n", 1),
+    ("1\n", 249),
+    ("x\n", 1),
+    ("1\n", 50),
+];
 
 /// The numbers of the calls of the source and of the two sinks that fail.
 #[derive(Clone, Copy)]
@@ -37,13 +51,85 @@ const NO_FAULTS: Failing<'static> = Failing {
     lines: &[],
 };
 
-/// The status, what the two sinks were given, and what is said of the run.
+/// The status, what the two sinks have to be given, and the line in two parts.
+#[derive(Clone, Copy)]
+struct Wanted<'a> {
+    status: u8,
+    out: &'a [u8],
+    line: (&'a [u8], &'a [u8]),
+}
+
+impl<'a> Wanted<'a> {
+    fn of(status: u8, out: &'a [u8], line: &'a [u8]) -> Wanted<'a> {
+        Wanted {
+            status,
+            out,
+            line: (b"", line),
+        }
+    }
+
+    /// The answer of `parstream` that stands for one of `pargather`: its line begins with its own name, and shows its
+    /// own usage.
+    fn of_stream(self) -> Wanted<'a> {
+        let (_, line) = self.line;
+        let line = if line == USAGE.as_bytes() {
+            (b"".as_slice(), STREAM_USAGE.as_bytes())
+        } else {
+            let name = line.len().min(9);
+            (&b"parstream"[..name], &line[name..])
+        };
+        Wanted { line, ..self }
+    }
+}
+
+/// A source that gives 3 bytes a call and sinks that take 5.
+#[derive(Drop)]
+struct Streams {
+    source: MemSource,
+    out: MemSink,
+    err: MemSink,
+}
+
+impl Streams {
+    /// Streams over these bytes, of which these calls fail.
+    fn over(alloc: Global, input: Vec<u8>, failing: Failing<'_>) -> Result<Streams, AllocError> {
+        Ok(Streams {
+            source: MemSource::new(input, 3, Vec::from_slice(alloc, failing.reads)?),
+            out: sink(alloc, 100_000, failing.writes)?,
+            err: sink(alloc, 1_000, failing.lines)?,
+        })
+    }
+}
+
+fn sink(alloc: Global, room: usize, failing: &[u64]) -> Result<MemSink, AllocError> {
+    MemSink::new(alloc, 5, room, Vec::from_slice(alloc, failing)?)
+}
+
+/// The status, the streams after the call, and what is said of the run.
 #[derive(Drop)]
 struct Answered {
     status: u8,
-    out: Vec<u8>,
-    err: Vec<u8>,
+    streams: Streams,
     ran: Option<Ran>,
+}
+
+impl Answered {
+    fn out(&self) -> &[u8] {
+        self.streams.out.written()
+    }
+
+    fn err(&self) -> &[u8] {
+        self.streams.err.written()
+    }
+
+    fn is(&self, wanted: Wanted<'_>) -> bool {
+        let (front, rest) = wanted.line;
+        let err = self.err();
+        self.status == wanted.status
+            && self.out() == wanted.out
+            && err.starts_with(front)
+            && &err[front.len().min(err.len())..] == rest
+    }
 }
 
 /// The bytes of some pieces.
@@ -69,7 +155,7 @@ fn words_of(alloc: Global, text: &str) -> Result<Vec<String>, AllocError> {
     Ok(words)
 }
 
-/// What `pargather` answers, over a source that gives 3 bytes a call and sinks that take 5.
+/// What `pargather` answers.
 fn ask<G: Gate + Sync, R: Threads + Wait + Sync>(
     rt: &R,
     alloc: Global,
@@ -78,72 +164,142 @@ fn ask<G: Gate + Sync, R: Threads + Wait + Sync>(
     failing: Failing<'_>,
     gate: &G,
 ) -> Result<Answered, AllocError> {
+    let mut streams = Streams::over(alloc, input, failing)?;
     let words = words_of(alloc, words)?;
-    let mut source = MemSource::new(input, 3, Vec::from_slice(alloc, failing.reads)?);
-    let mut out = MemSink::new(alloc, 5, 100_000, Vec::from_slice(alloc, failing.writes)?)?;
-    let mut err = MemSink::new(alloc, 5, 1_000, Vec::from_slice(alloc, failing.lines)?)?;
     let mut ran = None;
     let status = pargather(
         rt,
         alloc,
         words.as_slice(),
-        &mut source,
-        &mut out,
-        &mut err,
+        &mut streams.source,
+        &mut streams.out,
+        &mut streams.err,
         gate,
         &mut ran,
     );
     Ok(Answered {
         status,
-        out: Vec::from_slice(alloc, out.written())?,
-        err: Vec::from_slice(alloc, err.written())?,
+        streams,
         ran,
     })
 }
 
-/// What `aggregate_alone` answers, over such a source and such sinks.
+/// What `aggregate_alone` answers.
 fn ask_alone(
     alloc: Global,
     words: &str,
     input: Vec<u8>,
     failing: Failing<'_>,
 ) -> Result<Answered, AllocError> {
+    let mut streams = Streams::over(alloc, input, failing)?;
     let words = words_of(alloc, words)?;
-    let mut source = MemSource::new(input, 3, Vec::from_slice(alloc, failing.reads)?);
-    let mut out = MemSink::new(alloc, 5, 100_000, Vec::from_slice(alloc, failing.writes)?)?;
-    let mut err = MemSink::new(alloc, 5, 1_000, Vec::from_slice(alloc, failing.lines)?)?;
-    let status = aggregate_alone(alloc, words.as_slice(), &mut source, &mut out, &mut err);
+    let status = aggregate_alone(
+        alloc,
+        words.as_slice(),
+        &mut streams.source,
+        &mut streams.out,
+        &mut streams.err,
+    );
     Ok(Answered {
         status,
-        out: Vec::from_slice(alloc, out.written())?,
-        err: Vec::from_slice(alloc, err.written())?,
+        streams,
         ran: None,
     })
 }
 
-/// Whether an answer has this status and wrote this.
-fn check<R: Abort>(rt: &R, words: &str, answer: &Answered, status: u8, out: &[u8], err: &[u8]) {
-    assert_eq!(rt; answer.status, status, "status of {words}");
-    assert_eq!(rt; answer.out.as_slice(), out, "output of {words}");
-    assert_eq!(rt; answer.err.as_slice(), err, "line of {words}");
+/// What `stream_table` answers.
+fn ask_stream<R: Threads + Wait + Sync>(
+    rt: &R,
+    alloc: Global,
+    words: &str,
+    input: Vec<u8>,
+    failing: Failing<'_>,
+) -> Result<Answered, AllocError> {
+    let mut streams = Streams::over(alloc, input, failing)?;
+    let words = words_of(alloc, words)?;
+    let status = stream_table(
+        rt,
+        alloc,
+        words.as_slice(),
+        &mut streams.source,
+        &mut streams.out,
+        &mut streams.err,
+        WINDOW_BYTES,
+    );
+    Ok(Answered {
+        status,
+        streams,
+        ran: None,
+    })
 }
 
-/// Whether both calls have this answer.
-fn check_both<R: Abort + Threads + Wait + Sync>(
+/// Stops the test unless an answer is this.
+fn check<R: Abort>(rt: &R, words: &str, answer: &Answered, wanted: Wanted<'_>) {
+    assert!(rt;
+        answer.is(wanted),
+        "{words}: {}, {:?}, {:?}",
+        answer.status,
+        answer.out(),
+        answer.err()
+    );
+}
+
+/// A call that answers the words of a plan.
+#[derive(Clone, Copy)]
+enum Call {
+    WithWorkers,
+    Alone,
+    InWindows,
+}
+
+impl Call {
+    /// Whether the call takes such words: of a shared table `stream_table` knows nothing.
+    fn takes(self, words: &str) -> bool {
+        match self {
+            Call::WithWorkers | Call::Alone => true,
+            Call::InWindows => !words.contains("--plan") && !words.contains("--area-pages"),
+        }
+    }
+
+    fn ask<R: Threads + Wait + Sync>(
+        self,
+        rt: &R,
+        alloc: Global,
+        words: &str,
+        input: &[u8],
+        failing: Failing<'_>,
+    ) -> Result<Answered, AllocError> {
+        let input = Vec::from_slice(alloc, input)?;
+        match self {
+            Call::WithWorkers => ask(rt, alloc, words, input, failing, &OpenGate),
+            Call::Alone => ask_alone(alloc, words, input, failing),
+            Call::InWindows => ask_stream(rt, alloc, words, input, failing),
+        }
+    }
+
+    /// The answer of the call that stands for one of `pargather`.
+    fn wanted<'a>(self, of_gather: Wanted<'a>) -> Wanted<'a> {
+        match self {
+            Call::WithWorkers | Call::Alone => of_gather,
+            Call::InWindows => of_gather.of_stream(),
+        }
+    }
+}
+
+/// Stops the test unless each call that takes the words has this answer.
+fn check_each<R: Abort + Threads + Wait + Sync>(
     rt: &R,
     alloc: Global,
     words: &str,
     input: &[u8],
     failing: Failing<'_>,
-    status: u8,
-    out: &[u8],
-    err: &[u8],
+    wanted: Wanted<'_>,
 ) -> Result<(), Fail> {
-    let copy = Vec::from_slice(alloc, input)?;
-    let answer = ask(rt, alloc, words, copy, failing, &OpenGate)?;
-    check(rt, words, &answer, status, out, err);
-    let copy = Vec::from_slice(alloc, input)?;
-    let answer = ask_alone(alloc, words, copy, failing)?;
-    check(rt, words, &answer, status, out, err);
+    for call in [Call::WithWorkers, Call::Alone, Call::InWindows] {
+        if call.takes(words) {
+            let answer = call.ask(rt, alloc, words, input, failing)?;
+            check(rt, words, &answer, call.wanted(wanted));
+        }
+    }
     Ok(())
 }

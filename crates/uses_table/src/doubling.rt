@@ -22,66 +22,77 @@ fn keys_of(alloc: Global, partition: u32, count: usize) -> Result<Vec<u64>, Allo
     Ok(keys)
 }
 
+/// What is done with each key.
+#[derive(Clone, Copy)]
+enum Turn {
+    Put,
+    PutAgain,
+    Take,
+}
+
+/// Whether a key's calls of a turn are answered as they have to be.
+fn is_answered(numbers: &mut Growing, key: u64, turn: Turn) -> bool {
+    match turn {
+        Turn::Put => numbers.call(key, NumberCall::Put(key)) == Some(None),
+        Turn::PutAgain => numbers.call(key, NumberCall::Put(!key)) == Some(Some(key)),
+        Turn::Take => {
+            numbers.call(key, NumberCall::Get) == Some(Some(!key))
+                && numbers.call(key, NumberCall::Delete) == Some(Some(!key))
+                && numbers.call(key, NumberCall::Get) == Some(None)
+        }
+    }
+}
+
+/// The same of each of these keys.
+fn are_answered(numbers: &mut Growing, keys: &[u64], turn: Turn) -> bool {
+    for key in keys {
+        if !is_answered(numbers, *key, turn) {
+            return false;
+        }
+    }
+    true
+}
+
+/// The sizes that a partition leaves, each with the number of keys that it has then.
+const MOVES: [(u32, u64); 11] = [
+    (7, 1),
+    (8, 2),
+    (9, 4),
+    (10, 7),
+    (11, 13),
+    (12, 25),
+    (13, 49),
+    (14, 97),
+    (15, 193),
+    (16, 385),
+    (17, 769),
+];
+
 #[test]
 fn it_grows_with_three_quarters_as_many_keys_as_buckets_and_one_more(
     rt: HostRuntime,
 ) -> Result<(), Fail> {
     let keys = keys_of(rt.alloc(), 77, 1000)?;
     let mut numbers = Growing::new(rt.alloc())?;
-    for key in &keys {
-        let before = numbers
-            .call(*key, NumberCall::Put(!*key))
-            .ok_or("no words")?;
-        assert!(rt; before.is_none());
-    }
-    let full = [
-        (7, 1),
-        (8, 2),
-        (9, 4),
-        (10, 7),
-        (11, 13),
-        (12, 25),
-        (13, 49),
-        (14, 97),
-        (15, 193),
-        (16, 385),
-        (17, 769),
-    ];
-    assert_eq!(rt; numbers.moves(), full.as_slice());
-    assert_eq!(rt; numbers.partition().size(), 18);
-    assert_eq!(rt; numbers.partition().count(), 1000);
+    assert!(rt; are_answered(&mut numbers, keys.as_slice(), Turn::Put));
+    assert!(rt; numbers.moves() == MOVES.as_slice());
+    assert!(rt; numbers.partition().size() == 18 && numbers.partition().count() == 1000);
     Ok(())
+}
+
+/// Whether a thousand keys are put, put again, listed, read and deleted.
+fn goes_round(numbers: &mut Growing, alloc: Global, keys: &[u64]) -> Result<bool, AllocError> {
+    let is_put = are_answered(numbers, keys, Turn::Put)
+        && are_answered(numbers, keys, Turn::PutAgain);
+    let listed = numbers.list(alloc)?.len();
+    Ok(is_put && listed == 1000 && are_answered(numbers, keys, Turn::Take))
 }
 
 #[test]
 fn a_thousand_keys_are_put_read_listed_and_deleted(rt: HostRuntime) -> Result<(), Fail> {
     let keys = keys_of(rt.alloc(), 5, 1000)?;
     let mut numbers = Growing::new(rt.alloc())?;
-    for key in &keys {
-        numbers.call(*key, NumberCall::Put(*key)).ok_or("no words")?;
-    }
-    for key in &keys {
-        let before = numbers
-            .call(*key, NumberCall::Put(!*key))
-            .ok_or("no words")?;
-        assert_eq!(rt; before, Some(*key));
-    }
-    assert_eq!(rt; numbers.list(rt.alloc())?.len(), 1000);
-    for key in &keys {
-        assert_eq!(rt;
-            numbers.call(*key, NumberCall::Get).ok_or("no words")?,
-            Some(!*key)
-        );
-        assert_eq!(rt;
-            numbers.call(*key, NumberCall::Delete).ok_or("no words")?,
-            Some(!*key)
-        );
-        assert_eq!(rt;
-            numbers.call(*key, NumberCall::Get).ok_or("no words")?,
-            None
-        );
-    }
-    assert_eq!(rt; numbers.partition().count(), 0);
-    assert!(rt; numbers.moves().len() > 3);
+    assert!(rt; goes_round(&mut numbers, rt.alloc(), keys.as_slice())?);
+    assert!(rt; numbers.partition().count() == 0 && numbers.moves().len() > 3);
     Ok(())
 }

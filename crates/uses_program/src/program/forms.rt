@@ -1,7 +1,9 @@
 //! What the words that begin with `merge`, `join` and `gen` answer, and that to the call in the caller's thread they are
 //! no plan. More rows of joins stand in `joins`, and of generated rows in `generated`.
 
-use super::{Failing, LETTERS, NO_FAULTS, Pieces, USAGE, ask, ask_alone, bytes_of, check};
+use super::{
+    Answered, Failing, LETTERS, NO_FAULTS, Pieces, USAGE, Wanted, ask, ask_alone, bytes_of, check,
+};
 use par_gather::{OpenGate, Ran};
 use std::test::Fail;
 
@@ -177,14 +179,8 @@ fn answers_worked_rows(rt: HostRuntime) -> Result<(), Fail> {
     for (words, input, failing, status, out, line) in ROWS {
         let input = bytes_of(rt.alloc(), input)?;
         let answer = ask(&rt, rt.alloc(), words, input, *failing, &OpenGate)?;
-        check(
-            &rt,
-            words,
-            &answer,
-            *status,
-            out.as_bytes(),
-            line.as_bytes(),
-        );
+        let wanted = Wanted::of(*status, out.as_bytes(), line.as_bytes());
+        check(&rt, words, &answer, wanted);
     }
     Ok(())
 }
@@ -195,36 +191,56 @@ fn no_plan_alone(rt: HostRuntime) -> Result<(), Fail> {
     for words in ["merge g 2", "join id 2", "gen 1 2"] {
         let input = bytes_of(rt.alloc(), TWO)?;
         let answer = ask_alone(rt.alloc(), words, input, NO_FAULTS)?;
-        check(&rt, words, &answer, 2, b"", USAGE.as_bytes());
+        check(&rt, words, &answer, Wanted::of(2, b"", USAGE.as_bytes()));
     }
     Ok(())
 }
 
 /// 2,000 rows, of which row i has i modulo 7.
+const SEVENS: Pieces<'static> = &[
+    ("n\n", 1),
+    ("1\n2\n3\n4\n5\n6\n0\n", 285),
+    ("1\n2\n3\n4\n5\n", 1),
+];
+
+/// The same in order.
+const SEVENS_IN_ORDER: Pieces<'static> = &[
+    ("n\n", 1),
+    ("0\n", 285),
+    ("1\n", 286),
+    ("2\n", 286),
+    ("3\n", 286),
+    ("4\n", 286),
+    ("5\n", 286),
+    ("6\n", 285),
+];
+
+/// How many rows were put in order, by what `ran` has.
+fn merged_rows(answer: &Answered) -> Option<usize> {
+    match &answer.ran {
+        Some(Ran::Merge(merged)) => Some(merged.order.len()),
+        _ => None,
+    }
+}
+
 #[test]
 fn two_thousand_rows(rt: HostRuntime) -> Result<(), Fail> {
-    let alloc = rt.alloc();
-    let mut wanted = Vec::from_slice(alloc, b"n\n")?;
-    for digit in 0..7u8 {
-        for row in 1..=2_000u64 {
-            if row % 7 == u64::from(digit) {
-                wanted.extend_from_slice(&[b'0' + digit, b'\n'])?;
-            }
-        }
-    }
+    let sorted = bytes_of(rt.alloc(), SEVENS_IN_ORDER)?;
     for words in ["merge n 0", "merge n 1", "merge n 3"] {
-        let mut text = Vec::from_slice(alloc, b"n\n")?;
-        for row in 1..=2_000u64 {
-            text.extend_from_slice(&[b'0' + (row % 7) as u8, b'\n'])?;
-        }
-        let answer = ask(&rt, alloc, words, text, NO_FAULTS, &OpenGate)?;
-        check(&rt, words, &answer, 0, wanted.as_slice(), b"");
-        let Some(Ran::Merge(merged)) = &answer.ran else {
-            return Err(Fail::new("nothing is said of the run"));
-        };
-        assert_eq!(rt; merged.order.len(), 2_000);
+        let input = bytes_of(rt.alloc(), SEVENS)?;
+        let answer = ask(&rt, rt.alloc(), words, input, NO_FAULTS, &OpenGate)?;
+        check(&rt, words, &answer, Wanted::of(0, sorted.as_slice(), b""));
+        assert!(rt; merged_rows(&answer) == Some(2_000), "{words}");
     }
     Ok(())
+}
+
+/// How many passes of the table's area and how many pairs `ran` has.
+fn joined_passes(answer: &Answered) -> Option<(usize, usize)> {
+    match &answer.ran {
+        Some(Ran::Join(joined)) => Some((joined.areas.len(), joined.pairs.len())),
+        _ => None,
+    }
 }
 
 /// Beside joined records `ran` has the join: a pass of the table's area for each worker and one for the caller.
@@ -233,13 +249,19 @@ fn said_of_a_join(rt: HostRuntime) -> Result<(), Fail> {
     for (words, passes) in [("join id 0", 1), ("join id 3", 4)] {
         let input = bytes_of(rt.alloc(), TWO)?;
         let answer = ask(&rt, rt.alloc(), words, input, NO_FAULTS, &OpenGate)?;
-        let Some(Ran::Join(joined)) = &answer.ran else {
-            return Err(Fail::new("nothing is said of the run"));
-        };
-        assert_eq!(rt; joined.areas.len(), passes);
-        assert_eq!(rt; joined.pairs.len(), 4);
+        assert!(rt; joined_passes(&answer) == Some((passes, 4)), "{words}");
     }
     Ok(())
+}
+
+/// How many workers and groups `ran` has.
+fn gathered_groups(answer: &Answered) -> Option<(usize, usize)> {
+    match &answer.ran {
+        Some(Ran::Gather(gathered)) => {
+            Some((gathered.finished.workers.len(), gathered.groups.len()))
+        }
+        _ => None,
+    }
 }
 
 /// Beside the line of generated rows `ran` has their groups, which two workers were asked for.
@@ -247,10 +269,7 @@ fn said_of_a_join(rt: HostRuntime) -> Result<(), Fail> {
 fn said_of_generated_rows(rt: HostRuntime) -> Result<(), Fail> {
     let nothing = Vec::new(rt.alloc());
     let answer = ask(&rt, rt.alloc(), "gen 7 5000", nothing, NO_FAULTS, &OpenGate)?;
-    let Some(Ran::Gather(gathered)) = &answer.ran else {
-        return Err(Fail::new("nothing is said of the run"));
-    };
-    assert_eq!(rt; gathered.finished.workers.len(), 2);
-    assert!(rt; gathered.groups.len() > 900);
+    let (workers, groups) = gathered_groups(&answer).ok_or("nothing is said of the run")?;
+    assert!(rt; workers == 2 && groups > 900);
     Ok(())
 }

@@ -1,9 +1,11 @@
-//! One table, whatever plan the words ask for, and however many workers.
+//! One table, whatever plan the words ask for, however many workers, and in windows too.
 
-use super::{NO_FAULTS, ask, check, check_both};
-use par_gather::{OpenGate, TABLE};
+use super::{Answered, Call, NO_FAULTS, Wanted, check, check_each};
+use par_gather::TABLE;
 use std::alloc::{AllocError, Global};
+use std::sync::Wait;
 use std::test::Fail;
+use std::thread::Threads;
 
 /// A thousand orders of an item whose name is quoted.
 fn orders(alloc: Global) -> Result<Vec<u8>, AllocError> {
@@ -38,16 +40,8 @@ const ORDERS: &[(&str, &str)] = &[
 fn thousand_orders(rt: HostRuntime) -> Result<(), Fail> {
     let text = orders(rt.alloc())?;
     for (words, out) in ORDERS {
-        check_both(
-            &rt,
-            rt.alloc(),
-            words,
-            text.as_slice(),
-            NO_FAULTS,
-            0,
-            out.as_bytes(),
-            b"",
-        )?;
+        let wanted = Wanted::of(0, out.as_bytes(), b"");
+        check_each(&rt, rt.alloc(), words, text.as_slice(), NO_FAULTS, wanted)?;
     }
     Ok(())
 }
@@ -62,30 +56,36 @@ fn keyed(alloc: Global, rows: u32) -> Result<Vec<u8>, AllocError> {
     Ok(text)
 }
 
+/// What a call answers over these rows, with this many workers. Its further words begin with a space.
+fn ask_keyed<R: Threads + Wait + Sync>(
+    rt: &R,
+    alloc: Global,
+    call: Call,
+    text: &[u8],
+    workers: u32,
+    further: &str,
+) -> Result<Answered, AllocError> {
+    let words = format!(in alloc;
+        "--group k --agg count,sum:v,avg:v --workers {workers}{further}"
+    )?;
+    call.ask(rt, alloc, words.as_str(), text, NO_FAULTS)
+}
+
 /// With 16 pages, the fewest with which there is a shared table, many groups find no room in it.
 #[test]
 fn the_same_bytes(rt: HostRuntime) -> Result<(), Fail> {
-    let alloc = rt.alloc();
-    let text = keyed(alloc, 3_000)?;
-    let copy = Vec::from_slice(alloc, text.as_slice())?;
-    let first = "--group k --agg count,sum:v,avg:v --workers 0";
-    let wanted = ask(&rt, alloc, first, copy, NO_FAULTS, &OpenGate)?;
-    assert_eq!(rt; wanted.status, TABLE);
-    for plan in ["gather", "hash", "hash --area-pages 16"] {
+    let text = keyed(rt.alloc(), 3_000)?;
+    let first = ask_keyed(&rt, rt.alloc(), Call::WithWorkers, text.as_slice(), 0, "")?;
+    assert_eq!(rt; first.status, TABLE);
+    for (call, further) in [
+        (Call::WithWorkers, " --plan gather"),
+        (Call::WithWorkers, " --plan hash"),
+        (Call::WithWorkers, " --plan hash --area-pages 16"),
+        (Call::InWindows, ""),
+    ] {
         for workers in [0, 1, 3, 16, 64u32] {
-            let words = format!(in alloc;
-                "--group k --agg count,sum:v,avg:v --workers {workers} --plan {plan}"
-            )?;
-            let copy = Vec::from_slice(alloc, text.as_slice())?;
-            let answer = ask(&rt, alloc, words.as_str(), copy, NO_FAULTS, &OpenGate)?;
-            check(
-                &rt,
-                words.as_str(),
-                &answer,
-                TABLE,
-                wanted.out.as_slice(),
-                b"",
-            );
+            let answer = ask_keyed(&rt, rt.alloc(), call, text.as_slice(), workers, further)?;
+            check(&rt, further, &answer, Wanted::of(TABLE, first.out(), b""));
         }
     }
     Ok(())

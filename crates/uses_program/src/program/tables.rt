@@ -1,6 +1,6 @@
-//! Worked rows of plans: words and bytes, and what both calls answer. The values were computed apart from the program.
+//! Worked rows of plans: words and bytes, and what each call answers. The values were computed apart from the program.
 
-use super::{Failing, LETTERS, NO_FAULTS, Pieces, USAGE, bytes_of, check_both};
+use super::{Failing, LETTERS, NO_FAULTS, Pieces, USAGE, Wanted, X_TWICE, bytes_of, check_each};
 use std::test::Fail;
 
 /// Words, the input, and the table that is written.
@@ -22,15 +22,6 @@ type Fault = (
 const EMPTY: Pieces<'static> = &[("g,v\n", 1)];
 
 const FILTERED: Pieces<'static> = &[("g,v,w\na,1,5\nb,2,x\na,,7\nb,9,1\n", 1)];
-
-const X_TWICE: Pieces<'static> = &[
-    ("v\n", 1),
-    ("1\n", 299),
-    ("x\n", 1),
-    ("1\n", 249),
-    ("x\n", 1),
-    ("1\n", 50),
-];
 
 const TABLES: &[Table] = &[
     // groups, aggregates, nulls, sums past 64 bits, averages of both signs
@@ -398,16 +389,8 @@ fn tables(rt: HostRuntime) -> Result<(), Fail> {
     for (words, input, out) in TABLES {
         let input = bytes_of(rt.alloc(), input)?;
         let out = bytes_of(rt.alloc(), out)?;
-        check_both(
-            &rt,
-            rt.alloc(),
-            words,
-            input.as_slice(),
-            NO_FAULTS,
-            0,
-            out.as_slice(),
-            b"",
-        )?;
+        let wanted = Wanted::of(0, out.as_slice(), b"");
+        check_each(&rt, rt.alloc(), words, input.as_slice(), NO_FAULTS, wanted)?;
     }
     Ok(())
 }
@@ -416,16 +399,8 @@ fn tables(rt: HostRuntime) -> Result<(), Fail> {
 fn refusals(rt: HostRuntime) -> Result<(), Fail> {
     for (words, input, status, line) in REFUSALS {
         let input = bytes_of(rt.alloc(), input)?;
-        check_both(
-            &rt,
-            rt.alloc(),
-            words,
-            input.as_slice(),
-            NO_FAULTS,
-            *status,
-            b"",
-            line.as_bytes(),
-        )?;
+        let wanted = Wanted::of(*status, b"", line.as_bytes());
+        check_each(&rt, rt.alloc(), words, input.as_slice(), NO_FAULTS, wanted)?;
     }
     Ok(())
 }
@@ -434,16 +409,8 @@ fn refusals(rt: HostRuntime) -> Result<(), Fail> {
 fn faults(rt: HostRuntime) -> Result<(), Fail> {
     for (words, input, failing, status, out, line) in FAULTS {
         let input = bytes_of(rt.alloc(), input)?;
-        check_both(
-            &rt,
-            rt.alloc(),
-            words,
-            input.as_slice(),
-            *failing,
-            *status,
-            out.as_bytes(),
-            line.as_bytes(),
-        )?;
+        let wanted = Wanted::of(*status, out.as_bytes(), line.as_bytes());
+        check_each(&rt, rt.alloc(), words, input.as_slice(), *failing, wanted)?;
     }
     Ok(())
 }
@@ -451,19 +418,24 @@ fn faults(rt: HostRuntime) -> Result<(), Fail> {
 /// Bytes that are no text, in keys and in a column of integers.
 #[test]
 fn bytes_that_are_no_text(rt: HostRuntime) -> Result<(), Fail> {
-    let words = "--group g --agg sum:v";
-    let table = b"g,sum(v)\n\xC3,2\n\xC3\xA9,4\n\xFF,4\n".as_slice();
-    let input = b"g,v\n\xFF,1\n\xC3,2\n\xFF,3\n\xC3\xA9,4\n".as_slice();
-    check_both(&rt, rt.alloc(), words, input, NO_FAULTS, 0, table, b"")?;
-    let line = b"pargather: row 2: column v is not an integer\n".as_slice();
-    check_both(
-        &rt,
-        rt.alloc(),
-        words,
-        b"g,v\n\xFF,1\na,1\xFF\n",
-        NO_FAULTS,
-        1,
-        b"",
-        line,
-    )
+    let rows: [(&[u8], u8, &[u8], &[u8]); 2] = [
+        (
+            b"g,v\n\xFF,1\n\xC3,2\n\xFF,3\n\xC3\xA9,4\n",
+            0,
+            b"g,sum(v)\n\xC3,2\n\xC3\xA9,4\n\xFF,4\n",
+            b"",
+        ),
+        (
+            b"g,v\n\xFF,1\na,1\xFF\n",
+            1,
+            b"",
+            b"pargather: row 2: column v is not an integer\n",
+        ),
+    ];
+    for (input, status, out, line) in rows {
+        let wanted = Wanted::of(status, out, line);
+        let words = "--group g --agg sum:v";
+        check_each(&rt, rt.alloc(), words, input, NO_FAULTS, wanted)?;
+    }
+    Ok(())
 }

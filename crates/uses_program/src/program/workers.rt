@@ -1,11 +1,14 @@
 //! What `pargather` does with workers beside the caller's thread: they are at work at one time, and a fault or a
 //! refused row is answered as without them.
 
-use super::{Failing, LETTERS, NO_FAULTS, Pieces, ask, bytes_of, check};
+use super::{Answered, Failing, LETTERS, NO_FAULTS, Pieces, Wanted, X_TWICE, ask, bytes_of, check};
 use crossbeam_utils::Backoff;
 use par_gather::{Gate, OpenGate, Ran, TABLE};
+use std::alloc::{AllocError, Global};
+use std::sync::Wait;
 use std::sync::atomic::{AtomicBool, AtomicU32, Ordering};
 use std::test::Fail;
+use std::thread::Threads;
 
 /// Holds each of three participants at its first block until all have come to one, for at most a million turns.
 #[derive(Drop)]
@@ -56,102 +59,116 @@ impl Gate for Meeting {
 /// Three blocks, and three participants that are inside their first at one time.
 const BLOCKS: Pieces<'static> = &[("g\n", 1), ("a\n", 768)];
 
+/// What these words answer over the blocks, if the three met.
+fn ask_meeting<R: Threads + Wait + Sync>(
+    rt: &R,
+    alloc: Global,
+    words: &str,
+) -> Result<Answered, Fail> {
+    let gate = Meeting::of_three();
+    let input = bytes_of(alloc, BLOCKS)?;
+    let answer = ask(rt, alloc, words, input, NO_FAULTS, &gate)?;
+    if gate.was_late() {
+        return Err(Fail::new("one gave up waiting"));
+    }
+    Ok(answer)
+}
+
+/// How many workers were launched, where groups were gathered.
+fn launched_to_gather(answer: &Answered) -> Option<u32> {
+    match &answer.ran {
+        Some(Ran::Gather(gathered)) => Some(gathered.finished.launched),
+        _ => None,
+    }
+}
+
+/// Likewise where rows were put in order.
+fn launched_to_merge(answer: &Answered) -> Option<u32> {
+    match &answer.ran {
+        Some(Ran::Merge(merged)) => Some(merged.finished.launched),
+        _ => None,
+    }
+}
+
 #[test]
 fn all_are_at_work_at_once(rt: HostRuntime) -> Result<(), Fail> {
-    let gate = Meeting::of_three();
     let words = "--group g --agg count --workers 2";
-    let input = bytes_of(rt.alloc(), BLOCKS)?;
-    let answer = ask(&rt, rt.alloc(), words, input, NO_FAULTS, &gate)?;
-    check(&rt, words, &answer, TABLE, b"g,count\na,768\n", b"");
-    assert!(rt; !gate.was_late());
-    let Some(Ran::Gather(gathered)) = &answer.ran else {
-        return Err(Fail::new("nothing is said of the run"));
-    };
-    assert_eq!(rt; gathered.finished.launched, 2);
+    let answer = ask_meeting(&rt, rt.alloc(), words)?;
+    check(
+        &rt,
+        words,
+        &answer,
+        Wanted::of(TABLE, b"g,count\na,768\n", b""),
+    );
+    assert!(rt; launched_to_gather(&answer) == Some(2));
     Ok(())
 }
 
 /// Likewise where rows are put in order.
 #[test]
 fn all_sort_at_once(rt: HostRuntime) -> Result<(), Fail> {
-    let gate = Meeting::of_three();
-    let input = bytes_of(rt.alloc(), BLOCKS)?;
-    let wanted = bytes_of(rt.alloc(), BLOCKS)?;
-    let answer = ask(&rt, rt.alloc(), "merge g 2", input, NO_FAULTS, &gate)?;
-    check(&rt, "merge g 2", &answer, TABLE, wanted.as_slice(), b"");
-    assert!(rt; !gate.was_late());
-    let Some(Ran::Merge(merged)) = &answer.ran else {
-        return Err(Fail::new("nothing is said of the run"));
-    };
-    assert_eq!(rt; merged.finished.launched, 2);
+    let sorted = bytes_of(rt.alloc(), BLOCKS)?;
+    let answer = ask_meeting(&rt, rt.alloc(), "merge g 2")?;
+    let wanted = Wanted::of(TABLE, sorted.as_slice(), b"");
+    check(&rt, "merge g 2", &answer, wanted);
+    assert!(rt; launched_to_merge(&answer) == Some(2));
     Ok(())
 }
 
 /// Of two refused rows either may be named where there are workers.
 #[test]
 fn two_refused_rows(rt: HostRuntime) -> Result<(), Fail> {
-    let pieces = [
-        ("v\n", 1),
-        ("1\n", 299),
-        ("x\n", 1),
-        ("1\n", 249),
-        ("x\n", 1),
-        ("1\n", 50),
-    ];
+    let words = "--agg sum:v --workers 2";
     let first = b"pargather: row 300: column v is not an integer\n".as_slice();
     let second = b"pargather: row 550: column v is not an integer\n".as_slice();
     for _ in 0..20 {
-        let input = bytes_of(rt.alloc(), &pieces)?;
-        let answer = ask(
-            &rt,
-            rt.alloc(),
-            "--agg sum:v --workers 2",
-            input,
-            NO_FAULTS,
-            &OpenGate,
-        )?;
-        assert_eq!(rt; answer.status, 1);
-        assert!(rt; answer.err.as_slice() == first || answer.err.as_slice() == second);
+        let input = bytes_of(rt.alloc(), X_TWICE)?;
+        let answer = ask(&rt, rt.alloc(), words, input, NO_FAULTS, &OpenGate)?;
+        assert!(rt; answer.status == 1 && (answer.err() == first || answer.err() == second));
     }
     Ok(())
 }
 
-/// Sixteen bytes in pieces of 3: the eighth read, which finds the end, is the last. Sixteen bytes of a table in pieces of
-/// 5: four writes.
-#[test]
-fn failing_calls(rt: HostRuntime) -> Result<(), Fail> {
+/// What is answered where these calls fail.
+fn ask_failing<R: Threads + Wait + Sync>(
+    rt: &R,
+    alloc: Global,
+    failing: Failing<'_>,
+) -> Result<Answered, AllocError> {
     let words = "--group g --agg count --workers 2";
+    let input = bytes_of(alloc, LETTERS)?;
+    ask(rt, alloc, words, input, failing, &OpenGate)
+}
+
+/// Sixteen bytes in pieces of 3: the eighth read, which finds the end, is the last.
+#[test]
+fn failing_reads(rt: HostRuntime) -> Result<(), Fail> {
+    for call in 1..=8u64 {
+        let reads = [call];
+        let failing = Failing {
+            reads: &reads,
+            ..NO_FAULTS
+        };
+        let answer = ask_failing(&rt, rt.alloc(), failing)?;
+        assert_eq!(rt; answer.status, if call < 8 { 3 } else { 0 }, "read {call}");
+    }
+    Ok(())
+}
+
+/// Sixteen bytes of a table in pieces of 5: four writes.
+#[test]
+fn failing_writes(rt: HostRuntime) -> Result<(), Fail> {
     let table = b"g,count\na,2\nb,1\n".as_slice();
     for call in 1..=8u64 {
-        let numbers = [call];
+        let writes = [call];
         let failing = Failing {
-            reads: &numbers,
+            writes: &writes,
             ..NO_FAULTS
         };
-        let answer = ask(
-            &rt,
-            rt.alloc(),
-            words,
-            bytes_of(rt.alloc(), LETTERS)?,
-            failing,
-            &OpenGate,
-        )?;
-        assert_eq!(rt; answer.status, if call < 8 { 3 } else { 0 }, "read {call}");
-        let failing = Failing {
-            writes: &numbers,
-            ..NO_FAULTS
-        };
-        let answer = ask(
-            &rt,
-            rt.alloc(),
-            words,
-            bytes_of(rt.alloc(), LETTERS)?,
-            failing,
-            &OpenGate,
-        )?;
+        let answer = ask_failing(&rt, rt.alloc(), failing)?;
         let written = (5 * (call as usize - 1)).min(16);
         assert_eq!(rt; answer.status, if call < 5 { 4 } else { 0 }, "write {call}");
-        assert_eq!(rt; answer.out.as_slice(), &table[..written], "write {call}");
+        assert_eq!(rt; answer.out(), &table[..written], "write {call}");
     }
     Ok(())
 }
