@@ -277,6 +277,21 @@ impl Call {
         }
     }
 
+    /// Stops the test unless the call has this answer.
+    fn check<R: Abort + Threads + Wait + Sync>(
+        self,
+        rt: &R,
+        alloc: Global,
+        words: &str,
+        input: &[u8],
+        failing: Failing<'_>,
+        wanted: Wanted<'_>,
+    ) -> Result<(), AllocError> {
+        let answer = self.ask(rt, alloc, words, input, failing)?;
+        check(rt, words, &answer, wanted);
+        Ok(())
+    }
+
     /// The answer of the call that stands for one of `pargather`.
     fn wanted<'a>(self, of_gather: Wanted<'a>) -> Wanted<'a> {
         match self {
@@ -297,8 +312,7 @@ fn check_each<R: Abort + Threads + Wait + Sync>(
 ) -> Result<(), Fail> {
     for call in [Call::WithWorkers, Call::Alone, Call::InWindows] {
         if call.takes(words) {
-            let answer = call.ask(rt, alloc, words, input, failing)?;
-            check(rt, words, &answer, call.wanted(wanted));
+            call.check(rt, alloc, words, input, failing, call.wanted(wanted))?;
         }
     }
     Ok(())
