@@ -1,5 +1,5 @@
-//! The libraries `par_gather` and `par_stream` as the programs `pargather` and `parstream` call them, over sources and sinks in
-//! memory: worked rows, and what no clause says. Rows stand in tables, each gone through by one test.
+//! The libraries `par_gather` and `par_stream` as the programs `pargather` and `parstream` call them, over sources and
+//! sinks in memory: worked rows, and what no clause says. Rows stand in tables, each gone through by one test.
 
 mod forms;
 mod plans;

@@ -63,8 +63,8 @@ fn ask_keyed(alloc: Global, text: &[u8]) -> Result<Answered, AllocError> {
     ask_alone(alloc, "--group k --agg count,sum:v,avg:v", input, NO_FAULTS)
 }
 
-/// Stops the test unless a call writes this table for the same plan, however many workers it has. Its further words begin
-/// with a space.
+/// Stops the test unless a call writes this table for the same plan, however many workers it has. Its further words
+/// begin with a space.
 fn check_keyed<R: Abort + Threads + Wait + Sync>(
     rt: &R,
     alloc: Global,
