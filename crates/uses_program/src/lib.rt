@@ -1,4 +1,4 @@
-//! Callers of the library under the program `pargather`, over sources and sinks in memory. Nothing stands on this crate.
+//! Callers of the libraries of `pargather` and `parstream`, over sources and sinks in memory. Nothing stands on them.
 
 #![tactic(auto)]
 

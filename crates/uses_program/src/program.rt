@@ -1,5 +1,5 @@
-//! The libraries `par_gather` and `par_stream` as the programs `pargather` and `parstream` call them, over sources and sinks in
-//! memory: worked rows, and what no clause says. Rows stand in tables, each gone through by one test.
+//! The libraries `par_gather` and `par_stream` as the programs `pargather` and `parstream` call them, over sources and
+//! sinks in memory: worked rows, and what no clause says. Rows stand in tables, each gone through by one test.
 
 mod forms;
 mod plans;
@@ -277,6 +277,21 @@ impl Call {
         }
     }
 
+    /// Stops the test unless the call has this answer.
+    fn check<R: Abort + Threads + Wait + Sync>(
+        self,
+        rt: &R,
+        alloc: Global,
+        words: &str,
+        input: &[u8],
+        failing: Failing<'_>,
+        wanted: Wanted<'_>,
+    ) -> Result<(), AllocError> {
+        let answer = self.ask(rt, alloc, words, input, failing)?;
+        check(rt, words, &answer, wanted);
+        Ok(())
+    }
+
     /// The answer of the call that stands for one of `pargather`.
     fn wanted<'a>(self, of_gather: Wanted<'a>) -> Wanted<'a> {
         match self {
@@ -297,8 +312,7 @@ fn check_each<R: Abort + Threads + Wait + Sync>(
 ) -> Result<(), Fail> {
     for call in [Call::WithWorkers, Call::Alone, Call::InWindows] {
         if call.takes(words) {
-            let answer = call.ask(rt, alloc, words, input, failing)?;
-            check(rt, words, &answer, call.wanted(wanted));
+            call.check(rt, alloc, words, input, failing, call.wanted(wanted))?;
         }
     }
     Ok(())

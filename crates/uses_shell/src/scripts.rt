@@ -331,8 +331,8 @@ fn lines_that_are_no_command(rt: HostRuntime) -> Result<(), Fail> {
     Ok(())
 }
 
-/// Words, a script, the reads and the writes that fail, and what is given: the status, the answers, the line on the error
-/// stream, and whether there is a shell left.
+/// Words, a script, the reads and the writes that fail, and what is given: the status, the answers, the line on the
+/// error stream, and whether there is a shell left.
 type End = (
     &'static str,
     &'static str,

@@ -2,10 +2,14 @@
 //! no plan. More rows of joins stand in `joins`, and of generated rows in `generated`.
 
 use super::{
-    Answered, Failing, LETTERS, NO_FAULTS, Pieces, USAGE, Wanted, ask, ask_alone, bytes_of, check,
+    Answered, Call, Failing, LETTERS, NO_FAULTS, Pieces, USAGE, Wanted, ask, bytes_of, check,
 };
 use par_gather::{OpenGate, Ran};
+use std::alloc::{AllocError, Global};
+use std::process::Abort;
+use std::sync::Wait;
 use std::test::Fail;
+use std::thread::Threads;
 
 /// Words, the input, the calls that fail, and what is answered: the status, and what the two sinks were given.
 type Row = (
@@ -178,9 +182,8 @@ const ROWS: &[Row] = &[
 fn answers_worked_rows(rt: HostRuntime) -> Result<(), Fail> {
     for (words, input, failing, status, out, line) in ROWS {
         let input = bytes_of(rt.alloc(), input)?;
-        let answer = ask(&rt, rt.alloc(), words, input, *failing, &OpenGate)?;
         let wanted = Wanted::of(*status, out.as_bytes(), line.as_bytes());
-        check(&rt, words, &answer, wanted);
+        Call::WithWorkers.check(&rt, rt.alloc(), words, input.as_slice(), *failing, wanted)?;
     }
     Ok(())
 }
@@ -190,8 +193,8 @@ fn answers_worked_rows(rt: HostRuntime) -> Result<(), Fail> {
 fn no_plan_alone(rt: HostRuntime) -> Result<(), Fail> {
     for words in ["merge g 2", "join id 2", "gen 1 2"] {
         let input = bytes_of(rt.alloc(), TWO)?;
-        let answer = ask_alone(rt.alloc(), words, input, NO_FAULTS)?;
-        check(&rt, words, &answer, Wanted::of(2, b"", USAGE.as_bytes()));
+        let wanted = Wanted::of(2, b"", USAGE.as_bytes());
+        Call::Alone.check(&rt, rt.alloc(), words, input.as_slice(), NO_FAULTS, wanted)?;
     }
     Ok(())
 }
@@ -215,11 +218,29 @@ const SEVENS_IN_ORDER: Pieces<'static> = &[
     ("6\n", 285),
 ];
 
-/// How many rows were put in order, by what `ran` has.
-fn merged_rows(answer: &Answered) -> Option<usize> {
+/// What the words answer over these pieces.
+fn ask_over<R: Threads + Wait + Sync>(
+    rt: &R,
+    alloc: Global,
+    words: &str,
+    pieces: Pieces<'_>,
+) -> Result<Answered, AllocError> {
+    let input = bytes_of(alloc, pieces)?;
+    ask(rt, alloc, words, input, NO_FAULTS, &OpenGate)
+}
+
+/// How many of the 2,000 rows were put in order, by what `ran` has, if this was written.
+fn merged_rows<R: Abort + Threads + Wait + Sync>(
+    rt: &R,
+    alloc: Global,
+    words: &str,
+    sorted: &[u8],
+) -> Result<Option<usize>, AllocError> {
+    let answer = ask_over(rt, alloc, words, SEVENS)?;
+    check(rt, words, &answer, Wanted::of(0, sorted, b""));
     match &answer.ran {
-        Some(Ran::Merge(merged)) => Some(merged.order.len()),
-        _ => None,
+        Some(Ran::Merge(merged)) => Ok(Some(merged.order.len())),
+        _ => Ok(None),
     }
 }
 
@@ -227,19 +248,22 @@ fn merged_rows(answer: &Answered) -> Option<usize> {
 fn two_thousand_rows(rt: HostRuntime) -> Result<(), Fail> {
     let sorted = bytes_of(rt.alloc(), SEVENS_IN_ORDER)?;
     for words in ["merge n 0", "merge n 1", "merge n 3"] {
-        let input = bytes_of(rt.alloc(), SEVENS)?;
-        let answer = ask(&rt, rt.alloc(), words, input, NO_FAULTS, &OpenGate)?;
-        check(&rt, words, &answer, Wanted::of(0, sorted.as_slice(), b""));
-        assert!(rt; merged_rows(&answer) == Some(2_000), "{words}");
+        let rows = merged_rows(&rt, rt.alloc(), words, sorted.as_slice())?;
+        assert!(rt; rows == Some(2_000), "{words}");
     }
     Ok(())
 }
 
 /// How many passes of the table's area and how many pairs `ran` has.
-fn joined_passes(answer: &Answered) -> Option<(usize, usize)> {
+fn joined_passes<R: Threads + Wait + Sync>(
+    rt: &R,
+    alloc: Global,
+    words: &str,
+) -> Result<Option<(usize, usize)>, AllocError> {
+    let answer = ask_over(rt, alloc, words, TWO)?;
     match &answer.ran {
-        Some(Ran::Join(joined)) => Some((joined.areas.len(), joined.pairs.len())),
-        _ => None,
+        Some(Ran::Join(joined)) => Ok(Some((joined.areas.len(), joined.pairs.len()))),
+        _ => Ok(None),
     }
 }
 
@@ -247,29 +271,33 @@ fn joined_passes(answer: &Answered) -> Option<(usize, usize)> {
 #[test]
 fn said_of_a_join(rt: HostRuntime) -> Result<(), Fail> {
     for (words, passes) in [("join id 0", 1), ("join id 3", 4)] {
-        let input = bytes_of(rt.alloc(), TWO)?;
-        let answer = ask(&rt, rt.alloc(), words, input, NO_FAULTS, &OpenGate)?;
-        assert!(rt; joined_passes(&answer) == Some((passes, 4)), "{words}");
+        let joined = joined_passes(&rt, rt.alloc(), words)?;
+        assert!(rt; joined == Some((passes, 4)), "{words}");
     }
     Ok(())
 }
 
 /// How many workers and groups `ran` has.
-fn gathered_groups(answer: &Answered) -> Option<(usize, usize)> {
+fn gathered_groups<R: Threads + Wait + Sync>(
+    rt: &R,
+    alloc: Global,
+    words: &str,
+) -> Result<Option<(usize, usize)>, AllocError> {
+    let answer = ask_over(rt, alloc, words, &[])?;
     match &answer.ran {
         Some(Ran::Gather(gathered)) => {
-            Some((gathered.finished.workers.len(), gathered.groups.len()))
+            let workers = gathered.finished.workers.len();
+            Ok(Some((workers, gathered.groups.len())))
         }
-        _ => None,
+        _ => Ok(None),
     }
 }
 
 /// Beside the line of generated rows `ran` has their groups, which two workers were asked for.
 #[test]
 fn said_of_generated_rows(rt: HostRuntime) -> Result<(), Fail> {
-    let nothing = Vec::new(rt.alloc());
-    let answer = ask(&rt, rt.alloc(), "gen 7 5000", nothing, NO_FAULTS, &OpenGate)?;
-    let (workers, groups) = gathered_groups(&answer).ok_or("nothing is said of the run")?;
+    let said = gathered_groups(&rt, rt.alloc(), "gen 7 5000")?;
+    let (workers, groups) = said.ok_or("nothing is said of the run")?;
     assert!(rt; workers == 2 && groups > 900);
     Ok(())
 }

@@ -1,8 +1,9 @@
 //! One table, whatever plan the words ask for, however many workers, and in windows too.
 
-use super::{Answered, Call, NO_FAULTS, Wanted, check, check_each};
+use super::{Answered, Call, NO_FAULTS, Wanted, ask_alone, check_each};
 use par_gather::TABLE;
 use std::alloc::{AllocError, Global};
+use std::process::Abort;
 use std::sync::Wait;
 use std::test::Fail;
 use std::thread::Threads;
@@ -56,37 +57,46 @@ fn keyed(alloc: Global, rows: u32) -> Result<Vec<u8>, AllocError> {
     Ok(text)
 }
 
-/// What a call answers over these rows, with this many workers. Its further words begin with a space.
-fn ask_keyed<R: Threads + Wait + Sync>(
+/// What a plan answers over these rows in the caller's thread alone.
+fn ask_keyed(alloc: Global, text: &[u8]) -> Result<Answered, AllocError> {
+    let input = Vec::from_slice(alloc, text)?;
+    ask_alone(alloc, "--group k --agg count,sum:v,avg:v", input, NO_FAULTS)
+}
+
+/// Stops the test unless a call writes this table for the same plan, however many workers it has. Its further words
+/// begin with a space.
+fn check_keyed<R: Abort + Threads + Wait + Sync>(
     rt: &R,
     alloc: Global,
     call: Call,
     text: &[u8],
-    workers: u32,
     further: &str,
-) -> Result<Answered, AllocError> {
-    let words = format!(in alloc;
-        "--group k --agg count,sum:v,avg:v --workers {workers}{further}"
-    )?;
-    call.ask(rt, alloc, words.as_str(), text, NO_FAULTS)
+    table: &[u8],
+) -> Result<(), AllocError> {
+    for workers in [0, 1, 3, 16, 64u32] {
+        let words = format!(in alloc;
+            "--group k --agg count,sum:v,avg:v --workers {workers}{further}"
+        )?;
+        let wanted = Wanted::of(TABLE, table, b"");
+        call.check(rt, alloc, words.as_str(), text, NO_FAULTS, wanted)?;
+    }
+    Ok(())
 }
 
 /// With 16 pages, the fewest with which there is a shared table, many groups find no room in it.
 #[test]
 fn the_same_bytes(rt: HostRuntime) -> Result<(), Fail> {
     let text = keyed(rt.alloc(), 3_000)?;
-    let first = ask_keyed(&rt, rt.alloc(), Call::WithWorkers, text.as_slice(), 0, "")?;
+    let first = ask_keyed(rt.alloc(), text.as_slice())?;
     assert_eq!(rt; first.status, TABLE);
     for (call, further) in [
+        (Call::WithWorkers, ""),
         (Call::WithWorkers, " --plan gather"),
         (Call::WithWorkers, " --plan hash"),
         (Call::WithWorkers, " --plan hash --area-pages 16"),
         (Call::InWindows, ""),
     ] {
-        for workers in [0, 1, 3, 16, 64u32] {
-            let answer = ask_keyed(&rt, rt.alloc(), call, text.as_slice(), workers, further)?;
-            check(&rt, further, &answer, Wanted::of(TABLE, first.out(), b""));
-        }
+        check_keyed(&rt, rt.alloc(), call, text.as_slice(), further, first.out())?;
     }
     Ok(())
 }
