@@ -3,7 +3,7 @@ use Rattle.std.specs.Prelude.{unwrap_or}
 use Rattle.csv_rows.specs.Records.{records_of}
 use Rattle.row_windows.specs.Seams.{IsCutAt}
 use Rattle.par_stream.proofs.Streams.{front_one, front_records}
-use Rattle.par_stream.proofs.reading.part_header.Goals as goal
+use Rattle.par_stream.proofs.filling.part_header.Goals as goal
 
 pub returns-in-Ok-clause-one : goal.returns-in-Ok-clause-one
 returns-in-Ok-clause-one c =
