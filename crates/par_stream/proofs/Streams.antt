@@ -30,12 +30,12 @@ pub front_records : (lines : List ℕ) (cut : Option ℕ) → IfSome cut (IsCutA
 front_records lines None c = ([], sym (append-nil (records_of (take (length lines) lines)) ∙ ap records_of (take_all (length lines) lines (omega arith))))
 front_records lines (Some at) c = (records_of (drop at lines), sym (ap records_of (take-append-drop at lines)) ∙ records_add_up (take at lines) (drop at lines) c.seam)
 
--- of lines that have a record, what is cut off in front of the second, or all of them, has one
-pub front_one : (lines : List ℕ) (cut : Option ℕ) → IfSome cut (λ at. length (records_of (take at lines)) ≡ 1) → (cut ≡ None → length (records_of lines) ≤ 1) → 0 < length (records_of lines)
+-- what is cut off in front of the second record of lines, or all of them where there is one, has one record if it has any
+pub front_one : (lines : List ℕ) (cut : Option ℕ) → IfSome cut (λ at. length (records_of (take at lines)) ≡ 1) → (cut ≡ None → length (records_of lines) ≤ 1) → 0 < length (records_of (take (unwrap_or cut (length lines)) lines))
     → length (records_of (take (unwrap_or cut (length lines)) lines)) ≡ 1
 front_one lines None some none more =
-    let whole : length (records_of lines) ≡ 1 = omega (arith, none refl, more) in
-    ap (λ (l : List ℕ). length (records_of l)) (take_all (length lines) lines (omega arith)) ∙ whole
+    let whole : length (records_of (take (length lines) lines)) ≡ length (records_of lines) = ap (λ (l : List ℕ). length (records_of l)) (take_all (length lines) lines (omega arith)) in
+    omega (arith, none refl, more, whole)
 front_one lines (Some at) some none more = some
 
 -- a window that was filled behind another one, which is not the last

@@ -1,4 +1,5 @@
 use Rattle.std.proofs.Common.{◌≡◌, ◌<◌, ◌+◌, ◌^◌, ◌∷◌, ◌++◌, ◌∙◌, ℕ, List, Option, ap, arith, drop, length, length-append, length-drop, subst, sym}
+use Rattle.std.specs.Global.{Vec}
 use Rattle.csv_rows.specs.Records.{record_at, records_of}
 use Rattle.par_model.specs.Columns.{HasColumns}
 use Rattle.partial_agg.specs.Groups.{GroupsByKey}
@@ -19,7 +20,8 @@ returns-in-Err-clause-why g c =
     let w = c.args.window.now in
     let query = c.args.plan.now in
     let bound = c.args.bound.now in
-    let maps = c.args.added.now.maps.items in
+    let maps = c.replace-olds.result.items in
+    let size : length maps ≡ length c.args.added.now.maps.items = ap (λ (v : Vec GroupsByKey). length v.items) c.replace-olds.ensures.value in
     let count = c.args.added.now.count in
     let header = record_at (window_records w) 0 in
     let wrows = window_rows w in
@@ -29,14 +31,15 @@ returns-in-Err-clause-why g c =
     let few : count + length (header ∷ wrows) < 2 ^ 64 = omega (arith, ap length store, c.count-more.ensures.rows, c.count-more.ensures.few, c.requires.few) in
     let cause : IsCauseBy bound (header ∷ wrows) (length maps) c.in-Err.why = subst (λ (l : Table). IsCauseBy bound l (length maps) c.in-Err.why) store c.in-Err.ensures.cause in
     λ from rows has begins.
-    refused_tells query header bound c.requires.bound from (length maps) count rows wrows c.in-Err.why c.stop_of_block.result (λ none. omega (arith, c.requires.maps, none)) has.count few
+    refused_tells query header bound c.requires.bound from (length maps) count rows wrows c.in-Err.why c.stop_of_block.result (λ none. omega (arith, size, c.requires.maps, none)) has.count few
     begins has.shared.accepted cause c.stop_of_block.ensures
 
 pub returns-clause-added : goal.returns-clause-added
 returns-clause-added g c =
     let w = c.args.window.now in
     let bound = c.args.bound.now in
-    let olds = c.args.added.now.maps.items in
+    let olds = c.replace-olds.result.items in
+    let taken = c.replace-olds.ensures.value in
     let news = c.in-Ok-add_rows.news.items in
     let store = c.in-Ok.store in
     let same : store ≡ window_records w = c.in-Ok.ensures.records ∙ ap records_of c.table.ensures in
@@ -44,9 +47,9 @@ returns-clause-added g c =
     record {
       rows = λ rows has.
       let few : length rows + length store < 2 ^ 64 = omega (arith, has.count, c.requires.few, c.count-more.ensures.rows, c.count-more.ensures.few) in
-      let before : AreShared bound (header_width store) rows olds = subst (λ (l : Table). AreShared bound (header_width l) rows olds) (sym same) has.shared in
+      let before : AreShared bound (header_width store) rows olds = subst (λ (l : Table). AreShared bound (header_width l) rows olds) (sym same) (subst (λ (v : Vec GroupsByKey). AreShared bound (header_width (window_records w)) rows v.items) (sym taken) has.shared) in
       let after : AreShared bound (header_width (window_records w)) (rows ++ window_rows w) news = subst (λ (l : Table). AreShared bound (header_width l) (rows ++ drop 1 l) news) same (c.in-Ok-add_rows.ensures.shared rows before few) in
       record { count = omega (arith, has.count, length-append rows (window_rows w), length-drop 1 (window_records w), size, c.count-more.ensures.rows); shared = after };
-      many = c.in-Ok-add_rows.ensures.many;
+      many = c.in-Ok-add_rows.ensures.many ∙ ap (λ (v : Vec GroupsByKey). length v.items) taken;
       few = omega (arith);
     }
