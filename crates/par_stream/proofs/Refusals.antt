@@ -20,14 +20,10 @@ use Rattle.table_query.specs.Lines.{refused_of}
 use Rattle.table_query.specs.Refused.{refused_in}
 use Rattle.table_query.proofs.RefusedRows.{refused_first, refused_in-has, refused_in-none}
 use Rattle.par_stream.specs.Outcome.{outcome, outcome_over}
-use Rattle.par_stream.specs.Reading.{HasAll, IsBound, Reaches}
+use Rattle.par_stream.specs.Reading.{Begins, HasAll, IsBound, Reaches}
 use Rattle.par_stream.specs.Stops.{IsRefusedRow, Restates, Tells}
 use Rattle.par_stream.specs.declared.stop.Stop.{Stop}
 use Rattle.par_stream.specs.declared.stop.Stop.TheVariants as stop
-
--- the records of a source begin with some
-abbrev pub Begins : Option (List ℕ) → Table → Type 0
-Begins from records = IfSome from (λ bytes. (more : Table) × (records_of bytes ≡ records ++ more))
 
 pub begins : (from left : Option (List ℕ)) (records : Table) (rest : List ℕ) (is_last : Bool) → Reaches from left records rest is_last → Begins from records
 begins None left records rest is_last r = tt

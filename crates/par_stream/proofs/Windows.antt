@@ -1,13 +1,20 @@
 -- Windows of a source, one after another.
-use Rattle.std.proofs.Common.{◌≡◌, ◌<◌, ◌++◌, ◌∙◌, ℕ, Bool, true, false, List, [], ◌∷◌, Option, None, Some, IfSome, length, refl, ap, sym, arith, append_assoc, append-nil}
+use Rattle.std.proofs.Common.{◌≡◌, ◌<◌, ◌++◌, ◌∙◌, ℕ, Bool, true, false, List, [], ◌∷◌, Option, None, Some, Result, Ok, Err, IfErr, IfOk, IfSome, length, length-append, refl, ap, sym, arith, append_assoc, append-nil}
+use Rattle.std.specs.Prelude.{OnOk}
 use Rattle.std.specs.Io.KnownBytes.{IsAtEnd}
 use Rattle.csv_rows.specs.Records.{records_of}
+use Rattle.par_io.specs.Faults.{Rose}
+use Rattle.plan_spec.specs.Query.{Query}
 use Rattle.row_blocks.specs.Blocks.{Table}
 use Rattle.row_windows.specs.Seams.{BeginsLine, IsLong, IsSeam}
-use Rattle.row_windows.specs.Stretch.{Fills}
+use Rattle.row_windows.specs.Stretch.{Fills, Stretch}
+use Rattle.row_windows.specs.declared.window.WindowAnswer.{WindowAnswer}
+use Rattle.row_windows.specs.declared.window.WindowAnswer.TheVariants as answer
 use Rattle.row_windows.proofs.Seams.{records_add_up}
 use Rattle.par_stream.specs.Outcome.{HasLong}
-use Rattle.par_stream.specs.Reading.{AreRead, HasRead, Reaches}
+use Rattle.par_stream.specs.Reading.{AreRead, HasRead, IsFilled, IsNotFilled, Reaches}
+use Rattle.par_stream.specs.Stops.{Tells, stop_of_window}
+use Rattle.par_stream.specs.declared.stop.Stop.TheVariants as stop
 
 -- before anything is read
 pub read_nothing : (left : Option (List ℕ)) → HasRead left left [] []
@@ -79,3 +86,45 @@ long_read (Some bytes) (Some old) (Some new) was text records row read number f 
       parts = read.parts ∙ ap (λ (l : List ℕ). records ++ records_of l) left;
       long = long;
     }
+
+-- ---- what the filling of a window came to
+
+pub is_filled : (old new : Option (List ℕ)) (was now : Stretch) (r : Result Bool WindowAnswer) → OnOk r (now.header ≡ was.header) → OnOk r (Fills old new was.rest (now.lines ++ now.rest))
+    → IfOk r (λ last. last ≡ true → (now.rest ≡ []) × IsAtEnd new) → IfOk r (λ last. last ≡ false → IsSeam now.lines now.rest × (0 < length now.lines)) → IfOk r (IsFilled old new was now)
+is_filled old new was now (Err why) header reads last seam = tt
+is_filled old new was now (Ok is_last) header reads last seam = record {
+  header = header;
+  reads = reads;
+  last = last;
+  seam = λ more. (seam more).0;
+  line = λ begins. begins_lines old new was.rest now.lines now.rest reads (some is_last last seam begins) begins;
+}
+  where
+    some : (is_last : Bool) → (is_last ≡ true → (now.rest ≡ []) × IsAtEnd new) → (is_last ≡ false → IsSeam now.lines now.rest × (0 < length now.lines)) → BeginsLine was.rest → 0 < length now.lines
+    some false last seam begins = (seam refl).1
+    some true last seam begins = omega (arith, ap length (last refl).0, ap length reads.2, length-append now.lines now.rest, length-append was.rest reads.0, begins.some)
+
+pub is_not_filled : (old new : Option (List ℕ)) (old_faults new_faults : ℕ) (was : Stretch) (r : Result Bool WindowAnswer) → (r ≡ Err answer.ReadFault → Rose old_faults new_faults)
+    → (r ≡ Err answer.LongRecord → (text : List ℕ) × Fills old new was.rest text × IsLong text) → IfErr r (IsNotFilled old new old_faults new_faults was)
+is_not_filled old new old_faults new_faults was (Ok is_last) fault long = tt
+is_not_filled old new old_faults new_faults was (Err answer.ReadFault) fault long = fault refl
+is_not_filled old new old_faults new_faults was (Err answer.LongRecord) fault long = long refl
+is_not_filled old new old_faults new_faults was (Err answer.Memory) fault long = tt
+
+module _ (old new : Option (List ℕ)) (old_faults new_faults : ℕ) (was : Stretch) where
+  -- what the reason says, where so many records stand in front of the window
+  pub window_tells : (query : Query) (from : Option (List ℕ)) (records : Table) (row : ℕ) (why : WindowAnswer) → HasRead from old records was.rest → length records ≡ row → IsNotFilled old new old_faults new_faults was why → Tells query from (stop_of_window why row)
+  window_tells query from records row answer.ReadFault read number is = tt
+  window_tells query from records row answer.LongRecord read number is = long_read from old new was.rest is.0 records row read number is.1 is.2
+  window_tells query from records row answer.Memory read number is = tt
+
+  -- where it is a read that failed
+  pub window_fault : (row : ℕ) (why : WindowAnswer) → IsNotFilled old new old_faults new_faults was why → stop_of_window why row ≡ stop.ReadFault → Rose old_faults new_faults
+  window_fault row answer.ReadFault is e = is
+  window_fault row answer.LongRecord is e = cc e
+  window_fault row answer.Memory is e = cc e
+
+pub window_no_write : (row : ℕ) (why : WindowAnswer) → stop_of_window why row ≡ stop.WriteFault → ⊥
+window_no_write row answer.ReadFault e = cc e
+window_no_write row answer.LongRecord e = cc e
+window_no_write row answer.Memory e = cc e

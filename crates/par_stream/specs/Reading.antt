@@ -1,20 +1,25 @@
 -- What was read of a source, window by window.
-use Rattle.std.specs.Prelude.{◌≡◌, ◌<◌, ◌≤◌, ◌+◌, ◌++◌, ◌^◌, [], ◌∷◌, ℕ, Bool, List, None, Option, Some, All, IfSome, false, length, true, ⊤}
+use Rattle.std.specs.Prelude.{◌≡◌, ◌≤◌, ◌+◌, ◌++◌, ◌^◌, [], ◌∷◌, ℕ, Bool, List, None, Option, Some, IfSome, drop, false, length, true, ⊤}
+use Rattle.std.specs.Io.KnownBytes.{IsAtEnd}
 use Rattle.csv_rows.specs.Cuts.{IsCut}
 use Rattle.csv_rows.specs.Records.{record_at, records_of}
+use Rattle.par_io.specs.Faults.{Rose}
 use Rattle.par_model.specs.Columns.{HasColumns}
 use Rattle.par_model.specs.Named.{bound_plan, missing_name}
 use Rattle.par_model.specs.Plan.{Plan}
-use Rattle.partial_agg.specs.Groups.{AreGroups, GroupsByKey}
-use Rattle.partial_agg.specs.Listed.{listed}
-use Rattle.partial_agg.specs.Rows.{IsAccepted}
+use Rattle.partial_agg.specs.Rows.{header_width}
 use Rattle.plan_spec.specs.Query.{Query}
 use Rattle.row_blocks.specs.Blocks.{Table}
-use Rattle.row_windows.specs.Seams.{BeginsLine, IsSeam}
+use Rattle.row_windows.specs.Seams.{BeginsLine, IsLong, IsSeam}
+use Rattle.row_windows.specs.Stretch.{Fills, Stretch}
+use Rattle.row_windows.specs.declared.window.WindowAnswer.{WindowAnswer}
+use Rattle.row_windows.specs.declared.window.WindowAnswer.TheVariants as answer
 use Rattle.split_law.specs.Shares.{AreShared}
-use Rattle.par_stream.specs.declared.reading.First.{First}
+use Rattle.par_stream.specs.declared.adding.Added.{Added}
 use Rattle.par_stream.specs.declared.reading.ReadGroups.{ReadGroups}
 use Rattle.par_stream.specs.declared.reading.Stream.{Stream}
+
+-- ---- the source
 
 -- Of a source that had some bytes left and now has others: some records, and those of the rest that was read and of what
 -- is left, are the records of all bytes; and the rest stands in front of what is left
@@ -33,17 +38,48 @@ HasRead (Some bytes) (Some left) records rest = AreRead bytes left records rest
 abbrev pub HasAll : Option (List ℕ) → Table → Type 0
 HasAll from records = IfSome from (λ bytes. records_of bytes ≡ records)
 
+-- the records of all these bytes begin with some
+abbrev pub Begins : Option (List ℕ) → Table → Type 0
+Begins from records = IfSome from (λ bytes. (more : Table) × (records_of bytes ≡ records ++ more))
+
 -- what there is of a source after a window that is the last, or not
 pub record Reaches (from left : Option (List ℕ)) (records : Table) (rest : List ℕ) (is_last : Bool) : Type 0 where
   pub all : is_last ≡ true → HasAll from records
   pub more : is_last ≡ false → HasRead from left records rest
 
--- the first window with a record: it has no header yet, and its lines have these records
-pub record IsFirst (f : First) : Type 0 where
-  pub header : f.window.header ≡ []
-  pub records : f.store ≡ records_of f.window.lines
-  pub some : 0 < length f.store
-  pub seam : f.is_last ≡ false → IsSeam f.window.lines f.window.rest
+-- ---- a window
+
+-- the records of a window, of which the first is that of the header
+abbrev pub window_records : Stretch → Table
+window_records w = records_of (w.header ++ w.lines)
+
+-- the others
+abbrev pub window_rows : Stretch → Table
+window_rows w = drop 1 (window_records w)
+
+-- a window of no lines was filled from a source: its lines and its rest are what there was of them and what was read
+pub record IsFilled (old new : Option (List ℕ)) (was now : Stretch) (is_last : Bool) : Type 0 where
+  pub header : now.header ≡ was.header
+  pub reads : Fills old new was.rest (now.lines ++ now.rest)
+  pub last : is_last ≡ true → (now.rest ≡ []) × IsAtEnd new
+  pub seam : is_last ≡ false → IsSeam now.lines now.rest
+  pub line : BeginsLine was.rest → BeginsLine now.lines
+
+-- why it was not filled: a read failed, or what there was and what was read begins with a record that is too long
+abbrev pub IsNotFilled : Option (List ℕ) → Option (List ℕ) → ℕ → ℕ → Stretch → WindowAnswer → Type 0
+IsNotFilled old new old_faults new_faults was answer.ReadFault = Rose old_faults new_faults
+IsNotFilled old new old_faults new_faults was answer.LongRecord = (text : List ℕ) × Fills old new was.rest text × IsLong text
+IsNotFilled old new old_faults new_faults was answer.Memory = ⊤
+
+-- a window begins with the line of a header, which has one record, and is cut off in front of the end of a line
+pub record HasHeader (header : Table) (w : Stretch) (is_last : Bool) : Type 0 where
+  pub one : length header ≡ 1
+  pub line : records_of w.header ≡ header
+  pub records : window_records w ≡ record_at header 0 ∷ window_rows w
+  pub cut : is_last ≡ false → IsCut w.header
+  pub next : is_last ≡ false → BeginsLine w.rest
+
+-- ---- the rows
 
 -- a plan is that of a query over the columns of a header, which has all of them
 pub record IsBound (query : Query) (header : List (List ℕ)) (plan : Plan) : Type 0 where
@@ -51,23 +87,28 @@ pub record IsBound (query : Query) (header : List (List ℕ)) (plan : Plan) : Ty
   pub columns : HasColumns plan (length header)
   pub whole : missing_name header query.plan ≡ None
 
--- a stream: its windows begin with its header, which is cut off at the end of a line; there is a map for each worker and
--- one more, at most 65
-pub record IsStream (query : Query) (plan : Plan) (s : Stream) : Type 0 where
-  pub header : length s.header ≡ 1
-  pub bound : IsBound query (record_at s.header 0) plan
-  pub window : records_of s.window.header ≡ s.header
-  pub cut : s.is_last ≡ false → IsCut s.window.header
-  pub line : s.is_last ≡ false → BeginsLine s.window.rest
-  pub maps : length s.maps.items ≡ query.workers + 1
-  pub hands : length s.maps.items ≤ 65
-  pub few : s.count ≤ 2 ^ 50
+-- the maps are those of shares of these rows, none of which is refused
+pub record HasAdded (plan : Plan) (width : ℕ) (rows : Table) (a : Added) : Type 0 where
+  pub count : a.count ≡ length rows
+  pub shared : AreShared plan width rows a.maps.items
 
--- its maps are those of shares of these rows, which were read of a source behind the header
+-- the rows of a window were added to the maps
+pub record AddsWindow (plan : Plan) (w : Stretch) (old new : Added) : Type 0 where
+  pub rows : (rows : Table) → HasAdded plan (header_width (window_records w)) rows old → HasAdded plan (header_width (window_records w)) (rows ++ window_rows w) new
+  pub many : length new.maps.items ≡ length old.maps.items
+  pub few : new.count ≤ 2 ^ 50
+
+-- a stream: its windows begin with its header, and there is a map for each worker and one more
+pub record IsStream (query : Query) (plan : Plan) (s : Stream) : Type 0 where
+  pub window : HasHeader s.header s.window s.is_last
+  pub bound : IsBound query (record_at s.header 0) plan
+  pub maps : length s.added.maps.items ≡ query.workers + 1
+  pub few : s.added.count ≤ 2 ^ 50
+
+-- its maps have these rows, which were read of a source behind the header; those of its window come next
 pub record HasRows (plan : Plan) (from left : Option (List ℕ)) (s : Stream) (rows : Table) : Type 0 where
-  pub count : s.count ≡ length rows
-  pub shared : AreShared plan (length (record_at s.header 0)) rows s.maps.items
-  pub reaches : Reaches from left (record_at s.header 0 ∷ rows) s.window.rest s.is_last
+  pub added : HasAdded plan (length (record_at s.header 0)) rows s.added
+  pub reaches : Reaches from left (record_at s.header 0 ∷ (rows ++ window_rows s.window)) s.window.rest s.is_last
 
 -- maps are those of shares of all rows of a source, of which none is refused
 pub record AreGroupsOver (query : Query) (from : Option (List ℕ)) (r : ReadGroups) : Type 0 where

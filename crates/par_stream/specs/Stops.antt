@@ -1,16 +1,25 @@
 -- What a reason to have no table says of the outcome.
-use Rattle.std.specs.Prelude.{[], ◌≡◌, ◌<◌, ◌+◌, ◌^◌, ◌⊎◌, ◌++◌, ⊤, ℕ, List, None, Option, Some, Contains, IfSome, codes, decimal, slice_get, string_bytes}
+use Rattle.std.specs.Prelude.{[], ◌∷◌, ◌≡◌, ◌<◌, ◌+◌, ◌^◌, ◌⊎◌, ◌++◌, ⊤, ℕ, List, None, Option, Some, Contains, IfSome, codes, decimal, slice_get, string_bytes}
+use Rattle.csv_rows.specs.Records.{record_at}
 use Rattle.par_model.specs.Named.{NamedPlan}
 use Rattle.par_model.specs.Outcome.{NoColumn, NoHeader, Table}
+use Rattle.par_model.specs.Plan.{Plan}
 use Rattle.par_model.specs.declared.refusal.Refusal.{Refusal}
+use Rattle.partial_agg.specs.Rows.{header_width}
 use Rattle.partial_agg.specs.declared.map.BlockAnswer.{BlockAnswer}
 use Rattle.partial_agg.specs.declared.map.BlockAnswer.TheVariants as answer
 use Rattle.plan_spec.specs.Query.{Query}
 use Rattle.plan_spec.specs.declared.plan.PlanAnswer.{PlanAnswer}
 use Rattle.plan_spec.specs.declared.plan.PlanAnswer.TheVariants as words
 use Rattle.query_answer.specs.declared.status.TheConstants.{MISUSED, NO_MEMORY, READ_FAULT, REFUSED, WRITE_FAULT}
+use Rattle.row_blocks.specs.Blocks.{Table as Records}
+use Rattle.row_windows.specs.Stretch.{Stretch}
+use Rattle.row_windows.specs.declared.window.WindowAnswer.{WindowAnswer}
+use Rattle.row_windows.specs.declared.window.WindowAnswer.TheVariants as window
 use Rattle.table_query.specs.Lines.{refusal_text, refused_of}
 use Rattle.par_stream.specs.Outcome.{HasLong, outcome_over}
+use Rattle.par_stream.specs.Reading.{Begins, HasAdded, window_records, window_rows}
+use Rattle.par_stream.specs.declared.adding.Added.{Added}
 use Rattle.par_stream.specs.declared.stop.TheConstants.{LONG_RECORD}
 use Rattle.par_stream.specs.declared.stop.Cause.{Cause}
 use Rattle.par_stream.specs.declared.stop.Cause.TheVariants as cause
@@ -88,10 +97,22 @@ Tells query left (stop.Refused row why) = NamesRefusal query left row why
 Tells query left stop.WriteFault = IfSome left (λ bytes. outcome_over (Some query.plan) bytes ≡ Table)
 Tells query left stop.Memory = ⊤
 
+-- Why the rows of a window were not added to the maps of some others, which stand before them: it is so said of each source
+-- whose records begin with the header and all these rows
+abbrev pub TellsOfRows : Query → Plan → Stretch → Added → Stop → Type 0
+TellsOfRows query plan w added why = (from : Option (List ℕ)) (rows : Records) → HasAdded plan (header_width (window_records w)) rows added
+    → Begins from (record_at (window_records w) 0 ∷ (rows ++ window_rows w)) → Tells query from why
+
 -- likewise of words that ask for a query, or for none
 abbrev pub TellsOf : Option Query → Option (List ℕ) → Stop → Type 0
 TellsOf None left why = (why ≡ stop.Usage) ⊎ (why ≡ stop.Memory)
 TellsOf (Some query) left why = Tells query left why
+
+-- the reason that stands for a window that was not filled, in front of which there are so many records
+abbrev pub stop_of_window : WindowAnswer → ℕ → Stop
+stop_of_window window.ReadFault row = stop.ReadFault
+stop_of_window window.LongRecord row = stop.LongRecord row
+stop_of_window window.Memory row = stop.Memory
 
 -- the reason that stands for an answer of `of_words`
 abbrev pub stop_of_words : PlanAnswer → Stop

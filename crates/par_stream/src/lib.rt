@@ -1,10 +1,10 @@
 //! One query over comma-separated bytes of any length, from the words of a command line to an exit status, with workers
 //! beside the caller's thread or in that alone.
 //!
-//! The words name a plan; the bytes are read window by window, whole records each, and the rows of each window are shared
-//! out to the participants before the next is read. After the last window the groups are put together, and their text is
-//! made in ranges of the order and written. So nothing is written before the last byte was read, and only the groups and
-//! a window with its rows stand in memory.
+//! The words name a plan; the bytes are read window by window, whole records each. The rows of a window are shared out to
+//! the participants, and where there are workers the caller's thread reads the next window meanwhile. After the last window
+//! the groups are put together, and their text is made in ranges of the order and written. So nothing is written before the
+//! last byte was read, and only the groups and two windows with the rows of one stand in memory.
 //!
 //! The first fault ends it: the words, a read that failed, no header, a column that it lacks, a record that is too long, a
 //! refused row, and the writing, as they come on the way through the input.
@@ -24,6 +24,8 @@ ghost use Rattle.par_stream.specs.Stops.{TellsOf, usage_text};
 ghost use Rattle.par_stream.specs.Words.{plan_of, query_of, workers_of};
 ghost use Rattle.par_stream.specs.declared.stop.Stop.TheVariants as stop;
 
+mod adding;
+mod filling;
 mod output;
 mod reading;
 mod rows;

@@ -3,6 +3,10 @@
 #![tactic(auto)]
 
 #[cfg(test)]
+mod faults;
+#[cfg(test)]
+mod ranges;
+#[cfg(test)]
 mod shares;
 #[cfg(test)]
 mod windows;

@@ -10,10 +10,10 @@ use std::thread::Threads;
 
 /// The status, and what the two sinks were given.
 #[derive(Debug, PartialEq, Eq, Drop)]
-struct Answer {
-    status: u8,
-    out: Vec<u8>,
-    err: Vec<u8>,
+pub(crate) struct Answer {
+    pub(crate) status: u8,
+    pub(crate) out: Vec<u8>,
+    pub(crate) err: Vec<u8>,
 }
 
 /// The words of a text, which stand between spaces.
@@ -49,17 +49,16 @@ fn wanted(alloc: Global, words: &str, input: &[u8]) -> Result<Answer, AllocError
     })
 }
 
-/// What the windows answer, but for the program's name in the line.
-fn given<R: Threads + Wait + Sync>(
+/// What the windows of a source answer, but for the program's name in the line.
+pub(crate) fn answered<R: Threads + Wait + Sync>(
     rt: &R,
     alloc: Global,
     words: &str,
-    input: &[u8],
+    mut source: MemSource,
+    mut out: MemSink,
     size: usize,
 ) -> Result<Answer, AllocError> {
     let words = words_of(alloc, words)?;
-    let mut source = source_of(alloc, input)?;
-    let mut out = sink(alloc)?;
     let mut err = sink(alloc)?;
     let status = stream_table(
         rt,
@@ -116,7 +115,8 @@ fn each_seam(rt: HostRuntime) -> Result<(), Fail> {
             for workers in ["0", "1", "3"] {
                 let words = format!(in alloc; "{plan} --workers {workers}")?;
                 for size in [1usize, 2, 3, 5, 8, 100] {
-                    let given = given(&rt, alloc, words.as_str(), input.as_bytes(), size)?;
+                    let source = source_of(alloc, input.as_bytes())?;
+                    let given = answered(&rt, alloc, words.as_str(), source, sink(alloc)?, size)?;
                     assert!(rt; given == wanted, "{words} of {input} by {size}");
                 }
             }

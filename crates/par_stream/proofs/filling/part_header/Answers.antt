@@ -1,9 +1,9 @@
-use Rattle.std.proofs.Common.{◌≡◌, ◌≤◌, ◌++◌, ◌∙◌, ℕ, List, None, IfSome, ap, length, subst, sym, take}
+use Rattle.std.proofs.Common.{◌≡◌, ◌<◌, ◌≤◌, ◌++◌, ◌∙◌, ℕ, List, None, IfSome, ap, length, subst, sym, take}
 use Rattle.std.specs.Prelude.{unwrap_or}
 use Rattle.csv_rows.specs.Records.{records_of}
 use Rattle.row_windows.specs.Seams.{IsCutAt}
 use Rattle.par_stream.proofs.Streams.{front_one, front_records}
-use Rattle.par_stream.proofs.reading.part_header.Goals as goal
+use Rattle.par_stream.proofs.filling.part_header.Goals as goal
 
 pub returns-in-Ok-clause-one : goal.returns-in-Ok-clause-one
 returns-in-Ok-clause-one c =
@@ -13,7 +13,8 @@ returns-in-Ok-clause-one c =
     let none : c.header_end.result ≡ None → length (records_of lines) ≤ 1 = subst (λ (l : List ℕ). c.header_end.result ≡ None → length (records_of l) ≤ 1) same c.header_end.ensures.none in
     let front : take c.unwrap_or-at.result c.table-lines.result.now ≡ take (unwrap_or c.header_end.result (length lines)) lines =
     ap (λ n. take n c.table-lines.result.now) c.unwrap_or-at.ensures ∙ ap (λ (l : List ℕ). take (unwrap_or c.header_end.result (length l)) l) same in
-    ap length (c.in-Ok.ensures.records ∙ ap records_of front) ∙ front_one lines c.header_end.result some none c.requires.some
+    let more : 0 < length (records_of (take (unwrap_or c.header_end.result (length lines)) lines)) = subst (λ (l : List ℕ). 0 < length (records_of l)) front c.in-Ok.ensures.some in
+    ap length (c.in-Ok.ensures.records ∙ ap records_of front) ∙ front_one lines c.header_end.result some none more
 
 pub returns-in-Ok-clause-first : goal.returns-in-Ok-clause-first
 returns-in-Ok-clause-first c =

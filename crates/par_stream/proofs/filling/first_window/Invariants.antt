@@ -1,6 +1,6 @@
 use Rattle.std.proofs.Common.{◌≡◌, ◌≤◌, []}
 use Rattle.par_stream.specs.Reading.{HasRead}
-use Rattle.par_stream.proofs.reading.first_window.Given as goal
+use Rattle.par_stream.proofs.filling.first_window.Given as goal
 
 -- no record was read so far
 abbrev pub invariant-loop : goal.invariant-loop
