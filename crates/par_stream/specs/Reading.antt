@@ -1,5 +1,5 @@
 -- What was read of a source, window by window.
-use Rattle.std.specs.Prelude.{◌≡◌, ◌<◌, ◌≤◌, ◌+◌, ◌++◌, ◌^◌, [], ◌∷◌, ℕ, Bool, List, None, Option, Some, IfSome, drop, false, length, true, ⊤}
+use Rattle.std.specs.Prelude.{◌≡◌, ◌≤◌, ◌+◌, ◌++◌, ◌^◌, [], ◌∷◌, ℕ, Bool, List, None, Option, Some, IfSome, drop, false, length, true, ⊤}
 use Rattle.std.specs.Io.KnownBytes.{IsAtEnd}
 use Rattle.csv_rows.specs.Cuts.{IsCut}
 use Rattle.csv_rows.specs.Records.{record_at, records_of}

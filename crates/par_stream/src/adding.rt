@@ -6,9 +6,9 @@ ghost use Rattle.par_stream.specs.Reading.{AddsWindow, IsBound, IsFilled, IsNotF
 ghost use Rattle.par_stream.specs.Stops.{TellsOfRows};
 ghost use Rattle.par_stream.specs.declared.stop.Stop.TheVariants as stop;
 
+use crate::filling::fill;
 use crate::rows::stop_of_block;
 use crate::stop::Stop;
-use crate::filling::fill;
 use csv_rows::rows_in_threads;
 use par_io::Source;
 use par_model::BoundPlan;

@@ -9,10 +9,10 @@ ghost use Rattle.par_stream.specs.Stops.{Tells};
 ghost use Rattle.par_stream.specs.declared.stop.Stop.TheVariants as stop;
 
 use crate::adding::{Added, add_and_fill, add_window};
+use crate::filling::{First, first_window, stop_of_window};
 use crate::progress::{Progress, SoFar};
 use crate::rows::bind;
 use crate::stop::Stop;
-use crate::filling::{First, first_window, stop_of_window};
 use csv_rows::RowStore;
 use par_io::Source;
 use par_model::BoundPlan;
@@ -167,7 +167,9 @@ fn end<R: Threads + Wait + Sync>(
     ensures kind { IfErr result (λ why. ((why ≡ stop.ReadFault) ⊎ (why ≡ stop.WriteFault)) → ⊥) }
 {
     let Stream {
-        window, mut added, ..
+        window,
+        mut added,
+        ..
     } = stream;
     add_window(rt, alloc, plan, &bound, &window, &mut added)?;
     Ok(ReadGroups {

@@ -44,14 +44,20 @@ fn reads_that_fail(rt: HostRuntime) -> Result<(), Fail> {
     let input = "g,v\na,1\nb,2\na,3\n";
     for read in 1..=8u64 {
         let fault = (3u8, b"".as_slice(), b": read fault\n".as_slice());
-        assert!(rt; is_answered(&rt, alloc, input, read, NONE, fault)?, "read {read}");
+        assert!(rt;
+            is_answered(&rt, alloc, input, read, NONE, fault)?,
+            "read {read}"
+        );
     }
     // The row stands in the second window, which the third read fills.
     let input = "g,v\na,x\nb,2\na,3\n";
     for read in 4..=9u64 {
         let line = b": row 1: column v is not an integer\n";
         let refused = (1u8, b"".as_slice(), line.as_slice());
-        assert!(rt; is_answered(&rt, alloc, input, read, NONE, refused)?, "row, and read {read}");
+        assert!(rt;
+            is_answered(&rt, alloc, input, read, NONE, refused)?,
+            "row, and read {read}"
+        );
     }
     Ok(())
 }
@@ -64,7 +70,10 @@ fn writes_that_fail(rt: HostRuntime) -> Result<(), Fail> {
     for write in 1..=6usize {
         let part = &table[..5 * (write - 1)];
         let fault = (4u8, part, b": write fault\n".as_slice());
-        assert!(rt; is_answered(&rt, alloc, input, NONE, write as u64, fault)?, "write {write}");
+        assert!(rt;
+            is_answered(&rt, alloc, input, NONE, write as u64, fault)?,
+            "write {write}"
+        );
     }
     let whole = (0u8, table.as_slice(), b"".as_slice());
     assert!(rt; is_answered(&rt, alloc, input, 9, 7, whole)?);

@@ -1,4 +1,4 @@
-use Rattle.std.proofs.Common.{◌≡◌, ◌<◌, ◌+◌, ◌^◌, ◌∷◌, ◌++◌, ◌∙◌, ℕ, List, Option, ap, arith, drop, length, length-append, length-drop, subst, sym}
+use Rattle.std.proofs.Common.{◌≡◌, ◌<◌, ◌+◌, ◌^◌, ◌∷◌, ◌++◌, ◌∙◌, ℕ, List, ap, arith, drop, length, length-append, length-drop, subst, sym}
 use Rattle.std.specs.Global.{Vec}
 use Rattle.csv_rows.specs.Records.{record_at, records_of}
 use Rattle.par_model.specs.Columns.{HasColumns}
@@ -46,10 +46,10 @@ returns-clause-added g c =
     let size : length store ≡ length (window_records w) = ap length same in
     record {
       rows = λ rows has.
-      let few : length rows + length store < 2 ^ 64 = omega (arith, has.count, c.requires.few, c.count-more.ensures.rows, c.count-more.ensures.few) in
-      let before : AreShared bound (header_width store) rows olds = subst (λ (l : Table). AreShared bound (header_width l) rows olds) (sym same) (subst (λ (v : Vec GroupsByKey). AreShared bound (header_width (window_records w)) rows v.items) (sym taken) has.shared) in
-      let after : AreShared bound (header_width (window_records w)) (rows ++ window_rows w) news = subst (λ (l : Table). AreShared bound (header_width l) (rows ++ drop 1 l) news) same (c.in-Ok-add_rows.ensures.shared rows before few) in
-      record { count = omega (arith, has.count, length-append rows (window_rows w), length-drop 1 (window_records w), size, c.count-more.ensures.rows); shared = after };
+          let few : length rows + length store < 2 ^ 64 = omega (arith, has.count, c.requires.few, c.count-more.ensures.rows, c.count-more.ensures.few) in
+          let before : AreShared bound (header_width store) rows olds = subst (λ (l : Table). AreShared bound (header_width l) rows olds) (sym same) (subst (λ (v : Vec GroupsByKey). AreShared bound (header_width (window_records w)) rows v.items) (sym taken) has.shared) in
+          let after : AreShared bound (header_width (window_records w)) (rows ++ window_rows w) news = subst (λ (l : Table). AreShared bound (header_width l) (rows ++ drop 1 l) news) same (c.in-Ok-add_rows.ensures.shared rows before few) in
+          record { count = omega (arith, has.count, length-append rows (window_rows w), length-drop 1 (window_records w), size, c.count-more.ensures.rows); shared = after };
       many = c.in-Ok-add_rows.ensures.many ∙ ap (λ (v : Vec GroupsByKey). length v.items) taken;
       few = omega (arith);
     }

@@ -1,4 +1,4 @@
-use Rattle.std.proofs.Common.{◌≡◌, ◌∙◌, rules, [], ℕ, List, Err, ap, refl, subst, sym}
+use Rattle.std.proofs.Common.{◌≡◌, ◌∙◌, rules, arith, [], ℕ, List, Err, ap, refl, subst, sym}
 use Rattle.csv_rows.specs.Records.{records_of}
 use Rattle.par_io.specs.Faults.{Rose}
 use Rattle.row_blocks.specs.Blocks.{Table}
@@ -50,4 +50,4 @@ loop-preserved g c =
     let header : c.in_ok-window.window.header ≡ [] = next.header ∙ (ap (λ (w : Stretch). w.header) same ∙ (f.header ∙ c.loop.invariant.header)) in
     let rest : c.in_ok-window.window.rest ≡ full.rest = next.rest ∙ ap (λ (w : Stretch). w.rest) same in
     let left : HasRead from new [] c.in_ok-window.window.rest = subst (HasRead from new []) (sym rest) read in
-    search rules
+    record { can_next = tt; finite = tt; header = header; lines = next.lines; read = left; faults = omega (arith, c.loop.invariant.faults, c.in-Ok.ensures.faults) }

@@ -1,4 +1,4 @@
-use Rattle.std.proofs.Common.{◌≡◌, ℕ, List, Option, IfSome, Some, length, subst, sym, take}
+use Rattle.std.proofs.Common.{◌≡◌, ℕ, List, Option, IfSome, Some, length, subst, take}
 use Rattle.std.specs.Global.{Vec}
 use Rattle.std.specs.Io.KnownBytes.{Appends}
 use Rattle.result_text.specs.Pieces.{joined}

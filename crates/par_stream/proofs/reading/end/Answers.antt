@@ -1,8 +1,7 @@
-use Rattle.std.proofs.Common.{◌≡◌, ◌++◌, ◌∷◌, ℕ, List, Option, ap, arith, length, rules, subst, sym}
+use Rattle.std.proofs.Common.{◌++◌, ◌∷◌, ℕ, List, Option, arith, rules, subst, sym}
 use Rattle.csv_rows.specs.Records.{record_at}
-use Rattle.partial_agg.specs.Rows.{header_width}
 use Rattle.row_blocks.specs.Blocks.{Table}
-use Rattle.par_stream.specs.Reading.{Begins, HasRows, IsBound, window_records, window_rows}
+use Rattle.par_stream.specs.Reading.{Begins, HasRows, IsBound, window_rows}
 use Rattle.par_stream.specs.Stops.{Tells}
 use Rattle.par_stream.proofs.Refusals.{begins}
 use Rattle.par_stream.proofs.Streams.{added_behind, header_at, same_added}

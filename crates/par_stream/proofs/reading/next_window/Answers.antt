@@ -1,8 +1,8 @@
-use Rattle.std.proofs.Common.{◌≡◌, ◌+◌, ◌++◌, ◌∷◌, ◌∙◌, ℕ, Bool, List, Option, Result, IfErr, IfOk, ap, arith, length, rules, subst, sym}
+use Rattle.std.proofs.Common.{◌≡◌, ◌+◌, ◌++◌, ◌∷◌, ◌∙◌, ℕ, Bool, List, Option, Result, IfErr, IfOk, arith, length, rules, subst, sym}
 use Rattle.csv_rows.specs.Records.{record_at}
 use Rattle.row_blocks.specs.Blocks.{Table}
 use Rattle.row_windows.specs.declared.window.WindowAnswer.{WindowAnswer}
-use Rattle.par_stream.specs.Reading.{Begins, HasRead, HasRows, IsBound, IsFilled, IsNotFilled, window_records, window_rows}
+use Rattle.par_stream.specs.Reading.{Begins, HasRead, HasRows, IsBound, IsFilled, IsNotFilled, window_rows}
 use Rattle.par_stream.specs.Stops.{Tells}
 use Rattle.par_stream.proofs.Refusals.{begins}
 use Rattle.par_stream.proofs.Streams.{added_behind, header_at, next_header, next_reaches, same_added}
@@ -53,7 +53,7 @@ returns-clause-stream g c =
     let filled : IsFilled old new c.follow.new.self c.add_and_fill.new.next c.in-Ok.is_last = subst (λ (r : Result Bool WindowAnswer). IfOk r (IsFilled old new c.follow.new.self c.add_and_fill.new.next)) c.in-Ok.is c.in_ok-filled.ensures.filled in
     record {
       window = next_header s.header s.window c.follow.new.self c.add_and_fill.new.next s.is_last c.in-Ok.is_last old new c.requires.stream.window c.requires.more
-        c.in_ok-follow.ensures.header c.in_ok-follow.ensures.rest filled;
+          c.in_ok-follow.ensures.header c.in_ok-follow.ensures.rest filled;
       bound = c.requires.stream.bound;
       maps = adds.many ∙ c.requires.stream.maps;
       few = adds.few;
@@ -72,6 +72,6 @@ returns-clause-rows g c =
       record {
         added = added_behind s.header s.window s.is_last c.requires.stream.window c.args.bound.now rows s.added c.add_and_fill.new.added adds has.added;
         reaches = next_reaches s.header s.window c.follow.new.self c.add_and_fill.new.next s.is_last c.in-Ok.is_last old new c.requires.stream.window c.requires.more
-          c.in_ok-follow.ensures.header c.in_ok-follow.ensures.rest filled from all (has.reaches.more c.requires.more);
+            c.in_ok-follow.ensures.header c.in_ok-follow.ensures.rest filled from all (has.reaches.more c.requires.more);
       },
     )

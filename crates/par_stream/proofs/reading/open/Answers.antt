@@ -1,5 +1,4 @@
-use Rattle.std.proofs.Common.{◌≡◌, ◌∷◌, ◌++◌, ◌∙◌, [], ℕ, List, ap, length, refl, subst, sym}
-use Rattle.std.proofs.lemmas.List.{length-replicate}
+use Rattle.std.proofs.Common.{[], List, length, refl, subst, sym}
 use Rattle.csv_rows.specs.Records.{record_at}
 use Rattle.partial_agg.specs.Groups.{GroupsByKey}
 use Rattle.row_blocks.specs.Blocks.{Table}
