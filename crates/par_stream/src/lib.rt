@@ -27,6 +27,7 @@ ghost use Rattle.par_stream.specs.declared.stop.Stop.TheVariants as stop;
 mod adding;
 mod filling;
 mod output;
+mod progress;
 mod reading;
 mod rows;
 mod stop;
@@ -34,6 +35,7 @@ mod words;
 
 use output::write_table;
 use par_io::{Sink, Source};
+pub use progress::{Progress, SoFar, Untold};
 pub use query_answer::{MISUSED, NO_MEMORY, READ_FAULT, REFUSED, TABLE, WRITE_FAULT};
 use reading::read_groups;
 use std::alloc::Global;
@@ -49,11 +51,12 @@ pub const WINDOW_BYTES: usize = 4_194_304;
 /// Answers the query that `words`, those after the program's name, name by options: writes its table to `out`, or a line
 /// to `err` that says why there is none, and returns the exit status. The source is read in windows of `window_bytes`
 /// ([`WINDOW_BYTES`] by the program) or more, where a record is longer. As many workers as the words ask for share the
-/// rows with the caller's thread.
+/// rows with the caller's thread. How far the reading has come is told window by window to `progress` ([`Untold`] where
+/// nobody asks), and that it has ended before anything is written.
 ///
 /// Time is linear in the input, but for the look-up of each row's group and the order of the groups. Memory is two
 /// windows, the records of one, for each participant the groups of its own rows, and the text.
-pub fn stream_table<R: Threads + Wait + Sync, S: Source, O: Sink, E: Sink>(
+pub fn stream_table<R: Threads + Wait + Sync, S: Source, O: Sink, E: Sink, P: Progress>(
     rt: &R,
     alloc: Global,
     words: &[String],
@@ -61,6 +64,7 @@ pub fn stream_table<R: Threads + Wait + Sync, S: Source, O: Sink, E: Sink>(
     out: &mut O,
     err: &mut E,
     window_bytes: usize,
+    progress: &mut P,
 ) -> u8
     // There is no other status. A fault is answered only where it came in this call.
     ensures statuses { Contains statuses result }
@@ -89,7 +93,7 @@ pub fn stream_table<R: Threads + Wait + Sync, S: Source, O: Sink, E: Sink>(
         × IsSaid (E.taken err.old) (E.taken err.new) (E.faults err.old) (E.faults err.new) said }
     ensures quiet { result ≡ TABLE → err.new ≡ err.old }
 {
-    match answer_stream(rt, alloc, words, source, out, window_bytes) {
+    match answer_stream(rt, alloc, words, source, out, window_bytes, progress) {
         Ok(()) => TABLE,
         Err(stop) => stop.end(err),
     }
@@ -104,13 +108,14 @@ pub fn say_usage<E: Sink>(err: &mut E) -> u8
 }
 
 /// Reads the words and the source, and writes the table.
-fn answer_stream<R: Threads + Wait + Sync, S: Source, O: Sink>(
+fn answer_stream<R: Threads + Wait + Sync, S: Source, O: Sink, P: Progress>(
     rt: &R,
     alloc: Global,
     words: &[String],
     source: &mut S,
     out: &mut O,
     window_bytes: usize,
+    progress: &mut P,
 ) -> Result<(), Stop>
     ensures table { OnOk result (IfSome (S.left source.old) (λ bytes.
         (text : List ℕ) × IsTableText (plan_of (texts words.now)) bytes text × Appends (O.taken out.old) (O.taken out.new) text)) }
@@ -124,6 +129,7 @@ fn answer_stream<R: Threads + Wait + Sync, S: Source, O: Sink>(
     ensures unread { IsNone (query_of (texts words.now)) → source.new ≡ source.old }
 {
     let plan = read_words(alloc, words)?;
-    let read = read_groups(rt, alloc, &plan, source, window_bytes)?;
-    write_table(rt, alloc, &plan, read, out)
+    let read = read_groups(rt, alloc, &plan, source, window_bytes, progress);
+    progress.end();
+    write_table(rt, alloc, &plan, read?, out)
 }

@@ -10,6 +10,7 @@ ghost use Rattle.par_stream.specs.declared.stop.Stop.TheVariants as stop;
 
 use crate::adding::{Added, add_and_fill, add_window};
 use crate::filling::{First, first_window, stop_of_window};
+use crate::progress::{Progress, SoFar};
 use crate::rows::bind;
 use crate::stop::Stop;
 use csv_rows::RowStore;
@@ -41,13 +42,14 @@ pub(crate) struct Stream {
     pub(crate) added: Added,
 }
 
-/// Reads the whole source, in windows of so many bytes or more.
-pub(crate) fn read_groups<R: Threads + Wait + Sync, S: Source>(
+/// Reads the whole source, in windows of so many bytes or more, and tells how far it has come.
+pub(crate) fn read_groups<R: Threads + Wait + Sync, S: Source, P: Progress>(
     rt: &R,
     alloc: Global,
     plan: &Plan,
     source: &mut S,
     size: usize,
+    progress: &mut P,
 ) -> Result<ReadGroups, Stop>
     ensures groups { IfOk result (AreGroupsOver plan.now (S.left source.old)) }
     ensures why { IfErr result (Tells plan.now (S.left source.old)) }
@@ -57,13 +59,29 @@ pub(crate) fn read_groups<R: Threads + Wait + Sync, S: Source>(
     let first = first_window(rt, alloc, source, size)?;
     let bound = bind(alloc, plan, &first.header)?;
     let mut stream = open(alloc, plan, &bound, first)?;
+    let mut bytes = 0u64;
     for _ in rt.forever() {
         if stream.is_last {
             return end(rt, alloc, plan, bound, stream);
         }
+        bytes = bytes.saturating_add(stream.window.table().len() as u64);
         stream = next_window(rt, alloc, plan, &bound, source, size, stream)?;
+        progress.tell(so_far(bytes, &stream.added));
     }
     unreachable!()
+}
+
+/// How far the reading has come, where the windows that were added have so many bytes.
+fn so_far(bytes: u64, added: &Added) -> SoFar {
+    let mut groups = 0;
+    for map in added.maps.as_slice() {
+        groups = map.len().max(groups);
+    }
+    SoFar {
+        bytes,
+        rows: added.count,
+        groups: groups as u64,
+    }
 }
 
 /// Makes the maps of the participants, before any row.

@@ -6,8 +6,11 @@
 
 #![tactic(auto)]
 
+mod progress;
+
 use par_io::{StdSink, StdSource};
 use par_stream::{NO_MEMORY, WINDOW_BYTES, say_usage, stream_table};
+use progress::ProgressLine;
 use std::env::Env;
 use std::io::ErrorKind;
 use std::process::ExitCode;
@@ -45,6 +48,7 @@ fn main(rt: HostRuntime) -> ExitCode {
         &mut StdSink::new(rt.stdout()),
         &mut err,
         WINDOW_BYTES,
+        &mut ProgressLine::new(&rt, rt.stderr()),
     );
     ExitCode::from(status)
 }

@@ -1,7 +1,7 @@
 //! Windows of a few bytes, so that each end of a line comes to stand at a seam, and so do quotes, breaks and marks.
 
 use par_io::{MemSink, MemSource};
-use par_stream::stream_table;
+use par_stream::{Untold, stream_table};
 use plan_answers::aggregate_alone;
 use std::alloc::{AllocError, Global};
 use std::sync::Wait;
@@ -68,6 +68,7 @@ pub(crate) fn answered<R: Threads + Wait + Sync>(
         &mut out,
         &mut err,
         size,
+        &mut Untold,
     );
     Ok(Answer {
         status,

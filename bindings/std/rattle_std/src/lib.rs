@@ -22,10 +22,11 @@ pub mod string;
 pub mod sync;
 pub mod test;
 pub mod thread;
+pub mod time;
 pub mod vec;
 
 pub use runtime::HostRuntime;
-pub use std::{borrow, cell, char, cmp, convert, error, fmt, iter, mem, num, ops, option, result, slice, str, time};
+pub use std::{borrow, cell, char, cmp, convert, error, fmt, iter, mem, num, ops, option, result, slice, str};
 
 /// What each erased file has in scope.
 pub mod prelude {

@@ -4,6 +4,7 @@ use crate::alloc::Global;
 use crate::process::Abort;
 use crate::sync::Wait;
 use crate::thread::Threads;
+use crate::time::Clock;
 
 /// The runtime: it may wait and start threads, and has the allocator and the standard streams.
 #[derive(Clone, Copy, Debug, Default)]
@@ -35,5 +36,7 @@ impl HostRuntime {
 impl Wait for HostRuntime {}
 
 impl Threads for HostRuntime {}
+
+impl Clock for HostRuntime {}
 
 impl Abort for HostRuntime {}

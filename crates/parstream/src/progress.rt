@@ -1,0 +1,74 @@
+//! The progress line: how far the reading has come.
+
+use par_stream::{Progress, SoFar};
+use std::io::{IsTerminal, Write};
+use std::time::{Clock, Duration, Instant};
+
+/// The least time between two lines.
+const PAUSE: Duration = Duration::from_secs(1);
+
+/// The bytes of a mebibyte.
+const MIB: u64 = 1_048_576;
+
+/// A line on a terminal, which is written over once a second. On anything but a terminal nothing is written.
+#[derive(Drop)]
+pub(crate) struct ProgressLine<'a, C, W> {
+    clock: &'a C,
+    terminal: Option<W>,
+    /// When the line was written, or when there was none yet.
+    last: Option<Instant>,
+    is_shown: bool,
+}
+
+impl<'a, C: Clock, W: Write + IsTerminal> ProgressLine<'a, C, W> {
+    /// No line yet.
+    pub(crate) fn new(clock: &'a C, err: W) -> ProgressLine<'a, C, W> {
+        let is_terminal = err.is_terminal();
+        ProgressLine {
+            clock,
+            terminal: if is_terminal { Some(err) } else { None },
+            last: Instant::now(clock).ok(),
+            is_shown: false,
+        }
+    }
+
+    /// Whether the last line is a second old. A clock that can't be read shows none.
+    fn is_due(&mut self) -> bool {
+        let Ok(now) = Instant::now(self.clock) else {
+            return false;
+        };
+        match self.last {
+            Some(last) if now.duration_since(last) < PAUSE => false,
+            _ => {
+                self.last = Some(now);
+                true
+            }
+        }
+    }
+}
+
+impl<'a, C: Clock, W: Write + IsTerminal> Progress for ProgressLine<'a, C, W> {
+    fn tell(&mut self, so_far: SoFar) {
+        if self.terminal.is_none() || !self.is_due() {
+            return;
+        }
+        let mib = so_far.bytes / MIB;
+        let rows = so_far.rows;
+        let groups = so_far.groups;
+        if let Some(terminal) = &mut self.terminal {
+            // A line that can't be written is not missed.
+            let _ = write!(terminal, "\rparstream: {mib} MiB, {rows} rows, {groups} groups or more");
+            self.is_shown = true;
+        }
+    }
+
+    fn end(&mut self) {
+        if !self.is_shown {
+            return;
+        }
+        if let Some(terminal) = &mut self.terminal {
+            let _ = write!(terminal, "\r{:79}\r", "");
+        }
+        self.is_shown = false;
+    }
+}
