@@ -57,7 +57,10 @@ impl<'a, C: Clock, W: Write + IsTerminal> Progress for ProgressLine<'a, C, W> {
         let groups = so_far.groups;
         if let Some(terminal) = &mut self.terminal {
             // A line that can't be written is not missed.
-            let _ = write!(terminal, "\rparstream: {mib} MiB, {rows} rows, {groups} groups or more");
+            let _ = write!(
+                terminal,
+                "\rparstream: {mib} MiB, {rows} rows, {groups} groups or more"
+            );
             self.is_shown = true;
         }
     }

@@ -9,7 +9,7 @@ mod workers;
 
 use par_gather::{Gate, OpenGate, Ran, aggregate_alone, pargather};
 use par_io::{MemSink, MemSource};
-use par_stream::{WINDOW_BYTES, stream_table};
+use par_stream::{Untold, WINDOW_BYTES, stream_table};
 use std::alloc::{AllocError, Global};
 use std::process::Abort;
 use std::sync::Wait;
@@ -225,6 +225,7 @@ fn ask_stream<R: Threads + Wait + Sync>(
         &mut streams.out,
         &mut streams.err,
         WINDOW_BYTES,
+        &mut Untold,
     );
     Ok(Answered {
         status,
