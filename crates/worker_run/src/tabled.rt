@@ -76,7 +76,17 @@ fn give_lent<R: Wait>(
     let mut state = empty();
     for at in 0..groups.len() {
         groups.read_state(at, &mut state, slots);
-        if !give_group(rt, r, part, seat, tuples, &mut tuple, groups.key(at), &state, slots) {
+        if !give_group(
+            rt,
+            r,
+            part,
+            seat,
+            tuples,
+            &mut tuple,
+            groups.key(at),
+            &state,
+            slots,
+        ) {
             return false;
         }
     }

@@ -57,7 +57,9 @@ fn work_next<G: Gate, R: Wait>(
 {
     let slots = slots_of(job.plan);
     let Some(block) = job.draw(claim) else {
-        return Some(finish(rt, job.region, job.table, seat, errors, tuples, groups, slots));
+        return Some(finish(
+            rt, job.region, job.table, seat, errors, tuples, groups, slots,
+        ));
     };
     if let Err(why) = groups.add_block(job.rows, job.plan, block) {
         return Some(give_up(rt, job.region, errors, why));
