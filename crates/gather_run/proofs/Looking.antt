@@ -16,7 +16,7 @@ use Rattle.parallel_ctx.specs.Accounts.{Heard, heard, is_over}
 use Rattle.parallel_ctx.specs.Tokens.{SameQueues}
 use Rattle.parallel_ctx.specs.declared.tokens.LeaderEnds.{LeaderEnds}
 use Rattle.gather_run.specs.Leading.{IsKeeping, IsLeading, Led}
-use Rattle.gather_run.specs.Looks.{Hears, HearsEnd, HearsOut, IsOverQueue, NamedBy, Takes, tuples_of}
+use Rattle.gather_run.specs.Looks.{Hears, HearsEnd, HearsOut, IsOverQueue, NamedBy, StaysLeading, Takes, tuples_of}
 use Rattle.gather_run.specs.declared.messages.Hearing.{Hearing}
 use Rattle.gather_run.specs.declared.messages.Hearing.TheVariants as hearing
 use Rattle.gather_run.specs.BlockSteps.{BlockStep, Steps}

@@ -3,7 +3,7 @@ use Rattle.agg_table.specs.Shown.{use_in}
 use Rattle.scan_claim.specs.Shown.{blocks_of, draws_of}
 use Rattle.worker_run.proofs.Ends.{refused_row}
 use Rattle.gather_run.specs.Leading.{IsKeeping}
-use Rattle.gather_run.specs.Sharing.{StopsAt}
+use Rattle.gather_run.specs.Sharing.{SharesRest, StopsAt}
 use Rattle.gather_run.specs.Did.{Answers}
 use Rattle.gather_run.specs.BlockSteps.{BlockStep}
 use Rattle.gather_run.specs.declared.GatherAnswer.{GatherAnswer}
@@ -13,15 +13,17 @@ use Rattle.partial_agg.specs.declared.map.BlockAnswer.TheVariants as block
 use Rattle.row_blocks.proofs.BlockRows.{length-block}
 use Rattle.worker_run.proofs.First.{first_row}
 use Rattle.gather_run.proofs.Parts.{keeping-block, keeping-late, keeping-rest, keeping_accepted}
+use Rattle.gather_run.proofs.Shares.{where_ok}
 use Rattle.gather_run.proofs.leading.lead_block.Goals as goal
 
 pub returns-in_default-clause-step : goal.returns-in_default-clause-step
-returns-in_default-clause-step g c tuples k = (
-  keeping-rest c.args.job.now.plan.now c.args.job.now.rows.now (draws_of c.draw.new.claim) (use_in c.args.seat.now) (use_in c.share_rest.new.seat) tuples c.args.kept.now c.args.groups.now c.share_rest.new.groups
-      (keeping-late c.args.job.now.plan.now c.args.job.now.rows.now (blocks_of c.args.job.now.claims.now) (draws_of c.args.claim.now) (draws_of c.draw.new.claim) (use_in c.args.seat.now) tuples c.args.kept.now c.args.groups.now c.requires.job.blocks c.in_default.ensures.none k)
-      c.if-is_err.ensures.shared,
-  c.in_default.ensures.spent,
-)
+returns-in_default-clause-step g c tuples k =
+    let plan = c.args.job.now.plan.now in
+    let records = c.args.job.now.rows.now in
+    let used = use_in c.args.seat.now in
+    let shared = where_ok (SharesRest used (use_in c.share_rest.new.seat) c.args.kept.now c.args.groups.now c.share_rest.new.groups) c.share_rest.result c.if-is_err.ensures.negation c.share_rest.ensures.shared in
+    let late = keeping-late plan records (blocks_of c.args.job.now.claims.now) (draws_of c.args.claim.now) (draws_of c.draw.new.claim) used tuples c.args.kept.now c.args.groups.now c.requires.job.blocks c.in_default.ensures.none k in
+    (keeping-rest plan records (draws_of c.draw.new.claim) used (use_in c.share_rest.new.seat) tuples c.args.kept.now c.args.groups.now c.share_rest.new.groups late shared, c.in_default.ensures.spent)
 
 pub returns-clause-step : goal.returns-clause-step
 returns-clause-step g c tuples k =

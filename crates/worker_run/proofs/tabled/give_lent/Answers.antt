@@ -1,4 +1,4 @@
-use Rattle.std.proofs.Common.{rules, ◌≤◌, ◌<◌, ◌∙◌, ap, arith, drop, length, subst, take}
+use Rattle.std.proofs.Common.{rules, ◌≤◌, ◌<◌, ◌∙◌, ap, arith, drop, length, subst}
 use Rattle.std.proofs.lemmas.List.{drop-replicate, length-map, take_all}
 use Rattle.agg_table.specs.Shown.{use_of}
 use Rattle.agg_table.proofs.Seats.{grew_itself, grew_through}
