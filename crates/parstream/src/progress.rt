@@ -2,10 +2,10 @@
 
 use par_stream::{Progress, SoFar};
 use std::io::{IsTerminal, Write};
-use std::time::{Clock, Duration, Instant};
+use std::time::{Clock, Instant};
 
-/// The least time between two lines.
-const PAUSE: Duration = Duration::from_secs(1);
+/// The least time between two lines, in seconds.
+const PAUSE_SECONDS: u64 = 1;
 
 /// The bytes of a mebibyte.
 const MIB: u64 = 1_048_576;
@@ -38,7 +38,7 @@ impl<'a, C: Clock, W: Write + IsTerminal> ProgressLine<'a, C, W> {
             return false;
         };
         match self.last {
-            Some(last) if now.duration_since(last) < PAUSE => false,
+            Some(last) if now.duration_since(last).as_secs() < PAUSE_SECONDS => false,
             _ => {
                 self.last = Some(now);
                 true
