@@ -20,7 +20,7 @@ pub(crate) struct ProgressLine<'a, C, W> {
     is_shown: bool,
 }
 
-impl<'a, C: Clock, W: Write + IsTerminal> ProgressLine<'a, C, W> {
+impl<'a, C: Clock, W: Write + IsTerminal + Drop> ProgressLine<'a, C, W> {
     /// No line yet.
     pub(crate) fn new(clock: &'a C, err: W) -> ProgressLine<'a, C, W> {
         let is_terminal = err.is_terminal();
@@ -47,7 +47,7 @@ impl<'a, C: Clock, W: Write + IsTerminal> ProgressLine<'a, C, W> {
     }
 }
 
-impl<'a, C: Clock, W: Write + IsTerminal> Progress for ProgressLine<'a, C, W> {
+impl<'a, C: Clock, W: Write + IsTerminal + Drop> Progress for ProgressLine<'a, C, W> {
     fn tell(&mut self, so_far: SoFar) {
         if self.terminal.is_none() || !self.is_due() {
             return;
