@@ -1,7 +1,8 @@
-//! `uses_load KIND THREADS CALLS [SIZE]` makes one shared object and has threads call it at once.
+//! `uses_load KIND THREADS CALLS [SIZE]` makes one shared object and has threads call it at once; without words it does so
+//! for each line of its standard input, which has such words.
 //!
 //! It is what `bench/objects.py` times: it takes no time itself, and prints one line that no schedule changes, with
-//! what it was asked and how many of the calls went as they have to.
+//! what it was asked and how many of the calls went as they have to. Its stored run makes a small load of each kind.
 //!
 //! `words` reads what is asked; `lock`, `area`, `queue`, `table` (new keys) and `present` (keys that are there) are the
 //! loads; `counter` is what stands behind the lock, and `counts` adds up what the threads counted.
@@ -15,8 +16,6 @@ mod lock;
 mod present;
 mod queue;
 mod table;
-#[cfg(test)]
-mod tests;
 mod words;
 
 use crate::area::{area_load, window_load};
@@ -38,11 +37,11 @@ const WRONG_WORDS: u8 = 2;
 /// How the program is called.
 const USAGE: &str =
     "usage: uses_load lock|area|window|queue|flushed|puts|gets|sets THREADS CALLS [SIZE]
-each of 1 to 64 THREADS makes CALLS calls, up to 2^32; SIZE is 8 to 1000000: the bytes of a chunk (area, window) or of a
+without words it reads such words from each line of its standard input; each of 1 to 64 THREADS makes CALLS calls, up to 2^32; SIZE is 8 to 1000000: the bytes of a chunk (area, window) or of a
 message (queue, flushed, which take 2 threads), or the keys of the table (puts, gets, sets)";
 
-/// The words after the program's name. Where one is no UTF-8 there are none.
-fn given_words(rt: &HostRuntime) -> io::Result<Vec<String>> {
+/// The words after the program's name, or none where one is no UTF-8.
+fn given_words(rt: &HostRuntime) -> io::Result<Option<Vec<String>>> {
     let mut words = Vec::new(rt.alloc());
     match env::args(rt) {
         Ok(args) => {
@@ -50,10 +49,10 @@ fn given_words(rt: &HostRuntime) -> io::Result<Vec<String>> {
                 words.push(word)?;
             }
         }
-        Err(e) if e.kind() == ErrorKind::InvalidData => {}
+        Err(e) if e.kind() == ErrorKind::InvalidData => return Ok(None),
         Err(e) => return Err(e),
     }
-    Ok(words)
+    Ok(Some(words))
 }
 
 /// Makes the object, has it called, and tells what came of it.
@@ -105,9 +104,38 @@ fn line<R: Threads + Wait + Sync>(rt: &R, alloc: Global, load: Load) -> Result<S
     }
 }
 
+/// The words of a line, parted by spaces.
+fn words_of(alloc: Global, text: &str) -> Result<Vec<String>, AllocError> {
+    let mut words = Vec::new(alloc);
+    for word in text.split(' ') {
+        words.push(String::from_str(alloc, word)?)?;
+    }
+    Ok(words)
+}
+
+/// Makes the load that a line of words asks for, and tells what came of it.
+fn answer<R: Threads + Wait + Sync>(
+    rt: &R,
+    alloc: Global,
+    text: &str,
+) -> Result<String, AllocError> {
+    let words = words_of(alloc, text)?;
+    match load_of(words.as_slice()) {
+        Some(load) => line(rt, alloc, load),
+        None => format!(in alloc; "no load: {text}"),
+    }
+}
+
 fn main(rt: HostRuntime) -> anyhow::Result<ExitCode> {
     let words = given_words(&rt)?;
-    let Some(load) = load_of(words.as_slice()) else {
+    if words.as_ref().is_some_and(|words| words.is_empty()) {
+        for text in rt.lines(rt.alloc()) {
+            let answer = answer(&rt, rt.alloc(), text?.as_str())?;
+            println!(rt; "{answer}")?;
+        }
+        return Ok(ExitCode::SUCCESS);
+    }
+    let Some(load) = words.and_then(|words| load_of(words.as_slice())) else {
         eprintln!(rt; "{USAGE}")?;
         return Ok(ExitCode::from(WRONG_WORDS));
     };

@@ -31,6 +31,11 @@ impl HostRuntime {
     pub fn stderr(&self) -> std::io::Stderr {
         std::io::stderr()
     }
+
+    /// The lines of the standard input, without their ends.
+    pub fn lines(&self, _alloc: Global) -> impl Iterator<Item = std::io::Result<String>> {
+        std::io::stdin().lines()
+    }
 }
 
 impl Wait for HostRuntime {}
