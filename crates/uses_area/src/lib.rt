@@ -7,7 +7,9 @@
 
 #[cfg(test)]
 mod areas;
+#[cfg(test)]
 mod arena;
+#[cfg(test)]
 mod blocks;
 #[cfg(test)]
 mod objects;
@@ -16,4 +18,5 @@ mod runs;
 #[cfg(test)]
 mod tests;
 
+#[cfg(test)]
 pub use arena::{Arena, PAGES, WORDS};

@@ -7,25 +7,39 @@
 mod asks;
 #[cfg(test)]
 mod barriers;
+#[cfg(test)]
 mod counter;
+#[cfg(test)]
 mod crossing;
 mod drawer;
+#[cfg(test)]
 mod guarded;
+#[cfg(test)]
 mod numbered;
+#[cfg(test)]
 mod round;
 #[cfg(test)]
 mod tests;
 mod trade;
+#[cfg(test)]
 mod trades;
+#[cfg(test)]
 mod twice;
 
 pub use asks::{Answer, Ask, Call, DrawerName, Reply};
+#[cfg(test)]
 pub use counter::Counter;
+#[cfg(test)]
 pub use crossing::{Cabinet, CabinetPass, Lent, One, close_both, cross, end_two};
 pub use drawer::Drawer;
+#[cfg(test)]
 pub use guarded::{Guarded, Object, advance, called_by_two, called_once};
+#[cfg(test)]
 pub use numbered::{Numbered, Tag};
+#[cfg(test)]
 pub use round::{put_in, round_trip, take_out};
 pub use trade::Parts;
+#[cfg(test)]
 pub use trades::{Hand, for_three, party, three_parties};
+#[cfg(test)]
 pub use twice::{added_by_two, closed_by_two};

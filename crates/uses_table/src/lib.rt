@@ -4,6 +4,7 @@
 
 #![tactic(auto)]
 
+#[cfg(test)]
 mod cache;
 #[cfg(test)]
 mod doubling;
@@ -21,5 +22,6 @@ mod states;
 mod tests;
 mod text;
 
+#[cfg(test)]
 pub use cache::{forget, keep, own_name, recall, remember};
 pub use text::{Text, TextCall};
