@@ -108,44 +108,6 @@ fn table(alloc: Global, words: &str, input: &str) -> Option<Vec<u8>> {
     text_over(alloc, &plan, &store)
 }
 
-/// The bytes of some pieces.
-fn bytes_of(alloc: Global, pieces: &[Vec<u8>]) -> Option<Vec<u8>> {
-    let mut text = Vec::new(alloc);
-    for piece in pieces {
-        text.extend_from_slice(piece.as_slice()).ok()?;
-    }
-    Some(text)
-}
-
-/// The pieces of the text of the table of a plan over any number of rows, by this many threads.
-fn pieces_over<R: Threads + Sync>(
-    rt: &R,
-    alloc: Global,
-    plan: &Plan,
-    store: &RowStore,
-    threads: usize,
-) -> Option<Vec<Vec<u8>>> {
-    let bound = plan.bind(store).ok()?;
-    if store.count() == 0 || !reads_below(&bound, store.width(0)) {
-        return None;
-    }
-    let map = all_groups(alloc, store, &bound).ok()?;
-    answer_in_threads(rt, alloc, plan, &bound, store, map, threads).ok()
-}
-
-/// The text of the counts of all names over any number of rows, by this many threads.
-fn table_in_threads<R: Threads + Sync>(
-    rt: &R,
-    alloc: Global,
-    input: &[u8],
-    threads: usize,
-) -> Option<Vec<u8>> {
-    let store = rows(alloc, input).ok()?;
-    let plan = plan_of(alloc, "--group k --agg count,sum:v")?;
-    let pieces = pieces_over(rt, alloc, &plan, &store, threads)?;
-    bytes_of(alloc, pieces.as_slice())
-}
-
 fn owned(alloc: Global, words: &str) -> Result<Vec<String>, AllocError> {
     let mut list = Vec::new(alloc);
     for word in words.split(' ') {
@@ -223,64 +185,6 @@ fn tables(rt: HostRuntime) -> Result<(), Fail> {
     for (words, input, want) in TABLES {
         let text = table(rt.alloc(), words, input).ok_or("no table")?;
         assert!(rt; text.as_slice() == want.as_bytes(), "{words}");
-    }
-    Ok(())
-}
-
-/// Rows of this many groups of one row each, whose names have one length, or several.
-fn many_rows(alloc: Global, count: u32, several: bool) -> Result<Vec<u8>, AllocError> {
-    let mut text = Vec::from_slice(alloc, b"k,v\n")?;
-    for number in 0..count {
-        let name = number % 100_000 * 7919 % 100_003;
-        for power in [100_000, 10_000, 1000, 100, 10, 1] {
-            text.push(b'0' + (name / power % 10) as u8)?;
-        }
-        if several {
-            for _ in 0..number % 4 {
-                text.push(b'-')?;
-            }
-        }
-        text.extend_from_slice(b",3\n")?;
-    }
-    Ok(text)
-}
-
-/// Whether a text has a line of a header and this many lines whose first six bytes rise.
-fn rises(text: &[u8], count: usize) -> bool {
-    let mut lines: usize = 0;
-    let mut last: &[u8] = b"";
-    for line in text.split(|byte| *byte == b'\n') {
-        if lines > 0 && lines <= count {
-            let name = &line[..line.len().min(6)];
-            if name <= last {
-                return false;
-            }
-            last = name;
-        }
-        lines = lines.saturating_add(1);
-    }
-    lines == count.saturating_add(2)
-}
-
-/// Whether the pieces of three threads are the text of one, with so many groups.
-fn are_one_text<R: Threads + Sync>(
-    rt: &R,
-    alloc: Global,
-    input: &[u8],
-    groups: usize,
-) -> Option<bool> {
-    let text = table_in_threads(rt, alloc, input, 1)?;
-    let other = table_in_threads(rt, alloc, input, 3)?;
-    Some(text == other && rises(text.as_slice(), groups))
-}
-
-/// Whether the columns have one length or not.
-#[test]
-fn texts_of_threads(rt: HostRuntime) -> Result<(), Fail> {
-    for several in [false, true] {
-        let input = many_rows(rt.alloc(), 6200, several)?;
-        let is_one = are_one_text(&rt, rt.alloc(), input.as_slice(), 6200).ok_or("no table")?;
-        assert!(rt; is_one);
     }
     Ok(())
 }

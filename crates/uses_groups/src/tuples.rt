@@ -1,9 +1,9 @@
 //! What no clause says: that the calls succeed, and the format as it is written out by hand.
 
 use par_model::{AggState, SlotState};
-use partial_agg::{GroupKey, empty};
+use partial_agg::GroupKey;
 use std::test::Fail;
-use tuple_codec::{Tuple, TupleRead, decode, decode_into, encode, encode_into};
+use tuple_codec::{Tuple, TupleRead, decode, encode};
 
 /// The group of the empty key, with no rows and no slots.
 const NOTHING: [u8; 13] = [0; 13];
@@ -36,17 +36,6 @@ fn shapes_that_are_refused(rt: HostRuntime) -> Result<(), Fail> {
     assert!(rt; why(&bytes) == Some(TupleRead::Range { at: 12 }));
     bytes[12] = 1;
     assert!(rt; why(&bytes) == Some(TupleRead::Short { at: 13 }));
-    Ok(())
-}
-
-#[test]
-fn the_empty_group(rt: HostRuntime) -> Result<(), Fail> {
-    let (key, state) = decode(&NOTHING)?;
-    assert_eq!(rt; key.bytes().len(), 0);
-    assert!(rt; state == empty());
-    let tuple = encode(&key, &empty(), 0);
-    assert_eq!(rt; tuple.len, 13);
-    assert!(rt; tuple.bytes[..13] == NOTHING[..]);
     Ok(())
 }
 
@@ -97,22 +86,5 @@ fn there_and_back(rt: HostRuntime) -> Result<(), Fail> {
     assert!(rt; is_written(&tuple));
     let (back, same) = decode(&tuple.bytes[..58])?;
     assert!(rt; back.bytes() == KEY && same == STATE);
-    Ok(())
-}
-
-/// A tuple and a state that were used are written over, and a state stays where the bytes are no tuple.
-#[test]
-fn over_what_was_used(rt: HostRuntime) -> Result<(), Fail> {
-    let mut tuple = Tuple::new();
-    encode_into(&mut tuple, b"another key", &empty(), 0);
-    encode_into(&mut tuple, KEY, &STATE, 1);
-    let key = GroupKey::of(KEY).ok_or("a short key")?;
-    let same = encode(&key, &STATE, 1);
-    assert!(rt; tuple.len == 58 && tuple.bytes[..58] == same.bytes[..58]);
-    let mut read = empty();
-    assert!(rt; decode_into(&tuple.bytes[..58], &mut read)? == KEY);
-    assert!(rt; read == STATE);
-    assert!(rt; decode_into(&tuple.bytes[..57], &mut read).is_err());
-    assert!(rt; read == STATE);
     Ok(())
 }

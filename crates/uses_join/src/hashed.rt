@@ -98,48 +98,6 @@ fn a_few_rows(rt: HostRuntime) -> Result<(), Fail> {
     )
 }
 
-#[test]
-fn quoted_fields(rt: HostRuntime) -> Result<(), Fail> {
-    check(
-        &rt,
-        rt.alloc(),
-        b"k\n\"a,b\"\n\"\"\nc\n\"c\"\n",
-        b"v,k\n1,\"a,b\"\n2,c\n3,\"\"\n",
-        (0, 1),
-        &[(1, 1), (3, 2), (4, 2)],
-    )
-}
-
-#[test]
-fn any_number_of_workers(rt: HostRuntime) -> Result<(), Fail> {
-    let left = b"k,a\nx,1\ny,2\n,3\nx,4\nz,5\ny,6\nx,7\n";
-    let right = b"k,b\ny,1\nx,2\nw,3\n,4\nx,5\n";
-    let pairs = [
-        (1, 2),
-        (1, 5),
-        (2, 1),
-        (4, 2),
-        (4, 5),
-        (6, 1),
-        (7, 2),
-        (7, 5),
-    ];
-    for workers in [0, 1, 3, 64] {
-        check_with(&rt, rt.alloc(), left, right, (0, 0), &pairs, workers)?;
-    }
-    Ok(())
-}
-
-/// A header and a row of one field, of this many bytes.
-fn long_field(alloc: Global, bytes: u64) -> Result<Vec<u8>, AllocError> {
-    let mut text = Vec::from_slice(alloc, b"id\n")?;
-    for _ in 0..bytes {
-        text.push(b'k')?;
-    }
-    text.push(b'\n')?;
-    Ok(text)
-}
-
 /// Why there is no join of two texts on their first columns, or else how many pairs there are.
 fn counted<R: Threads + Wait + Sync>(
     rt: &R,
@@ -152,56 +110,6 @@ fn counted<R: Threads + Wait + Sync>(
         Ok(joined) => Ok(Ok(joined.pairs.len())),
         Err(why) => Ok(Err(why)),
     }
-}
-
-/// A refused row of the right table, or of the left one.
-fn row(right: bool, row: u64, cause: u8) -> JoinAnswer {
-    JoinAnswer::Row { right, row, cause }
-}
-
-#[test]
-fn refused_rows(rt: HostRuntime) -> Result<(), Fail> {
-    let short = long_field(rt.alloc(), 248)?;
-    let long = long_field(rt.alloc(), 249)?;
-    let table: [(&[u8], &[u8], JoinAnswer); 3] = [
-        (&short, &long, row(true, 1, 2)),
-        (b"a,b\n1,2\n1\n", &long, row(false, 2, 1)),
-        (&short, b"a\n1\n2\n1,2\n", row(true, 3, 1)),
-    ];
-    for (left, right, why) in table {
-        assert!(rt; counted(&rt, rt.alloc(), left, right, 1)? == Err(why));
-    }
-    check(&rt, rt.alloc(), &short, &short, (0, 0), &[(1, 1)])
-}
-
-/// This many rows, whose keys come again after 300 rows.
-fn keyed(alloc: Global, count: u64) -> Result<Vec<u8>, AllocError> {
-    let mut text = Vec::from_slice(alloc, b"k\n")?;
-    for row in 1..=count {
-        let key = row % 300;
-        let line = [
-            b'a' + (key / 26 / 26) as u8,
-            b'a' + (key / 26 % 26) as u8,
-            b'a' + (key % 26) as u8,
-            b'\n',
-        ];
-        text.extend_from_slice(&line)?;
-    }
-    Ok(text)
-}
-
-/// 300 keys in 600 left rows and 300 right rows: more blocks than one, and partitions with more keys than they had
-/// buckets at first.
-#[test]
-fn several_blocks(rt: HostRuntime) -> Result<(), Fail> {
-    let left = keyed(rt.alloc(), 600)?;
-    let right = keyed(rt.alloc(), 300)?;
-    let mut pairs = [(0, 0); 600];
-    for at in 0..600 {
-        let row = at as u64;
-        pairs[at] = (row + 1, row % 300 + 1);
-    }
-    check(&rt, rt.alloc(), &left, &right, (0, 0), &pairs)
 }
 
 /// A header, rows with one field, and then rows with another.

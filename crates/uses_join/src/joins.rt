@@ -1,6 +1,5 @@
 //! Worked rows: words, bytes and failing calls, and what the call answers.
 
-use crate::join_words::owned;
 use join_query::{MISUSED, TABLE, join_tables};
 use par_io::{MemSink, MemSource};
 use std::alloc::{AllocError, Global};
@@ -13,6 +12,15 @@ const USAGE: &str = "pargather: usage: pargather join COLUMN N\n";
 const TWO: &str = "id,a\n1,x\n2,y\n1,z\n,q\n%\nid,b\n1,p\n3,r\n,s\n1,t\n";
 
 const JOINED: &str = "id,a,id,b\n1,x,1,p\n1,x,1,t\n1,z,1,p\n1,z,1,t\n";
+
+/// Words that stand between spaces.
+fn owned(alloc: Global, words: &str) -> Result<Vec<String>, AllocError> {
+    let mut list = Vec::new(alloc);
+    for word in words.split(' ') {
+        list.push(String::from_str(alloc, word)?)?;
+    }
+    Ok(list)
+}
 
 /// A run over a source that gives 7 bytes a call and sinks that take 5, with the numbers of the calls that fail. The
 /// words stand between spaces.
@@ -284,15 +292,6 @@ fn with_keys(alloc: Global, left: u64, right: u64) -> Result<Vec<u8>, AllocError
     }
     text.push(b'\n')?;
     Ok(text)
-}
-
-#[test]
-fn longest_keys(rt: HostRuntime) -> Result<(), Fail> {
-    let text = with_keys(rt.alloc(), 248, 248)?;
-    let answer = Run::over("join id 1", &text).answer(&rt, rt.alloc())?;
-    assert_eq!(rt; answer.status, TABLE);
-    assert_eq!(rt; answer.out.written().len(), 6 + 248 + 1 + 248 + 1);
-    Ok(())
 }
 
 #[test]

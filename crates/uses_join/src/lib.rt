@@ -5,8 +5,6 @@
 #[cfg(test)]
 mod hashed;
 #[cfg(test)]
-mod join_words;
-#[cfg(test)]
 mod joins;
 #[cfg(test)]
 mod pairs;

@@ -9,10 +9,9 @@ ghost use Rattle.row_blocks.specs.Blocks.{numbers_of};
 use csv_rows::{RowStore, rows};
 use dshash_core::CellObject;
 use join_pairs::{
-    Chains, LONGEST_KEY, LastRow, NoPairs, Pairs, Refused, cells_are_chains, chain_all, find_pairs,
-    first_refused, pairs_are_join,
+    Chains, LastRow, NoPairs, Pairs, cells_are_chains, chain_all, find_pairs, first_refused,
+    pairs_are_join,
 };
-use row_blocks::count_blocks;
 use std::alloc::{AllocError, Global};
 use std::sync::Wait;
 use std::test::Fail;
@@ -52,7 +51,7 @@ fn chains_alone(alloc: Global, rows: &RowStore, column: u32) -> Result<Chains, A
 }
 
 /// The pairs of two tables, without a shared one.
-pub(crate) fn pairs_alone<R: Threads + Wait + Sync>(
+fn pairs_alone<R: Threads + Wait + Sync>(
     rt: &R,
     alloc: Global,
     left: &RowStore,
@@ -135,47 +134,6 @@ fn a_few_rows(rt: HostRuntime) -> Result<(), Fail> {
         b"id,b\n1,p\n3,r\n,s\n1,t\n",
         &[(1, 1), (1, 4), (3, 1), (3, 4)],
     )
-}
-
-/// The row of a text that is refused on its first column.
-fn refused(alloc: Global, text: &[u8]) -> Result<Option<Refused>, Fail> {
-    let store = stored(alloc, text)?;
-    if store.width(0) == 0 {
-        return Err(Fail::new("no column"));
-    }
-    Ok(first_refused(&store, 0))
-}
-
-/// A header and a row of one field, of this many bytes.
-fn long_field(alloc: Global, bytes: usize) -> Result<Vec<u8>, AllocError> {
-    let mut text = Vec::from_slice(alloc, b"id\n")?;
-    for _ in 0..bytes {
-        text.push(b'k')?;
-    }
-    text.push(b'\n')?;
-    Ok(text)
-}
-
-#[test]
-fn refused_rows(rt: HostRuntime) -> Result<(), Fail> {
-    let short = long_field(rt.alloc(), LONGEST_KEY)?;
-    let long = long_field(rt.alloc(), LONGEST_KEY + 1)?;
-    let table: [(&[u8], Option<Refused>); 3] = [
-        (&short, None),
-        (&long, Some(Refused { row: 1, cause: 2 })),
-        (b"a,b\n1,2\n1\n3,4,5\n", Some(Refused { row: 2, cause: 1 })),
-    ];
-    for (text, wanted) in table {
-        assert!(rt; refused(rt.alloc(), text)? == wanted);
-    }
-    Ok(())
-}
-
-#[test]
-fn one_block(rt: HostRuntime) -> Result<(), Fail> {
-    let store = stored(rt.alloc(), b"a\n1\n2\n")?;
-    assert!(rt; count_blocks(&store) == 1);
-    Ok(())
 }
 
 /// What a call is answered by the cell whose state stands in the words; the state that it leaves is written there.

@@ -1,4 +1,5 @@
-//! Runs over a few rows, which show what no clause says: that the calls succeed, and that threads run at once.
+//! Runs over a few rows, which show what no clause says: that the calls succeed, and that a refused row stops
+//! all.
 
 ghost use Rattle.std.specs.Prelude.{◌≤◌, IfOk};
 ghost use Rattle.par_model.specs.Columns.{HasColumns};
@@ -16,16 +17,6 @@ use std::sync::Wait;
 use std::test::Fail;
 use std::thread::Threads;
 use worker_run::{Gate, OpenGate, WorkerEnd};
-
-/// Rows of one field under the header `n`: row i has i modulo 7.
-fn sevens(alloc: Global, count: u64) -> Result<Vec<u8>, AllocError> {
-    let mut text = Vec::from_slice(alloc, b"n\n")?;
-    for row in 1..=count {
-        text.push(b'0' + (row % 7) as u8)?;
-        text.push(b'\n')?;
-    }
-    Ok(text)
-}
 
 /// The rows of a text whose header has two columns, and the plan that orders them by these: by the second and then the
 /// first, or by the first alone.
@@ -134,38 +125,6 @@ fn by_one_column_and_by_two(rt: HostRuntime) -> Result<(), Fail> {
             }
         }
     }
-    Ok(())
-}
-
-/// The numbers of these rows by their digits: those with the digit 0 come first, each digit's in order of their numbers.
-fn by_digits(alloc: Global, count: u64) -> Result<Vec<u64>, AllocError> {
-    let mut list = Vec::new(alloc);
-    for digit in 0..7 {
-        for row in 1..=count {
-            if row % 7 == digit {
-                list.push(row)?;
-            }
-        }
-    }
-    Ok(list)
-}
-
-/// The place of each row of 2,000 is known.
-#[test]
-fn two_thousand_rows(rt: HostRuntime) -> Result<(), Fail> {
-    let text = sevens(rt.alloc(), 2_000)?;
-    let list = by_digits(rt.alloc(), 2_000)?;
-    for workers in [0, 1, 3] {
-        if workers <= 64 {
-            assert!(rt; are_ordered(&rt, rt.alloc(), &text, 1, false, workers, &list)?);
-        }
-    }
-    Ok(())
-}
-
-#[test]
-fn no_rows(rt: HostRuntime) -> Result<(), Fail> {
-    assert!(rt; are_ordered(&rt, rt.alloc(), b"n\n", 1, false, 3, &[])?);
     Ok(())
 }
 

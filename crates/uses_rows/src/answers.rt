@@ -1,8 +1,8 @@
-//! Each call once: bytes that wait and then go on together, records as the crate `csv` writes them, and the line.
+//! Bytes that wait and then go on together, and records as the crate `csv` writes them.
 
 use csv_rows::{RowStore, rows};
 use par_io::MemSink;
-use query_answer::{Held, put_fields, put_record, write_pieces};
+use query_answer::{Held, put_record};
 use std::alloc::Global;
 use std::test::Fail;
 
@@ -46,26 +46,5 @@ fn records(rt: HostRuntime) -> Result<(), Fail> {
         held.pass_on(&mut out);
         assert_eq!(rt; out.written(), written);
     }
-    Ok(())
-}
-
-/// The fields of a record alone, which leave the end to the caller.
-#[test]
-fn fields(rt: HostRuntime) -> Result<(), Fail> {
-    let store = stored(rt.alloc(), b"a,\"b\n\",\n")?;
-    let mut out = MemSink::new(rt.alloc(), 5, 100, Vec::new(rt.alloc()))?;
-    let mut held = Held::new(rt.alloc())?;
-    let _rows = store.count();
-    put_fields(&mut held, &mut out, &store.find(0));
-    held.pass_on(&mut out);
-    assert_eq!(rt; out.written(), b"a,\"b\n\",".as_slice());
-    Ok(())
-}
-
-#[test]
-fn a_line_of_pieces(rt: HostRuntime) -> Result<(), Fail> {
-    let mut err = MemSink::new(rt.alloc(), 5, 100, Vec::new(rt.alloc()))?;
-    assert!(rt; write_pieces(&mut err, &["pargather: ", "read fault", "\n"]).is_ok());
-    assert_eq!(rt; err.written(), b"pargather: read fault\n".as_slice());
     Ok(())
 }

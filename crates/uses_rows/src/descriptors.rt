@@ -182,35 +182,6 @@ fn a_plan_reads_back(rt: HostRuntime) -> Result<(), Fail> {
 }
 
 #[test]
-fn words_are_read(rt: HostRuntime) -> Result<(), Fail> {
-    let table: [(usize, u64, Option<u64>); 16] = [
-        (31, 0, None),
-        (0, 1, None),
-        (0, 3, Some(0)),
-        (1, 9, Some(1)),
-        (1, 1, Some(5)),
-        (2, 0, Some(2)),
-        (2, 2, Some(16)),
-        (3, 2, Some(3)),
-        (6, 1, Some(6)),
-        (12, 6, Some(12)),
-        (15, 1, Some(15)),
-        (17, 1 << 32, Some(17)),
-        (28, 7, Some(28)),
-        (28, 0, Some(29)),
-        (29, 1 << 32, Some(29)),
-        (31, 1, Some(31)),
-    ];
-    for (place, word, want) in table {
-        let mut words = WORDS;
-        *words.get_mut(place).expect(&rt, "a place") = word;
-        let read = read_words(rt.alloc(), &words)?;
-        assert_eq!(rt; read.err().map(|bad| bad.at), want);
-    }
-    Ok(())
-}
-
-#[test]
 fn both_versions_are_read(rt: HostRuntime) -> Result<(), Fail> {
     for version in [1, 2] {
         let mut words = WORDS;

@@ -3,7 +3,7 @@
 
 ghost use Rattle.std.specs.Prelude.{◌≡◌, IfOk, Some, slice_get};
 
-use key_index::{KeyTable, hash_of};
+use key_index::KeyTable;
 use std::alloc::{AllocError, Global};
 use std::test::Fail;
 
@@ -19,15 +19,6 @@ fn place_of(keys: &mut KeyTable, alloc: Global, key: &[u8]) -> Result<usize, All
             Ok(place)
         }
     }
-}
-
-/// The keys `pear`, the empty one, `fig` and `pear\0`, in these places.
-fn four_keys(alloc: Global) -> Result<KeyTable, AllocError> {
-    let mut keys = KeyTable::new(alloc);
-    for key in [b"pear".as_slice(), b"", b"fig", b"pear\0"] {
-        keys.push(alloc, key)?;
-    }
-    Ok(keys)
 }
 
 /// Keys, and the places that they come to one after the other.
@@ -54,65 +45,6 @@ fn come_to_places(keys: &mut KeyTable, alloc: Global) -> Result<bool, AllocError
 fn places_of_keys(rt: HostRuntime) -> Result<(), Fail> {
     let mut keys = KeyTable::new(rt.alloc());
     assert!(rt; come_to_places(&mut keys, rt.alloc())?);
-    Ok(())
-}
-
-#[test]
-fn places_in_order_of_keys(rt: HostRuntime) -> Result<(), Fail> {
-    let keys = four_keys(rt.alloc())?;
-    let mut places = Vec::from_slice(rt.alloc(), &[0, 1, 2, 3])?;
-    keys.sort(&mut places);
-    let sorted: [usize; 4] = [1, 2, 0, 3];
-    assert!(rt; places.as_slice() == sorted.as_slice());
-    Ok(())
-}
-
-/// Whether a key comes to the first place of a table that is cleared, and no former key is left.
-fn is_cleared(keys: &mut KeyTable, alloc: Global) -> Result<bool, AllocError> {
-    keys.clear();
-    Ok(
-        keys.find(b"pear").is_none()
-            && place_of(keys, alloc, b"fig")? == 0
-            && keys.find(b"fig") == Some(0),
-    )
-}
-
-#[test]
-fn a_cleared_table(rt: HostRuntime) -> Result<(), Fail> {
-    let mut keys = four_keys(rt.alloc())?;
-    assert!(rt; is_cleared(&mut keys, rt.alloc())?);
-    Ok(())
-}
-
-/// A key, its last byte, and its place in [`four_keys`].
-const GUESSES: [(&[u8], u8, Option<usize>); 4] = [
-    (b"pear", b'r', Some(0)),
-    (b"fig", b'g', Some(2)),
-    (b"", 0, Some(1)),
-    (b"plum", b'm', None),
-];
-
-/// Whether a guess at a key is its place, and a wrong guess finds the same.
-fn is_found(keys: &KeyTable, key: &[u8], last: u8, place: Option<usize>) -> bool {
-    let mut guess = [7];
-    keys.guess(&[hash_of(key)], &[last], &mut guess);
-    if !key.is_empty() && guess[0] != place.unwrap_or(usize::MAX) {
-        return false;
-    }
-    for at in [guess[0], 0, 1, 2, 9] {
-        if keys.find_at(at, key) != place {
-            return false;
-        }
-    }
-    true
-}
-
-#[test]
-fn guessed_places(rt: HostRuntime) -> Result<(), Fail> {
-    let keys = four_keys(rt.alloc())?;
-    for (key, last, place) in GUESSES {
-        assert!(rt; is_found(&keys, key, last, place), "{key:?}");
-    }
     Ok(())
 }
 

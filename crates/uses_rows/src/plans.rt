@@ -114,15 +114,6 @@ fn merges(rt: HostRuntime) -> Result<(), Fail> {
     Ok(())
 }
 
-/// The plan of these words.
-fn plan_of(alloc: Global, words: &str) -> Result<Plan, Fail> {
-    let list = owned(alloc, words)?;
-    match Plan::of_words(alloc, list.as_slice()) {
-        Ok(plan) => Ok(plan),
-        Err(_) => Err(Fail::new("no plan")),
-    }
-}
-
 /// A header in which one name stands twice.
 fn header(alloc: Global) -> Result<RowStore, Fail> {
     match rows(alloc, b"g,v,g\n") {
@@ -134,17 +125,6 @@ fn header(alloc: Global) -> Result<RowStore, Fail> {
 /// Words with a group, an aggregate with a column and one without, and a filter.
 const WORDS: &str = "--group g --agg count,sum:v --where v<2 --workers 7";
 
-#[test]
-fn names_and_numbers(rt: HostRuntime) -> Result<(), Fail> {
-    let plan = plan_of(rt.alloc(), WORDS)?;
-    assert!(rt; plan.workers() == 7 && plan.area_pages() == 2048);
-    for (at, name) in [(0, None), (1, Some("v")), (2, None)] {
-        assert!(rt; plan.item_name(at) == name, "{at}");
-    }
-    assert!(rt; plan.filter_name() == Some("v"));
-    Ok(())
-}
-
 /// A plan bound to a header.
 #[test]
 fn binds(rt: HostRuntime) -> Result<(), Fail> {
@@ -153,19 +133,5 @@ fn binds(rt: HostRuntime) -> Result<(), Fail> {
     let bound = bound_words(rt.alloc(), list.as_slice(), &store).ok_or("no plan")?;
     assert!(rt; bound.groups[0] == 0 && bound.items[1].column == 1 && bound.item_count == 2);
     assert!(rt; bound.filter.is_some() && !bound.hash);
-    Ok(())
-}
-
-/// A plan with names that the header lacks: the first of them is found.
-#[test]
-fn a_missing_name(rt: HostRuntime) -> Result<(), Fail> {
-    let store = header(rt.alloc())?;
-    let plan = plan_of(rt.alloc(), "--group g --agg sum:v,max:w --where u=1")?;
-    match plan.bind(&store) {
-        Ok(_bound) => assert!(rt; false),
-        Err(missing) => {
-            assert!(rt; missing.at == 2 && plan.name(missing.at) == "w");
-        }
-    }
     Ok(())
 }

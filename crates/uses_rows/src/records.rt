@@ -129,13 +129,6 @@ fn odd_text(rt: HostRuntime) -> Result<(), Fail> {
     Ok(())
 }
 
-#[test]
-fn no_text(rt: HostRuntime) {
-    for text in [b"".as_slice(), b"\n\r\n", b"\xEF\xBB\xBF", b"\r\r"] {
-        assert!(rt; rows(rt.alloc(), text).is_err(), "{text:?}");
-    }
-}
-
 /// Whether a text is read by two threads as by one where it stands in the middle of [`LINES`] lines, of which this is one
 /// half.
 fn reads_alike<R: Threads + Sync>(
@@ -185,38 +178,6 @@ fn odd_cuts(rt: HostRuntime) -> Result<(), Fail> {
             reads_alike(&rt, rt.alloc(), half.as_slice(), text)?,
             "{text:?}"
         );
-    }
-    Ok(())
-}
-
-/// Whether this row is the last of a store, and has two fields, of which this is the second.
-fn ends_in(store: &RowStore, row: u64, field: &[u8]) -> bool {
-    if store.count() != row {
-        return false;
-    }
-    let record = store.find(row);
-    store.width(row) == 2 && record.width() == 2 && record.field(1) == field
-}
-
-/// A table that is long enough for four threads.
-#[test]
-fn long_table(rt: HostRuntime) -> Result<(), Fail> {
-    let text = repeated(rt.alloc(), b"12,\"3\n4\"\n", 40_000, b"")?;
-    match rows_in_threads(&rt, rt.alloc(), text.as_slice(), 4) {
-        Ok(store) => assert!(rt; ends_in(&store, 39_999, b"3\n4")),
-        Err(why) => assert!(rt; false, "{why:?}"),
-    }
-    Ok(())
-}
-
-/// A longer table of one width, and then one row of another.
-#[test]
-fn even_table(rt: HostRuntime) -> Result<(), Fail> {
-    for (line, record) in [(b"".as_slice(), b"".as_slice()), (b"4\n", b"4|/")] {
-        let text = repeated(rt.alloc(), b"12,3\n", 300, line)?;
-        let want = repeated(rt.alloc(), b"12|3|/", 300, record)?;
-        let found = shown_text(rt.alloc(), text.as_slice())?;
-        assert!(rt; found == want);
     }
     Ok(())
 }

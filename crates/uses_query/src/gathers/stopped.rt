@@ -164,8 +164,8 @@ fn is_stopped<R: Threads + Wait + Sync>(
 
 #[test]
 fn a_worker_is_stopped(rt: HostRuntime) -> Result<(), Fail> {
-    let text = table(rt.alloc(), 3, 2, 0)?;
-    let (rows, plan) = query(rt.alloc(), &text, false)?;
+    let text = table(rt.alloc(), 3, 2)?;
+    let (rows, plan) = query(rt.alloc(), &text)?;
     assert!(rt; is_stopped(&rt, rt.alloc(), &rows, &plan)?);
     Ok(())
 }
