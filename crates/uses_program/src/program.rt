@@ -105,12 +105,41 @@ fn sink(alloc: Global, room: usize, failing: &[u64]) -> Result<MemSink, AllocErr
     MemSink::new(alloc, 5, room, Vec::from_slice(alloc, failing)?)
 }
 
+/// What is said of a run, in numbers.
+#[derive(Clone, Copy, PartialEq)]
+enum Said {
+    Nothing,
+    Gathered { launched: u32, groups: usize },
+    Merged { launched: u32, rows: usize },
+    Joined { passes: usize, pairs: usize },
+}
+
+impl Said {
+    fn of(ran: &Option<Ran>) -> Said {
+        match ran {
+            Some(Ran::Gather(gathered)) => Said::Gathered {
+                launched: gathered.finished.launched,
+                groups: gathered.groups.len(),
+            },
+            Some(Ran::Merge(merged)) => Said::Merged {
+                launched: merged.finished.launched,
+                rows: merged.order.len(),
+            },
+            Some(Ran::Join(joined)) => Said::Joined {
+                passes: joined.areas.len(),
+                pairs: joined.pairs.len(),
+            },
+            None => Said::Nothing,
+        }
+    }
+}
+
 /// The status, the streams after the call, and what is said of the run.
 #[derive(Drop)]
 struct Answered {
     status: u8,
     streams: Streams,
-    ran: Option<Ran>,
+    said: Said,
 }
 
 impl Answered {
@@ -155,7 +184,7 @@ fn words_of(alloc: Global, text: &str) -> Result<Vec<String>, AllocError> {
     Ok(words)
 }
 
-/// What `pargather` answers.
+/// What `pargather` answers. What the run brings home is looked at here alone.
 fn ask<G: Gate + Sync, R: Threads + Wait + Sync>(
     rt: &R,
     alloc: Global,
@@ -177,10 +206,11 @@ fn ask<G: Gate + Sync, R: Threads + Wait + Sync>(
         gate,
         &mut ran,
     );
+    let said = Said::of(&ran);
     Ok(Answered {
         status,
         streams,
-        ran,
+        said,
     })
 }
 
@@ -203,7 +233,7 @@ fn ask_alone(
     Ok(Answered {
         status,
         streams,
-        ran: None,
+        said: Said::Nothing,
     })
 }
 
@@ -230,7 +260,7 @@ fn ask_stream<R: Threads + Wait + Sync>(
     Ok(Answered {
         status,
         streams,
-        ran: None,
+        said: Said::Nothing,
     })
 }
 

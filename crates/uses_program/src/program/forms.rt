@@ -2,9 +2,9 @@
 //! no plan. More rows of joins stand in `joins`, and of generated rows in `generated`.
 
 use super::{
-    Answered, Call, Failing, LETTERS, NO_FAULTS, Pieces, USAGE, Wanted, ask, bytes_of, check,
+    Answered, Call, Failing, LETTERS, NO_FAULTS, Pieces, Said, USAGE, Wanted, ask, bytes_of, check,
 };
-use par_gather::{OpenGate, Ran};
+use par_gather::OpenGate;
 use std::alloc::{AllocError, Global};
 use std::process::Abort;
 use std::sync::Wait;
@@ -229,7 +229,7 @@ fn ask_over<R: Threads + Wait + Sync>(
     ask(rt, alloc, words, input, NO_FAULTS, &OpenGate)
 }
 
-/// How many of the 2,000 rows were put in order, by what `ran` has, if this was written.
+/// How many of the 2,000 rows were put in order, by what is said of the run, if this was written.
 fn merged_rows<R: Abort + Threads + Wait + Sync>(
     rt: &R,
     alloc: Global,
@@ -238,8 +238,8 @@ fn merged_rows<R: Abort + Threads + Wait + Sync>(
 ) -> Result<Option<usize>, AllocError> {
     let answer = ask_over(rt, alloc, words, SEVENS)?;
     check(rt, words, &answer, Wanted::of(0, sorted, b""));
-    match &answer.ran {
-        Some(Ran::Merge(merged)) => Ok(Some(merged.order.len())),
+    match answer.said {
+        Said::Merged { rows, .. } => Ok(Some(rows)),
         _ => Ok(None),
     }
 }
@@ -254,50 +254,31 @@ fn two_thousand_rows(rt: HostRuntime) -> Result<(), Fail> {
     Ok(())
 }
 
-/// How many passes of the table's area and how many pairs `ran` has.
-fn joined_passes<R: Threads + Wait + Sync>(
+/// What is said of a run over two small tables.
+fn said_over<R: Threads + Wait + Sync>(
     rt: &R,
     alloc: Global,
     words: &str,
-) -> Result<Option<(usize, usize)>, AllocError> {
-    let answer = ask_over(rt, alloc, words, TWO)?;
-    match &answer.ran {
-        Some(Ran::Join(joined)) => Ok(Some((joined.areas.len(), joined.pairs.len()))),
-        _ => Ok(None),
-    }
+) -> Result<Said, AllocError> {
+    Ok(ask_over(rt, alloc, words, TWO)?.said)
 }
 
-/// Beside joined records `ran` has the join: a pass of the table's area for each worker and one for the caller.
+/// Of joined records the join is said: a pass of the table's area for each worker and one for the caller.
 #[test]
 fn said_of_a_join(rt: HostRuntime) -> Result<(), Fail> {
     for (words, passes) in [("join id 0", 1), ("join id 3", 4)] {
-        let joined = joined_passes(&rt, rt.alloc(), words)?;
-        assert!(rt; joined == Some((passes, 4)), "{words}");
+        let said = said_over(&rt, rt.alloc(), words)?;
+        assert!(rt; said == Said::Joined { passes, pairs: 4 }, "{words}");
     }
     Ok(())
 }
 
-/// How many workers and groups `ran` has.
-fn gathered_groups<R: Threads + Wait + Sync>(
-    rt: &R,
-    alloc: Global,
-    words: &str,
-) -> Result<Option<(usize, usize)>, AllocError> {
-    let answer = ask_over(rt, alloc, words, &[])?;
-    match &answer.ran {
-        Some(Ran::Gather(gathered)) => {
-            let workers = gathered.finished.workers.len();
-            Ok(Some((workers, gathered.groups.len())))
-        }
-        _ => Ok(None),
-    }
-}
-
-/// Beside the line of generated rows `ran` has their groups, which two workers were asked for.
+/// Of generated rows their groups are said, which two workers were asked for.
 #[test]
 fn said_of_generated_rows(rt: HostRuntime) -> Result<(), Fail> {
-    let said = gathered_groups(&rt, rt.alloc(), "gen 7 5000")?;
-    let (workers, groups) = said.ok_or("nothing is said of the run")?;
-    assert!(rt; workers == 2 && groups > 900);
+    match said_over(&rt, rt.alloc(), "gen 7 5000")? {
+        Said::Gathered { launched, groups } => assert!(rt; launched == 2 && groups > 900),
+        _ => return Err(Fail::new("nothing is said of the run")),
+    }
     Ok(())
 }

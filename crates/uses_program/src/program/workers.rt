@@ -1,9 +1,11 @@
 //! What `pargather` does with workers beside the caller's thread: they are at work at one time, and a fault or a
 //! refused row is answered as without them.
 
-use super::{Answered, Failing, LETTERS, NO_FAULTS, Pieces, Wanted, X_TWICE, ask, bytes_of, check};
+use super::{
+    Answered, Failing, LETTERS, NO_FAULTS, Pieces, Said, Wanted, X_TWICE, ask, bytes_of, check,
+};
 use crossbeam_utils::Backoff;
-use par_gather::{Gate, OpenGate, Ran, TABLE};
+use par_gather::{Gate, OpenGate, TABLE};
 use std::alloc::{AllocError, Global};
 use std::sync::Wait;
 use std::sync::atomic::{AtomicBool, AtomicU32, Ordering};
@@ -74,22 +76,6 @@ fn ask_meeting<R: Threads + Wait + Sync>(
     Ok(answer)
 }
 
-/// How many workers were launched, where groups were gathered.
-fn launched_to_gather(answer: &Answered) -> Option<u32> {
-    match &answer.ran {
-        Some(Ran::Gather(gathered)) => Some(gathered.finished.launched),
-        _ => None,
-    }
-}
-
-/// Likewise where rows were put in order.
-fn launched_to_merge(answer: &Answered) -> Option<u32> {
-    match &answer.ran {
-        Some(Ran::Merge(merged)) => Some(merged.finished.launched),
-        _ => None,
-    }
-}
-
 #[test]
 fn all_are_at_work_at_once(rt: HostRuntime) -> Result<(), Fail> {
     let words = "--group g --agg count --workers 2";
@@ -100,7 +86,13 @@ fn all_are_at_work_at_once(rt: HostRuntime) -> Result<(), Fail> {
         &answer,
         Wanted::of(TABLE, b"g,count\na,768\n", b""),
     );
-    assert!(rt; launched_to_gather(&answer) == Some(2));
+    assert!(rt;
+        answer.said
+            == Said::Gathered {
+                launched: 2,
+                groups: 1
+            }
+    );
     Ok(())
 }
 
@@ -111,7 +103,13 @@ fn all_sort_at_once(rt: HostRuntime) -> Result<(), Fail> {
     let answer = ask_meeting(&rt, rt.alloc(), "merge g 2")?;
     let wanted = Wanted::of(TABLE, sorted.as_slice(), b"");
     check(&rt, "merge g 2", &answer, wanted);
-    assert!(rt; launched_to_merge(&answer) == Some(2));
+    assert!(rt;
+        answer.said
+            == Said::Merged {
+                launched: 2,
+                rows: 768
+            }
+    );
     Ok(())
 }
 
