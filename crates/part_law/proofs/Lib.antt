@@ -1,0 +1,4 @@
+pub mod TileRecords
+pub mod PartShares
+pub mod AnyOrder
+pub mod OneText
