@@ -1,9 +1,12 @@
 /* lembokuj_try.h: queues of messages, and hash tables that many threads share, over the proved libraries liblk_queue.a and
  * liblk_table.a.
  *
- * The calls of the libraries try once and never wait; those with _wait are loops over them here, which yield the processor.
- * Link with the library of what is used, or with both, and the toolchain's liblibc_c.a. lembokuj.h has more objects; it is
- * built without the proofs. A program that takes both headers includes lembokuj.h first.
+ * The calls of the libraries try once and never wait. Those with _wait are loops over them here: they spin for a moment,
+ * then yield the processor, then nap, half a millisecond at the most. Those with _park sleep until the other side rings a
+ * bell that both share (Linux; elsewhere they nap too).
+ * Link with the library of what is used, or with both, and the toolchain's liblibc_c.a; or, for several processes, with
+ * shared_heap.c. lembokuj.h has more objects; it is built without the proofs. A program that takes both headers includes
+ * lembokuj.h first.
  *
  * Handles. An lk_handle (one side of a queue) and an lk_table_try (one caller of a table) are the program's own memory: two
  * words, all zero (LK_BLANK) before the call that fills them and after the one that closes them. A handle owns what it
@@ -12,6 +15,9 @@
  *
  * Threads. A handle is used by one call at a time; different handles of one object are used at once, each in its thread. A
  * handle may go to another thread by whatever orders the two: a start or join of a thread, a lock, an atomic.
+ *
+ * Processes. With shared_heap.c a program may fork after it has made its objects. Of the two copies of a handle that there
+ * are then, one process uses its own and the other forgets its.
  *
  * Wrong use. A null pointer and a blank handle are LK_NULL, a handle of a queue's other side LK_KIND, a side that has left
  * LK_GONE. A handle whose words are anything else than the last call left there is not found out. No call keeps a pointer
@@ -22,10 +28,16 @@
 #ifndef LEMBOKUJ_TRY_H
 #define LEMBOKUJ_TRY_H
 
+#include <limits.h>
 #include <sched.h>
 #include <stdbool.h>
 #include <stddef.h>
 #include <stdint.h>
+#include <time.h>
+#ifdef __linux__
+#include <sys/syscall.h>
+#include <unistd.h>
+#endif
 
 #ifdef __cplusplus
 extern "C" {
@@ -53,6 +65,7 @@ enum { LK_LATER = 1 };
 #endif
 
 enum {
+    LK_ENDED = 5,          /* a wait that the program ended: lk_ends answered true */
     LK_GROWN = 4,          /* the key's partition has grown first, and nothing was done to the key: call again */
     LK_GONE = -17,         /* this side has left */
     LK_SHORT_BUFFER = -18, /* the program's bytes have no room for the queue's greatest message */
@@ -61,6 +74,62 @@ enum {
 };
 
 #define LK_BLANK {NULL, 0}
+
+/* ---- Waiting ----
+ *
+ * What stands in the words of a bell, or is answered by lk_ends, decides when a call looks again, and never what it
+ * answers: that is the answer of its last try. */
+
+enum {
+    LK_SPINS = 64,         /* tries one after the other, before the processor is yielded between them */
+    LK_YIELDS = 96,        /* tries before a wait naps or sleeps */
+    LK_NAP_MICROS = 500,   /* the longest nap */
+    LK_SLEEP_MILLIS = 50   /* the longest sleep at a bell, after which lk_ends is asked */
+};
+
+/* A bell of a queue: all zero at first, and where both sides have it (for processes: in memory that both map). Each side has
+ * a word on a cache line of its own, and says there that it is about to sleep. */
+typedef struct lk_bell {
+    uint32_t sender __attribute__((aligned(64)));
+    uint32_t receiver __attribute__((aligned(64)));
+} lk_bell;
+
+/* Asked each time a wait at a bell wakes; true ends the wait with LK_ENDED. A program asks here whether the other side is
+ * still alive, or whether it was interrupted itself. It may be NULL. */
+typedef bool (*lk_ends)(void *of);
+
+/* What a wait does between two tries. */
+static inline void lk_between(unsigned tries) {
+    if (tries < LK_SPINS) return;
+    if (tries < LK_YIELDS) {
+        sched_yield();
+        return;
+    }
+    unsigned micros = 50 * (tries - LK_YIELDS + 1);
+    struct timespec nap = {0, 1000L * (long)(micros < LK_NAP_MICROS ? micros : LK_NAP_MICROS)};
+    nanosleep(&nap, NULL);
+}
+
+/* Sleeps while a word of a bell is 1. It may wake for no reason. */
+static inline void lk_bell_sleep(uint32_t *word) {
+    struct timespec most = {0, LK_SLEEP_MILLIS * 1000000L};
+#ifdef SYS_futex
+    syscall(SYS_futex, word, 0 /* FUTEX_WAIT, of all processes */, 1, &most, NULL, 0);
+#else
+    (void)most;
+    lk_between(UINT_MAX / 100);
+#endif
+}
+
+/* Wakes who sleeps at a word of a bell. If nobody does it is one load. */
+static inline void lk_bell_ring(uint32_t *word) {
+    if (__atomic_load_n(word, __ATOMIC_SEQ_CST)) {
+        __atomic_store_n(word, 0, __ATOMIC_SEQ_CST);
+#ifdef SYS_futex
+        syscall(SYS_futex, word, 1 /* FUTEX_WAKE */, INT_MAX, NULL, NULL, 0);
+#endif
+    }
+}
 
 /* ---- Queues: messages from one sender to one receiver ---- */
 
@@ -96,8 +165,32 @@ static inline int lk_queue_send_try(lk_handle *tx, const void *bytes, size_t len
 /* The same, and waits while the ring is full. */
 static inline int lk_queue_send_wait(lk_handle *tx, const void *bytes, size_t len, int flags) {
     int code;
-    while ((code = lk_queue_send_try(tx, bytes, len, flags)) == LK_WOULD_BLOCK) sched_yield();
+    for (unsigned tries = 0; (code = lk_queue_send_try(tx, bytes, len, flags)) == LK_WOULD_BLOCK; tries++) lk_between(tries);
     return code;
+}
+
+/* The same, asleep while the ring is full, and it wakes a receiver that sleeps. Both sides have to use the bell. Every step
+ * here and in the libraries is sequentially consistent: a side that is about to sleep says so and then tries once more, the
+ * other one acts and then looks; so one of the two sees the other. LK_ENDED: a part of the message may be on the ring. */
+static inline int lk_queue_send_park(lk_handle *tx, lk_bell *bell, const void *bytes, size_t len, int flags, lk_ends ends, void *of) {
+    if (!bell) return LK_NULL;
+    for (unsigned tries = 0;; tries++) {
+        bool sleeps = tries >= LK_SPINS;
+        if (sleeps) __atomic_store_n(&bell->sender, 1, __ATOMIC_SEQ_CST);
+        int code = lk_queue_send_try(tx, bytes, len, flags);
+        lk_bell_ring(&bell->receiver); /* also for a part of a message that is longer than the ring */
+        if (code != LK_WOULD_BLOCK) {
+            if (sleeps) __atomic_store_n(&bell->sender, 0, __ATOMIC_SEQ_CST);
+            return code;
+        }
+        if (!sleeps) continue;
+        lk_bell_sleep(&bell->sender);
+        if (ends && ends(of)) {
+            code = lk_queue_send_try(tx, bytes, len, flags); /* the other side may have made room before it went */
+            lk_bell_ring(&bell->receiver);
+            return code == LK_WOULD_BLOCK ? LK_ENDED : code;
+        }
+    }
 }
 
 /* Shows the receiver all that was sent. */
@@ -117,8 +210,29 @@ static inline int lk_queue_receive_try(lk_handle *rx, void *out, size_t room, si
 /* The same, and waits while no whole message is there. */
 static inline int lk_queue_receive_wait(lk_handle *rx, void *out, size_t room, size_t *len) {
     int code;
-    while ((code = lk_queue_receive_try(rx, out, room, len)) == LK_WOULD_BLOCK) sched_yield();
+    for (unsigned tries = 0; (code = lk_queue_receive_try(rx, out, room, len)) == LK_WOULD_BLOCK; tries++) lk_between(tries);
     return code;
+}
+
+/* The same, asleep while no whole message is there, and it wakes a sender that sleeps. Both sides have to use the bell. */
+static inline int lk_queue_receive_park(lk_handle *rx, lk_bell *bell, void *out, size_t room, size_t *len, lk_ends ends, void *of) {
+    if (!bell) return LK_NULL;
+    for (unsigned tries = 0;; tries++) {
+        bool sleeps = tries >= LK_SPINS;
+        if (sleeps) __atomic_store_n(&bell->receiver, 1, __ATOMIC_SEQ_CST);
+        int code = lk_queue_receive_try(rx, out, room, len);
+        lk_bell_ring(&bell->sender);
+        if (code != LK_WOULD_BLOCK) {
+            if (sleeps) __atomic_store_n(&bell->receiver, 0, __ATOMIC_SEQ_CST);
+            return code;
+        }
+        if (!sleeps) continue;
+        lk_bell_sleep(&bell->receiver);
+        if (ends && ends(of)) {
+            code = lk_queue_receive_try(rx, out, room, len); /* a message may have come before the other side went */
+            return code == LK_WOULD_BLOCK ? LK_ENDED : code;
+        }
+    }
 }
 
 /* Leaves the queue on one side, and tells the other. What was sent can still be received. A second time: LK_GONE. */
@@ -131,6 +245,22 @@ static inline int lk_queue_close_try(lk_handle *handle) {
     if (!handle) return LK_NULL;
     lk_raw_queue_leave(handle);
     return lk_raw_queue_close(handle);
+}
+
+/* The same calls, and they wake a side that sleeps at the bell. */
+static inline int lk_queue_flush_park(lk_handle *tx, lk_bell *bell) {
+    if (!bell) return LK_NULL;
+    int code = lk_queue_flush_try(tx);
+    lk_bell_ring(&bell->receiver);
+    return code;
+}
+
+static inline int lk_queue_close_park(lk_handle *handle, lk_bell *bell) {
+    if (!bell) return LK_NULL;
+    int code = lk_queue_close_try(handle);
+    lk_bell_ring(&bell->sender);
+    lk_bell_ring(&bell->receiver);
+    return code;
 }
 
 /* ---- Hash tables: 64-bit words under 64-bit keys, for many callers ----
@@ -197,34 +327,39 @@ static inline int lk_table_close_try(lk_table_try *table) {
     return table ? lk_raw_table_close(table) : LK_NULL;
 }
 
-/* Whether a call that answered so is to be made again: another caller had the partition, or it had to grow. */
-static inline bool lk_table_again(int code) {
-    if (code == LK_WOULD_BLOCK) sched_yield();
+/* Whether a call that answered so is to be made again: another caller had the partition, or it had to grow. `tries` counts
+ * the times that another had it, and decides how long is waited. */
+static inline bool lk_table_again(int code, unsigned *tries) {
+    if (code == LK_WOULD_BLOCK) lk_between((*tries)++);
     return code == LK_WOULD_BLOCK || code == LK_GROWN;
 }
 
 /* The same calls, again and again as long as that is so. */
 static inline int lk_table_put_wait(lk_table_try *table, uint64_t key, uint64_t value, uint64_t *old) {
+    unsigned tries = 0;
     int code;
-    while (lk_table_again(code = lk_table_put_try(table, key, value, old))) continue;
+    while (lk_table_again(code = lk_table_put_try(table, key, value, old), &tries)) continue;
     return code;
 }
 
 static inline int lk_table_add_wait(lk_table_try *table, uint64_t key, uint64_t more, uint64_t *old) {
+    unsigned tries = 0;
     int code;
-    while (lk_table_again(code = lk_table_add_try(table, key, more, old))) continue;
+    while (lk_table_again(code = lk_table_add_try(table, key, more, old), &tries)) continue;
     return code;
 }
 
 static inline int lk_table_get_wait(lk_table_try *table, uint64_t key, uint64_t *value) {
+    unsigned tries = 0;
     int code;
-    while (lk_table_again(code = lk_table_get_try(table, key, value))) continue;
+    while (lk_table_again(code = lk_table_get_try(table, key, value), &tries)) continue;
     return code;
 }
 
 static inline int lk_table_delete_wait(lk_table_try *table, uint64_t key, uint64_t *old) {
+    unsigned tries = 0;
     int code;
-    while (lk_table_again(code = lk_table_delete_try(table, key, old))) continue;
+    while (lk_table_again(code = lk_table_delete_try(table, key, old), &tries)) continue;
     return code;
 }
 
