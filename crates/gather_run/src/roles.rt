@@ -7,7 +7,7 @@ use crate::leading::lead_all;
 use csv_rows::RowStore;
 use parallel_ctx::{Lead, LeaderEnds, Seats, Shared, Worker, WorkerEnds};
 use partial_agg::GroupMap;
-use plan_spec::plan_in;
+use plan_descriptor::plan_in;
 use std::alloc::Global;
 use std::sync::Wait;
 use worker_run::{Gate, Job, WorkerEnd, work};

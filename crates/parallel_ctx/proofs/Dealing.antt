@@ -8,7 +8,7 @@ use mathlib.Core.Option.{some}
 use lib.ListN.{get_elem?}
 use Rattle.par_model.specs.Plan.{Plan}
 use Rattle.region_words.specs.Parts.{Owned}
-use Rattle.plan_spec.specs.Planned.{HasPlan}
+use Rattle.plan_descriptor.specs.Planned.{HasPlan}
 use Rattle.scan_claim.specs.Shown.{AreSeats, Belongs, draws_of, number_of}
 use Rattle.scan_claim.specs.declared.claims.ClaimSeat.{ClaimSeat}
 use Rattle.parallel_ctx.specs.declared.tokens.Hand.{Hand}

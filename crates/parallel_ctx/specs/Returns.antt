@@ -3,7 +3,7 @@ use Rattle.std.specs.Prelude.{◌≡◌, ℕ, List, [], ◌∷◌, Option, Some,
 use Rattle.agg_table.specs.declared.part.HashSeat.{HashSeat}
 use Rattle.par_model.specs.Plan.{Plan}
 use Rattle.scan_claim.specs.Shown.{blocks_of}
-use Rattle.plan_spec.specs.Planned.{HasPlan}
+use Rattle.plan_descriptor.specs.Planned.{HasPlan}
 use Rattle.parallel_ctx.specs.declared.tokens.Shared.{Shared}
 use Rattle.parallel_ctx.specs.declared.tokens.Hand.{Hand}
 use Rattle.parallel_ctx.specs.declared.start.Back.{Back}

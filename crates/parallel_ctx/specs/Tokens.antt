@@ -8,7 +8,7 @@ use Rattle.mq_handle.specs.Receives.{Incoming}
 use Rattle.mq_ring.specs.Ends.{SendingEnd}
 use Rattle.par_model.specs.Plan.{Plan}
 use Rattle.scan_claim.specs.Shown.{AreSeats, Belongs, callers_of, draws_of, number_of}
-use Rattle.plan_spec.specs.Planned.{HasPlan}
+use Rattle.plan_descriptor.specs.Planned.{HasPlan}
 use Rattle.parallel_ctx.specs.declared.making.TheConstants.{LONGEST_NOTICE, LONGEST_TUPLE}
 use Rattle.parallel_ctx.specs.declared.tokens.Hand.{Hand}
 use Rattle.parallel_ctx.specs.declared.tokens.LeaderEnds.{LeaderEnds}

@@ -12,7 +12,7 @@
 
 ghost use Rattle.std.specs.Prelude.{◌≡◌, ◌≤◌, ◌<◌, ◌*◌, ◌+◌, ◌-◌, ◌%◌, ◌^◌, ℕ, All, IfOk, None, OnOk, Some, [], ◌∷◌, length, map, vec_capacity};
 ghost use Rattle.std.specs.List.{AllZip};
-ghost use Rattle.plan_spec.specs.Planned.{HasPlan};
+ghost use Rattle.plan_descriptor.specs.Planned.{HasPlan};
 ghost use Rattle.parallel_ctx.specs.Making.{AreRings, AreUnheardIn, AreUnused, IsMaking, claim_in, ends_in, firsts, hash_in, with_queue, with_queues};
 ghost use Rattle.parallel_ctx.specs.Tokens.{AreNumbered, IsUnheard, IsUnused, number_in};
 ghost use Rattle.shm_toc.specs.Table.{free_bytes_of, place_of, rounded, table_of};
@@ -24,7 +24,7 @@ use agg_table::HashSeat;
 use mq_handle::{Receiver, Sender, attach};
 use mq_ring::Ring;
 use par_model::BoundPlan;
-use plan_spec::{PLAN_KEY, write_plan};
+use plan_descriptor::{PLAN_KEY, write_plan};
 use region_words::{Chunk, Part, Region};
 use scan_claim::ClaimSeat;
 use shm_toc::{FrozenToc, Toc};

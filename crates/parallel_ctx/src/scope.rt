@@ -4,7 +4,7 @@ ghost use Rattle.agg_table.specs.Shown.{use_in};
 ghost use Rattle.std.specs.Prelude.{◌≡◌, All, map};
 ghost use Rattle.std.specs.List.{AllZip};
 ghost use Rattle.par_model.specs.Plan.{Plan};
-ghost use Rattle.plan_spec.specs.Planned.{HasPlan};
+ghost use Rattle.plan_descriptor.specs.Planned.{HasPlan};
 ghost use Rattle.scan_claim.specs.Shown.{blocks_of, draws_of};
 ghost use Rattle.parallel_ctx.specs.Accounts.{heard};
 ghost use Rattle.parallel_ctx.specs.Ready.{IsReady};

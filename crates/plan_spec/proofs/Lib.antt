@@ -1,17 +1,8 @@
-pub mod Allowed
 pub mod ItemNames
 pub mod Fills
-pub mod Filters
 pub mod Present
 pub mod Merges
 pub mod Missing
 pub mod Numbers
-pub mod Padded
 pub mod Parsed
 pub mod Places
-pub mod Planned
-pub mod ReadBack
-pub mod ReadPlans
-pub mod Sections
-pub mod Values
-pub mod Writable

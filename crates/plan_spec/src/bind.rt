@@ -1,14 +1,12 @@
 //! The columns of a plan's names in a header.
 
-ghost use Rattle.std.specs.Prelude.{◌≡◌, ◌<◌, ◌≤◌, ◌-◌, ◌^◌, None, Some, [], All, FitsSigned, IfErr, IfNone, IfOk, IfSome, IsTrue, OnOk, OnSome, drop, filter_map, length, map, option_map, option_to_list, replicate, slice_index_or, string_bytes, take};
-ghost use Rattle.std.specs.Int.{w64};
+ghost use Rattle.std.specs.Prelude.{◌≡◌, ◌<◌, ◌≤◌, ◌-◌, ◌^◌, None, Some, [], All, IfErr, IfNone, IfOk, IfSome, IsTrue, OnOk, OnSome, drop, filter_map, length, map, option_map, option_to_list, replicate, slice_index_or, string_bytes, take};
 ghost use Rattle.std.specs.Option.{ForSome};
 ghost use Rattle.csv_rows.specs.Records.{record_at};
 ghost use Rattle.par_model.specs.Columns.{HasColumns, reads_column};
 ghost use Rattle.par_model.specs.Named.{bound_column, bound_filter, bound_item, bound_plan, column_of, missing_name, names_of};
 ghost use Rattle.par_model.specs.PlanLayout.{unused};
 ghost use Rattle.plan_spec.specs.Binding.{missing_from, missing_place};
-ghost use Rattle.plan_spec.specs.Descriptor.{IsWritable};
 
 use crate::plan::{Plan, PlanFilter, PlanItem};
 use csv_rows::RowStore;
@@ -27,9 +25,8 @@ impl Plan {
         ensures bound { IfOk result (λ bound. bound ≡ bound_plan (record_at rows.now 0) self.now.plan) }
         ensures whole { OnOk result (missing_name (record_at rows.now 0) self.now.plan ≡ None) }
 
-        // Each column that it reads is one of the header, and it can be written as a descriptor.
+        // Each column that it reads is one of the header.
         ensures columns { IfOk result (λ bound. HasColumns bound (length (record_at rows.now 0))) }
-        ensures writable { IfOk result IsWritable }
 
         // The first name that the header lacks, by its place.
         ensures place { IfErr result (λ e. missing_place (record_at rows.now 0) self.now.plan ≡ Some e.at) }
@@ -69,7 +66,6 @@ fn bind_groups(names: &[String], rows: &RowStore) -> Result<[u32; 8], u32>
     ensures columns { IfOk result (λ xs. take (length names.now) xs ≡ map (bound_column (record_at rows.now 0)) (map string_bytes names.now)) }
     ensures unused { IfOk result (λ xs. drop (length names.now) xs ≡ replicate (8 - length names.now) 0) }
     ensures below { IfOk result (λ xs. All (λ column. column < length (record_at rows.now 0)) (take (length names.now) xs)) }
-    ensures narrow { IfOk result (λ xs. All (λ column. column < 2 ^ 32) xs) }
     ensures whole { OnOk result (missing_from (record_at rows.now 0) (map string_bytes names.now) ≡ None) }
     ensures missing { IfErr result (λ at. missing_from (record_at rows.now 0) (map string_bytes names.now) ≡ Some at) }
 {
@@ -91,7 +87,6 @@ fn bind_items(items: &[PlanItem], rows: &RowStore) -> Result<([Item; 8], u32), u
     ensures unused { IfOk result (λ r. drop (length items.now) r.0 ≡ replicate (8 - length items.now) unused) }
     ensures no_column { IfOk result (λ r. All (λ item. item.kind ≡ ItemKind.Rows → item.column ≡ 0) r.0) }
     ensures below { IfOk result (λ r. All (λ item. IsTrue (reads_column item.kind) → item.column < length (record_at rows.now 0)) r.0) }
-    ensures narrow { IfOk result (λ r. All (λ item. item.column < 2 ^ 32) r.0) }
     ensures named { IfOk result (λ r. r.1 ≡ length (filter_map (λ i. i.column) items.now)) }
     ensures few { IfOk result (λ r. r.1 ≤ 8) }
     ensures whole { OnOk result (missing_from (record_at rows.now 0) (filter_map (λ i. i.column) items.now) ≡ None) }
@@ -121,7 +116,6 @@ fn bind_item(item: &PlanItem, rows: &RowStore) -> Option<(Item, u32)>
     ensures item { IfSome result (λ r. r.0 ≡ bound_item (record_at rows.now 0) item.now) }
     ensures no_column { IfSome result (λ r. r.0.kind ≡ ItemKind.Rows → r.0.column ≡ 0) }
     ensures below { IfSome result (λ r. IsTrue (reads_column r.0.kind) → r.0.column < length (record_at rows.now 0)) }
-    ensures narrow { IfSome result (λ r. r.0.column < 2 ^ 32) }
     ensures count { IfSome result (λ r. r.1 ≡ length (option_to_list item.now.column)) }
     ensures within { IfSome result (λ r. r.1 ≤ 1) }
     ensures whole { OnSome result (missing_from (record_at rows.now 0) (option_to_list item.now.column) ≡ None) }
@@ -141,7 +135,6 @@ fn bind_item(item: &PlanItem, rows: &RowStore) -> Option<(Item, u32)>
 fn bind_filter(filter: &Option<PlanFilter>, rows: &RowStore) -> Option<Option<Filter>>
     ensures filter { IfSome result (λ f. f ≡ option_map (bound_filter (record_at rows.now 0)) filter.now) }
     ensures below { IfSome result (λ f. ForSome f (λ filter. filter.column < length (record_at rows.now 0))) }
-    ensures fits { IfSome result (λ f. ForSome f (λ filter. (filter.column < 2 ^ 32) × FitsSigned w64 filter.value)) }
     ensures whole { OnSome result (missing_from (record_at rows.now 0) (option_to_list (option_map (λ f. f.column) filter.now)) ≡ None) }
     ensures missing { IfNone result (missing_from (record_at rows.now 0) (option_to_list (option_map (λ f. f.column) filter.now)) ≡ Some 0) }
 {

@@ -1,15 +1,13 @@
-//! A plan, as the words of a command line name it, its columns in a header, and its words in shared memory.
+//! A plan, as the words of a command line name it, and its columns in a header.
 //!
 //! [`Plan::of_words`] reads the words as a command line of six options, each of which has a grammar of its own, and
 //! [`Plan::of_merge_words`] reads `merge COLUMNS N`; [`Plan::bind`] looks a plan's names up in the first record of a
 //! store. A plan keeps its names in the order in which they are counted: those to group by, those of the aggregates,
-//! that of the filter. [`write_plan`] puts the bound plan into shared memory, and [`plan_in`] finds it there for all who
-//! compute it. [`number`] and [`column`] read a number and a name for other command lines.
+//! that of the filter. [`number`] and [`column`] read a number and a name for other command lines.
 
 #![tactic(auto)]
 
 mod bind;
-mod descriptor;
 mod grammar;
 mod merging;
 mod options;
@@ -17,7 +15,6 @@ mod plan;
 mod read;
 
 pub use bind::{NoColumn, column};
-pub use descriptor::{BadDescriptor, PLAN_KEY, has_one_plan, plan_in, read_plan, write_plan};
 pub use grammar::{MOST_NUMBER, number};
 pub use merging::is_merge;
 pub use plan::{MOST_AREA_PAGES, MOST_WORKERS, Plan, PlanAnswer};

@@ -4,7 +4,7 @@ ghost use Rattle.std.specs.Prelude.{◌≡◌, ◌<◌, ℕ, IsSome, Some};
 ghost use Rattle.word_map.specs.WordMap.{at as word_at, HasJust};
 
 use par_model::{BoundPlan, Filter, FilterOp, Item, ItemKind};
-use plan_spec::{BadDescriptor, PLAN_KEY, plan_in, read_plan, write_plan};
+use plan_descriptor::{BadDescriptor, PLAN_KEY, plan_in, read_plan, write_plan};
 use region_words::{Chunk, Part, Region};
 use shm_toc::Toc;
 use std::alloc::Global;

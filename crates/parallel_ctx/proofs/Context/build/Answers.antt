@@ -1,5 +1,5 @@
 use Rattle.std.proofs.Common.{◌*◌, ◌-◌, ◌≡◌, ◌&&◌, ◌+◌, ℕ, Option, Some, None, IfSome, is_some, leb, ◌∙◌, ◌≤◌, length, arith, subst, sym}
-use Rattle.plan_spec.specs.Planned.{HasPlan}
+use Rattle.plan_descriptor.specs.Planned.{HasPlan}
 use Rattle.parallel_ctx.specs.declared.tokens.Shared.{Shared}
 use Rattle.dsa_area.specs.Shown.{pages_of}
 use Rattle.agg_table.specs.declared.part.HashPart.{HashPart}

@@ -2,8 +2,8 @@ use Rattle.std.proofs.Common.{◌≡◌, ◌/◌, ◌∙◌, ap, subst, sym, Som
 use Rattle.region_words.specs.Parts.{Owned}
 use Rattle.shm_toc.specs.Table.{Table, place_of, table_of}
 use Rattle.word_map.specs.WordMap.{HasJust, WordMap, union}
-use Rattle.plan_spec.specs.Planned.{HasPlan}
-use Rattle.plan_spec.proofs.Planned.{has_plan}
+use Rattle.plan_descriptor.specs.Planned.{HasPlan}
+use Rattle.plan_descriptor.proofs.Planned.{has_plan}
 use Rattle.parallel_ctx.proofs.making.keep_plan.Goals as goal
 
 pub returns-clause-plan : goal.returns-clause-plan

@@ -1,6 +1,6 @@
-use Rattle.std.proofs.Common.{◌≡◌, ◌<◌, ◌+◌, ◌∙◌, ◌^◌, ℕ, [], suc, take, length, map, string_bytes, refl, sym, arith, length-set}
+use Rattle.std.proofs.Common.{◌≡◌, ◌<◌, ◌+◌, ◌∙◌, ℕ, [], suc, take, length, map, string_bytes, refl, sym, arith, length-set}
 use Rattle.std.proofs.lemmas.List.{length-map, take_more_set}
-use Rattle.std.proofs.lemmas.List.Elements.{All-append, All-cons, All-nil, All-set}
+use Rattle.std.proofs.lemmas.List.Elements.{All-append, All-cons, All-nil}
 use Rattle.std.specs.Prelude.{None, Some, is_none}
 use Rattle.csv_rows.specs.Records.{record_at}
 use Rattle.par_model.specs.Named.{bound_column, column_of}
@@ -41,6 +41,5 @@ names-preserved c =
       size = length-set c.names.columns c.names.at c.in-Some.place ∙ inv.size;
       unused = more.1;
       below = rw (take_more_set c.names.columns c.names.at c.in-Some.place there) (All-append below (take c.names.at c.names.columns) _ inv.below (All-cons below c.in-Some.place [] c.in-Some.ensures.below (All-nil below)));
-      narrow = All-set (λ column. column < 2 ^ 32) c.names.columns c.names.at c.in-Some.place c.in-Some.ensures.narrow inv.narrow;
       present = rw same (place-more (λ n. is_none (column_of header n)) 0 names c.names.at (string_bytes name) lt inv.present (rw (at, column) refl));
     }

@@ -1,4 +1,4 @@
-use Rattle.std.proofs.Common.{◌≡◌, ◌-◌, ◌<◌, ◌^◌, drop, length, map, string_bytes, take}
+use Rattle.std.proofs.Common.{◌≡◌, ◌-◌, ◌<◌, drop, length, map, string_bytes, take}
 use Rattle.std.specs.Prelude.{All, None, replicate}
 use Rattle.csv_rows.specs.Records.{record_at}
 use Rattle.par_model.specs.Named.{bound_column}
@@ -11,6 +11,5 @@ invariant-names l = record {
   size : length l.columns ≡ 8;
   unused : drop l.at l.columns ≡ replicate (8 - l.at) 0;
   below : All (λ column. column < length (record_at l.rows 0)) (take l.at l.columns);
-  narrow : All (λ column. column < 2 ^ 32) l.columns;
   present : missing_from (record_at l.rows 0) (take l.at (map string_bytes l.names)) ≡ None;
 }

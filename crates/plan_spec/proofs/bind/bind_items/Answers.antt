@@ -1,4 +1,4 @@
-use Rattle.std.proofs.Common.{◌≡◌, ◌<◌, ◌+◌, ◌∙◌, ◌^◌, length, take, drop, arith, length-append, length-set}
+use Rattle.std.proofs.Common.{◌≡◌, ◌<◌, ◌+◌, ◌∙◌, length, take, drop, arith, length-append, length-set}
 use Rattle.par_model.specs.declared.plan.ItemKind.TheVariants as kind
 use Rattle.std.proofs.lemmas.List.Elements.{All-set}
 use Rattle.std.specs.Prelude.{IsTrue, filter_map, is_none, option_to_list}
@@ -39,7 +39,6 @@ items-preserved c =
       size = length-set c.items.bound c.items.at c.in-Some.one ∙ inv.size;
       no_column = All-set (λ item. item.kind ≡ kind.Rows → item.column ≡ 0) c.items.bound c.items.at c.in-Some.one one.no_column inv.no_column;
       below = All-set (λ item. IsTrue (reads_column item.kind) → item.column < length header) c.items.bound c.items.at c.in-Some.one one.below inv.below;
-      narrow = All-set (λ item. item.column < 2 ^ 32) c.items.bound c.items.at c.in-Some.one one.narrow inv.narrow;
       few = omega (arith, inv.few, one.within);
       rest = more.1;
       named = rw named (omega (arith, size, inv.named, one.count));

@@ -1,4 +1,4 @@
-use Rattle.std.proofs.Common.{◌≡◌, ◌≤◌, ◌-◌, ◌<◌, ◌^◌, drop, length, map, take}
+use Rattle.std.proofs.Common.{◌≡◌, ◌≤◌, ◌-◌, ◌<◌, drop, length, map, take}
 use Rattle.par_model.specs.declared.plan.ItemKind.TheVariants as kind
 use Rattle.std.specs.Prelude.{All, IsTrue, None, filter_map, replicate}
 use Rattle.csv_rows.specs.Records.{record_at}
@@ -14,7 +14,6 @@ invariant-items l = record {
   size : length l.bound ≡ 8;
   no_column : All (λ item. item.kind ≡ kind.Rows → item.column ≡ 0) l.bound;
   below : All (λ item. IsTrue (reads_column item.kind) → item.column < length (record_at l.rows 0)) l.bound;
-  narrow : All (λ item. item.column < 2 ^ 32) l.bound;
   few : l.named ≤ l.at;
   rest : drop l.at l.bound ≡ replicate (8 - l.at) unused;
   named : l.named ≡ length (filter_map (λ i. i.column) (take l.at l.items));

@@ -1,5 +1,5 @@
 use Rattle.std.proofs.Common.{◌∙◌, ap, refl}
-use Rattle.plan_spec.proofs.Values.{kept_words}
+use Rattle.plan_descriptor.proofs.Values.{kept_words}
 use Rattle.region_words.specs.Parts.{Owned}
 use Rattle.uses_rows.proofs.descriptors.plan_of_words.Goals as goal
 

@@ -1,6 +1,6 @@
 use Rattle.std.proofs.Common.{◌≡◌, ◌/◌, ◌∷◌, ◌++◌, ◌∙◌, [], ℕ, List, Some, ap, subst, sym}
-use Rattle.plan_spec.proofs.Planned.{has_plan}
-use Rattle.plan_spec.specs.Planned.{HasPlan}
+use Rattle.plan_descriptor.proofs.Planned.{has_plan}
+use Rattle.plan_descriptor.specs.Planned.{HasPlan}
 use Rattle.region_words.specs.Parts.{Owned}
 use Rattle.shm_toc.specs.Table.{Entry, Table, place_of, table_of}
 use Rattle.word_map.specs.WordMap.{HasJust, WordMap}

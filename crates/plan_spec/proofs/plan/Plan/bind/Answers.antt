@@ -1,10 +1,8 @@
-use Rattle.std.proofs.Common.{◌≡◌, ◌<◌, ◌+◌, ◌^◌, ℕ, List, [], Bool, ap, arith, length, length-take, map, string_bytes}
+use Rattle.std.proofs.Common.{◌≡◌, ◌+◌, ℕ, List, [], Bool, arith, length, map, string_bytes}
 use Rattle.std.proofs.lemmas.List.{length-map}
-use Rattle.std.proofs.lemmas.List.Elements.{All-take}
 use Rattle.std.specs.Prelude.{filter_map, is_none, option_map, option_to_list}
 use Rattle.csv_rows.specs.Records.{record_at}
-use Rattle.par_model.specs.Named.{bound_item, column_of, missing_name, names_of}
-use Rattle.par_model.specs.declared.plan.ItemKind.TheVariants as kind
+use Rattle.par_model.specs.Named.{column_of, missing_name, names_of}
 use Rattle.plan_spec.proofs.Places.{IsFirst, first-of-three, none-of-three, second-of-three, third-of-three}
 use Rattle.plan_spec.proofs.plan.Plan.bind.Goals as goal
 
@@ -88,22 +86,3 @@ returns-clause-whole c =
     let plan = c.self.inside in
     rw (← c.self.view_is) (none-of-three (lacks (record_at c.args.rows.now 0)) (map string_bytes plan.groups.items) (filter_map (λ i. i.column) plan.items.items) (option_to_list (option_map (λ f. f.column) plan.filter))
     (rw c.as_slice.ensures.value at c.in-Ok.ensures.whole) (rw c.as_slice-2.ensures.value at c.in-Ok-bind_items.ensures.whole) c.in-Some.ensures.whole)
-
-pub returns-clause-writable : goal.returns-clause-writable
-returns-clause-writable c =
-    let items = c.in-Ok-bind_items.ensures in
-    let many = ap length (rw c.as_slice-2.ensures.value at items.items) in
-    let front = length-take c.len.result c.in-Ok-bind_items.bound.0 in
-    let count = length-map c.self.inside.items.items (bound_item (record_at c.args.rows.now 0)) in
-    let fits = c.self.invariant in
-    record {
-      room = record {
-        groups = omega (arith, length-take c.len-before_items.result c.in-Ok.groups, c.len-before_items.ensures, fits.groups_fit);
-        some_item = omega (arith, front, length-take (length c.self.inside.items.items) c.in-Ok-bind_items.bound.0, many, count, fits.some_item, c.len.ensures);
-        items = omega (arith, front, fits.items_fit, c.len.ensures);
-        no_column = All-take (λ item. item.kind ≡ kind.Rows → item.column ≡ 0) c.len.result c.in-Ok-bind_items.bound.0 items.no_column;
-      };
-      group_columns = All-take (λ column. column < 2 ^ 32) c.len-before_items.result c.in-Ok.groups c.in-Ok.ensures.narrow;
-      item_columns = All-take (λ item. item.column < 2 ^ 32) c.len.result c.in-Ok-bind_items.bound.0 items.narrow;
-      filter = c.in-Some.ensures.fits;
-    }

@@ -1,0 +1,90 @@
+-- The words of a filter, and the lengths of a descriptor.
+use Rattle.std.proofs.Common.{◌≡◌, ◌==◌, ◌≤◌, ◌<◌, ◌+◌, ◌^◌, ◌∙◌, ℕ, ℤ, true, FitsSigned, List, Option, Some, None, ap, if◌then◌else◌, length, arith, nat_le, nat_lt, not, of_z, refl, subst, sym, to_z, w64}
+use Rattle.std.proofs.lemmas.Bool.Decides.{nat_tests}
+use Rattle.std.proofs.lemmas.Int.{of_z-to_z, to_z-of_z}
+use Rattle.std.specs.Option.{ForSome}
+use Rattle.std.specs.Prelude.{slice_index}
+use Rattle.par_model.specs.declared.plan.Filter.{Filter}
+use Rattle.par_model.specs.declared.plan.FilterOp.{FilterOp}
+use Rattle.par_model.specs.declared.plan.FilterOp.TheVariants as op
+use Rattle.plan_descriptor.proofs.Allowed.{AllowedFilter}
+use Rattle.plan_descriptor.proofs.Sections.{by_four}
+use Rattle.plan_descriptor.specs.Descriptor.{filter_word, is_filter, relation_word, size_of}
+
+-- a descriptor that is longer than one of version 1
+pub whole : (words : List ℕ) → length words ≡ size_of (slice_index words 0) → 28 < length words → length words ≡ 32
+whole words size long = grind (arith, nat_tests)
+
+-- no relation, no filter
+pub no_filter : (words : List ℕ) → AllowedFilter words → slice_index words 28 ≡ 0 → (k : ℕ) → k < 4 → 0 ≡ slice_index words (28 + k)
+no_filter words is none = by_four (λ k. 0 ≡ slice_index words (28 + k)) (sym none) (sym (is.no_column none)) (sym (is.no_value none)) (sym is.last)
+
+-- the words of a filter, whose value was read as a signed number and is written again
+pub some_filter : (words : List ℕ) (relation : ℕ) (value : ℤ) → AllowedFilter words → relation ≡ slice_index words 28 → value ≡ to_z w64 (slice_index words 30) → FitsSigned w64 value
+    → slice_index words 30 < 2 ^ 64 → (k : ℕ) → k < 4
+    → (if k == 0 then relation else (if k == 1 then slice_index words 29 else (if k == 2 then of_z w64 (to_z w64 (of_z w64 value)) else 0))) ≡ slice_index words (28 + k)
+some_filter words relation value is same read fits small =
+    by_four (λ k. (if k == 0 then relation else (if k == 1 then slice_index words 29 else (if k == 2 then of_z w64 (to_z w64 (of_z w64 value)) else 0))) ≡ slice_index words (28 + k))
+    same refl
+    (ap (of_z w64) (to_z-of_z w64 value fits ∙ read) ∙ of_z-to_z w64 (slice_index words 30) small)
+    (sym is.last)
+
+pub long : (words : List ℕ) → length words ≡ size_of (slice_index words 0) → 28 ≤ length words
+long words size = grind (arith, nat_tests)
+
+-- a filter whose column and value fit
+pub some_fits : (f : Filter) → f.column < 2 ^ 32 → FitsSigned w64 f.value → ForSome (Some f) (λ filter. (filter.column < 2 ^ 32) × FitsSigned w64 filter.value)
+some_fits f column value filter is =
+    let same : f ≡ filter = cc in
+    (subst (λ (g : Filter). g.column < 2 ^ 32) same column, subst (λ (g : Filter). FitsSigned w64 g.value) same value)
+
+-- the relation of a word
+relation_of : ℕ → FilterOp
+relation_of w = if w == 1 then op.Equal else (if w == 2 then op.NotEqual else (if w == 3 then op.Less else (if w == 4 then op.LessEqual else (if w == 5 then op.Greater else op.GreaterEqual))))
+
+relation_of-word : (o : FilterOp) → relation_of (relation_word o) ≡ o
+unfolding relation_of
+relation_of-word op.Equal = refl
+relation_of-word op.NotEqual = refl
+relation_of-word op.Less = refl
+relation_of-word op.LessEqual = refl
+relation_of-word op.Greater = refl
+relation_of-word op.GreaterEqual = refl
+
+a_relation : (o : FilterOp) → (0 < relation_word o) × (relation_word o ≤ 6)
+a_relation op.Equal = (omega arith, omega arith)
+a_relation op.NotEqual = (omega arith, omega arith)
+a_relation op.Less = (omega arith, omega arith)
+a_relation op.LessEqual = (omega arith, omega arith)
+a_relation op.Greater = (omega arith, omega arith)
+a_relation op.GreaterEqual = (omega arith, omega arith)
+
+-- filters that have the same words
+pub same_filter : (a b : Option Filter) → ForSome a (λ filter. (filter.column < 2 ^ 32) × FitsSigned w64 filter.value) → ForSome b (λ filter. (filter.column < 2 ^ 32) × FitsSigned w64 filter.value)
+    → ((k : ℕ) → k < 4 → filter_word a k ≡ filter_word b k) → a ≡ b
+same_filter None None fits fits' same = refl
+same_filter None (Some g) fits fits' same = absurd (omega (arith, same 0 (omega arith), a_relation g.op))
+same_filter (Some f) None fits fits' same = absurd (omega (arith, same 0 (omega arith), a_relation f.op))
+same_filter (Some f) (Some g) fits fits' same =
+    let ops : f.op ≡ g.op = sym (relation_of-word f.op) ∙ ap relation_of (same 0 (omega arith)) ∙ relation_of-word g.op in
+    let columns : f.column ≡ g.column = same 1 (omega arith) in
+    let values : f.value ≡ g.value = sym (to_z-of_z w64 f.value (fits f refl).1) ∙ ap (to_z w64) (same 2 (omega arith)) ∙ to_z-of_z w64 g.value (fits' g refl).1 in
+    λ i. Some (record { column = columns i; op = ops i; value = values i })
+
+-- the words of a filter are allowed, where word 28 is its relation's
+below_true : (a b : ℕ) → a < b → nat_lt a b ≡ true
+below_true a b h = grind (arith, nat_tests)
+
+le_true : (a b : ℕ) → a ≤ b → nat_le a b ≡ true
+le_true a b h = grind (arith, nat_tests)
+
+not_zero : (a : ℕ) → 0 < a → not (a == 0) ≡ true
+not_zero a h = grind (arith, nat_tests)
+
+pub filter_allowed : (words : List ℕ) (o : Option Filter) → ForSome o (λ filter. (filter.column < 2 ^ 32) × FitsSigned w64 filter.value) → slice_index words 28 ≡ filter_word o 0
+    → (k : ℕ) → k < 4 → is_filter words k (filter_word o k) ≡ true
+filter_allowed words None fits relation = by_four (λ k. is_filter words k (filter_word None k) ≡ true) refl (rw relation refl) (rw relation refl) refl
+filter_allowed words (Some f) fits relation =
+    let some = a_relation f.op in
+    let stands : not (slice_index words 28 == 0) ≡ true = rw relation (not_zero (relation_word f.op) some.0) in
+    by_four (λ k. is_filter words k (filter_word (Some f) k) ≡ true) (le_true (relation_word f.op) 6 some.1) (rw stands (below_true f.column (2 ^ 32) (fits f refl).0)) (rw stands refl) refl

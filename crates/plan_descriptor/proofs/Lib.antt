@@ -1,0 +1,10 @@
+pub mod Allowed
+pub mod Filters
+pub mod Padded
+pub mod Places
+pub mod Planned
+pub mod ReadBack
+pub mod ReadPlans
+pub mod Sections
+pub mod Values
+pub mod Writable

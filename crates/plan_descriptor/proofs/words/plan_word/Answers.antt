@@ -1,0 +1,23 @@
+use Rattle.std.proofs.Common.{◌≡◌, ◌+◌, ◌-◌, ◌*◌, ◌/◌, ◌%◌, ◌∙◌, ap, arith, sym}
+use Rattle.par_model.specs.PlanLayout.{unused}
+use Rattle.plan_descriptor.proofs.Padded.{padded}
+use Rattle.plan_descriptor.proofs.Sections.{word_of_group, word_of_item}
+use Rattle.plan_descriptor.specs.Descriptor.{item_word}
+use Rattle.plan_descriptor.proofs.words.plan_word.Goals as goal
+
+pub returns-then-place-lt12-clause-word : goal.returns-then-place-lt12-clause-word
+returns-then-place-lt12-clause-word c =
+    let i = c.args.place - 4 in
+    let inside = c.plan.inside in
+    let same : 4 + i ≡ c.args.place = omega arith in
+    let front = padded inside.groups c.args.plan.now.groups inside.group_count (8 - inside.group_count) i 0 (sym (ap (λ p. p.groups) c.plan.view_is)) c.plan.invariant.groups_end in
+    c.from.ensures ∙ sym front ∙ sym (rw same at (word_of_group 2 c.args.plan.now i (omega arith)))
+
+pub returns-then-place-lt28-clause-word : goal.returns-then-place-lt28-clause-word
+returns-then-place-lt28-clause-word c =
+    let i = (c.args.place - 12) / 2 in
+    let k = c.args.place % 2 in
+    let inside = c.plan.inside in
+    let same : 12 + 2 * i + k ≡ c.args.place = omega arith in
+    let front = padded inside.items c.args.plan.now.items inside.item_count (8 - inside.item_count) i unused (sym (ap (λ p. p.items) c.plan.view_is)) c.plan.invariant.items_end in
+    c.item_word.ensures.word ∙ ap (λ item. item_word item k) (sym front) ∙ sym (rw same at (word_of_item 2 c.args.plan.now i k (omega arith) (omega arith)))

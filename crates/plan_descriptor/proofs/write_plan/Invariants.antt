@@ -1,0 +1,15 @@
+use Rattle.std.proofs.Common.{◌≡◌, ◌<◌, ◌+◌, ◌^◌, ℕ, FitsSigned, Some, w64}
+use Rattle.std.specs.Option.{ForSome}
+use Rattle.plan_descriptor.specs.Descriptor.{plan_word}
+use Rattle.word_map.specs.WordMap.{at as word_at}
+use Rattle.plan_descriptor.proofs.write_plan.Given as goal
+
+abbrev pub invariant-words : goal.invariant-words
+invariant-words l = record {
+  stored : (k : ℕ) → k < l.place → word_at l.chunk.part.words (l.chunk.at + k) ≡ Some (plan_word 2 l.plan k);
+  narrow : (k : ℕ) → k < l.place → k < 30 → plan_word 2 l.plan k < 2 ^ 32;
+  value : 28 < l.place → ForSome l.plan.filter (λ filter. FitsSigned w64 filter.value);
+  place : l.chunk.at ≡ l.initial.chunk.at;
+  bytes : l.chunk.bytes ≡ l.initial.chunk.bytes;
+  region : l.chunk.part.region ≡ l.initial.chunk.part.region;
+}

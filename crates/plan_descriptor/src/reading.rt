@@ -1,0 +1,203 @@
+//! The plan of a descriptor's words, where each of them is allowed.
+
+ghost use Rattle.std.specs.Prelude.{◌≡◌, ◌+◌, ◌*◌, ◌<◌, ◌≤◌, ◌^◌, ℕ, FitsSigned, IfErr, IfOk, None, OnOk, Some, length, slice_index, slice_index_or};
+ghost use Rattle.std.specs.Int.{w64};
+ghost use Rattle.std.specs.Option.{ForSome, option_map_or};
+ghost use Rattle.par_model.specs.Plan.{Plan};
+ghost use Rattle.par_model.specs.PlanLayout.{unused};
+ghost use Rattle.plan_descriptor.specs.Descriptor.{IsDescriptor, IsWritable, bad_word, filter_word, is_allowed, is_column, is_filter, is_head, is_item, kind_word, relation_word, size_of};
+
+use crate::BadDescriptor;
+use par_model::{BoundPlan, Filter, FilterOp, Item, ItemKind};
+
+/// The plan of the words of a descriptor, or the least word that is not allowed.
+pub(crate) fn decode(words: &[u64]) -> Result<BoundPlan, BadDescriptor>
+    requires { length words.now ≡ size_of (slice_index words.now 0) }
+    ensures descriptor { IfOk result (λ plan. IsDescriptor words.now plan) }
+    ensures reads_back { (plan : Plan) → IsWritable plan → IsDescriptor words.now plan → result ≡ Ok plan }
+    ensures refused { IfErr result (λ e. bad_word words.now ≡ Some e.at) }
+    ensures whole { OnOk result (bad_word words.now ≡ None) }
+{
+    match first_bad(words) {
+        Some(at) => Err(BadDescriptor { at }),
+        None => Ok(allowed_plan(words)),
+    }
+}
+
+/// The least word that is not allowed.
+fn first_bad(words: &[u64]) -> Option<u64>
+    requires { length words.now ≡ size_of (slice_index words.now 0) }
+    ensures { result ≡ bad_word words.now }
+{
+    'words: for place in 0..words.len() {
+        if !is_allowed(words, place) {
+            return Some(place as u64);
+        }
+    }
+    None
+}
+
+/// Whether the word at a place is allowed there, beside the words before it.
+fn is_allowed(words: &[u64], place: usize) -> bool
+    requires size { 28 ≤ length words.now }
+    requires inside { place < length words.now }
+    ensures { result ≡ is_allowed words.now place }
+{
+    let word = words[place];
+    if place < 4 {
+        return is_head(place, word);
+    }
+    if place < 12 {
+        return is_column((place as u64 - 4) < words[1], word);
+    }
+    if place < 28 {
+        return is_item(words, (place - 12) / 2, place % 2, word);
+    }
+    is_filter(words, place - 28, word)
+}
+
+fn is_head(place: usize, word: u64) -> bool
+    ensures { result ≡ is_head place word }
+{
+    match place {
+        0 => word == 1 || word == 2,
+        1 => word <= 8,
+        2 => 1 <= word && word <= 8,
+        _ => word <= 1,
+    }
+}
+
+/// A column where one stands, and else zero.
+fn is_column(stands: bool, word: u64) -> bool
+    ensures { result ≡ is_column stands word }
+{
+    if stands { word < 1 << 32 } else { word == 0 }
+}
+
+/// The two words of an aggregate.
+fn is_item(words: &[u64], at: usize, place: usize, word: u64) -> bool
+    requires size { 28 ≤ length words.now }
+    requires inside { at < 8 }
+    ensures { result ≡ is_item words.now at place word }
+{
+    let stands = (at as u64) < words[2];
+    if place == 0 {
+        return if stands { word <= 5 } else { word == 0 };
+    }
+    is_column(stands && words[12 + 2 * at] != 0, word)
+}
+
+/// The words of the filter.
+fn is_filter(words: &[u64], place: usize, word: u64) -> bool
+    requires { 29 ≤ length words.now }
+    ensures { result ≡ is_filter words.now place word }
+{
+    let stands = words[28] != 0;
+    match place {
+        0 => word <= 6,
+        1 => is_column(stands, word),
+        2 => stands || word == 0,
+        _ => word == 0,
+    }
+}
+
+/// The plan of words that are allowed.
+fn allowed_plan(words: &[u64]) -> BoundPlan
+    requires size { length words.now ≡ size_of (slice_index words.now 0) }
+    requires allowed { bad_word words.now ≡ None }
+    ensures descriptor { IsDescriptor words.now result }
+    ensures plan { IsWritable result }
+{
+    BoundPlan {
+        groups: groups(words),
+        group_count: words[1] as u32,
+        items: items(words),
+        item_count: words[2] as u32,
+        hash: words[3] == 1,
+        filter: filter(words),
+    }
+}
+
+/// The columns to group by, each at its place.
+fn groups(words: &[u64]) -> [u32; 8]
+    requires size { 28 ≤ length words.now }
+    requires columns { (k : ℕ) → k < 8 → slice_index words.now (4 + k) < 2 ^ 32 }
+    ensures size { length result ≡ 8 }
+    ensures columns { (k : ℕ) → k < 8 → slice_index result k ≡ slice_index words.now (4 + k) }
+{
+    let mut groups = [0; 8];
+    'groups: for at in 0..8 {
+        groups[at] = words[4 + at] as u32;
+    }
+    groups
+}
+
+/// The aggregates, each at its place.
+fn items(words: &[u64]) -> [Item; 8]
+    requires size { 28 ≤ length words.now }
+    requires kinds { (k : ℕ) → k < 8 → slice_index words.now (12 + 2 * k) ≤ 5 }
+    requires columns { (k : ℕ) → k < 8 → slice_index words.now (13 + 2 * k) < 2 ^ 32 }
+    ensures size { length result ≡ 8 }
+    ensures kinds { (k : ℕ) → k < 8 → kind_word (slice_index_or result k unused).kind ≡ slice_index words.now (12 + 2 * k) }
+    ensures columns { (k : ℕ) → k < 8 → (slice_index_or result k unused).column ≡ slice_index words.now (13 + 2 * k) }
+{
+    let mut items = [Item {
+        kind: ItemKind::Rows,
+        column: 0,
+    }; 8];
+    'items: for at in 0..8 {
+        let kind = kind_of(words[12 + 2 * at]);
+        let column = words[13 + 2 * at] as u32;
+        items[at] = Item { kind, column };
+    }
+    items
+}
+
+fn kind_of(word: u64) -> ItemKind
+    requires { word ≤ 5 }
+    ensures { kind_word result ≡ word }
+{
+    match word {
+        0 => ItemKind::Rows,
+        1 => ItemKind::Count,
+        2 => ItemKind::Sum,
+        3 => ItemKind::Min,
+        4 => ItemKind::Max,
+        _ => ItemKind::Avg,
+    }
+}
+
+/// The filter, if there is one.
+fn filter(words: &[u64]) -> Option<Filter>
+    requires size { length words.now ≡ size_of (slice_index words.now 0) }
+    requires allowed { bad_word words.now ≡ None }
+    ensures old { length words.now ≡ 28 → result ≡ None }
+    ensures fits { ForSome result (λ filter. (filter.column < 2 ^ 32) × FitsSigned w64 filter.value) }
+    ensures words { length words.now ≡ 32 → (k : ℕ) → k < 4 → filter_word result k ≡ slice_index words.now (28 + k) }
+{
+    if words.len() < 32 {
+        return None;
+    }
+    let op = relation_of(words[28])?;
+    Some(Filter {
+        column: words[29] as u32,
+        op,
+        value: words[30].cast_signed(),
+    })
+}
+
+/// The relation of a word, or none for 0.
+fn relation_of(word: u64) -> Option<FilterOp>
+    requires { word ≤ 6 }
+    ensures { option_map_or relation_word result 0 ≡ word }
+{
+    match word {
+        1 => Some(FilterOp::Equal),
+        2 => Some(FilterOp::NotEqual),
+        3 => Some(FilterOp::Less),
+        4 => Some(FilterOp::LessEqual),
+        5 => Some(FilterOp::Greater),
+        6 => Some(FilterOp::GreaterEqual),
+        _ => None,
+    }
+}

@@ -1,0 +1,110 @@
+//! The word of a plan at each place of its descriptor.
+
+ghost use Rattle.std.specs.Prelude.{◌≡◌, ◌<◌, ◌≤◌, ◌^◌, FitsSigned};
+ghost use Rattle.std.specs.Int.{w64};
+ghost use Rattle.std.specs.Option.{ForSome};
+ghost use Rattle.plan_descriptor.specs.Descriptor.{HasRoom, filter_word, head_word, item_word, kind_word, plan_word, relation_word};
+
+use par_model::{BoundPlan, Filter, FilterOp, Item, ItemKind};
+
+/// The word at a place of a plan's descriptor of version 2.
+pub(crate) fn plan_word(plan: &BoundPlan, place: u64) -> u64
+    requires { place < 32 }
+    ensures word { result ≡ plan_word 2 plan.now place }
+    ensures narrow { place < 30 → result < 2 ^ 32 }
+    ensures value { 28 ≤ place → ForSome plan.now.filter (λ filter. FitsSigned w64 filter.value) }
+{
+    if place < 4 {
+        return head_word(plan, place);
+    }
+    if place < 12 {
+        return u64::from(plan.groups[place as usize - 4]);
+    }
+    if place < 28 {
+        let item = plan.items[(place as usize - 12) / 2];
+        return item_word(item, place % 2);
+    }
+    filter_word(plan.filter, place - 28)
+}
+
+/// Tells how long a plan's lists are. It does nothing.
+pub(crate) fn has_room(plan: &BoundPlan)
+    ensures { HasRoom plan.now }
+{
+    let _first = plan.items[0];
+}
+
+fn head_word(plan: &BoundPlan, place: u64) -> u64
+    requires { place < 4 }
+    ensures word { result ≡ head_word 2 plan.now place }
+    ensures narrow { result < 2 ^ 32 }
+{
+    match place {
+        0 => 2,
+        1 => u64::from(plan.group_count),
+        2 => plan.items[..plan.item_count as usize].len() as u64,
+        _ => u64::from(plan.hash),
+    }
+}
+
+fn item_word(item: Item, place: u64) -> u64
+    ensures word { result ≡ item_word item place }
+    ensures narrow { result < 2 ^ 32 }
+{
+    match place {
+        0 => kind_word(item.kind),
+        _ => u64::from(item.column),
+    }
+}
+
+fn kind_word(kind: ItemKind) -> u64
+    ensures word { result ≡ kind_word kind }
+    ensures narrow { result < 6 }
+{
+    match kind {
+        ItemKind::Rows => 0,
+        ItemKind::Count => 1,
+        ItemKind::Sum => 2,
+        ItemKind::Min => 3,
+        ItemKind::Max => 4,
+        ItemKind::Avg => 5,
+    }
+}
+
+fn filter_word(filter: Option<Filter>, place: u64) -> u64
+    ensures word { result ≡ filter_word filter place }
+    ensures narrow { place < 2 → result < 2 ^ 32 }
+    ensures value { ForSome filter (λ filter. FitsSigned w64 filter.value) }
+{
+    match filter {
+        None => 0,
+        Some(filter) => word_of_filter(filter, place),
+    }
+}
+
+fn word_of_filter(filter: Filter, place: u64) -> u64
+    ensures word { result ≡ filter_word (Some filter) place }
+    ensures narrow { place < 2 → result < 2 ^ 32 }
+    ensures value { FitsSigned w64 filter.value }
+{
+    match place {
+        0 => relation_word(filter.op),
+        1 => u64::from(filter.column),
+        2 => filter.value.cast_unsigned(),
+        _ => 0,
+    }
+}
+
+fn relation_word(op: FilterOp) -> u64
+    ensures word { result ≡ relation_word op }
+    ensures narrow { result < 7 }
+{
+    match op {
+        FilterOp::Equal => 1,
+        FilterOp::NotEqual => 2,
+        FilterOp::Less => 3,
+        FilterOp::LessEqual => 4,
+        FilterOp::Greater => 5,
+        FilterOp::GreaterEqual => 6,
+    }
+}
