@@ -69,7 +69,7 @@ impl Buffer {
     }
 
     /// Writes the digits to the end of the buffer, and says where they begin. Most numbers fit a `u64`, whose division is
-    /// fast.
+    /// fast, and there two digits are found by one.
     fn put_digits(&mut self, size: u128) -> usize {
         let (mut high, mut at) = (size, LONGEST);
         while high > u128::from(u64::MAX) {
@@ -78,16 +78,32 @@ impl Buffer {
             high /= 10;
         }
         let mut low = high as u64;
-        loop {
-            at -= 1;
-            self.bytes[at] = b'0' + (low % 10) as u8;
-            low /= 10;
-            if low == 0 {
-                return at;
-            }
+        while low >= 100 {
+            at -= 2;
+            self.bytes[at..at + 2].copy_from_slice(&PAIRS[(low % 100) as usize]);
+            low /= 100;
         }
+        let [tens, ones] = PAIRS[low as usize];
+        at -= 1;
+        self.bytes[at] = ones;
+        if low >= 10 {
+            at -= 1;
+            self.bytes[at] = tens;
+        }
+        at
     }
 }
+
+/// The two digits of each number below 100.
+const PAIRS: [[u8; 2]; 100] = {
+    let mut pairs = [[b'0'; 2]; 100];
+    let mut n = 0;
+    while n < 100 {
+        pairs[n] = [b'0' + (n / 10) as u8, b'0' + (n % 10) as u8];
+        n += 1;
+    }
+    pairs
+};
 
 #[cfg(test)]
 mod tests {
@@ -99,6 +115,9 @@ mod tests {
             assert_eq!(Buffer::new().format(n), n.to_string());
             assert_eq!(Buffer::new().format(n as u64), (n as u64).to_string());
             assert_eq!(Buffer::new().format(i128::from(n) * 1_000_000_000_000), (i128::from(n) * 1_000_000_000_000).to_string());
+        }
+        for n in 0..1100u64 {
+            assert_eq!(Buffer::new().format(n), n.to_string());
         }
         for n in [i128::MIN, i128::MAX, -1, i128::from(u64::MAX) + 1] {
             assert_eq!(Buffer::new().format(n), n.to_string());

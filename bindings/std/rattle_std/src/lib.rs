@@ -4,7 +4,7 @@
 //! standard streams go through a handle. All else is Rust's std, under the same paths. None of this is proved; over each
 //! type stands the sentence of the statement that the proofs rest on, and that this code has to meet.
 
-#![forbid(unsafe_code)]
+#![deny(unsafe_code)]
 #![expect(clippy::should_implement_trait, reason = "a copy may be refused, so `clone` is no `Clone`")]
 
 pub mod alloc;
