@@ -1,6 +1,6 @@
 //! A list of keys whose bytes stand one after the other.
 
-ghost use Rattle.std.specs.Prelude.{◌≡◌, ◌<◌, ◌≤◌, ◌↔◌, ◌∷◌, ◌++◌, [], All, Some, IsTrue, OnOk, OnErr, drop, get_or, length, slice_get, take};
+ghost use Rattle.std.specs.Prelude.{◌≡◌, ◌<◌, ◌≤◌, ◌-◌, ◌↔◌, ◌∷◌, ◌++◌, [], All, Some, IsTrue, OnOk, OnErr, drop, get_or, length, slice_get, take};
 ghost use Rattle.csv.specs.Records.{prev};
 ghost use Rattle.key_index.specs.Front.{AllBytes, IsFrontOf, leading};
 ghost use Rattle.key_index.specs.Keys.{key_at, key_cmp};
@@ -90,7 +90,7 @@ impl KeyList {
     pub(crate) fn is(&self, at: usize, key: &[u8]) -> bool
         ensures { IsTrue result ↔ (slice_get self.now at ≡ Some key.now) }
     {
-        at < self.len() && self.get(at) == key
+        at < self.len() && same_bytes(self.get(at), key)
     }
 
     /// Whether a key that ends with this byte stands there.
@@ -120,6 +120,45 @@ impl KeyList {
         self.bytes.clear();
         self.ends.clear();
     }
+}
+
+/// How many bytes of two keys are compared at once.
+const WORD: usize = 8;
+
+/// Whether two keys are the same. Keys of a word or more are compared word by word, and in the end by their last word,
+/// which may begin within the one before: so no byte is compared by itself, and no call is made for a short key.
+fn same_bytes(a: &[u8], b: &[u8]) -> bool
+    ensures { IsTrue result ↔ (a.now ≡ b.now) }
+{
+    if a.len() != b.len() {
+        return false;
+    }
+    if a.len() < WORD {
+        return a == b;
+    }
+    same_words(last_word(a), last_word(b))
+        && same_words(a.as_chunks::<WORD>().0, b.as_chunks::<WORD>().0)
+}
+
+/// The last word of a key, as a list of one.
+fn last_word(key: &[u8]) -> &[[u8; 8]]
+    requires { 8 ≤ length key.now }
+    ensures { result.now ≡ drop (length key.now - 8) key.now ∷ [] }
+{
+    key[key.len() - WORD..].as_chunks::<WORD>().0
+}
+
+/// Whether as many words are the same.
+fn same_words(a: &[[u8; 8]], b: &[[u8; 8]]) -> bool
+    requires { length a.now ≡ length b.now }
+    ensures { IsTrue result ↔ (a.now ≡ b.now) }
+{
+    for (at, word) in a.iter().enumerate() {
+        if *word != b[at] {
+            return false;
+        }
+    }
+    true
 }
 
 /// Where the key at this place starts and ends.

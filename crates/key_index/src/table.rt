@@ -12,7 +12,7 @@ ghost use Rattle.std.specs.Prelude.{◌≡◌, ◌<◌, ◌≤◌, ◌+◌, ◌^
 ghost use Rattle.std.specs.Bool.{OnTrue};
 ghost use Rattle.std.specs.List.Sorted.{IsPermutation, IsSorted};
 ghost use Rattle.key_index.specs.Keys.{key_at, key_cmp};
-ghost use Rattle.key_index.specs.Index.{IsIndexed, IsLate, IsReached, hash, late_place, probe as probed, reach as reached};
+ghost use Rattle.key_index.specs.Index.{IsIndexed, IsLate, IsReached, hash as hashed, late_place, probe as probed, reach as reached};
 
 use crate::list::KeyList;
 use crate::order::{in_order, write_places};
@@ -86,7 +86,27 @@ impl KeyTable {
         ensures found { IfSome result (λ place. slice_get self.now place ≡ Some key.now) }
         ensures absent { IfNone result ((place : ℕ) → slice_get self.now place ≡ Some key.now → ⊥) }
     {
-        let hash = hash_of(key);
+        self.find_hashed(hash_of(key), NO_GUESS, key)
+    }
+
+    /// The same, where the key may be expected at a place that [`KeyTable::guess`] gave.
+    pub fn find_at(&self, guess: usize, key: &[u8]) -> Option<usize>
+        ensures found { IfSome result (λ place. slice_get self.now place ≡ Some key.now) }
+        ensures absent { IfNone result ((place : ℕ) → slice_get self.now place ≡ Some key.now → ⊥) }
+    {
+        self.find_hashed(hash_of(key), guess, key)
+    }
+
+    /// The same for a caller that has the key's hash, by [`hash_of`], and may expect the key at a place that
+    /// [`KeyTable::guess`] gave: there it is looked for first.
+    pub fn find_hashed(&self, hash: u64, guess: usize, key: &[u8]) -> Option<usize>
+        requires { hash ≡ hashed key.now }
+        ensures found { IfSome result (λ place. slice_get self.now place ≡ Some key.now) }
+        ensures absent { IfNone result ((place : ℕ) → slice_get self.now place ≡ Some key.now → ⊥) }
+    {
+        if self.keys.is(guess, key) {
+            return Some(guess);
+        }
         let tag = (hash >> 32) as u32;
         let size = self.slots.len();
         for step in 0..reach(size) {
@@ -102,21 +122,10 @@ impl KeyTable {
         find_late(&self.late, &self.keys, key)
     }
 
-    /// The same, where the key may be expected at a place that [`KeyTable::guess`] gave: there it is looked for first.
-    pub fn find_at(&self, guess: usize, key: &[u8]) -> Option<usize>
-        ensures found { IfSome result (λ place. slice_get self.now place ≡ Some key.now) }
-        ensures absent { IfNone result ((place : ℕ) → slice_get self.now place ≡ Some key.now → ⊥) }
-    {
-        if self.keys.is(guess, key) {
-            return Some(guess);
-        }
-        self.find(key)
-    }
-
     /// Guesses at the places of keys, of which each has a hash, by [`hash_of`], and a last byte. A guess may be wrong, or
     /// no place at all. In a large table a look-up waits for far memory twice, for a slot and for a key. Here it is the
     /// slots of all keys that are read first, and then their keys, and nothing that is read waits for anything else of
-    /// the same turn; so [`KeyTable::find_at`] finds near what it reads. There are as many guesses as all three lists
+    /// the same turn; so [`KeyTable::find_hashed`] finds near what it reads. There are as many guesses as all three lists
     /// have places for.
     pub fn guess(&self, hashes: &[u64], lasts: &[u8], guesses: &mut [usize]) {
         let size = self.slots.len();
@@ -152,6 +161,15 @@ impl KeyTable {
         ensures ok { OnOk result (self.new ≡ self.old ++ key.now ∷ []) }
         ensures err { OnErr result (self.new ≡ self.old) }
     {
+        self.push_hashed(alloc, hash_of(key), key)
+    }
+
+    /// The same for a caller that has the key's hash, by [`hash_of`].
+    pub fn push_hashed(&mut self, alloc: Global, hash: u64, key: &[u8]) -> Result<(), AllocError>
+        requires { hash ≡ hashed key.now }
+        ensures ok { OnOk result (self.new ≡ self.old ++ key.now ∷ []) }
+        ensures err { OnErr result (self.new ≡ self.old) }
+    {
         self.make_room(alloc)?;
         let place = self.keys.len();
         enter(
@@ -159,6 +177,7 @@ impl KeyTable {
             &mut self.late,
             &self.keys,
             alloc,
+            hash,
             key,
             place,
         )?;
@@ -194,7 +213,7 @@ const MOST_KEYS: usize = u32::MAX as usize;
 
 /// The hash of a key, by which a table finds it.
 pub fn hash_of(key: &[u8]) -> u64
-    ensures { result ≡ hash key.now }
+    ensures { result ≡ hashed key.now }
 {
     let mut hasher = FoldHasher::default();
     hasher.write(key);
@@ -251,14 +270,16 @@ fn enter(
     late: &mut BTreeMap<Vec<u8>, usize>,
     keys: &KeyList,
     alloc: Global,
+    hash: u64,
     key: &[u8],
     place: usize,
 ) -> Result<(), AllocError>
-    ensures entered { OnOk result (IsReached slots.new.items (hash key.now) place ⊎ ((late_place late.new key.now ≡ Some place) ⊎ IsLate late.new keys.now key.now)) }
+    requires { hash ≡ hashed key.now }
+    ensures entered { OnOk result (IsReached slots.new.items (hashed key.now) place ⊎ ((late_place late.new key.now ≡ Some place) ⊎ IsLate late.new keys.now key.now)) }
     ensures kept { (other at : ℕ) → IsReached slots.old.items other at → IsReached slots.new.items other at }
     ensures late_kept { (other : List ℕ) → IsLate late.old keys.now other → IsLate late.new keys.now other }
 {
-    if put(slots, hash_of(key), place) {
+    if put(slots, hash, place) {
         return Ok(());
     }
     if let Some(_place) = find_late(late, keys, key) {
@@ -305,7 +326,8 @@ fn index_of(
 {
     let mut slots = vec![in alloc; FREE; size]?;
     for place in 0..keys.len() {
-        enter(&mut slots, late, keys, alloc, keys.get(place), place)?;
+        let key = keys.get(place);
+        enter(&mut slots, late, keys, alloc, hash_of(key), key, place)?;
     }
     Ok(slots)
 }

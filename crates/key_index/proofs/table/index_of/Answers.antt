@@ -14,7 +14,7 @@ loop-place-preserved c =
       entered = λ p key lt e.
           more_steps {P = λ p. slice_get keys p ≡ Some key → IsReached slots (hash key) p ⊎ IsLate late keys key} c.loop-place.place
           (λ p less e. still_found c.loop-place.slots.items slots c.loop-place.late late keys key p c.enter.ensures.kept c.enter.ensures.late_kept (c.loop-place.invariant.entered p key less e))
-          (λ e. entered_is slots late keys c.get.result.now key c.loop-place.place c.get.ensures e c.in_ok-enter.ensures.entered) p lt e;
+          (λ e. entered_is slots late keys c.get-key.result.now key c.loop-place.place c.get-key.ensures e c.in_ok-enter.ensures.entered) p lt e;
       kept = λ key l. c.enter.ensures.late_kept key (c.loop-place.invariant.kept key l);
     }
 

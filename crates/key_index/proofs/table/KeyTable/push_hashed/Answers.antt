@@ -2,7 +2,7 @@ use Rattle.std.proofs.Common.{◌≡◌, ◌∷◌, ◌++◌, ◌⊎◌, [], ℕ
 use Rattle.csv.proofs.RecordFacts.{by_outcome}
 use Rattle.key_index.specs.Index.{IsIndexed, IsLate, IsReached, hash, late_place}
 use Rattle.key_index.proofs.Index.{indexed_kept, indexed_more}
-use Rattle.key_index.proofs.table.KeyTable.push.Goals as goal
+use Rattle.key_index.proofs.table.KeyTable.push_hashed.Goals as goal
 
 pub invariant_of-self : goal.invariant_of-self
 invariant_of-self c =
