@@ -48,6 +48,11 @@ pub fn unpack(word: u64, out: &mut [u8], at: u64)
     ensures len { length out.new ≡ length out.old }
 {
     let start = at as usize * 8;
+    let bytes = word.to_le_bytes();
+    if out.len() - start >= 8 {
+        out[start..start + 8].copy_from_slice(&bytes);
+        return;
+    }
     let end = out.len().min(start + 8);
-    out[start..end].copy_from_slice(&word.to_le_bytes()[..end - start]);
+    out[start..end].copy_from_slice(&bytes[..end - start]);
 }
