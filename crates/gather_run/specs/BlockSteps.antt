@@ -34,7 +34,7 @@ abbrev pub StepsAlone : Plan → Table → Claims → List ℕ → List ℕ → 
 StepsAlone plan records claims old new used used' before now step =
     (tuples : List (List (List ℕ))) → IsLeading plan records old used tuples before → BlockStep plan records claims new used' tuples now step
 
--- likewise once all workers were heard, one of which may have named a refused row
+-- what a block does to the leader once it has heard all workers, one of which may have named a refused row
 abbrev pub Steps : Plan → Table → Claims → List ℕ → Option Use → List LeaderEnds → GroupsByKey → Step → Type 0
 Steps plan records claims draws used queues groups Next = IsLeading plan records draws used (map_list tuples_of queues) groups
 Steps plan records claims draws used queues groups NoMore = IsLeading plan records draws used (map_list tuples_of queues) groups × IsTrue (is_spent (blocks_of claims) draws)
