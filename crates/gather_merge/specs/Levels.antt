@@ -29,7 +29,7 @@ pair_cmp x y = ordering_then (nat_cmp x.word y.word) (nat_cmp x.row y.row)
 abbrev pub rows_of : List Keyed → List ℕ
 rows_of run = map (λ (k : Keyed). k.row) run
 
--- the word at a place
+-- the word of the pair at a place of a run, and zero past its end
 abbrev pub word_of_pair : List Keyed → ℕ → ℕ
 word_of_pair run k = (slice_index_or run k (record { word = 0; row = 0 })).word
 

@@ -28,9 +28,9 @@ pub record SentItsRows (plan : Plan) (records : Table) (draws : List ℕ) (w : R
 abbrev pub ReadItsNotices : Returned WorkerEnd → Type 0
 ReadItsNotices w = whole_of w.errors.receiver.taken ≡ whole_of w.errors.sender.put
 
--- What the participants brought home where there is an order: there is one entry for each worker asked for, in order of
--- their numbers, and each that started has finished, its notices read; each block with a row was drawn once, by the leader or by one of
--- the workers; and each worker's rows went through its queue, all of them and in order
+-- What the participants brought home if there is an order: there is one entry for each worker asked for, in order of
+-- their numbers, and each that started has finished, its notices read; each block with a row was drawn once, by the
+-- leader or by one of the workers; and each worker's rows went through its queue, all of them and in order
 pub record IsUsed (plan : Plan) (records : Table) (workers : ℕ) (f : Finished WorkerEnd) : Type 0 where
   pub asked : length f.workers.items ≡ workers
   pub numbers : AreNumbered 1 (map (λ (w : Returned WorkerEnd). w.number) f.workers.items)
