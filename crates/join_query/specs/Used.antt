@@ -29,7 +29,7 @@ pub record IsJoinFor (asked : Asked) (bytes : List ℕ) (j : Joined) : Type 0 wh
   pub right_column : column_of (record_at (right_of bytes place) 0) asked.column ≡ Some r
   pub on : IsJoinOn (left_of bytes place) (right_of bytes place) l r asked.workers j
 
--- likewise where words ask for a join
+-- words ask for a join, and the tables of the bytes were joined so
 abbrev pub IsJoinBy : Option Asked → List ℕ → Joined → Type 0
 IsJoinBy None bytes j = ⊥
 IsJoinBy (Some asked) bytes j = IsJoinFor asked bytes j
