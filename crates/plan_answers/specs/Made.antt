@@ -13,7 +13,7 @@ pub record IsMadeFor (query : Query) (bytes text : List ℕ) (g : Gathered) : Ty
   pub used : IsUsed (bound_over query.plan bytes) (records_of bytes) query.workers query.area_pages g.finished
   pub text_is : IsTextOf query.plan (bound_over query.plan bytes) g.groups text
 
--- likewise where the words are a query
+-- words are a query, and its participants made the groups of the text
 abbrev pub IsMadeBy : Option Query → List ℕ → List ℕ → Gathered → Type 0
 IsMadeBy None bytes text g = ⊥
 IsMadeBy (Some query) bytes text g = IsMadeFor query bytes text g

@@ -14,7 +14,7 @@ abbrev pub Restates : NamedPlan → BlockAnswer → Stop → Type 0
 Restates plan (answer.Row row cause item) why = IsRefusedRow plan row (record { cause = cause; item = item }) why ⊎ (why ≡ stop.Memory)
 Restates plan answer.Memory why = why ≡ stop.Memory
 
--- likewise of an answer of `gather`
+-- the reason says of an answer of `gather` what the answer says, or is out of memory
 abbrev pub RestatesGather : NamedPlan → GatherAnswer → Stop → Type 0
 RestatesGather plan (gathering.Row row cause item) why = IsRefusedRow plan row (record { cause = cause; item = item }) why ⊎ (why ≡ stop.Memory)
 RestatesGather plan gathering.Memory why = why ≡ stop.Memory
