@@ -41,7 +41,7 @@ pub record IsMergedFor (query : Query) (bytes text : List ℕ) (m : Merged) : Ty
   pub used : IsUsed (bound_over query.plan bytes) (records_of bytes) query.workers m.finished
   pub in_order : IsInOrder query.plan bytes m.order text
 
--- likewise where the words are a query
+-- words are a query, and its participants put the rows of the text in order
 abbrev pub IsMergedBy : Option Query → List ℕ → List ℕ → Merged → Type 0
 IsMergedBy None bytes text m = ⊥
 IsMergedBy (Some query) bytes text m = IsMergedFor query bytes text m
