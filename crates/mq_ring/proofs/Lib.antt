@@ -3,3 +3,4 @@ pub mod SenderSteps
 pub mod ReceiverSteps
 pub mod Meetings
 pub mod Makings
+pub mod Runs

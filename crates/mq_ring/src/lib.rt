@@ -8,6 +8,7 @@
 
 #![tactic(auto)]
 
+mod bursts;
 mod done;
 mod making;
 mod meeting;
