@@ -8,17 +8,17 @@ use Rattle.atomic_table.proofs.Lists.{at_set}
 use Rattle.lock_book.specs.declared.view.Entry.{Entry}
 use Rattle.lock_book.specs.declared.view.View.{View}
 use Rattle.lock_book.specs.History.{calls_by, StartsWith}
-use Rattle.lock_book.specs.Ruled.{total, holders, Stands, seen_at, told_at, StageOk, Knows, ValueOk, Ruled}
+use Rattle.lock_book.specs.Ruled.{lock_at, named, total, holders, Stands, seen_at, told_at, StageOk, Knows, ValueOk, Ruled}
 use Rattle.lock_book.proofs.Histories.{starts_trans, at_place}
 use Rattle.lock_book.proofs.Totals.{total_set}
 
 module _ {X N S C R : Type 0} (slot_name : X → N) (slot_state : X → S) (legal : N → ℕ → S → C → R → S → Type 0) where
   -- a value of which nothing changed
   pub same_value : (words ws : List ℕ) (homes hs : List (Option X)) (views vs : List (View N S C R)) (i : ℕ) (o : N × S) (log : List (Entry S C R))
-      → slice_index ws i ≡ slice_index words i → ((x : X) → get_elem? homes i ≡ some (some x) → get_elem? hs i ≡ some (some x))
-      → total (λ v. holders i v.stage) vs ≡ total (λ v. holders i v.stage) views → ValueOk slot_name slot_state legal words homes views i o log → ValueOk slot_name slot_state legal ws hs vs i o log
-  same_value words ws homes hs views vs i o log locked home same k = let alone = k.alone in record {
-    locked = locked ∙ (k.locked ∙ sym same);
+      → slice_index ws (lock_at i) ≡ slice_index words (lock_at i) → ((x : X) → get_elem? homes i ≡ some (some x) → get_elem? hs i ≡ some (some x))
+      → total (λ v. holders i v.stage) vs ≡ total (λ v. holders i v.stage) views → total (λ v. named i v.from v.stage) vs ≡ total (λ v. named i v.from v.stage) views → ValueOk slot_name slot_state legal words homes views i o log → ValueOk slot_name slot_state legal ws hs vs i o log
+  same_value words ws homes hs views vs i o log locked home same kept k = let alone = k.alone in record {
+    locked = locked ∙ (k.locked ∙ sym kept);
     alone = omega arith;
     lawful = k.lawful;
     at_home = λ z. let y = k.at_home (sym same ∙ z) in (y.0, home y.0 y.1, y.2, y.3);
@@ -44,14 +44,16 @@ module _ {X N S C R : Type 0} (slot_name : X → N) (slot_state : X → S) (lega
 
       -- all values, of which one changed
       pub values_by : (i : ℕ) → get_elem? s.views id ≡ some v → ((j : ℕ) → j ≢ i → now j ≡ r.logs j)
-          → ((j : ℕ) → j ≢ i → slice_index words j ≡ slice_index s.words j) → ((j : ℕ) (x : X) → j ≢ i → get_elem? s.homes j ≡ some (some x) → get_elem? homes j ≡ some (some x))
-          → ((j : ℕ) → j ≢ i → holders j w.stage ≡ holders j v.stage) → ((o : N × S) → get_elem? opens i ≡ some o → ValueOk slot_name slot_state legal words homes (set s.views id w) i o (now i))
+          → ((j : ℕ) → j ≢ i → slice_index words (lock_at j) ≡ slice_index s.words (lock_at j)) → ((j : ℕ) (x : X) → j ≢ i → get_elem? s.homes j ≡ some (some x) → get_elem? homes j ≡ some (some x))
+          → ((j : ℕ) → j ≢ i → holders j w.stage ≡ holders j v.stage) → ((j : ℕ) → j ≢ i → named j w.from w.stage ≡ named j v.from v.stage) → ((o : N × S) → get_elem? opens i ≡ some o → ValueOk slot_name slot_state legal words homes (set s.views id w) i o (now i))
           → (j : ℕ) (o : N × S) → get_elem? opens j ≡ some o → ValueOk slot_name slot_state legal words homes (set s.views id w) j o (now j)
-      values_by i at logs others home stages here = at_place (λ (j : ℕ). (o : N × S) → get_elem? opens j ≡ some o → ValueOk slot_name slot_state legal words homes (set s.views id w) j o (now j)) i here (λ j ne o e.
+      values_by i at logs others home stages names here = at_place (λ (j : ℕ). (o : N × S) → get_elem? opens j ≡ some o → ValueOk slot_name slot_state legal words homes (set s.views id w) j o (now j)) i here (λ j ne o e.
           let t = total_set (λ (u : View N S C R). holders j u.stage) s.views id v w at in
+          let m = total_set (λ (u : View N S C R). named j u.from u.stage) s.views id v w at in
           let same = stages j ne in
+          let kept = names j ne in
           subst (ValueOk slot_name slot_state legal words homes (set s.views id w) j o) (sym (logs j ne))
-          (same_value s.words words s.homes homes s.views (set s.views id w) j o (r.logs j) (others j ne) (λ x h. home j x ne h) (omega arith) (r.each_value j o e)))
+          (same_value s.words words s.homes homes s.views (set s.views id w) j o (r.logs j) (others j ne) (λ x h. home j x ne h) (omega arith) (omega arith) (r.each_value j o e)))
 
       module _ (c : Change) where
         other_knows : (other : ℕ) (u : View N S C R) → other ≢ id → get_elem? s.views other ≡ some u → Knows opens callers now u

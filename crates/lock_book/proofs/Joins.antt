@@ -1,5 +1,5 @@
 -- Two seats become one, and a shelf opens.
-use Rattle.std.proofs.Common.{◌≡◌, ◌≢◌, ◌⊎◌, ℕ, zero, suc, ◌+◌, ◌-◌, ◌<◌, List, [], ◌∷◌, ◌++◌, length, set, sym, refl, ap, ◌∙◌, subst, inl, inr, ⊎_elim, arith, length-append, replicate}
+use Rattle.std.proofs.Common.{◌≡◌, ◌≢◌, ◌⊎◌, ℕ, zero, suc, ◌+◌, ◌*◌, ◌-◌, ◌<◌, List, [], ◌∷◌, ◌++◌, length, set, sym, refl, ap, ◌∙◌, subst, inl, inr, ⊎_elim, arith, length-append, replicate}
 use Rattle.std.specs.Prelude.{slice_index}
 use mathlib.Core.Logic.{dite}
 use mathlib.Core.Option.{some, some-injective, some-ne-none}
@@ -11,7 +11,7 @@ use Rattle.lock_book.specs.declared.view.Entry.{Entry}
 use Rattle.lock_book.specs.declared.view.Stage.TheVariants.{Idle}
 use Rattle.lock_book.specs.declared.view.View.{View}
 use Rattle.lock_book.specs.History.{calls_by, calls_at, StartsWith, row_at, longer_rows}
-use Rattle.lock_book.specs.Ruled.{holders, Stands, seen_at, informed, together, nobody, newcomers, StageOk, Knows, Ruled}
+use Rattle.lock_book.specs.Ruled.{lock_at, named, holders, Stands, seen_at, informed, together, nobody, newcomers, StageOk, Knows, Ruled}
 use Rattle.lock_book.proofs.Histories.{starts_nil, longer_of, row_longer, calls_between}
 use Rattle.lock_book.proofs.Totals.{total_set, total_two}
 use Rattle.lock_book.proofs.Changes.{same_value}
@@ -56,7 +56,13 @@ module _ {X N S C R : Type 0} (slot_name : X → N) (slot_state : X → S) (lega
           let hv : f v ≡ 0 = ap (holders j) idle in
           let hw : f w ≡ 0 = ap (holders j) w_idle in
           let hb : f both ≡ 0 = ap (holders j) both_idle in
-          same_value slot_name slot_state legal s.words s.words s.homes s.homes s.views joined j o (r.logs j) refl (λ x h. h) (omega arith) (r.each_value j o e);
+          let n : View N S C R → ℕ = λ u. named j u.from u.stage in
+          let na = total_set n s.views id v both at in
+          let nb = total_set n (set s.views id both) other w nobody at' in
+          let nv : n v ≡ 0 = ap (named j v.from) idle in
+          let nw : n w ≡ 0 = ap (named j w.from) w_idle in
+          let nboth : n both ≡ 0 = ap (named j both.from) both_idle in
+          same_value slot_name slot_state legal s.words s.words s.homes s.homes s.views joined j o (r.logs j) refl (λ x h. h) (omega arith) (omega arith) (r.each_value j o e);
       seats =
           let f : View N S C R → ℕ = λ u. length u.owns in
           let a = total_set f s.views id v both at in
@@ -141,7 +147,7 @@ module _ {X N S C R : Type 0} (slot_name : X → N) (slot_state : X → S) (lega
 
   -- the shelf as it is made: each value at home, no call made
   pub opens_so : (slots : List X) → ((i : ℕ) (o : N × S) → get_elem? opens i ≡ some o → (x : X) × (get_elem? slots i ≡ some x) × (slot_name x ≡ o.0) × (slot_state x ≡ o.1))
-      → Rule (opening (replicate (length opens) 0) slots (newcomers opens callers))
+      → Rule (opening (replicate (8 * length opens) 0) slots (newcomers opens callers))
   opens_so slots fits = let n = newcomers {N = N} {S = S} {C = C} {R = R} opens callers in let len = empty_length callers in
       let start : ℕ → List (Entry S C R) = λ i. [] in
       let seat : Knows opens callers start n = record {
@@ -155,9 +161,9 @@ module _ {X N S C R : Type 0} (slot_name : X → N) (slot_state : X → S) (lega
         staged = tt;
       } in record {
         logs = start;
-        wide = words_length (length opens);
+        wide = words_length (8 * length opens);
         each_value = λ i o e. let f = fits i o e in record {
-          locked = zero_words (length opens) i;
+          locked = zero_words (8 * length opens) (lock_at i);
           alone = omega arith;
           lawful = tt;
           at_home = λ _. (f.0, at_map some slots i f.0 f.1, f.2, f.3);

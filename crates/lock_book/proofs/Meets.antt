@@ -9,7 +9,7 @@ use Rattle.lock_book.specs.declared.view.Entry.{Entry}
 use Rattle.lock_book.specs.declared.view.Stage.TheVariants.{Idle}
 use Rattle.lock_book.specs.declared.view.View.{View}
 use Rattle.lock_book.specs.History.{calls_by, calls_at, StartsWith, row_at, longer_rows, first_row, other_rows}
-use Rattle.lock_book.specs.Ruled.{holders, Stands, mine_at, seen_at, told_at, merged, first_caller, other_callers, note, informed, nobody, StageOk, Knows, Ruled, looked}
+use Rattle.lock_book.specs.Ruled.{named, holders, Stands, mine_at, seen_at, told_at, merged, first_caller, other_callers, note, informed, nobody, StageOk, Knows, Ruled, looked}
 use Rattle.lock_book.proofs.Histories.{starts_refl, starts_nil, legal_prefix, longer_of, calls_between, calls_none, row_longer}
 use Rattle.lock_book.proofs.Totals.{total_set, total_snoc}
 use Rattle.lock_book.proofs.Changes.{Change, changed, same_value}
@@ -108,7 +108,8 @@ module _ {X N S C R : Type 0} (slot_name : X → N) (slot_state : X → S) (lega
         same_seats = refl;
         same_from = refl;
         values = λ j o e. let t = total_set (λ (u : View N S C R). holders j u.stage) s.views id v w at in let hw : holders j w.stage ≡ holders j v.stage = refl in
-            same_value slot_name slot_state legal s.words s.words s.homes s.homes s.views (set s.views id w) j o (r.logs j) refl (λ x h. h) (omega arith) (r.each_value j o e);
+            let m = total_set (λ (u : View N S C R). named j u.from u.stage) s.views id v w at in let nw : named j w.from w.stage ≡ named j v.from v.stage = refl in
+            same_value slot_name slot_state legal s.words s.words s.homes s.homes s.views (set s.views id w) j o (r.logs j) refl (λ x h. h) (omega arith) (omega arith) (r.each_value j o e);
         knows = merged_knows opens callers r.logs v kn idle;
         grows = λ j. starts_refl (r.logs j);
         bounded = r.bounded;
@@ -171,7 +172,13 @@ module _ {X N S C R : Type 0} (slot_name : X → N) (slot_state : X → S) (lega
           let hv : f v ≡ 0 = ap (holders j) idle in
           let hl : f left ≡ 0 = ap (holders j) left_idle in
           let hr : f right ≡ 0 = ap (holders j) right_idle in
-          same_value slot_name slot_state legal s.words s.words s.homes s.homes s.views cut j o (r.logs j) refl (λ x h. h) (omega arith) (r.each_value j o e);
+          let n : View N S C R → ℕ = λ u. named j u.from u.stage in
+          let na = total_set n s.views id v left at in
+          let nb = total_snoc n (set s.views id left) right in
+          let nv : n v ≡ 0 = ap (named j v.from) idle in
+          let nl : n left ≡ 0 = ap (named j left.from) left_idle in
+          let nr : n right ≡ 0 = ap (named j right.from) right_idle in
+          same_value slot_name slot_state legal s.words s.words s.homes s.homes s.views cut j o (r.logs j) refl (λ x h. h) (omega arith) (omega arith) (r.each_value j o e);
       seats =
           let f : View N S C R → ℕ = λ u. length u.owns in
           let a = total_set f s.views id v left at in

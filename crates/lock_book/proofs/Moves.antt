@@ -1,5 +1,5 @@
 -- The moves of the lock and the commit keep the rule.
-use Rattle.std.proofs.Common.{◌≡◌, ◌≢◌, ℕ, zero, suc, ◌+◌, ◌<◌, eqb, List, [], ◌∷◌, ◌++◌, length, set, sym, refl, ap, ◌∙◌, subst, arith, length-set, get_or-set_other, get_or-set_same}
+use Rattle.std.proofs.Common.{◌≡◌, ◌≢◌, ℕ, zero, suc, ◌+◌, ◌*◌, ◌<◌, eqb, List, [], ◌∷◌, ◌++◌, length, set, sym, refl, ap, ◌∙◌, subst, arith, length-set, get_or-set_other, get_or-set_same}
 use Rattle.std.specs.Prelude.{slice_index}
 use mathlib.Core.Option.{Option, none, some, some-injective}
 use Rattle.std.specs.Prelude.{Option as Maybe, Some, None}
@@ -12,10 +12,10 @@ use Rattle.lock_book.specs.declared.view.Entry.{Entry}
 use Rattle.lock_book.specs.declared.view.Stage.TheVariants.{Idle, Holding}
 use Rattle.lock_book.specs.declared.view.View.{View}
 use Rattle.lock_book.specs.History.{entry, last_of, calls_by, calls_at, StartsWith, IsLegal, row_at, put_row}
-use Rattle.lock_book.specs.Ruled.{holders, mine_at, seen_at, told_at, at_stage, seeing, with_entry, IsFree, StageOk, ValueOk, Ruled, Taken, tried, tried_once, missing, given_back, served}
+use Rattle.lock_book.specs.Ruled.{lock_at, named, total, holders, mine_at, seen_at, told_at, at_stage, seeing, with_entry, IsFree, StageOk, ValueOk, Ruled, Taken, tried, tried_once, missing, given_back, served}
 use Rattle.lock_book.proofs.Histories.{starts_refl, starts_snoc, starts_trans, calls_by_mine, calls_by_other, calls_at_here, calls_at_other, legal_snoc, last_snoc, row_here, row_else, at_place}
 use Rattle.lock_book.proofs.Totals.{total_set, total_at, upd, upd_here, upd_else, there, within}
-use Rattle.lock_book.proofs.Stages.{one_holder, no_holder, one_seat, stage_else}
+use Rattle.lock_book.proofs.Stages.{one_holder, no_holder, one_named, no_named, few_holders, none_named, one_seat, stage_else}
 use Rattle.lock_book.proofs.Changes.{Change, changed, same_value, values_by}
 
 abbrev pub held_slot : {X : Type 0} → X → List (ℕ × X) → X
@@ -32,6 +32,13 @@ set_twice [] i a b = refl
 set_twice (x ∷ xs) zero a b = refl
 set_twice {A} (x ∷ xs) (suc i) a b = ap (λ (l : List A). x ∷ l) (set_twice xs i a b)
 
+-- the words of two locks are two words, and no lock's word is advice
+locks_apart : (i j : ℕ) → j ≢ i → lock_at j ≢ lock_at i
+locks_apart i j ne e = ne (omega arith)
+
+pub is_advice : (i k word : ℕ) → word ≡ 8 * i + k → 0 < k → k < 8 → (j : ℕ) → lock_at j ≢ word
+is_advice i k word is low few j e = absurd (omega arith)
+
 module _ {X N S C R : Type 0} (slot_name : X → N) (slot_state : X → S) (legal : N → ℕ → S → C → R → S → Type 0) (opens : List (N × S)) (callers : ℕ) where
   abbrev Rule : State X (View N S C R) → Type 0
   Rule = Ruled slot_name slot_state legal opens callers
@@ -39,22 +46,38 @@ module _ {X N S C R : Type 0} (slot_name : X → N) (slot_state : X → S) (lega
   unmoved : (s : State X (View N S C R)) → Rule s → (k id : ℕ) (me : Me X (View N S C R)) → get_elem? s.views id ≡ some me.0 → Rule (stepped s k (slice_index s.words k) id me.1 me.0 keeps)
   unmoved s r k id me at = subst (λ (z : List ℕ × List (View N S C R)). Rule record { words = z.0; homes = s.homes; views = z.1 }) (λ i. (sym (set-get_or s.words k 0) i, sym (set_again s.views id me.0 at) i)) r
 
+  -- a step on a word of advice changes nothing else, whatever is in that word before and after
+  pub advises : (slots id : ℕ) (me : Me X (View N S C R)) (word : ℕ) (f : ℕ → ℕ) → ((j : ℕ) → lock_at j ≢ word) → Allows Rule slots id me word f (λ _ m. m ≡ me)
+  advises slots id me word f apart s r _ at _ =
+      let new : ℕ = f (slice_index s.words word) in
+      let words = set s.words word new in
+      let kept = subst (λ (vs : List (View N S C R)). Rule record { words = words; homes = s.homes; views = vs }) (sym (set_again s.views id me.0 at)) record {
+        logs = r.logs;
+        wide = length-set s.words word new ∙ r.wide;
+        each_value = λ j o e.
+            same_value slot_name slot_state legal s.words words s.homes s.homes s.views s.views j o (r.logs j) (get_or-set_other s.words word (lock_at j) new 0 (apart j)) (λ x h. h) refl refl (r.each_value j o e);
+        bounded = r.bounded;
+        seats = r.seats;
+        each_seat = r.each_seat;
+        numbers = r.numbers;
+      } in (me.0, keeps, tt, kept, refl)
+
   -- what is true of the history seen of i, and of that of each other value
   sees : (v : View N S C R) (i : ℕ) (log : List (Entry S C R)) (P : ℕ → List (Entry S C R) → Type 0) → P i log → ((j : ℕ) → j ≢ i → P j (seen_at v j)) → (j : ℕ) → P j (row_at (put_row v.seen i log) j)
   sees v i log P here else = at_place (λ (j : ℕ). P j (row_at (put_row v.seen i log) j)) i (subst (P i) (sym (row_here v.seen i log)) here) (λ j ne. subst (P j) (sym (row_else v.seen i j log ne)) (else j ne))
 
-  abbrev TryGoal : ℕ → ℕ → Me X (View N S C R) → ℕ → State X (View N S C R) → ℕ → Type 0
-  TryGoal slots id me i s n = (w : View N S C R) × (a : Act X) × Valid s.homes me.1 a × Rule (stepped s (i) n id me.1 w a) × tried slot_name slot_state legal (step slots (i) 0 1 none) me (slice_index s.words (i)) (w, carried_after me.1 a)
+  abbrev TryGoal : ℕ → ℕ → Me X (View N S C R) → ℕ → ℕ → State X (View N S C R) → ℕ → Type 0
+  TryGoal slots id me i new s n = (w : View N S C R) × (a : Act X) × Valid s.homes me.1 a × Rule (stepped s (lock_at i) n id me.1 w a) × tried slot_name slot_state legal (step slots (lock_at i) 0 new none) me (slice_index s.words (lock_at i)) (w, carried_after me.1 a)
 
-  -- a seat that has no value takes one that is free; else nothing happens
-  pub tries : (slots id : ℕ) (me : Me X (View N S C R)) (i : ℕ) → IsFree me.0 → i < length opens
-      → Allows Rule slots id me (i) (λ n. either (eqb n 0) 1 n) (tried slot_name slot_state legal (step slots (i) 0 1 none) me)
-  tries slots id me i free low s r _ at _ = exchanged (slice_index s.words (i)) 0 1 (TryGoal slots id me i s) hit miss
+  -- a seat that has no value takes one that is free, and stores its number; else nothing happens
+  tries_at : (slots id : ℕ) (me : Me X (View N S C R)) (i new : ℕ) → new ≡ me.0.from + 1 → IsFree me.0 → i < length opens
+      → Allows Rule slots id me (lock_at i) (λ n. either (eqb n 0) new n) (tried slot_name slot_state legal (step slots (lock_at i) 0 new none) me)
+  tries_at slots id me i new its free low s r _ at _ = exchanged (slice_index s.words (lock_at i)) 0 new (TryGoal slots id me i new s) hit miss
     where
-      miss : slice_index s.words (i) ≢ 0 → TryGoal slots id me i s (slice_index s.words (i))
-      miss ne = (me.0, keeps, tt, unmoved s r (i) id me at, λ j e. ((λ h. absurd (ne h)), λ _. refl))
+      miss : slice_index s.words (lock_at i) ≢ 0 → TryGoal slots id me i new s (slice_index s.words (lock_at i))
+      miss ne = (me.0, keeps, tt, unmoved s r (lock_at i) id me at, λ j e. ((λ h. absurd (ne h)), λ _. refl))
 
-      hit : slice_index s.words (i) ≡ 0 → TryGoal slots id me i s 1
+      hit : slice_index s.words (lock_at i) ≡ 0 → TryGoal slots id me i new s new
       hit e =
           let v = me.0 in
           let k = r.each_seat id v at in
@@ -62,27 +85,34 @@ module _ {X N S C R : Type 0} (slot_name : X → N) (slot_state : X → S) (lega
           let p = there opens i low in
           let ok = r.each_value i p.0 p.1 in
           let log : List (Entry S C R) = r.logs i in
-          let home = ok.at_home (sym ok.locked ∙ e) in
+          let few = few_holders i s.views in
+          let locked = ok.locked in
+          let nobody_has : total (λ (u : View N S C R). holders i u.stage) s.views ≡ 0 = omega arith in
+          let home = ok.at_home nobody_has in
           let x = home.0 in
           let w : View N S C R = seeing v i log (Holding i) in
-          let words = set s.words (i) 1 in
+          let words = set s.words (lock_at i) new in
           let homes = set s.homes i none in
           let wide = r.wide in
-          let found : slice_index words (i) ≡ 1 = get_or-set_same s.words (i) 1 0 (omega arith) in
+          let found : slice_index words (lock_at i) ≡ new = get_or-set_same s.words (lock_at i) new 0 (omega arith) in
           let idle : (j : ℕ) → holders j v.stage ≡ 0 = λ j. ap (holders j) free.stage in
+          let nameless : (j : ℕ) → named j v.from v.stage ≡ 0 = λ j. ap (named j v.from) free.stage in
           let c : Change slot_name slot_state legal opens callers s r id v w r.logs words homes = record {
             at = at;
-            wide = length-set s.words (i) 1;
+            wide = length-set s.words (lock_at i) new;
             same_seats = refl;
             same_from = refl;
-            values = values_by slot_name slot_state legal opens callers s r id v w r.logs words homes i at (λ j ne. refl) (λ j ne. get_or-set_other s.words i j 1 0 ne)
-                (λ j y ne eh. set_else s.homes i j none ne ∙ eh) (λ j ne. no_holder i j ne ∙ sym (idle j))
+            values = values_by slot_name slot_state legal opens callers s r id v w r.logs words homes i at (λ j ne. refl) (λ j ne. get_or-set_other s.words (lock_at i) (lock_at j) new 0 (locks_apart i j ne))
+                (λ j y ne eh. set_else s.homes i j none ne ∙ eh) (λ j ne. no_holder i j ne ∙ sym (idle j)) (λ j ne. no_named i j v.from ne ∙ sym (nameless j))
                 (λ o eo.
                 let was = r.each_value i o eo in
                 let locked = was.locked in
                 let ts = total_set (λ (u : View N S C R). holders i u.stage) s.views id v w at in
                 let hv = idle i in
                 let hw = one_holder i in
+                let tn = total_set (λ (u : View N S C R). named i u.from u.stage) s.views id v w at in
+                let nv = nameless i in
+                let nw = one_named i v.from in
                 record {
                   locked = omega arith;
                   alone = omega arith;
@@ -109,7 +139,8 @@ module _ {X N S C R : Type 0} (slot_name : X → N) (slot_state : X → S) (lega
             home.1,
             changed slot_name slot_state legal opens callers s r id v w r.logs words homes c,
             λ j at_j.
-                let place : i ≡ j = at_j in
+                let same : lock_at i ≡ lock_at j = at_j in
+                let place : i ≡ j = omega arith in
                 let told : Taken slot_name slot_state legal me i (w, (i, x) ∷ me.1) = record {
                   log = log;
                   slot = x;
@@ -125,20 +156,24 @@ module _ {X N S C R : Type 0} (slot_name : X → N) (slot_state : X → S) (lega
                 ((λ _. subst (λ (z : ℕ). Taken slot_name slot_state legal me z (w, (i, x) ∷ me.1)) place told), λ ne. absurd (ne e)),
           )
 
-  abbrev OnceGoal : ℕ → ℕ → Me X (View N S C R) → ℕ → State X (View N S C R) → ℕ → Type 0
-  OnceGoal slots id me i s n = (w : View N S C R) × (a : Act X) × Valid s.homes me.1 a × Rule (stepped s (i) n id me.1 w a) × tried_once slot_name slot_state legal (step slots (i) 0 1 none) me (slice_index s.words (i)) (w, carried_after me.1 a)
+  pub tries : (slots id : ℕ) (me : Me X (View N S C R)) (i new word : ℕ) → word ≡ lock_at i → new ≡ me.0.from + 1 → IsFree me.0 → i < length opens
+      → Allows Rule slots id me word (λ n. either (eqb n 0) new n) (tried slot_name slot_state legal (step slots word 0 new none) me)
+  tries slots id me i new word here its free low = subst (λ (w : ℕ). Allows Rule slots id me w (λ n. either (eqb n 0) new n) (tried slot_name slot_state legal (step slots w 0 new none) me)) (sym here) (tries_at slots id me i new its free low)
+
+  abbrev OnceGoal : ℕ → ℕ → Me X (View N S C R) → ℕ → ℕ → State X (View N S C R) → ℕ → Type 0
+  OnceGoal slots id me i new s n = (w : View N S C R) × (a : Act X) × Valid s.homes me.1 a × Rule (stepped s (lock_at i) n id me.1 w a) × tried_once slot_name slot_state legal (step slots (lock_at i) 0 new none) me (slice_index s.words (lock_at i)) (w, carried_after me.1 a)
 
   -- the same of a single try, which is counted where the value is taken
-  pub tries_once : (slots id : ℕ) (me : Me X (View N S C R)) (i : ℕ) → IsFree me.0 → i < length opens
-      → Allows Rule slots id me (i) (λ n. either (eqb n 0) 1 n) (tried_once slot_name slot_state legal (step slots (i) 0 1 none) me)
-  tries_once slots id me i free low s r len at few = exchanged (slice_index s.words (i)) 0 1 (OnceGoal slots id me i s) hit miss
+  tries_once_at : (slots id : ℕ) (me : Me X (View N S C R)) (i new : ℕ) → new ≡ me.0.from + 1 → IsFree me.0 → i < length opens
+      → Allows Rule slots id me (lock_at i) (λ n. either (eqb n 0) new n) (tried_once slot_name slot_state legal (step slots (lock_at i) 0 new none) me)
+  tries_once_at slots id me i new its free low s r len at few = exchanged (slice_index s.words (lock_at i)) 0 new (OnceGoal slots id me i new s) hit miss
     where
-      hit : slice_index s.words (i) ≡ 0 → OnceGoal slots id me i s 1
+      hit : slice_index s.words (lock_at i) ≡ 0 → OnceGoal slots id me i new s new
       hit e =
-          let t : TryGoal slots id me i s 1 = subst (λ (n : ℕ). TryGoal slots id me i s (either (eqb n 0) 1 n)) e (tries slots id me i free low s r len at few) in
+          let t : TryGoal slots id me i new s new = subst (λ (n : ℕ). TryGoal slots id me i new s (either (eqb n 0) new n)) e (tries_at slots id me i new its free low s r len at few) in
           (t.0, t.1, t.2, t.3, λ j ej. ((λ h. (t.4 j ej).0 h), λ ne. absurd (ne e)))
 
-      miss : slice_index s.words (i) ≢ 0 → OnceGoal slots id me i s (slice_index s.words (i))
+      miss : slice_index s.words (lock_at i) ≢ 0 → OnceGoal slots id me i new s (slice_index s.words (lock_at i))
       miss ne =
           let v = me.0 in
           let k = r.each_seat id v at in
@@ -150,7 +185,8 @@ module _ {X N S C R : Type 0} (slot_name : X → N) (slot_state : X → S) (lega
             same_from = refl;
             values = λ j o eo.
                 let t = total_set (λ (u : View N S C R). holders j u.stage) s.views id v w at in
-                same_value slot_name slot_state legal s.words s.words s.homes s.homes s.views (set s.views id w) j o (r.logs j) refl (λ x h. h) (omega arith) (r.each_value j o eo);
+                let m = total_set (λ (u : View N S C R). named j u.from u.stage) s.views id v w at in
+                same_value slot_name slot_state legal s.words s.words s.homes s.homes s.views (set s.views id w) j o (r.logs j) refl (λ x h. h) (omega arith) (omega arith) (r.each_value j o eo);
             knows = record { opened = k.opened; counted = k.counted; below = k.below; seen = k.seen; told = k.told; mine = k.mine; mine_seen = k.mine_seen; staged = k.staged };
             grows = λ j. starts_refl (r.logs j);
             bounded = r.bounded;
@@ -160,9 +196,13 @@ module _ {X N S C R : Type 0} (slot_name : X → N) (slot_state : X → S) (lega
             w,
             keeps,
             tt,
-            subst (λ (z : List ℕ). Rule record { words = z; homes = s.homes; views = set s.views id w }) (sym (set-get_or s.words (i) 0)) (changed slot_name slot_state legal opens callers s r id v w r.logs s.words s.homes c),
+            subst (λ (z : List ℕ). Rule record { words = z; homes = s.homes; views = set s.views id w }) (sym (set-get_or s.words (lock_at i) 0)) (changed slot_name slot_state legal opens callers s r id v w r.logs s.words s.homes c),
             λ j ej. ((λ h. absurd (ne h)), λ _. refl),
           )
+
+  pub tries_once : (slots id : ℕ) (me : Me X (View N S C R)) (i new word : ℕ) → word ≡ lock_at i → new ≡ me.0.from + 1 → IsFree me.0 → i < length opens
+      → Allows Rule slots id me word (λ n. either (eqb n 0) new n) (tried_once slot_name slot_state legal (step slots word 0 new none) me)
+  tries_once slots id me i new word here its free low = subst (λ (w : ℕ). Allows Rule slots id me w (λ n. either (eqb n 0) new n) (tried_once slot_name slot_state legal (step slots w 0 new none) me)) (sym here) (tries_once_at slots id me i new its free low)
 
   -- the state in which the seat v, which has the value, has added its call to the history, and nothing else has changed
   commits : (s : State X (View N S C R)) → Rule s → (id : ℕ) (v : View N S C R) → get_elem? s.views id ≡ some v → (i : ℕ) (ask : C) (reply : R) (after : S) → v.stage ≡ Holding i
@@ -206,7 +246,7 @@ module _ {X N S C R : Type 0} (slot_name : X → N) (slot_state : X → S) (lega
         same_seats = sym one;
         same_from = refl;
         values = values_by slot_name slot_state legal opens callers s r id v w now s.words s.homes i at (upd_else r.logs i log) (λ j ne. refl)
-            (λ j y ne eh. eh) (λ j ne. refl)
+            (λ j y ne eh. eh) (λ j ne. refl) (λ j ne. refl)
             (λ o eo.
             let was = r.each_value i o eo in
             let locked = was.locked in
@@ -215,6 +255,8 @@ module _ {X N S C R : Type 0} (slot_name : X → N) (slot_state : X → S) (lega
             let held = total_at (λ (u : View N S C R). holders i u.stage) s.views id v at in
             let hv : holders i v.stage ≡ 1 = ap (holders i) holds ∙ one_holder i in
             let hw : holders i w.stage ≡ 1 = hv in
+            let tn = total_set (λ (u : View N S C R). named i u.from u.stage) s.views id v w at in
+            let nw : named i w.from w.stage ≡ named i v.from v.stage = refl in
             let open_here : get_elem? v.opens i ≡ some o = ap (λ (z : List (N × S)). get_elem? z i) (k.opened some_owner) ∙ eo in
             let rule_here : legal o.0 v.from (last_of o.1 old) ask reply after = subst (λ (m : List (Entry S C R)). legal o.0 v.from (last_of o.1 m) ask reply after) ok.2 (lawful o open_here) in
             subst (ValueOk slot_name slot_state legal s.words s.homes (set s.views id w) i o) (sym here) record {
@@ -244,31 +286,33 @@ module _ {X N S C R : Type 0} (slot_name : X → N) (slot_state : X → S) (lega
   -- the state in which the seat v, which has the value, has given it back, with the last state of what it has seen
   frees : (s : State X (View N S C R)) → Rule s → (id : ℕ) (v : View N S C R) → get_elem? s.views id ≡ some v → (i : ℕ) (x : X) → v.stage ≡ Holding i → i < length s.homes
       → ((o : N × S) → get_elem? v.opens i ≡ some o → (slot_name x ≡ o.0) × (slot_state x ≡ last_of o.1 (seen_at v i)))
-      → Rule record { words = set s.words i 0; homes = set s.homes i (some x); views = set s.views id (at_stage v Idle) }
+      → Rule record { words = set s.words (lock_at i) 0; homes = set s.homes i (some x); views = set s.views id (at_stage v Idle) }
   frees s r id v at i x holds inside fits =
       let k = r.each_seat id v at in
       let ok : StageOk opens callers r.logs v (Holding i) = subst (StageOk opens callers r.logs v) holds k.staged in
       let one = ok.0 in
       let low = ok.1 in
-      let words = set s.words (i) 0 in
+      let words = set s.words (lock_at i) 0 in
       let homes = set s.homes i (some x) in
       let w : View N S C R = at_stage v Idle in
       let wide = r.wide in
-      let found : slice_index words (i) ≡ 0 = get_or-set_same s.words (i) 0 0 (omega arith) in
+      let found : slice_index words (lock_at i) ≡ 0 = get_or-set_same s.words (lock_at i) 0 0 (omega arith) in
       let some_owner : 0 < length v.owns = omega arith in
       let c : Change slot_name slot_state legal opens callers s r id v w r.logs words homes = record {
         at = at;
-        wide = length-set s.words (i) 0;
+        wide = length-set s.words (lock_at i) 0;
         same_seats = refl;
         same_from = refl;
-        values = values_by slot_name slot_state legal opens callers s r id v w r.logs words homes i at (λ j ne. refl) (λ j ne. get_or-set_other s.words i j 0 0 ne)
-            (λ j y ne eh. set_else s.homes i j (some x) ne ∙ eh) (λ j ne. sym (ap (holders j) holds ∙ no_holder i j ne))
+        values = values_by slot_name slot_state legal opens callers s r id v w r.logs words homes i at (λ j ne. refl) (λ j ne. get_or-set_other s.words (lock_at i) (lock_at j) 0 0 (locks_apart i j ne))
+            (λ j y ne eh. set_else s.homes i j (some x) ne ∙ eh) (λ j ne. sym (ap (holders j) holds ∙ no_holder i j ne)) (λ j ne. sym (ap (named j v.from) holds ∙ no_named i j v.from ne))
             (λ o eo.
             let was = r.each_value i o eo in
             let alone = was.alone in
             let ts = total_set (λ (u : View N S C R). holders i u.stage) s.views id v w at in
             let hv : holders i v.stage ≡ 1 = ap (holders i) holds ∙ one_holder i in
             let hw : holders i w.stage ≡ 0 = refl in
+            let none_has : total (λ (u : View N S C R). holders i u.stage) (set s.views id w) ≡ 0 = omega arith in
+            let none_stored = none_named i (set s.views id w) none_has in
             let back = fits o (ap (λ (z : List (N × S)). get_elem? z i) (k.opened some_owner) ∙ eo) in
             record {
               locked = omega arith;
@@ -284,10 +328,10 @@ module _ {X N S C R : Type 0} (slot_name : X → N) (slot_state : X → S) (lega
       } in changed slot_name slot_state legal opens callers s r id v w r.logs words homes c
 
   -- the seat that has the value adds its call to the history and gives the value back
-  pub gives_back : (made : X → Maybe (C × R)) (slots id : ℕ) (me : Me X (View N S C R)) (i : ℕ) (x : X) (ask : C) (reply : R) → me.0.stage ≡ Holding i → me.1 ≡ (i, x) ∷ [] → made x ≡ Some (ask, reply) → i < slots
+  gives_back_at : (made : X → Maybe (C × R)) (slots id : ℕ) (me : Me X (View N S C R)) (i : ℕ) (x : X) (ask : C) (reply : R) → me.0.stage ≡ Holding i → me.1 ≡ (i, x) ∷ [] → made x ≡ Some (ask, reply) → i < slots
       → ((o : N × S) → get_elem? me.0.opens i ≡ some o → (slot_name x ≡ o.0) × legal o.0 me.0.from (last_of o.1 (seen_at me.0 i)) ask reply (slot_state x))
-      → Allows Rule slots id me i (λ _. 0) (λ _. given_back slot_name slot_state legal made (step slots i 0 0 none) me 0)
-  gives_back made slots id me i x ask reply holds has told inside fits s r len at _ =
+      → Allows Rule slots id me (lock_at i) (λ _. 0) (λ _. given_back slot_name slot_state legal made (step slots (lock_at i) 0 0 none) me 0)
+  gives_back_at made slots id me i x ask reply holds has told inside fits s r len at _ =
       let v = me.0 in
       let e : Entry S C R = entry v.from ask reply (slot_state x) in
       let w : View N S C R = with_entry v i e in
@@ -296,13 +340,21 @@ module _ {X N S C R : Type 0} (slot_name : X → N) (slot_state : X → S) (lega
       let last : (o : N × S) → last_of o.1 (seen_at w i) ≡ slot_state x = λ o. ap (last_of o.1) (row_here v.seen i log) ∙ last_snoc o.1 (seen_at v i) e in
       let now = commits s r id v at i ask reply (slot_state x) holds (λ o eo. (fits o eo).1) in
       let done = frees record { words = s.words; homes = s.homes; views = set s.views id w } now id w now_at i x holds (omega (arith, len, inside)) (λ o eo. ((fits o eo).0, sym (last o))) in
-      let there : Rule record { words = set s.words i 0; homes = set s.homes i (some x); views = set s.views id (served v i e) } = subst (λ (z : List (View N S C R)). Rule record { words = set s.words i 0; homes = set s.homes i (some x); views = z }) (set_twice s.views id w (served v i e)) done in (
+      let there : Rule record { words = set s.words (lock_at i) 0; homes = set s.homes i (some x); views = set s.views id (served v i e) } = subst (λ (z : List (View N S C R)). Rule record { words = set s.words (lock_at i) 0; homes = set s.homes i (some x); views = z }) (set_twice s.views id w (served v i e)) done in (
         served v i e,
         gives,
         tt,
-        subst (λ (z : List (Option X)). Rule record { words = set s.words i 0; homes = z; views = set s.views id (served v i e) }) (sym (ap (put_back s.homes) has)) there,
+        subst (λ (z : List (Option X)). Rule record { words = set s.words (lock_at i) 0; homes = z; views = set s.views id (served v i e) }) (sym (ap (put_back s.homes) has)) there,
         λ j y ask' reply' at_j has' told'.
             let slot : x ≡ y = ap (held_slot x) (sym has ∙ has') in
             let pair : (ask, reply) ≡ (ask', reply') = ap (made_or (ask, reply)) (sym told ∙ (ap made slot ∙ told')) in
-            (refl, λ n. served v (at_j n) (entry v.from (pair n).0 (pair n).1 (slot_state (slot n)))),
+            let same : lock_at i ≡ lock_at j = at_j in
+            let place : i ≡ j = omega arith in
+            (refl, λ n. served v (place n) (entry v.from (pair n).0 (pair n).1 (slot_state (slot n)))),
       )
+
+  pub gives_back : (made : X → Maybe (C × R)) (slots id : ℕ) (me : Me X (View N S C R)) (i : ℕ) (x : X) (ask : C) (reply : R) (word : ℕ) → word ≡ lock_at i → me.0.stage ≡ Holding i → me.1 ≡ (i, x) ∷ [] → made x ≡ Some (ask, reply) → i < slots
+      → ((o : N × S) → get_elem? me.0.opens i ≡ some o → (slot_name x ≡ o.0) × legal o.0 me.0.from (last_of o.1 (seen_at me.0 i)) ask reply (slot_state x))
+      → Allows Rule slots id me word (λ _. 0) (λ _. given_back slot_name slot_state legal made (step slots word 0 0 none) me 0)
+  gives_back made slots id me i x ask reply word here holds has told inside fits =
+      subst (λ (w : ℕ). Allows Rule slots id me w (λ _. 0) (λ _. given_back slot_name slot_state legal made (step slots w 0 0 none) me 0)) (sym here) (gives_back_at made slots id me i x ask reply holds has told inside fits)

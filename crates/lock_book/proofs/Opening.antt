@@ -1,5 +1,5 @@
 -- The passes as they are made.
-use Rattle.std.proofs.Common.{◌≡◌, ℕ, zero, suc, ◌+◌, ◌-◌, ◌<◌, List, [], ◌∷◌, ◌++◌, length, map, sym, refl, ap, ◌∙◌, subst, arith, replicate}
+use Rattle.std.proofs.Common.{◌≡◌, ℕ, zero, suc, ◌+◌, ◌*◌, ◌-◌, ◌<◌, List, [], ◌∷◌, ◌++◌, length, map, sym, refl, ap, ◌∙◌, subst, arith, replicate}
 use mathlib.Core.Option.{some, some-injective, some-ne-none}
 use lib.ListN.{get_elem?}
 use Rattle.lock_book.specs.declared.view.View.{View}
@@ -48,11 +48,11 @@ module _ {N S C R : Type 0} where
 
 module _ {X N S C R : Type 0} (slot_name : X → N) (slot_state : X → S) (legal : N → ℕ → S → C → R → S → Type 0) where
   pub opens_rule : {A : Type 0} (value_name : A → N) (value_state : A → S) (shelve : A → X) → ((x : A) → slot_name (shelve x) ≡ value_name x) → ((x : A) → slot_state (shelve x) ≡ value_state x)
-      → (opens : List (N × S)) (callers n : ℕ) (values : List A) (slots : List X) (words : List ℕ) → opens ≡ map (λ x. (value_name x, value_state x)) values → slots ≡ map shelve values → words ≡ replicate n 0 → length values ≡ n
+      → (opens : List (N × S)) (callers n : ℕ) (values : List A) (slots : List X) (words : List ℕ) → opens ≡ map (λ x. (value_name x, value_state x)) values → slots ≡ map shelve values → words ≡ replicate (8 * n) 0 → length values ≡ n
       → Ruled slot_name slot_state legal opens callers (opening words slots (newcomers opens callers))
   opens_rule value_name value_state shelve same_name same_state opens callers n values slots words is shelved zero_words len =
       let count : length opens ≡ n = ap length is ∙ (map_length _ values ∙ len) in
-      let ws : replicate (length opens) 0 ≡ words = ap (λ (k : ℕ). replicate k 0) count ∙ sym zero_words in
+      let ws : replicate (8 * length opens) 0 ≡ words = ap (λ (k : ℕ). replicate (8 * k) 0) count ∙ sym zero_words in
       subst (λ (w : List ℕ). Ruled slot_name slot_state legal opens callers (opening w slots (newcomers opens callers))) ws
       (opens_so slot_name slot_state legal opens callers slots
       (λ i o e. let m = map_at (λ x. (value_name x, value_state x)) values i o (sym (ap (λ (l : List (N × S)). get_elem? l i) is) ∙ e) in

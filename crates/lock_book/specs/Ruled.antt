@@ -1,6 +1,6 @@
 -- The rule of a shelf's table, and what each step tells.
 -- X is what a slot holds, N a name, S a state, C a call and R a reply.
-use Rattle.std.specs.Prelude.{◌≡◌, ◌≢◌, ℕ, ◌+◌, ◌<◌, ◌≤◌, ◌==◌, if◌then◌else◌, List, [], ◌∷◌, ◌++◌, length, slice_index, replicate, Option, Some}
+use Rattle.std.specs.Prelude.{◌≡◌, ◌≢◌, ℕ, ◌+◌, ◌*◌, ◌<◌, ◌≤◌, ◌==◌, if◌then◌else◌, List, [], ◌∷◌, ◌++◌, length, slice_index, replicate, Option, Some}
 use mathlib.Core.Option.{some}
 use lib.ListN.{get_elem?}
 use Rattle.atomic_table.specs.Table.{State, Me, Step, rest}
@@ -14,6 +14,30 @@ use Rattle.lock_book.specs.History.{entry, last_of, calls_by, calls_at, StartsWi
 abbrev pub total : {V : Type 0} → (V → ℕ) → List V → ℕ
 total f [] = 0
 total f (v ∷ vs) = f v + total f vs
+
+-- The table has eight words for each value, a line of the cache, of which four are used. The first is the lock's: 0 while
+-- the value is free, and else 1 + the number of the caller that has it.
+abbrev pub lock_at : ℕ → ℕ
+lock_at i = 8 * i
+
+-- The other three are advice: no rule says what is in them. One tells whether somebody sleeps until the value is free,
+abbrev pub sleep_at : ℕ → ℕ
+sleep_at i = 8 * i + 1
+
+-- one counts what was announced of the value,
+abbrev pub news_at : ℕ → ℕ
+news_at i = 8 * i + 2
+
+-- and one those who sleep until something is announced.
+abbrev pub readers_at : ℕ → ℕ
+readers_at i = 8 * i + 3
+
+-- What the caller n may store in the lock of the value i, while its seat is at this stage: 1 + its number if it has the
+-- value, and 0, which is no storing, if it has not. Only a caller that has no value may make a 0 this number, and only
+-- the caller that has the value may make it 0 again.
+abbrev pub named : ℕ → ℕ → Stage → ℕ
+named i n Idle = 0
+named i n (Holding j) = if j == i then n + 1 else 0
 
 -- 1 where a seat at this stage has the value i, and else 0
 abbrev pub holders : ℕ → Stage → ℕ
@@ -107,10 +131,10 @@ module _ {N S C R : Type 0} where
       pub staged : StageOk v v.stage
 
   module _ {X : Type 0} (slot_name : X → N) (slot_state : X → S) (legal : N → ℕ → S → C → R → S → Type 0) where
-    -- what is true of the value i, which opened as o and has this history: one seat has it where its word is 1 and none
-    -- where it is 0, and then it is at home with its last state
+    -- what is true of the value i, which opened as o and has this history: its lock's word names the one seat that has
+    -- it; if that word is 0 none has it, and it is at home with its last state
     pub record ValueOk (words : List ℕ) (homes : List (mathlib.Core.Option.Option X)) (views : List (View N S C R)) (i : ℕ) (o : N × S) (log : List (Entry S C R)) : Type 0 where
-      pub locked : slice_index words i ≡ total (λ v. holders i v.stage) views
+      pub locked : slice_index words (lock_at i) ≡ total (λ v. named i v.from v.stage) views
       pub alone : total (λ v. holders i v.stage) views ≤ 1
       pub lawful : IsLegal (legal o.0) o.1 log
       pub at_home : total (λ v. holders i v.stage) views ≡ 0 → (x : X) × (get_elem? homes i ≡ some (some x)) × (slot_name x ≡ o.0) × (slot_state x ≡ last_of o.1 log)
@@ -119,7 +143,7 @@ module _ {N S C R : Type 0} where
     -- caller's entries are the calls that its seat made
     pub record Ruled (opens : List (N × S)) (callers : ℕ) (s : State X (View N S C R)) : Type 0 where
       pub logs : ℕ → List (Entry S C R)
-      pub wide : length s.words ≡ length opens
+      pub wide : length s.words ≡ 8 * length opens
       pub each_value : (i : ℕ) (o : N × S) → get_elem? opens i ≡ some o → ValueOk s.words s.homes s.views i o (logs i)
       pub bounded : (i n : ℕ) → callers ≤ n → calls_by n (logs i) ≡ []
       pub seats : total (λ v. length v.owns) s.views ≡ callers
@@ -139,16 +163,16 @@ module _ {N S C R : Type 0} where
 
     -- a try to take the value: where the word found is 0 the seat has it, and else nothing changed
     abbrev pub tried : Step X → Me X (View N S C R) → ℕ → Me X (View N S C R) → Type 0
-    tried st m r m' = (i : ℕ) → st.word ≡ i → (r ≡ 0 → Taken m i m') × (r ≢ 0 → m' ≡ m)
+    tried st m r m' = (i : ℕ) → st.word ≡ lock_at i → (r ≡ 0 → Taken m i m') × (r ≢ 0 → m' ≡ m)
 
     -- a single try to take the value: where the word found is 0 the seat has it, and else another has it, and the try is
     -- counted
     abbrev pub tried_once : Step X → Me X (View N S C R) → ℕ → Me X (View N S C R) → Type 0
-    tried_once st m r m' = (i : ℕ) → st.word ≡ i → (r ≡ 0 → Taken m i m') × (r ≢ 0 → m' ≡ (missing m.0, m.1))
+    tried_once st m r m' = (i : ℕ) → st.word ≡ lock_at i → (r ≡ 0 → Taken m i m') × (r ≢ 0 → m' ≡ (missing m.0, m.1))
 
     -- the call that the slot tells of stands in the history, the value went back, and the seat has none
     abbrev pub given_back : (X → Option (C × R)) → Step X → Me X (View N S C R) → ℕ → Me X (View N S C R) → Type 0
-    given_back made st m r m' = (i : ℕ) (x : X) (c : C) (y : R) → st.word ≡ i → m.1 ≡ (i, x) ∷ [] → made x ≡ Some (c, y) → (m'.1 ≡ rest m.1) × (m'.0 ≡ served m.0 i (entry m.0.from c y (slot_state x)))
+    given_back made st m r m' = (i : ℕ) (x : X) (c : C) (y : R) → st.word ≡ lock_at i → m.1 ≡ (i, x) ∷ [] → made x ≡ Some (c, y) → (m'.1 ≡ rest m.1) × (m'.0 ≡ served m.0 i (entry m.0.from c y (slot_state x)))
 
     -- what was seen and what was told are beginnings of one legal history, and the longer of the two is seen
     pub record Looks (v w : (View N S C R)) : Type 0 where
@@ -162,6 +186,10 @@ module _ {N S C R : Type 0} where
     -- a load that changes nothing but what the seat has seen
     abbrev pub looked : Step X → Me X (View N S C R) → ℕ → Me X (View N S C R) → Type 0
     looked st m r m' = (m'.1 ≡ m.1) × Looks m.0 m'.0
+
+-- a step on a word of advice: the seat stays as it was
+abbrev pub advised : {X V : Type 0} → Step X → Me X V → ℕ → Me X V → Type 0
+advised st m r m' = m' ≡ m
 
 -- what the seat of all callers has seen at the end: of each value a legal history, in which the calls of each caller
 -- are its own and there are no others

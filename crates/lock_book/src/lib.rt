@@ -13,6 +13,7 @@ mod joined;
 mod kept;
 mod laws;
 mod meet;
+mod news;
 mod noted;
 mod open;
 mod shelf;

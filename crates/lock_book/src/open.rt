@@ -9,7 +9,8 @@ ghost use Rattle.lock_book.specs.Shown.{AreAll, callers_of, count_of, mine_of, o
 use crate::Kept;
 use crate::noted::Noted;
 use crate::shelf::{Pass, Shelf};
-use crate::table::{Board, Callers, Held, Opens, Place, Slot};
+use crate::steps::FREE;
+use crate::table::{Board, Callers, Held, Opens, Place, Slot, WORDS_OF_VALUE};
 use atomic_table::{Refused, Table};
 use std::alloc::{AllocError, Global};
 
@@ -23,10 +24,15 @@ fn shelved<T: Kept>(alloc: Global, values: Vec<T>) -> Result<Vec<Held<T>>, Alloc
         .collect(alloc)
 }
 
-fn zeros(alloc: Global, count: usize) -> Result<Vec<u64>, AllocError>
-    ensures { IfOk result (λ v. v.items ≡ replicate count 0) }
+/// The words of this many values that are free, and for which nobody waits.
+fn free_words(alloc: Global, count: usize) -> Result<Vec<u64>, AllocError>
+    ensures words { IfOk result (λ v. v.items ≡ replicate (8 * count) 0) }
+    ensures fits { IfOk result (λ v. 8 * count < 2 ^ 64) }
 {
-    vec![in alloc; 0u64; count]
+    let Some(width) = count.checked_mul(WORDS_OF_VALUE) else {
+        return Err(AllocError);
+    };
+    vec![in alloc; FREE; width]
 }
 
 /// A pass for each caller.
@@ -69,7 +75,7 @@ impl<T: Kept> Shelf<T> {
         let count = values.len();
         let opens: Noted<Opens<T>> = Noted::of(&values);
         let slots = shelved(alloc, values)?;
-        let words = zeros(alloc, count)?;
+        let words = free_words(alloc, count)?;
         let about = (opens, callers);
         let (board, whole) = match Table::new(alloc, words.as_slice(), slots, &about) {
             Ok(made) => made,

@@ -22,7 +22,7 @@ pub struct Shelf<T: Kept> {
     pub(crate) board: Board<T>,
     pub(crate) count: usize,
     pub(crate) callers: u32,
-    pub ghost sized: { (board.shared.table_id.words ≡ count) × (board.shared.table_id.slots ≡ count) × (length board.shared.key.0.value ≡ count) × (0 < count) },
+    pub ghost sized: { (board.shared.table_id.words ≡ 8 * count) × (board.shared.table_id.slots ≡ count) × (length board.shared.key.0.value ≡ count) × (0 < count) × (8 * count < 2 ^ 64) },
     pub ghost called_by: { board.shared.key.1 ≡ callers },
     pub ghost some_caller: { 0 < callers },
 }
@@ -40,6 +40,7 @@ pub struct Pass<T: Kept> {
 }
 
 /// Takes the seat out of its badge.
+#[inline(always)]
 pub(crate) fn lend<T: Kept>(badge: &mut Badge<Known<T>>) -> Place<T>
     requires { length badge.old.views ≡ 1 }
     ensures { (result.table_id ≡ badge.old.table_id) × (result.me.0 ≡ view_of badge.old.views) × (result.me.1 ≡ []) }
@@ -49,6 +50,7 @@ pub(crate) fn lend<T: Kept>(badge: &mut Badge<Known<T>>) -> Place<T>
 }
 
 /// Puts the seat back.
+#[inline(always)]
 pub(crate) fn give_back<T: Kept>(badge: &mut Badge<Known<T>>, seat: Place<T>)
     requires { seat.me.1 ≡ [] }
     ensures { (badge.new.table_id ≡ seat.table_id) × (badge.new.views ≡ seat.me.0 ∷ []) }
@@ -87,8 +89,10 @@ impl<T: Kept> Pass<T> {
 impl<T: Kept> Shelf<T> {
     ghost use Rattle.lock_book.specs.Shown.{Belongs, Called, count_of, number_of, opens_of};
 
-    /// Takes a turn at the value `at`, and applies the call to it. The lock is held for `apply` alone.
-    /// It may wait for its turn, and takes no memory.
+    /// Takes a turn at the value `at`, and applies the call to it. The lock is held for `apply` only.
+    /// It may wait for its turn, asleep after a few
+    /// microseconds, and takes no memory.
+    #[inline(always)]
     pub fn call<R: Wait>(
         &self,
         rt: &R,
@@ -105,7 +109,7 @@ impl<T: Kept> Shelf<T> {
         ensures output { (o : _) → get_elem? (opens_of self.now) at ≡ some o → T.out_fits o.0 input result }
     {
         let mut seat = lend(&mut pass.badge);
-        let output = take_turn(rt, &self.board, &mut seat, at, env, input);
+        let output = take_turn(rt, &self.board, &mut seat, pass.number, at, env, input);
         give_back(&mut pass.badge, seat);
         output
     }

@@ -1,58 +1,170 @@
 //! The moves of the lock, one by one: take the value, apply the call, give the value back with the call in its history.
 //! What is known between two of them is the stage of the seat and the value that it carries.
+//!
+//! A caller that waits too long sleeps on the word of advice. It stores `SOMEBODY` there and looks at the lock once more
+//! before it sleeps; who gives the value back frees the lock and then looks at the advice. All four are sequentially
+//! consistent, so the one sees that the value is free or the other sees that somebody sleeps. Nothing is proved of that.
 
-ghost use Rattle.std.specs.Prelude.{◌≡◌, ℕ, ◌<◌, true, false, [], ◌∷◌, length, Some, unwrap_or};
+ghost use Rattle.std.specs.Prelude.{◌≡◌, ℕ, ◌<◌, ◌^◌, true, false, [], ◌∷◌, length, Some, unwrap_or};
 ghost use mathlib.Core.Option.{some};
 ghost use lib.ListN.{get_elem?};
 ghost use Rattle.lock_book.specs.declared.view.Stage.TheVariants.{Holding};
-ghost use Rattle.lock_book.specs.Ruled.{IsFree, seen_at, served, Taken};
+ghost use Rattle.lock_book.specs.Ruled.{IsFree, lock_at, seen_at, served, sleep_at, Taken};
 ghost use Rattle.lock_book.specs.History.{entry, last_of, made_of};
 
 use crate::Kept;
 use crate::noted::Noted;
-use crate::table::{Board, Give, Held, Place, Take};
+use crate::table::{Advise, Board, Give, Held, Place, Take, WORDS_OF_VALUE};
 use crossbeam_utils::Backoff;
 use std::sync::Wait;
 
-/// Whether the value `at` was free. The seat then has it.
-fn try_take<T: Kept>(board: &Board<T>, seat: &mut Place<T>, at: usize) -> bool
-    requires own { seat.old.table_id ≡ board.now.shared.table_id }
+/// The lock's word of a value that is free. That of one that is taken is 1 + the number of the caller that has it.
+pub(crate) const FREE: u64 = 0;
+
+/// The word of advice while somebody may sleep, and while nobody does.
+const SOMEBODY: u32 = 1;
+
+const NOBODY: u64 = 0;
+
+/// The word of the lock of the value `at`.
+#[inline(always)]
+pub(crate) fn lock_word(at: usize) -> usize
+    requires { lock_at at < 2 ^ 64 }
+    ensures { result ≡ lock_at at }
+{
+    at * WORDS_OF_VALUE
+}
+
+/// The word by which those who sleep until the value `at` is free are known, and on which they sleep.
+#[inline(always)]
+fn sleep_word(at: usize) -> usize
+    requires { sleep_at at < 2 ^ 64 }
+    ensures { result ≡ sleep_at at }
+{
+    at * WORDS_OF_VALUE + 1
+}
+
+/// Whether the value `at` was free. The seat of the caller `number` then has it, and the lock's word names that caller.
+#[inline(always)]
+fn try_take<T: Kept>(board: &Board<T>, seat: &mut Place<T>, number: u32, at: usize) -> bool
+    requires own { (seat.old.table_id ≡ board.now.shared.table_id) × (seat.old.me.0.from ≡ number) }
     requires place { at < length board.now.shared.key.0.value }
-    requires word { at < board.now.shared.table_id.words }
+    requires word { (sleep_at at < board.now.shared.table_id.words) × (sleep_at at < 2 ^ 64) }
     requires free { IsFree seat.old.me.0 }
     ensures own { seat.new.table_id ≡ seat.old.table_id }
     ensures taken { result ≡ true → Taken (λ x. T.name x.value) (λ x. T.state x.value) T.legal seat.old.me at seat.new.me }
     ensures not_free { result ≡ false → seat.new.me ≡ seat.old.me }
 {
-    let found = board.shared.compare_exchange::<Take>(seat, at, 0, 1);
-    found == 0
+    let name = u64::from(number) + 1;
+    let found = board
+        .shared
+        .compare_exchange::<Take>(seat, lock_word(at), FREE, name);
+    found == FREE
 }
 
-/// Takes the value `at` at once where it is free, and else waits until the seat has it. A caller that waits reads the
-/// word, and tries again only where it found it free.
-pub(crate) fn acquire<T: Kept, R: Wait>(rt: &R, board: &Board<T>, seat: &mut Place<T>, at: usize)
+/// Stores advice for the callers of the value `at`.
+fn advise<T: Kept>(board: &Board<T>, seat: &mut Place<T>, at: usize, advice: u64)
     requires own { seat.old.table_id ≡ board.now.shared.table_id }
+    requires word { (sleep_at at < board.now.shared.table_id.words) × (sleep_at at < 2 ^ 64) }
+    ensures same { (seat.new.table_id ≡ seat.old.table_id) × (seat.new.me ≡ seat.old.me) }
+{
+    board.shared.store::<Advise>(seat, sleep_word(at), advice);
+}
+
+/// Whether the value `at` was free, by a look at the lock's word and, only if that was `FREE`, a try.
+fn look_and_take<T: Kept>(board: &Board<T>, seat: &mut Place<T>, number: u32, at: usize) -> bool
+    requires own { (seat.old.table_id ≡ board.now.shared.table_id) × (seat.old.me.0.from ≡ number) }
     requires place { at < length board.now.shared.key.0.value }
-    requires word { at < board.now.shared.table_id.words }
+    requires word { (sleep_at at < board.now.shared.table_id.words) × (sleep_at at < 2 ^ 64) }
+    requires free { IsFree seat.old.me.0 }
+    ensures own { seat.new.table_id ≡ seat.old.table_id }
+    ensures taken { result ≡ true → Taken (λ x. T.name x.value) (λ x. T.state x.value) T.legal seat.old.me at seat.new.me }
+    ensures not_free { result ≡ false → seat.new.me ≡ seat.old.me }
+{
+    board.shared.peek(lock_word(at)) == FREE && try_take(board, seat, number, at)
+}
+
+/// Waits asleep until the seat has the value `at`. It says that somebody sleeps before each look at the lock, the last one
+/// too: whoever was woken may have left others asleep, and its own giving back wakes the next of them.
+#[cold]
+fn sleep_until_taken<T: Kept, R: Wait>(
+    rt: &R,
+    board: &Board<T>,
+    seat: &mut Place<T>,
+    number: u32,
+    at: usize,
+)
+    requires own { (seat.old.table_id ≡ board.now.shared.table_id) × (seat.old.me.0.from ≡ number) }
+    requires place { at < length board.now.shared.key.0.value }
+    requires word { (sleep_at at < board.now.shared.table_id.words) × (sleep_at at < 2 ^ 64) }
     requires free { IsFree seat.old.me.0 }
     ensures own { seat.new.table_id ≡ seat.old.table_id }
     ensures taken { Taken (λ x. T.name x.value) (λ x. T.state x.value) T.legal seat.old.me at seat.new.me }
 {
-    if try_take(board, seat, at) {
-        return;
+    for _ in rt.forever() {
+        advise(board, seat, at, u64::from(SOMEBODY));
+        if look_and_take(board, seat, number, at) {
+            return;
+        }
+        board.shared.park(rt, sleep_word(at), SOMEBODY);
     }
+    unreachable!()
+}
+
+/// Waits until the seat has the value `at`: it looks again and again, for a few microseconds, and then sleeps.
+#[cold]
+fn await_turn<T: Kept, R: Wait>(
+    rt: &R,
+    board: &Board<T>,
+    seat: &mut Place<T>,
+    number: u32,
+    at: usize,
+)
+    requires own { (seat.old.table_id ≡ board.now.shared.table_id) × (seat.old.me.0.from ≡ number) }
+    requires place { at < length board.now.shared.key.0.value }
+    requires word { (sleep_at at < board.now.shared.table_id.words) × (sleep_at at < 2 ^ 64) }
+    requires free { IsFree seat.old.me.0 }
+    ensures own { seat.new.table_id ≡ seat.old.table_id }
+    ensures taken { Taken (λ x. T.name x.value) (λ x. T.state x.value) T.legal seat.old.me at seat.new.me }
+{
     let backoff = Backoff::new();
     for _ in rt.forever() {
+        if backoff.is_completed() {
+            sleep_until_taken(rt, board, seat, number, at);
+            return;
+        }
         backoff.snooze();
-        let found = board.shared.peek(at);
-        if found == 0 && try_take(board, seat, at) {
+        if look_and_take(board, seat, number, at) {
             return;
         }
     }
     unreachable!()
 }
 
+/// Takes the value `at` for the caller `number` at once if it is free, and else waits until the seat has it.
+#[inline(always)]
+pub(crate) fn acquire<T: Kept, R: Wait>(
+    rt: &R,
+    board: &Board<T>,
+    seat: &mut Place<T>,
+    number: u32,
+    at: usize,
+)
+    requires own { (seat.old.table_id ≡ board.now.shared.table_id) × (seat.old.me.0.from ≡ number) }
+    requires place { at < length board.now.shared.key.0.value }
+    requires word { (sleep_at at < board.now.shared.table_id.words) × (sleep_at at < 2 ^ 64) }
+    requires free { IsFree seat.old.me.0 }
+    ensures own { seat.new.table_id ≡ seat.old.table_id }
+    ensures taken { Taken (λ x. T.name x.value) (λ x. T.state x.value) T.legal seat.old.me at seat.new.me }
+{
+    if try_take(board, seat, number, at) {
+        return;
+    }
+    await_turn(rt, board, seat, number, at);
+}
+
 impl<T: Kept> Held<T> {
+    #[inline(always)]
     fn apply(&mut self, env: &T::Env, input: T::In) -> T::Out
         requires env { T.env_fits (T.name self.old.value) env.now }
         requires input { (n : ℕ) × T.in_fits (T.name self.old.value) n input }
@@ -70,6 +182,7 @@ impl<T: Kept> Held<T> {
 }
 
 /// Applies the call to the value that the seat has.
+#[inline(always)]
 pub(crate) fn serve<T: Kept>(
     board: &Board<T>,
     seat: &mut Place<T>,
@@ -87,10 +200,35 @@ pub(crate) fn serve<T: Kept>(
     seat.slot_mut(&board.shared, at).apply(env, input)
 }
 
-/// Adds the call to the history of the value that the seat has, and gives the value back: one store.
+/// Wakes one of those who sleep until the value `at` is free.
+#[cold]
+fn wake_next<T: Kept>(board: &Board<T>, seat: &mut Place<T>, at: usize)
+    requires own { seat.old.table_id ≡ board.now.shared.table_id }
+    requires word { (sleep_at at < board.now.shared.table_id.words) × (sleep_at at < 2 ^ 64) }
+    ensures same { (seat.new.table_id ≡ seat.old.table_id) × (seat.new.me ≡ seat.old.me) }
+{
+    advise(board, seat, at, NOBODY);
+    board.shared.wake_one(sleep_word(at));
+}
+
+/// Wakes one of them, if there may be any.
+#[inline(always)]
+fn wake_if_asleep<T: Kept>(board: &Board<T>, seat: &mut Place<T>, at: usize)
+    requires own { seat.old.table_id ≡ board.now.shared.table_id }
+    requires word { (sleep_at at < board.now.shared.table_id.words) × (sleep_at at < 2 ^ 64) }
+    ensures same { (seat.new.table_id ≡ seat.old.table_id) × (seat.new.me ≡ seat.old.me) }
+{
+    if board.shared.peek(sleep_word(at)) != NOBODY {
+        wake_next(board, seat, at);
+    }
+}
+
+/// Adds the call to the history of the value that the seat has, and gives the value back: one store, and one load to see
+/// whether somebody sleeps, which has to come after the store.
+#[inline(always)]
 pub(crate) fn release<T: Kept>(board: &Board<T>, seat: &mut Place<T>, at: usize)
     requires own { seat.old.table_id ≡ board.now.shared.table_id }
-    requires word { (at < board.now.shared.table_id.words) × (at < board.now.shared.table_id.slots) }
+    requires word { (sleep_at at < board.now.shared.table_id.words) × (sleep_at at < 2 ^ 64) × (at < board.now.shared.table_id.slots) }
     requires holding { seat.old.me.0.stage ≡ Holding at }
     requires held { (x : _) × (c : _) × (r : _) × (seat.old.me.1 ≡ (at, x) ∷ []) × (made_of T.call T.chosen T.reply x.made ≡ Some (c, r))
         × ((o : _) → get_elem? seat.old.me.0.opens at ≡ some o → (T.name x.value ≡ o.0) × T.legal o.0 seat.old.me.0.from (last_of o.1 (seen_at seat.old.me.0 at)) c r (T.state x.value)) }
@@ -98,5 +236,6 @@ pub(crate) fn release<T: Kept>(board: &Board<T>, seat: &mut Place<T>, at: usize)
     ensures added { (x : _) (c : _) (r : _) → seat.old.me.1 ≡ (at, x) ∷ [] → made_of T.call T.chosen T.reply x.made ≡ Some (c, r)
         → (seat.new.me.1 ≡ []) × (seat.new.me.0 ≡ served seat.old.me.0 at (entry seat.old.me.0.from c r (T.state x.value))) }
 {
-    board.shared.store::<Give>(seat, at, 0);
+    board.shared.store::<Give>(seat, lock_word(at), FREE);
+    wake_if_asleep(board, seat, at);
 }

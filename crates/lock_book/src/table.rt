@@ -1,20 +1,25 @@
 //! The table of a shelf: its words, its slots and the steps on them.
 //!
-//! Of the value at place i, word i is 1 while a caller has the value and 0 while it is free; slot i has the value while
-//! it is free. Who may change which, and when:
+//! Each value has one slot, which has the value while it is free, and a line of the cache's words of its own, of which two
+//! are used: the lock's (`lock_word`) and one of advice (`sleep_word`). The lock's word is 0 while the value is free, and
+//! else 1 + the number of the caller that has it, so that it names its holder. Who may change which, and when:
 //!
-//! - the word from 0 to 1: any caller that has no value, by a compare-and-exchange, which takes the value out of its slot
-//!   (`Take`); where it finds 1 it changes nothing (`TakeOnce` is the same of a caller that will not wait);
+//! - the lock's word from 0 to 1 + a caller's number: only that caller, while it has no value, by a compare-and-exchange,
+//!   which takes the value out of its slot (`Take`); if it finds another number it changes nothing (`TakeOnce` is the same
+//!   of a caller that will not wait);
 //! - the value: only the caller that has it reads or writes it;
-//! - the word from 1 to 0: only the caller that has the value, by a store after it applied its call, which adds the call
-//!   to the history and puts the value back (`Give`).
+//! - the lock's word from that number to 0: only the caller that has the value, by a store after it applied its call,
+//!   which adds the call to the history and puts the value back (`Give`);
+//! - the word of advice: anybody, to 1 before it sleeps on that word, and to 0 before it wakes a sleeper (`Advise`). No
+//!   clause rests on it: a wrong one costs time, and never an answer.
 //!
-//! Nobody stands in line: a caller that found 1 reads the word until it is 0, backs off in between (`Backoff`), and
-//! tries again. A look (`Look`) is a load that changes nothing but what the caller knows. Passes are cut off and joined
-//! by `Callers`, and told what others have seen by `Note`. The rule is `Ruled` of specs/Ruled.
+//! `named` of specs/Ruled says what a caller may store in a lock's word. Nobody stands in line: a caller that found the
+//! value taken reads the word until it is 0, backs off in between (`Backoff`), tries again, and after some rounds sleeps.
+//! A look (`Look`) is a load that changes nothing but what the caller knows. Passes are cut off and joined by `Callers`,
+//! and told what others have seen by `Note`. The rule is `Ruled` of specs/Ruled.
 
 ghost use Rattle.lock_book.specs.History.{made_of};
-ghost use Rattle.lock_book.specs.Ruled.{Ruled, newcomers, tried, tried_once, given_back, looked, first_caller, other_callers, note, informed, together, nobody};
+ghost use Rattle.lock_book.specs.Ruled.{Ruled, newcomers, tried, tried_once, given_back, advised, looked, first_caller, other_callers, note, informed, together, nobody};
 
 use crate::Kept;
 use crate::noted::Noted;
@@ -77,6 +82,13 @@ impl<T: Kept> Play<Held<T>, Known<T>> for Give {
     ghost then = { given_back (λ x. T.name x.value) (λ x. T.state x.value) T.legal (λ x. made_of T.call T.chosen T.reply x.made) };
 }
 
+/// A word of advice is stored, and nothing else is changed.
+pub struct Advise;
+
+impl<T: Kept> Play<Held<T>, Known<T>> for Advise {
+    ghost then = { advised };
+}
+
 /// What was seen and what was told of are put together.
 pub struct Look;
 
@@ -113,6 +125,9 @@ impl<N, S, C, R> Join<View<N, S, C, R>> for Note {
 
     ghost spent = { nobody };
 }
+
+/// How many words a value has: as many as a line of the cache, so that no two locks are on one line.
+pub(crate) const WORDS_OF_VALUE: usize = 8;
 
 /// The table of a shelf.
 pub type Board<T> = Table<Held<T>, Known<T>, About<T>, Turns, Global>;
