@@ -11,9 +11,12 @@
 
 #![expect(clippy::type_complexity, reason = "a marker names all that it stands for")]
 
+mod home;
+mod sleep;
+
+use home::Home;
 use rattle_std::alloc::{AllocError, Global};
 use rattle_std::vec::Vec;
-use std::cell::UnsafeCell;
 use std::marker::PhantomData;
 use std::sync::atomic::AtomicU64;
 use std::sync::atomic::Ordering::SeqCst;
@@ -46,7 +49,7 @@ impl<S, V> Seat<S, V> {
     #[inline]
     pub fn slot_mut<'a, K, P: TableRule<S, V, K>>(&'a mut self, table: &'a Shared<S, V, K, P>, slot: usize) -> &'a mut S {
         // SAFETY: the call's contract is that this seat holds the slot. The crates above call it only between a
-        // compare-and-exchange that took the slot's word from 0 to 1 and the store that gives it back, and prove that no
+        // compare-and-exchange that took the slot's lock, a word, from 0 to the caller's number and the store that gives it back, and prove that no
         // other seat holds the slot then; both are sequentially consistent, so what one holder wrote the next one sees.
         // The borrow of the seat ends before the seat can take another step.
         unsafe { &mut *table.slots[slot].get() }
@@ -71,7 +74,7 @@ impl<V> Badge<V> {
 /// The words and slots, as threads see them.
 pub struct Shared<S, V, K, P: TableRule<S, V, K>> {
     words: Box<[AtomicU64]>,
-    slots: Box<[UnsafeCell<S>]>,
+    slots: Box<[Home<S>]>,
     marker: PhantomData<fn() -> (V, K, P)>,
 }
 
@@ -152,7 +155,7 @@ impl<S, V, K, P: TableRule<S, V, K>> Table<S, V, K, P, Global> {
         let table = Table {
             shared: Shared {
                 words,
-                slots: slots.into_iter().map(UnsafeCell::new).collect(),
+                slots: slots.into_iter().map(Home::new).collect(),
                 marker: PhantomData,
             },
             alloc: PhantomData,
