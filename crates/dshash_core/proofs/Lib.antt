@@ -1,3 +1,4 @@
+pub mod Hashes
 pub mod Keys
 pub mod Chains
 pub mod Walks

@@ -100,7 +100,7 @@ partition_seen decoded h size = record {
   cells = cells_of decoded h.chains;
 }
 
--- the fields of a partition: its buckets hold a map of a size, and the buffer has room for a value
-pub record IsPartition (value_words size count : ℕ) (h : Hung) (buffer : List ℕ) : Type 0 where
+-- the fields of a partition: its buckets hold a map of a size, and a value has at most 64 words
+pub record IsPartition (value_words size count : ℕ) (h : Hung) : Type 0 where
   pub cells : AreCells size count value_words h
-  pub buffer_long : length buffer ≡ value_words
+  pub short : value_words ≤ 64

@@ -113,6 +113,7 @@ impl Buckets {
     }
 
     /// Looks for the key in its bucket's chain.
+    #[inline(always)]
     pub(crate) fn find(&mut self, r: &Region, bucket: u64, hash: u64, key: &[u64]) -> Option<Spot>
         requires here { self.old.region ≡ r.now }
         requires bucket { bucket < length self.old.chains }
@@ -136,6 +137,7 @@ impl Buckets {
     }
 
     /// Reads an item's value.
+    #[inline(always)]
     pub(crate) fn read_value(&mut self, r: &Region, item: u64, out: &mut [u64])
         requires here { self.old.region ≡ r.now }
         requires item { (it : Item) × Holds self.old it × (it.at ≡ item) }
@@ -147,6 +149,7 @@ impl Buckets {
     }
 
     /// Changes an item's value.
+    #[inline(always)]
     pub(crate) fn write_value(&mut self, r: &Region, bucket: u64, spot: Spot, value: &[u64])
         requires here { self.old.region ≡ r.now }
         requires bucket { bucket < length self.old.chains }
@@ -159,6 +162,7 @@ impl Buckets {
     }
 
     /// Hangs an item in at the head of a bucket's chain.
+    #[inline(always)]
     pub fn push(&mut self, r: &Region, bucket: u64, item: Chunk)
         requires here { (self.old.region ≡ r.now) × (item.part.region ≡ r.now) }
         requires bucket { bucket < length self.old.chains }
@@ -171,6 +175,7 @@ impl Buckets {
     }
 
     /// Takes an item out of its chain, whole.
+    #[inline(always)]
     pub(crate) fn unlink(&mut self, r: &Region, bucket: u64, spot: Spot) -> Chunk
         requires here { self.old.region ≡ r.now }
         requires bucket { bucket < length self.old.chains }

@@ -9,14 +9,18 @@ ghost use Rattle.dshash_core.specs.Outcome.{HandsOut};
 ghost use Rattle.dshash_core.specs.Calls.{IsCalled, IsAnswered};
 
 use crate::buckets::Buckets;
-use crate::object::CellObject;
+use crate::object::{CellObject, MOST_VALUE_WORDS};
 use crate::outcome::CoreOut;
 use crate::sizes::{bucket_of_hash, is_full_at};
 use crate::words::{Spot, fill};
 use region_words::{Chunk, Region};
 
+/// The most words of a value for which a call clears few words.
+const MOST_SHORT_WORDS: usize = 4;
+
 /// Makes the call of the item at a spot: its state is changed, or the item is taken out. A call that only reads stores
 /// nothing.
+#[inline(always)]
 pub(crate) fn change<O: CellObject>(
     buckets: &mut Buckets,
     r: &Region,
@@ -56,6 +60,7 @@ pub(crate) fn change<O: CellObject>(
 }
 
 /// Hangs a new item in for the key, with this state.
+#[inline(always)]
 fn insert<O: CellObject>(
     buckets: &mut Buckets,
     r: &Region,
@@ -91,6 +96,7 @@ fn first_step<O: CellObject>(call: &O::Call) -> (Option<O::State>, O::Reply)
 
 /// Makes the call of a key that is not there: where it makes a state, and the partition is not full, the spare item
 /// takes it in.
+#[inline(always)]
 fn put_in<O: CellObject>(
     buckets: &mut Buckets,
     r: &Region,
@@ -142,8 +148,9 @@ fn put_in<O: CellObject>(
     }
 }
 
-/// Makes a call of a partition of a size, of a key with this hash.
-pub(crate) fn answer<O: CellObject>(
+/// Makes a call of a partition of a size, of a key with this hash, with memory for a value's words.
+#[inline(always)]
+fn answer_in<O: CellObject>(
     buckets: &mut Buckets,
     r: &Region,
     count: &mut u64,
@@ -175,4 +182,35 @@ pub(crate) fn answer<O: CellObject>(
         }
         None => put_in::<O>(buckets, r, count, buffer, size, hash, key, call, spare),
     }
+}
+
+/// The same with memory on the stack: for few words if a value has few, so that 64 are not cleared for a number.
+#[inline(always)]
+pub(crate) fn answer<O: CellObject>(
+    buckets: &mut Buckets,
+    r: &Region,
+    count: &mut u64,
+    size: u32,
+    hash: u64,
+    key: &[u64],
+    call: &O::Call,
+    spare: Option<Chunk>,
+) -> CoreOut<O>
+    requires here { buckets.old.region ≡ r.now }
+    requires hash { hash ≡ hash_of key.now }
+    requires key { length key.now ≡ buckets.old.layout.key_words }
+    requires short { O.VALUE_WORDS ≤ 64 }
+    requires cells { AreCells size count.old O.VALUE_WORDS buckets.old }
+    requires spare { IfSome spare (λ c. (c.part.region ≡ r.now) × (c.bytes ≡ buckets.old.layout.item_bytes)) }
+    ensures answered { IsAnswered O.stepped O.decoded size count.old count.new O.VALUE_WORDS buckets.old buckets.new key.now call.now (is_some spare) result }
+    ensures handed { HandsOut buckets.old.region buckets.old.layout.item_bytes spare result }
+{
+    if O::VALUE_WORDS <= MOST_SHORT_WORDS {
+        let mut value = [0; MOST_SHORT_WORDS];
+        let words = &mut value[..O::VALUE_WORDS];
+        return answer_in::<O>(buckets, r, count, words, size, hash, key, call, spare);
+    }
+    let mut value = [0; MOST_VALUE_WORDS];
+    let words = &mut value[..O::VALUE_WORDS];
+    answer_in::<O>(buckets, r, count, words, size, hash, key, call, spare)
 }

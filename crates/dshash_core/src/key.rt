@@ -21,21 +21,34 @@ const OFFSET_BASIS: u32 = 0x811c_9dc5;
 /// The factor of the hash's last step.
 const SPREAD: u32 = 0x85eb_ca6b;
 
-/// The prime to the eighth power, modulo 2^32. Eight bytes that are 0 change the hash by this product alone, so the
-/// words of 0 behind a short packed key cost one step each and not eight.
-const PRIME_TO_THE_EIGHTH: u32 = 0x5d61_5f21;
+/// The powers of the prime modulo 2^32, from the power 0 on. A byte that is 0 changes the hash by a product with the
+/// prime, so the zero bytes at a word's top change it by one product with a power.
+const PRIME_POWERS: [u32; 9] = [
+    0x1,
+    0x0100_0193,
+    0x2602_7a69,
+    0x3ee6_b34b,
+    0x502c_3f11,
+    0x46a7_47c3,
+    0xfc55_f7f9,
+    0x3455_5cfb,
+    0x5d61_5f21,
+];
 
-/// The hash goes on over a word's eight bytes.
+/// The hash goes on over a word's eight bytes, the lowest first: over each one up to the highest that isn't 0, and over the
+/// others at once.
 fn hash_word(hash: u32, word: u64) -> u32
     ensures { result ≡ fnv_word hash word }
 {
-    if word == 0 {
-        return hash.wrapping_mul(PRIME_TO_THE_EIGHTH);
+    let mut hashed = hash;
+    let mut rest = word;
+    let mut left = 8;
+    while rest != 0 {
+        hashed = (hashed ^ (rest % 256) as u32).wrapping_mul(PRIME);
+        rest /= 256;
+        left -= 1;
     }
-    let bytes = word.to_le_bytes();
-    bytes
-        .iter()
-        .fold(hash, |h, byte| (h ^ u32::from(*byte)).wrapping_mul(PRIME))
+    hashed.wrapping_mul(PRIME_POWERS[left])
 }
 
 /// Spreads the hash's last bytes over all of its bits.

@@ -3,12 +3,15 @@
 ghost use Rattle.std.specs.Prelude.{◌≡◌, ℕ, List, Option, IsTrue, length};
 ghost use Rattle.std.specs.Option.{option_copied};
 
+/// The most words of a state: a call has them on its stack, so that a partition has no memory beside its words.
+pub const MOST_VALUE_WORDS: usize = 64;
+
 /// The object of which a table has one under each key. A call may make it, change it or remove it.
 ///
 /// A partition crosses threads, and may stand behind a lock, where `O: CellObject + Send`, `O::State: Send`, `O::Call:
 /// Send` and `O::Reply: Send`: whoever keeps it there asks for these four.
 pub trait CellObject {
-    /// The words that a state takes.
+    /// The words that a state takes, at most `MOST_VALUE_WORDS`.
     const VALUE_WORDS: usize;
 
     /// What stands under a key.

@@ -20,7 +20,7 @@ use crate::buckets::Buckets;
 use crate::calls::answer;
 use crate::entries::{Entry, list_all};
 use crate::key::hash_key;
-use crate::object::CellObject;
+use crate::object::{CellObject, MOST_VALUE_WORDS};
 use crate::outcome::CoreOut;
 use crate::sizes::{LEAST_SIZE, bucket_count, bucket_of_hash};
 use crate::taking::{Taken, spot_at_hand, take_at};
@@ -38,8 +38,6 @@ pub struct Partition<O: CellObject> {
     size: u32,
     /// The number of its keys.
     count: u64,
-    /// Room for the words of one value.
-    buffer: Vec<u64>,
     /// The bucket from which `take_any` took last. It goes on from there.
     hand: u64,
     object: PhantomData<O>,
@@ -54,25 +52,19 @@ impl<O: CellObject> Model for Partition<O> {
 
     ghost view = { λ p. partition_seen O.decoded p.buckets p.size };
 
-    ghost invariant = { λ p. IsPartition O.VALUE_WORDS p.size p.count p.buckets p.buffer.items };
+    ghost invariant = { λ p. IsPartition O.VALUE_WORDS p.size p.count p.buckets };
 }
 
 impl<O: CellObject> Partition<O> {
-    /// The empty partition of size 7, on a slice of a word or more. It takes memory for one buffer of a value's words;
-    /// where that fails, the slice is dropped. Its items are to be chunks of `item_chunk` bytes.
-    pub fn new(
-        alloc: Global,
-        r: &Region,
-        slice: Chunk,
-        key_words: u32,
-        item_chunk: u64,
-    ) -> Result<Partition<O>, AllocError>
+    /// The empty partition of size 7, on a slice of a word or more. Its items are to be chunks of `item_chunk` bytes. One
+    /// store.
+    pub fn new(r: &Region, slice: Chunk, key_words: u32, item_chunk: u64) -> Partition<O>
         requires here { slice.part.region ≡ r.now }
         requires room { 8 ≤ slice.bytes }
         requires fits { item_size key_words O.VALUE_WORDS ≤ item_chunk }
-        ensures { IfOk result (λ p. p ≡ record { region = r.now; slice = slice.at; words = slice.bytes / 8; key_words = key_words; item_bytes = item_chunk; size = 7; cells = fin.empty }) }
+        requires short { O.VALUE_WORDS ≤ 64 }
+        ensures { result ≡ record { region = r.now; slice = slice.at; words = slice.bytes / 8; key_words = key_words; item_bytes = item_chunk; size = 7; cells = fin.empty } }
     {
-        let buffer = vec![in alloc; 0u64; O::VALUE_WORDS]?;
         let buckets = Buckets::new(
             r,
             slice,
@@ -81,14 +73,13 @@ impl<O: CellObject> Partition<O> {
             O::VALUE_WORDS as u64,
             item_chunk,
         );
-        Ok(Partition {
+        Partition {
             buckets,
             size: LEAST_SIZE,
             count: 0,
-            buffer,
             hand: 0,
             object: PhantomData,
-        })
+        }
     }
 
     /// Its size, from 7 to 20: it has 2^(size - 7) buckets.
@@ -132,6 +123,7 @@ impl<O: CellObject> Partition<O> {
 
     /// The same, of a key whose hash is known: a table that needs the hash for the partition's number hashes each key
     /// once.
+    #[inline(always)]
     pub fn try_call_with_hash(
         &mut self,
         r: &Region,
@@ -153,7 +145,6 @@ impl<O: CellObject> Partition<O> {
             &mut self.buckets,
             r,
             &mut self.count,
-            self.buffer.as_mut_slice(),
             self.size,
             u64::from(hash),
             key,
@@ -184,11 +175,12 @@ impl<O: CellObject> Partition<O> {
             return None;
         };
         self.hand = bucket;
+        let mut value = [0; MOST_VALUE_WORDS];
         Some(take_at::<O>(
             &mut self.buckets,
             r,
             &mut self.count,
-            self.buffer.as_mut_slice(),
+            &mut value[..O::VALUE_WORDS],
             bucket,
             spot,
             call,
@@ -203,11 +195,12 @@ impl<O: CellObject> Partition<O> {
         ensures roomy { IsRoomy self.old.size (fin.len self.old.cells) }
         ensures all { IfOk result (λ v. ListsAll self.old.cells (pairs_of v.items)) }
     {
+        let mut value = [0; MOST_VALUE_WORDS];
         list_all::<O>(
             &mut self.buckets,
             alloc,
             r,
-            self.buffer.as_mut_slice(),
+            &mut value[..O::VALUE_WORDS],
             self.count,
         )
     }

@@ -20,6 +20,7 @@ pub struct Spot {
 }
 
 /// Whether these are the words from `at` on.
+#[inline(always)]
 fn are_words(part: &mut Part, r: &Region, at: u64, words: &[u64]) -> bool
     requires here { part.old.region ≡ r.now }
     requires owns { (k : ℕ) → at ≤ k → k < at + length words.now → IsSome (word_at part.old.words k) }
@@ -36,6 +37,7 @@ fn are_words(part: &mut Part, r: &Region, at: u64, words: &[u64]) -> bool
 }
 
 /// Reads the words from `at` on.
+#[inline(always)]
 pub(crate) fn load_words(part: &mut Part, r: &Region, at: u64, out: &mut [u64])
     requires here { part.old.region ≡ r.now }
     requires owns { (k : ℕ) → at ≤ k → k < at + length out.old → IsSome (word_at part.old.words k) }
@@ -49,6 +51,7 @@ pub(crate) fn load_words(part: &mut Part, r: &Region, at: u64, out: &mut [u64])
 }
 
 /// Stores a word where another one stands there.
+#[inline(always)]
 fn put_word(part: &mut Part, r: &Region, at: u64, value: u64)
     requires here { part.old.region ≡ r.now }
     requires owns { IsSome (word_at part.old.words at) }
@@ -60,6 +63,7 @@ fn put_word(part: &mut Part, r: &Region, at: u64, value: u64)
 }
 
 /// Stores these words from `at` on, as far as others stand there.
+#[inline(always)]
 pub(crate) fn store_words(part: &mut Part, r: &Region, at: u64, words: &[u64])
     requires here { part.old.region ≡ r.now }
     requires owns { (k : ℕ) → at ≤ k → k < at + length words.now → IsSome (word_at part.old.words k) }
@@ -76,6 +80,7 @@ pub(crate) fn store_words(part: &mut Part, r: &Region, at: u64, words: &[u64])
 }
 
 /// Whether the item has the key. Most other items differ in their hash already.
+#[inline(always)]
 fn has_key(part: &mut Part, r: &Region, item: u64, hash: u64, key: &[u64]) -> bool
     requires here { part.old.region ≡ r.now }
     requires hash { hash ≡ hash_of key.now }
@@ -91,6 +96,7 @@ fn has_key(part: &mut Part, r: &Region, item: u64, hash: u64, key: &[u64]) -> bo
 }
 
 /// Walks along the chain from `link` to the first item that has the key: its hash is compared first.
+#[inline(always)]
 pub(crate) fn seek(part: &mut Part, r: &Region, link: u64, hash: u64, key: &[u64]) -> Option<Spot>
     requires here { part.old.region ≡ r.now }
     requires link { IsSome (word_at part.old.words link) }
@@ -113,6 +119,7 @@ pub(crate) fn seek(part: &mut Part, r: &Region, link: u64, hash: u64, key: &[u64
 }
 
 /// Hangs the words of an item in, which stands at `at`, behind the word `link`.
+#[inline(always)]
 pub(crate) fn hang_in(part: &mut Part, r: &Region, link: u64, at: u64, item: Part)
     requires here { (part.old.region ≡ r.now) × (item.region ≡ r.now) }
     requires link { IsSome (word_at part.old.words link) }
@@ -128,6 +135,7 @@ pub(crate) fn hang_in(part: &mut Part, r: &Region, link: u64, at: u64, item: Par
 }
 
 /// Takes the `len` words of the item at `at` out, which stands behind the word `link`.
+#[inline(always)]
 pub(crate) fn take_out(part: &mut Part, r: &Region, link: u64, at: u64, len: u64) -> Part
     requires here { part.old.region ≡ r.now }
     requires link { IsSome (word_at part.old.words link) }
@@ -159,6 +167,7 @@ pub(crate) fn blank(part: &mut Part, r: &Region, from: u64, len: u64)
 }
 
 /// Fills a chunk with an item that is not hung in yet: its hash, its key and its value.
+#[inline(always)]
 pub(crate) fn fill(item: Chunk, r: &Region, hash: u64, key: &[u64], value: &[u64]) -> Chunk
     requires here { item.part.region ≡ r.now }
     requires room { 2 + length key.now + length value.now ≤ item.bytes / 8 }

@@ -1,5 +1,5 @@
 -- The steps of a move: it begins with all keys in the former chains, an item goes over, and it ends with none left.
-use Rattle.std.proofs.Common.{◌≡◌, ◌≢◌, ℕ, suc, ◌+◌, ◌-◌, ◌^◌, ◌<◌, ◌≤◌, Bool, true, false, cond, List, [], ◌∷◌, ◌++◌, map, length, get_or, set, Option, Some, None, is_some, IsSome, refl, sym, ap, subst, ◌∙◌, arith, ⊎_elim, nat_cmp}
+use Rattle.std.proofs.Common.{◌≡◌, ◌≢◌, ℕ, suc, ◌+◌, ◌-◌, ◌^◌, ◌<◌, ◌≤◌, Bool, true, false, cond, List, [], ◌∷◌, map, length, set, Option, Some, None, is_some, IsSome, refl, sym, ap, subst, ◌∙◌, arith, ⊎_elim, nat_cmp}
 use Rattle.std.proofs.lemmas.List.{get_or-set_same, get_or-set_other}
 use Rattle.std.proofs.Math.ListN.{length-set}
 use Rattle.std.proofs.lemmas.Nat.{pow_below}
@@ -7,7 +7,7 @@ use Rattle.std.specs.Cmp.Lexicographic.{slice_cmp, nat_list_cmp_total}
 use Rattle.std.specs.FinMap as fin
 use Rattle.dshash_core.specs.Chains.{Item}
 use Rattle.dshash_core.specs.Hung.{Hung, chain_of, with_chain, IsSpot}
-use Rattle.dshash_core.specs.Cells.{KeyMap, PartitionView, IsRoomy, AreCells, all_items, cells_of, entry_of, full_above}
+use Rattle.dshash_core.specs.Cells.{KeyMap, PartitionView, IsRoomy, AreCells, cells_of, entry_of, full_above}
 use Rattle.dshash_core.proofs.Chains.{same_or_not}
 use Rattle.dshash_core.proofs.Maps.{same_key, other_key, keys_same_or_not}
 use Rattle.dshash_core.proofs.Flats.{spot_get, spot_counted, taken_cells, taken_map}

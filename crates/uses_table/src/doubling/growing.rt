@@ -44,7 +44,7 @@ impl Growing {
         let Some(slice) = store.take(&region, 1) else {
             return Err(AllocError);
         };
-        let numbers = Partition::new(alloc, &region, slice, 1, 32)?;
+        let numbers = Partition::new(&region, slice, 1, 32);
         Ok(Growing {
             region,
             store,

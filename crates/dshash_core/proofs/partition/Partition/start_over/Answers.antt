@@ -15,7 +15,7 @@ invariant_of-self g c =
     record {
       cells = empty_cells c.args.size g.O.CellObject.VALUE_WORDS c.bucket_count.result c.replace.new.dest c.requires.size.0 c.requires.size.1 c.bucket_count.ensures
           (ap (λ (u : Hung). u.chains) now) (ap (λ (u : Hung). u.layout.value_words) now ∙ c.VALUE_WORDS.ensures);
-      buffer_long = c.self.invariant.buffer_long;
+      short = c.self.invariant.short;
     }
 
 pub returns-clause-fresh : goal.returns-clause-fresh

@@ -1,5 +1,4 @@
-use Rattle.std.proofs.Common.{◌≡◌, ◌++◌, ℕ, length, take, drop, arith, ap, sym, subst, ◌∙◌}
-use Rattle.std.proofs.Math.Seq.{take-append_seam}
+use Rattle.std.proofs.Common.{ℕ, ap, sym, subst, ◌∙◌}
 use Rattle.std.specs.FinMap as fin
 use Rattle.dshash_core.specs.Hung.{Hung}
 use Rattle.dshash_core.specs.Cells.{PartitionView, IsRoomy, AreCells, cells_of, partition_seen}
@@ -29,11 +28,9 @@ returns-in_default-clause-roomy g c =
 pub invariant_of-self-2 : goal.invariant_of-self-2
 invariant_of-self-2 g c =
     let vw : ℕ = g.O.CellObject.VALUE_WORDS in
-    let long : c.self.inside.buffer.len ≡ length c.take_at.new.buffer = omega (arith, c.take_at.ensures.buffer, c.as_mut_slice.ensures.len) in
-    let tail = drop (length c.take_at.new.buffer) c.self.inside.buffer.items in
     record {
       cells = (c.take_at.ensures.called c.self.inside.size (subst (λ (u : Hung). AreCells c.self.inside.size c.self.inside.count vw u) (sym c.in-Some.ensures.same) c.self.invariant.cells)).cells;
-      buffer_long = ap (λ (n : ℕ). length (take n (c.take_at.new.buffer ++ tail))) long ∙ (ap length (take-append_seam c.take_at.new.buffer tail) ∙ (c.take_at.ensures.buffer ∙ (ap length c.as_mut_slice.ensures.value ∙ c.self.invariant.buffer_long)));
+      short = c.self.invariant.short;
     }
 
 pub returns-clause-roomy : goal.returns-clause-roomy

@@ -26,7 +26,7 @@ invariant_of-self g c =
     subst (λ (n : ℕ). IsRoomy c.self.inside.size (n + 1)) len (subst (λ (w : PartitionView S). IsRoomy w.size (fin.len w.cells + 1)) (sym c.self.view_is) c.requires.room) in
     let made = taken_in dec c.self.inside.size c.self.inside.count vw b c.push.new.self k c.bucket_of_hash-bucket.result c.load-hash.result it hash c.bucket_of_hash-bucket.ensures none roomy
     (c.push.ensures it (chunk_of c.args.item.at c.load-hash.new.self.at c.args.item.part c.load-hash.new.self.part (record { key_words = c.args.self.now.key_words; value_words = vw; item_bytes = c.args.self.now.item_bytes }) b.layout it c.load-hash.ensures.place.0 c.load-hash.ensures.part lay c.requires.item.1)) in
-    record { cells = made.0; buffer_long = c.self.invariant.buffer_long }
+    record { cells = made.0; short = c.self.invariant.short }
 
 pub returns : goal.returns
 returns g c = λ it chunk.

@@ -2,7 +2,7 @@ use Rattle.std.proofs.Common.{ℕ, sym, subst, List, is_some}
 use Rattle.dshash_core.specs.Hung.{Hung, HasItem, HasNoItem}
 use Rattle.dshash_core.specs.Cells.{AreCells, bucket_of}
 use Rattle.dshash_core.specs.Calls.{IsCalled}
-use Rattle.dshash_core.proofs.calls.answer.Goals as goal
+use Rattle.dshash_core.proofs.calls.answer_in.Goals as goal
 
 pub change-reply-requires-clause-spot : goal.change-reply-requires-clause-spot
 change-reply-requires-clause-spot g c = subst (λ (u : Hung). (key : List ℕ) × HasItem u c.bucket_of_hash-bucket.result c.in-Some.spot.link c.in-Some.spot.item key) (sym c.find.ensures.same) (c.args.key.now, c.in-Some.ensures.found)
