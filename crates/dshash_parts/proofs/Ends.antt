@@ -13,7 +13,7 @@ use Rattle.dshash_parts.specs.declared.histories.PartitionCalls.TheVariants.{Cal
 use Rattle.dshash_parts.specs.declared.histories.PartitionReplies.{PartitionReplies}
 use Rattle.dshash_parts.specs.declared.histories.PartitionReplies.TheVariants.{Made, LacksItem, HasToGrow, HasSize}
 use Rattle.dshash_parts.specs.Traces.{Event, Turn, Asked, Requested, Got, Missed, Sight, sight, Trace, fulls}
-use Rattle.dshash_parts.specs.Promises.{AllGrew, IsMadeWith, IsRefusedWith, IsLastCall, slice_size}
+use Rattle.dshash_parts.specs.Promises.{AllGrew, IsMadeWith, IsRefusedWith, IsLastCall, KeepsItem, slice_size}
 use Rattle.dshash_parts.specs.Sweeps.{Swept, SweptAndGave, GaveBack}
 use Rattle.dshash_parts.specs.Rounds.{Underway}
 use Rattle.dshash_parts.proofs.Sizes.{turn_legal, grow_tells}
@@ -77,6 +77,12 @@ module _ {S C R : Type 0} (number item : ℕ) (key : List ℕ) (call : C) (step 
     last reply unused freed turn =
         let x = (here at who s m s' m' (Call key call spare) (Made reply unused freed) same_at same_who turn).here in
         record { before = x.2.before; after = x.2.after; spare = spare; unused = unused; freed = freed; ends = x.3.0 ∙ x.2.ends }
+
+    -- and an item is kept of the unused one and the one that came out
+    pub keeps : (reply : R) (unused freed kept : Bool) → kept ≡ (unused || freed) → AtPartition step who s m s' m' at (Call key call spare) (Made reply unused freed) → KeepsItem n key call reply kept (s' number)
+    keeps reply unused freed kept one turn =
+        let x = (here at who s m s' m' (Call key call spare) (Made reply unused freed) same_at same_who turn).here in
+        record { before = x.2.before; after = x.2.after; spare = spare; unused = unused; freed = freed; ends = x.3.0 ∙ x.2.ends; keeps = one }
 
     -- the call lacks an item, so it came with none
     bare : AtPartition step who s m s' m' at (Call key call spare) LacksItem → (spare ≡ false) × AtPartition step n s m s' m' number (Call key call false) LacksItem

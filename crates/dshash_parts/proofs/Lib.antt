@@ -15,4 +15,3 @@ pub mod Lookups
 pub mod Done
 pub mod Takings
 pub mod Tries
-pub mod Makes

@@ -2,6 +2,7 @@
 use Rattle.std.proofs.Common.{◌≡◌, ℕ, ◌&&◌, not, Bool, true, false, List, Option, Some, None, is_some, is_none, refl, sym, ap, subst, ◌∙◌}
 use Rattle.std.specs.FinMap as fin
 use Rattle.region_words.specs.declared.chunk.Chunk.{Chunk}
+use Rattle.lock_book.specs.History.{entry}
 use Rattle.lock_book.specs.Told.{Histories}
 use Rattle.dshash_core.specs.Cells.{KeyMap, partition_of}
 use Rattle.dshash_core.specs.Key.{hash_of}
@@ -17,7 +18,7 @@ use Rattle.dshash_parts.specs.declared.histories.PartitionCalls.TheVariants.{Cal
 use Rattle.dshash_parts.specs.declared.histories.PartitionReplies.{PartitionReplies}
 use Rattle.dshash_parts.specs.declared.histories.PartitionReplies.TheVariants.{Made}
 use Rattle.dshash_parts.proofs.Replays.{changed_here}
-use Rattle.dshash_parts.proofs.Sizes.{turn_legal}
+use Rattle.dshash_parts.proofs.Sizes.{turn_begins, turn_legal}
 
 -- of the same answer to both
 not_and : (a b : Bool) → b ≡ a → (not a && b) ≡ false
@@ -55,8 +56,13 @@ module _ {S C R : Type 0} (step : Option S → C → Option S × R) (call : C) (
     pub was_found : number ≡ partition_of (hash_of key) → (reply : R) → AtPartition step n seen mine seen' mine' number (Call key call false) (Made reply false false) → IsFound step seen' key call reply
     was_found home reply turn =
         let t = turn_legal step n seen mine seen' mine' number (Call key call false) (Made reply false false) turn in
+        let x = turn.here in
         record {
+          before = x.2.before;
+          last = entry n (Call key call false) (Made reply false false) x.2.after;
+          ends = ap seen' (sym home) ∙ (x.3.0 ∙ x.2.ends);
           from = fin.get t.0.cells key;
+          was = ap (λ (s : PartitionState S). fin.get s.cells key) (turn_begins step n seen mine seen' mine' number (Call key call false) (Made reply false false) turn);
           replied = t.1.is.1.replied;
           stands = ap (λ (z : ℕ). fin.get (map_at seen' z) key) (sym home) ∙ (ap (λ (m : KeyMap S). fin.get m key) t.1.is.1.steps ∙ changed_here step t.0.cells key (next_of step t.0.cells key call) key refl);
         }

@@ -110,7 +110,7 @@ module _ {S C R : Type 0} (number item : ℕ) (key : List ℕ) (call : C) where
   item_round = Turn number (Call key call false) LacksItem ∷ Asked (Got item) ∷ []
 
   pub underway_none : (held : Bool) → IsUnderway {S = S} {C = C} {R = R} number item key call held held []
-  underway_none held = record { none = tt; balance = omega arith; caused = record { moves = λ k to left h. absurd h; grants = λ bytes h. absurd h; gifts = λ bytes h. absurd h }; asks = omega arith }
+  underway_none held = record { none = tt; balance = omega arith; caused = record { moves = λ k to left h. absurd h; grants = λ bytes h. absurd h; gifts = λ bytes h. absurd h }; asks = omega arith; uses = λ h. (h, λ l. l) }
 
   pub underway_item : {held : Bool} (es : List (Event S C R)) → IsUnderway number item key call held false es → IsUnderway number item key call held true (es ++ item_round)
   underway_item es x = record {
@@ -122,6 +122,7 @@ module _ {S C R : Type 0} (number item : ℕ) (key : List ℕ) (call : C) where
       gifts = λ bytes h. absurd (⊎_elim (λ e. absurd (cc)) (λ r. ⊎_elim (λ (e : Asked (Gave bytes) ≡ Asked (Got item)). absurd (cc)) (λ z. absurd z) r) h);
     });
     asks = let p = asked_append es item_round in let q = fulls_append es item_round in let b = x.asks in omega arith;
+    uses = λ h. let e : false ≡ true = (x.uses h).0 in absurd (cc);
   }
 
   -- a turn that told that the partition has to grow, and a sweep to the next size
@@ -145,6 +146,7 @@ module _ {S C R : Type 0} (number item : ℕ) (key : List ℕ) (call : C) where
         balance = let p = granted_append es (growth spare size sweep) in let q = given_append es (growth spare size sweep) in let b = x.balance in omega arith;
         caused = caused_both es (growth spare size sweep) x.caused (growth_caused es spare size sweep h gave);
         asks = let p = asked_append es (growth spare size sweep) in let q = fulls_append es (growth spare size sweep) in let b = x.asks in let z = quiet.1 in omega arith;
+        uses = λ is. let lack : Event S C R = Turn number (Call key call false) LacksItem in ((x.uses is).0, λ l. ⊎_elim (λ (a : Among lack es). (x.uses is).1 a) (λ (b : Among lack (growth spare size sweep)). ⊎_elim (λ e. absurd (cc)) (λ (r : Among lack sweep). sweep_among (size + 1) lack sweep h r) b) (among_parts lack es (growth spare size sweep) l));
       }
 
 one_at_most : (b : Bool) → one_if b ≤ 1
@@ -226,6 +228,7 @@ module _ {S C R : Type 0} (number item : ℕ) (key : List ℕ) (call : C) where
         none_before = x.none;
         gifts_after = g.are;
         balance = let p = granted_append es tail in let q = given_append es tail in let b = x.balance in let t = taken spare unused h in let o = both_or_one unused freed in let u = g.given_are in let v = g.granted_none in omega arith;
+        uses = λ is l. let lack : Event S C R = Turn number (Call key call false) LacksItem in ⊎_elim (λ (a : Among lack es). (x.uses is).1 a) (λ (b : Among lack tail). ⊎_elim (λ e. absurd (cc)) (λ (r : Among lack (gift (chunk_size item) (unused && freed))). let e = gift_among (chunk_size item) (unused && freed) lack r in absurd (cc)) b) (among_parts lack es tail l);
         frugal = record {
           moves = caused.moves;
           grants = caused.grants;
@@ -252,6 +255,7 @@ module _ {S C R : Type 0} (number item : ℕ) (key : List ℕ) (call : C) where
         is = ap (λ (z : List (Event S C R)). z ++ tail) x.is ∙ append_assoc x.before last tail;
         none_before = x.none_before;
         gifts_after = gifts_append x.after tail x.gifts_after g.are;
+        uses = λ is l. let lack : Event S C R = Turn number (Call key call false) LacksItem in ⊎_elim (λ (a : Among lack es). x.uses is a) (λ (r : Among lack tail). let e = gift_among (chunk_size item) kept lack r in absurd (cc)) (among_parts lack es tail l);
         balance = let p = granted_append es tail in let q = given_append es tail in let b = x.balance in let u = g.given_are in let v = g.granted_none in omega arith;
         frugal = record {
           moves = caused.moves;
@@ -282,6 +286,7 @@ module _ {S C R : Type 0} (number item : ℕ) (key : List ℕ) (call : C) where
         is = sym (append_assoc es lacks (Asked (Missed item wanted largest) ∷ []));
         none = none_append es tail x.none tt;
         cause = inl (refl, among_back (Turn number (Call key call false) LacksItem) es lacks (inl refl));
+        uses = λ is l. let e : false ≡ true = (x.uses is).0 in absurd (cc);
         gifts_after = tt;
         balance = let p = granted_append es tail in let q = given_append es tail in let b = x.balance in omega arith;
         frugal = record {
@@ -358,6 +363,7 @@ module _ {S C R : Type 0} (number item : ℕ) (key : List ℕ) (call : C) where
         cause = inr (size, k, found, (spare, among_back told es front (inl refl)), refl, (keys, among_back look es front (inr (among_back look sweep (look ∷ []) (inl refl)))), omega arith);
         gifts_after = g.are;
         balance = let b = x.balance in let v = g.given_are in let t = g.granted_none in omega arith;
+        uses = λ is l. let lack : Event S C R = Turn number (Call key call false) LacksItem in ⊎_elim (λ (a : Among lack es). (x.uses is).1 a) (λ (b : Among lack tail). ⊎_elim (λ e. absurd (cc)) (λ (r : Among lack (sweep ++ rest)). ⊎_elim (λ (s : Among lack sweep). sweep_among (size + 1) lack sweep h s) (λ (t : Among lack rest). ⊎_elim (λ e. absurd (cc)) (λ c. ⊎_elim (λ e. absurd (cc)) (λ (d : Among lack (gift (chunk_size item) spare)). let e = gift_among (chunk_size item) spare lack d in absurd (cc)) c) t) (among_parts lack sweep rest r)) b) (among_parts lack es tail l);
         frugal = record {
           moves = caused.moves;
           grants = caused.grants;

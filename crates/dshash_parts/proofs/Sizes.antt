@@ -48,6 +48,11 @@ module _ {S C R : Type 0} (step : Option S → C → Option S × R) where
         let left : state_at seen' number ≡ x.2.after = ap (last_of fresh) (x.3.0 ∙ x.2.ends) ∙ last_snoc fresh x.2.before (entry n call reply x.2.after) in
         (last_of fresh x.2.before, subst (λ (z : PartitionState S). PartitionLegal step number (last_of fresh x.2.before) call reply z) (sym left) x.2.step)
 
+    -- before it the partition is as the entries before left it
+    pub turn_begins : (a : AtPartition step n seen mine seen' mine' number call reply) → (turn_legal a).0 ≡ last_of fresh a.here.2.before
+    unfolding turn_legal
+    turn_begins a = refl
+
   module _ (n : ℕ) (seen mine seen' mine' : Histories (PartitionState S) (PartitionCalls C) (PartitionReplies S R)) (number : ℕ) where
     -- a look tells the size and the number of keys
     pub look_tells : (size keys : ℕ) → AtPartition step n seen mine seen' mine' number Looks (HasSize size keys) → size_at seen' number ≡ size

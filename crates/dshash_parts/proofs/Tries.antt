@@ -2,6 +2,7 @@
 use Rattle.std.proofs.Common.{◌≡◌, ℕ, Bool, List, Option, is_some, refl, ap, ◌∙◌, subst}
 use Rattle.std.specs.FinMap as fin
 use Rattle.region_words.specs.declared.chunk.Chunk.{Chunk}
+use Rattle.lock_book.specs.History.{entry}
 use Rattle.lock_book.specs.Told.{Histories}
 use Rattle.dshash_core.specs.Cells.{KeyMap, partition_of}
 use Rattle.dshash_core.specs.Key.{hash_of}
@@ -17,7 +18,7 @@ use Rattle.dshash_parts.specs.declared.histories.PartitionCalls.TheVariants.{Cal
 use Rattle.dshash_parts.specs.declared.histories.PartitionReplies.{PartitionReplies}
 use Rattle.dshash_parts.specs.declared.histories.PartitionReplies.TheVariants.{Made}
 use Rattle.dshash_parts.proofs.Replays.{changed_here}
-use Rattle.dshash_parts.proofs.Sizes.{grow_tells, turn_legal}
+use Rattle.dshash_parts.proofs.Sizes.{grow_tells, turn_begins, turn_legal}
 use Rattle.dshash_parts.specs.declared.asks.TableAnswer.{TableAnswer}
 use Rattle.dshash_parts.specs.declared.asks.TableAnswer.TheVariants.{Came, Size, LeftOver, Entries, Took}
 use Rattle.dshash_parts.specs.declared.asks.TableAsk.TheVariants.{Make, Grow}
@@ -30,7 +31,11 @@ module _ {O S C R : Type 0} (step : Option S → C → Option S × R) (n : ℕ) 
       let t = turn_legal step n seen mine seen' mine' home (Call key call spare) (Made reply (is_some unused) (is_some freed)) turn in
       let x = turn.here in (
         record {
+          before = x.2.before;
+          last = entry n (Call key call spare) (Made reply (is_some unused) (is_some freed)) x.2.after;
+          ends = x.3.0 ∙ x.2.ends;
           from = fin.get t.0.cells key;
+          was = ap (λ (s : PartitionState S). fin.get s.cells key) (turn_begins step n seen mine seen' mine' home (Call key call spare) (Made reply (is_some unused) (is_some freed)) turn);
           replied = t.1.is.1.replied;
           stands = ap (λ (m : KeyMap S). fin.get m key) t.1.is.1.steps ∙ changed_here step t.0.cells key (next_of step t.0.cells key call) key refl;
         },

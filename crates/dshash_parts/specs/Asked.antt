@@ -7,10 +7,9 @@ use Rattle.dshash_core.specs.Outcome.{AlwaysRemoves, HandsOut}
 use Rattle.dshash_core.specs.Listing.{pairs_of}
 use Rattle.dshash_core.specs.declared.outcome.CoreOut.{CoreOut}
 use Rattle.dshash_core.specs.declared.outcome.CoreOut.TheVariants.{Done, NeedItem, TooFull}
-use Rattle.region_words.specs.declared.chunk.Chunk.{Chunk}
 use Rattle.dshash_parts.specs.States.{PartitionState}
 use Rattle.dshash_parts.specs.declared.asks.TableAsk.{TableAsk}
-use Rattle.dshash_parts.specs.declared.asks.TableAsk.TheVariants.{Make, MakeShort, Look, Grow, List as ListAll, Take}
+use Rattle.dshash_parts.specs.declared.asks.TableAsk.TheVariants.{Make, Look, Grow, List as ListAll, Take}
 use Rattle.dshash_parts.specs.declared.asks.TableAnswer.{TableAnswer}
 use Rattle.dshash_parts.specs.declared.asks.TableAnswer.TheVariants.{Came, Size, LeftOver, Entries, Took}
 use Rattle.dshash_parts.specs.declared.histories.PartitionName.{PartitionName}
@@ -37,17 +36,10 @@ module _ {O S C R : Type 0} where
   -- the call of an ask. Where a key is to come and none does, it was a look
   abbrev pub call_of : TableAsk O S C R → PartitionCalls C
   call_of (Make hash key call spare) = Call key call (is_some spare)
-  call_of (MakeShort hash key call spare) = Call key call (is_some spare)
   call_of Look = Looks
   call_of (Grow size slice) = Moves size
   call_of (ListAll alloc) = Lists
   call_of (Take call words) = Looks
-
-  -- the ask is for this call of a key with this hash, with this spare item
-  abbrev pub IsMake : ℕ → List ℕ → C → Option Chunk → TableAsk O S C R → Type 0
-  IsMake hash key call spare (Make h k c s) = (h ≡ hash) × (k ≡ key) × (c ≡ call) × (s ≡ spare)
-  IsMake hash key call spare (MakeShort h k c s) = (h ≡ hash) × (k ≡ key) × (c ≡ call) × (s ≡ spare)
-  IsMake hash key call spare ask = ⊥
 
   -- the call that the partition chose: of the key that came
   abbrev pub chosen_of : TableAsk O S C R → TableAnswer O S C R → Option (PartitionCalls C)
@@ -73,7 +65,6 @@ module _ {O S C R : Type 0} where
   -- to come there is a word for each of its words
   abbrev pub AskFits : PartitionName → TableAsk O S C R → Type 0
   AskFits n (Make hash key call spare) = (length key ≡ n.key_words) × (hash ≡ hash_of key) × (partition_of (hash_of key) ≡ n.number) × IfSome spare (λ c. (c.part.region ≡ n.region) × (c.bytes ≡ n.item_bytes))
-  AskFits n (MakeShort hash key call spare) = (length key ≡ n.key_words) × (hash ≡ hash_of key) × (partition_of (hash_of key) ≡ n.number) × IfSome spare (λ c. (c.part.region ≡ n.region) × (c.bytes ≡ n.item_bytes))
   AskFits n Look = Unit {0}
   AskFits n (Grow size slice) = (8 ≤ size) × (size ≤ 20) × (slice.part.region ≡ n.region) × (buckets_of size ≤ slice.bytes / 8)
   AskFits n (ListAll alloc) = Unit {0}
@@ -83,7 +74,6 @@ module _ {O S C R : Type 0} where
   -- to 20. Where no key came there are none
   abbrev pub AnswerFits : PartitionName → TableAsk O S C R → TableAnswer O S C R → Type 0
   AnswerFits n (Make hash key call spare) (Came out) = HandsOut n.region n.item_bytes spare out
-  AnswerFits n (MakeShort hash key call spare) (Came out) = HandsOut n.region n.item_bytes spare out
   AnswerFits n Look (Size size keys) = (7 ≤ size) × (size ≤ 20)
   AnswerFits n (Grow size slice) (LeftOver left) = left.part.region ≡ n.region
   AnswerFits n (ListAll alloc) (Entries entries) = Unit {0}
@@ -97,7 +87,6 @@ module _ {O S C R : Type 0} (step : Option S → C → Option S × R) (may : ℕ
   -- key comes removes whatever stands there, and is one that it may make of each key of the partition
   abbrev pub MayAsk : ℕ → ℕ → TableAsk O S C R → Type 0
   MayAsk number caller (Make hash key call spare) = may caller key call
-  MayAsk number caller (MakeShort hash key call spare) = may caller key call
   MayAsk number caller Look = Unit {0}
   MayAsk number caller (Grow size slice) = Unit {0}
   MayAsk number caller (ListAll alloc) = Unit {0}

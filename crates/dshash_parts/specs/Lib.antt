@@ -1,3 +1,4 @@
+pub mod Keys
 pub mod States
 pub mod Asked
 pub mod Legal

@@ -1,10 +1,12 @@
 -- Calls that neither make a cell nor remove one.
-use Rattle.std.specs.Prelude.{◌≡◌, ℕ, List, Option, is_some}
+use Rattle.std.specs.Prelude.{◌≡◌, ℕ, List, [], ◌∷◌, ◌++◌, Option, is_some}
 use Rattle.std.specs.FinMap as fin
+use Rattle.lock_book.specs.declared.view.Entry.{Entry}
+use Rattle.lock_book.specs.History.{last_of}
 use Rattle.lock_book.specs.Told.{Histories}
 use Rattle.dshash_core.specs.Key.{hash_of}
 use Rattle.dshash_core.specs.Cells.{partition_of}
-use Rattle.dshash_parts.specs.States.{PartitionState}
+use Rattle.dshash_parts.specs.States.{PartitionState, fresh}
 use Rattle.dshash_parts.specs.Tables.{map_at}
 use Rattle.dshash_parts.specs.declared.histories.PartitionCalls.{PartitionCalls}
 use Rattle.dshash_parts.specs.declared.histories.PartitionReplies.{PartitionReplies}
@@ -14,9 +16,13 @@ module _ {S C R : Type 0} (step : Option S → C → Option S × R) where
   abbrev pub KeepsCells : C → Type 0
   KeepsCells call = (s : Option S) → is_some (step s call).0 ≡ is_some s
 
-  -- The call was made, with this reply, from some state, which was that of the key's cell; what it leaves stands there
-  -- now
+  -- The call was made, with this reply, at the last turn that was seen of the key's partition: from the state that was under
+  -- the key before it; what it leaves stands there now
   pub record IsFound (seen : Histories (PartitionState S) (PartitionCalls C) (PartitionReplies S R)) (key : List ℕ) (call : C) (reply : R) : Type 0 where
+    pub before : List (Entry (PartitionState S) (PartitionCalls C) (PartitionReplies S R))
+    pub last : Entry (PartitionState S) (PartitionCalls C) (PartitionReplies S R)
+    pub ends : seen (partition_of (hash_of key)) ≡ before ++ last ∷ []
     pub from : Option S
+    pub was : from ≡ fin.get (last_of fresh before).cells key
     pub replied : reply ≡ (step from call).1
     pub stands : fin.get (map_at seen (partition_of (hash_of key))) key ≡ (step from call).0

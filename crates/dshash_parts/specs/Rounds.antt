@@ -1,5 +1,5 @@
 -- A call of the table on its way: what its turns and requests so far did.
-use Rattle.std.specs.Prelude.{◌≡◌, ℕ, ◌+◌, ◌*◌, ◌≤◌, ◌⊎◌, Bool, List, Option}
+use Rattle.std.specs.Prelude.{◌≡◌, ℕ, ◌+◌, ◌*◌, ◌≤◌, ◌⊎◌, Bool, true, List, Option}
 use Rattle.dsa_area.specs.Sizes.{chunk_size}
 use Rattle.dsa_area.specs.declared.area.Area.{Area}
 use Rattle.dshash_core.specs.Chains.{Among}
@@ -23,6 +23,7 @@ module _ {S C R : Type 0} (number item : ℕ) (key : List ℕ) (call : C) where
     pub balance : one_if held + granted es ≡ given es + one_if spare
     pub caused : AreCaused es es
     pub asks : asked es ≤ one_if spare + 128 * fulls es
+    pub uses : held ≡ true → (spare ≡ true) × (LackedItem number item key call es → ⊥)
 
   -- These events led there. Each time that the partition had to grow it grew by a size at least
   pub record Underway (step : Option S → C → Option S × R) (a : Area) (n : ℕ) (held spare : Bool) (v w : Sight S C R) : Type 0 where

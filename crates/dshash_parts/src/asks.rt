@@ -1,6 +1,6 @@
 //! What a locked partition is asked, and what it answers.
 
-use crate::key::{Key, ShortKey};
+use crate::key::Key;
 use dshash_core::{CellObject, CoreOut, Entry, Taken};
 use region_words::Chunk;
 use std::alloc::{AllocError, Global};
@@ -10,8 +10,6 @@ use std::alloc::{AllocError, Global};
 pub enum TableAsk<O: CellObject> {
     /// A call of a key, whose hash goes with it, with a spare item or without.
     Make(u32, Key, O::Call, Option<Chunk>),
-    /// The same of a short key.
-    MakeShort(u32, ShortKey, O::Call, Option<Chunk>),
     /// A look at the size and the number of keys.
     Look,
     /// A move to this size, on this slice.

@@ -19,7 +19,7 @@ ghost use Rattle.dshash_parts.specs.Tables.{IsSpare, IsTable, key_words_of, item
 ghost use Rattle.dshash_parts.specs.Traces.{sight_of};
 ghost use Rattle.dshash_parts.specs.Owners.{IsOwner, IsOwnCell};
 ghost use Rattle.dshash_parts.specs.Replays.{IsOneCell};
-ghost use Rattle.dshash_parts.specs.Promises.{CallMade, CallMadeWith, CallRefused, CallRefusedWith, IsLastCall};
+ghost use Rattle.dshash_parts.specs.Promises.{CallMade, CallMadeWith, CallRefused, CallRefusedWith, IsLastCall, KeepsItem};
 ghost use Rattle.dshash_parts.specs.Sweeps.{Swept, SweptAndGave, GaveBack};
 
 use crate::growing::grow_all;
@@ -127,7 +127,8 @@ where
     O::Call: Send,
     O::Reply: Send,
 {
-    /// Makes a call of a key. It takes no memory. It may wait for the lock of the key's partition and, where that has
+    /// Makes a call of a key. The area is always the same one: a table does not know its area, and another one would refuse
+    /// what it did not grant, which is lost then. It takes no memory. It may wait for the lock of the key's partition and, where that has
     /// to grow, of each partition, one after another; and for those of the area, with none of the table's in hand. A
     /// call of a key that is there costs one hash, one walk along a chain and one turn; a new key a second turn and a
     /// chunk of the area; and doubling comes at most 13 times in the life of a table.
@@ -201,6 +202,7 @@ where
         ensures spare { IsSpare r.now self.now spare.new }
         ensures made { IfOk result (CallMadeWith O.stepped self.now area.now pass.old apass.old pass.new apass.new key.now call.now (is_some spare.old) (is_some spare.new)) }
         ensures refused { IfErr result (λ lack. CallRefusedWith O.stepped self.now area.now pass.old apass.old pass.new apass.new key.now call.now (is_some spare.old) lack.pages lack.largest) }
+        ensures kept { IfOk result (λ reply. KeepsItem (number_of pass.old) key.now call.now reply (is_some spare.new) (seen_of pass.new (partition_of (hash_of key.now)))) }
         ensures none_kept { OnErr result (spare.new ≡ None) }
         ensures last { IfOk result (λ reply. IsLastCall (number_of pass.old) key.now call.now reply (seen_of pass.new (partition_of (hash_of key.now)))) }
         ensures allowed { (i : ℕ) → i < 128 → AreAllowed O.may (seen_of pass.new i) }

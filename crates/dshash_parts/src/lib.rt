@@ -32,7 +32,7 @@ mod turns;
 pub use asks::{TableAnswer, TableAsk};
 pub use close::ClosedTable;
 pub use histories::{PartitionCalls, PartitionName, PartitionReplies, PartitionStates};
-pub use key::{Key, MOST_KEY_WORDS, ShortKey};
+pub use key::{Key, MOST_KEY_WORDS};
 pub use laws::{
     callers_make_all, cells_fold, keys_are_cells, owners_have_cells, sizes_grow, stays_roomy,
 };

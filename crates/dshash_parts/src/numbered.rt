@@ -60,20 +60,12 @@ where
     // a partition can't tell whose keys it has: that they are its own follows from its history
     ghost legal = { λ n caller before call reply after. AreOurs n.number before.cells → PartitionLegal O.stepped n.number before call reply after × MayTurn O.may caller call };
 
+    #[inline(always)]
     fn apply(&mut self, r: &Region, ask: TableAsk<O>) -> TableAnswer<O> {
         let partition = &mut self.partition;
         match ask {
             TableAsk::Make(hash, key, call, spare) => {
                 TableAnswer::Came(partition.try_call_with_hash(r, hash, key.words(), &call, spare))
-            }
-            TableAsk::MakeShort(hash, short, call, spare) => {
-                TableAnswer::Came(partition.try_call_with_hash(
-                    r,
-                    hash,
-                    short.words(),
-                    &call,
-                    spare,
-                ))
             }
             TableAsk::Look => TableAnswer::Size(partition.size(), partition.count()),
             TableAsk::Grow(size, slice) => TableAnswer::LeftOver(grow(partition, r, size, slice)),

@@ -7,36 +7,20 @@ ghost use Rattle.dsa_area.specs.Sizes.{chunk_size};
 ghost use Rattle.dshash_core.specs.Key.{hash_of};
 ghost use Rattle.dshash_core.specs.Cells.{buckets_of, partition_of};
 ghost use Rattle.dshash_core.specs.Outcome.{AlwaysRemoves, HandsOut};
-ghost use Rattle.dshash_parts.specs.Asked.{IsMake, outcome_of};
+ghost use Rattle.dshash_parts.specs.Asked.{outcome_of};
 ghost use Rattle.dshash_parts.specs.Tables.{IsTable, Turned, map_at, size_at, Belongs};
 ghost use Rattle.dshash_parts.specs.declared.histories.PartitionCalls.TheVariants.{Call, Looks, Moves};
 ghost use Rattle.dshash_parts.specs.declared.histories.PartitionReplies.TheVariants.{HasSize, Made, Moved};
 
 use crate::asks::{TableAnswer, TableAsk};
-use crate::key::{Key, MOST_SHORT_WORDS, ShortKey};
+use crate::key::Key;
 use crate::table::{DsPass, Dshash};
 use dshash_core::{CellObject, CoreOut, Taken};
 use region_words::{Chunk, Region};
 use std::sync::Wait;
 
-/// What a partition is asked for a call of a key with this hash.
-fn ask_of<O: CellObject>(
-    hash: u32,
-    key: &[u64],
-    call: &O::Call,
-    spare: Option<Chunk>,
-) -> TableAsk<O>
-    requires { length key.now ≤ 64 }
-    ensures { IsMake hash key.now call.now spare result }
-{
-    if key.len() <= MOST_SHORT_WORDS {
-        TableAsk::MakeShort(hash, ShortKey::of(key), *call, spare)
-    } else {
-        TableAsk::Make(hash, Key::of(key), *call, spare)
-    }
-}
-
 /// A call of a key, at its partition.
+#[inline(always)]
 pub(crate) fn try_at<R: Wait, O: CellObject + Send>(
     rt: &R,
     table: &Dshash<O>,
@@ -65,7 +49,7 @@ where
     ensures event { Turned O.stepped pass.old pass.new number (Call key.now call.now (is_some spare)) (outcome_of result) }
     ensures handed { HandsOut r.now (chunk_size table.now.item_bytes) spare result }
 {
-    let ask = ask_of(hash, key, call, spare);
+    let ask = TableAsk::Make(hash, Key::of(key), *call, spare);
     match table.shelf.call(rt, r, pass, number as usize, ask) {
         TableAnswer::Came(out) => out,
         _ => unreachable!(),

@@ -1,4 +1,4 @@
-use Rattle.std.proofs.Common.{◌≡◌, ℕ, ◌+◌, ◌-◌, ◌*◌, ◌<◌, ◌≤◌, Option, Some, None, is_some, IfSome, refl, sym, ap, subst, ◌∙◌, arith}
+use Rattle.std.proofs.Common.{◌≡◌, ℕ, ◌+◌, ◌-◌, ◌*◌, ◌<◌, ◌≤◌, Option, is_some, IfSome, refl, sym, ap, subst, ◌∙◌, arith}
 use Rattle.region_words.specs.declared.chunk.Chunk.{Chunk}
 use Rattle.dsa_area.specs.Sizes.{chunk_size}
 use Rattle.lock_book.specs.Shown.{number_of, seen_of, mine_of}
@@ -12,7 +12,7 @@ use Rattle.dshash_parts.proofs.Uses.{partition_low, seen_cells, seen_roomy}
 use Rattle.dshash_parts.proofs.Owners.{allowed, lawful, own_cells}
 use Rattle.dshash_parts.proofs.Rounds.{starts}
 use Rattle.dshash_parts.proofs.Spares.{kept_bytes, unused_spare}
-use Rattle.dshash_parts.proofs.Ends.{made, last, no_item, item_came, full_size, all_came, no_slice}
+use Rattle.dshash_parts.proofs.Ends.{made, last, keeps, no_item, item_came, full_size, all_came, no_slice}
 use Rattle.dshash_parts.proofs.table.Dshash.call_with_spare.Goals as goal
 
 pub try_at-requires-clause-may : goal.try_at-requires-clause-may
@@ -53,6 +53,14 @@ returns-in-Done-clause-last g c =
     last home (item_of c.args.self.now) c.args.key.now c.args.call.now g.O.CellObject.stepped c.args.area.now (number_of c.args.pass.now) (sight_of c.args.pass.now c.args.apass.now)
     c.partition_of_hash-number.result (number_of c.turns.pass) (seen_of c.turns.pass) (mine_of c.turns.pass) (seen_of c.try_at.new.pass) (mine_of c.try_at.new.pass) (is_some c.turns.held) same_at c.turns.invariant.caller
     c.in-Done.reply (is_some c.in-Done.unused) (is_some c.in-Done.freed) c.in-Done.ensures.event
+
+pub returns-in-Done-clause-kept : goal.returns-in-Done-clause-kept
+returns-in-Done-clause-kept g c =
+    let home = partition_of (hash_of c.args.key.now) in
+    let same_at : c.partition_of_hash-number.result ≡ home = c.partition_of_hash-number.ensures.is ∙ ap partition_of c.hash_key-hash.ensures in
+    keeps home (item_of c.args.self.now) c.args.key.now c.args.call.now g.O.CellObject.stepped c.args.area.now (number_of c.args.pass.now) (sight_of c.args.pass.now c.args.apass.now)
+    c.partition_of_hash-number.result (number_of c.turns.pass) (seen_of c.turns.pass) (mine_of c.turns.pass) (seen_of c.try_at.new.pass) (mine_of c.try_at.new.pass) (is_some c.turns.held) same_at c.turns.invariant.caller
+    c.in-Done.reply (is_some c.in-Done.unused) (is_some c.in-Done.freed) (is_some c.keep_one.result) c.keep_one.ensures.kept c.in-Done.ensures.event
 
 pub returns-in-Done-clause-cells : goal.returns-in-Done-clause-cells
 returns-in-Done-clause-cells g c = seen_cells g.O.CellObject.stepped (seen_of c.try_at.new.pass) (λ k few. lawful g.O.CellObject.stepped g.O.CellObject.may k _ (c.in-Done.ensures.own.stands.lawful k _ (c.requires.table.parts k few)))

@@ -1,4 +1,4 @@
-use Rattle.std.proofs.Common.{◌≡◌, ℕ, Option, Some, None, IfSome, IfNone, refl, sym}
+use Rattle.std.proofs.Common.{Option, Some, None, IfSome, IfNone, refl, sym}
 use Rattle.lock_book.specs.Shown.{number_of, seen_of, mine_of}
 use Rattle.dshash_parts.proofs.Owners.{allowed, lawful, own_cells}
 use Rattle.dshash_parts.proofs.Sizes.{look_counts}
