@@ -1,5 +1,5 @@
 -- A look-up is a call of the table that was made by one turn, and asked nothing of any area.
-use Rattle.std.proofs.Common.{◌≡◌, ◌∙◌, ℕ, ⊎_elim, false, List, [], ◌∷◌, Option, refl, ap, sym, arith}
+use Rattle.std.proofs.Common.{◌≡◌, ◌∙◌, ℕ, ⊎_elim, false, true, List, [], ◌∷◌, Option, refl, ap, sym, arith}
 use Rattle.lock_book.specs.Shown.{number_of, seen_of}
 use Rattle.lock_book.specs.Told.{Histories}
 use Rattle.dsa_area.specs.declared.area.Area.{Area}
@@ -39,6 +39,7 @@ module _ {S C R : Type 0} (number item : ℕ) (key : List ℕ) (call : C) (reply
     none_before = tt;
     gifts_after = tt;
     balance = refl;
+    uses = λ held. let e : false ≡ true = held in absurd (cc);
     frugal = record {
       moves = λ k to left h. absurd (let e = only _ h in cc);
       grants = λ bytes h. absurd (let e = only _ h in cc);
