@@ -299,7 +299,8 @@ static inline int lk_table_share_try(lk_table_try *from, uint64_t words, lk_tabl
 }
 
 /* Puts a value under a key. LK_OK: the key was there, and *old (which may be NULL) is its value before. LK_ABSENT: it was
- * not. LK_WOULD_BLOCK and LK_GROWN: call again. LK_NO_SPACE: a new key, or its partition, has no room. */
+ * not. LK_WOULD_BLOCK and LK_GROWN: call again. LK_NO_SPACE: a new key, or its partition, has no room. LK_NO_MEMORY: none for
+ * the places of what the caller keeps, and nothing was done. */
 static inline int lk_table_put_try(lk_table_try *table, uint64_t key, uint64_t value, uint64_t *old) {
     uint64_t none = 0;
     return table ? lk_raw_table_put(table, key, value, old ? old : &none) : LK_NULL;
@@ -316,7 +317,7 @@ static inline int lk_table_get_try(lk_table_try *table, uint64_t key, uint64_t *
     return table && value ? lk_raw_table_get(table, key, value) : LK_NULL;
 }
 
-/* Takes a key out. LK_OK: it was there, and *old (which may be NULL) was its value. LK_ABSENT, LK_WOULD_BLOCK. */
+/* Takes a key out. LK_OK: it was there, and *old (which may be NULL) was its value. LK_ABSENT, LK_WOULD_BLOCK, LK_NO_MEMORY. */
 static inline int lk_table_delete_try(lk_table_try *table, uint64_t key, uint64_t *old) {
     uint64_t none = 0;
     return table ? lk_raw_table_delete(table, key, old ? old : &none) : LK_NULL;

@@ -1,5 +1,6 @@
 -- The words that a caller brings.
-use Rattle.std.specs.Prelude.{◌≡◌, ℕ, ◌+◌, ◌<◌, ◌≤◌, ◌^◌, IsSome}
+use Rattle.std.specs.Prelude.{◌≡◌, ℕ, ◌+◌, ◌/◌, ◌<◌, ◌≤◌, ◌^◌, List, IsSome}
+use Rattle.std.specs.List.{sum_by}
 use Rattle.atomic_table.specs.Seated.{TableId}
 use Rattle.word_map.specs.WordMap.{at}
 use Rattle.region_words.specs.declared.chunk.Chunk.{Chunk}
@@ -17,3 +18,7 @@ pub record IsReserve (region : TableId) (x : Reserve) : Type 0 where
 pub record IsItem (region : TableId) (c : Chunk) : Type 0 where
   pub here : c.part.region ≡ region
   pub size : c.bytes ≡ chunk_size 32
+
+-- the words of chunks
+abbrev pub chunk_words : List Chunk → ℕ
+chunk_words chunks = sum_by (λ c. c.bytes / 8) chunks

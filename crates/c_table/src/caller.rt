@@ -1,9 +1,11 @@
 //! One caller of a table, and its calls.
 
-ghost use Rattle.std.specs.Prelude.{◌≡◌, ◌+◌, ◌*◌, ◌/◌, ◌<◌, ◌≤◌, ◌^◌, IfNone, IfSome, IfOk, IfErr};
+ghost use Rattle.std.specs.Prelude.{◌≡◌, ◌+◌, ◌*◌, ◌/◌, ◌<◌, ◌≤◌, ◌^◌, [], length, is_some, IsTrue, IfNone, IfSome, IfOk, IfErr};
+ghost use Rattle.std.specs.Vec.{vec_capacity};
 ghost use Rattle.std.specs.List.{All};
 ghost use Rattle.dshash_core.specs.Cells.{buckets_of};
-ghost use Rattle.c_table.specs.Reserves.{IsItem, IsReserve};
+ghost use Rattle.dshash_parts.specs.Promises.{one_if};
+ghost use Rattle.c_table.specs.Reserves.{IsItem, IsReserve, chunk_words};
 ghost use Rattle.c_table.specs.Tries.{Grows, Stays, Tries};
 ghost use Rattle.c_table.specs.Shares.{IsShare};
 ghost use Rattle.c_table.specs.declared.word.WordCall.TheVariants.{Get};
@@ -19,6 +21,9 @@ use std::marker::Model;
 
 /// The words of an item: its link, the hash, the key's word and the word under it.
 const ITEM_WORDS: u64 = 4;
+
+/// The most items that a call leaves over: its own, and that of a key that goes.
+const MOST_KEPT: usize = 2;
 
 /// One caller: contracts see its share of the table.
 #[derive(Drop)]
@@ -40,6 +45,18 @@ impl Model for Caller {
     ghost invariant = { λ c. IsShare c.share };
 }
 
+/// Makes places for the items and the slice that a call may leave over. Whether there was memory for them.
+fn make_places(items: &mut Vec<Chunk>, slices: &mut Vec<Chunk>) -> bool
+    ensures items { items.new.items ≡ items.old.items }
+    ensures slices { slices.new.items ≡ slices.old.items }
+    ensures places { IsTrue result → (length items.new.items + 2 ≤ vec_capacity items.new) × (length slices.new.items < vec_capacity slices.new) }
+{
+    match items.reserve(MOST_KEPT) {
+        Ok(()) => slices.reserve(1).is_ok(),
+        Err(_) => false,
+    }
+}
+
 /// An item that holds no key, where the caller has one or the words for one.
 fn take_item(r: &Region, reserve: &mut Reserve, items: &mut Vec<Chunk>) -> Option<Chunk>
     requires reserve { IsReserve r.now reserve.old }
@@ -47,7 +64,10 @@ fn take_item(r: &Region, reserve: &mut Reserve, items: &mut Vec<Chunk>) -> Optio
     ensures reserve { IsReserve r.now reserve.new }
     ensures items { All (IsItem r.now) items.new.items }
     ensures item { IfSome result (IsItem r.now) }
-    ensures none { IfNone result (reserve.new.left < 4) }
+    ensures words { reserve.new.left + 4 * length items.new.items + 4 * one_if (is_some result) ≡ reserve.old.left + 4 * length items.old.items }
+    ensures none { IfNone result ((reserve.new.left + 4 * length items.new.items ≡ reserve.old.left + 4 * length items.old.items) × (items.old.items ≡ []) × (reserve.old.left < 4)) }
+    ensures fewer { length items.new.items ≤ length items.old.items }
+    ensures capacity { vec_capacity items.new ≡ vec_capacity items.old }
 {
     match items.pop() {
         Some(item) => Some(item),
@@ -55,35 +75,45 @@ fn take_item(r: &Region, reserve: &mut Reserve, items: &mut Vec<Chunk>) -> Optio
     }
 }
 
-/// Keeps an item, where there is one. One for which there is no memory is dropped.
+/// Keeps an item, where there is one. There is a place for it.
 fn keep_item(r: &Region, items: &mut Vec<Chunk>, item: Option<Chunk>)
     requires items { All (IsItem r.now) items.old.items }
     requires item { IfSome item (IsItem r.now) }
+    requires place { length items.old.items < vec_capacity items.old }
     ensures items { All (IsItem r.now) items.new.items }
+    ensures count { length items.new.items ≡ length items.old.items + one_if (is_some item) }
+    ensures capacity { vec_capacity items.new ≡ vec_capacity items.old }
 {
     if let Some(item) = item {
-        let _dropped = items.push(item);
+        items.push_reserved(item);
     }
 }
 
-/// A slice of this many words at least: the one that is kept, or one of the caller's words.
+/// A slice of this many words at least: the last that was kept, or one of the words that are not cut yet.
 fn take_slice(
     r: &Region,
     reserve: &mut Reserve,
-    kept: &mut Option<Chunk>,
+    slices: &mut Vec<Chunk>,
     words: u64,
 ) -> Option<Chunk>
     requires reserve { IsReserve r.now reserve.old }
-    requires kept { IfSome kept.old (λ c. c.part.region ≡ r.now) }
+    requires slices { All (λ c. c.part.region ≡ r.now) slices.old.items }
+    requires place { length slices.old.items < vec_capacity slices.old }
     ensures reserve { IsReserve r.now reserve.new }
-    ensures kept { kept.new ≡ None }
+    ensures slices { All (λ c. c.part.region ≡ r.now) slices.new.items }
     ensures slice { IfSome result (λ c. (c.part.region ≡ r.now) × (words ≤ c.bytes / 8)) }
-    ensures none { IfNone result (reserve.new.left < words) }
+    ensures some { IfSome result (λ c. reserve.new.left + chunk_words slices.new.items + c.bytes / 8 ≡ reserve.old.left + chunk_words slices.old.items) }
+    ensures none { IfNone result ((reserve.new ≡ reserve.old) × (slices.new.items ≡ slices.old.items) × (reserve.old.left < words)) }
+    ensures fewer { length slices.new.items ≤ length slices.old.items }
+    ensures capacity { vec_capacity slices.new ≡ vec_capacity slices.old }
 {
-    match kept.take() {
-        Some(slice) if slice.bytes / 8 >= words => Some(slice),
-        _ => reserve.cut(r, words),
+    if let Some(slice) = slices.pop() {
+        if slice.bytes / 8 >= words {
+            return Some(slice);
+        }
+        slices.push_reserved(slice);
     }
+    reserve.cut(r, words)
 }
 
 impl Caller {
@@ -104,7 +134,7 @@ impl Caller {
 
     /// Changes the word under a key, and answers what stood there. One turn at the key's partition, and where that has to
     /// grow, one more, in which it does. A new key takes an item of four words, and a partition that grows a slice, of
-    /// the caller's own words.
+    /// the caller's own words. It takes memory for the places of what is left over, before any turn.
     pub fn try_change(&mut self, key: u64, call: WordCall) -> Result<Option<u64>, Code>
         ensures { Tries self.old self.new key call result }
     {
@@ -118,6 +148,9 @@ fn change(share: &mut Share, key: u64, call: WordCall) -> Result<Option<u64>, Co
     ensures share { IsShare share.new }
     ensures tries { Tries share.old share.new key call result }
 {
+    if !make_places(&mut share.items, &mut share.slices) {
+        return Err(Code::NoMemory);
+    }
     let spare = take_item(&share.shared.region, &mut share.reserve, &mut share.items);
     let shared = &share.shared;
     match shared
@@ -147,9 +180,10 @@ fn change(share: &mut Share, key: u64, call: WordCall) -> Result<Option<u64>, Co
     }
 }
 
-/// The partition of a key grows to this size.
+/// The partition of a key grows to this size. There is a place for the slice that is left over.
 fn grow(share: &mut Share, key: u64, size: u32) -> Code
     requires share { IsShare share.old }
+    requires place { length share.old.slices.items < vec_capacity share.old.slices }
     requires size { (8 ≤ size) × (size ≤ 20) }
     ensures share { IsShare share.new }
     ensures stays { Stays share.old share.new }
@@ -158,7 +192,8 @@ fn grow(share: &mut Share, key: u64, size: u32) -> Code
     let number = partition_of_hash(hash_key(&[key]));
     let shared = &share.shared;
     let words = bucket_count(size);
-    let Some(slice) = take_slice(&shared.region, &mut share.reserve, &mut share.slice, words) else {
+    let Some(slice) = take_slice(&shared.region, &mut share.reserve, &mut share.slices, words)
+    else {
         return Code::NoSpace;
     };
     match shared
@@ -166,11 +201,11 @@ fn grow(share: &mut Share, key: u64, size: u32) -> Code
         .try_grow(&shared.region, &mut share.pass, number, size, slice)
     {
         Ok(left) => {
-            share.slice = Some(left);
+            share.slices.push_reserved(left);
             Code::Grown
         }
         Err(slice) => {
-            share.slice = Some(slice);
+            share.slices.push_reserved(slice);
             Code::WouldBlock
         }
     }

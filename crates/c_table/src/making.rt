@@ -65,7 +65,7 @@ fn assemble(alloc: Global, callers: u32, words: u64) -> Result<Caller, AllocErro
             others,
             reserve,
             items: Vec::new(alloc),
-            slice: None,
+            slices: Vec::new(alloc),
         },
     })
 }
@@ -117,7 +117,7 @@ impl Caller {
                 others: Vec::new(alloc),
                 reserve: Reserve::of_chunk(chunk),
                 items: Vec::new(alloc),
-                slice: None,
+                slices: Vec::new(alloc),
             },
         })
     }

@@ -23,6 +23,6 @@ pub struct Share {
     pub(crate) reserve: Reserve,
     /// Items that hold no key.
     pub(crate) items: Vec<Chunk>,
-    /// A slice that no partition has.
-    pub(crate) slice: Option<Chunk>,
+    /// Slices that no partition has.
+    pub(crate) slices: Vec<Chunk>,
 }

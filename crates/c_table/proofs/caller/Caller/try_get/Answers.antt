@@ -9,4 +9,4 @@ try_find-requires-clause-own c κs = subst (λ (x : Shared). Belongs x.table c.s
 pub invariant_of-self : goal.invariant_of-self
 invariant_of-self c =
     let i = c.self.invariant in
-    record { shared = i.shared; own = subst (λ (x : Shared). Belongs x.table c.try_find.new.pass) c.deref.ensures c.try_find.ensures.own; others = i.others; reserve = i.reserve; items = i.items; slice = i.slice }
+    record { shared = i.shared; own = subst (λ (x : Shared). Belongs x.table c.try_find.new.pass) c.deref.ensures c.try_find.ensures.own; others = i.others; reserve = i.reserve; items = i.items; slices = i.slices }
