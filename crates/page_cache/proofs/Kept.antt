@@ -21,7 +21,7 @@ use Rattle.page_cache.specs.declared.page.Page.{Page}
 use Rattle.page_cache.specs.declared.page.PageCall.{PageCall}
 use Rattle.page_cache.specs.declared.page.PageCall.TheVariants.{Get, Put, Evict}
 
-last_put-append : (page : Option Page) (xs ys : List (PageCall × Option Page)) → last_put page (xs ++ ys) ≡ last_put (last_put page xs) ys
+pub last_put-append : (page : Option Page) (xs ys : List (PageCall × Option Page)) → last_put page (xs ++ ys) ≡ last_put (last_put page xs) ys
 last_put-append page [] ys = refl
 last_put-append page (x ∷ xs) ys = last_put-append (newer (put_by x.0 x.1) page) xs ys
 
@@ -183,7 +183,7 @@ kept n name owner seen mine lawful allowed own =
     subst (λ (es : List CacheEntry). (under seen name ≡ last_put None (calls_of_key name es)) ⊎ ((under seen name ≡ None) × WasEvicted name (seen home))) own
     (keeps name n owner true home fresh None (seen home) lawful allowed (fin.get-empty {X = Page} _ name))
 
-calls-append : (name : List ℕ) (es fs : List CacheEntry) → calls_of_key name (es ++ fs) ≡ calls_of_key name es ++ calls_of_key name fs
+pub calls-append : (name : List ℕ) (es fs : List CacheEntry) → calls_of_key name (es ++ fs) ≡ calls_of_key name es ++ calls_of_key name fs
 calls-append name [] fs = refl
 calls-append name (e ∷ es) fs = ap (λ (made : List (PageCall × Option Page)). made_of name e.call e.reply ++ made) (calls-append name es fs) ∙ sym (append_assoc (made_of name e.call e.reply) (calls_of_key name es) (calls_of_key name fs))
 

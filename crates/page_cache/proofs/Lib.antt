@@ -8,3 +8,4 @@ pub mod Kept
 pub mod Lists
 pub mod Endings
 pub mod Moments
+pub mod Frames

@@ -1,5 +1,5 @@
 -- Why a page was not put, and that an entry was evicted for another.
-use Rattle.std.specs.Prelude.{◌≡◌, ◌+◌, ◌<◌, ◌≤◌, ℕ, List, is_some}
+use Rattle.std.specs.Prelude.{◌≡◌, ◌+◌, ◌<◌, ◌≤◌, ℕ, List, true, is_some}
 use Rattle.std.specs.FinMap as fin
 use Rattle.lock_book.specs.Shown.{seen_of}
 use Rattle.dshash_parts.specs.Promises.{CallRefusedWith}
@@ -23,3 +23,9 @@ IsCause c before after name page Memory = after.tickets ≡ 0
 -- between these two points of its life the caller took out as many entries as it made, or more
 abbrev pub Evicts : CacheHistories → CacheHistories → Type 0
 Evicts before after = counted makes after + counted takes before ≤ counted makes before + counted takes after
+
+-- a caller that evicted an entry brings its item: so if the area refused it, that was for the slice of a partition that has to
+-- grow
+abbrev pub BringsItem : Seat → NotPut → Type 0
+BringsItem before (NoSpace pages largest) = is_some before.spare ≡ true
+BringsItem before why = Unit {0}

@@ -11,6 +11,7 @@ ghost use Rattle.dsa_area.specs.Shown.{AreAll as AreAllOfArea, Belongs as AreaBe
 ghost use Rattle.dshash_parts.specs.Tables.{AreAll, IsTable, callers_of, key_words_of};
 ghost use Rattle.page_cache.specs.Moments.{AlwaysPaid, NeverMore};
 ghost use Rattle.page_cache.specs.Seats.{AreSeats, IsCache};
+ghost use Rattle.page_cache.specs.declared.cache.Seat.{Seat};
 
 use crate::page::Page;
 use dsa_area::{Area, AreaPass, area_words};
@@ -77,6 +78,7 @@ fn seats_for(
     requires area_own { (k : ℕ) (p : _) → get_elem? apasses.items k ≡ some p → AreaBelongs cache.now.area p }
     requires alike { length apasses.items ≡ length passes.items }
     ensures seats { IfOk result (λ seats. AreSeats cache.now seats.items) }
+    ensures fresh { IfOk result (λ seats. (k : ℕ) (s : Seat) → get_elem? seats.items k ≡ some s → (i : ℕ) → (seen_of s.pass i ≡ []) × (mine_of s.pass i ≡ [])) }
 {
     let mut seats = Vec::new(alloc);
     for pass in passes {
@@ -94,7 +96,7 @@ fn seats_for(
     Ok(seats)
 }
 
-/// A cache of at most `share` entries for each of its callers, in an area of this many pages of 4 KiB, and a seat for
+/// A new cache, with no entry, of at most `share` entries for each of its callers, in an area of this many pages of 4 KiB, and a seat for
 /// each caller, in order of their numbers from 0. None where there is no memory, or the area is too small for the
 /// partitions of a table.
 pub fn open<R: Wait>(
@@ -110,6 +112,7 @@ pub fn open<R: Wait>(
     ensures share { IfSome result (λ o. o.0.share ≡ share) }
     ensures callers { IfSome result (λ o. callers_of o.0.table ≡ callers) }
     ensures seats { IfSome result (λ o. AreSeats o.0 o.1.items) }
+    ensures fresh { IfSome result (λ o. (k : ℕ) (s : Seat) → get_elem? o.1.items k ≡ some s → (i : ℕ) → (seen_of s.pass i ≡ []) × (mine_of s.pass i ≡ [])) }
 {
     let Ok((region, area, mut apasses)) = area_for(alloc, pages, callers) else {
         return None;

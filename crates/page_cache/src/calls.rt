@@ -1,10 +1,10 @@
 //! The calls of the cache: a page is got, or put. Who puts one and has no ticket left evicts an entry first.
 
-ghost use Rattle.std.specs.Prelude.{◌≡◌, ◌≢◌, ℕ, ◌+◌, ◌%◌, ◌<◌, List, false, cond, Some, IfOk, IfErr, OnErr, OnOk};
+ghost use Rattle.std.specs.Prelude.{◌≡◌, ◌≢◌, ℕ, ◌+◌, ◌%◌, ◌<◌, List, true, false, cond, is_some, Some, IfOk, IfErr, OnErr, OnOk};
 ghost use Rattle.std.specs.FinMap as fin;
 ghost use Rattle.lock_book.specs.Shown.{mine_of, number_of, seen_of};
 ghost use Rattle.dshash_parts.specs.Tables.{map_at};
-ghost use Rattle.page_cache.specs.Causes.{Evicts, IsCause};
+ghost use Rattle.page_cache.specs.Causes.{BringsItem, Evicts, IsCause};
 ghost use Rattle.page_cache.specs.Owned.{IsKept, own_page, under};
 ghost use Rattle.page_cache.specs.Pages.{owner_of};
 ghost use Rattle.page_cache.specs.Seats.{IsCache, IsSeat, StaysSeat};
@@ -36,7 +36,7 @@ pub fn get<R: Wait>(rt: &R, cache: &Cache, seat: &mut Seat, name: &[u64; 2]) -> 
     requires seat { IsSeat cache.now seat.old }
     ensures seat { StaysSeat cache.now seat.old seat.new }
     ensures found { result ≡ under (seen_of seat.new.pass) name.now }
-    ensures same { own_page (mine_of seat.new.pass) name.now ≡ own_page (mine_of seat.old.pass) name.now }
+    ensures same { (n : List ℕ) → own_page (mine_of seat.new.pass) n ≡ own_page (mine_of seat.old.pass) n }
     ensures kept { owner_of name.now ≡ number_of seat.old.pass → IsKept (seen_of seat.new.pass) (mine_of seat.old.pass) name.now result }
 {
     cache
@@ -57,6 +57,8 @@ fn evict<R: Wait>(rt: &R, alloc: Global, cache: &Cache, seat: &mut Seat) -> Resu
     ensures empty { IfOk result (λ found. found ≡ false → fin.len (map_at (seen_of seat.new.pass) seat.old.hand) ≡ 0) }
     ensures others { (k : ℕ) → k ≢ seat.old.hand → seen_of seat.new.pass k ≡ seen_of seat.old.pass k }
     ensures lack { OnErr result (seat.new.tickets ≡ 0) }
+    ensures item { IfOk result (λ found. found ≡ true → is_some seat.new.spare ≡ true) }
+    ensures same { (n : List ℕ) → own_page (mine_of seat.new.pass) n ≡ own_page (mine_of seat.old.pass) n }
 {
     let partition = seat.hand;
     seat.hand = (partition + 1) % PARTITIONS;
@@ -89,6 +91,9 @@ fn make_room<R: Wait>(rt: &R, alloc: Global, cache: &Cache, seat: &mut Seat) -> 
     ensures seat { StaysSeat cache.now seat.old seat.new }
     ensures ticket { OnOk result (0 < seat.new.tickets) }
     ensures cause { IfErr result (λ why. (name : List ℕ) (page : Page) → IsCause cache.now seat.old seat.new name page why) }
+    ensures brings { IfErr result (λ why. (before : Seat) → BringsItem before why) }
+    ensures item { OnOk result (seat.old.tickets ≡ 0 → is_some seat.new.spare ≡ true) }
+    ensures same { (n : List ℕ) → own_page (mine_of seat.new.pass) n ≡ own_page (mine_of seat.old.pass) n }
 {
     if seat.tickets > 0 {
         return Ok(());
@@ -104,7 +109,8 @@ fn make_room<R: Wait>(rt: &R, alloc: Global, cache: &Cache, seat: &mut Seat) -> 
 }
 
 /// Puts a page under a name of the caller's own. Where none stood there, that costs a ticket; a caller with none left
-/// evicts an entry first, whosever it is.
+/// evicts an entry first, whosever it is, and brings its item: then the area is asked for nothing but slices for partitions
+/// that have to grow. What the caller put under its other names stays what it put there last.
 pub fn put<R: Wait>(
     rt: &R,
     alloc: Global,
@@ -120,7 +126,8 @@ pub fn put<R: Wait>(
     ensures stands { OnOk result (under (seen_of seat.new.pass) name.now ≡ Some page.now) }
     ensures kept { OnOk result (own_page (mine_of seat.new.pass) name.now ≡ Some page.now) }
     ensures evicted { seat.old.tickets ≡ 0 → Evicts (mine_of seat.old.pass) (mine_of seat.new.pass) }
-    ensures cause { IfErr result (λ why. (before : Seat) × IsCause cache.now before seat.new name.now page.now why) }
+    ensures others { (n : List ℕ) → n ≢ name.now → own_page (mine_of seat.new.pass) n ≡ own_page (mine_of seat.old.pass) n }
+    ensures cause { IfErr result (λ why. (before : Seat) × (seat.old.tickets ≡ 0 → BringsItem before why) × IsCause cache.now before seat.new name.now page.now why) }
 {
     if let Err(why) = make_room(rt, alloc, cache, seat) {
         return Err(why);

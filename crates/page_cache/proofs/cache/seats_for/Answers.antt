@@ -42,7 +42,7 @@ loop-pass-preserved c =
     let own = at_end (λ _ p. AreaBelongs c.args.cache.now.area p) _ _ c.in-Some-pop.apass area was.area_own in
     let seat : IsSeat c.args.cache.now (record { pass = c.in-Some.pass; apass = c.in-Some-pop.apass; tickets = c.args.cache.now.share; hand = 0; spare = None }) = record { own = head.0; area_own = own; paid = begins c.args.cache.now.area _ c.args.cache.now.share _ _ _ head.2; hand = omega arith; spare = tt } in
     record {
-      seats = pushed (λ k (s : Seat). IsSeat c.args.cache.now s × (number_of s.pass ≡ k)) seats _ _ more was.seats (seat, (let n = head.1 in omega (arith, n)));
+      seats = pushed (λ k (s : Seat). IsSeat c.args.cache.now s × (number_of s.pass ≡ k) × ((i : ℕ) → (seen_of s.pass i ≡ []) × (mine_of s.pass i ≡ []))) seats _ _ more was.seats (seat, (let n = head.1 in omega (arith, n)), head.2);
       still = λ k p at. let r = others (λ j p. Belongs c.args.cache.now.table p × (number_of p ≡ length seats + j) × ((i : ℕ) → (seen_of p i ≡ []) × (mine_of p i ≡ []))) left left' c.in-Some.pass one was.still k p at in (r.0, (let n = r.1 in omega (arith, n, longer)), r.2);
       area_own = popped (λ _ p. AreaBelongs c.args.cache.now.area p) _ _ c.in-Some-pop.apass area was.area_own;
       alike = let n = was.alike in omega (arith, n, fewer, shorter);

@@ -13,7 +13,7 @@ abbrev pub invariant-loop-pass : goal.invariant-loop-pass
 invariant-loop-pass l =
     let left = into_iter_items l.pass-iterator in
     record {
-      seats : (k : ℕ) (s : Seat) → get_elem? l.seats.items k ≡ some s → IsSeat l.cache s × (number_of s.pass ≡ k);
+      seats : (k : ℕ) (s : Seat) → get_elem? l.seats.items k ≡ some s → IsSeat l.cache s × (number_of s.pass ≡ k) × ((i : ℕ) → (seen_of s.pass i ≡ []) × (mine_of s.pass i ≡ []));
       still : (k : ℕ) (p : _) → get_elem? left k ≡ some p → Belongs l.cache.table p × (number_of p ≡ length l.seats.items + k) × ((i : ℕ) → (seen_of p i ≡ []) × (mine_of p i ≡ []));
       area_own : (k : ℕ) (p : _) → get_elem? l.apasses.items k ≡ some p → AreaBelongs l.cache.area p;
       alike : length l.apasses.items ≡ length left;

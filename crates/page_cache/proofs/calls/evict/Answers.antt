@@ -1,7 +1,8 @@
-use Rattle.std.proofs.Common.{Option, is_some, refl, sym, subst, arith}
+use Rattle.std.proofs.Common.{Option, true, false, is_some, refl, sym, subst, arith}
 use Rattle.region_words.specs.declared.chunk.Chunk.{Chunk}
 use Rattle.dsa_area.specs.Sizes.{chunk_size}
 use Rattle.dshash_parts.specs.Tables.{IsSpare, item_of}
+use Rattle.page_cache.proofs.Frames.{eviction_puts_none, turn_leaves}
 use Rattle.page_cache.proofs.Steps.{took, turned}
 use Rattle.page_cache.proofs.calls.evict.Goals as goal
 
@@ -30,3 +31,9 @@ returns-in-Ok-None-clause-seat g c =
       record { own = f.own; area_own = s.area_own; paid = turned _ _ _ _ f.caller _ _ _ _ _ _ _ _ _ _ s.paid (rw c.in-Ok-None.field-0-is at f.look).1 refl refl; hand = omega arith; spare = s.spare },
       f.caller,
     )
+
+pub returns-in-Ok-Some-clause-same : goal.returns-in-Ok-Some-clause-same
+returns-in-Ok-Some-clause-same g c = λ n. turn_leaves _ _ _ _ _ _ _ _ n (rw c.in-Ok-Some.field-0-is at c.in-Ok-Some.ensures.event) (eviction_puts_none n c.in-Ok-Some.evicted.key false c.in-Ok-Some.evicted.reply false true)
+
+pub returns-in-Ok-None-clause-same : goal.returns-in-Ok-None-clause-same
+returns-in-Ok-None-clause-same g c = λ n. turn_leaves _ _ _ _ _ _ _ _ n (rw c.in-Ok-None.field-0-is at c.in-Ok-None.ensures.look).1 (λ page. refl)

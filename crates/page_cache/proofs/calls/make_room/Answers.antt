@@ -19,6 +19,7 @@ loop-seen-preserved g c =
     let next = e.hand in
     record {
       seat = (e.seat.0, e.seat.1 ∙ i.seat.1);
+      same = λ n. e.same n ∙ i.same n;
       none = e.ticket ∙ zero;
       hand = omega (arith, hand, next);
       empty = λ k low near. dite (ℕ_discrete k c.loop-seen.seat.hand)

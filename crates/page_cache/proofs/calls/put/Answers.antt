@@ -1,4 +1,4 @@
-use Rattle.std.proofs.Common.{◌≡◌, ◌+◌, ◌-◌, ◌<◌, ◌∙◌, ap, sym, arith}
+use Rattle.std.proofs.Common.{◌≡◌, ◌+◌, ◌<◌, ◌∙◌, ap, sym, arith}
 use Rattle.lock_book.specs.Shown.{mine_of, seen_of}
 use Rattle.dshash_core.specs.Key.{hash_of}
 use Rattle.dshash_core.specs.Cells.{partition_of}
@@ -8,6 +8,7 @@ use Rattle.dshash_parts.proofs.Uses.{partition_low}
 use Rattle.page_cache.specs.Pages.{may, stepped}
 use Rattle.page_cache.specs.Tickets.{makes}
 use Rattle.page_cache.specs.declared.page.PageCall.TheVariants.{Put}
+use Rattle.page_cache.proofs.Frames.{events_leave, made_leaves, none_put}
 use Rattle.page_cache.proofs.Results.{went_well}
 use Rattle.page_cache.proofs.Seats.{evicts, seat_kept, stands_kept}
 use Rattle.page_cache.proofs.Steps.{called, refused}
@@ -17,7 +18,7 @@ pub returns-in-Err-clause-evicted : goal.returns-in-Err-clause-evicted
 returns-in-Err-clause-evicted g c = evicts c.args.cache.now c.args.seat.now c.make_room.new.seat c.requires.seat c.in-Err.ensures.seat.0
 
 pub returns-in-Err-clause-cause : goal.returns-in-Err-clause-cause
-returns-in-Err-clause-cause g c = (c.args.seat.now, c.in-Err.ensures.cause _ _)
+returns-in-Err-clause-cause g c = (c.args.seat.now, λ none. c.in-Err.ensures.brings c.args.seat.now, c.in-Err.ensures.cause _ _)
 
 pub returns-in-Ok-Some-clause-seat : goal.returns-in-Ok-Some-clause-seat
 returns-in-Ok-Some-clause-seat g c =
@@ -85,3 +86,15 @@ returns-in-Err-call_with_spare-clause-seat g c =
 
 pub returns-in-Err-call_with_spare-clause-evicted : goal.returns-in-Err-call_with_spare-clause-evicted
 returns-in-Err-call_with_spare-clause-evicted g c = evicts c.args.cache.now c.args.seat.now _ c.requires.seat (returns-in-Err-call_with_spare-clause-seat g c).0
+
+pub returns-in-Err-call_with_spare-clause-cause : goal.returns-in-Err-call_with_spare-clause-cause
+returns-in-Err-call_with_spare-clause-cause g c = (c.make_room.new.seat, went_well c.make_room.result c.in_default.not-Err c.make_room.ensures.item, c.in-Err-call_with_spare.ensures.refused)
+
+pub returns-in-Ok-Some-clause-others : goal.returns-in-Ok-Some-clause-others
+returns-in-Ok-Some-clause-others g c = λ n ne. let m = c.in-Ok-Some.ensures.made in made_leaves n _ _ _ _ _ _ _ _ _ _ _ m.0 ne m.1 m.2 ∙ c.make_room.ensures.same n
+
+pub returns-in-Ok-None-clause-others : goal.returns-in-Ok-None-clause-others
+returns-in-Ok-None-clause-others g c = λ n ne. let m = c.in-Ok-None.ensures.made in made_leaves n _ _ _ _ _ _ _ _ _ _ _ m.0 ne m.1 m.2 ∙ c.make_room.ensures.same n
+
+pub returns-in-Err-call_with_spare-clause-others : goal.returns-in-Err-call_with_spare-clause-others
+returns-in-Err-call_with_spare-clause-others g c = λ n ne. let m = c.in-Err-call_with_spare.ensures.refused in events_leave n _ _ _ _ m.0 m.2 (none_put n m.0 m.1.none) ∙ c.make_room.ensures.same n
