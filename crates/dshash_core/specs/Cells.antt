@@ -100,7 +100,7 @@ partition_seen decoded h size = record {
   cells = cells_of decoded h.chains;
 }
 
--- the fields of a partition: its buckets hold a map of a size, and a value has at most 64 words
+-- the fields of a partition: its buckets hold a map of a size, and a value has at most 65,536 words
 pub record IsPartition (value_words size count : ℕ) (h : Hung) : Type 0 where
   pub cells : AreCells size count value_words h
-  pub short : value_words ≤ 64
+  pub short : value_words ≤ 65536

@@ -15,8 +15,10 @@ use crate::sizes::{bucket_of_hash, is_full_at};
 use crate::words::{Spot, fill};
 use region_words::{Chunk, Region};
 
-/// The most words of a value for which a call clears few words.
-const MOST_SHORT_WORDS: usize = 4;
+/// The room that a call has for the words of a short value, and of one of middle length.
+pub(crate) const FEW_WORDS: usize = 4;
+
+pub(crate) const SOME_WORDS: usize = 64;
 
 /// Makes the call of the item at a spot: its state is changed, or the item is taken out. A call that only reads stores
 /// nothing.
@@ -184,7 +186,58 @@ fn answer_in<O: CellObject>(
     }
 }
 
-/// The same with memory on the stack: for few words if a value has few, so that 64 are not cleared for a number.
+/// The same with memory on the stack for this many words.
+#[inline(always)]
+fn answer_on<O: CellObject, const ROOM: usize>(
+    buckets: &mut Buckets,
+    r: &Region,
+    count: &mut u64,
+    size: u32,
+    hash: u64,
+    key: &[u64],
+    call: &O::Call,
+    spare: Option<Chunk>,
+) -> CoreOut<O>
+    requires here { buckets.old.region ≡ r.now }
+    requires hash { hash ≡ hash_of key.now }
+    requires key { length key.now ≡ buckets.old.layout.key_words }
+    requires room { (O.VALUE_WORDS ≤ ROOM) × (ROOM ≤ 65536) }
+    requires cells { AreCells size count.old O.VALUE_WORDS buckets.old }
+    requires spare { IfSome spare (λ c. (c.part.region ≡ r.now) × (c.bytes ≡ buckets.old.layout.item_bytes)) }
+    ensures answered { IsAnswered O.stepped O.decoded size count.old count.new O.VALUE_WORDS buckets.old buckets.new key.now call.now (is_some spare) result }
+    ensures handed { HandsOut buckets.old.region buckets.old.layout.item_bytes spare result }
+{
+    let mut value = [0; ROOM];
+    let words = &mut value[..O::VALUE_WORDS];
+    answer_in::<O>(buckets, r, count, words, size, hash, key, call, spare)
+}
+
+/// The same with memory for the longest value, in a frame that no other call has.
+#[cold]
+#[inline(never)]
+fn answer_long<O: CellObject>(
+    buckets: &mut Buckets,
+    r: &Region,
+    count: &mut u64,
+    size: u32,
+    hash: u64,
+    key: &[u64],
+    call: &O::Call,
+    spare: Option<Chunk>,
+) -> CoreOut<O>
+    requires here { buckets.old.region ≡ r.now }
+    requires hash { hash ≡ hash_of key.now }
+    requires key { length key.now ≡ buckets.old.layout.key_words }
+    requires short { O.VALUE_WORDS ≤ 65536 }
+    requires cells { AreCells size count.old O.VALUE_WORDS buckets.old }
+    requires spare { IfSome spare (λ c. (c.part.region ≡ r.now) × (c.bytes ≡ buckets.old.layout.item_bytes)) }
+    ensures answered { IsAnswered O.stepped O.decoded size count.old count.new O.VALUE_WORDS buckets.old buckets.new key.now call.now (is_some spare) result }
+    ensures handed { HandsOut buckets.old.region buckets.old.layout.item_bytes spare result }
+{
+    answer_on::<O, MOST_VALUE_WORDS>(buckets, r, count, size, hash, key, call, spare)
+}
+
+/// The same with as much memory as a value of the object needs, so that a call of a number clears four words.
 #[inline(always)]
 pub(crate) fn answer<O: CellObject>(
     buckets: &mut Buckets,
@@ -199,18 +252,17 @@ pub(crate) fn answer<O: CellObject>(
     requires here { buckets.old.region ≡ r.now }
     requires hash { hash ≡ hash_of key.now }
     requires key { length key.now ≡ buckets.old.layout.key_words }
-    requires short { O.VALUE_WORDS ≤ 64 }
+    requires short { O.VALUE_WORDS ≤ 65536 }
     requires cells { AreCells size count.old O.VALUE_WORDS buckets.old }
     requires spare { IfSome spare (λ c. (c.part.region ≡ r.now) × (c.bytes ≡ buckets.old.layout.item_bytes)) }
     ensures answered { IsAnswered O.stepped O.decoded size count.old count.new O.VALUE_WORDS buckets.old buckets.new key.now call.now (is_some spare) result }
     ensures handed { HandsOut buckets.old.region buckets.old.layout.item_bytes spare result }
 {
-    if O::VALUE_WORDS <= MOST_SHORT_WORDS {
-        let mut value = [0; MOST_SHORT_WORDS];
-        let words = &mut value[..O::VALUE_WORDS];
-        return answer_in::<O>(buckets, r, count, words, size, hash, key, call, spare);
+    if O::VALUE_WORDS <= FEW_WORDS {
+        answer_on::<O, FEW_WORDS>(buckets, r, count, size, hash, key, call, spare)
+    } else if O::VALUE_WORDS <= SOME_WORDS {
+        answer_on::<O, SOME_WORDS>(buckets, r, count, size, hash, key, call, spare)
+    } else {
+        answer_long::<O>(buckets, r, count, size, hash, key, call, spare)
     }
-    let mut value = [0; MOST_VALUE_WORDS];
-    let words = &mut value[..O::VALUE_WORDS];
-    answer_in::<O>(buckets, r, count, words, size, hash, key, call, spare)
 }

@@ -98,8 +98,8 @@ fn list_chain<O: CellObject>(
     Ok(())
 }
 
-/// The entries of all chains, which are this many.
-pub(crate) fn list_all<O: CellObject>(
+/// The entries of all chains, which are this many. `buffer` is memory for a value.
+fn list_chains<O: CellObject>(
     buckets: &mut Buckets,
     alloc: Global,
     r: &Region,
@@ -117,4 +117,20 @@ pub(crate) fn list_all<O: CellObject>(
         list_chain::<O>(buckets, alloc, r, buffer, bucket, &mut entries)?;
     }
     Ok(entries)
+}
+
+/// The same, and takes the memory for a value.
+pub(crate) fn list_all<O: CellObject>(
+    buckets: &mut Buckets,
+    alloc: Global,
+    r: &Region,
+    count: u64,
+) -> Result<Vec<Entry<O>>, AllocError>
+    requires here { buckets.old.region ≡ r.now }
+    requires values { buckets.old.layout.value_words ≡ O.VALUE_WORDS }
+    ensures same { buckets.new ≡ buckets.old }
+    ensures entries { IfOk result (λ v. pairs_of v.items ≡ map (entry_of O.decoded) (all_items buckets.old.chains)) }
+{
+    let mut value = vec![in alloc; 0u64; O::VALUE_WORDS]?;
+    list_chains::<O>(buckets, alloc, r, value.as_mut_slice(), count)
 }

@@ -3,8 +3,9 @@
 ghost use Rattle.std.specs.Prelude.{◌≡◌, ℕ, List, Option, IsTrue, length};
 ghost use Rattle.std.specs.Option.{option_copied};
 
-/// The most words of a state: a call has them on its stack, so that a partition has no memory beside its words.
-pub const MOST_VALUE_WORDS: usize = 64;
+/// The most words of a state, 512 KiB: a call has them on its stack, as it has the state itself, so that a partition has no
+/// memory besides its words of the region.
+pub const MOST_VALUE_WORDS: usize = 65_536;
 
 /// The object of which a table has one under each key. A call may make it, change it or remove it.
 ///

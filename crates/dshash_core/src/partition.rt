@@ -20,7 +20,7 @@ use crate::buckets::Buckets;
 use crate::calls::answer;
 use crate::entries::{Entry, list_all};
 use crate::key::hash_key;
-use crate::object::{CellObject, MOST_VALUE_WORDS};
+use crate::object::CellObject;
 use crate::outcome::CoreOut;
 use crate::sizes::{LEAST_SIZE, bucket_count, bucket_of_hash};
 use crate::taking::{Taken, spot_at_hand, take_at};
@@ -62,7 +62,7 @@ impl<O: CellObject> Partition<O> {
         requires here { slice.part.region ≡ r.now }
         requires room { 8 ≤ slice.bytes }
         requires fits { item_size key_words O.VALUE_WORDS ≤ item_chunk }
-        requires short { O.VALUE_WORDS ≤ 64 }
+        requires short { O.VALUE_WORDS ≤ 65536 }
         ensures { result ≡ record { region = r.now; slice = slice.at; words = slice.bytes / 8; key_words = key_words; item_bytes = item_chunk; size = 7; cells = fin.empty } }
     {
         let buckets = Buckets::new(
@@ -175,12 +175,10 @@ impl<O: CellObject> Partition<O> {
             return None;
         };
         self.hand = bucket;
-        let mut value = [0; MOST_VALUE_WORDS];
         Some(take_at::<O>(
             &mut self.buckets,
             r,
             &mut self.count,
-            &mut value[..O::VALUE_WORDS],
             bucket,
             spot,
             call,
@@ -195,14 +193,7 @@ impl<O: CellObject> Partition<O> {
         ensures roomy { IsRoomy self.old.size (fin.len self.old.cells) }
         ensures all { IfOk result (λ v. ListsAll self.old.cells (pairs_of v.items)) }
     {
-        let mut value = [0; MOST_VALUE_WORDS];
-        list_all::<O>(
-            &mut self.buckets,
-            alloc,
-            r,
-            &mut value[..O::VALUE_WORDS],
-            self.count,
-        )
+        list_all::<O>(&mut self.buckets, alloc, r, self.count)
     }
 
     /// Begins a move: the partition is empty, on a new slice and with the size that it is to have. Its chains of before

@@ -9,9 +9,9 @@ ghost use Rattle.dshash_core.specs.Outcome.{AlwaysRemoves};
 ghost use Rattle.dshash_core.specs.Calls.{IsCalled};
 
 use crate::buckets::Buckets;
-use crate::calls::change;
+use crate::calls::{SOME_WORDS, change};
 use crate::entries::KeyWords;
-use crate::object::CellObject;
+use crate::object::{CellObject, MOST_VALUE_WORDS};
 use crate::words::Spot;
 use region_words::{Chunk, Region};
 
@@ -55,8 +55,9 @@ pub(crate) fn spot_at_hand(buckets: &mut Buckets, r: &Region, hand: u64) -> Opti
     }
 }
 
-/// Takes the item at a spot out, by a call of its key. `words` is memory for the key.
-pub(crate) fn take_at<O: CellObject>(
+/// Takes the item at a spot out, by a call of its key. `words` is memory for the key,
+/// and `buffer` for the value.
+fn take_in<O: CellObject>(
     buckets: &mut Buckets,
     r: &Region,
     count: &mut u64,
@@ -86,5 +87,85 @@ pub(crate) fn take_at<O: CellObject>(
         key: KeyWords::of(words),
         reply,
         item,
+    }
+}
+
+/// The same with memory on the stack for a value of this many words.
+fn take_on<O: CellObject, const ROOM: usize>(
+    buckets: &mut Buckets,
+    r: &Region,
+    count: &mut u64,
+    bucket: u64,
+    spot: Spot,
+    call: &O::Call,
+    words: Vec<u64>,
+) -> Taken<O>
+    requires here { buckets.old.region ≡ r.now }
+    requires bucket { bucket < length buckets.old.chains }
+    requires spot { (it : Item) × IsSpot buckets.old bucket spot.link it × (it.at ≡ spot.item) }
+    requires room { (O.VALUE_WORDS ≤ ROOM) × (ROOM ≤ 65536) }
+    requires words { length words.items ≡ buckets.old.layout.key_words }
+    requires cells { (size : ℕ) × AreCells size count.old O.VALUE_WORDS buckets.old }
+    requires removes { AlwaysRemoves O.stepped call.now }
+    ensures key { length result.key ≡ buckets.old.layout.key_words }
+    ensures called { (size : ℕ) → AreCells size count.old O.VALUE_WORDS buckets.old → IsCalled O.stepped O.decoded size count.new O.VALUE_WORDS buckets.old buckets.new result.key call.now false result.reply false true }
+    ensures item { (result.item.part.region ≡ buckets.old.region) × (result.item.bytes ≡ buckets.old.layout.item_bytes) }
+{
+    let mut value = [0; ROOM];
+    let buffer = &mut value[..O::VALUE_WORDS];
+    take_in::<O>(buckets, r, count, buffer, bucket, spot, call, words)
+}
+
+/// The same with memory for the longest value, in a frame that no other call has.
+#[cold]
+#[inline(never)]
+fn take_long<O: CellObject>(
+    buckets: &mut Buckets,
+    r: &Region,
+    count: &mut u64,
+    bucket: u64,
+    spot: Spot,
+    call: &O::Call,
+    words: Vec<u64>,
+) -> Taken<O>
+    requires here { buckets.old.region ≡ r.now }
+    requires bucket { bucket < length buckets.old.chains }
+    requires spot { (it : Item) × IsSpot buckets.old bucket spot.link it × (it.at ≡ spot.item) }
+    requires short { O.VALUE_WORDS ≤ 65536 }
+    requires words { length words.items ≡ buckets.old.layout.key_words }
+    requires cells { (size : ℕ) × AreCells size count.old O.VALUE_WORDS buckets.old }
+    requires removes { AlwaysRemoves O.stepped call.now }
+    ensures key { length result.key ≡ buckets.old.layout.key_words }
+    ensures called { (size : ℕ) → AreCells size count.old O.VALUE_WORDS buckets.old → IsCalled O.stepped O.decoded size count.new O.VALUE_WORDS buckets.old buckets.new result.key call.now false result.reply false true }
+    ensures item { (result.item.part.region ≡ buckets.old.region) × (result.item.bytes ≡ buckets.old.layout.item_bytes) }
+{
+    take_on::<O, MOST_VALUE_WORDS>(buckets, r, count, bucket, spot, call, words)
+}
+
+/// The same with as much memory as a value of the object needs.
+pub(crate) fn take_at<O: CellObject>(
+    buckets: &mut Buckets,
+    r: &Region,
+    count: &mut u64,
+    bucket: u64,
+    spot: Spot,
+    call: &O::Call,
+    words: Vec<u64>,
+) -> Taken<O>
+    requires here { buckets.old.region ≡ r.now }
+    requires bucket { bucket < length buckets.old.chains }
+    requires spot { (it : Item) × IsSpot buckets.old bucket spot.link it × (it.at ≡ spot.item) }
+    requires short { O.VALUE_WORDS ≤ 65536 }
+    requires words { length words.items ≡ buckets.old.layout.key_words }
+    requires cells { (size : ℕ) × AreCells size count.old O.VALUE_WORDS buckets.old }
+    requires removes { AlwaysRemoves O.stepped call.now }
+    ensures key { length result.key ≡ buckets.old.layout.key_words }
+    ensures called { (size : ℕ) → AreCells size count.old O.VALUE_WORDS buckets.old → IsCalled O.stepped O.decoded size count.new O.VALUE_WORDS buckets.old buckets.new result.key call.now false result.reply false true }
+    ensures item { (result.item.part.region ≡ buckets.old.region) × (result.item.bytes ≡ buckets.old.layout.item_bytes) }
+{
+    if O::VALUE_WORDS <= SOME_WORDS {
+        take_on::<O, SOME_WORDS>(buckets, r, count, bucket, spot, call, words)
+    } else {
+        take_long::<O>(buckets, r, count, bucket, spot, call, words)
     }
 }

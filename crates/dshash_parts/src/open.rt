@@ -99,7 +99,7 @@ fn partitions<O: CellObject>(
     requires slices { HaveWords r.now slices.items }
     requires few { length slices.items ≤ 128 }
     requires fits { item_size key_words O.VALUE_WORDS ≤ item_chunk }
-    requires short { O.VALUE_WORDS ≤ 64 }
+    requires short { O.VALUE_WORDS ≤ 65536 }
     ensures { IfOk result (λ v. map (λ x. (name_of x.number x.partition, state_of x.partition)) v.items ≡ opens_from r.now key_words item_chunk 0 (length slices.items)) }
 {
     let mut parts = Vec::with_capacity(alloc, slices.len())?;
@@ -134,7 +134,7 @@ where
         requires area_own { AreaBelongs area.now apass.old }
         requires keys { (1 ≤ key_words) × (key_words ≤ 64) }
         requires callers { 1 ≤ callers }
-        requires values { O.VALUE_WORDS ≤ 64 }
+        requires values { O.VALUE_WORDS ≤ 65536 }
         ensures area_own { AreaBelongs area.now apass.new }
         ensures area_caller { area_number apass.new ≡ area_number apass.old }
         ensures table { IfOk result (λ t. IsTable r.now t.0) }
@@ -166,7 +166,7 @@ where
         requires slices { HaveWords r.now slices.items }
         requires keys { (1 ≤ key_words) × (key_words ≤ 64) }
         requires callers { 1 ≤ callers }
-        requires values { O.VALUE_WORDS ≤ 64 }
+        requires values { O.VALUE_WORDS ≤ 65536 }
         ensures table { IfOk result (λ t. IsTable r.now t.0) }
         ensures keys { IfOk result (λ t. key_words_of t.0 ≡ key_words) }
         ensures items { IfOk result (λ t. item_of t.0 ≡ item_size key_words O.VALUE_WORDS) }

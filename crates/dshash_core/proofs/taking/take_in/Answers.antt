@@ -7,7 +7,7 @@ use Rattle.dshash_core.specs.Calls.{IsCalled}
 use Rattle.dshash_core.proofs.Views.{among_here}
 use Rattle.dshash_core.proofs.Flats.{spot_get}
 use Rattle.dshash_core.proofs.Takes.{frees}
-use Rattle.dshash_core.proofs.taking.take_at.Goals as goal
+use Rattle.dshash_core.proofs.taking.take_in.Goals as goal
 
 pub read_key-requires-clause-item : goal.read_key-requires-clause-item
 read_key-requires-clause-item g c =

@@ -1,7 +1,7 @@
 use Rattle.std.proofs.Common.{◌≡◌, map, take, length}
 use Rattle.dshash_core.specs.Cells.{entry_of, all_items}
 use Rattle.dshash_core.specs.Listing.{pairs_of}
-use Rattle.dshash_core.proofs.entries.list_all.Given as goal
+use Rattle.dshash_core.proofs.entries.list_chains.Given as goal
 
 -- the chains of the buckets so far are listed
 abbrev pub invariant-loop-bucket : goal.invariant-loop-bucket

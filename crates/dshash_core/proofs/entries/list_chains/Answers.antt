@@ -2,7 +2,7 @@ use Rattle.std.proofs.Common.{◌<◌, ◌++◌, map, length, sym, ◌∙◌, ar
 use Rattle.dshash_core.specs.Hung.{chain_of}
 use Rattle.dshash_core.specs.Cells.{entry_of}
 use Rattle.dshash_core.proofs.Moves.{listed_more, listed_all}
-use Rattle.dshash_core.proofs.entries.list_all.Goals as goal
+use Rattle.dshash_core.proofs.entries.list_chains.Goals as goal
 
 pub loop-bucket-preserved : goal.loop-bucket-preserved
 loop-bucket-preserved g c =
