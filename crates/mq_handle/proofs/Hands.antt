@@ -6,12 +6,21 @@ use Rattle.std.proofs.lemmas.List.{take_at, get_or_append_left, get_or-append-ad
 use Rattle.std.proofs.Math.Seq.{drop-append_seam}
 use Rattle.rel_pointer.specs.Bytes.{AllBytes, word_count, byte_of, is_of_word}
 use Rattle.ring_rule.specs.Frames.{frame, frames, IsMessage, IsFramed}
-use Rattle.ring_rule.specs.Ring.{Receiving}
+use Rattle.std.specs.List.{fold}
+use Rattle.ring_rule.specs.Ring.{Ring, Receiving}
+use Rattle.ring_rule.specs.Ends.{takes}
+use Rattle.mq_ring.proofs.Runs.{HasTaken, has_taken}
+use Rattle.ring_rule.proofs.Messages.{framed_front}
+use Rattle.mq_ring.specs.Bursts.{HasWords}
 use Rattle.mq_ring.specs.Ends.{ReceivingEnd}
 use Rattle.mq_handle.specs.Messages.{digits_of, bytes_of, first_of}
-use Rattle.mq_handle.specs.Taking.{InHand, HasBytes, IsOpen, Takes}
+use Rattle.mq_handle.specs.Taking.{InHand, HasBytes, IsOpen, Ready, Takes}
 use Rattle.mq_handle.proofs.Decoding.{first_frame}
 use Rattle.mq_handle.proofs.Filling.{length-frame}
+
+append_none : (xs : List ℕ) → xs ++ [] ≡ xs
+append_none [] = refl
+append_none (x ∷ xs) = ap (λ (ys : List ℕ). x ∷ ys) (append_none xs)
 
 -- a list that is longer than a beginning of it and more
 longer : (xs us ys vs : List ℕ) (w : ℕ) → xs ++ us ≡ ys ++ (w ∷ vs) → length ys < length xs → (more : List ℕ) × (xs ≡ ys ++ (w ∷ more))
@@ -116,7 +125,7 @@ byte_more tail w i l =
     ∙ sym (cond_true (is_of_word (length tail) i) (byte_of w i) (get_or (bytes_of tail) i 0) (is_of (length tail) i high l)))
     (cases_lt i (8 * length tail))
 
--- what `keep_word` leaves in the buffer
+-- what one word more leaves in the buffer
 abbrev pub KeepsMore : List ℕ → List ℕ → ℕ → ℕ → ℕ → ℕ → Type 0
 KeepsMore old new words len word result = (result ≡ len) × ((i : ℕ) → i < len → slice_index new i ≡ cond (is_of_word (words - 1) i) (byte_of word i) (slice_index old i))
 
@@ -172,6 +181,69 @@ hand_more max base taken after old new words len word result h o e framed first 
               ∙ old_byte tail i (omega arith) (b.1 i low)
               ∙ sym (byte_more tail word i (omega arith)),
         )
+
+-- the frame in hand, if the bytes of its words stay
+hand_kept : (max : ℕ) (base taken old new : List ℕ) (words len : ℕ) → InHand max base taken old words len → ((i : ℕ) → i < 8 * (words - 1) → slice_index new i ≡ slice_index old i)
+    → InHand max base taken new words len
+hand_kept max base taken old new words len h same = record {
+  messages = h.messages;
+  part = h.part;
+  fit = h.fit;
+  base_is = h.base_is;
+  are = h.are;
+  begun = h.begun;
+  counted = h.counted;
+  bytes = kept h.part h.counted h.bytes;
+}
+  where
+    kept : (part : List ℕ) → length part ≡ words → HasBytes old part len → HasBytes new part len
+    kept [] count b = tt
+    kept (n ∷ tail) count b = (b.0, λ i inside low. same i (omega (arith, count)) ∙ b.1 i inside low)
+
+-- the buffer has the bytes of these words, the first of which is word k of the frame
+abbrev pub HasRun : List ℕ → ℕ → ℕ → List ℕ → Type 0
+HasRun buffer len words xs = (k i : ℕ) → k < length xs → i < len → is_of_word (words - 1 + k) i ≡ true → slice_index buffer i ≡ byte_of (slice_index xs k) i
+
+-- the frame in hand after a run of words whose bytes the buffer has already
+hand_further : (max len : ℕ) (base buffer xs taken : List ℕ) (words : ℕ) → InHand max base taken buffer words len → 0 < words → words + length xs ≤ suc (word_count len) → IsFramed max (taken ++ xs)
+    → HasRun buffer len words xs → InHand max base (taken ++ xs) buffer (words + length xs) len
+hand_further max len base buffer [] taken words h some low framed run =
+    let same : words ≡ words + 0 = omega arith in
+    subst (λ (t : List ℕ). InHand max base t buffer (words + 0) len) (sym (append_none taken)) (subst (λ (n : ℕ). InHand max base taken buffer n len) same h)
+hand_further max len base buffer (x ∷ xs) taken words h some low framed run =
+    let front : taken ++ (x ∷ xs) ≡ (taken ++ (x ∷ [])) ++ xs = sym (append_assoc taken (x ∷ []) xs) in
+    let one = framed_front max (taken ++ (x ∷ xs)) (taken ++ (x ∷ [])) xs framed front in
+    let next = hand_more max base taken (taken ++ (x ∷ [])) buffer buffer words len x len h (inr (omega (arith, low))) refl one (λ none. absurd (omega arith)) (λ more. (refl, λ i inside. own i inside)) in
+    let rest = hand_further max len base buffer xs (taken ++ (x ∷ [])) (words + 1) next (omega arith) (omega (arith, low)) (subst (IsFramed max) front framed)
+    (λ k i l inside of. run (suc k) i (omega arith) inside (subst (λ (n : ℕ). is_of_word n i ≡ true) (let z : words + 1 - 1 + k ≡ words - 1 + suc k = omega arith in z) of)) in
+    let count : words + 1 + length xs ≡ words + suc (length xs) = omega arith in
+    subst (λ (t : List ℕ). InHand max base t buffer (words + suc (length xs)) len) (sym front) (subst (λ (n : ℕ). InHand max base ((taken ++ (x ∷ [])) ++ xs) buffer n len) count rest)
+  where
+    own : (i : ℕ) → i < len → slice_index buffer i ≡ cond (is_of_word (words - 1) i) (byte_of x i) (slice_index buffer i)
+    own i inside = go (is_of_word (words - 1) i) refl
+      where
+        go : (b : Bool) → is_of_word (words - 1) i ≡ b → slice_index buffer i ≡ cond b (byte_of x i) (slice_index buffer i)
+        go true of = run 0 i (omega arith) inside (subst (λ (n : ℕ). is_of_word n i ≡ true) (let z : words - 1 ≡ words - 1 + 0 = omega arith in z) of)
+        go false of = refl
+
+-- the frame in hand after a run of words
+pub hand_run : (max len from n : ℕ) (base taken after old new xs : List ℕ) (words : ℕ) → InHand max base taken old words len → 0 < words → from ≡ words - 1 → length xs ≡ n → words + n ≤ suc (word_count len) → len ≤ length old
+    → after ≡ taken ++ xs → IsFramed max after → HasWords old new from xs → InHand max base after new (words + n) len
+hand_run max len from n base taken after old new xs words h some start count low room is framed w =
+    let kept = hand_kept max base taken old new words len h (λ i l. w.before i (omega (arith, start))) in
+    let run : HasRun new len words xs = λ k i l inside of. w.written k i l (omega arith) (subst (λ (z : ℕ). is_of_word (z + k) i ≡ true) (sym start) of) in
+    let whole = hand_further max len base new xs taken words kept some (omega (arith, count, low)) (subst (IsFramed max) is framed) run in
+    subst (λ (t : List ℕ). InHand max base t new (words + n) len) (sym is) (subst (λ (z : ℕ). InHand max base (taken ++ xs) new (words + z) len) count whole)
+
+-- an end after a run
+pub has_run : (old new : ReceivingEnd) (xs : List ℕ) → new ≡ record old { end = fold takes old.end xs } → HasTaken old.end new.end xs
+has_run old new xs e = subst (λ (o : ReceivingEnd). HasTaken old.end o.end xs) (sym e) (has_taken old.end xs)
+
+pub ready_run : (q new : Receiving) (ready unreturned n : ℕ) (xs : List ℕ) → Ready q ready unreturned → n ≤ ready → length xs ≡ n → HasTaken q new xs → Ready new (ready - n) (unreturned + n)
+ready_run q new ready unreturned n xs c low count h =
+    let l = ap length h.taken ∙ length-append q.taken xs in
+    let size = ap (λ (r : Ring). r.size) h.ring in
+    record { ready_is = omega (arith, c.ready_is, l, count, h.avail); unreturned_is = omega (arith, c.unreturned_is, l, count, h.returned); few = omega (arith, c.few, h.avail, h.returned, size); small = omega (arith, c.small, size) }
 
 -- the words before the frame in hand
 pub base_same : (max : ℕ) (base taken buffer : List ℕ) (words len : ℕ) → InHand max base taken buffer words len → take (length taken - words) taken ≡ base

@@ -6,3 +6,4 @@ pub mod Hands
 pub mod Receipts
 pub mod Uses
 pub mod Told
+pub mod Wholes

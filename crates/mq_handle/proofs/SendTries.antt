@@ -175,6 +175,9 @@ finished_ring flush s = choice flush s (λ z. z.ring ≡ s.ring) refl refl
 pub finished_put : (flush : Bool) (s : Sending) → (finishes flush s).put ≡ s.put
 finished_put flush s = choice flush s (λ z. z.put ≡ s.put) refl refl
 
+pub finished_notes : (flush : Bool) (s : Sending) → ((finishes flush s).looked ≡ s.looked) × ((finishes flush s).room ≡ s.room)
+finished_notes flush s = choice flush s (λ z. (z.looked ≡ s.looked) × (z.room ≡ s.room)) (refl, refl) (refl, refl)
+
 pub finished_opens : (flush : Bool) (a s : Sending) → StaysOpen a s → StaysOpen a (finishes flush s)
 finished_opens flush a s o = choice flush s (StaysOpen a) o (record { ring = o.ring; stays = o.stays; turn = let t = o.turn in omega arith; put = o.put; flag = o.flag })
 

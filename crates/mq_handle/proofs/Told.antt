@@ -3,7 +3,7 @@ use Rattle.std.proofs.Common.{◌≡◌, ◌<◌, ◌≤◌, ⊎_elim, inl, inr,
 use Rattle.ring_rule.specs.Ring.{Sending, Receiving}
 use Rattle.mq_handle.specs.Told.{SawRoom, RoomFound}
 
-saw_room : (told : Option Receiving) (b c : Sending) → c.room ≡ b.room → SawRoom told b → SawRoom told c
+pub saw_room : (told : Option Receiving) (b c : Sending) → c.room ≡ b.room → SawRoom told b → SawRoom told c
 saw_room None b c e s = tt
 saw_room (Some q) b c e s = omega (arith, e, s)
 

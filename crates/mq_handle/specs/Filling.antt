@@ -1,5 +1,5 @@
 -- The steps by which a try to send stores the words of a frame, each with its cause.
-use Rattle.std.specs.Prelude.{◌≡◌, ℕ, ◌+◌, ◌-◌, ◌<◌, ◌/◌, Bool, MatchBool, cond, ltb, ◌||◌, List, length, take}
+use Rattle.std.specs.Prelude.{◌≡◌, ℕ, ◌+◌, ◌-◌, ◌<◌, ◌/◌, ◌==◌, Bool, MatchBool, cond, ltb, ◌||◌, List, length, take}
 use Rattle.ring_rule.specs.Frames.{frame}
 use Rattle.ring_rule.specs.Ring.{Sending}
 use Rattle.ring_rule.specs.Ends.{puts, publishes, looks_read}
@@ -17,16 +17,20 @@ total_with put message = length put - length (left_of put) + length (frame messa
 abbrev pub LacksRoom : ℕ → Sending → Type 0
 LacksRoom total s = (length s.put ≡ s.room + s.ring.size) × (length s.put < total)
 
--- the steps of a sender's end up to an end at which words may be left: a word is stored; or, where it lacks room, it
--- publishes all that it put, then looks at the read count, and finds that there is room again
+-- all that was put is published; where it is already, no step is made
+abbrev pub publishes_rest : Sending → Sending
+publishes_rest s = cond {A = Sending} (s.published == length s.put) s (publishes s)
+
+-- the steps of a sender's end up to an end at which words may be left: a word is stored; or, where it lacks room, what
+-- it put and has not published is published, then it looks at the read count, and finds that there is room again
 pub data Fills (total : ℕ) (old : Sending) : Sending → Type 0 where
   enters : Fills total old old
   stores : (s : Sending) (word : ℕ) → Fills total old s → Fills total old (puts s word)
-  finds_room : (s : Sending) (n : ℕ) → Fills total old s → LacksRoom total s → length s.put < n + s.ring.size → Fills total old (looks_read (publishes s) n)
+  finds_room : (s : Sending) (n : ℕ) → Fills total old s → LacksRoom total s → length s.put < n + s.ring.size → Fills total old (looks_read (publishes_rest s) n)
 
 -- they end with a look that found no room
 abbrev pub FillsUp : ℕ → Sending → Sending → Type 0
-FillsUp total old new = (s : Sending) × (n : ℕ) × Fills total old s × LacksRoom total s × (length s.put ≡ n + s.ring.size) × (new ≡ looks_read (publishes s) n)
+FillsUp total old new = (s : Sending) × (n : ℕ) × Fills total old s × LacksRoom total s × (length s.put ≡ n + s.ring.size) × (new ≡ looks_read (publishes_rest s) n)
 
 -- how words were stored: all of the frame, or as far as there was room
 abbrev pub FillsTo : Bool → ℕ → Sending → Sending → Type 0

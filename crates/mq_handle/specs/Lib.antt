@@ -11,3 +11,4 @@ pub mod Waiting
 pub mod Told
 pub mod Home
 pub mod SendSteps
+pub mod Wholes

@@ -1,14 +1,16 @@
 -- What a look for room, and one for more words, finds.
 use Rattle.std.specs.Prelude.{◌≡◌, ℕ, ◌+◌, ◌<◌, ◌≤◌, ◌⊎◌, Option, Some, None}
 use Rattle.ring_rule.specs.Ring.{Sending, Receiving}
-use Rattle.ring_rule.specs.Ends.{publishes, looks_read}
+use Rattle.ring_rule.specs.Ends.{looks_read}
+use Rattle.mq_handle.specs.Filling.{publishes_rest}
 use Rattle.mq_handle.specs.Receives.{IsWaiting, IsOver}
 use Rattle.mq_handle.specs.declared.answers.ReceiveAnswer.{ReceiveAnswer}
 use Rattle.mq_handle.specs.declared.answers.ReceiveAnswer.TheVariants.{Message, WouldBlock, Detached}
 
--- the sender looks for room only where no word fits by what it knows, and has published all before it does
+-- the sender looks for room only where by what it knows fewer words fit than are wanted, and has published all before
+-- it does
 abbrev pub LooksForRoom : Sending → Sending → ℕ → ℕ → ℕ → Type 0
-LooksForRoom old new free_before free unpublished = ((new ≡ old) × (0 < free)) ⊎ ((free_before ≡ 0) × (unpublished ≡ 0) × (new ≡ looks_read (publishes old) new.room))
+LooksForRoom old new wanted free unpublished = ((new ≡ old) × (wanted ≤ free)) ⊎ ((free < wanted) × (unpublished ≡ 0) × (new ≡ looks_read (publishes_rest old) new.room))
 
 -- the receiver after a look: the words taken are the same, the ring too, and it stays open
 pub record LooksOn (old new : Receiving) : Type 0 where

@@ -10,7 +10,8 @@ pub enum SendAnswer {
     WouldBlock { stored: u64 },
     /// The receiver has detached. Nothing was stored.
     Detached,
-    /// The message, of this length in bytes, is longer than the queue takes. Nothing was done.
+    /// The message, of this length in bytes, is longer than the queue takes, or for a whole send than the ring can hold.
+    /// Nothing was done.
     TooLong { length: u64 },
 }
 

@@ -2,16 +2,16 @@
 //!
 //! A message lies on the ring as its length in one word and then its bytes in words, zero-padded. A message may be
 //! longer than the ring: a try that finds the ring full has stored a part, and the caller repeats the call with the
-//! same message. The sender publishes what it put at the end of a message where that is asked for or more than a
-//! quarter of the ring is unpublished, before it answers that it would block, and before it sets the flag; the receiver
-//! gives room back likewise. Each call is a row of steps on the ring's words, of which `mq_ring` says who may make
-//! them: the sender alone stores the cells and the written count, the receiver alone the read count, and each sets the
-//! flag as its last step. The ring's ends hold no list of messages; `specs/Messages.antt` reads it off the words
-//! (`whole_of`).
+//! same message. `try_send_whole` stores a message whole or not at all. The sender publishes what it put at the end of
+//! a message where that is asked for or more than a quarter of the ring is unpublished, before it answers that it would
+//! block, and before it sets the flag; the receiver gives room back likewise. Each call is a row of steps on the ring's
+//! words, of which `mq_ring` says who may make them: the sender alone stores the cells and the written count, the
+//! receiver alone the read count, and each sets the flag as its last step. The ring's ends hold no list of messages;
+//! `specs/Messages.antt` reads it off the words (`whole_of`).
 //!
 //! `storing` puts the words of a frame on the ring and `taking` takes them off it, `looking` looks for more room and
-//! for more words, `sending` and `receiving` are one try each, `sender`, `receiver` and `waiting` are the calls over
-//! these, and `queue` makes a queue and brings its ends together.
+//! for more words, `sending`, `sending_whole` and `receiving` are one try each, `sender`, `receiver` and `waiting` are
+//! the calls over these, and `queue` makes a queue and brings its ends together.
 
 #![tactic(auto)]
 
@@ -23,6 +23,7 @@ mod receiver;
 mod receiving;
 mod sender;
 mod sending;
+mod sending_whole;
 mod storing;
 mod taking;
 mod waiting;

@@ -6,11 +6,13 @@ ghost use Rattle.ring_rule.specs.Ends.{publishes, sender_leaves};
 ghost use Rattle.mq_handle.specs.Sends.{Continues, StaysOpen};
 ghost use Rattle.mq_handle.specs.SendAnswers.{Answers};
 ghost use Rattle.mq_handle.specs.SendSteps.{StepsAre};
+ghost use Rattle.mq_handle.specs.Wholes.{AnswersWhole};
 ghost use Rattle.mq_handle.specs.Told.{SendFound};
 ghost use Rattle.mq_handle.specs.Held.{IsUnsent};
 
 use crate::answers::SendAnswer;
 use crate::sending::send_frame;
+use crate::sending_whole::send_whole;
 use crate::storing::Stored;
 use mq_ring::RingTx;
 use region_words::Region;
@@ -76,6 +78,26 @@ impl Sender {
         ensures told { SendFound self.old.told self.old.end self.new.end result }
     {
         let (counts, answer) = send_frame(&mut self.tx, r, message, self.counts, flush);
+        self.counts = counts;
+        answer
+    }
+
+    /// Puts the message on the ring if there is room for all of it, and nothing of it otherwise. A message is too long
+    /// not only if the queue takes none so long, but also if an empty ring has no room for its frame, one word and a
+    /// word for each eight bytes: it could never be put whole. If no room is known, what was put before is published, so
+    /// that the receiver can make room, and the read count is looked at once. After WouldBlock any message may follow,
+    /// unless `try_send` had stored a part of one: then, as there, the message has to be that one, and what is left of
+    /// its frame is stored or not. It costs as much as `try_send`, takes no memory and keeps nothing of `message`.
+    pub fn try_send_whole(&mut self, r: &Region, message: &[u8], flush: bool) -> SendAnswer
+        requires here { self.old.region ≡ r.now }
+        requires stays { self.old.end.gone ≡ false }
+        requires continues { Continues self.old.end.put message.now }
+        ensures kept { self.new ≡ record self.old { end = self.new.end } }
+        ensures stays { StaysOpen self.old.end self.new.end }
+        ensures answer { AnswersWhole self.old.end self.new.end message.now flush result }
+        ensures told { SendFound self.old.told self.old.end self.new.end result }
+    {
+        let (counts, answer) = send_whole(&mut self.tx, r, message, self.counts, flush);
         self.counts = counts;
         answer
     }

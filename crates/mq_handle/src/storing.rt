@@ -1,8 +1,10 @@
-//! The words of a frame are stored one by one, with what the sender's end counts.
+//! The words of a frame are stored in runs, as many at once as are known to fit, with what the sender's end counts.
 
-ghost use Rattle.std.specs.Prelude.{◌≡◌, ◌+◌, ◌-◌, ◌*◌, ◌/◌, ◌<◌, ◌≤◌, ◌++◌, ◌⊎◌, ℕ, false, true, length, take, drop, slice_index, IsTrue, MatchBool, cond, ◌||◌, ltb};
+ghost use Rattle.std.specs.Prelude.{◌≡◌, ◌+◌, ◌-◌, ◌*◌, ◌/◌, ◌<◌, ◌≤◌, ◌++◌, ◌⊎◌, ℕ, false, true, length, take, drop, min, IsTrue, MatchBool, cond, ◌||◌, ltb};
+ghost use Rattle.std.specs.List.{fold};
 ghost use Rattle.rel_pointer.specs.Bytes.{word_count};
 ghost use Rattle.ring_rule.specs.Frames.{frame, IsFramed};
+ghost use Rattle.ring_rule.specs.Ends.{puts};
 ghost use Rattle.mq_handle.specs.Held.{Counted};
 ghost use Rattle.mq_handle.specs.Told.{SawRoom, RoomFound};
 ghost use Rattle.mq_handle.specs.Filling.{FillsTo, base_of, finishes};
@@ -10,7 +12,7 @@ ghost use Rattle.mq_handle.specs.Filling.{FillsTo, base_of, finishes};
 use crate::looking::look_for_room;
 use mq_ring::RingTx;
 use region_words::Region;
-use rel_pointer::{pack, words_of};
+use rel_pointer::words_of;
 
 /// What a sender knows of its ring beside the ring's own end.
 #[derive(Clone, Copy)]
@@ -23,15 +25,43 @@ pub(crate) struct Stored {
     pub(crate) unpublished: u64,
 }
 
-/// A word of the message's frame.
-fn frame_word(message: &[u8], at: u64) -> u64
-    requires { at < length (frame message.now) }
-    ensures { result ≡ slice_index (frame message.now) at }
+/// Stores that many words of the message's frame, from word `at` on.
+fn put_frame_words(tx: &mut RingTx, r: &Region, message: &[u8], at: u64, run: u64)
+    requires here { tx.old.region ≡ r.now }
+    requires stays { tx.old.end.gone ≡ false }
+    requires some { 0 < run }
+    requires inside { at + run ≤ length (frame message.now) }
+    requires room { length tx.old.end.put + run ≤ tx.old.end.room + tx.old.end.ring.size }
+    requires framed { IsFramed tx.old.end.ring.max (tx.old.end.put ++ take run (drop at (frame message.now))) }
+    ensures { tx.new ≡ record tx.old { end = fold puts tx.old.end (take run (drop at (frame message.now))) } }
 {
-    if at == 0 {
-        message.len() as u64
-    } else {
-        pack(message, at - 1)
+    if at > 0 {
+        tx.put_words(r, message, at - 1, run);
+        return;
+    }
+    tx.put(r, message.len() as u64);
+    tx.put_words(r, message, 0, run - 1);
+}
+
+/// Stores the next words of the frame, as many as are known to fit.
+pub(crate) fn store_run(tx: &mut RingTx, r: &Region, message: &[u8], counts: Stored) -> Stored
+    requires here { tx.old.region ≡ r.now }
+    requires stays { tx.old.end.gone ≡ false }
+    requires counted { Counted tx.old.end counts.free counts.unpublished }
+    requires some { 0 < counts.free }
+    requires more { counts.words < length (frame message.now) }
+    requires framed { IsFramed tx.old.end.ring.max (tx.old.end.put ++ drop counts.words (frame message.now)) }
+    ensures end { tx.new ≡ record tx.old { end = fold puts tx.old.end (take counts.free (drop counts.words (frame message.now))) } }
+    ensures counted { Counted tx.new.end result.free result.unpublished }
+    ensures words { result.words ≡ counts.words + min counts.free (length (frame message.now) - counts.words) }
+{
+    let total = 1 + words_of(message.len() as u64);
+    let run = counts.free.min(total - counts.words);
+    put_frame_words(tx, r, message, counts.words, run);
+    Stored {
+        words: counts.words + run,
+        free: counts.free - run,
+        unpublished: counts.unpublished + run,
     }
 }
 
@@ -59,16 +89,11 @@ pub(crate) fn store_words(
     let total = 1 + words_of(message.len() as u64);
     let mut counts = counts;
     while counts.words < total {
-        counts = look_for_room(tx, r, counts);
+        counts = look_for_room(tx, r, counts, 1);
         if counts.free == 0 {
             return (counts, false);
         }
-        tx.put(r, frame_word(message, counts.words));
-        counts = Stored {
-            words: counts.words + 1,
-            free: counts.free - 1,
-            unpublished: counts.unpublished + 1,
-        };
+        counts = store_run(tx, r, message, counts);
     }
     (counts, true)
 }

@@ -1,7 +1,8 @@
-//! The words of a frame are taken one by one, and the bytes of each go to their place in the receiver's buffer.
+//! The words of a frame are taken in runs, as many at once as may be taken, and the bytes of each go to their place in
+//! the receiver's buffer.
 
-ghost use Rattle.std.specs.Prelude.{◌≡◌, ◌+◌, ◌-◌, ◌*◌, ◌/◌, ◌<◌, ◌≤◌, ◌++◌, ◌∷◌, [], ℕ, false, true, length, suc, slice_index, cond, MatchBool, MatchOption, IsTrue};
-ghost use Rattle.rel_pointer.specs.Bytes.{word_count, byte_of, is_of_word};
+ghost use Rattle.std.specs.Prelude.{◌≡◌, ◌+◌, ◌-◌, ◌*◌, ◌/◌, ◌<◌, ◌≤◌, ◌++◌, ◌∷◌, [], ℕ, false, true, length, suc, cond, MatchBool, MatchOption, IsTrue};
+ghost use Rattle.rel_pointer.specs.Bytes.{word_count};
 ghost use Rattle.ring_rule.specs.Ends.{takes, gives_back, sees_written, receiver_sees_flag};
 ghost use Rattle.ring_rule.specs.Ring.{Receiving};
 ghost use Rattle.mq_handle.specs.Receives.{returned_of};
@@ -9,7 +10,7 @@ ghost use Rattle.mq_handle.specs.Taking.{Ready, InHand, IsOpen, Takes, before_of
 
 use mq_ring::RingRx;
 use region_words::Region;
-use rel_pointer::{unpack, words_of};
+use rel_pointer::words_of;
 
 /// What a receiver knows of its ring beside the ring's own end.
 #[derive(Clone, Copy)]
@@ -24,21 +25,8 @@ pub(crate) struct Taken {
     pub(crate) unreturned: u64,
 }
 
-/// Keeps a word of a frame. The first one is the length.
-fn keep_word(buffer: &mut [u8], words: u64, len: u64, word: u64) -> u64
-    requires inside { 0 < words → (len ≤ length buffer.old) × (words - 1 < word_count len) }
-    ensures first { words ≡ 0 → (result ≡ word) × (buffer.new ≡ buffer.old) }
-    ensures more { 0 < words → (result ≡ len) × ((i : ℕ) → i < len → slice_index buffer.new i ≡ cond (is_of_word (words - 1) i) (byte_of word i) (slice_index buffer.old i)) }
-{
-    if words == 0 {
-        return word;
-    }
-    unpack(word, &mut buffer[..len as usize], words - 1);
-    len
-}
-
-/// Takes the next word.
-fn take_word(rx: &mut RingRx, r: &Region, buffer: &mut [u8], taken: Taken) -> Taken
+/// Takes the next words of the frame in hand: its length, or as many of its other words as may be taken.
+fn take_run(rx: &mut RingRx, r: &Region, buffer: &mut [u8], taken: Taken) -> Taken
     requires here { rx.old.region ≡ r.now }
     requires stays { rx.old.end.gone ≡ false }
     requires some { 0 < taken.ready }
@@ -53,15 +41,25 @@ fn take_word(rx: &mut RingRx, r: &Region, buffer: &mut [u8], taken: Taken) -> Ta
     ensures looks { (rx.new.end.looked ≡ rx.old.end.looked) × (rx.new.end.avail ≡ rx.old.end.avail) }
     ensures counted { Ready rx.new.end result.ready result.unreturned }
     ensures hand { InHand rx.new.end.ring.max (before_of rx.old.end taken.words) rx.new.end.taken buffer.new result.words result.len }
-    ensures one { (result.words ≡ taken.words + 1) × (result.ready + 1 ≡ taken.ready) }
+    ensures some { taken.words < result.words }
+    ensures further { result.words + result.ready ≡ taken.words + taken.ready }
 {
-    let word = rx.take(r);
-    let len = keep_word(buffer, taken.words, taken.len, word);
+    if taken.words == 0 {
+        let len = rx.take(r);
+        return Taken {
+            words: 1,
+            len,
+            ready: taken.ready - 1,
+            unreturned: taken.unreturned + 1,
+        };
+    }
+    let run = taken.ready.min(1 + words_of(taken.len) - taken.words);
+    rx.take_words(r, buffer, taken.words - 1, run);
     Taken {
-        words: taken.words + 1,
-        len,
-        ready: taken.ready - 1,
-        unreturned: taken.unreturned + 1,
+        words: taken.words + run,
+        len: taken.len,
+        ready: taken.ready - run,
+        unreturned: taken.unreturned + run,
     }
 }
 
@@ -90,7 +88,7 @@ pub(crate) fn take_words(
 {
     let mut taken = taken;
     while taken.ready > 0 {
-        taken = take_word(rx, r, buffer, taken);
+        taken = take_run(rx, r, buffer, taken);
         if taken.words == 1 + words_of(taken.len) {
             return (taken, true);
         }
