@@ -101,6 +101,42 @@ fn longer_than_the_ring(r: &Region, s: &mut Sender, q: &mut Receiver) -> bool
     q.try_receive(r) == ReceiveAnswer::Message && q.message().is_empty()
 }
 
+/// A ring of four words: a message that has no room is left out, and goes when the receiver has made room; one whose frame
+/// is longer than the ring never does.
+fn whole_or_not(r: &Region, s: &mut Sender, q: &mut Receiver) -> bool
+    requires here { (s.old.region ≡ r.now) × (q.old.region ≡ r.now) }
+    requires stays { (s.old.end.gone ≡ false) × (q.old.end.gone ≡ false) }
+    requires fresh { left_of s.old.end.put ≡ [] }
+{
+    let SendAnswer::Sent = s.try_send_whole(r, b"abcdefgh12", false) else {
+        return false;
+    };
+    let SendAnswer::WouldBlock { stored: 0 } = s.try_send_whole(r, b"xyz", true) else {
+        return false;
+    };
+    let five_words = b"0123456789012345678901234";
+    let SendAnswer::TooLong { length: 25 } = s.try_send_whole(r, five_words, true) else {
+        return false;
+    };
+    let ReceiveAnswer::Message = q.try_receive(r) else {
+        return false;
+    };
+    if q.message() != b"abcdefgh12".as_slice() {
+        return false;
+    }
+    let SendAnswer::Sent = s.try_send_whole(r, b"xyz", true) else {
+        return false;
+    };
+    let ReceiveAnswer::Message = q.try_receive(r) else {
+        return false;
+    };
+    if q.message() != b"xyz".as_slice() {
+        return false;
+    }
+    q.detach(r);
+    s.try_send_whole(r, b"xyz", true) == SendAnswer::Detached
+}
+
 /// The receiver goes first.
 fn nobody_receives(r: &Region, s: &mut Sender, q: &mut Receiver) -> bool
     requires here { (s.old.region ≡ r.now) × (q.old.region ≡ r.now) }
@@ -350,6 +386,12 @@ fn a_message_is_longer_than_the_ring(rt: HostRuntime) {
         &rt, "memory",
     );
     assert!(rt; longer_than_the_ring(&r, &mut s, &mut q));
+}
+
+#[test]
+fn a_message_is_put_whole_or_not_at_all(rt: HostRuntime) {
+    let (r, mut s, mut q) = new_queue(rt.alloc(), 4, 0, 64).expect(&rt, "memory");
+    assert!(rt; whole_or_not(&r, &mut s, &mut q));
 }
 
 #[test]
