@@ -91,8 +91,9 @@ pub fn pargather<R: Threads + Wait + Sync, S: Source, O: Sink, E: Sink, G: Gate 
     ensures complete { ¬ Rose (S.faults source.old) (S.faults source.new) → ¬ Rose (O.faults out.old) (O.faults out.new)
         → IfSome (input_of (query_of (texts words.now)) (S.left source.old)) (λ bytes. (result ≡ NO_MEMORY) ⊎ IsStatus (query_of (texts words.now)) bytes result) }
 
-    // Wrong words are answered before anything is read, and generated rows are made of nothing that is.
-    ensures unread { ReadsNothing (query_of (texts words.now)) → source.new ≡ source.old }
+    // Wrong words are answered before anything is read, and generated rows are made of nothing that is: then no reading
+    // fails either.
+    ensures unread { ReadsNothing (query_of (texts words.now)) → (source.new ≡ source.old) × (result ≢ READ_FAULT) }
 
     // On every other status than 0 `err` receives the line of the status, or a prefix of it where a write of it failed.
     ensures line { (result ≢ TABLE) → (said : List ℕ) × IsLine (query_of (texts words.now)) (S.left source.old) result said
@@ -125,7 +126,7 @@ pub fn answer<R: Threads + Wait + Sync, S: Source, O: Sink, E: Sink>(
     ensures answers { (ran : Option Ran) × Answers (query_of (texts words.now)) (S.left source.old) result ran (O.taken out.old) (O.taken out.new) }
     ensures complete { ¬ Rose (S.faults source.old) (S.faults source.new) → ¬ Rose (O.faults out.old) (O.faults out.new)
         → IfSome (input_of (query_of (texts words.now)) (S.left source.old)) (λ bytes. (result ≡ NO_MEMORY) ⊎ IsStatus (query_of (texts words.now)) bytes result) }
-    ensures unread { ReadsNothing (query_of (texts words.now)) → source.new ≡ source.old }
+    ensures unread { ReadsNothing (query_of (texts words.now)) → (source.new ≡ source.old) × (result ≢ READ_FAULT) }
     ensures line { (result ≢ TABLE) → (said : List ℕ) × IsLine (query_of (texts words.now)) (S.left source.old) result said
         × IsSaid (E.taken err.old) (E.taken err.new) (E.faults err.old) (E.faults err.new) said }
 {

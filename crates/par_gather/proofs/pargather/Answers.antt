@@ -1,12 +1,12 @@
-use Rattle.std.proofs.Common.{◌≡◌, ◌≢◌, ◌⊎◌, ℕ, List, IfSome, subst}
+use Rattle.std.proofs.Common.{◌≡◌, ◌≢◌, ◌⊎◌, ℕ, List, IfSome, refl, subst}
 use Rattle.query_answer.specs.Lines.{IsSaid}
 use Rattle.query_answer.specs.Words.{texts}
-use Rattle.query_answer.specs.declared.status.TheConstants.{NO_MEMORY, TABLE}
+use Rattle.query_answer.specs.declared.status.TheConstants.{NO_MEMORY, READ_FAULT, TABLE}
 use Rattle.par_gather.specs.Answers.{Answers, IsLine, IsStatus}
 use Rattle.par_gather.specs.Query.{ReadsNothing, form_of, input_of, query_in}
 use Rattle.par_gather.specs.declared.form.Form.{Form}
 use Rattle.par_gather.specs.declared.form.Form.TheVariants as form
-use Rattle.par_gather.proofs.Complete.{complete}
+use Rattle.par_gather.proofs.Complete.{complete, misused}
 use Rattle.par_gather.proofs.pargather.Goals as goal
 
 pub returns-in-Plan-clause-answers : goal.returns-in-Plan-clause-answers
@@ -39,8 +39,8 @@ pub returns-in-Plan-clause-unread : goal.returns-in-Plan-clause-unread
 returns-in-Plan-clause-unread g c =
     let words = texts c.args.words.now in
     let at : form.Plan ≡ form_of words = cc (c.form_of.ensures, c.in-Plan.is) in
-    let P : Form → Type 0 = λ f. ReadsNothing (query_in f words) → c.in_plan.new.source ≡ c.args.source.now in
-    subst P at c.in_plan.ensures.unread
+    let P : Form → Type 0 = λ f. ReadsNothing (query_in f words) → (c.in_plan.new.source ≡ c.args.source.now) × (c.in_plan.result ≢ READ_FAULT) in
+    subst P at (λ none. (c.in_plan.ensures.unread none, misused (query_in form.Plan words) c.in_plan.result (c.in_plan.ensures.answers.misuse none)))
 
 pub returns-in-Merge-clause-answers : goal.returns-in-Merge-clause-answers
 returns-in-Merge-clause-answers g c =
@@ -72,8 +72,8 @@ pub returns-in-Merge-clause-unread : goal.returns-in-Merge-clause-unread
 returns-in-Merge-clause-unread g c =
     let words = texts c.args.words.now in
     let at : form.Merge ≡ form_of words = cc (c.form_of.ensures, c.in-Merge.is) in
-    let P : Form → Type 0 = λ f. ReadsNothing (query_in f words) → c.in_merge.new.source ≡ c.args.source.now in
-    subst P at c.in_merge.ensures.unread
+    let P : Form → Type 0 = λ f. ReadsNothing (query_in f words) → (c.in_merge.new.source ≡ c.args.source.now) × (c.in_merge.result ≢ READ_FAULT) in
+    subst P at (λ none. (c.in_merge.ensures.unread none, misused (query_in form.Merge words) c.in_merge.result (c.in_merge.ensures.answers.misuse none)))
 
 pub returns-in-Join-clause-answers : goal.returns-in-Join-clause-answers
 returns-in-Join-clause-answers g c =
@@ -105,8 +105,8 @@ pub returns-in-Join-clause-unread : goal.returns-in-Join-clause-unread
 returns-in-Join-clause-unread g c =
     let words = texts c.args.words.now in
     let at : form.Join ≡ form_of words = cc (c.form_of.ensures, c.in-Join.is) in
-    let P : Form → Type 0 = λ f. ReadsNothing (query_in f words) → c.in_join.new.source ≡ c.args.source.now in
-    subst P at c.in_join.ensures.unread
+    let P : Form → Type 0 = λ f. ReadsNothing (query_in f words) → (c.in_join.new.source ≡ c.args.source.now) × (c.in_join.result ≢ READ_FAULT) in
+    subst P at (λ none. (c.in_join.ensures.unread none, misused (query_in form.Join words) c.in_join.result (c.in_join.ensures.answers.misuse none)))
 
 pub returns-in-Gen-clause-answers : goal.returns-in-Gen-clause-answers
 returns-in-Gen-clause-answers g c =
@@ -133,3 +133,6 @@ returns-in-Gen-clause-line g c =
     let P : Form → Type 0 = λ f. (c.in_gen.result ≢ TABLE) → (said : List ℕ) × IsLine (query_in f words) left c.in_gen.result said
     × IsSaid (g.E.Sink.taken c.args.err.now) (g.E.Sink.taken c.in_gen.new.err) (g.E.Sink.faults c.args.err.now) (g.E.Sink.faults c.in_gen.new.err) said in
     subst P at (λ failed. c.in_gen.ensures.line failed left)
+
+pub returns-in-Gen-clause-unread : goal.returns-in-Gen-clause-unread
+returns-in-Gen-clause-unread g c = λ _. (refl, c.in_gen.ensures.no_read_fault)
