@@ -6,12 +6,13 @@ pub enum SendAnswer {
     /// The message is on the ring.
     Sent,
     /// The ring is full; that many words of the frame, its length word too, are on it. Call again with the same
-    /// message.
+    /// message. Of a whole send: the ring has too little room, and as many words of the frame are on it as before,
+    /// mostly none; then any message may follow.
     WouldBlock { stored: u64 },
     /// The receiver has detached. Nothing was stored.
     Detached,
-    /// The message, of this length in bytes, is longer than the queue takes, or for a whole send than the ring can hold.
-    /// Nothing was done.
+    /// The message, of this length in bytes, is longer than the queue takes; of a whole send also: its frame is longer
+    /// than the ring. Nothing was done.
     TooLong { length: u64 },
 }
 

@@ -84,10 +84,11 @@ impl Sender {
 
     /// Puts the message on the ring if there is room for all of it, and nothing of it otherwise. A message is too long
     /// not only if the queue takes none so long, but also if an empty ring has no room for its frame, one word and a
-    /// word for each eight bytes: it could never be put whole. If no room is known, what was put before is published, so
-    /// that the receiver can make room, and the read count is looked at once. After WouldBlock any message may follow,
-    /// unless `try_send` had stored a part of one: then, as there, the message has to be that one, and what is left of
-    /// its frame is stored or not. It costs as much as `try_send`, takes no memory and keeps nothing of `message`.
+    /// word for each eight bytes: it could never be put whole. If too little room is known, what was put before is
+    /// published, so that the receiver can make room, and the read count is looked at once. After WouldBlock any
+    /// message may follow, unless `try_send` had stored a part of one: then, as there, the message has to be that one,
+    /// and what is left of its frame is stored or not. It costs as much as `try_send`, takes no memory and keeps
+    /// nothing of `message`.
     pub fn try_send_whole(&mut self, r: &Region, message: &[u8], flush: bool) -> SendAnswer
         requires here { self.old.region ≡ r.now }
         requires stays { self.old.end.gone ≡ false }

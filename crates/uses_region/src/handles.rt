@@ -101,8 +101,8 @@ fn longer_than_the_ring(r: &Region, s: &mut Sender, q: &mut Receiver) -> bool
     q.try_receive(r) == ReceiveAnswer::Message && q.message().is_empty()
 }
 
-/// A ring of four words: a message that has no room is left out, and goes when the receiver has made room; one whose frame
-/// is longer than the ring never does.
+/// A ring of four words: a message that has no room is left out, and goes when the receiver has made room; one whose
+/// frame is longer than the ring never does.
 fn whole_or_not(r: &Region, s: &mut Sender, q: &mut Receiver) -> bool
     requires here { (s.old.region ≡ r.now) × (q.old.region ≡ r.now) }
     requires stays { (s.old.end.gone ≡ false) × (q.old.end.gone ≡ false) }
