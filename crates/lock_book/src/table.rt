@@ -28,11 +28,17 @@ use atomic_table::{Join, Play, Seat, Split, Table, TableRule};
 use std::alloc::Global;
 use std::collections::LinkedList;
 
-/// A locked value, with the input and the output of its last turn, which take no bytes.
+/// What the last turn at a value was: its input and its output, and None before the first. It is how the store that gives
+/// a value back learns which call it adds to the history, since a step on a word is told numbers only, and sees the slot.
+/// Whoever has the value writes it, as it applies its call; the step `Give` reads the call and the reply off it
+/// (`made_of`), and nothing else does. Only clauses read what is in it, so both parts have no bytes.
+pub type LastTurn<I, O> = Option<(Noted<I>, Noted<O>)>;
+
+/// A locked value, with its last turn.
 #[derive(Drop)]
 pub struct Slot<T, I, O> {
     pub value: T,
-    pub made: Option<(Noted<I>, Noted<O>)>,
+    pub made: LastTurn<I, O>,
 }
 
 /// The slot of a kept type.
