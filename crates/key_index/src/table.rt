@@ -89,14 +89,6 @@ impl KeyTable {
         self.find_hashed(hash_of(key), NO_GUESS, key)
     }
 
-    /// The same, where the key may be expected at a place that [`KeyTable::guess`] gave.
-    pub fn find_at(&self, guess: usize, key: &[u8]) -> Option<usize>
-        ensures found { IfSome result (λ place. slice_get self.now place ≡ Some key.now) }
-        ensures absent { IfNone result ((place : ℕ) → slice_get self.now place ≡ Some key.now → ⊥) }
-    {
-        self.find_hashed(hash_of(key), guess, key)
-    }
-
     /// The same for a caller that has the key's hash, by [`hash_of`], and may expect the key at a place that
     /// [`KeyTable::guess`] gave: there it is looked for first.
     pub fn find_hashed(&self, hash: u64, guess: usize, key: &[u8]) -> Option<usize>

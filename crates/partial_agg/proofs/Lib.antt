@@ -16,3 +16,4 @@ pub mod Adding
 pub mod AnyOrder
 pub mod Joining
 pub mod Rest
+pub mod Fitting

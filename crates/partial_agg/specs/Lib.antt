@@ -6,5 +6,7 @@ pub mod Status
 pub mod Listed
 pub mod Placed
 pub mod Lanes
+pub mod Items
+pub mod Fitting
 pub mod Blocks
 pub mod Laws

@@ -6,12 +6,14 @@
 //! slots what it is by these. Whether a state is told by its lanes is tested, so that no layout can be wrong: a layout
 //! that is badly chosen costs a new one.
 
-ghost use Rattle.std.specs.Prelude.{◌≡◌, ◌<◌, ◌≤◌, ◌↔◌, IsTrue, None, drop, get_or, length, take};
+ghost use Rattle.std.specs.Prelude.{◌≡◌, ◌<◌, ◌≤◌, ◌↔◌, ℕ, List, IsTrue, None, false, drop, get_or, length, slice_get, take};
 ghost use Rattle.par_model.specs.Aggregate.{no_values};
+ghost use Rattle.par_model.specs.Refuse.{reads_integers};
+ghost use Rattle.partial_agg.specs.Items.{is_item_unreadable, item_value, items_state};
 ghost use Rattle.partial_agg.specs.State.{without_integers};
 ghost use Rattle.partial_agg.specs.Values.{slot_of_value, values_state};
 
-use par_model::{NO_VALUES, SlotState};
+use par_model::{Item, ItemKind, NO_VALUES, SlotState};
 
 /// What a slot is by the lanes of its state.
 #[derive(Clone, Copy, PartialEq, Eq)]
@@ -51,6 +53,7 @@ pub(crate) struct Layout {
 }
 
 impl Layout {
+    ghost use Rattle.partial_agg.specs.Fitting.{AreLanesReadable, FitsItems, IsToldItem};
     ghost use Rattle.partial_agg.specs.Lanes.{Fits, IsWide, lanes_of, slot_in, slots_in};
 
     /// The layout of states that have no values.
@@ -177,6 +180,43 @@ impl Layout {
             }
         }
         true
+    }
+
+    /// Whether the slots of each row of these items are told by their lanes, whatever its values are: each item takes the
+    /// value that the item of its lane takes, or counts it. Such a row can be read by its lanes alone.
+    pub(crate) fn fits_items(&self, items: &[Item]) -> bool
+        requires { length items.now ≤ 8 }
+        ensures { IsTrue result → FitsItems self.now items.now }
+    {
+        for at in 0..8 {
+            if !self.tells_item(items, self.parts[at], item_at(items, at)) {
+                return false;
+            }
+        }
+        true
+    }
+
+    /// Whether an item's value is what it has to be by the lanes of each row of these items that has readable lanes.
+    fn tells_item(&self, items: &[Item], part: SlotPart, item: Option<Item>) -> bool
+        ensures { IsTrue result → (row : List (List ℕ)) → AreLanesReadable self.now items.now row → IsToldItem self.now items.now row part item }
+    {
+        match part {
+            SlotPart::Empty => takes_nothing(item),
+            SlotPart::Count(lane) => is_count_of(item, self.item_of(items, lane)),
+            SlotPart::Whole(lane) => takes_same(item, self.item_of(items, lane)),
+        }
+    }
+
+    /// The item of a lane, if it has one.
+    fn item_of(&self, items: &[Item], lane: usize) -> Option<Item>
+        ensures value { (row : List (List ℕ)) → slot_of_value (item_value row result) ≡ get_or (lanes_of self.now (items_state row items.now).slots) lane no_values }
+        ensures readable { (row : List (List ℕ)) → AreLanesReadable self.now items.now row → is_item_unreadable row result ≡ false }
+    {
+        if lane < self.width {
+            item_at(items, self.kept[lane])
+        } else {
+            None
+        }
     }
 
     /// Whether a value's slot is what it has to be by the lanes of the row that has these values.
@@ -310,6 +350,67 @@ pub(crate) fn value_at(values: &[Option<i64>], at: usize) -> Option<i64>
     ensures { result ≡ get_or values.now at None }
 {
     if at < values.len() { values[at] } else { None }
+}
+
+/// The item at a place, or none past the end.
+pub(crate) fn item_at(items: &[Item], at: usize) -> Option<Item>
+    ensures { result ≡ slice_get items.now at }
+{
+    if at < items.len() {
+        Some(items[at])
+    } else {
+        None
+    }
+}
+
+/// Whether no row has a value of an item.
+fn takes_nothing(item: Option<Item>) -> bool
+    ensures { IsTrue result → (row : List (List ℕ)) → (item_value row item ≡ None) × (is_item_unreadable row item ≡ false) }
+{
+    match item {
+        None => true,
+        Some(item) => item.kind == ItemKind::Rows,
+    }
+}
+
+/// Whether two items take the same value of each row.
+fn takes_same(item: Option<Item>, other: Option<Item>) -> bool
+    ensures { IsTrue result → (row : List (List ℕ)) → (item_value row item ≡ item_value row other) × (is_item_unreadable row item ≡ is_item_unreadable row other) }
+{
+    match (item, other) {
+        (None, None) => true,
+        (Some(item), Some(other)) => {
+            item.column == other.column
+                && (item.kind == other.kind
+                    || takes_integers(item.kind) && takes_integers(other.kind))
+        }
+        _ => false,
+    }
+}
+
+/// Whether an item only counts the integers that another takes.
+fn is_count_of(item: Option<Item>, other: Option<Item>) -> bool
+    ensures { IsTrue result → (row : List (List ℕ)) → is_item_unreadable row other ≡ false
+        → (slot_of_value (item_value row item) ≡ without_integers (slot_of_value (item_value row other))) × (is_item_unreadable row item ≡ false) }
+{
+    match (item, other) {
+        (Some(item), Some(other)) => {
+            item.column == other.column
+                && item.kind == ItemKind::Count
+                && takes_integers(other.kind)
+        }
+        _ => false,
+    }
+}
+
+/// Whether an aggregate takes a column's integers.
+fn takes_integers(kind: ItemKind) -> bool
+    ensures { result ≡ reads_integers kind }
+{
+    match kind {
+        ItemKind::Rows | ItemKind::Count => false,
+        ItemKind::Sum | ItemKind::Min | ItemKind::Max | ItemKind::Avg => true,
+    }
 }
 
 /// A slot's count, without its integers.

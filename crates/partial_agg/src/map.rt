@@ -9,9 +9,11 @@
 //! left. A key that comes again after that gets its old place back. While no key was taken, each key that is found is
 //! in the map.
 
-ghost use Rattle.std.specs.Prelude.{◌≡◌, ◌<◌, ◌≤◌, ◌+◌, ◌*◌, ◌^◌, ◌∷◌, ◌++◌, ◌↔◌, [], ℕ, List, Contains, IsTrue, true, false, IfOk, IfErr, IfSome, IfNone, OnOk, OnErr, None, Some, All, length, map as map_list, reverse};
+ghost use Rattle.std.specs.Prelude.{◌≡◌, ◌<◌, ◌≤◌, ◌+◌, ◌*◌, ◌^◌, ◌∷◌, ◌++◌, ◌↔◌, [], ℕ, List, Contains, IsTrue, true, false, IfOk, IfErr, IfSome, IfNone, OnOk, OnErr, None, Some, All, get_or, length, map as map_list, reverse, set, take};
 ghost use Rattle.std.specs.FinMap as map;
+ghost use Rattle.std.specs.List.{position_from};
 ghost use Rattle.std.specs.List.Sorted.{IsPermutation, IsSorted};
+ghost use Rattle.key_index.specs.Index.{hash as key_hash};
 ghost use Rattle.key_index.specs.Keys.{key_at, key_cmp};
 ghost use Rattle.csv_rows.specs.Records.{record_at};
 ghost use Rattle.par_model.specs.Plan.{Plan};
@@ -20,12 +22,15 @@ ghost use Rattle.par_model.specs.declared.refusal.TheConstants.{LONGEST_KEY};
 ghost use Rattle.partial_agg.specs.Blocks.{ExplainsRow, Stopped};
 ghost use Rattle.partial_agg.specs.Groups.{AreGroups, added, with_rows};
 ghost use Rattle.partial_agg.specs.Listed.{listed};
-ghost use Rattle.partial_agg.specs.Values.{values_state};
-ghost use Rattle.partial_agg.specs.Status.{IsKeptBy};
+ghost use Rattle.par_model.specs.Refuse.{is_unreadable};
+ghost use Rattle.partial_agg.specs.Items.{items_state};
+ghost use Rattle.partial_agg.specs.State.{combined, empty_state};
+ghost use Rattle.partial_agg.specs.Values.{value_of};
+ghost use Rattle.partial_agg.specs.Status.{AreHashed, IsHashOf, IsKeptBy};
 ghost use Rattle.partial_agg.specs.Rows.{IsAccepted, header_width};
 ghost use Rattle.row_blocks.specs.Blocks.{block_rows};
 
-use crate::ahead::guess_places;
+use crate::ahead::{Clue, Clues, NO_GUESS, clue_at, clue_or_hash, look_ahead};
 use crate::groups::Groups;
 use crate::key::GroupKey;
 use crate::lent::LentGroups;
@@ -33,7 +38,7 @@ use crate::row::{RowBuffer, RowStatus, read_values};
 use crate::state::one_row;
 use crate::states::StateList;
 use csv_rows::{NearRows, Record, RowStore};
-use key_index::KeyTable;
+use key_index::{KeyTable, hash_of};
 use par_model::{AggState, BoundPlan, ITEM_CAUSE};
 use row_blocks::BLOCK_ROWS;
 use std::alloc::{AllocError, Global};
@@ -105,7 +110,8 @@ impl GroupMap {
         ensures ok { OnOk result (self.new ≡ added self.old key state.now) }
         ensures err { OnErr result (self.new ≡ self.old) }
     {
-        self.add_state(key.bytes(), state)
+        let key = key.bytes();
+        self.add_state(hash_of(key), key, state)
     }
 
     /// The same under the key of these bytes, which are copied only where the key is new.
@@ -114,7 +120,7 @@ impl GroupMap {
         ensures ok { OnOk result (self.new ≡ added self.old key.now state.now) }
         ensures err { OnErr result (self.new ≡ self.old) }
     {
-        self.add_state(key, state)
+        self.add_state(hash_of(key), key, state)
     }
 
     /// The groups where they lie, in no order that is told. Takes no memory.
@@ -199,12 +205,12 @@ impl GroupMap {
         let count = (last - first + 1).min(BLOCK_ROWS);
         let near = rows.near(first);
         let width = rows.width(0);
-        let guesses = self.guess_places(&near, first, count, width, plan);
+        let clues = self.look_ahead(&near, first, count, width, plan);
         let mut buffer = RowBuffer::new();
         for at in 0..count {
             let number = first + at;
-            let guess = guesses[at as usize];
-            match self.add_read(&mut buffer, guess, number, &near.find(number), width, plan) {
+            let clue = clue_at(&clues, at);
+            match self.add_read(&mut buffer, clue, number, &near.find(number), width, plan) {
                 Ok(()) => {}
                 Err(answer) => return Err(answer),
             }
@@ -212,33 +218,38 @@ impl GroupMap {
         Ok(())
     }
 
-    /// Guesses at the places of the keys of this many rows.
-    fn guess_places(
-        &self,
+    /// Sees to what is done once for this many rows: the look-ahead, and whether the states fit the plan's rows.
+    fn look_ahead(
+        &mut self,
         rows: &NearRows<'_>,
         first: u64,
         count: u64,
         width: u32,
         plan: &BoundPlan,
-    ) -> [usize; 256]
+    ) -> Option<Clues>
         requires rows { first + count ≤ length rows.now }
         requires fits { first + count < 2 ^ 64 }
+        requires few { count ≤ 256 }
         requires columns { HasColumns plan.now width }
+        ensures same { self.new ≡ self.old }
+        ensures hashed { IfSome result (λ clues. AreHashed plan.now width rows.now first count clues.hashes) }
     {
-        guess_places(&self.keys, &self.states, rows, first, count, width, plan)
+        self.states.fit(plan.items());
+        look_ahead(&self.keys, &self.states, rows, first, count, width, plan)
     }
 
-    /// Reads a row, whose key may be expected at a place, and adds it if it is kept.
+    /// Reads a row, to whose key there may be a clue, and adds it if it is kept.
     fn add_read(
         &mut self,
         buffer: &mut RowBuffer,
-        guess: usize,
+        clue: Option<Clue>,
         number: u64,
         row: &Record<'_>,
         width: u32,
         plan: &BoundPlan,
     ) -> Result<(), BlockAnswer>
-        requires { HasColumns plan.now width }
+        requires columns { HasColumns plan.now width }
+        requires hashed { IfSome clue (λ clue. IsHashOf plan.now width row.now clue.hash) }
         ensures added { OnOk result (self.new ≡ with_rows plan.now self.old (row.now ∷ [])) }
         ensures accepted { OnOk result (IsAccepted plan.now width row.now) }
         ensures stopped { IfErr result (ExplainsRow plan.now width row.now number) }
@@ -251,16 +262,19 @@ impl GroupMap {
                 item: refusal.item,
             }),
             RowStatus::LeftOut => Ok(()),
-            RowStatus::Kept => self.add_kept(buffer, guess, number, row, width, plan),
+            RowStatus::Kept => {
+                let clue = clue_or_hash(clue, buffer.key.bytes());
+                self.add_kept(buffer, clue, number, row, width, plan)
+            }
         }
     }
 
-    /// Reads the values of a row whose key is read, and adds it. The key is looked for first, so that what this waits
-    /// for comes while the values are parsed.
+    /// Adds a row whose key is read and hashed. A row of a group that is there is mostly read by the lanes of its state
+    /// alone.
     fn add_kept(
         &mut self,
         buffer: &mut RowBuffer,
-        guess: usize,
+        clue: Clue,
         number: u64,
         row: &Record<'_>,
         width: u32,
@@ -268,31 +282,47 @@ impl GroupMap {
     ) -> Result<(), BlockAnswer>
         requires columns { HasColumns plan.now width }
         requires kept { IsKeptBy plan.now width row.now buffer.old.key }
+        requires hashed { clue.hash ≡ key_hash buffer.old.key }
         ensures added { OnOk result (self.new ≡ with_rows plan.now self.old (row.now ∷ [])) }
         ensures accepted { OnOk result (IsAccepted plan.now width row.now) }
         ensures stopped { IfErr result (ExplainsRow plan.now width row.now number) }
         ensures err { OnErr result (self.new ≡ self.old) }
     {
-        let known = self.keys.find_at(guess, buffer.key.bytes());
-        let items = plan.items();
-        match read_values(&mut buffer.values, row, items) {
-            Ok(()) => {}
-            Err(item) => return Err(BlockAnswer::Row {
-                row: number,
-                cause: ITEM_CAUSE,
-                item,
-            }),
-        }
-        let values = &buffer.values[..items.len()];
-        if let Some(place) = known {
-            if self.whole {
-                match self.states.add_values(place, values) {
-                    Ok(()) => return Ok(()),
-                    Err(AllocError) => return Err(BlockAnswer::Memory),
-                }
+        match self
+            .keys
+            .find_hashed(clue.hash, clue.guess, buffer.key.bytes())
+        {
+            Some(place) if self.whole => {
+                add_to_known(&mut self.states, place, buffer, number, row, width, plan)
             }
+            _ => self.add_other(buffer, clue.hash, number, row, width, plan),
         }
-        match self.add_state(buffer.key.bytes(), &one_row(values)) {
+    }
+
+    /// The same for a row of a group that may not be there.
+    fn add_other(
+        &mut self,
+        buffer: &mut RowBuffer,
+        hash: u64,
+        number: u64,
+        row: &Record<'_>,
+        width: u32,
+        plan: &BoundPlan,
+    ) -> Result<(), BlockAnswer>
+        requires columns { HasColumns plan.now width }
+        requires kept { IsKeptBy plan.now width row.now buffer.old.key }
+        requires hashed { hash ≡ key_hash buffer.old.key }
+        ensures added { OnOk result (self.new ≡ with_rows plan.now self.old (row.now ∷ [])) }
+        ensures accepted { OnOk result (IsAccepted plan.now width row.now) }
+        ensures stopped { IfErr result (ExplainsRow plan.now width row.now number) }
+        ensures err { OnErr result (self.new ≡ self.old) }
+    {
+        match read_kept(buffer, number, row, width, plan) {
+            Ok(()) => {}
+            Err(answer) => return Err(answer),
+        }
+        let state = one_row(&buffer.values[..plan.items().len()]);
+        match self.add_state(hash, buffer.key.bytes(), &state) {
             Ok(()) => Ok(()),
             Err(AllocError) => Err(BlockAnswer::Memory),
         }
@@ -300,12 +330,13 @@ impl GroupMap {
 
     /// Adds a state under a key.
     #[inline(never)]
-    fn add_state(&mut self, key: &[u8], state: &AggState) -> Result<(), AllocError>
-        requires { length key.now ≤ LONGEST_KEY }
+    fn add_state(&mut self, hash: u64, key: &[u8], state: &AggState) -> Result<(), AllocError>
+        requires short { length key.now ≤ LONGEST_KEY }
+        requires hashed { hash ≡ key_hash key.now }
         ensures ok { OnOk result (self.new ≡ added self.old key.now state.now) }
         ensures err { OnErr result (self.new ≡ self.old) }
     {
-        match self.keys.find(key) {
+        match self.keys.find_hashed(hash, NO_GUESS, key) {
             Some(place) => {
                 if self.whole || is_left(self.left.as_slice(), place) {
                     self.states.combine(place, state)?;
@@ -321,7 +352,7 @@ impl GroupMap {
                 let place = self.states.len();
                 self.left.reserve(1)?;
                 self.states.push(state)?;
-                match self.keys.push(self.alloc, key) {
+                match self.keys.push_hashed(self.alloc, hash, key) {
                     Ok(()) => {}
                     Err(AllocError) => {
                         self.states.truncate(place);
@@ -333,6 +364,63 @@ impl GroupMap {
                 Ok(())
             }
         }
+    }
+}
+
+/// Reads the values of a row that is kept. A refusal names the row by this number.
+fn read_kept(
+    buffer: &mut RowBuffer,
+    number: u64,
+    row: &Record<'_>,
+    width: u32,
+    plan: &BoundPlan,
+) -> Result<(), BlockAnswer>
+    requires columns { HasColumns plan.now width }
+    requires kept { IsKeptBy plan.now width row.now buffer.old.key }
+    ensures key { buffer.new.key ≡ buffer.old.key }
+    ensures values { OnOk result (take (length plan.now.items) buffer.new.values ≡ map_list (value_of row.now) plan.now.items) }
+    ensures readable { OnOk result (position_from (is_unreadable row.now) 0 plan.now.items ≡ None) }
+    ensures stopped { IfErr result (ExplainsRow plan.now width row.now number) }
+{
+    match read_values(&mut buffer.values, row, plan.items()) {
+        Ok(()) => Ok(()),
+        Err(item) => Err(BlockAnswer::Row {
+            row: number,
+            cause: ITEM_CAUSE,
+            item,
+        }),
+    }
+}
+
+/// Adds a row that is kept to the state at a place: mostly by the lanes of the state alone, else by the values of all
+/// aggregates.
+fn add_to_known(
+    states: &mut StateList,
+    place: usize,
+    buffer: &mut RowBuffer,
+    number: u64,
+    row: &Record<'_>,
+    width: u32,
+    plan: &BoundPlan,
+) -> Result<(), BlockAnswer>
+    requires place { place < length states.old }
+    requires columns { HasColumns plan.now width }
+    requires kept { IsKeptBy plan.now width row.now buffer.old.key }
+    ensures added { OnOk result (states.new ≡ set states.old place (combined (get_or states.old place empty_state) (items_state row.now plan.now.items))) }
+    ensures readable { OnOk result (position_from (is_unreadable row.now) 0 plan.now.items ≡ None) }
+    ensures stopped { IfErr result (ExplainsRow plan.now width row.now number) }
+    ensures err { OnErr result (states.new ≡ states.old) }
+{
+    if states.add_row(place, row, plan.items()) {
+        return Ok(());
+    }
+    match read_kept(buffer, number, row, width, plan) {
+        Ok(()) => {}
+        Err(answer) => return Err(answer),
+    }
+    match states.add_values(place, &buffer.values[..plan.items().len()]) {
+        Ok(()) => Ok(()),
+        Err(AllocError) => Err(BlockAnswer::Memory),
     }
 }
 

@@ -6,15 +6,27 @@
 //! its first values or its first integers, or differs for the first time from another: a few dozen times to a list at
 //! most, and mostly within its first rows. A layout that is chosen from the states themselves needs no plan, so the
 //! states that a leader receives lie as those of its own rows.
+//!
+//! Whether the layout fits the rows of a plan, whatever their values, is found once for a block of rows (`fit`). A row of
+//! such a plan is then added by the columns of its lanes alone, with no test of its own.
 
-ghost use Rattle.std.specs.Prelude.{◌≡◌, ◌<◌, ◌≤◌, ◌+◌, ◌*◌, ◌++◌, ◌∷◌, [], IfOk, IfSome, None, OnErr, OnOk, Some, drop, get_or, length, set, slice_get, take};
+ghost use Rattle.std.specs.Prelude.{◌≡◌, ◌<◌, ◌≤◌, ◌+◌, ◌*◌, ◌++◌, ◌∷◌, [], All, IfOk, IfSome, IsTrue, None, OnErr, OnOk, Some, drop, get_or, length, map, set, slice_get, take};
+ghost use Rattle.std.specs.Bool.{OnFalse, OnTrue};
+ghost use Rattle.std.specs.List.{position_from};
+ghost use Rattle.par_model.specs.Columns.{reads_column};
+ghost use Rattle.par_model.specs.Refuse.{is_unreadable};
+ghost use Rattle.partial_agg.specs.Fitting.{FitsItems, IsFitted};
+ghost use Rattle.partial_agg.specs.Items.{items_state};
 ghost use Rattle.partial_agg.specs.Lanes.{Fits, IsWide, lanes_of, states_in, with_lanes};
 ghost use Rattle.partial_agg.specs.State.{combined, combined_slots, empty_state};
-ghost use Rattle.partial_agg.specs.Values.{values_state};
+ghost use Rattle.partial_agg.specs.Values.{slot_of_value, values_state};
+ghost use Rattle.partial_agg.specs.declared.layout.Layout.{Layout};
 
 use crate::layout::{Layout, value_at};
+use crate::row::read_some;
 use crate::state::{add_to_slot, combine_slots, one_row};
-use par_model::{AggState, SlotState};
+use csv_rows::Record;
+use par_model::{AggState, Item, SlotState};
 use std::alloc::{AllocError, Global};
 use std::marker::Model;
 
@@ -22,6 +34,8 @@ use std::marker::Model;
 #[derive(Drop)]
 pub(crate) struct StateList {
     layout: Layout,
+    /// Items of which the layout fits each row, if any are known.
+    fitted: Option<Vec<Item>>,
     /// The number of rows of each state.
     rows: Vec<u64>,
     /// The lanes of the states, those of one after the other.
@@ -30,15 +44,16 @@ pub(crate) struct StateList {
 }
 
 impl Model for StateList {
-    ghost use Rattle.std.specs.Prelude.{◌≡◌, ◌*◌, List, length};
+    ghost use Rattle.std.specs.Prelude.{List};
     ghost use Rattle.par_model.specs.declared.state.AggState.{AggState};
+    ghost use Rattle.partial_agg.specs.Fitting.{AreLaid};
     ghost use Rattle.partial_agg.specs.Lanes.{states_in};
 
     ghost Value = { List AggState };
 
     ghost view = { λ s. states_in s.layout s.rows.items s.lanes.items };
 
-    ghost invariant = { λ s. length s.lanes.items ≡ length s.rows.items * s.layout.width };
+    ghost invariant = { λ s. AreLaid s.layout s.fitted s.rows.items s.lanes.items };
 }
 
 impl StateList {
@@ -48,6 +63,7 @@ impl StateList {
     {
         StateList {
             layout: Layout::none(),
+            fitted: None,
             rows: Vec::new(alloc),
             lanes: Vec::new(alloc),
             alloc,
@@ -104,6 +120,7 @@ impl StateList {
         make_fit(
             self.alloc,
             &mut self.layout,
+            &mut self.fitted,
             &self.rows,
             &mut self.lanes,
             &state.slots,
@@ -133,6 +150,7 @@ impl StateList {
         make_fit(
             self.alloc,
             &mut self.layout,
+            &mut self.fitted,
             &self.rows,
             &mut self.lanes,
             &state.slots,
@@ -153,6 +171,7 @@ impl StateList {
         make_fit(
             self.alloc,
             &mut self.layout,
+            &mut self.fitted,
             &self.rows,
             &mut self.lanes,
             &state.slots,
@@ -162,6 +181,43 @@ impl StateList {
         combine_lanes(&mut self.lanes, at * width, &lanes[..width]);
         self.rows[at] = self.rows[at].wrapping_add(state.rows);
         Ok(())
+    }
+
+    /// Makes rows of these items known to [`StateList::add_row`], if the layout fits each of them. It is done once for
+    /// many rows.
+    pub(crate) fn fit(&mut self, items: &[Item])
+        requires { length items.now ≤ 8 }
+        ensures { self.new ≡ self.old }
+    {
+        if is_known(&self.fitted, items) {
+            return;
+        }
+        if self.layout.fits_items(items) {
+            if let Ok(fitted) = Vec::from_slice(self.alloc, items) {
+                self.fitted = Some(fitted);
+            }
+        }
+    }
+
+    /// Adds a row to the state at a place, if rows of these items are known to fit, and each can read its field; says
+    /// whether it did. Only the columns of the lanes are read.
+    pub(crate) fn add_row(&mut self, at: usize, row: &Record<'_>, items: &[Item]) -> bool
+        requires place { at < length self.old }
+        requires columns { All (λ item. IsTrue (reads_column item.kind) → item.column < length row.now) items.now }
+        ensures added { OnTrue result (self.new ≡ set self.old at (combined (get_or self.old at empty_state) (items_state row.now items.now))) }
+        ensures readable { OnTrue result (position_from (is_unreadable row.now) 0 items.now ≡ None) }
+        ensures unchanged { OnFalse result (self.new ≡ self.old) }
+    {
+        let mut values = [None; 8];
+        if !is_known(&self.fitted, items)
+            || !read_some(&mut values, row, items, self.layout.kept())
+        {
+            return false;
+        }
+        let width = self.layout.width();
+        add_each(&mut self.lanes, at * width, &values[..width]);
+        self.rows[at] = self.rows[at].wrapping_add(1);
+        true
     }
 
     /// Adds the row that has these values to the state at a place.
@@ -178,6 +234,55 @@ impl StateList {
         add_values(&mut self.lanes, first, &self.layout, values);
         self.rows[at] = self.rows[at].wrapping_add(1);
         Ok(())
+    }
+}
+
+/// Whether these are the items that are known to fit.
+fn is_known(fitted: &Option<Vec<Item>>, items: &[Item]) -> bool
+    ensures { (layout : Layout) → IsFitted layout fitted.now → IsTrue result → FitsItems layout items.now }
+{
+    match fitted {
+        Some(fitted) => same_items(fitted.as_slice(), items),
+        None => false,
+    }
+}
+
+/// Whether two lists have the same items.
+fn same_items(a: &[Item], b: &[Item]) -> bool
+    ensures { IsTrue result → a.now ≡ b.now }
+{
+    if a.len() != b.len() {
+        return false;
+    }
+    for (at, item) in a.iter().enumerate() {
+        if !is_same(*item, b[at]) {
+            return false;
+        }
+    }
+    true
+}
+
+fn is_same(a: Item, b: Item) -> bool
+    ensures { IsTrue result → a ≡ b }
+{
+    a == b
+}
+
+/// Adds values to as many lanes from a place on, one to each.
+fn add_each(lanes: &mut [SlotState], first: usize, values: &[Option<i64>])
+    requires { first + length values.now ≤ length lanes.old }
+    ensures { lanes.new ≡ with_lanes lanes.old first (combined_slots (take (length values.now) (drop first lanes.old)) (map slot_of_value values.now)) }
+{
+    add_to_each(&mut lanes[first..first + values.len()], values);
+}
+
+/// Adds a value to each lane.
+fn add_to_each(lanes: &mut [SlotState], values: &[Option<i64>])
+    requires { length lanes.old ≡ length values.now }
+    ensures { lanes.new ≡ combined_slots lanes.old (map slot_of_value values.now) }
+{
+    for lane in 0..lanes.len() {
+        add_to_slot(&mut lanes[lane], values[lane]);
     }
 }
 
@@ -228,6 +333,7 @@ fn add_to_lanes(lanes: &mut [SlotState], layout: &Layout, values: &[Option<i64>]
 fn make_fit(
     alloc: Global,
     layout: &mut Layout,
+    fitted: &mut Option<Vec<Item>>,
     rows: &[u64],
     lanes: &mut Vec<SlotState>,
     slots: &[SlotState; 8],
@@ -236,6 +342,7 @@ fn make_fit(
     ensures fits { OnOk result (Fits layout.new slots.now) }
     ensures whole { length lanes.new.items ≡ length rows.now * layout.new.width }
     ensures same { states_in layout.new rows.now lanes.new.items ≡ states_in layout.old rows.now lanes.old.items }
+    ensures fitted { IsFitted layout.old fitted.old → IsFitted layout.new fitted.new }
 {
     if layout.fits(slots) {
         return Ok(());
@@ -244,6 +351,7 @@ fn make_fit(
     if finer.fits(slots) {
         if let Some(relaid) = relaid(alloc, layout, &finer, rows, lanes)? {
             *layout = finer;
+            *fitted = None;
             *lanes = relaid;
             return Ok(());
         }
@@ -251,6 +359,7 @@ fn make_fit(
     let wide = Layout::wide();
     if let Some(relaid) = relaid(alloc, layout, &wide, rows, lanes)? {
         *layout = wide;
+        *fitted = None;
         *lanes = relaid;
     }
     Ok(())

@@ -15,7 +15,7 @@ overflow_mul-first c =
     let rows = c.self.inside.rows.items in
     let lanes = c.self.inside.lanes.items in
     let here = place_within layout rows lanes c.args.self.now c.args.at c.self.view_is c.requires.place in
-    let there = lanes_within layout rows lanes c.args.at c.width.result c.width.ensures.width here c.self.invariant in
+    let there = lanes_within layout rows lanes c.args.at c.width.result c.width.ensures.width here c.self.invariant.whole in
     omega (arith, there)
 
 pub add_values-requires : goal.add_values-requires
@@ -24,7 +24,7 @@ add_values-requires c =
     let rows = c.self.inside.rows.items in
     let lanes = c.self.inside.lanes.items in
     let here = place_within layout rows lanes c.args.self.now c.args.at c.self.view_is c.requires.place in
-    let there = lanes_within layout rows lanes c.args.at c.width.result c.width.ensures.width here c.self.invariant in
+    let there = lanes_within layout rows lanes c.args.at c.width.result c.width.ensures.width here c.self.invariant.whole in
     omega (arith, there, c.width.ensures.width, ap (length {A = SlotState}) c.deref_mut.ensures.value)
 
 pub index-requires : goal.index-requires
@@ -58,5 +58,5 @@ returns-clause-ok c =
     let wrote : (with_items c.self.inside.lanes c.add_values.new.lanes).items ≡ with_lanes lanes (c.args.at * c.width.result) (combined_slots (take layout.width (drop (c.args.at * c.width.result) lanes)) theirs) =
     with_items_is c.self.inside.lanes c.add_values.new.lanes (omega arith) ∙ c.add_values.ensures ∙ ap (λ (ls : List SlotState). with_lanes ls (c.args.at * c.width.result) (combined_slots (take layout.width (drop (c.args.at * c.width.result) ls)) theirs)) c.deref_mut.ensures.value in
     ap (states_in layout (set rows c.args.at r)) wrote
-    ∙ combine-states_in layout rows lanes theirs r c.args.at (c.args.at * c.width.result) layout.width state first refl refl sum (c.fits_values.ensures c.if-not-fits_values.false) long here c.self.invariant
+    ∙ combine-states_in layout rows lanes theirs r c.args.at (c.args.at * c.width.result) layout.width state first refl refl sum (c.fits_values.ensures c.if-not-fits_values.false) long here c.self.invariant.whole
     ∙ ap (λ (states : List AggState). set states c.args.at (combined (get_or states c.args.at empty_state) state)) c.self.view_is

@@ -11,13 +11,13 @@ use Rattle.partial_agg.proofs.states.StateList.read.Goals as goal
 pub overflow_mul-at : goal.overflow_mul-at
 overflow_mul-at c =
     let here = place_within c.self.inside.layout c.self.inside.rows.items c.self.inside.lanes.items c.args.self.now c.args.at c.self.view_is c.requires.place in
-    let there = lanes_within c.self.inside.layout c.self.inside.rows.items c.self.inside.lanes.items c.args.at c.width-width.result c.width-width.ensures.width here c.self.invariant in
+    let there = lanes_within c.self.inside.layout c.self.inside.rows.items c.self.inside.lanes.items c.args.at c.width-width.result c.width-width.ensures.width here c.self.invariant.whole in
     omega (arith, there)
 
 pub lanes_at-lanes-requires : goal.lanes_at-lanes-requires
 lanes_at-lanes-requires c =
     let here = place_within c.self.inside.layout c.self.inside.rows.items c.self.inside.lanes.items c.args.self.now c.args.at c.self.view_is c.requires.place in
-    let there = lanes_within c.self.inside.layout c.self.inside.rows.items c.self.inside.lanes.items c.args.at c.width-width.result c.width-width.ensures.width here c.self.invariant in
+    let there = lanes_within c.self.inside.layout c.self.inside.rows.items c.self.inside.lanes.items c.args.at c.width-width.result c.width-width.ensures.width here c.self.invariant.whole in
     omega (arith, there, ap (length {A = SlotState}) c.deref.ensures.value)
 
 pub index-requires : goal.index-requires

@@ -8,7 +8,7 @@ pub overflow_mul-len : goal.overflow_mul-len
 overflow_mul-len c =
     let rows = c.self.inside.rows.items in
     let few : c.args.len ≤ length rows = omega (arith, c.requires, ap (length {A = AggState}) c.self.view_is, length-states_in c.self.inside.layout rows c.self.inside.lanes.items) in
-    let whole : length c.self.inside.lanes.items ≡ length rows * c.width.result = c.self.invariant ∙ ap (λ (n : ℕ). length rows * n) (sym c.width.ensures.width) in
+    let whole : length c.self.inside.lanes.items ≡ length rows * c.width.result = c.self.invariant.whole ∙ ap (λ (n : ℕ). length rows * n) (sym c.width.ensures.width) in
     omega (arith, at_most c.args.len (length rows) c.width.result few, whole)
 
 pub returns : goal.returns
