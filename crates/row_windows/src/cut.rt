@@ -1,4 +1,5 @@
-//! The last place at which a text can be cut: in front of a byte that ends a line and does not stand between quotes.
+//! Places at which a text can be cut: in front of a byte that ends a line and does not stand between quotes. Mostly the last
+//! one is looked for.
 //!
 //! Which bytes stand between quotes depends on all bytes before, so a scan goes from quote to quote and looks between
 //! them for the last end of a line. A byte order mark at the front is no byte of the text.
@@ -7,14 +8,15 @@ ghost use Rattle.std.specs.Prelude.{◌≡◌, ◌≤◌, ◌-◌, IfSome, None,
 ghost use Rattle.csv.specs.Reading.{strip_bom};
 ghost use Rattle.csv_rows.specs.Places.{NoQuote, has_mark, place_after};
 ghost use Rattle.csv_rows.specs.declared.place.Place.TheVariants as place;
-ghost use Rattle.row_windows.specs.Ends.{IsLastBelow};
+ghost use Rattle.row_windows.specs.Ends.{IsLastBelow, IsOpenEnd};
 ghost use Rattle.row_windows.specs.Seams.{IsCutAt, NoCut};
 
-use csv_rows::{Place, past_others, past_quote};
+use crate::header::ends_line;
+use csv_rows::{Place, past_others, past_quote, scanned};
 use memchr::{memchr, memrchr2};
 
 /// The last place behind its first byte at which a text can be cut. In linear time.
-pub(crate) fn last_cut(bytes: &[u8]) -> Option<usize>
+fn last_cut(bytes: &[u8]) -> Option<usize>
     ensures cut { IfSome result (λ at. IsCutAt bytes.now at) }
     ensures none { result ≡ None → NoCut (strip_bom bytes.now) }
 {
@@ -24,6 +26,50 @@ pub(crate) fn last_cut(bytes: &[u8]) -> Option<usize>
         Some(at) => Some(mark + at),
         None => None,
     }
+}
+
+/// A place behind its first byte, and among this many bytes, at which a text can be cut: the last one, or for a text that
+/// begins with a long record the first, so that the window of that record has no more rows than others. In linear time.
+pub(crate) fn cut_in(bytes: &[u8], goal: usize, begins_long: bool) -> Option<usize>
+    ensures cut { IfSome result (IsCutAt bytes.now) }
+    ensures none { result ≡ None → length bytes.now ≤ goal → NoCut (strip_bom bytes.now) }
+{
+    let near = &bytes[..goal.min(bytes.len())];
+    match last_cut(near) {
+        Some(last) => Some(first_cut(near, last, begins_long)),
+        None => None,
+    }
+}
+
+/// The first place behind its first byte at which a text can be cut, for a text that begins with a long record, and else
+/// this one, at which it can.
+fn first_cut(bytes: &[u8], other: usize, begins_long: bool) -> usize
+    requires { IsCutAt bytes.now other }
+    ensures { IsCutAt bytes.now result }
+{
+    if !begins_long {
+        return other;
+    }
+    let text = without_mark(bytes);
+    let mark = bytes.len() - text.len();
+    match first_end(text) {
+        Some(at) => mark + at,
+        None => other,
+    }
+}
+
+/// The first end of a line of a text that stands outside quotes, behind its first byte.
+fn first_end(text: &[u8]) -> Option<usize>
+    ensures { IfSome result (IsOpenEnd text.now) }
+{
+    let mut place = Place::Opens;
+    'bytes: for at in 0..text.len() {
+        if at > 0 && place != Place::Quoted && ends_line(text[at]) {
+            return Some(at);
+        }
+        place = scanned(&text[at..at + 1], place);
+    }
+    None
 }
 
 /// The text after a byte order mark.

@@ -42,7 +42,7 @@ fn first_end(text: &[u8]) -> Option<usize>
 }
 
 /// Whether a byte ends a line.
-fn ends_line(byte: u8) -> bool
+pub(crate) fn ends_line(byte: u8) -> bool
     ensures { result ≡ is_line_end byte }
 {
     byte == b'\n' || byte == b'\r'

@@ -9,7 +9,7 @@ ghost use Rattle.csv.specs.Reading.{strip_bom};
 ghost use Rattle.row_windows.specs.declared.window.Found.TheVariants as found;
 ghost use Rattle.row_windows.specs.declared.window.WindowAnswer.TheVariants as answer;
 
-use crate::cut::last_cut;
+use crate::cut::cut_in;
 use crate::read::read_to;
 use par_io::Source;
 use std::alloc::{AllocError, Global};
@@ -92,9 +92,10 @@ impl Window {
     }
 
     /// Reads on, behind what was read already, until there are at least this many bytes behind the header, or the
-    /// source is at its end, and finds the last place at which the text can be cut. Where there is none it reads on, up
-    /// to as many bytes as a record may have. Says whether these lines are the last, and then there is no rest. On
-    /// `Err` what was read is lost. The time is linear in the bytes, and so is the memory, at most twice the bytes.
+    /// source is at its end, and finds the last place among them at which the text can be cut. If there is none it reads
+    /// on, up to as many bytes as a record may have, and cuts at the first place that there is. Says whether these lines
+    /// are the last, and then there is no rest. On `Err` what was read is lost. The time is linear in the bytes, and so is
+    /// the memory, at most twice the bytes.
     pub fn fill<S: Source>(&mut self, source: &mut S, size: usize) -> Result<bool, WindowAnswer>
         requires { self.old.lines ≡ [] }
         ensures header { OnOk result (self.new.header ≡ self.old.header) }
@@ -109,29 +110,39 @@ impl Window {
         ensures faults { S.faults source.old ≤ S.faults source.new }
     {
         let mut goal = size.clamp(1, MOST_RECORD_BYTES + 1);
+        let mut begins_long = false;
         'longer: while goal <= MOST_RECORD_BYTES {
-            match self.read_on(source, goal) {
+            match self.read_on(source, goal, begins_long) {
                 Ok(Found::Lines(last)) => return Ok(last),
-                Ok(Found::NoCut) => goal *= 2,
+                Ok(Found::NoCut) => {
+                    goal *= 2;
+                    begins_long = true;
+                }
                 Err(why) => return Err(why),
             }
         }
-        match self.read_on(source, MOST_RECORD_BYTES + 1) {
+        match self.read_on(source, MOST_RECORD_BYTES + 1, begins_long) {
             Ok(Found::Lines(last)) => Ok(last),
             Ok(Found::NoCut) => Err(WindowAnswer::LongRecord),
             Err(why) => Err(why),
         }
     }
 
-    /// The same, but that it answers where there is no place to cut.
-    fn read_on<S: Source>(&mut self, source: &mut S, goal: usize) -> Result<Found, WindowAnswer>
+    /// The same, but that it answers if there is no place to cut among so many bytes. Where more were read already, these
+    /// are not the last lines.
+    fn read_on<S: Source>(
+        &mut self,
+        source: &mut S,
+        goal: usize,
+        begins_long: bool,
+    ) -> Result<Found, WindowAnswer>
         requires lines { self.old.lines ≡ [] }
         requires goal { goal ≤ MOST_RECORD_BYTES + 1 }
         ensures header { OnOk result (self.new.header ≡ self.old.header) }
         ensures reads { OnOk result (Fills (S.left source.old) (S.left source.new) self.old.rest (self.new.lines ++ self.new.rest)) }
         ensures last { IfOk result (λ r. r ≡ found.Lines true → (self.new.rest ≡ []) × IsAtEnd (S.left source.new)) }
         ensures seam { IfOk result (λ r. r ≡ found.Lines false → IsSeam self.new.lines self.new.rest × (0 < length self.new.lines)) }
-        ensures no_cut { IfOk result (λ r. r ≡ found.NoCut → (self.new.lines ≡ []) × (goal ≤ length self.new.rest) × NoCut (strip_bom self.new.rest)) }
+        ensures no_cut { IfOk result (λ r. r ≡ found.NoCut → (self.new.lines ≡ []) × (goal ≤ length self.new.rest) × (goal ≡ MOST_RECORD_BYTES + 1 → NoCut (strip_bom self.new.rest))) }
         ensures short { OnOk result (length self.new.lines ≤ MOST_RECORD_BYTES) }
         ensures read_fault { result ≡ Err answer.ReadFault → Rose (S.faults source.old) (S.faults source.new) }
         ensures faults { S.faults source.old ≤ S.faults source.new }
@@ -143,11 +154,11 @@ impl Window {
         };
         self.filled = read.upto;
         let body = &self.text.as_slice()[self.header..read.upto];
-        if read.ended && body.len() <= MOST_RECORD_BYTES {
+        if read.ended && body.len() <= goal.min(MOST_RECORD_BYTES) {
             self.end = read.upto;
             return Ok(Found::Lines(true));
         }
-        match last_cut(body) {
+        match cut_in(body, goal, begins_long) {
             Some(at) => {
                 self.end = self.header + at;
                 Ok(Found::Lines(false))

@@ -1,17 +1,17 @@
-use Rattle.std.proofs.Common.{◌≤◌, ◌+◌, ◌-◌, ◌∙◌, ap, sym, arith, drop, length, refl}
+use Rattle.std.proofs.Common.{◌≡◌, ◌≤◌, ◌+◌, ◌-◌, ◌∙◌, ap, sym, arith, drop, length, refl, take}
 use Rattle.std.proofs.lemmas.List.{length-drop, length-take}
 use Rattle.row_windows.specs.Stretch.{Stretch, between}
 use Rattle.row_windows.proofs.Stretches.{between-none, front-less, window-lines, window-reads}
 use Rattle.row_windows.proofs.window.Window.read_on.Goals as goal
-use Rattle.row_windows.proofs.window.Window.read_on.Goals.{else-read-via-then-read+else-body-le-MOST_RECORD_BYTES, else-read-via-else-read}
+use Rattle.row_windows.proofs.window.Window.read_on.Goals.{else-read-via-then-read+else-body-min, else-read-via-else-read}
 
-pub returns-then-body-le-MOST_RECORD_BYTES-clause-header : goal.returns-then-body-le-MOST_RECORD_BYTES-clause-header
-returns-then-body-le-MOST_RECORD_BYTES-clause-header g c =
+pub returns-then-body-min-clause-header : goal.returns-then-body-min-clause-header
+returns-then-body-min-clause-header g c =
     let w = c.self.inside in
     front-less w.header w.filled c.read_to.new.text.items w.text.items (omega (arith, c.self.invariant.low, c.self.invariant.high)) c.in-Ok.ensures.front ∙ ap (λ (x : Stretch). x.header) c.self.view_is
 
-pub returns-then-body-le-MOST_RECORD_BYTES-clause-reads : goal.returns-then-body-le-MOST_RECORD_BYTES-clause-reads
-returns-then-body-le-MOST_RECORD_BYTES-clause-reads g c =
+pub returns-then-body-min-clause-reads : goal.returns-then-body-min-clause-reads
+returns-then-body-min-clause-reads g c =
     let w = c.self.inside in
     let none = ap (λ (x : Stretch). x.lines) c.self.view_is ∙ c.requires.lines in
     let rest = sym (ap (λ (x : Stretch). x.rest) c.self.view_is) in
@@ -63,11 +63,11 @@ returns-in-None-clause-no_cut g c =
     let full = length-take (u - h) (drop h text) in
     let back = length-drop h text in
     let long : c.args.goal ≤ length (between h u text) = elim c.else-read.branch [
-      | else-read-via-then-read+else-body-le-MOST_RECORD_BYTES v ↦ omega (arith, v.if-body-le-MOST_RECORD_BYTES.false, c.requires.goal, size, rest, whole, full, back, c.in-Ok.ensures.high, low)
+      | else-read-via-then-read+else-body-min v ↦ omega (arith, v.if-body-min.false, v.min.ensures, c.requires.goal, size, rest, whole, full, back, c.in-Ok.ensures.high, low)
       | else-read-via-else-read v ↦ omega (arith, c.in-Ok.ensures.full v.if-read.false, full, back, c.in-Ok.ensures.high, low)
     ] in
-    let clear = rw c.as_slice.ensures.value at (c.in-None.ensures.none refl) in
-    λ is. rw same (between-none h text, long, clear)
+    let few : c.args.goal ≡ 67108865 → length (take (u - h) (drop h body)) ≤ c.args.goal = λ all. omega (arith, all, c.in-Ok.ensures.bound, c.self.invariant.most, size) in
+    λ is. rw same (between-none h text, long, λ all. rw c.as_slice.ensures.value at (c.in-None.ensures.none refl (few all)))
 
 pub returns-in-None-clause-short : goal.returns-in-None-clause-short
 returns-in-None-clause-short g c =
