@@ -1,7 +1,7 @@
 //! Calls of each object by several threads beside the plain way, in turns: `cargo bench -p lembokuj`. Prints millions of
 //! calls a second of all threads together, the middle of five runs.
 
-use lembokuj::{Area, Received, Sent, Table, queue};
+use lembokuj::{Area, Table, queue};
 use std::collections::HashMap;
 use std::hint::black_box;
 use std::sync::Mutex;
@@ -30,12 +30,12 @@ fn queue_load(pairs: u64, later: bool) {
             scope.spawn(move || {
                 for n in 0..MESSAGES {
                     let sent = if later { tx.send_later(&n.to_le_bytes()) } else { tx.send(&n.to_le_bytes()) };
-                    assert_eq!(sent, Ok(Sent::Sent));
+                    assert_eq!(sent, Ok(()));
                 }
             });
             scope.spawn(move || {
                 let mut wanted = 0u64;
-                while let Received::Message(bytes) = rx.receive() {
+                while let Ok(bytes) = rx.receive() {
                     assert_eq!(bytes, wanted.to_le_bytes());
                     wanted += 1;
                 }
@@ -67,9 +67,9 @@ fn table_load(threads: u32, update: bool) {
                 for n in 0..ADDS {
                     let key = (n * 7919 + id) % KEYS;
                     if update {
-                        table.update(&key, 1, |old, one| Some(old.unwrap_or(&0) + one)).unwrap();
+                        table.update_with(&key, 1, |old, one| Some(old.unwrap_or(&0) + one)).unwrap();
                     } else {
-                        black_box(table.find(&key));
+                        black_box(table.get(&key));
                     }
                 }
             });
@@ -103,7 +103,7 @@ fn area_load(threads: u32, bytes: u64) {
             scope.spawn(move || {
                 for n in 0..PAIRS {
                     let mut chunk = area.alloc(bytes).unwrap();
-                    chunk.store(0, n);
+                    assert!(chunk.store(0, n).is_ok());
                     area.free(black_box(chunk));
                 }
             });

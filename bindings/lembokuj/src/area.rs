@@ -4,6 +4,7 @@
 //! pass by one call at a time, and a size is from 1 to 2^30 bytes.
 
 use crate::errors;
+use crate::shared::{reserved, shared};
 use dsa_area::{AreaPass, area_words};
 use rattle_std::alloc::Global;
 use region_words::Region;
@@ -21,6 +22,7 @@ const MOST_BYTES: u64 = 1 << 30;
 
 /// Why there is no area.
 #[derive(Clone, Copy, Debug, PartialEq, Eq)]
+#[non_exhaustive]
 pub enum AreaError {
     /// More than 65,536 pages.
     Pages,
@@ -39,9 +41,10 @@ errors!(AreaError {
 /// The area has not as many free pages in a row as the request needs.
 #[derive(Clone, Copy, Debug, PartialEq, Eq)]
 pub struct NoSpace {
-    /// The pages that were wanted: 16 for a chunk of up to 8,192 bytes, which is cut from so many.
+    /// The pages that were wanted: 16 for a chunk of up to 8,192 bytes, which is cut from so many. For a request of more than
+    /// 2^44 bytes it is `u32::MAX`.
     pub pages: u32,
-    /// The pages of the longest row that was free.
+    /// The pages of the longest row that was free when the area looked.
     pub largest: u32,
 }
 
@@ -78,20 +81,20 @@ pub(crate) fn new_area(pages: u32, callers: u32, each: u32) -> Result<(Region, d
     Ok((region, area, passes.into_std()))
 }
 
-/// The region and the area, which all callers share.
+/// The region and the area, which all callers share, and the passes of the handles that are not out.
 struct Shared {
     region: Region,
     area: dsa_area::Area,
+    spare: Mutex<Vec<Passes>>,
 }
 
 /// How many passes a caller has: one for the calls of its handle, and one for the chunks that are dropped.
 const PASSES_EACH: u32 = 2;
 
-/// What the chunks that came by a handle keep of it. The lock is taken by who drops one of them, so it is free nearly
-/// always.
-struct Caller {
-    shared: Arc<Shared>,
-    drops: Mutex<AreaPass>,
+/// What a handle calls with. The second one is lent by who drops a chunk, so its lock is free nearly always.
+struct Passes {
+    calls: AreaPass,
+    drops: Arc<Mutex<AreaPass>>,
 }
 
 impl Shared {
@@ -106,19 +109,21 @@ impl Shared {
 /// ```
 /// use lembokuj::Area;
 ///
-/// let mut handles = Area::new(64, 2)?;
-/// let mut one = handles.pop().unwrap();
-/// let mut chunk = one.alloc(24).unwrap();
-/// chunk.store(2, 7);
-/// assert_eq!(chunk.load(2), Some(7));
-/// assert_eq!(chunk.load(3), None);
-/// // A chunk may go to another thread; where it is dropped, its words go back to the area.
+/// let mut area = Area::open(64, 2)?;
+/// let mut chunk = area.alloc(24).unwrap();
+/// chunk.write(0, &[5, 6, 7])?;
+/// assert_eq!((chunk.load(2), chunk.load(3)), (Some(7), None));
+/// // A chunk may go to another thread; if it is dropped, its words go back to the area.
 /// std::thread::spawn(move || drop(chunk)).join().unwrap();
-/// # Ok::<(), lembokuj::AreaError>(())
+/// // There are two handles, and one is out.
+/// let mut second = area.handle().ok_or("no handle")?;
+/// assert!(second.alloc_bytes(b"a string of bytes").is_ok() && area.handle().is_none());
+/// # Ok::<(), Box<dyn std::error::Error>>(())
 /// ```
 pub struct Area {
-    pass: AreaPass,
-    caller: Arc<Caller>,
+    shared: Arc<Shared>,
+    /// Some up to the drop.
+    passes: Option<Passes>,
 }
 
 impl fmt::Debug for Area {
@@ -131,34 +136,103 @@ impl Area {
     /// An area of so many pages of 4 KiB, and a handle for each of its callers. It takes memory for the pages, 1.6 % of
     /// them for their records, and a few words for each caller. Chunks of up to 8,192 bytes are cut from 16 pages at a
     /// time, for each of 36 size classes, and a class keeps such 16 pages once it has some.
+    ///
+    /// # Errors
+    ///
+    /// [`AreaError`] has the causes.
     pub fn new(pages: u32, callers: u32) -> Result<Vec<Area>, AreaError> {
-        let (region, area, passes) = new_area(pages, callers, PASSES_EACH)?;
-        let shared = Arc::new(Shared { region, area });
-        let mut passes = passes.into_iter();
-        let handle = |(pass, drops)| Area {
-            pass,
-            caller: Arc::new(Caller {
-                shared: Arc::clone(&shared),
-                drops: Mutex::new(drops),
-            }),
-        };
-        Ok(std::iter::from_fn(|| passes.next().zip(passes.next())).map(handle).collect())
+        let first = Area::open(pages, callers)?;
+        let mut handles = reserved(callers as usize).map_err(|_| AreaError::Memory)?;
+        handles.extend(std::iter::from_fn(|| first.handle()));
+        handles.push(first);
+        Ok(handles)
     }
 
-    /// A chunk of at least so many bytes, at least 1: up to 8,192 bytes of a size class that holds it, and else of whole
-    /// pages. Its words hold what they held. It may wait for the lock of one size class and for that of the pages.
-    pub fn alloc(&mut self, bytes: u64) -> Result<Chunk, NoSpace> {
-        if bytes > MOST_BYTES {
-            let pages = u32::try_from(bytes.div_ceil(4096)).unwrap_or(u32::MAX);
-            return Err(NoSpace { pages, largest: MOST_PAGES });
+    /// The same with one handle; [`Area::handle`] makes the others, up to so many at a time.
+    ///
+    /// # Errors
+    ///
+    /// As [`Area::new`].
+    pub fn open(pages: u32, callers: u32) -> Result<Area, AreaError> {
+        let (region, area, passes) = new_area(pages, callers, PASSES_EACH)?;
+        let mut spare = reserved(callers as usize).map_err(|_| AreaError::Memory)?;
+        let mut passes = passes.into_iter();
+        while let Some((calls, drops)) = passes.next().zip(passes.next()) {
+            let drops = shared(Mutex::new(drops)).map_err(|_| AreaError::Memory)?;
+            spare.push(Passes { calls, drops });
         }
-        let shared = &self.caller.shared;
-        let chunk = shared.area.alloc(&crate::HOST, &shared.region, &mut self.pass, bytes.max(1))?;
+        let passes = spare.pop();
+        let common = Shared {
+            region,
+            area,
+            spare: Mutex::new(spare),
+        };
+        let shared = shared(common).map_err(|_| AreaError::Memory)?;
+        Ok(Area { shared, passes })
+    }
+
+    /// One more handle, unless as many are out as the area was made for. A handle that is dropped makes room for another.
+    #[must_use]
+    pub fn handle(&self) -> Option<Area> {
+        let passes = self.shared.spare.lock().unwrap_or_else(PoisonError::into_inner).pop()?;
+        Some(Area {
+            shared: Arc::clone(&self.shared),
+            passes: Some(passes),
+        })
+    }
+
+    /// A chunk of at least so many bytes, at least 1: up to 8,192 bytes of a size class that holds it, and otherwise of whole
+    /// pages. It may wait for the lock of one size class and for that of the pages.
+    ///
+    /// **Its words hold whatever their last owner left there**, at first 0: [`Area::alloc_zeroed`] clears them.
+    ///
+    /// # Errors
+    ///
+    /// [`NoSpace`] if no row of free pages is long enough.
+    pub fn alloc(&mut self, bytes: u64) -> Result<Chunk, NoSpace> {
+        let Shared { region, area, .. } = &*self.shared;
+        let Some(passes) = &mut self.passes else { unreachable!("a handle has its passes up to its drop") };
+        // No area has the pages of the longest request, so a longer one is refused too, and told the longest row.
+        let granted = area.alloc(&crate::HOST, region, &mut passes.calls, bytes.clamp(1, MOST_BYTES));
+        let chunk = granted.map_err(|refused| NoSpace {
+            pages: if bytes > MOST_BYTES { pages_of(bytes) } else { refused.pages },
+            largest: refused.largest,
+        })?;
         Ok(Chunk {
             words: chunk.bytes / 8,
             chunk: Some(chunk),
-            caller: Arc::clone(&self.caller),
+            shared: Arc::clone(&self.shared),
+            drops: Arc::clone(&passes.drops),
         })
+    }
+
+    /// As [`Area::alloc`], with all words 0. It costs a store a word.
+    ///
+    /// # Errors
+    ///
+    /// As [`Area::alloc`].
+    pub fn alloc_zeroed(&mut self, bytes: u64) -> Result<Chunk, NoSpace> {
+        let mut chunk = self.alloc(bytes)?;
+        for at in 0..chunk.words() {
+            let _ = chunk.store(at, 0);
+        }
+        Ok(chunk)
+    }
+
+    /// A chunk that begins with these bytes; what comes after them in its last words is 0 up to the end of a word, and then
+    /// whatever lay there.
+    ///
+    /// # Errors
+    ///
+    /// As [`Area::alloc`].
+    pub fn alloc_bytes(&mut self, bytes: &[u8]) -> Result<Chunk, NoSpace> {
+        let mut chunk = self.alloc(bytes.len() as u64)?;
+        for (at, part) in (0..).zip(bytes.chunks(8)) {
+            let mut word = [0; 8];
+            word[..part.len()].copy_from_slice(part);
+            let _ = chunk.store(at, u64::from_le_bytes(word));
+        }
+        Ok(chunk)
     }
 
     /// Gives a chunk back through this handle, which is as dropping it, but takes none of the locks under which chunks
@@ -166,23 +240,51 @@ impl Area {
     pub fn free(&mut self, mut chunk: Chunk) {
         if self.is_home_of(&chunk)
             && let Some(inner) = chunk.chunk.take()
+            && let Some(passes) = &mut self.passes
         {
-            self.caller.shared.take_back(&mut self.pass, inner);
+            self.shared.take_back(&mut passes.calls, inner);
         }
     }
 
     /// Whether a chunk is of this handle's area.
+    #[must_use]
     pub fn is_home_of(&self, chunk: &Chunk) -> bool {
-        Arc::ptr_eq(&self.caller.shared, &chunk.caller.shared)
+        Arc::ptr_eq(&self.shared, &chunk.shared)
     }
 }
 
-/// A chunk of an area. Its words are its holder's alone; where it is dropped they go back.
+impl Drop for Area {
+    fn drop(&mut self) {
+        let passes = self.passes.take();
+        self.shared.spare.lock().unwrap_or_else(PoisonError::into_inner).extend(passes);
+    }
+}
+
+/// The pages of a request.
+fn pages_of(bytes: u64) -> u32 {
+    u32::try_from(bytes.div_ceil(4096)).unwrap_or(u32::MAX)
+}
+
+/// The chunk has no such word or byte; nothing was done.
+#[derive(Clone, Copy, Debug, PartialEq, Eq)]
+pub struct NoWord;
+
+impl fmt::Display for NoWord {
+    fn fmt(&self, f: &mut fmt::Formatter<'_>) -> fmt::Result {
+        f.write_str("the chunk has no such word")
+    }
+}
+
+impl std::error::Error for NoWord {}
+
+/// A chunk of an area. Its words are only its holder's; if it is dropped they go back. Words count from 0, and the bytes of a word
+/// are its eight from the lowest on.
 pub struct Chunk {
     /// Some up to the drop.
     chunk: Option<region_words::Chunk>,
     words: u64,
-    caller: Arc<Caller>,
+    shared: Arc<Shared>,
+    drops: Arc<Mutex<AreaPass>>,
 }
 
 impl fmt::Debug for Chunk {
@@ -193,37 +295,114 @@ impl fmt::Debug for Chunk {
 
 impl Chunk {
     /// How many words of 8 bytes it has.
+    #[must_use]
     pub fn words(&self) -> u64 {
         self.words
     }
 
+    /// Whether it has so many places from one on.
+    fn has(&self, at: u64, count: usize, each: u64) -> Result<(), NoWord> {
+        let end = at.checked_add(count as u64).ok_or(NoWord)?;
+        if end <= self.words * each { Ok(()) } else { Err(NoWord) }
+    }
+
     /// The word at a place, if it has one there. One load.
     #[inline]
+    #[must_use]
     pub fn load(&mut self, at: u64) -> Option<u64> {
         match &mut self.chunk {
-            Some(chunk) if at < self.words => Some(chunk.load(&self.caller.shared.region, at)),
+            Some(chunk) if at < self.words => Some(chunk.load(&self.shared.region, at)),
             _ => None,
         }
     }
 
-    /// Changes the word at a place, and says whether it has one there. One store.
+    /// Changes the word at a place. One store.
+    ///
+    /// # Errors
+    ///
+    /// [`NoWord`].
     #[inline]
-    pub fn store(&mut self, at: u64, value: u64) -> bool {
+    pub fn store(&mut self, at: u64, value: u64) -> Result<(), NoWord> {
         match &mut self.chunk {
             Some(chunk) if at < self.words => {
-                chunk.store(&self.caller.shared.region, at, value);
-                true
+                chunk.store(&self.shared.region, at, value);
+                Ok(())
             }
-            _ => false,
+            _ => Err(NoWord),
         }
     }
+
+    /// Copies its words from a place on, as many as the slice has.
+    ///
+    /// # Errors
+    ///
+    /// [`NoWord`] if it has fewer.
+    pub fn read(&mut self, at: u64, words: &mut [u64]) -> Result<(), NoWord> {
+        self.has(at, words.len(), 1)?;
+        for (at, word) in (at..).zip(words) {
+            *word = self.load(at).ok_or(NoWord)?;
+        }
+        Ok(())
+    }
+
+    /// Changes its words from a place on to those of the slice.
+    ///
+    /// # Errors
+    ///
+    /// [`NoWord`] if it has fewer; nothing was changed.
+    pub fn write(&mut self, at: u64, words: &[u64]) -> Result<(), NoWord> {
+        self.has(at, words.len(), 1)?;
+        (at..).zip(words).try_for_each(|(at, word)| self.store(at, *word))
+    }
+
+    /// Copies its bytes from a place on, as many as the slice has.
+    ///
+    /// # Errors
+    ///
+    /// [`NoWord`] if it has fewer.
+    pub fn read_bytes(&mut self, at: u64, bytes: &mut [u8]) -> Result<(), NoWord> {
+        self.has(at, bytes.len(), 8)?;
+        for (at, part, into) in pieces(at, bytes.len()) {
+            let word = self.load(at).ok_or(NoWord)?.to_le_bytes();
+            bytes[into..into + part.len()].copy_from_slice(&word[part]);
+        }
+        Ok(())
+    }
+
+    /// Changes its bytes from a place on to those of the slice.
+    ///
+    /// # Errors
+    ///
+    /// [`NoWord`] if it has fewer; nothing was changed.
+    pub fn write_bytes(&mut self, at: u64, bytes: &[u8]) -> Result<(), NoWord> {
+        self.has(at, bytes.len(), 8)?;
+        for (at, part, from) in pieces(at, bytes.len()) {
+            let mut word = self.load(at).ok_or(NoWord)?.to_le_bytes();
+            word[part.clone()].copy_from_slice(&bytes[from..from + part.len()]);
+            self.store(at, u64::from_le_bytes(word))?;
+        }
+        Ok(())
+    }
+}
+
+/// So many bytes from a place on, cut at the ends of words: the word, its bytes, and how many bytes came before.
+fn pieces(at: u64, count: usize) -> impl Iterator<Item = (u64, std::ops::Range<usize>, usize)> {
+    let mut done = 0;
+    std::iter::from_fn(move || {
+        let place = at + done as u64;
+        let from = (place % 8) as usize;
+        let size = (8 - from).min(count - done);
+        let before = done;
+        done += size;
+        (size > 0).then_some((place / 8, from..from + size, before))
+    })
 }
 
 impl Drop for Chunk {
     fn drop(&mut self) {
         if let Some(chunk) = self.chunk.take() {
-            let mut pass = self.caller.drops.lock().unwrap_or_else(PoisonError::into_inner);
-            self.caller.shared.take_back(&mut pass, chunk);
+            let mut pass = self.drops.lock().unwrap_or_else(PoisonError::into_inner);
+            self.shared.take_back(&mut pass, chunk);
         }
     }
 }

@@ -1,14 +1,20 @@
 //! A barrier with phases.
 
 use crate::area::MOST_CALLERS;
+use crate::bell::{Limit, Over, awake};
 use crate::errors;
-use par_barrier::{Arrived, BarrierAnswer, BarrierPass};
+use crate::shared::{reserved, shared};
+use par_barrier::{BarrierAnswer, BarrierPass};
 use rattle_std::alloc::Global;
 use std::fmt;
-use std::sync::Arc;
+use std::sync::atomic::AtomicU32;
+use std::sync::atomic::Ordering::SeqCst;
+use std::sync::{Arc, Condvar, Mutex, PoisonError};
+use std::time::Duration;
 
 /// Why a call of a barrier changed nothing.
 #[derive(Clone, Copy, Debug, PartialEq, Eq)]
+#[non_exhaustive]
 pub enum BarrierError {
     /// No callers, or more than 4,096.
     Callers,
@@ -49,16 +55,53 @@ pub struct Arrival {
     pub is_elected: bool,
 }
 
-impl From<Arrived> for Arrival {
-    fn from(arrived: Arrived) -> Arrival {
-        Arrival {
-            phase: arrived.phase,
-            is_elected: arrived.elected,
+/// What all callers share: the barrier, and where those sleep who wait for the end of a phase.
+struct Shared {
+    barrier: par_barrier::Barrier,
+    sleepers: AtomicU32,
+    door: Mutex<()>,
+    ended: Condvar,
+    spare: Mutex<Vec<BarrierPass>>,
+}
+
+impl Shared {
+    /// Wakes those who sleep, after a call that may have ended a phase. Who sleeps counts itself and then looks once more, so either
+    /// that look sees what the call did, or the count is seen here.
+    fn wake(&self) {
+        if self.sleepers.load(SeqCst) > 0 {
+            drop(self.door.lock().unwrap_or_else(PoisonError::into_inner));
+            self.ended.notify_all();
         }
+    }
+
+    /// What a look comes to, which is made again at each end of a phase, up to the limit.
+    fn sleep<T>(&self, limit: &mut Limit<'_>, mut look: impl FnMut() -> Option<T>) -> Option<T> {
+        self.sleepers.fetch_add(1, SeqCst);
+        let mut door = self.door.lock().unwrap_or_else(PoisonError::into_inner);
+        let found = loop {
+            if let Some(found) = look() {
+                break Some(found);
+            }
+            // A caller's function is asked with the door shut behind it: others come and go meanwhile.
+            drop(door);
+            let next = limit.next_sleep();
+            door = self.door.lock().unwrap_or_else(PoisonError::into_inner);
+            if let Some(found) = look() {
+                break Some(found);
+            }
+            door = match next {
+                Ok(None) => self.ended.wait(door).unwrap_or_else(PoisonError::into_inner),
+                Ok(Some(time)) => self.ended.wait_timeout(door, time).unwrap_or_else(PoisonError::into_inner).0,
+                Err(Over) => break None,
+            };
+        };
+        drop(door);
+        self.sleepers.fetch_sub(1, SeqCst);
+        found
     }
 }
 
-/// A handle of a barrier. Its callers arrive, and the phase ends when all who take part have. Where a handle is dropped,
+/// A handle of a barrier. Its callers arrive, and the phase ends when all who take part have. If a handle is dropped,
 /// its caller takes part no more, so that nobody waits for it.
 ///
 /// ```
@@ -73,60 +116,165 @@ impl From<Arrived> for Arrival {
 /// # Ok::<(), lembokuj::BarrierError>(())
 /// ```
 pub struct Barrier {
-    shared: Arc<par_barrier::Barrier>,
-    pass: BarrierPass,
+    shared: Arc<Shared>,
+    /// Some up to the drop.
+    pass: Option<BarrierPass>,
 }
 
 impl fmt::Debug for Barrier {
     fn fmt(&self, f: &mut fmt::Formatter<'_>) -> fmt::Result {
-        write!(f, "Barrier {{ caller: {} }}", self.pass.number())
+        write!(f, "Barrier {{ caller: {:?} }}", self.pass.as_ref().map(BarrierPass::number))
     }
 }
 
 impl Barrier {
     /// A barrier in phase 0, and a handle for each of its callers, all of whom take part from the start. It takes a few
     /// words of memory for each; no other call takes any.
+    ///
+    /// # Errors
+    ///
+    /// [`BarrierError::Callers`], [`BarrierError::Memory`].
     pub fn new(callers: u32) -> Result<Vec<Barrier>, BarrierError> {
+        let first = Barrier::open(callers)?;
+        let mut handles = reserved(callers as usize).map_err(|_| BarrierError::Memory)?;
+        while let Some(handle) = first.handle() {
+            handles.push(handle);
+        }
+        handles.push(first);
+        Ok(handles)
+    }
+
+    /// The same with one handle, whose caller takes part; [`Barrier::handle`] makes the others, up to so many at a time.
+    ///
+    /// # Errors
+    ///
+    /// As [`Barrier::new`].
+    pub fn open(callers: u32) -> Result<Barrier, BarrierError> {
         if !(1..=MOST_CALLERS).contains(&callers) {
             return Err(BarrierError::Callers);
         }
         let (barrier, passes) = par_barrier::Barrier::new(Global, callers).map_err(|_| BarrierError::Memory)?;
-        let shared = Arc::new(barrier);
-        let mut handles = Vec::new();
-        for pass in passes {
-            let mut handle = Barrier {
-                shared: Arc::clone(&shared),
-                pass,
-            };
-            handle.attach()?;
-            handles.push(handle);
-        }
-        Ok(handles)
+        let mut spare = passes.into_std();
+        let pass = spare.pop();
+        let common = Shared {
+            barrier,
+            sleepers: AtomicU32::new(0),
+            door: Mutex::new(()),
+            ended: Condvar::new(),
+            spare: Mutex::new(spare),
+        };
+        let shared = shared(common).map_err(|_| BarrierError::Memory)?;
+        let mut first = Barrier { shared, pass };
+        first.attach()?;
+        Ok(first)
+    }
+
+    /// One more handle, whose caller takes part from the phase that is on; None if as many are out as the barrier was made for. A
+    /// handle that is dropped makes room for another.
+    #[must_use]
+    pub fn handle(&self) -> Option<Barrier> {
+        let pass = self.shared.spare.lock().unwrap_or_else(PoisonError::into_inner).pop()?;
+        let mut handle = Barrier {
+            shared: Arc::clone(&self.shared),
+            pass: Some(pass),
+        };
+        // A pass that is not out takes no part, so this is never refused.
+        handle.attach().ok().map(|_| handle)
     }
 
     /// The caller takes part again. The phase that is on.
+    ///
+    /// # Errors
+    ///
+    /// [`BarrierError::AlreadyIn`].
     pub fn attach(&mut self) -> Result<u64, BarrierError> {
-        Ok(self.shared.attach(&crate::HOST, &mut self.pass)?)
+        self.call(|barrier, pass| barrier.attach(&crate::HOST, pass))
     }
 
-    /// Arrives, and waits until all who take part have: for ever where one of them neither arrives nor detaches.
+    /// Arrives, and waits until all who take part have: awake for some microseconds, and then asleep. It waits forever if one of
+    /// them neither arrives nor detaches.
+    ///
+    /// # Errors
+    ///
+    /// [`BarrierError::NotIn`], [`BarrierError::Twice`] if the caller has arrived in this phase already.
     pub fn wait(&mut self) -> Result<Arrival, BarrierError> {
-        Ok(self.shared.arrive_and_wait(&crate::HOST, &mut self.pass)?.into())
+        loop {
+            if let Some(arrival) = self.wait_by(&mut Limit::Forever)? {
+                return Ok(arrival);
+            }
+        }
     }
 
-    /// Arrives without waiting for the others. None where somebody has still to arrive: then [`Barrier::look`].
+    /// As [`Barrier::wait`], but waits no longer than so much time: None then. The caller has arrived all the same, and learns of
+    /// the end of the phase by [`Barrier::look`].
+    ///
+    /// # Errors
+    ///
+    /// As [`Barrier::wait`].
+    pub fn wait_timeout(&mut self, time: Duration) -> Result<Option<Arrival>, BarrierError> {
+        self.wait_by(&mut Limit::after(time))
+    }
+
+    /// As [`Barrier::wait`], but waits only while the function says so, which is asked when the wait begins to sleep and then about
+    /// every 10 ms. None as by [`Barrier::wait_timeout`].
+    ///
+    /// # Errors
+    ///
+    /// As [`Barrier::wait`].
+    pub fn wait_while(&mut self, mut go_on: impl FnMut() -> bool) -> Result<Option<Arrival>, BarrierError> {
+        self.wait_by(&mut Limit::While(&mut go_on))
+    }
+
+    /// Arrives without waiting for the others. None if somebody has still to arrive: then [`Barrier::look`].
+    ///
+    /// # Errors
+    ///
+    /// As [`Barrier::wait`].
     pub fn arrive(&mut self) -> Result<Option<Arrival>, BarrierError> {
-        Ok(told(self.shared.arrive(&crate::HOST, &mut self.pass)?))
+        let arrival = self.call(|barrier, pass| barrier.arrive(&crate::HOST, pass))?;
+        self.shared.wake();
+        Ok(told(arrival))
     }
 
     /// Whether the phase has ended in which the caller arrived. It changes nothing.
+    ///
+    /// # Errors
+    ///
+    /// [`BarrierError::NotIn`].
     pub fn look(&mut self) -> Result<Option<Arrival>, BarrierError> {
-        Ok(told(self.shared.look(&crate::HOST, &mut self.pass)?))
+        self.call(|barrier, pass| barrier.look(&crate::HOST, pass)).map(told)
     }
 
-    /// The caller takes part no more. Where all who stay have arrived, the phase ends. Says whether nobody is left.
+    /// The caller takes part no more. If all who stay have arrived, the phase ends. Says whether nobody is left.
+    ///
+    /// # Errors
+    ///
+    /// [`BarrierError::NotIn`].
     pub fn detach(&mut self) -> Result<bool, BarrierError> {
-        Ok(self.shared.detach(&crate::HOST, &mut self.pass)?.last)
+        let left = self.call(|barrier, pass| barrier.detach(&crate::HOST, pass))?;
+        self.shared.wake();
+        Ok(left.last)
+    }
+
+    fn call<T>(
+        &mut self,
+        ask: impl FnOnce(&par_barrier::Barrier, &mut BarrierPass) -> Result<T, BarrierAnswer>,
+    ) -> Result<T, BarrierError> {
+        let Some(pass) = &mut self.pass else { unreachable!("a handle has its pass up to its drop") };
+        Ok(ask(&self.shared.barrier, pass)?)
+    }
+
+    fn wait_by(&mut self, limit: &mut Limit<'_>) -> Result<Option<Arrival>, BarrierError> {
+        if let Some(arrival) = self.arrive()? {
+            return Ok(Some(arrival));
+        }
+        let shared = Arc::clone(&self.shared);
+        let mut look = || self.look().transpose();
+        let found = match awake(&mut look) {
+            None => shared.sleep(limit, look),
+            found => found,
+        };
+        found.transpose()
     }
 }
 
@@ -142,6 +290,8 @@ fn told(arrival: par_barrier::Arrival) -> Option<Arrival> {
 
 impl Drop for Barrier {
     fn drop(&mut self) {
-        let _ = self.shared.detach(&crate::HOST, &mut self.pass);
+        let _ = self.detach();
+        let pass = self.pass.take();
+        self.shared.spare.lock().unwrap_or_else(PoisonError::into_inner).extend(pass);
     }
 }

@@ -1,46 +1,72 @@
-//! Objects that threads share, over regions of words: queues, a shared allocator, a shared hash table, barriers, tables of
-//! contents. They are those of Lembokuj's runtime for parallel queries, in the manner of PostgreSQL's `shm_mq`, `dsa`,
-//! `dshash`, `barrier` and `shm_toc`.
+// SPDX-License-Identifier: PostgreSQL
+//! Objects that the threads of one process share, over regions of words: queues, a hash table, an allocator, barriers, tables of
+//! contents. They are those of Lembokuj's runtime for parallel queries, in the manner of PostgreSQL's `shm_mq`, `dshash`, `dsa`,
+//! `barrier` and `shm_toc`. Other processes can't see them: what lies in a region is reached through Rust's own references.
 //!
-//! The code beneath was proved in Rattle: for every interleaving of threads, each call does what its contract says. Here
-//! the contracts are erased, and rustc compiles what is left; this crate keeps at run time what those contracts ask of a
-//! caller. **Nothing of this crate, nor of what rustc makes of the rest, is proved.** `docs/EMBEDDING.md` of the
-//! repository says what ties the two.
+//! | you want | begin at | what was proved below it |
+//! |---|---|---|
+//! | messages from one thread to another | [`queue`], [`select`] | what a receiver took is whole messages, a prefix of what was sent |
+//! | a hash table for many threads | [`Table`] | each key's calls are, in one legal history, those of one cell |
+//! | owned things under keys | [`OwnedTable`] | nothing of its own: it is code of this crate over [`Table`] |
+//! | chunks of words for everybody | [`Area`] | live chunks never overlap, and a request is refused only for its cause |
+//! | threads that wait for one another | [`Barrier`] | a phase ends when all who take part have arrived, and elects one |
+//! | a directory that all threads read | [`TocBuilder`] | a key leads to the chunk that was entered under it |
+//! | plain words, each with one owner | [`Part`] | a word is read as its owner left it |
 //!
-//! | you want | begin at |
-//! |---|---|
-//! | messages from one thread to another | [`queue`] |
-//! | chunks of words for everybody | [`Area`] |
-//! | a hash table for many threads | [`Table`] |
-//! | threads that wait for one another | [`Barrier`] |
-//! | a directory that all threads read | [`TocBuilder`] |
-//! | plain words, each with one owner | [`Region`] |
+//! The code below was proved in Rattle for every interleaving of threads. Here its contracts are erased, and rustc compiles what is
+//! left; this crate checks at run time what those contracts require of callers, and adds the waits that sleep, the tries that send all
+//! or nothing, and the conversions of values. **Nothing of this crate, nor of what rustc makes of the rest, is proved.**
+//! `docs/EMBEDDING.md` of the repository lists what lies in between, and how it is tested; nothing at all is said of progress,
+//! fairness, deadlock or time.
 //!
-//! One rule holds throughout: a call that makes something shared gives a *handle* for each caller. A handle is used by one
-//! thread at a time, may go to another thread, and different handles are used at once; the compiler sees to all of this.
-//! What is shared lives until the last handle of it is gone. No call takes memory but those that make something and
-//! [`Table::entries`].
+//! A call that makes something shared gives a *handle* for each caller, or one that makes the others on demand. A handle is used by
+//! one thread at a time, may go to another thread, and different handles are used at once; the compiler sees to all of this.
+//! What is shared lives until the last handle of it is gone.
+//!
+//! **Waits** of queues and barriers stay awake for some microseconds and then sleep; they have forms with a time and with a function
+//! that is asked. A call of a table or an area may meet a lock that another call holds for a short while: it spins, and then yields
+//! the processor.
+//!
+//! **Cost.** A call is a lock and a walk, or a store for each word: std, crossbeam and dashmap are faster. A put into a table of a
+//! million keys takes some five times that of locked `HashMap`s, an allocation ten times and more that of malloc, a message of 1,000
+//! bytes three times that of `sync_channel`: `docs/PERFORMANCE.md` of the repository has the figures.
+//!
+//! **Memory.** Calls that make something take some, and those whose page says so; all of them answer an error if there is none.
+//!
+//! **Hostile keys.** The hash of a [`Table`] is fixed and known (HashDoS). **A new chunk** of an [`Area`] holds whatever its last
+//! owner left there.
 
 #![forbid(unsafe_code)]
 #![warn(missing_docs)]
 
 mod area;
 mod barrier;
+mod bell;
+mod owned;
 mod queue;
 mod region;
+mod room;
+mod select;
+mod shared;
 mod table;
 mod text;
 mod toc;
+mod word_table;
 mod words;
 
-pub use area::{Area, AreaError, Chunk, NoSpace};
+pub use rattle_std::alloc::AllocError;
+
+pub use area::{Area, AreaError, Chunk, NoSpace, NoWord};
 pub use barrier::{Arrival, Barrier, BarrierError};
-pub use queue::{OtherMessage, QueueError, Received, Rx, Sent, Tx, queue};
-pub use region::{Frozen, NotHere, Part, Region, RegionError};
-pub use table::{Table, TableError, table_pages};
-pub use text::Text;
+pub use owned::{ChunkTable, OwnedError, OwnedTable};
+pub use queue::{QueueError, ReceiveError, Rx, SendError, Tx, queue};
+pub use region::{Frozen, Part, PartError, RegionError};
+pub use select::{select, select_timeout, select_while};
+pub use table::{Busy, Table, TableError, table_pages};
+pub use text::{Bytes, Text};
 pub use toc::{Toc, TocBuilder, TocChunk, TocError};
-pub use words::Words;
+pub use word_table::{Swapped, WordTable};
+pub use words::{RawWords, Words};
 
 /// The leave to wait, which the calls beneath ask for.
 const HOST: rattle_std::HostRuntime = rattle_std::HostRuntime::new();

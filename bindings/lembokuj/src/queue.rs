@@ -3,13 +3,16 @@
 //! Messages lie on a ring of words. What the calls beneath ask of a caller is kept here: an end is used only before its
 //! detach, with the region of its own queue; and while a part of a message is on the ring, only that message is sent.
 
+use crate::bell::{Bell, Limit};
 use crate::errors;
-use mq_handle::{Receiver, Sender, attach};
-use mq_handle::{ReceiveAnswer, ReceiveDone, SendAnswer, SendDone};
+use crate::room::{GivenBack, Room, frame_words};
+use crate::shared::{Opaque, reserved, shared};
+use mq_handle::{ReceiveAnswer, Receiver, SendAnswer, Sender, attach};
 use mq_ring::{Ring, is_ring_size};
 use rattle_std::alloc::Global;
 use region_words::Region;
 use std::sync::Arc;
+use std::time::Duration;
 
 /// The longest message of any queue, in bytes.
 const MOST_BYTES: u32 = 1 << 20;
@@ -19,8 +22,9 @@ const RING_HEAD: u64 = 3;
 
 /// Why there is no queue.
 #[derive(Clone, Copy, Debug, PartialEq, Eq)]
+#[non_exhaustive]
 pub enum QueueError {
-    /// The ring's words are no power of two up to 2^20.
+    /// The number of the ring's words is no power of two up to 2^20.
     RingSize,
     /// The greatest message is longer than 2^20 bytes.
     MessageSize,
@@ -34,94 +38,115 @@ errors!(QueueError {
     Memory => "out of memory",
 });
 
-/// What became of a message that was to be sent.
+/// Why a message was not sent.
 #[derive(Clone, Copy, Debug, PartialEq, Eq)]
-pub enum Sent {
-    /// It is on the ring.
-    Sent,
-    /// The ring is full, and a part of the message may be on it: send the same message again.
-    WouldBlock,
+#[non_exhaustive]
+pub enum SendError {
     /// The receiver has gone. No message comes through any more.
     Detached,
-    /// It is longer than the queue's greatest message; nothing was done.
+    /// The message is longer than the queue's greatest. Nothing was stored.
     TooLong,
+    /// The ring has no room for the whole message, or the wait for it was ended. Nothing was stored: the message is the caller's.
+    WouldBlock,
+    /// The message is longer than the ring, so it never has room for all of it. Nothing was stored. [`Tx::send`], or
+    /// [`Tx::try_send_part`] again and again, send it by parts.
+    LongerThanRing,
+    /// A part of the message is on the ring: send the same message again. Only calls that send by parts answer this.
+    Begun,
+    /// A part of another message is on the ring, after the answer [`SendError::Begun`]: send that one again first. Nothing was
+    /// stored.
+    OtherMessage,
 }
 
-/// What a receiver found.
+errors!(SendError {
+    Detached => "the receiver is gone",
+    TooLong => "the message is longer than the queue's greatest",
+    WouldBlock => "the ring has no room for the message",
+    LongerThanRing => "the message is longer than the ring; only `send` or parts take it",
+    Begun => "a part of the message is on the ring; send the same message again",
+    OtherMessage => "a part of another message is on the ring; send that one again first",
+});
+
+/// Why a receiver has no message.
 #[derive(Clone, Copy, Debug, PartialEq, Eq)]
-pub enum Received<'a> {
-    /// The next message, lent from the receiver's own memory up to its next call.
-    Message(&'a [u8]),
+#[non_exhaustive]
+pub enum ReceiveError {
     /// There is no whole message yet.
     WouldBlock,
     /// The sender has gone, and all its messages were received.
     Detached,
 }
 
-/// A part of another message is on the ring, behind an answer [`Sent::WouldBlock`]; nothing was done.
-#[derive(Clone, Copy, Debug, PartialEq, Eq)]
-pub struct OtherMessage;
+errors!(ReceiveError {
+    WouldBlock => "no whole message is there",
+    Detached => "the sender is gone, and all its messages were received",
+});
 
-impl std::fmt::Display for OtherMessage {
-    fn fmt(&self, f: &mut std::fmt::Formatter<'_>) -> std::fmt::Result {
-        f.write_str("a part of another message is on the ring; send that one again first")
-    }
+/// What both ends share: the words, where each of them sleeps, and what surely came back of the ring.
+#[derive(Debug)]
+struct Common {
+    words: Opaque<Region>,
+    sender: Bell,
+    receiver: Bell,
+    room: Room,
 }
 
-impl std::error::Error for OtherMessage {}
-
-/// The sending end. Where it is dropped, the receiver gets what was sent and then [`Received::Detached`].
+/// The sending end. If it is dropped, the receiver gets what was sent and then [`ReceiveError::Detached`].
 #[derive(Debug)]
 pub struct Tx {
-    region: Arc<Shared>,
+    common: Arc<Common>,
     end: Opaque<Sender>,
     max: u32,
+    ring_words: u64,
+    /// The words of all messages that are on the ring as wholes.
+    sent: u64,
+    /// What surely came back of them, by the last look.
+    returned: u64,
     receiver_is_gone: bool,
-    /// The message of which a part is on the ring; its memory is kept for the next one.
+    /// Whether the receiver may not see all that was sent.
+    is_unseen: bool,
+    /// The message of which a part is on the ring. Its memory was reserved with the queue, and is kept.
     pending: Vec<u8>,
     is_pending: bool,
 }
 
-/// The receiving end. Where it is dropped, the sender is answered [`Sent::Detached`].
+/// The receiving end. If it is dropped, the sender is answered [`SendError::Detached`].
 #[derive(Debug)]
 pub struct Rx {
-    region: Arc<Shared>,
+    common: Arc<Common>,
     end: Opaque<Receiver>,
+    given_back: GivenBack,
+    /// What a wait for several receivers found here, which the next call tells.
+    held: Option<ReceiveAnswer>,
+    /// When such a wait last chose this one.
+    pub(crate) chosen: u64,
 }
 
-/// The words of one queue.
-#[derive(Debug)]
-struct Shared(Opaque<Region>);
-
-/// Something of the crates beneath, which have no `Debug`.
-struct Opaque<T>(T);
-
-impl<T> std::fmt::Debug for Opaque<T> {
-    fn fmt(&self, f: &mut std::fmt::Formatter<'_>) -> std::fmt::Result {
-        f.write_str("..")
-    }
-}
-
-/// Makes a queue over a ring of `ring_words` words of 8 bytes, a power of two up to 2^20, for messages of at most
-/// `max_bytes` bytes, 2^20 at most. A message may be longer than the ring, and then needs a receiver at work. It takes
-/// memory for the ring and for one message.
+/// Makes a queue over a ring of `ring_words` words of 8 bytes, a power of two up to 2^20, for messages of at most `max_bytes`
+/// bytes, 2^20 at most. On the ring a message takes a word and its bytes, rounded up to 8. A message may be longer than the ring,
+/// and then needs a receiver at work. It takes memory for the ring and for two messages; no call of its ends takes any.
+///
+/// # Errors
+///
+/// [`QueueError`] has the three causes.
 ///
 /// ```
-/// use lembokuj::{Received, Sent, queue};
+/// use lembokuj::queue;
 ///
 /// let (mut tx, mut rx) = queue(1024, 64)?;
 /// let sender = std::thread::spawn(move || {
 ///     for n in 0..1000u64 {
-///         assert_eq!(tx.send(&n.to_le_bytes()), Ok(Sent::Sent));
+///         tx.send(&n.to_le_bytes())?;
 ///     }
+///     Ok::<(), lembokuj::SendError>(())
 /// });
 /// let mut sum = 0;
-/// while let Received::Message(bytes) = rx.receive() {
-///     sum += u64::from_le_bytes(bytes.try_into().unwrap());
+/// while let Ok(bytes) = rx.receive() {
+///     sum += u64::from_le_bytes(bytes.try_into()?);
 /// }
-/// sender.join().unwrap();
+/// sender.join().unwrap()?;
 /// assert_eq!(sum, 499500);
-/// # Ok::<(), lembokuj::QueueError>(())
+/// # Ok::<(), Box<dyn std::error::Error>>(())
 /// ```
 ///
 /// A queue has one receiver:
@@ -135,8 +160,16 @@ impl<T> std::fmt::Debug for Opaque<T> {
 ///
 /// ```compile_fail,E0382
 /// let (_tx, mut rx) = lembokuj::queue(1024, 64).unwrap();
-/// std::thread::spawn(move || { rx.receive(); });
-/// rx.receive();
+/// std::thread::spawn(move || { let _ = rx.receive(); });
+/// let _ = rx.receive();
+/// ```
+///
+/// And an answer is not passed over:
+///
+/// ```compile_fail
+/// #![deny(unused_must_use)]
+/// let (mut tx, _rx) = lembokuj::queue(1024, 64).unwrap();
+/// tx.send(b"to somebody");
 /// ```
 pub fn queue(ring_words: u64, max_bytes: u32) -> Result<(Tx, Rx), QueueError> {
     if !is_ring_size(ring_words) {
@@ -151,48 +184,152 @@ pub fn queue(ring_words: u64, max_bytes: u32) -> Result<(Tx, Rx), QueueError> {
     let chunk = part.split_chunk(&region, 1, ring_words + RING_HEAD);
     let (tx, rx) = Ring::create(&region, chunk, ring_words, 0, max_bytes);
     let (sender, receiver) = attach(Global, tx, rx).map_err(|_| QueueError::Memory)?;
-    let region = Arc::new(Shared(Opaque(region)));
+    let pending = reserved(max_bytes as usize).map_err(|_| QueueError::Memory)?;
+    let common = Common {
+        words: Opaque(region),
+        sender: Bell::default(),
+        receiver: Bell::default(),
+        room: Room::default(),
+    };
+    let common = shared(common).map_err(|_| QueueError::Memory)?;
     let tx = Tx {
-        region: Arc::clone(&region),
+        common: Arc::clone(&common),
         end: Opaque(sender),
         max: max_bytes,
+        ring_words,
+        sent: 0,
+        returned: 0,
         receiver_is_gone: false,
-        pending: Vec::new(),
+        is_unseen: false,
+        pending,
         is_pending: false,
     };
     let rx = Rx {
-        region,
+        common,
         end: Opaque(receiver),
+        given_back: GivenBack::of_a_ring(ring_words),
+        held: None,
+        chosen: 0,
     };
     Ok((tx, rx))
 }
 
+/// How a message goes to the ring.
+#[derive(Clone, Copy)]
+struct Way {
+    /// The receiver may see it at once.
+    flush: bool,
+    /// What has room of it is stored, also if that is a part.
+    by_parts: bool,
+}
+
+const AT_ONCE: Way = Way {
+    flush: true,
+    by_parts: false,
+};
+const LATER: Way = Way {
+    flush: false,
+    by_parts: false,
+};
+
 impl Tx {
-    /// Sends a message without waiting, and shows it to the receiver at once. It costs one load, a store for each word
-    /// and one for the count.
-    pub fn try_send(&mut self, message: &[u8]) -> Result<Sent, OtherMessage> {
-        self.try_put(message, true)
+    /// Sends a message without waiting, as a whole or not at all, and shows it to the receiver at once. It costs one load, a store
+    /// for each word and one for the count. The receiver gives room back when it has taken a quarter of the ring, or finds
+    /// nothing there: so a message of more than three quarters may have to wait for the latter.
+    ///
+    /// # Errors
+    ///
+    /// [`SendError`]; nothing was stored, unless it is [`SendError::Begun`] for the rest of a message that was begun by parts.
+    pub fn try_send(&mut self, message: &[u8]) -> Result<(), SendError> {
+        self.keeping(message, |tx| tx.try_put(message, AT_ONCE))
     }
 
-    /// Sends a message without waiting. The receiver may see it only after a later call or [`Tx::flush`]: at most a quarter
-    /// of the ring stays unseen. It saves the store of the count.
-    pub fn try_send_later(&mut self, message: &[u8]) -> Result<Sent, OtherMessage> {
-        self.try_put(message, false)
+    /// As [`Tx::try_send`], but the receiver may see the message only after a later call or [`Tx::flush`]: at most a quarter of
+    /// the ring stays unseen. It saves the store of the count.
+    ///
+    /// # Errors
+    ///
+    /// As [`Tx::try_send`].
+    pub fn try_send_later(&mut self, message: &[u8]) -> Result<(), SendError> {
+        self.keeping(message, |tx| tx.try_put(message, LATER))
     }
 
-    /// Sends a message, and waits while the ring is full. Never [`Sent::WouldBlock`].
-    pub fn send(&mut self, message: &[u8]) -> Result<Sent, OtherMessage> {
-        self.put(message, true)
+    /// Stores as much of a message as has room. After [`SendError::Begun`] the message belongs to this queue: until a call with
+    /// the same message has answered `Ok`, any other is refused. So a message that is longer than the ring is sent without waiting.
+    ///
+    /// # Errors
+    ///
+    /// [`SendError::WouldBlock`] if nothing had room, [`SendError::Begun`] if a part had.
+    pub fn try_send_part(&mut self, message: &[u8]) -> Result<(), SendError> {
+        let by_parts = Way {
+            by_parts: true,
+            ..AT_ONCE
+        };
+        self.keeping(message, |tx| tx.try_put(message, by_parts))
     }
 
-    /// The same, where the receiver may see it only later, as by [`Tx::try_send_later`].
-    pub fn send_later(&mut self, message: &[u8]) -> Result<Sent, OtherMessage> {
-        self.put(message, false)
+    /// Sends a message, and waits while the ring is full: awake for some microseconds, and then asleep until the receiver has done
+    /// something. It waits forever if the receiver neither receives nor goes.
+    ///
+    /// # Errors
+    ///
+    /// [`SendError::Detached`], [`SendError::TooLong`], [`SendError::OtherMessage`].
+    pub fn send(&mut self, message: &[u8]) -> Result<(), SendError> {
+        self.keeping(message, |tx| tx.put(message, true, &mut Limit::Forever))
+    }
+
+    /// As [`Tx::send`], but the receiver may see the message only later, as by [`Tx::try_send_later`].
+    ///
+    /// # Errors
+    ///
+    /// As [`Tx::send`].
+    pub fn send_later(&mut self, message: &[u8]) -> Result<(), SendError> {
+        self.keeping(message, |tx| tx.put(message, false, &mut Limit::Forever))
+    }
+
+    /// As [`Tx::send`], but waits no longer than so much time.
+    ///
+    /// # Errors
+    ///
+    /// As [`Tx::send`]; and at the end of the time [`SendError::WouldBlock`], with nothing stored, or [`SendError::Begun`] for a
+    /// message that is longer than the ring.
+    pub fn send_timeout(&mut self, message: &[u8], time: Duration) -> Result<(), SendError> {
+        self.keeping(message, |tx| tx.put(message, true, &mut Limit::after(time)))
+    }
+
+    /// As [`Tx::send`], but waits only while the function says so, which is asked when the wait begins to sleep and then about every
+    /// 10 ms.
+    ///
+    /// # Errors
+    ///
+    /// As [`Tx::send_timeout`].
+    pub fn send_while(&mut self, message: &[u8], mut go_on: impl FnMut() -> bool) -> Result<(), SendError> {
+        self.keeping(message, |tx| tx.put(message, true, &mut Limit::While(&mut go_on)))
+    }
+
+    /// Sends slices as one message, their bytes in a row, as [`Tx::send`] does. They are copied once more.
+    ///
+    /// # Errors
+    ///
+    /// As [`Tx::send`].
+    pub fn send_slices(&mut self, slices: &[&[u8]]) -> Result<(), SendError> {
+        self.joined(slices, |tx, message| tx.put(message, true, &mut Limit::Forever))
+    }
+
+    /// Sends slices as one message, their bytes in a row, as [`Tx::try_send`] does. They are copied once more.
+    ///
+    /// # Errors
+    ///
+    /// As [`Tx::try_send`].
+    pub fn try_send_slices(&mut self, slices: &[&[u8]]) -> Result<(), SendError> {
+        self.joined(slices, |tx, message| tx.try_put(message, AT_ONCE))
     }
 
     /// Shows the receiver all that was sent.
     pub fn flush(&mut self) {
-        self.end.0.flush(&self.region.0.0);
+        self.end.0.flush(&self.common.words.0);
+        self.is_unseen = false;
+        self.common.receiver.ring();
     }
 
     /// Ends the queue for the sender: as dropping it.
@@ -200,107 +337,297 @@ impl Tx {
     /// ```compile_fail,E0382
     /// let (mut tx, _rx) = lembokuj::queue(1024, 64).unwrap();
     /// tx.close();
-    /// tx.send(b"too late");
+    /// let _ = tx.send(b"too late");
     /// ```
     pub fn close(self) {}
 
-    /// What a message may not begin with, if there is something.
-    fn refusal(&self, message: &[u8]) -> Result<Option<Sent>, OtherMessage> {
-        if message.len() > self.max as usize {
-            return Ok(Some(Sent::TooLong));
+    /// Sends a message for a task: as [`Tx::send`], but pending while the ring is full. If it is given up while it is pending, a
+    /// message that is longer than the ring may have been begun.
+    ///
+    /// # Errors
+    ///
+    /// As [`Tx::send`].
+    #[cfg(feature = "async")]
+    pub async fn send_async(&mut self, message: &[u8]) -> Result<(), SendError> {
+        std::future::poll_fn(|task| self.poll_send(task, message)).await
+    }
+
+    /// One poll of [`Tx::send_async`].
+    #[cfg(feature = "async")]
+    pub fn poll_send(&mut self, task: &mut std::task::Context<'_>, message: &[u8]) -> std::task::Poll<Result<(), SendError>> {
+        use std::task::Poll;
+        let way = Way {
+            flush: true,
+            by_parts: self.is_longer_than_ring(message),
+        };
+        let answer = self.keeping(message, |tx| tx.try_put(message, way));
+        if !matches!(answer, Err(SendError::WouldBlock | SendError::Begun)) {
+            return Poll::Ready(answer);
         }
-        if self.receiver_is_gone {
-            return Ok(Some(Sent::Detached));
+        self.common.sender.attach_task(task.waker());
+        let answer = self.keeping(message, |tx| tx.try_put(message, way));
+        if matches!(answer, Err(SendError::WouldBlock | SendError::Begun)) {
+            return Poll::Pending;
         }
+        self.common.sender.detach();
+        Poll::Ready(answer)
+    }
+
+    fn is_longer_than_ring(&self, message: &[u8]) -> bool {
+        frame_words(message.len()) > self.ring_words
+    }
+
+    /// Makes a call of which nothing hinders the message, and keeps it if a part of it is on the ring then.
+    fn keeping(&mut self, message: &[u8], call: impl FnOnce(&mut Tx) -> Result<(), SendError>) -> Result<(), SendError> {
+        self.fits(message.len())?;
         if self.is_pending && self.pending != message {
-            return Err(OtherMessage);
+            return Err(SendError::OtherMessage);
         }
-        Ok(None)
-    }
-
-    fn try_put(&mut self, message: &[u8], flush: bool) -> Result<Sent, OtherMessage> {
-        if let Some(answer) = self.refusal(message)? {
-            return Ok(answer);
-        }
-        Ok(match self.end.0.try_send(&self.region.0.0, message, flush) {
-            SendAnswer::Sent => {
-                self.is_pending = false;
-                Sent::Sent
-            }
-            SendAnswer::WouldBlock { stored } => {
-                self.remember(message, stored);
-                Sent::WouldBlock
-            }
-            SendAnswer::Detached => {
-                self.receiver_is_gone = true;
-                Sent::Detached
-            }
-            SendAnswer::TooLong { .. } => Sent::TooLong,
-        })
-    }
-
-    /// Keeps the message of which so many words are on the ring.
-    fn remember(&mut self, message: &[u8], stored: u64) {
-        if stored > 0 && !self.is_pending {
+        let answer = call(self);
+        if answer == Err(SendError::Begun) && !self.is_pending {
             self.pending.clear();
             self.pending.extend_from_slice(message);
             self.is_pending = true;
         }
+        answer
     }
 
-    fn put(&mut self, message: &[u8], flush: bool) -> Result<Sent, OtherMessage> {
-        if let Some(answer) = self.refusal(message)? {
-            return Ok(answer);
+    /// The same with the bytes of slices in a row, which are put together in the memory for the pending message.
+    fn joined(
+        &mut self,
+        slices: &[&[u8]],
+        call: impl FnOnce(&mut Tx, &[u8]) -> Result<(), SendError>,
+    ) -> Result<(), SendError> {
+        self.fits(slices.iter().fold(0, |sum: usize, slice| sum.saturating_add(slice.len())))?;
+        if !self.is_pending {
+            self.pending.clear();
+            slices.iter().for_each(|slice| self.pending.extend_from_slice(slice));
+        } else if !slices.iter().copied().flatten().eq(&self.pending) {
+            return Err(SendError::OtherMessage);
         }
-        Ok(match self.end.0.send(&crate::HOST, &self.region.0.0, message, flush) {
-            SendDone::Sent => {
+        let message = std::mem::take(&mut self.pending);
+        let answer = call(self, &message);
+        self.pending = message;
+        self.is_pending |= answer == Err(SendError::Begun);
+        answer
+    }
+
+    /// Whether a message of so many bytes may go to this receiver at all.
+    fn fits(&self, bytes: usize) -> Result<(), SendError> {
+        if bytes > self.max as usize {
+            Err(SendError::TooLong)
+        } else if self.receiver_is_gone {
+            Err(SendError::Detached)
+        } else {
+            Ok(())
+        }
+    }
+
+    /// Whether a message has room for all its words, at this moment and so until it is sent.
+    fn has_room(&mut self, words: u64) -> bool {
+        if self.sent + words <= self.ring_words + self.returned {
+            return true;
+        }
+        self.returned = self.common.room.returned();
+        self.sent + words <= self.ring_words + self.returned
+    }
+
+    fn try_put(&mut self, message: &[u8], way: Way) -> Result<(), SendError> {
+        let words = frame_words(message.len());
+        if !way.by_parts && !self.is_pending {
+            if words > self.ring_words {
+                return Err(SendError::LongerThanRing);
+            }
+            if !self.has_room(words) {
+                return Err(self.full());
+            }
+        }
+        let answer = self.end.0.try_send(&self.common.words.0, message, way.flush);
+        self.is_unseen = !way.flush;
+        self.common.receiver.ring();
+        match answer {
+            SendAnswer::Sent => {
+                self.sent += words;
                 self.is_pending = false;
-                Sent::Sent
+                Ok(())
             }
-            SendDone::Detached => {
+            SendAnswer::WouldBlock { stored: 0 } => Err(SendError::WouldBlock),
+            SendAnswer::WouldBlock { .. } => Err(SendError::Begun),
+            SendAnswer::Detached => {
                 self.receiver_is_gone = true;
-                Sent::Detached
+                Err(SendError::Detached)
             }
-            SendDone::TooLong { .. } => Sent::TooLong,
-        })
+            SendAnswer::TooLong { .. } => Err(SendError::TooLong),
+        }
+    }
+
+    /// The answer if there is no room: a receiver that is gone gives none back. What was sent later has to be seen, since nothing
+    /// comes back of what is not.
+    fn full(&mut self) -> SendError {
+        if self.is_unseen {
+            self.flush();
+        }
+        if self.common.room.receiver_is_gone() {
+            self.receiver_is_gone = true;
+            return SendError::Detached;
+        }
+        SendError::WouldBlock
+    }
+
+    /// Sends with a wait. Without a limit what has room is stored at once, since the message is sent in the end.
+    fn put(&mut self, message: &[u8], flush: bool, limit: &mut Limit<'_>) -> Result<(), SendError> {
+        let by_parts = matches!(limit, Limit::Forever) || self.is_longer_than_ring(message);
+        let way = Way { flush, by_parts };
+        let mut answer = self.try_put(message, way);
+        if !matches!(answer, Err(SendError::WouldBlock | SendError::Begun)) {
+            return answer;
+        }
+        let common = Arc::clone(&self.common);
+        let done = common.sender.wait(limit, || {
+            answer = self.try_put(message, way);
+            (!matches!(answer, Err(SendError::WouldBlock | SendError::Begun))).then_some(answer)
+        });
+        done.unwrap_or(answer)
     }
 }
 
 impl Drop for Tx {
     fn drop(&mut self) {
-        self.end.0.detach(&self.region.0.0);
+        self.end.0.detach(&self.common.words.0);
+        self.common.receiver.ring();
     }
 }
 
 impl Rx {
-    /// The next message, if a whole one is there, without waiting. A word costs one load; each byte is copied once.
-    pub fn try_receive(&mut self) -> Received<'_> {
-        match self.end.0.try_receive(&self.region.0.0) {
-            ReceiveAnswer::Message => Received::Message(self.end.0.message()),
-            ReceiveAnswer::WouldBlock => Received::WouldBlock,
-            ReceiveAnswer::Detached => Received::Detached,
-        }
+    /// The next message, if a whole one is there, without waiting. It is lent from the receiver's own memory up to its next call.
+    /// A word costs one load; each byte is copied once.
+    ///
+    /// # Errors
+    ///
+    /// [`ReceiveError::WouldBlock`] if there is none yet, [`ReceiveError::Detached`] if there comes none any more.
+    pub fn try_receive(&mut self) -> Result<&[u8], ReceiveError> {
+        let answer = self.next();
+        self.told(answer)
     }
 
-    /// The next message; it waits while there is none. Never [`Received::WouldBlock`].
-    pub fn receive(&mut self) -> Received<'_> {
-        match self.end.0.receive(&crate::HOST, &self.region.0.0) {
-            ReceiveDone::Message => Received::Message(self.end.0.message()),
-            ReceiveDone::Detached => Received::Detached,
-        }
+    /// The next message; it waits while there is none: awake for some microseconds, and then asleep until the sender has done
+    /// something. It waits forever if the sender neither sends nor goes.
+    ///
+    /// # Errors
+    ///
+    /// [`ReceiveError::Detached`].
+    pub fn receive(&mut self) -> Result<&[u8], ReceiveError> {
+        self.wait(&mut Limit::Forever)
     }
 
-    /// The message of the last call, where that was one.
+    /// As [`Rx::receive`], but waits no longer than so much time.
+    ///
+    /// # Errors
+    ///
+    /// [`ReceiveError::Detached`], and at the end of the time [`ReceiveError::WouldBlock`].
+    pub fn receive_timeout(&mut self, time: Duration) -> Result<&[u8], ReceiveError> {
+        self.wait(&mut Limit::after(time))
+    }
+
+    /// As [`Rx::receive`], but waits only while the function says so, which is asked when the wait begins to sleep and then about
+    /// every 10 ms.
+    ///
+    /// # Errors
+    ///
+    /// [`ReceiveError::Detached`], and once the function has said no [`ReceiveError::WouldBlock`].
+    pub fn receive_while(&mut self, mut go_on: impl FnMut() -> bool) -> Result<&[u8], ReceiveError> {
+        self.wait(&mut Limit::While(&mut go_on))
+    }
+
+    /// The message that was received last, up to the next call that looks for one; empty if that found none.
+    #[must_use]
     pub fn message(&self) -> &[u8] {
         self.end.0.message()
     }
 
     /// Ends the queue for the receiver: as dropping it.
     pub fn close(self) {}
+
+    /// The next message for a task: as [`Rx::receive`], but pending while there is none.
+    ///
+    /// # Errors
+    ///
+    /// [`ReceiveError::Detached`].
+    #[cfg(feature = "async")]
+    pub async fn receive_async(&mut self) -> Result<&[u8], ReceiveError> {
+        std::future::poll_fn(|task| self.poll_ready(task)).await;
+        self.try_receive()
+    }
+
+    /// Pending until the next try has another answer than [`ReceiveError::WouldBlock`].
+    #[cfg(feature = "async")]
+    pub fn poll_ready(&mut self, task: &mut std::task::Context<'_>) -> std::task::Poll<()> {
+        use std::task::Poll;
+        if self.is_ready() {
+            return Poll::Ready(());
+        }
+        self.common.receiver.attach_task(task.waker());
+        if self.is_ready() {
+            self.common.receiver.detach();
+            return Poll::Ready(());
+        }
+        Poll::Pending
+    }
+
+    /// Whether the next try has another answer than [`ReceiveError::WouldBlock`]. It takes the message off the ring, which the next
+    /// call then gives.
+    pub fn is_ready(&mut self) -> bool {
+        if self.held.is_none() {
+            self.held = Some(self.take()).filter(|answer| *answer != ReceiveAnswer::WouldBlock);
+        }
+        self.held.is_some()
+    }
+
+    /// Where its thread sleeps.
+    pub(crate) fn bell(&self) -> &Bell {
+        &self.common.receiver
+    }
+
+    fn next(&mut self) -> ReceiveAnswer {
+        match self.held.take() {
+            Some(answer) => answer,
+            None => self.take(),
+        }
+    }
+
+    fn take(&mut self) -> ReceiveAnswer {
+        let answer = self.end.0.try_receive(&self.common.words.0);
+        match answer {
+            ReceiveAnswer::Message => self.given_back.message(&self.common.room, self.end.0.message().len()),
+            ReceiveAnswer::WouldBlock | ReceiveAnswer::Detached => self.given_back.nothing_there(&self.common.room),
+        }
+        self.common.sender.ring();
+        answer
+    }
+
+    fn told(&self, answer: ReceiveAnswer) -> Result<&[u8], ReceiveError> {
+        match answer {
+            ReceiveAnswer::Message => Ok(self.end.0.message()),
+            ReceiveAnswer::WouldBlock => Err(ReceiveError::WouldBlock),
+            ReceiveAnswer::Detached => Err(ReceiveError::Detached),
+        }
+    }
+
+    fn wait(&mut self, limit: &mut Limit<'_>) -> Result<&[u8], ReceiveError> {
+        let mut answer = self.next();
+        if answer == ReceiveAnswer::WouldBlock {
+            let common = Arc::clone(&self.common);
+            let attempt = || Some(self.take()).filter(|answer| *answer != ReceiveAnswer::WouldBlock);
+            answer = common.receiver.wait(limit, attempt).unwrap_or(ReceiveAnswer::WouldBlock);
+        }
+        self.told(answer)
+    }
 }
 
 impl Drop for Rx {
     fn drop(&mut self) {
-        self.end.0.detach(&self.region.0.0);
+        self.end.0.detach(&self.common.words.0);
+        self.common.room.receiver_goes();
+        self.common.sender.ring();
     }
 }

@@ -3,6 +3,7 @@
 //! What the calls beneath ask of a caller is kept here: a part is used with its own region, and only for words that it
 //! owns, of which it keeps the ranges.
 
+use crate::shared::{reserved, shared};
 use crate::{MOST_WORDS, errors};
 use rattle_std::alloc::Global;
 use std::fmt;
@@ -11,6 +12,7 @@ use std::sync::Arc;
 
 /// Why there is no region.
 #[derive(Clone, Copy, Debug, PartialEq, Eq)]
+#[non_exhaustive]
 pub enum RegionError {
     /// No words, or more than 2^26.
     Words,
@@ -23,57 +25,39 @@ errors!(RegionError {
     Memory => "out of memory",
 });
 
-/// The part does not own these words; nothing was done.
+/// Why a call of a part changed nothing.
 #[derive(Clone, Copy, Debug, PartialEq, Eq)]
-pub struct NotHere;
-
-impl fmt::Display for NotHere {
-    fn fmt(&self, f: &mut fmt::Formatter<'_>) -> fmt::Result {
-        f.write_str("the part does not own these words")
-    }
+#[non_exhaustive]
+pub enum PartError {
+    /// The part does not own these words.
+    NotHere,
+    /// There is no memory.
+    Memory,
 }
 
-impl std::error::Error for NotHere {}
+errors!(PartError {
+    NotHere => "the part does not own these words",
+    Memory => "out of memory",
+});
 
-/// A fixed array of words, which its parts own.
+/// The only owner of some words of a region: nobody else reads or changes them.
 ///
 /// ```
-/// use lembokuj::Region;
+/// use lembokuj::Part;
 ///
-/// let mut low = Region::new(64)?;
+/// let mut low = Part::of_new_region(64)?;
 /// let mut high = low.split(32..64)?;
 /// let other = std::thread::spawn(move || {
 ///     high.store(40, 8)?;
-///     Ok::<_, lembokuj::NotHere>(high)
+///     Ok::<_, lembokuj::PartError>(high)
 /// });
 /// low.store(3, 7)?;
 /// low.join(other.join().unwrap()?).unwrap();
-/// let mut frozen = low.freeze();
+/// let mut frozen = low.freeze()?;
 /// let mut second = frozen.share();
 /// assert_eq!((frozen.load(3)?, second.load(40)?), (7, 8));
 /// # Ok::<(), Box<dyn std::error::Error>>(())
 /// ```
-#[derive(Debug)]
-pub enum Region {}
-
-impl Region {
-    /// A region of so many words, all 0, as the part that owns all of them.
-    #[expect(clippy::new_ret_no_self, reason = "a region is reached by its parts")]
-    pub fn new(words: u64) -> Result<Part, RegionError> {
-        if !(1..=MOST_WORDS).contains(&words) {
-            return Err(RegionError::Words);
-        }
-        let made = region_words::Region::new(Global, words as usize);
-        let (region, part) = made.map_err(|_| RegionError::Memory)?;
-        Ok(Part {
-            region: Arc::new(region),
-            part,
-            owned: std::iter::once(0..words).collect(),
-        })
-    }
-}
-
-/// The sole owner of some words of a region: nobody else reads or changes them.
 pub struct Part {
     region: Arc<region_words::Region>,
     part: region_words::Part,
@@ -87,47 +71,88 @@ impl fmt::Debug for Part {
 }
 
 /// Whether one of the ranges holds the word.
-fn holds(owned: &[Range<u64>], at: u64) -> Result<(), NotHere> {
-    owned.iter().any(|range| range.contains(&at)).then_some(()).ok_or(NotHere)
+fn holds(owned: &[Range<u64>], at: u64) -> Result<(), PartError> {
+    owned.iter().any(|range| range.contains(&at)).then_some(()).ok_or(PartError::NotHere)
 }
 
 impl Part {
+    /// The part that owns all words of a new region: so many, all 0. It takes memory for them.
+    ///
+    /// # Errors
+    ///
+    /// [`RegionError`] has the causes.
+    pub fn of_new_region(words: u64) -> Result<Part, RegionError> {
+        if !(1..=MOST_WORDS).contains(&words) {
+            return Err(RegionError::Words);
+        }
+        let made = region_words::Region::new(Global, words as usize);
+        let (region, part) = made.map_err(|_| RegionError::Memory)?;
+        let mut owned = reserved(1).map_err(|_| RegionError::Memory)?;
+        owned.push(0..words);
+        Ok(Part {
+            region: shared(region).map_err(|_| RegionError::Memory)?,
+            part,
+            owned,
+        })
+    }
+
     /// The ranges of words that it owns.
+    #[must_use]
     pub fn owned(&self) -> &[Range<u64>] {
         &self.owned
     }
 
     /// A word. One load.
-    pub fn load(&mut self, at: u64) -> Result<u64, NotHere> {
+    ///
+    /// # Errors
+    ///
+    /// [`PartError::NotHere`].
+    pub fn load(&mut self, at: u64) -> Result<u64, PartError> {
         holds(&self.owned, at)?;
         Ok(self.part.load(&self.region, at))
     }
 
     /// Changes a word. One store.
-    pub fn store(&mut self, at: u64, value: u64) -> Result<(), NotHere> {
+    ///
+    /// # Errors
+    ///
+    /// [`PartError::NotHere`].
+    pub fn store(&mut self, at: u64, value: u64) -> Result<(), PartError> {
         holds(&self.owned, at)?;
         self.part.store(&self.region, at, value);
         Ok(())
     }
 
-    /// A part with the words of a range, all of which have to stand in one of this part's ranges; this one keeps the
-    /// others.
-    pub fn split(&mut self, range: Range<u64>) -> Result<Part, NotHere> {
+    /// A part with the words of a range, all of which have to lie in one of this part's ranges; this one keeps the
+    /// others. It takes memory for the ranges.
+    ///
+    /// # Errors
+    ///
+    /// [`PartError::NotHere`], [`PartError::Memory`].
+    pub fn split(&mut self, range: Range<u64>) -> Result<Part, PartError> {
         let at = self.owned.iter().position(|own| own.start <= range.start && range.end <= own.end);
-        let at = at.filter(|_| range.start <= range.end).ok_or(NotHere)?;
+        let at = at.filter(|_| range.start <= range.end).ok_or(PartError::NotHere)?;
+        let mut owned = reserved(1).map_err(|_| PartError::Memory)?;
+        self.owned.try_reserve(1).map_err(|_| PartError::Memory)?;
         let own = self.owned.swap_remove(at);
         let rests = [own.start..range.start, range.end..own.end];
         self.owned.extend(rests.into_iter().filter(|rest| !rest.is_empty()));
+        let part = self.part.split(&self.region, range.start, range.end - range.start);
+        owned.push(range);
         Ok(Part {
             region: Arc::clone(&self.region),
-            part: self.part.split(&self.region, range.start, range.end - range.start),
-            owned: vec![range],
+            part,
+            owned,
         })
     }
 
-    /// Takes in the words of another part of the same region; a part of another one comes back.
+    /// Takes in the words of another part of the same region. It takes memory for the ranges.
+    ///
+    /// # Errors
+    ///
+    /// The other part comes back if it is of another region, or there is no memory.
     pub fn join(&mut self, other: Part) -> Result<(), Part> {
-        if !Arc::ptr_eq(&self.region, &other.region) {
+        if !Arc::ptr_eq(&self.region, &other.region) || self.owned.try_reserve(other.owned.len()).is_err() {
             return Err(other);
         }
         self.part.join(&self.region, other.part);
@@ -136,12 +161,17 @@ impl Part {
     }
 
     /// From now on its words never change, and many may read them.
-    pub fn freeze(self) -> Frozen {
-        Frozen {
+    ///
+    /// # Errors
+    ///
+    /// [`PartError::Memory`]; then the part's words are lost to the region.
+    pub fn freeze(self) -> Result<Frozen, PartError> {
+        let owned = shared(self.owned).map_err(|_| PartError::Memory)?;
+        Ok(Frozen {
             frozen: self.part.freeze(&self.region),
             region: self.region,
-            owned: self.owned.into(),
-        }
+            owned,
+        })
     }
 }
 
@@ -149,7 +179,7 @@ impl Part {
 pub struct Frozen {
     region: Arc<region_words::Region>,
     frozen: region_words::Frozen,
-    owned: Arc<[Range<u64>]>,
+    owned: Arc<Vec<Range<u64>>>,
 }
 
 impl fmt::Debug for Frozen {
@@ -160,12 +190,17 @@ impl fmt::Debug for Frozen {
 
 impl Frozen {
     /// A word. One load.
-    pub fn load(&mut self, at: u64) -> Result<u64, NotHere> {
+    ///
+    /// # Errors
+    ///
+    /// [`PartError::NotHere`].
+    pub fn load(&mut self, at: u64) -> Result<u64, PartError> {
         holds(&self.owned, at)?;
         Ok(self.frozen.load(&self.region, at))
     }
 
     /// A share for another reader.
+    #[must_use]
     pub fn share(&mut self) -> Frozen {
         Frozen {
             region: Arc::clone(&self.region),

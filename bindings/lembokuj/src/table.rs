@@ -1,20 +1,24 @@
 //! A hash table that many threads use at once.
 //!
 //! What the calls beneath ask of a caller is kept here: passes are used with their own table, area and region, and a key
-//! has as many words as the table's keys.
+//! has as many words as the table's keys. Under a partition's lock only words are moved; the one function of a caller's that runs
+//! there, that of `update_with`, is caught if it panics.
 
 use crate::area::new_area;
-use crate::{AreaError, NoSpace, Words, errors};
+use crate::shared::{reserved, shared};
+use crate::words::RawWords;
+use crate::{AllocError, AreaError, NoSpace, Words, errors};
 use dsa_area::{Area, AreaPass, chunk_bytes};
-use dshash_core::{CellObject, PARTITIONS, item_bytes};
+use dshash_core::{CellObject, CoreOut, KeyWords, PARTITIONS, item_bytes};
 use dshash_parts::{DsNew, DsPass, Dshash, MOST_KEY_WORDS};
-use dshash_scan::{count_all, list_all};
-use rattle_std::alloc::{AllocError, Global};
+use dshash_scan::count_all;
+use rattle_std::alloc::Global;
 use region_words::Region;
+use std::any::Any;
 use std::fmt;
 use std::marker::PhantomData;
-use std::panic::{AssertUnwindSafe, catch_unwind};
-use std::sync::Arc;
+use std::panic::{AssertUnwindSafe, catch_unwind, resume_unwind};
+use std::sync::{Arc, Mutex, PoisonError};
 
 /// A key's words are written to a buffer on the stack, of one of these sizes or of the largest: what is cleared for a small
 /// key is small.
@@ -26,6 +30,7 @@ const MOST_VALUE_WORDS: usize = 1 << 16;
 
 /// Why there is no table.
 #[derive(Clone, Copy, Debug, PartialEq, Eq)]
+#[non_exhaustive]
 pub enum TableError {
     /// More than 65,536 pages.
     Pages,
@@ -35,6 +40,8 @@ pub enum TableError {
     Memory,
     /// The pages don't hold an empty table: that takes 16.
     NoSpace,
+    /// A key of other than 1 to 64 words, or a value of too many.
+    Words,
 }
 
 errors!(TableError {
@@ -42,6 +49,7 @@ errors!(TableError {
     Callers => "a table has 1 to 4096 callers",
     Memory => "out of memory",
     NoSpace => "the pages don't hold an empty table",
+    Words => "a key or a value has a number of words that is out of range",
 });
 
 impl From<AreaError> for TableError {
@@ -54,105 +62,157 @@ impl From<AreaError> for TableError {
     }
 }
 
-/// What stands under a key.
+impl From<AllocError> for TableError {
+    fn from(_: AllocError) -> TableError {
+        TableError::Memory
+    }
+}
+
+/// Another caller has the key's partition at this moment. Nothing was done.
+#[derive(Clone, Copy, Debug, PartialEq, Eq)]
+pub struct Busy;
+
+impl fmt::Display for Busy {
+    fn fmt(&self, f: &mut fmt::Formatter<'_>) -> fmt::Result {
+        f.write_str("another caller has the key's partition")
+    }
+}
+
+impl std::error::Error for Busy {}
+
+/// What lies under a key.
 struct Cell<V>(PhantomData<fn() -> V>);
 
-/// What makes a new value of the one that stands there and of the one that the caller brings.
+/// What makes a new value of the one that is there and of the one that the caller brings.
 type Step<V> = fn(Option<&V>, &V) -> Option<V>;
 
-#[derive(Clone, Copy)]
-enum Ask<V> {
-    Find,
-    Insert(V),
+/// What is asked of a key.
+pub(crate) enum Ask<V: Words> {
+    Get,
+    /// Put these words.
+    Insert(V::Raw),
+    /// Put these words if some are there.
+    Replace(V::Raw),
     Remove,
-    Update(V, Step<V>),
+    /// If these are there (or none), put those (or none).
+    Swap(Option<V::Raw>, Option<V::Raw>),
+    /// Put what the function makes of what is there and of this.
+    Update(V::Raw, Step<V>),
 }
 
-/// The value before the call; or the caller's function panicked, and nothing was changed.
-enum Reply<V> {
-    Before(Option<V>),
-    Panicked,
+impl<V: Words> Clone for Ask<V> {
+    fn clone(&self) -> Ask<V> {
+        *self
+    }
 }
 
-impl<V> Reply<V> {
-    /// The value before the call. The caller's panic goes on here, where no lock is held.
-    fn before(self) -> Option<V> {
+impl<V: Words> Copy for Ask<V> {}
+
+/// The words before the call; or the caller's function panicked, and nothing was changed.
+enum Reply<V: Words> {
+    Before(Option<V::Raw>),
+    Panicked(Box<dyn Any + Send>),
+}
+
+impl<V: Words> Reply<V> {
+    /// The words before the call. The caller's panic goes on here, where no lock is held.
+    fn before(self) -> Option<V::Raw> {
         match self {
-            Reply::Before(value) => value,
-            Reply::Panicked => panic!("the function that a table was given panicked"),
+            Reply::Before(raw) => raw,
+            Reply::Panicked(why) => resume_unwind(why),
         }
     }
+}
+
+/// What a function makes of the words that are there and of the caller's.
+fn stepped<V: Words>(before: Option<&V::Raw>, with: &V::Raw, step: Step<V>) -> Option<V::Raw> {
+    step(before.map(V::load).as_ref(), &V::load(with)).map(|value| value.store())
 }
 
 impl<V: Words> CellObject for Cell<V> {
     const VALUE_WORDS: usize = V::WORDS;
 
-    type State = V;
+    type State = V::Raw;
     type Call = Ask<V>;
     type Reply = Reply<V>;
 
-    fn step(state: Option<&V>, call: &Ask<V>) -> (Option<V>, Reply<V>) {
+    #[inline]
+    fn step(state: Option<&V::Raw>, call: &Ask<V>) -> (Option<V::Raw>, Reply<V>) {
         let before = state.copied();
         let after = match call {
-            Ask::Find => before,
-            Ask::Insert(value) => Some(*value),
+            Ask::Get => before,
+            Ask::Insert(raw) => Some(*raw),
+            Ask::Replace(raw) => before.map(|_| *raw),
             Ask::Remove => None,
+            Ask::Swap(expected, new) => if before == *expected { *new } else { before },
             // The lock has to be given back, so a panic waits until it is.
-            Ask::Update(value, step) => match catch_unwind(AssertUnwindSafe(|| step(state, value))) {
+            Ask::Update(with, step) => match catch_unwind(AssertUnwindSafe(|| stepped(state, with, *step))) {
                 Ok(after) => after,
-                Err(_) => return (before, Reply::Panicked),
+                Err(why) => return (before, Reply::Panicked(why)),
             },
         };
         (after, Reply::Before(before))
     }
 
+    #[inline]
     fn reads(call: &Ask<V>) -> bool {
-        matches!(call, Ask::Find)
+        matches!(call, Ask::Get)
     }
 
-    fn encode(state: &V, out: &mut [u64]) {
-        state.store(out);
+    #[inline]
+    fn encode(state: &V::Raw, out: &mut [u64]) {
+        state.write(out);
     }
 
-    fn decode(words: &[u64]) -> V {
-        V::load(words)
+    #[inline]
+    fn decode(words: &[u64]) -> V::Raw {
+        V::Raw::read(words)
     }
 }
 
-/// What all callers share.
+/// What all callers share, and the passes of the handles that are not out.
 struct Shared<V: Words> {
     region: Region,
     area: Area,
     table: Dshash<Cell<V>>,
+    spare: Mutex<Vec<Passes<V>>>,
 }
 
-/// A handle of a table from keys to values. Keys are the same where their words are.
+/// What a handle calls with.
+struct Passes<V: Words> {
+    table: DsPass<Cell<V>>,
+    area: AreaPass,
+}
+
+/// A handle of a table from keys to values. Keys are the same if their words are.
 ///
-/// A call takes the lock of one of 128 partitions, by the key's hash, for a walk along one chain of items.
+/// A call takes the lock of one of 128 partitions, by the key's hash, for a walk along one chain of items. The hash is fixed
+/// and known: whoever chooses the keys can choose them in one chain (HashDoS), so keys of strangers want a hash with a secret in
+/// front. A table that is full refuses new keys and goes on with those that it has.
 ///
 /// ```
 /// use lembokuj::Table;
 ///
 /// let mut handles = Table::<u64, u64>::for_keys(1000, 3)?;
-/// let mut last = handles.pop().unwrap();
+/// let mut last = handles.pop().ok_or("no handle")?;
 /// let workers: Vec<_> = handles
 ///     .into_iter()
 ///     .map(|mut table| {
 ///         std::thread::spawn(move || {
 ///             for n in 0..1000 {
-///                 table.update(&(n % 10), 1, |old, one| Some(old.unwrap_or(&0) + one)).unwrap();
+///                 table.update(&(n % 10), |old| Some(old.unwrap_or(&0) + 1)).unwrap();
 ///             }
 ///         })
 ///     })
 ///     .collect();
 /// workers.into_iter().for_each(|worker| worker.join().unwrap());
-/// assert_eq!(last.find(&3), Some(200));
-/// assert_eq!(last.entries().unwrap().len(), 10);
+/// assert_eq!(last.get(&3), Some(200));
+/// assert_eq!(last.entries()?.len(), 10);
 /// assert_eq!(last.count(), 10);
 /// assert_eq!(last.insert(&3, 5), Ok(Some(200)));
 /// assert_eq!(last.remove(&3), Some(5));
-/// assert_eq!(last.find(&3), None);
-/// # Ok::<(), lembokuj::TableError>(())
+/// assert_eq!(last.get(&3), None);
+/// # Ok::<(), Box<dyn std::error::Error>>(())
 /// ```
 ///
 /// A key has 1 to 64 words:
@@ -162,8 +222,10 @@ struct Shared<V: Words> {
 /// ```
 pub struct Table<K, V: Words> {
     shared: Arc<Shared<V>>,
-    pass: DsPass<Cell<V>>,
-    area_pass: AreaPass,
+    /// Some up to the drop.
+    passes: Option<Passes<V>>,
+    /// The partition at which [`Table::take_any`] goes on.
+    hand: u32,
     key: PhantomData<fn() -> K>,
 }
 
@@ -174,107 +236,416 @@ impl<K, V: Words> fmt::Debug for Table<K, V> {
 }
 
 impl<K: Words, V: Words> Table<K, V> {
+    /// How many partitions a table has.
+    pub const PARTITIONS: u32 = PARTITIONS;
+
     /// A key's words, and a value's, that a table takes.
     const SIZES: () = {
         assert!(1 <= K::WORDS && K::WORDS <= MOST_KEY_WORDS, "a key has 1 to 64 words");
         assert!(V::WORDS <= MOST_VALUE_WORDS, "a value has at most 65536 words");
     };
 
-    /// An empty table with room for so many keys, and a handle for each of its callers. The room is that of
-    /// [`table_pages`]: it holds where the hashes of the keys spread.
+    /// An empty table with room for so many keys, and a handle for each of its callers. It is sized by [`table_pages`], which is
+    /// enough if the keys' hashes are well distributed.
+    ///
+    /// # Errors
+    ///
+    /// [`TableError`] has the causes.
     pub fn for_keys(keys: u64, callers: u32) -> Result<Vec<Table<K, V>>, TableError> {
         Table::with_pages(table_pages(keys, K::WORDS, V::WORDS), callers)
     }
 
     /// An empty table in an area of so many pages of 4 KiB, and a handle for each of its callers.
+    ///
+    /// # Errors
+    ///
+    /// [`TableError`] has the causes.
     pub fn with_pages(pages: u32, callers: u32) -> Result<Vec<Table<K, V>>, TableError> {
+        let first = Table::open_pages(pages, callers)?;
+        let mut handles = reserved(callers as usize)?;
+        handles.extend(std::iter::from_fn(|| first.handle()));
+        handles.push(first);
+        Ok(handles)
+    }
+
+    /// As [`Table::for_keys`] with one handle; [`Table::handle`] makes the others, up to so many at a time.
+    ///
+    /// # Errors
+    ///
+    /// [`TableError`] has the causes.
+    pub fn open(keys: u64, callers: u32) -> Result<Table<K, V>, TableError> {
+        Table::open_pages(table_pages(keys, K::WORDS, V::WORDS), callers)
+    }
+
+    /// As [`Table::with_pages`] with one handle; [`Table::handle`] makes the others, up to so many at a time.
+    ///
+    /// # Errors
+    ///
+    /// [`TableError`] has the causes.
+    pub fn open_pages(pages: u32, callers: u32) -> Result<Table<K, V>, TableError> {
         let () = Self::SIZES;
-        let (region, area, mut area_passes) = new_area(pages, callers, 1)?;
-        let made = Dshash::new(
-            &crate::HOST,
-            Global,
-            &region,
-            &area,
-            &mut area_passes[0],
-            K::WORDS as u32,
-            callers,
-        );
-        let (table, passes) = made.map_err(|why| match why {
-            DsNew::Memory => TableError::Memory,
-            DsNew::NoSpace { .. } => TableError::NoSpace,
-        })?;
-        let shared = Arc::new(Shared { region, area, table });
-        let handles = passes.into_iter().zip(area_passes).map(|(pass, area_pass)| Table {
-            shared: Arc::clone(&shared),
-            pass,
-            area_pass,
-            key: PhantomData,
-        });
-        Ok(handles.collect())
+        Table::with_key_words(pages, callers, K::WORDS as u32)
     }
 
-    /// The value of a key. It takes nothing of the pages, so it answers where the table is full too, and it is one turn at
+    /// The value of a key. It takes nothing of the pages, so it answers if the table is full too, and it is one turn at
     /// the key's partition.
-    pub fn find(&mut self, key: &K) -> Option<V> {
-        let Shared { region, table, .. } = &*self.shared;
-        let pass = &mut self.pass;
-        let reply = with_words(key, |words| table.find(&crate::HOST, region, pass, words, &Ask::Find));
-        reply.before()
+    #[must_use]
+    pub fn get(&mut self, key: &K) -> Option<V> {
+        self.get_raw(key).as_ref().map(V::load)
     }
 
-    /// Puts a value under a key, and gives the one that stood there.
+    /// Whether there is such a key.
+    #[must_use]
+    pub fn contains(&mut self, key: &K) -> bool {
+        self.get_raw(key).is_some()
+    }
+
+    /// Puts a value under a key, and gives the one that was there.
+    ///
+    /// # Errors
+    ///
+    /// [`NoSpace`]: the key is new, and the table has no room for it. Nothing was changed.
     pub fn insert(&mut self, key: &K, value: V) -> Result<Option<V>, NoSpace> {
-        self.call(key, &Ask::Insert(value))
+        let before = self.call(key, &Ask::Insert(value.store()))?;
+        Ok(before.as_ref().map(V::load))
     }
 
-    /// Takes a key out, and gives the value that stood there.
+    /// Puts a value under a key that is there, and gives the one that was. None: the key is not there, and nothing was done.
+    pub fn replace(&mut self, key: &K, value: V) -> Option<V> {
+        // A call that puts in no key is never refused.
+        let before = self.call(key, &Ask::Replace(value.store())).unwrap_or(None);
+        before.as_ref().map(V::load)
+    }
+
+    /// Takes a key out, and gives the value that was there.
     pub fn remove(&mut self, key: &K) -> Option<V> {
         // A call that puts in no key is never refused.
-        self.call(key, &Ask::Remove).unwrap_or(None)
+        let before = self.call(key, &Ask::Remove).unwrap_or(None);
+        before.as_ref().map(V::load)
     }
 
-    /// Puts under a key what `step` makes of the value that stands there and of `with`, in one step for all threads; None
-    /// takes the key out. Gives the value that stood there before.
+    /// Puts under a key what `step` makes of the value that is there, in one step for all threads: None takes the key out. Gives
+    /// the value that was there before.
+    ///
+    /// `step` runs with no lock held, and again if another caller has changed the value meanwhile. So it may capture what it likes,
+    /// take its time, and call other tables; a panic of it goes to the caller, and nothing was changed. It costs two turns at the
+    /// partition, [`Table::update_with`] one.
+    ///
+    /// # Errors
+    ///
+    /// [`NoSpace`]: the key is new, and the table has no room for it. Nothing was changed.
+    pub fn update(&mut self, key: &K, mut step: impl FnMut(Option<&V>) -> Option<V>) -> Result<Option<V>, NoSpace> {
+        let mut seen = self.get_raw(key);
+        loop {
+            let before = seen.as_ref().map(V::load);
+            let after = step(before.as_ref()).map(|value| value.store());
+            let found = self.call(key, &Ask::Swap(seen, after))?;
+            if found == seen {
+                return Ok(before);
+            }
+            seen = found;
+        }
+    }
+
+    /// As [`Table::update`] in one turn, by a function that captures nothing and is given `with`.
     ///
     /// `step` runs under the partition's lock, once or more: it is to be short, answer the same for the same values, and
     /// call nothing of a table.
     ///
     /// # Panics
     ///
-    /// Where `step` does; then the value stays.
-    pub fn update(&mut self, key: &K, with: V, step: fn(Option<&V>, &V) -> Option<V>) -> Result<Option<V>, NoSpace> {
-        self.call(key, &Ask::Update(with, step))
+    /// If `step` does, with what it panicked with; then the value stays, and others go on.
+    ///
+    /// # Errors
+    ///
+    /// As [`Table::update`].
+    pub fn update_with(&mut self, key: &K, with: V, step: fn(Option<&V>, &V) -> Option<V>) -> Result<Option<V>, NoSpace> {
+        let before = self.call(key, &Ask::Update(with.store(), step))?;
+        Ok(before.as_ref().map(V::load))
     }
 
-    /// All keys with their values, partition after partition, each as it was at one moment; there is no one moment for
-    /// all. It takes memory for them.
+    /// The value of a key, or the new one that `make` gives, which is put there if no other caller is first. `make` runs with no
+    /// lock held, at most once.
+    ///
+    /// # Errors
+    ///
+    /// As [`Table::insert`].
+    pub fn get_or_insert_with(&mut self, key: &K, make: impl FnOnce() -> V) -> Result<V, NoSpace> {
+        if let Some(value) = self.get(key) {
+            return Ok(value);
+        }
+        let made = make();
+        let found = self.call(key, &Ask::Swap(None, Some(made.store())))?;
+        Ok(found.as_ref().map_or(made, V::load))
+    }
+
+    /// If the value of a key is `expected` (None: there is no such key), it becomes `new` (None: the key is taken out), in one
+    /// step for all threads. Gives whether it was, by the words of both, or what was there instead.
+    ///
+    /// # Errors
+    ///
+    /// As [`Table::insert`].
+    pub fn compare_and_put(&mut self, key: &K, expected: Option<&V>, new: Option<&V>) -> Result<Result<(), Option<V>>, NoSpace> {
+        let expected = expected.map(V::store);
+        let found = self.call(key, &Ask::Swap(expected, new.map(V::store)))?;
+        Ok(if found == expected { Ok(()) } else { Err(found.as_ref().map(V::load)) })
+    }
+
+    /// As [`Table::get`], but does not wait for the partition.
+    ///
+    /// # Errors
+    ///
+    /// [`Busy`].
+    pub fn try_get(&mut self, key: &K) -> Result<Option<V>, Busy> {
+        Ok(self.try_call(key, &Ask::Get)?.as_ref().map(V::load))
+    }
+
+    /// As [`Table::replace`], but does not wait for the partition.
+    ///
+    /// # Errors
+    ///
+    /// [`Busy`].
+    pub fn try_replace(&mut self, key: &K, value: V) -> Result<Option<V>, Busy> {
+        Ok(self.try_call(key, &Ask::Replace(value.store()))?.as_ref().map(V::load))
+    }
+
+    /// As [`Table::remove`], but does not wait for the partition; it may wait for the area, to which the key's item goes.
+    ///
+    /// # Errors
+    ///
+    /// [`Busy`].
+    pub fn try_remove(&mut self, key: &K) -> Result<Option<V>, Busy> {
+        Ok(self.try_call(key, &Ask::Remove)?.as_ref().map(V::load))
+    }
+
+    /// Takes any entry out, as a cache that makes room does: partition after partition, round and round. None if each partition
+    /// was found empty.
+    ///
+    /// # Errors
+    ///
+    /// [`AllocError`]: it takes memory for a key, and there is none. Nothing was taken.
+    pub fn take_any(&mut self) -> Result<Option<(K, V)>, AllocError> {
+        for _ in 0..PARTITIONS {
+            let partition = self.hand;
+            let Shared { region, area, table, .. } = &*self.shared;
+            let Some(passes) = &mut self.passes else { unreachable!("a handle has its passes up to its drop") };
+            let (pass, area_pass) = (&mut passes.table, &mut passes.area);
+            let taken = table.take_any(&crate::HOST, Global, region, area, pass, area_pass, partition, &Ask::Remove)?;
+            if let Some((key, reply)) = taken
+                && let Some(value) = reply.before()
+            {
+                return Ok(Some((K::load(&K::Raw::read(key.words())), V::load(&value))));
+            }
+            self.hand = (partition + 1) % PARTITIONS;
+        }
+        Ok(None)
+    }
+
+    /// The entries of one partition, as they were at one moment, in no order. It takes memory for them. None above 127.
+    ///
+    /// # Errors
+    ///
+    /// [`AllocError`].
+    pub fn partition(&mut self, number: u32) -> Result<Vec<(K, V)>, AllocError> {
+        if number >= PARTITIONS {
+            return Ok(Vec::new());
+        }
+        let listed = self.listed(number)?;
+        let mut entries = reserved(listed.len())?;
+        entries.extend(listed.map(|(key, raw)| (K::load(&K::Raw::read(key.words())), V::load(&raw))));
+        Ok(entries)
+    }
+
+    /// Calls `each` with each key and value, with no lock held, partition after partition, each as it was at one moment; there is
+    /// no one moment for all. It takes memory for one partition at a time.
+    ///
+    /// # Errors
+    ///
+    /// [`AllocError`]: some entries were not reached.
+    pub fn for_each(&mut self, mut each: impl FnMut(K, V)) -> Result<(), AllocError> {
+        for number in 0..PARTITIONS {
+            self.partition(number)?.into_iter().for_each(|(key, value)| each(key, value));
+        }
+        Ok(())
+    }
+
+    /// All keys with their values, as [`Table::for_each`] finds them. It takes memory for all of them.
+    ///
+    /// # Errors
+    ///
+    /// [`AllocError`].
     pub fn entries(&mut self) -> Result<Vec<(K, V)>, AllocError> {
-        let listed = list_all(&crate::HOST, Global, &self.shared.table, &self.shared.region, &mut self.pass)?;
-        Ok(listed.into_iter().map(|entry| (K::load(entry.key.words()), entry.state)).collect())
+        let mut all = Vec::new();
+        for number in 0..PARTITIONS {
+            let entries = self.partition(number)?;
+            all.try_reserve(entries.len())?;
+            all.extend(entries);
+        }
+        Ok(all)
     }
 
-    /// How many keys there are: the sum over the partitions, each at a moment of its own. It looks at one number in each of
-    /// the 128, whatever the table holds, and takes no memory.
+    /// Takes out each entry of which `keep` says no. `keep` runs with no lock held, and again if another caller has changed the
+    /// value meanwhile: an entry goes only with the value that was judged. Gives how many went. It takes memory for one partition
+    /// at a time.
+    ///
+    /// # Errors
+    ///
+    /// [`AllocError`]: some entries were not judged.
+    pub fn retain(&mut self, mut keep: impl FnMut(&K, &V) -> bool) -> Result<u64, AllocError> {
+        let mut gone = 0;
+        for number in 0..PARTITIONS {
+            for (key, value) in self.partition(number)? {
+                gone += u64::from(self.remove_unless(&key, value, &mut keep));
+            }
+        }
+        Ok(gone)
+    }
+
+    /// Takes a key out unless its value is to stay, which begins with one that was seen. Whether it went.
+    fn remove_unless(&mut self, key: &K, seen: V, keep: &mut impl FnMut(&K, &V) -> bool) -> bool {
+        let mut seen = seen;
+        loop {
+            if keep(key, &seen) {
+                return false;
+            }
+            match self.compare_and_put(key, Some(&seen), None) {
+                Ok(Err(Some(found))) => seen = found,
+                answer => return matches!(answer, Ok(Ok(()))),
+            }
+        }
+    }
+
+    /// Takes out all entries that are found, partition after partition; what others put in meanwhile may stay. Gives how many went.
+    ///
+    /// # Errors
+    ///
+    /// [`AllocError`]: it takes memory for a key, and there is none. The others are still there.
+    pub fn clear(&mut self) -> Result<u64, AllocError> {
+        let mut gone = 0;
+        // At most as many as are there now, so that it ends while others put in.
+        for _ in 0..self.count() {
+            match self.take_any()? {
+                Some(_) => gone += 1,
+                None => break,
+            }
+        }
+        Ok(gone)
+    }
+
+    fn get_raw(&mut self, key: &K) -> Option<V::Raw> {
+        with_words(key, |words| self.get_at(words))
+    }
+
+    fn call(&mut self, key: &K, ask: &Ask<V>) -> Result<Option<V::Raw>, NoSpace> {
+        with_words(key, |words| self.call_at(words, ask))
+    }
+
+    /// A call that puts in no key, made at once or not at all.
+    fn try_call(&mut self, key: &K, ask: &Ask<V>) -> Result<Option<V::Raw>, Busy> {
+        with_words(key, |words| self.try_call_at(words, ask))
+    }
+}
+
+/// What does not depend on how many words a key has: that is known when a table is made.
+impl<K, V: Words> Table<K, V> {
+    /// One more handle, unless as many are out as the table was made for. A handle that is dropped makes room for another.
+    #[must_use]
+    pub fn handle(&self) -> Option<Table<K, V>> {
+        let passes = self.shared.spare.lock().unwrap_or_else(PoisonError::into_inner).pop()?;
+        Some(Table {
+            shared: Arc::clone(&self.shared),
+            passes: Some(passes),
+            hand: 0,
+            key: PhantomData,
+        })
+    }
+
+    /// How many keys there are: it adds up the 128 partitions one after another, so it is not a snapshot. It looks at one number in
+    /// each, whatever the table holds, and takes no memory.
+    #[must_use]
     pub fn count(&mut self) -> u64 {
         let Shared { region, table, .. } = &*self.shared;
-        let keys = count_all(&crate::HOST, table, region, &mut self.pass);
+        let Some(passes) = &mut self.passes else { unreachable!("a handle has its passes up to its drop") };
+        let keys = count_all(&crate::HOST, table, region, &mut passes.table);
         // There are fewer keys than words of the region.
         u64::try_from(keys).unwrap_or(u64::MAX)
     }
 
-    fn call(&mut self, key: &K, ask: &Ask<V>) -> Result<Option<V>, NoSpace> {
-        let Shared { region, area, table } = &*self.shared;
-        let (pass, area_pass) = (&mut self.pass, &mut self.area_pass);
-        let reply = with_words(key, |words| table.call(&crate::HOST, region, area, pass, area_pass, words, ask))?;
+    /// An empty table in so many pages, whose keys have so many words, 1 to 64.
+    pub(crate) fn with_key_words(pages: u32, callers: u32, key_words: u32) -> Result<Table<K, V>, TableError> {
+        let (region, area, mut area_passes) = new_area(pages, callers, 1)?;
+        let made = Dshash::new(&crate::HOST, Global, &region, &area, &mut area_passes[0], key_words, callers);
+        let (table, passes) = made.map_err(|why| match why {
+            DsNew::Memory => TableError::Memory,
+            DsNew::NoSpace { .. } => TableError::NoSpace,
+        })?;
+        let mut spare = reserved(callers as usize)?;
+        spare.extend(passes.into_iter().zip(area_passes).map(|(table, area)| Passes { table, area }));
+        let passes = spare.pop();
+        let common = Shared {
+            region,
+            area,
+            table,
+            spare: Mutex::new(spare),
+        };
+        Ok(Table {
+            shared: shared(common)?,
+            passes,
+            hand: 0,
+            key: PhantomData,
+        })
+    }
+
+    /// The words under a key of just as many words as the table's keys have.
+    pub(crate) fn get_at(&mut self, key: &[u64]) -> Option<V::Raw> {
+        let Shared { region, table, .. } = &*self.shared;
+        let Some(passes) = &mut self.passes else { unreachable!("a handle has its passes up to its drop") };
+        table.find(&crate::HOST, region, &mut passes.table, key, &Ask::Get).before()
+    }
+
+    /// A call of such a key.
+    pub(crate) fn call_at(&mut self, key: &[u64], ask: &Ask<V>) -> Result<Option<V::Raw>, NoSpace> {
+        let Shared { region, area, table, .. } = &*self.shared;
+        let Some(passes) = &mut self.passes else { unreachable!("a handle has its passes up to its drop") };
+        let reply = table.call(&crate::HOST, region, area, &mut passes.table, &mut passes.area, key, ask)?;
         Ok(reply.before())
+    }
+
+    fn try_call_at(&mut self, key: &[u64], ask: &Ask<V>) -> Result<Option<V::Raw>, Busy> {
+        let Shared { region, area, table, .. } = &*self.shared;
+        let Some(passes) = &mut self.passes else { unreachable!("a handle has its passes up to its drop") };
+        match table.try_call(region, &mut passes.table, key, ask, None) {
+            Ok(CoreOut::Done { reply, freed, .. }) => {
+                table.give_spare(&crate::HOST, region, area, &mut passes.area, freed);
+                Ok(reply.before())
+            }
+            // A call that puts in no key needs no item, and no larger partition.
+            Ok(CoreOut::NeedItem | CoreOut::TooFull { .. }) => Ok(None),
+            Err(_) => Err(Busy),
+        }
+    }
+
+    /// The words of the keys and values of a partition, as they were at one moment.
+    pub(crate) fn listed(&mut self, number: u32) -> Result<impl ExactSizeIterator<Item = (KeyWords, V::Raw)>, AllocError> {
+        let Shared { region, table, .. } = &*self.shared;
+        let Some(passes) = &mut self.passes else { unreachable!("a handle has its passes up to its drop") };
+        let listed = table.list_one(&crate::HOST, Global, region, &mut passes.table, number)?;
+        Ok(listed.into_iter().map(|entry| (entry.key, entry.state)))
     }
 }
 
-/// Makes a call with a key's words. Which buffer they stand in is known when it is compiled.
+impl<K, V: Words> Drop for Table<K, V> {
+    fn drop(&mut self) {
+        let passes = self.passes.take();
+        self.shared.spare.lock().unwrap_or_else(PoisonError::into_inner).extend(passes);
+    }
+}
+
+/// Makes a call with a key's words. Which buffer holds them is known when it is compiled.
 fn with_words<K: Words, R>(key: &K, call: impl FnOnce(&[u64]) -> R) -> R {
     fn written<'a, K: Words>(key: &K, buffer: &'a mut [u64]) -> &'a [u64] {
         let words = &mut buffer[..K::WORDS];
-        key.store(words);
+        key.store().write(words);
         words
     }
     if K::WORDS <= FEW_WORDS {
@@ -291,7 +662,7 @@ const PAGE: u64 = 4096;
 const SUPERBLOCK_PAGES: u64 = 16;
 const LARGEST_CLASS: u64 = 8192;
 
-/// How many pages an area needs for a table of so many keys, where their hashes spread. It counts: for the keys' items,
+/// How many pages an area needs for a table of so many keys whose hashes are well distributed. It counts: for the keys' items,
 /// whole superblocks of 16 pages; for the bucket slices of all partitions, those of the size that they come to and of
 /// each smaller one, since slices of two sizes are out while the partitions grow, and what is given back may lie apart.
 /// An empty table takes 16 pages.
@@ -304,6 +675,7 @@ const LARGEST_CLASS: u64 = 8192;
 /// assert!((0..1000).all(|key| table.insert(&key, key).is_ok()));
 /// # Ok::<(), lembokuj::TableError>(())
 /// ```
+#[must_use]
 pub fn table_pages(keys: u64, key_words: usize, value_words: usize) -> u32 {
     let partitions = u64::from(PARTITIONS);
     let item = chunk_bytes(item_bytes(key_words as u32, value_words as u32));

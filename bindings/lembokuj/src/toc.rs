@@ -3,7 +3,8 @@
 //! What the calls beneath ask of a caller is kept here: a chunk is used with its own table, and a word is read only where
 //! it belongs to a chunk that was kept.
 
-use crate::{MOST_WORDS, errors};
+use crate::shared::shared;
+use crate::{MOST_WORDS, NoWord, errors};
 use rattle_std::alloc::Global;
 use region_words::Region;
 use shm_toc::{FrozenToc, TocAnswer};
@@ -16,6 +17,7 @@ const UNIT: u64 = 32;
 
 /// Why a call of a table of contents changed nothing.
 #[derive(Clone, Copy, Debug, PartialEq, Eq)]
+#[non_exhaustive]
 pub enum TocError {
     /// The table has fewer than 32 bytes, or 2^29 or more; or a chunk has none, or more than 2^40.
     Size,
@@ -53,15 +55,15 @@ impl From<TocAnswer> for TocError {
 ///
 /// let mut builder = TocBuilder::new(1 << 12)?;
 /// let mut sizes = builder.allocate(16)?;
-/// sizes.store(0, 640);
-/// sizes.store(1, 480);
+/// sizes.store(0, 640)?;
+/// sizes.store(1, 480)?;
 /// builder.keep(5, sizes)?;
-/// let mut toc = builder.freeze();
+/// let mut toc = builder.freeze()?;
 /// let mut share = toc.share();
 /// std::thread::spawn(move || assert_eq!(share.load(5, 1), Some(480))).join().unwrap();
 /// assert_eq!(toc.load(5, 0), Some(640));
 /// assert_eq!(toc.load(6, 0), None);
-/// # Ok::<(), lembokuj::TocError>(())
+/// # Ok::<(), Box<dyn std::error::Error>>(())
 /// ```
 pub struct TocBuilder {
     region: Arc<Region>,
@@ -89,28 +91,38 @@ impl fmt::Debug for TocChunk {
 
 impl TocChunk {
     /// How many words of 8 bytes it has: what was asked for, rounded up to 32 bytes.
+    #[must_use]
     pub fn words(&self) -> u64 {
         self.chunk.bytes / 8
     }
 
     /// The word at a place, if it has one there.
+    #[must_use]
     pub fn load(&mut self, at: u64) -> Option<u64> {
         (at < self.words()).then(|| self.chunk.load(&self.region, at))
     }
 
-    /// Changes the word at a place, and says whether it has one there.
-    pub fn store(&mut self, at: u64, value: u64) -> bool {
-        let is_here = at < self.words();
-        if is_here {
-            self.chunk.store(&self.region, at, value);
+    /// Changes the word at a place.
+    ///
+    /// # Errors
+    ///
+    /// [`NoWord`].
+    pub fn store(&mut self, at: u64, value: u64) -> Result<(), NoWord> {
+        if at >= self.words() {
+            return Err(NoWord);
         }
-        is_here
+        self.chunk.store(&self.region, at, value);
+        Ok(())
     }
 }
 
 impl TocBuilder {
     /// An empty table of so many bytes, rounded up to 32: 32 for its head, 16 for each key, and each chunk rounded up to
-    /// 32.
+    /// 32. It takes memory for them.
+    ///
+    /// # Errors
+    ///
+    /// [`TocError::Size`], [`TocError::Memory`].
     pub fn new(bytes: u64) -> Result<TocBuilder, TocError> {
         let words = bytes.div_ceil(UNIT) * (UNIT / 8);
         if words == 0 || words >= MOST_WORDS {
@@ -119,18 +131,23 @@ impl TocBuilder {
         let (region, part) = Region::new(Global, words as usize).map_err(|_| TocError::Memory)?;
         let toc = shm_toc::Toc::create(&region, part, words, 0);
         Ok(TocBuilder {
-            region: Arc::new(region),
+            region: shared(region).map_err(|_| TocError::Memory)?,
             toc,
             kept: HashMap::new(),
         })
     }
 
     /// The bytes that are left for keys and chunks.
+    #[must_use]
     pub fn free_bytes(&self) -> u64 {
         self.toc.free_bytes()
     }
 
     /// A chunk of at least so many bytes.
+    ///
+    /// # Errors
+    ///
+    /// [`TocError::Size`], [`TocError::Full`].
     pub fn allocate(&mut self, bytes: u64) -> Result<TocChunk, TocError> {
         if !(1..=1 << 40).contains(&bytes) {
             return Err(TocError::Size);
@@ -141,11 +158,17 @@ impl TocBuilder {
         })
     }
 
-    /// Enters a chunk under a key, for all to read. Where it is refused the chunk's words are lost to the table.
+    /// Enters a chunk under a key, for all to read. It takes memory for the key. If it is refused the chunk's words are lost to the
+    /// table.
+    ///
+    /// # Errors
+    ///
+    /// [`TocError::KeyThere`], [`TocError::Full`], [`TocError::OtherTable`], [`TocError::Memory`].
     pub fn keep(&mut self, key: u64, chunk: TocChunk) -> Result<(), TocError> {
         if !Arc::ptr_eq(&self.region, &chunk.region) {
             return Err(TocError::OtherTable);
         }
+        self.kept.try_reserve(1).map_err(|_| TocError::Memory)?;
         let words = chunk.words();
         self.toc.insert(&self.region, key, chunk.chunk.at)?;
         self.toc.keep(&self.region, chunk.chunk);
@@ -154,12 +177,17 @@ impl TocBuilder {
     }
 
     /// From now on nothing in it changes, and many may read it.
-    pub fn freeze(self) -> Toc {
-        Toc {
+    ///
+    /// # Errors
+    ///
+    /// [`TocError::Memory`]; then the table is lost.
+    pub fn freeze(self) -> Result<Toc, TocError> {
+        let kept = shared(self.kept).map_err(|_| TocError::Memory)?;
+        Ok(Toc {
             toc: self.toc.freeze(&self.region),
             region: self.region,
-            kept: Arc::new(self.kept),
-        }
+            kept,
+        })
     }
 }
 
@@ -178,11 +206,13 @@ impl fmt::Debug for Toc {
 
 impl Toc {
     /// How many words the chunk under a key has, if there is one.
+    #[must_use]
     pub fn words(&self, key: u64) -> Option<u64> {
         self.kept.get(&key).copied()
     }
 
     /// A word of the chunk under a key. Besides that load, one for each key that was entered before it.
+    #[must_use]
     pub fn load(&mut self, key: u64, at: u64) -> Option<u64> {
         self.words(key).filter(|words| at < *words)?;
         let place = self.toc.lookup(&self.region, key)?;
@@ -190,6 +220,7 @@ impl Toc {
     }
 
     /// A share for another thread.
+    #[must_use]
     pub fn share(&mut self) -> Toc {
         let share = self.toc.share(&self.region);
         let Ok(toc) = FrozenToc::attach(share, &self.region, 0) else {

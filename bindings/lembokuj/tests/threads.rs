@@ -1,6 +1,6 @@
 //! Four threads at each object, with counts and sums that have to come out.
 
-use lembokuj::{Area, Barrier, Received, Sent, Table, Text, queue};
+use lembokuj::{Area, Barrier, ReceiveError, Table, Text, queue};
 use std::thread;
 
 /// In a debug build fewer.
@@ -16,15 +16,15 @@ fn two_queues_keep_order_and_count() {
                     let message = [(n ^ pair).to_le_bytes(); 5];
                     let bytes = &message.as_flattened()[..(n % 41) as usize];
                     let sent = if n % 3 == 0 { tx.send_later(bytes) } else { tx.send(bytes) };
-                    assert_eq!(sent, Ok(Sent::Sent));
+                    assert_eq!(sent, Ok(()));
                 }
             });
             scope.spawn(move || {
                 for n in 0..CALLS {
                     let message = [(n ^ pair).to_le_bytes(); 5];
-                    assert_eq!(rx.receive(), Received::Message(&message.as_flattened()[..(n % 41) as usize]));
+                    assert_eq!(rx.receive(), Ok(&message.as_flattened()[..(n % 41) as usize]));
                 }
-                assert_eq!(rx.receive(), Received::Detached);
+                assert_eq!(rx.receive(), Err(ReceiveError::Detached));
             });
         }
     });
@@ -40,7 +40,12 @@ fn four_threads_count_in_one_table() {
             scope.spawn(move || {
                 barrier.wait().unwrap();
                 for n in 0..CALLS {
-                    table.update(&((n * 7919 + id) % keys), 1, |old, one| Some(old.unwrap_or(&0) + one)).unwrap();
+                    let key = (n * 7919 + id) % keys;
+                    let updated = match n % 2 {
+                        0 => table.update(&key, |old| Some(old.unwrap_or(&0) + 1)),
+                        _ => table.update_with(&key, 1, |old, one| Some(old.unwrap_or(&0) + one)),
+                    };
+                    updated.unwrap();
                 }
             });
         }
@@ -67,8 +72,8 @@ fn finds_and_counts_go_on_while_keys_come_in() {
             scope.spawn(move || {
                 let mut counted = 0;
                 for key in (0..keys).rev().step_by(97) {
-                    let there = reader.find(&key).is_some();
-                    let before = reader.find(&(key / 2));
+                    let there = reader.get(&key).is_some();
+                    let before = reader.get(&(key / 2));
                     assert!(before.is_none_or(|value| value == 2 * (key / 2)));
                     assert!(!there || before.is_some());
                     let now = reader.count();
@@ -78,7 +83,7 @@ fn finds_and_counts_go_on_while_keys_come_in() {
             });
         }
     });
-    assert_eq!((last.count(), last.find(&(keys - 1))), (keys, Some(2 * (keys - 1))));
+    assert_eq!((last.count(), last.get(&(keys - 1))), (keys, Some(2 * (keys - 1))));
 }
 
 #[test]
@@ -88,8 +93,8 @@ fn texts_are_keys() {
     for n in 0..100 {
         tables[0].insert(&key(n), (n, Text::new("warm").unwrap())).unwrap();
     }
-    assert_eq!(tables[1].find(&key(42)), Some((42, Text::new("warm").unwrap())));
-    assert_eq!(tables[1].find(&key(100)), None);
+    assert_eq!(tables[1].get(&key(42)), Some((42, Text::new("warm").unwrap())));
+    assert_eq!(tables[1].get(&key(100)), None);
 }
 
 #[test]
@@ -101,7 +106,7 @@ fn chunks_do_not_overlap() {
                 for n in 0..CALLS / 4 {
                     let mut chunk = area.alloc(8 + n * 37 % 3000).unwrap();
                     for at in 0..chunk.words() {
-                        chunk.store(at, n << 8 | id);
+                        chunk.store(at, n << 8 | id).unwrap();
                     }
                     held.push_back((n, chunk));
                     if held.len() > 20 {

@@ -4,10 +4,10 @@
 //! the oldest first. So a chunk that was freed is told for a while.
 
 use crate::codes::*;
-use crate::handle::{AREA, CHUNK, Handle, close, code, open, put, put_all, refill, release, retire};
-use lembokuj::{Area, AreaError, Chunk};
+use crate::handle::{AREA, CHUNK, Handle, close, code, open, put, put_all, put_handle, refill, release, retire};
+use lembokuj::{Area, AreaError, Chunk, NoWord};
 use std::collections::VecDeque;
-use std::ffi::c_int;
+use std::ffi::{c_int, c_void};
 
 /// How many freed handles are kept before the oldest is used again.
 const KEPT: usize = 64;
@@ -22,26 +22,33 @@ pub struct Caller {
 }
 
 impl Caller {
-    fn new(area: Area) -> Caller {
-        Caller {
-            area,
-            freed: VecDeque::new(),
-        }
+    fn new(area: Area) -> Result<Caller, c_int> {
+        let mut freed = VecDeque::new();
+        freed.try_reserve_exact(KEPT).map_err(|_| LK_NO_MEMORY)?;
+        Ok(Caller { area, freed })
     }
 
     /// A handle of a chunk.
-    fn hand_out(&mut self, chunk: Chunk) -> *mut ChunkHandle {
-        if self.freed.len() < KEPT {
-            return Handle::new(CHUNK, Some(chunk));
+    fn hand_out(&mut self, chunk: Chunk) -> Result<*mut ChunkHandle, c_int> {
+        if self.freed.len() == KEPT
+            && let Some(handle) = self.freed.pop_front()
+        {
+            // SAFETY: it was retired, and is in no other list.
+            unsafe { refill(handle, CHUNK, chunk) };
+            return Ok(handle);
         }
-        match self.freed.pop_front() {
-            Some(handle) => {
-                // SAFETY: it was retired, and stands in no other list.
-                unsafe { refill(handle, CHUNK, chunk) };
-                handle
-            }
-            None => Handle::new(CHUNK, Some(chunk)),
+        Handle::new(CHUNK, Some(chunk))
+    }
+
+    /// Keeps a handle that was retired; the oldest goes if there are enough.
+    fn keep(&mut self, handle: *mut ChunkHandle) {
+        if self.freed.len() == KEPT
+            && let Some(oldest) = self.freed.pop_front()
+        {
+            // SAFETY: it was retired, and the header says that nobody uses it after so many frees.
+            unsafe { release(oldest) };
         }
+        self.freed.push_back(handle);
     }
 }
 
@@ -54,12 +61,22 @@ impl Drop for Caller {
     }
 }
 
+/// A caller for each handle.
+fn callers_of(handles: Vec<Area>) -> Result<Vec<Caller>, c_int> {
+    let mut callers = Vec::new();
+    callers.try_reserve_exact(handles.len()).map_err(|_| LK_NO_MEMORY)?;
+    for handle in handles {
+        callers.push(Caller::new(handle)?);
+    }
+    Ok(callers)
+}
+
 /// The code of why there is no area.
 pub(crate) fn why_no_area(why: AreaError) -> c_int {
     match why {
         AreaError::Pages => LK_BAD_SIZE,
         AreaError::Callers => LK_BAD_CALLERS,
-        AreaError::Memory => LK_NO_MEMORY,
+        _ => LK_NO_MEMORY,
     }
 }
 
@@ -74,13 +91,48 @@ pub unsafe extern "C" fn lk_area_new(pages: u32, callers: u32, out: *mut *mut Ha
         return LK_NULL;
     }
     match Area::new(pages, callers) {
-        Ok(handles) => {
-            let callers = handles.into_iter().map(Caller::new).collect();
+        Ok(handles) => code(callers_of(handles).and_then(|callers| {
             // SAFETY: the caller's duty.
-            code(unsafe { put_all(out, AREA, callers) }.map(|()| LK_OK))
-        }
+            unsafe { put_all(out, AREA, callers) }.map(|()| LK_OK)
+        })),
         Err(why) => why_no_area(why),
     }
+}
+
+/// See the header.
+///
+/// # Safety
+///
+/// `area` is a handle that no call closes meanwhile; `out` is null or may be written.
+#[unsafe(no_mangle)]
+pub unsafe extern "C" fn lk_area_handle(area: *const Handle<Caller>, out: *mut *mut Handle<Caller>) -> c_int {
+    // SAFETY: the caller's duty; nothing of the handle is changed.
+    code(unsafe {
+        open(area.cast_mut(), AREA)
+            .and_then(|caller| caller.area.handle().ok_or(LK_NO_HANDLE))
+            .and_then(Caller::new)
+            .and_then(|caller| put_handle(out, AREA, caller))
+            .map(|()| LK_OK)
+    })
+}
+
+/// Makes a chunk.
+///
+/// # Safety
+///
+/// `area` is a handle that this call has alone; `out` is null or may be written.
+unsafe fn alloc(area: *mut Handle<Caller>, bytes: u64, clear: bool, out: *mut *mut ChunkHandle) -> Result<c_int, c_int> {
+    if out.is_null() {
+        return Err(LK_NULL);
+    }
+    // SAFETY: the caller's duty.
+    let caller = unsafe { open(area, AREA) }?;
+    let granted = if clear { caller.area.alloc_zeroed(bytes) } else { caller.area.alloc(bytes) };
+    let chunk = granted.map_err(|_| LK_NO_SPACE)?;
+    let handle = caller.hand_out(chunk)?;
+    // SAFETY: the place may be written.
+    unsafe { out.write(handle) };
+    Ok(LK_OK)
 }
 
 /// See the header.
@@ -90,19 +142,19 @@ pub unsafe extern "C" fn lk_area_new(pages: u32, callers: u32, out: *mut *mut Ha
 /// `area` is a handle that this call has alone; `out` is null or may be written.
 #[unsafe(no_mangle)]
 pub unsafe extern "C" fn lk_area_alloc(area: *mut Handle<Caller>, bytes: u64, out: *mut *mut ChunkHandle) -> c_int {
-    if out.is_null() {
-        return LK_NULL;
-    }
-    // SAFETY: the caller's duty.
-    let caller = match unsafe { open(area, AREA) } {
-        Ok(caller) => caller,
-        Err(code) => return code,
-    };
-    match caller.area.alloc(bytes) {
-        // SAFETY: the place may be written.
-        Ok(chunk) => code(unsafe { put(out, caller.hand_out(chunk)) }.map(|()| LK_OK)),
-        Err(_) => LK_NO_SPACE,
-    }
+    // SAFETY: the same duty.
+    code(unsafe { alloc(area, bytes, false, out) })
+}
+
+/// See the header.
+///
+/// # Safety
+///
+/// `area` is a handle that this call has alone; `out` is null or may be written.
+#[unsafe(no_mangle)]
+pub unsafe extern "C" fn lk_area_alloc_zeroed(area: *mut Handle<Caller>, bytes: u64, out: *mut *mut ChunkHandle) -> c_int {
+    // SAFETY: the same duty.
+    code(unsafe { alloc(area, bytes, true, out) })
 }
 
 /// See the header.
@@ -134,7 +186,7 @@ unsafe fn free(caller: &mut Caller, place: *mut *mut ChunkHandle) -> Result<c_in
     // SAFETY: the same; from here on only the list has it.
     let chunk = unsafe { retire(handle, CHUNK) }?;
     caller.area.free(chunk);
-    caller.freed.push_back(handle);
+    caller.keep(handle);
     // SAFETY: the place may be written.
     unsafe { place.write(std::ptr::null_mut()) };
     Ok(LK_OK)
@@ -168,10 +220,10 @@ pub unsafe extern "C" fn lk_area_close(area: *mut *mut Handle<Caller>) -> c_int 
 ///
 /// `chunk` is a handle that this call has alone; `out` is null or may be written.
 #[unsafe(no_mangle)]
-pub unsafe extern "C" fn lk_chunk_words(chunk: *mut ChunkHandle, out: *mut u64) -> c_int {
+pub unsafe extern "C" fn lk_chunk_words(chunk: *const ChunkHandle, out: *mut u64) -> c_int {
     // SAFETY: the caller's duty.
     code(unsafe {
-        open(chunk, CHUNK)
+        open(chunk.cast_mut(), CHUNK)
             .and_then(|chunk| chunk.as_ref().ok_or(LK_FREED))
             .and_then(|chunk| put(out, chunk.words()))
             .map(|()| LK_OK)
@@ -195,6 +247,17 @@ pub unsafe extern "C" fn lk_chunk_load(chunk: *mut ChunkHandle, at: u64, out: *m
     })
 }
 
+/// Makes a call of a chunk.
+///
+/// # Safety
+///
+/// `chunk` is a handle that this call has alone.
+unsafe fn on_chunk(chunk: *mut ChunkHandle, call: impl FnOnce(&mut Chunk) -> Result<(), NoWord>) -> c_int {
+    // SAFETY: the caller's duty.
+    let chunk = unsafe { open(chunk, CHUNK) }.and_then(|chunk| chunk.as_mut().ok_or(LK_FREED));
+    code(chunk.and_then(|chunk| call(chunk).map(|()| LK_OK).map_err(|NoWord| LK_NO_WORD)))
+}
+
 /// See the header.
 ///
 /// # Safety
@@ -202,9 +265,80 @@ pub unsafe extern "C" fn lk_chunk_load(chunk: *mut ChunkHandle, at: u64, out: *m
 /// `chunk` is a handle that this call has alone.
 #[unsafe(no_mangle)]
 pub unsafe extern "C" fn lk_chunk_store(chunk: *mut ChunkHandle, at: u64, value: u64) -> c_int {
+    // SAFETY: the same duty.
+    unsafe { on_chunk(chunk, |chunk| chunk.store(at, value)) }
+}
+
+/// The place for so many items that C lends for a call.
+///
+/// # Safety
+///
+/// The place is null or has so many items, which this call may change, and nobody else reads or changes meanwhile.
+unsafe fn lent_mut<'a, T>(place: *mut T, count: usize) -> Result<&'a mut [T], c_int> {
+    match (count, place.is_null()) {
+        (0, _) => Ok(&mut []),
+        (_, true) => Err(LK_NULL),
+        // SAFETY: the caller's duty.
+        (_, false) => Ok(unsafe { std::slice::from_raw_parts_mut(place, count) }),
+    }
+}
+
+/// See the header.
+///
+/// # Safety
+///
+/// `chunk` is a handle that this call has alone; `words` is null or has so many.
+#[unsafe(no_mangle)]
+pub unsafe extern "C" fn lk_chunk_read(chunk: *mut ChunkHandle, at: u64, words: *mut u64, count: usize) -> c_int {
     // SAFETY: the caller's duty.
-    code(unsafe { open(chunk, CHUNK) }.and_then(|chunk| match chunk {
-        Some(chunk) => chunk.store(at, value).then_some(LK_OK).ok_or(LK_NO_WORD),
-        None => Err(LK_FREED),
-    }))
+    match unsafe { lent_mut(words, count) } {
+        // SAFETY: the caller's duty.
+        Ok(words) => unsafe { on_chunk(chunk, |chunk| chunk.read(at, words)) },
+        Err(code) => code,
+    }
+}
+
+/// See the header.
+///
+/// # Safety
+///
+/// `chunk` is a handle that this call has alone; `words` is null or has so many.
+#[unsafe(no_mangle)]
+pub unsafe extern "C" fn lk_chunk_write(chunk: *mut ChunkHandle, at: u64, words: *const u64, count: usize) -> c_int {
+    // SAFETY: the caller's duty.
+    match unsafe { crate::queue::lent(words, count) } {
+        // SAFETY: the caller's duty.
+        Ok(words) => unsafe { on_chunk(chunk, |chunk| chunk.write(at, words)) },
+        Err(code) => code,
+    }
+}
+
+/// See the header.
+///
+/// # Safety
+///
+/// `chunk` is a handle that this call has alone; `bytes` is null or has so many.
+#[unsafe(no_mangle)]
+pub unsafe extern "C" fn lk_chunk_read_bytes(chunk: *mut ChunkHandle, at: u64, bytes: *mut c_void, count: usize) -> c_int {
+    // SAFETY: the caller's duty.
+    match unsafe { lent_mut(bytes.cast::<u8>(), count) } {
+        // SAFETY: the caller's duty.
+        Ok(bytes) => unsafe { on_chunk(chunk, |chunk| chunk.read_bytes(at, bytes)) },
+        Err(code) => code,
+    }
+}
+
+/// See the header.
+///
+/// # Safety
+///
+/// `chunk` is a handle that this call has alone; `bytes` is null or has so many.
+#[unsafe(no_mangle)]
+pub unsafe extern "C" fn lk_chunk_write_bytes(chunk: *mut ChunkHandle, at: u64, bytes: *const c_void, count: usize) -> c_int {
+    // SAFETY: the caller's duty.
+    match unsafe { crate::queue::lent(bytes.cast::<u8>(), count) } {
+        // SAFETY: the caller's duty.
+        Ok(bytes) => unsafe { on_chunk(chunk, |chunk| chunk.write_bytes(at, bytes)) },
+        Err(code) => code,
+    }
 }

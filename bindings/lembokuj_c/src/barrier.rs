@@ -1,17 +1,18 @@
 //! Barriers for C.
 
 use crate::codes::*;
-use crate::handle::{BARRIER, Handle, close, code, open, put, put_all};
+use crate::handle::{BARRIER, Handle, close, code, open, put, put_all, put_handle};
+use crate::limit::{Limit, Wait};
 use lembokuj::{Arrival, Barrier, BarrierError};
 use std::ffi::c_int;
 
 fn why(error: BarrierError) -> c_int {
     match error {
         BarrierError::Callers => LK_BAD_CALLERS,
-        BarrierError::Memory => LK_NO_MEMORY,
         BarrierError::AlreadyIn => LK_ALREADY_IN,
         BarrierError::NotIn => LK_NOT_IN,
         BarrierError::Twice => LK_TWICE,
+        _ => LK_NO_MEMORY,
     }
 }
 
@@ -82,6 +83,47 @@ pub unsafe extern "C" fn lk_barrier_new(callers: u32, out: *mut *mut Handle<Barr
 pub unsafe extern "C" fn lk_barrier_wait(barrier: *mut Handle<Barrier>, phase: *mut u64, elected: *mut c_int) -> c_int {
     // SAFETY: the same duty.
     unsafe { call(barrier, phase, elected, |barrier| barrier.wait().map(Some)) }
+}
+
+/// See the header.
+///
+/// # Safety
+///
+/// `barrier` is a handle that this call has alone; `phase` and `elected` are null or may be written; `limit` is null or a limit,
+/// whose function may be called.
+#[unsafe(no_mangle)]
+pub unsafe extern "C" fn lk_barrier_wait_within(
+    barrier: *mut Handle<Barrier>,
+    limit: *const Limit,
+    phase: *mut u64,
+    elected: *mut c_int,
+) -> c_int {
+    // SAFETY: the caller's duty.
+    let wait = unsafe { Limit::wait(limit) };
+    // SAFETY: the same duty.
+    unsafe {
+        call(barrier, phase, elected, |barrier| match wait {
+            Wait::Forever => barrier.wait().map(Some),
+            Wait::Time(time) => barrier.wait_timeout(time),
+            Wait::While(go_on) => barrier.wait_while(go_on),
+        })
+    }
+}
+
+/// See the header.
+///
+/// # Safety
+///
+/// `barrier` is a handle that no call closes meanwhile; `out` is null or may be written.
+#[unsafe(no_mangle)]
+pub unsafe extern "C" fn lk_barrier_handle(barrier: *const Handle<Barrier>, out: *mut *mut Handle<Barrier>) -> c_int {
+    // SAFETY: the caller's duty; nothing of the handle is changed.
+    code(unsafe {
+        open(barrier.cast_mut(), BARRIER)
+            .and_then(|barrier| barrier.handle().ok_or(LK_NO_HANDLE))
+            .and_then(|barrier| put_handle(out, BARRIER, barrier))
+            .map(|()| LK_OK)
+    })
 }
 
 /// See the header.

@@ -32,6 +32,8 @@ codes! {
     LK_WOULD_BLOCK = 1 => "full, or nothing there yet: call again",
     LK_DETACHED = 2 => "the other end is gone",
     LK_ABSENT = 3 => "the key was not there",
+    LK_BEGUN = 4 => "a part of the message is on the ring: send the same message again",
+    LK_OTHER_VALUE = 5 => "the key has another value than the one expected",
     LK_NULL = -1 => "a pointer is null",
     LK_KIND = -2 => "a handle of another kind",
     LK_FREED = -3 => "a chunk that was freed",
@@ -48,9 +50,17 @@ codes! {
     LK_TWICE = -14 => "the caller has arrived in this phase already",
     LK_FULL = -15 => "the table of contents is full",
     LK_KEY_THERE = -16 => "the key is there already",
+    LK_LONGER_THAN_RING = -17 => "the message is longer than the ring: lk_queue_send or parts take it",
+    LK_NO_HANDLE = -18 => "as many handles are out as it was made for",
 }
 
-/// The text of a code, which lives for ever.
+/// The version of the library, as `LK_VERSION` of the header it was built with. It lives forever.
+#[unsafe(no_mangle)]
+pub extern "C" fn lk_version() -> *const c_char {
+    const { terminated(concat!(env!("CARGO_PKG_VERSION"), "\0")) }.as_ptr()
+}
+
+/// The text of a code, which lives forever.
 #[unsafe(no_mangle)]
 pub extern "C" fn lk_message(code: c_int) -> *const c_char {
     text_of(code).as_ptr()
@@ -70,5 +80,7 @@ mod tests {
             .collect();
         let ours: Vec<(&str, i32)> = super::ALL.iter().map(|(name, number)| (&name[3..], *number)).collect();
         assert_eq!(stated, ours);
+        let version = format!("#define LK_VERSION \"{}\"", env!("CARGO_PKG_VERSION"));
+        assert!(header.lines().any(|line| line == version), "{version}");
     }
 }

@@ -1,6 +1,7 @@
 //! What a pointer that C holds points to.
 
-use crate::codes::{LK_FREED, LK_KIND, LK_NULL};
+use crate::codes::{LK_FREED, LK_KIND, LK_NO_MEMORY, LK_NULL};
+use std::alloc::{Layout, alloc};
 use std::ffi::c_int;
 
 /// What a handle is: an arbitrary word for each kind, so that other memory hardly looks like one.
@@ -17,6 +18,7 @@ pub(crate) const TABLE: Kind = Kind(0x6c6b_5441_424c_4501);
 pub(crate) const BARRIER: Kind = Kind(0x6c6b_4241_5252_4945);
 pub(crate) const TOC: Kind = Kind(0x6c6b_544f_4300_0001);
 pub(crate) const TOC_CHUNK: Kind = Kind(0x6c6b_544f_4300_0002);
+pub(crate) const WORD_TABLE: Kind = Kind(0x6c6b_574f_5244_0001);
 pub(crate) const FROZEN: Kind = Kind(0x6c6b_544f_4300_0003);
 
 /// A value that C holds by a pointer. The kind stands first, whatever the value is.
@@ -27,9 +29,16 @@ pub struct Handle<T> {
 }
 
 impl<T> Handle<T> {
-    /// Hands a value out to C.
-    pub(crate) fn new(kind: Kind, value: T) -> *mut Handle<T> {
-        Box::into_raw(Box::new(Handle { kind, value }))
+    /// Hands a value out to C; it is dropped if there is no memory for its handle.
+    pub(crate) fn new(kind: Kind, value: T) -> Result<*mut Handle<T>, c_int> {
+        // SAFETY: a handle has a kind, so its size is not 0.
+        let handle = unsafe { alloc(Layout::new::<Handle<T>>()) }.cast::<Handle<T>>();
+        if handle.is_null() {
+            return Err(LK_NO_MEMORY);
+        }
+        // SAFETY: the memory has the size and alignment of a handle, as `Box::from_raw` in `close` and `release` asks for too.
+        unsafe { handle.write(Handle { kind, value }) };
+        Ok(handle)
     }
 }
 
@@ -146,7 +155,23 @@ pub(crate) unsafe fn put<T>(place: *mut T, value: T) -> Result<(), c_int> {
     Ok(())
 }
 
-/// Writes a handle for each value to a list of places.
+/// Writes a handle for a value to a place that C gave, which is left as it is if there is no memory.
+///
+/// # Safety
+///
+/// The place is null or may be written.
+pub(crate) unsafe fn put_handle<T>(place: *mut *mut Handle<T>, kind: Kind, value: T) -> Result<(), c_int> {
+    if place.is_null() {
+        return Err(LK_NULL);
+    }
+    let handle = Handle::new(kind, value)?;
+    // SAFETY: the place may be written.
+    unsafe { place.write(handle) };
+    Ok(())
+}
+
+/// Writes a handle for each value to a list of places. If there is no memory for one, those before it are taken back, and their
+/// places are null.
 ///
 /// # Safety
 ///
@@ -157,7 +182,13 @@ pub(crate) unsafe fn put_all<T>(places: *mut *mut Handle<T>, kind: Kind, values:
     }
     for (at, value) in values.into_iter().enumerate() {
         // SAFETY: the list has room for all of them.
-        unsafe { places.add(at).write(Handle::new(kind, value)) };
+        if let Err(code) = unsafe { put_handle(places.add(at), kind, value) } {
+            for before in 0..at {
+                // SAFETY: a handle of this kind was written there just now.
+                let _ = unsafe { close(places.add(before), kind) };
+            }
+            return Err(code);
+        }
     }
     Ok(())
 }

@@ -1,3 +1,4 @@
+// SPDX-License-Identifier: PostgreSQL
 //! The library `lembokuj` for C: `include/lembokuj.h` has every call, who owns what, and which thread may call what.
 //!
 //! A handle is a pointer to a [`Handle`], whose first word says what it is. So a null pointer, a handle of another kind and
@@ -8,14 +9,18 @@ mod area;
 mod barrier;
 mod codes;
 mod handle;
+mod limit;
 mod queue;
 mod table;
 mod toc;
+mod word_table;
 
 pub use area::*;
 pub use barrier::*;
 pub use codes::*;
 pub use handle::Handle;
+pub use limit::Limit;
 pub use queue::*;
 pub use table::*;
 pub use toc::*;
+pub use word_table::*;

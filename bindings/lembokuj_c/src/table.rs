@@ -1,7 +1,7 @@
 //! Hash tables from numbers to numbers for C.
 
 use crate::codes::*;
-use crate::handle::{Handle, TABLE, close, code, open, put, put_all};
+use crate::handle::{Handle, TABLE, close, code, open, put, put_all, put_handle};
 use lembokuj::{NoSpace, Table, TableError, table_pages};
 use std::ffi::{c_int, c_void};
 
@@ -27,11 +27,34 @@ pub unsafe extern "C" fn lk_table_new(pages: u32, callers: u32, out: *mut *mut H
     match Numbers::with_pages(pages, callers) {
         // SAFETY: the caller's duty.
         Ok(handles) => code(unsafe { put_all(out, TABLE, handles) }.map(|()| LK_OK)),
-        Err(TableError::Pages) => LK_BAD_SIZE,
-        Err(TableError::Callers) => LK_BAD_CALLERS,
-        Err(TableError::Memory) => LK_NO_MEMORY,
-        Err(TableError::NoSpace) => LK_NO_SPACE,
+        Err(why) => why_no_table(why),
     }
+}
+
+/// The code of why there is no table.
+pub(crate) fn why_no_table(why: TableError) -> c_int {
+    match why {
+        TableError::Pages | TableError::Words => LK_BAD_SIZE,
+        TableError::Callers => LK_BAD_CALLERS,
+        TableError::NoSpace => LK_NO_SPACE,
+        _ => LK_NO_MEMORY,
+    }
+}
+
+/// See the header.
+///
+/// # Safety
+///
+/// `table` is a handle that no call closes meanwhile; `out` is null or may be written.
+#[unsafe(no_mangle)]
+pub unsafe extern "C" fn lk_table_handle(table: *const Handle<Numbers>, out: *mut *mut Handle<Numbers>) -> c_int {
+    // SAFETY: the caller's duty; nothing of the handle is changed.
+    code(unsafe {
+        open(table.cast_mut(), TABLE)
+            .and_then(|table| table.handle().ok_or(LK_NO_HANDLE))
+            .and_then(|table| put_handle(out, TABLE, table))
+            .map(|()| LK_OK)
+    })
 }
 
 /// Makes a call of a table, and tells C the value before it.
@@ -79,7 +102,7 @@ pub unsafe extern "C" fn lk_table_add(table: *mut Handle<Numbers>, key: u64, mor
     // SAFETY: the same duty.
     unsafe {
         call(table, old, |table| {
-            table.update(&key, more, |old, more| Some(old.unwrap_or(&0).wrapping_add(*more)))
+            table.update_with(&key, more, |old, more| Some(old.unwrap_or(&0).wrapping_add(*more)))
         })
     }
 }
@@ -92,7 +115,7 @@ pub unsafe extern "C" fn lk_table_add(table: *mut Handle<Numbers>, key: u64, mor
 #[unsafe(no_mangle)]
 pub unsafe extern "C" fn lk_table_get(table: *mut Handle<Numbers>, key: u64, value: *mut u64) -> c_int {
     // SAFETY: the same duty.
-    unsafe { call(table, value, |table| Ok(table.find(&key))) }
+    unsafe { call(table, value, |table| Ok(table.get(&key))) }
 }
 
 /// See the header.

@@ -1,17 +1,17 @@
 //! Tables of contents for C.
 
 use crate::codes::*;
-use crate::handle::{FROZEN, Handle, TOC, TOC_CHUNK, close, code, open, put};
+use crate::handle::{FROZEN, Handle, TOC, TOC_CHUNK, close, code, open, put, put_handle};
 use lembokuj::{Toc, TocBuilder, TocChunk, TocError};
 use std::ffi::c_int;
 
 fn why(error: TocError) -> c_int {
     match error {
         TocError::Size => LK_BAD_SIZE,
-        TocError::Memory => LK_NO_MEMORY,
         TocError::Full => LK_FULL,
         TocError::KeyThere => LK_KEY_THERE,
         TocError::OtherTable => LK_OTHER_AREA,
+        _ => LK_NO_MEMORY,
     }
 }
 
@@ -27,7 +27,7 @@ pub unsafe extern "C" fn lk_toc_new(bytes: u64, out: *mut *mut Handle<TocBuilder
     }
     match TocBuilder::new(bytes) {
         // SAFETY: the caller's duty.
-        Ok(builder) => code(unsafe { put(out, Handle::new(TOC, builder)) }.map(|()| LK_OK)),
+        Ok(builder) => code(unsafe { put_handle(out, TOC, builder) }.map(|()| LK_OK)),
         Err(error) => why(error),
     }
 }
@@ -45,7 +45,7 @@ pub unsafe extern "C" fn lk_toc_allocate(toc: *mut Handle<TocBuilder>, bytes: u6
     // SAFETY: the caller's duty.
     match unsafe { open(toc, TOC) }.map(|builder| builder.allocate(bytes)) {
         // SAFETY: the caller's duty.
-        Ok(Ok(chunk)) => code(unsafe { put(out, Handle::new(TOC_CHUNK, chunk)) }.map(|()| LK_OK)),
+        Ok(Ok(chunk)) => code(unsafe { put_handle(out, TOC_CHUNK, chunk) }.map(|()| LK_OK)),
         Ok(Err(error)) => why(error),
         Err(code) => code,
     }
@@ -59,7 +59,7 @@ pub unsafe extern "C" fn lk_toc_allocate(toc: *mut Handle<TocBuilder>, bytes: u6
 #[unsafe(no_mangle)]
 pub unsafe extern "C" fn lk_toc_store(chunk: *mut Handle<TocChunk>, at: u64, value: u64) -> c_int {
     // SAFETY: the caller's duty.
-    code(unsafe { open(chunk, TOC_CHUNK) }.map(|chunk| if chunk.store(at, value) { LK_OK } else { LK_NO_WORD }))
+    code(unsafe { open(chunk, TOC_CHUNK) }.map(|chunk| if chunk.store(at, value).is_ok() { LK_OK } else { LK_NO_WORD }))
 }
 
 /// See the header.
@@ -103,7 +103,7 @@ pub unsafe extern "C" fn lk_toc_freeze(toc: *mut *mut Handle<TocBuilder>, out: *
     // SAFETY: the caller's duty.
     match unsafe { close(toc, TOC) } {
         // SAFETY: the caller's duty.
-        Ok(Some(builder)) => code(unsafe { put(out, Handle::new(FROZEN, builder.freeze())) }.map(|()| LK_OK)),
+        Ok(Some(builder)) => code(builder.freeze().map_err(why).and_then(|toc| unsafe { put_handle(out, FROZEN, toc) }).map(|()| LK_OK)),
         Ok(None) => LK_NULL,
         Err(code) => code,
     }
@@ -120,7 +120,7 @@ pub unsafe extern "C" fn lk_toc_share_again(toc: *mut Handle<Toc>, out: *mut *mu
         return LK_NULL;
     }
     // SAFETY: the caller's duty.
-    code(unsafe { open(toc, FROZEN).and_then(|toc| put(out, Handle::new(FROZEN, toc.share()))) }.map(|()| LK_OK))
+    code(unsafe { open(toc, FROZEN).and_then(|toc| put_handle(out, FROZEN, toc.share())) }.map(|()| LK_OK))
 }
 
 /// See the header.

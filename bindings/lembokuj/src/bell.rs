@@ -1,0 +1,205 @@
+//! How the end of a queue sleeps until the other end has done something.
+//!
+//! An end that waits tries some times awake, notes here that it sleeps, tries once more, and parks. The other end looks here after
+//! each of its calls. The counts of a ring and the flag here are sequentially consistent: so either that look finds that somebody
+//! sleeps, or the last try saw what the call did, and no ring of the bell is missed.
+
+use std::hint::spin_loop;
+use std::sync::atomic::AtomicBool;
+use std::sync::atomic::Ordering::SeqCst;
+use std::sync::{Arc, Condvar, Mutex, PoisonError};
+#[cfg(feature = "async")]
+use std::task::Waker;
+use std::thread;
+use std::time::{Duration, Instant};
+
+/// How many tries are made awake before the first sleep: so many that spin, each twice as long as the one before, and so many that
+/// yield the processor.
+const SPINS: u32 = 7;
+const YIELDS: u32 = 24;
+
+/// How often a wait asks its caller whether it is to go on.
+pub(crate) const ASKED_EVERY: Duration = Duration::from_millis(10);
+
+/// How long a wait may last.
+pub(crate) enum Limit<'a> {
+    /// Until there is something.
+    Forever,
+    /// Or until this time.
+    Until(Instant),
+    /// Or as long as the function says so, which is asked about every 10 ms.
+    While(&'a mut dyn FnMut() -> bool),
+}
+
+impl Limit<'_> {
+    /// A limit of so much time from now on. A time beyond all clocks is none.
+    pub(crate) fn after(time: Duration) -> Limit<'static> {
+        Instant::now().checked_add(time).map_or(Limit::Forever, Limit::Until)
+    }
+
+    /// How long to sleep before the next try, None for as long as it takes; or the wait is over.
+    pub(crate) fn next_sleep(&mut self) -> Result<Option<Duration>, Over> {
+        match self {
+            Limit::Forever => Ok(None),
+            Limit::Until(end) => match end.saturating_duration_since(Instant::now()) {
+                Duration::ZERO => Err(Over),
+                left => Ok(Some(left)),
+            },
+            Limit::While(asks) => asks().then_some(Some(ASKED_EVERY)).ok_or(Over),
+        }
+    }
+}
+
+/// The limit of a wait is reached.
+pub(crate) struct Over;
+
+/// Where a thread parks. It is the library's own, so a wake-up that comes late disturbs nobody else's parking.
+#[derive(Default)]
+pub(crate) struct Parker {
+    is_rung: Mutex<bool>,
+    rung: Condvar,
+}
+
+thread_local! {
+    static PARKER: Arc<Parker> = Arc::default();
+}
+
+impl Parker {
+    /// This thread's.
+    pub(crate) fn of_this_thread() -> Arc<Parker> {
+        PARKER.try_with(Arc::clone).unwrap_or_default()
+    }
+
+    /// Sleeps until it was rung since the last time, or the time is over.
+    fn park(&self, time: Option<Duration>) {
+        let is_rung = self.is_rung.lock().unwrap_or_else(PoisonError::into_inner);
+        let mut is_rung = match time {
+            None => self.rung.wait_while(is_rung, |is_rung| !*is_rung).unwrap_or_else(PoisonError::into_inner),
+            Some(time) => {
+                let woken = self.rung.wait_timeout_while(is_rung, time, |is_rung| !*is_rung);
+                woken.unwrap_or_else(PoisonError::into_inner).0
+            }
+        };
+        *is_rung = false;
+    }
+
+    fn unpark(&self) {
+        *self.is_rung.lock().unwrap_or_else(PoisonError::into_inner) = true;
+        self.rung.notify_one();
+    }
+}
+
+/// Whom to wake.
+enum Sleeper {
+    Thread(Arc<Parker>),
+    #[cfg(feature = "async")]
+    Task(Waker),
+}
+
+/// Where one end sleeps. It has cache lines of its own, since the other end reads it at each call.
+#[derive(Default)]
+#[repr(align(128))]
+pub(crate) struct Bell {
+    sleeps: AtomicBool,
+    sleeper: Mutex<Option<Sleeper>>,
+}
+
+impl std::fmt::Debug for Bell {
+    fn fmt(&self, f: &mut std::fmt::Formatter<'_>) -> std::fmt::Result {
+        f.write_str("Bell")
+    }
+}
+
+impl Bell {
+    /// Wakes the end that sleeps here, if one does. One load if none does.
+    #[inline]
+    pub(crate) fn ring(&self) {
+        if self.sleeps.load(SeqCst) {
+            self.wake();
+        }
+    }
+
+    #[cold]
+    fn wake(&self) {
+        #[cfg_attr(not(feature = "async"), expect(unused_mut, reason = "only a task is taken out"))]
+        let mut sleeper = self.sleeper.lock().unwrap_or_else(PoisonError::into_inner);
+        match &*sleeper {
+            Some(Sleeper::Thread(parker)) => parker.unpark(),
+            // A task attaches itself anew at its next poll.
+            #[cfg(feature = "async")]
+            Some(Sleeper::Task(_)) => {
+                self.sleeps.store(false, SeqCst);
+                if let Some(Sleeper::Task(waker)) = sleeper.take() {
+                    drop(sleeper);
+                    waker.wake();
+                }
+            }
+            None => {}
+        }
+    }
+
+    /// From now on each ring wakes this thread; a try has to follow before it sleeps.
+    pub(crate) fn attach_thread(&self, parker: &Arc<Parker>) {
+        self.attach(Sleeper::Thread(Arc::clone(parker)));
+    }
+
+    /// The next ring wakes this task; a try has to follow before it is pending.
+    #[cfg(feature = "async")]
+    pub(crate) fn attach_task(&self, waker: &Waker) {
+        self.attach(Sleeper::Task(waker.clone()));
+    }
+
+    fn attach(&self, sleeper: Sleeper) {
+        let mut place = self.sleeper.lock().unwrap_or_else(PoisonError::into_inner);
+        *place = Some(sleeper);
+        self.sleeps.store(true, SeqCst);
+    }
+
+    /// Nobody sleeps here any more.
+    pub(crate) fn detach(&self) {
+        let mut place = self.sleeper.lock().unwrap_or_else(PoisonError::into_inner);
+        *place = None;
+        self.sleeps.store(false, SeqCst);
+    }
+
+    /// What a try comes to, which is made again after each ring until it comes to something, or the limit is reached.
+    pub(crate) fn wait<T>(&self, limit: &mut Limit<'_>, mut attempt: impl FnMut() -> Option<T>) -> Option<T> {
+        if let Some(done) = awake(&mut attempt) {
+            return Some(done);
+        }
+        let parker = Parker::of_this_thread();
+        self.attach_thread(&parker);
+        let done = asleep(&parker, limit, &mut attempt);
+        self.detach();
+        done
+    }
+}
+
+/// Some tries by a thread that stays awake.
+pub(crate) fn awake<T>(attempt: &mut impl FnMut() -> Option<T>) -> Option<T> {
+    for round in 0..SPINS + YIELDS {
+        if let Some(done) = attempt() {
+            return Some(done);
+        }
+        if round < SPINS {
+            (0..1 << round).for_each(|_| spin_loop());
+        } else {
+            thread::yield_now();
+        }
+    }
+    None
+}
+
+/// Tries by a thread that sleeps in between: its parker is attached to the bells that tell of something new.
+pub(crate) fn asleep<T>(parker: &Parker, limit: &mut Limit<'_>, attempt: &mut impl FnMut() -> Option<T>) -> Option<T> {
+    loop {
+        if let Some(done) = attempt() {
+            return Some(done);
+        }
+        match limit.next_sleep() {
+            Ok(time) => parker.park(time),
+            // The other end may have come meanwhile.
+            Err(Over) => return attempt(),
+        }
+    }
+}

@@ -1,0 +1,63 @@
+//! A wait for any of several receivers.
+
+use crate::Rx;
+use crate::bell::{Limit, Parker, asleep, awake};
+use std::time::Duration;
+
+/// Waits until one of the receivers has a message, or its sender has gone, and gives its place in the list: its next call does not
+/// wait. Of several that are ready it gives the one that was chosen longest ago. With no receivers it waits forever.
+///
+/// ```
+/// use lembokuj::{ReceiveError, queue, select};
+///
+/// let (mut tx, mut one) = queue(64, 8)?;
+/// let (other, mut two) = queue(64, 8)?;
+/// tx.send(b"one")?;
+/// assert_eq!(select(&mut [&mut one, &mut two]), 0);
+/// assert_eq!(one.try_receive(), Ok(&b"one"[..]));
+/// drop(other);
+/// assert_eq!(select(&mut [&mut one, &mut two]), 1);
+/// assert_eq!(two.try_receive(), Err(ReceiveError::Detached));
+/// # Ok::<(), Box<dyn std::error::Error>>(())
+/// ```
+pub fn select(receivers: &mut [&mut Rx]) -> usize {
+    loop {
+        if let Some(at) = select_by(receivers, &mut Limit::Forever) {
+            return at;
+        }
+    }
+}
+
+/// As [`select`], but waits no longer than so much time: None then.
+#[must_use]
+pub fn select_timeout(receivers: &mut [&mut Rx], time: Duration) -> Option<usize> {
+    select_by(receivers, &mut Limit::after(time))
+}
+
+/// As [`select`], but waits only while the function says so, which is asked when the wait begins to sleep and then about every
+/// 10 ms: None then.
+#[must_use]
+pub fn select_while(receivers: &mut [&mut Rx], mut go_on: impl FnMut() -> bool) -> Option<usize> {
+    select_by(receivers, &mut Limit::While(&mut go_on))
+}
+
+fn select_by(receivers: &mut [&mut Rx], limit: &mut Limit<'_>) -> Option<usize> {
+    let mut found = awake(&mut || ready(receivers));
+    if found.is_none() {
+        let parker = Parker::of_this_thread();
+        receivers.iter().for_each(|receiver| receiver.bell().attach_thread(&parker));
+        found = asleep(&parker, limit, &mut || ready(receivers));
+        receivers.iter().for_each(|receiver| receiver.bell().detach());
+    }
+    let last = receivers.iter().map(|receiver| receiver.chosen).max().unwrap_or(0);
+    if let Some(at) = found {
+        receivers[at].chosen = last + 1;
+    }
+    found
+}
+
+/// The place of the receiver that is ready and was chosen longest ago.
+fn ready(receivers: &mut [&mut Rx]) -> Option<usize> {
+    let are_ready = receivers.iter_mut().enumerate().filter_map(|(at, receiver)| receiver.is_ready().then_some((receiver.chosen, at)));
+    are_ready.min().map(|(_, at)| at)
+}
