@@ -40,6 +40,22 @@ def same(what, got, want):
         sys.exit(f"embedding: {what} printed\n{got}and not\n{want}")
 
 
+CMAKE = """cmake_minimum_required(VERSION 3.10)
+project(tally C)
+find_package(lembokuj 0.2 REQUIRED)
+add_executable(tally tally.c)
+target_link_libraries(tally lembokuj::lembokuj)
+"""
+
+
+def cmake(room, output):
+    """Builds tally.c by the package file for CMake."""
+    with open(f"{room}/CMakeLists.txt", "w", encoding="utf-8") as file:
+        file.write(CMAKE)
+    run("cmake -S . -B made -DCMAKE_PREFIX_PATH=$PWD/dist && cmake --build made", room)
+    same("find_package(lembokuj)", run("made/tally", room), output)
+
+
 def main():
     dist = os.path.abspath(sys.argv[1])
     page = blocks()
@@ -47,26 +63,35 @@ def main():
     rust = next(text for kind, text in page if kind == "rust")
     c = next(text for kind, text in page if kind == "c")
     with tempfile.TemporaryDirectory(prefix="embedding-") as room:
+        # The page's folder lies beside a checkout called lembokuj, and has the programs and libraries in dist.
+        os.symlink(REPOSITORY, f"{room}/lembokuj")
+        room = f"{room}/yours"
+        os.mkdir(room)
+        os.symlink(dist, f"{room}/dist")
         command, output = wanted(consoles[0])
-        same(command, run(command.replace("bindings/out/dist", dist), REPOSITORY), output)
+        same(command, run(command, room), output)
 
         new, _ = wanted(consoles[1])
-        run(new.replace("../bindings", BINDINGS), room)
+        run(new, room)
         with open(f"{room}/counting/src/main.rs", "w", encoding="utf-8") as file:
             file.write(rust)
         command, output = wanted(consoles[2])
         same(command, run(command, f"{room}/counting"), output)
+        with open(f"{room}/counting/Cargo.lock", encoding="utf-8") as lock:
+            names = re.findall('^name = "(.*)"$', lock.read(), re.M)
+        same("Cargo.lock", " ".join(names), "counting lembokuj")
 
         with open(f"{room}/tally.c", "w", encoding="utf-8") as file:
             file.write(c)
         plain = next(text for text in re.findall("`(cc [^`]*)`", open(f"{REPOSITORY}/docs/EMBEDDING.md", encoding="utf-8").read()))
-        run(plain.replace("bindings/out/dist", dist) + " -Wall -Wextra -Werror -o tally-plain", room)
-        export, build = consoles[3].splitlines()[:2]
+        run(plain + " -Wall -Wextra -Werror -o tally-plain", room)
         output = "".join(line + "\n" for line in consoles[3].splitlines()[2:])
         same(plain, run("./tally-plain", room), output)
         if shutil.which("pkg-config"):
-            lines = export.removeprefix("$ ").replace("$PWD/bindings/out/dist", dist) + "; " + build.removeprefix("$ ")
+            lines = "; ".join(line.removeprefix("$ ") for line in consoles[3].splitlines()[:2])
             same(lines, run(lines, room), output)
+        if shutil.which("cmake"):
+            cmake(room, output)
     print("embedding: as docs/EMBEDDING.md says")
 
 

@@ -293,5 +293,26 @@ class Workspaces(unittest.TestCase):
             self.assertEqual((tool.main(["--help"]), tool.main(["a", "b"])), (2, 2))
 
 
+class Bundles(unittest.TestCase):
+    def test_paths_lead_to_the_modules_of_the_package(self):
+        text = "use low::Thing;\nuse crate::own;\npub(crate) fn f(x: low::Other) -> u64 { a.low::<u8>(); $crate::low::g() }"
+        self.assertEqual(
+            tool.in_bundle(text, "high", ["high", "low"]),
+            "use crate::parts::low::Thing;\nuse crate::parts::high::own;\n"
+            "pub(crate) fn f(x: crate::parts::low::Other) -> u64 { a.low::<u8>(); $crate::parts::high::low::g() }",
+        )
+
+    def test_the_library_keeps_its_own_paths(self):
+        self.assertEqual(tool.in_bundle("use crate::low::Thing; use low::Thing;", "lembokuj", ["low"]), "use crate::low::Thing; use crate::parts::low::Thing;")
+
+    def test_another_folder_stays(self):
+        with tempfile.TemporaryDirectory() as folder:
+            with open(os.path.join(folder, "mine"), "w", encoding="utf-8") as file:
+                file.write("mine")
+            with self.assertRaises(tool.Refused):
+                tool.make_bundle(folder)
+            self.assertEqual(os.listdir(folder), ["mine"])
+
+
 if __name__ == "__main__":
     unittest.main()
