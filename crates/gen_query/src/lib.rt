@@ -11,7 +11,7 @@
 ghost use Rattle.std.specs.Prelude.{◌≡◌, ◌≢◌, ◌⊎◌, ◌≤◌, IfErr, IfOk, IsNone, IsSome, OnOk, Some, Err};
 ghost use Rattle.par_io.specs.Faults.{Rose};
 ghost use Rattle.par_model.specs.Outcome.{most_rows};
-ghost use Rattle.query_answer.specs.Words.{texts};
+ghost use Rattle.answer_text.specs.Words.{texts};
 ghost use Rattle.gen_query.specs.Summary.{IsAnswered, IsBegun};
 ghost use Rattle.gen_query.specs.Used.{IsGatheredBy};
 ghost use Rattle.gen_query.specs.Words.{asked_by, gen_of};

@@ -3,7 +3,7 @@
 ghost use Rattle.std.specs.Prelude.{◌≡◌, ◌≢◌, ◌≤◌, ◌<◌, ◌^◌, ◌-◌, IfSome, option_map};
 ghost use Rattle.par_model.specs.Outcome.{most_rows};
 ghost use Rattle.gen_query.specs.Words.{asked_by, asked_in, gen_of, is_gen, number_in, rows_in, seed_in};
-ghost use Rattle.query_answer.specs.Words.{texts};
+ghost use Rattle.answer_text.specs.Words.{texts};
 
 /// The most rows, as many as an input may have.
 const MOST_ROWS: u64 = 4_194_304;

@@ -1,8 +1,8 @@
 -- The clauses of a call that ended for a reason, over what words ask for.
 use Rattle.std.proofs.Common.{◌≡◌, ◌≢◌, ◌⊎◌, ℕ, List, Option, None, Some, IfSome, refl, subst, sym}
 use Rattle.std.specs.Prelude.{IsNone}
-use Rattle.query_answer.specs.Lines.{line}
-use Rattle.query_answer.specs.declared.status.TheConstants.{NO_MEMORY}
+use Rattle.answer_text.specs.Lines.{line}
+use Rattle.answer_text.specs.declared.status.TheConstants.{NO_MEMORY}
 use Rattle.join_query.specs.Lines.{IsLine, IsNoFault, IsStatus, name_of}
 use Rattle.join_query.specs.Stops.{IsExplained, stop_status, stop_text}
 use Rattle.join_query.specs.Words.{Asked}

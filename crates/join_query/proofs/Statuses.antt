@@ -1,8 +1,8 @@
 -- The status and the line of a reason to have no table.
 use Rattle.std.proofs.Common.{◌≡◌, ◌≢◌, ◌⊎◌, ℕ, List, Option, None, Some, IfSome, ap, arith, inl, inr, refl}
 use Rattle.std.specs.Prelude.{Contains, IsNone}
-use Rattle.query_answer.specs.Lines.{line, statuses}
-use Rattle.query_answer.specs.declared.status.TheConstants.{NO_MEMORY, TABLE}
+use Rattle.answer_text.specs.Lines.{line, statuses}
+use Rattle.answer_text.specs.declared.status.TheConstants.{NO_MEMORY, TABLE}
 use Rattle.join_query.specs.Lines.{IsLine, IsNoFault, IsStatus, cause_status, name_of, status_of}
 use Rattle.join_query.specs.Outcome.{Outcome, Fails, IsOutcome, Joins}
 use Rattle.join_query.specs.Stops.{IsExplained, stop_status, stop_text}

@@ -6,7 +6,7 @@ use Rattle.hash_join.specs.declared.Joined.{Joined}
 use Rattle.join_query.specs.declared.cause.Cause.TheVariants as cause
 use Rattle.join_query.specs.declared.stop.Stop.{Stop}
 use Rattle.join_query.specs.declared.stop.Stop.TheVariants as stop
-use Rattle.query_answer.specs.declared.status.TheConstants.{TABLE}
+use Rattle.answer_text.specs.declared.status.TheConstants.{TABLE}
 
 -- the exit status: that of a table, or the one that says why there is none
 abbrev pub status_in : Result Joined ℕ → ℕ

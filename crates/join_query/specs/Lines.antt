@@ -1,8 +1,8 @@
 -- The statuses of the outcomes, and what their lines say.
 use Rattle.std.specs.Prelude.{◌≡◌, ◌≢◌, ◌==◌, ◌++◌, [], ℕ, Bool, true, false, List, Option, None, Some, IfSome, IsNone, codes, decimal, if◌then◌else◌}
 use Rattle.par_model.specs.Refuse.{width_cause}
-use Rattle.query_answer.specs.Lines.{line}
-use Rattle.query_answer.specs.declared.status.TheConstants.{MISUSED, NO_MEMORY, READ_FAULT, REFUSED, TABLE, TOO_LARGE, WRITE_FAULT}
+use Rattle.answer_text.specs.Lines.{line}
+use Rattle.answer_text.specs.declared.status.TheConstants.{MISUSED, NO_MEMORY, READ_FAULT, REFUSED, TABLE, TOO_LARGE, WRITE_FAULT}
 use Rattle.join_query.specs.Outcome.{Outcome, IsOutcome, Fails, Joins}
 use Rattle.join_query.specs.Words.{Asked}
 use Rattle.join_query.specs.declared.cause.Cause.{Cause}

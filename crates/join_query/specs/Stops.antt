@@ -2,7 +2,7 @@
 use Rattle.std.specs.Prelude.{ℕ, List, Option, IfSome, codes, ⊤}
 use Rattle.csv_rows.specs.declared.input.ReadAnswer.{ReadAnswer}
 use Rattle.csv_rows.specs.declared.input.ReadAnswer.TheVariants as reading
-use Rattle.query_answer.specs.declared.status.TheConstants.{NO_MEMORY, READ_FAULT, WRITE_FAULT}
+use Rattle.answer_text.specs.declared.status.TheConstants.{NO_MEMORY, READ_FAULT, WRITE_FAULT}
 use Rattle.join_query.specs.Lines.{cause_status, cause_text}
 use Rattle.join_query.specs.Outcome.{Outcome, IsOutcome, Fails}
 use Rattle.join_query.specs.Words.{Asked}

@@ -3,8 +3,8 @@
 ghost use Rattle.std.specs.Prelude.{◌≡◌, ◌++◌};
 ghost use Rattle.join_query.specs.Lines.{cause_status, cause_text, refusal_text, side_text};
 
+use answer_text::{MISUSED, REFUSED, TOO_LARGE};
 use par_model::WIDTH_CAUSE;
-use query_answer::{MISUSED, REFUSED, TOO_LARGE};
 
 /// Why there is no table. Where a cause speaks of one of the two tables, it tells whether that is the right one.
 #[derive(Debug, Clone, Copy, PartialEq, Eq)]

@@ -18,11 +18,11 @@ mod tables;
 mod words;
 mod writing;
 
+pub use answer_text::{MISUSED, NO_MEMORY, READ_FAULT, REFUSED, TABLE, TOO_LARGE, WRITE_FAULT};
 pub use cause::Cause;
 pub use cut::find_separator;
 pub use hash_join::Joined;
 pub use joining::join_tables;
-pub use query_answer::{MISUSED, NO_MEMORY, READ_FAULT, REFUSED, TABLE, TOO_LARGE, WRITE_FAULT};
 pub use ready::{Ready, prepare};
 pub use stop::Stop;
 pub use words::{JoinWords, is_join, read_words};

@@ -2,14 +2,14 @@
 
 ghost use Rattle.std.specs.Prelude.{◌≡◌, ◌++◌, map};
 ghost use Rattle.std.specs.List.{concat};
-ghost use Rattle.query_answer.specs.Lines.{IsSaid, line};
+ghost use Rattle.answer_text.specs.Lines.{IsSaid, line};
 ghost use Rattle.join_query.specs.Stops.{stop_of_reading, stop_status, stop_text};
 ghost use Rattle.join_query.specs.declared.stop.Stop.TheVariants as stop;
 
 use crate::cause::Cause;
+use answer_text::{NO_MEMORY, READ_FAULT, WRITE_FAULT, write_pieces};
 use csv_rows::ReadAnswer;
 use par_io::Sink;
-use query_answer::{NO_MEMORY, READ_FAULT, WRITE_FAULT, write_pieces};
 use std::alloc::AllocError;
 
 /// Why there is no table, or not all of it.

@@ -1,7 +1,7 @@
 //! The words `join COLUMN N`.
 
 ghost use Rattle.std.specs.Prelude.{◌≡◌, ◌≤◌, IfSome, option_map};
-ghost use Rattle.query_answer.specs.Words.{texts};
+ghost use Rattle.answer_text.specs.Words.{texts};
 ghost use Rattle.join_query.specs.Words.{asked_by, asked_in, is_join, join_of};
 
 use plan_spec::number;

@@ -8,15 +8,15 @@ ghost use Rattle.csv.specs.Writing.{default_writer, row_text};
 ghost use Rattle.join_pairs.specs.Join.{joined_records};
 ghost use Rattle.par_io.specs.Faults.{Rose};
 ghost use Rattle.par_model.specs.Table.{table_text};
-ghost use Rattle.query_answer.specs.Held.{Puts};
+ghost use Rattle.answer_text.specs.Held.{Puts};
 ghost use Rattle.join_query.specs.Writable.{AreWritable, HasHeaders, beside};
 ghost use Rattle.join_query.specs.declared.stop.Stop.TheVariants as stop;
 
 use crate::stop::Stop;
+use answer_text::{Held, Lines, put_fields, put_in_threads};
 use csv_rows::{Record, RowStore};
 use join_pairs::{Pair, Pairs};
 use par_io::Sink;
-use query_answer::{Held, Lines, put_fields, put_in_threads};
 use std::alloc::Global;
 use std::thread::Threads;
 

@@ -2,7 +2,7 @@
 use Rattle.std.proofs.Common.{◌≡◌, ◌≢◌, ◌⊎◌, inl, inr, ℕ, List, Option, None, Some, IfSome}
 use Rattle.std.proofs.lemmas.Bool.Decides.{eqb_tells}
 use Rattle.std.proofs.lemmas.Option.{IfSome_then}
-use Rattle.query_answer.specs.declared.status.TheConstants.{NO_MEMORY, READ_FAULT, WRITE_FAULT}
+use Rattle.answer_text.specs.declared.status.TheConstants.{NO_MEMORY, READ_FAULT, WRITE_FAULT}
 use Rattle.par_gather.specs.Answers.{Answers, IsStatus}
 use Rattle.par_gather.specs.Query.{Query, OfTable, OfJoin, OfGen, IsMisuse, input_of}
 use Rattle.par_gather.specs.declared.Ran.{Ran}

@@ -11,7 +11,7 @@ use Rattle.join_query.specs.Outcome.{IsOutcome, Joins}
 use Rattle.join_query.specs.Used.{IsJoinBy}
 use Rattle.join_query.specs.Words.{Asked}
 use Rattle.par_model.specs.Table.{table_text}
-use Rattle.query_answer.specs.declared.status.TheConstants.{MISUSED, TABLE, WRITE_FAULT}
+use Rattle.answer_text.specs.declared.status.TheConstants.{MISUSED, TABLE, WRITE_FAULT}
 use Rattle.par_gather.specs.Answers.{Answers, IsLine, IsText}
 use Rattle.par_gather.specs.Query.{OfJoin}
 use Rattle.par_gather.specs.Runs.{IsRun}

@@ -6,8 +6,8 @@ use Rattle.std.specs.Io.KnownBytes.{Appends}
 use Rattle.join_query.specs.Lines.{IsNoFault}
 use Rattle.par_model.specs.Outcome.{Table}
 use Rattle.plan_spec.specs.Query.{Query}
-use Rattle.query_answer.specs.Lines.{line}
-use Rattle.query_answer.specs.declared.status.TheConstants.{MISUSED, TABLE}
+use Rattle.answer_text.specs.Lines.{line}
+use Rattle.answer_text.specs.declared.status.TheConstants.{MISUSED, TABLE}
 use Rattle.table_query.specs.Answers.{outcome_over, status_of}
 use Rattle.table_query.specs.Asked.{plan_in, workers_in}
 use Rattle.table_query.specs.Stops.{IsExplained, IsFirstStop, stop_status, stop_text}

@@ -8,8 +8,8 @@ use Rattle.gen_query.specs.Words.{Asked}
 use Rattle.gen_query.specs.declared.GenAnswer.{GenAnswer}
 use Rattle.gen_query.specs.declared.GenAnswer.TheVariants as generating
 use Rattle.join_query.specs.Lines.{IsNoFault}
-use Rattle.query_answer.specs.Lines.{line}
-use Rattle.query_answer.specs.declared.status.TheConstants.{MISUSED, READ_FAULT, TABLE, WRITE_FAULT}
+use Rattle.answer_text.specs.Lines.{line}
+use Rattle.answer_text.specs.declared.status.TheConstants.{MISUSED, READ_FAULT, TABLE, WRITE_FAULT}
 use Rattle.table_query.specs.Asked.{usage_text}
 use Rattle.table_query.specs.Stops.{stop_status, stop_text}
 use Rattle.table_query.specs.declared.wanted.Wanted.TheVariants.{Groups}

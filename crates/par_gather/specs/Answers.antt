@@ -8,13 +8,13 @@ use Rattle.join_query.specs.Lines.{IsNoFault}
 use Rattle.join_query.specs.Lines as joined
 use Rattle.join_query.specs.Outcome as join
 use Rattle.join_query.specs.Words.{Asked}
-use Rattle.merge_answers.specs.Ordered.{IsOrderText}
+use Rattle.order_query.specs.Ordered.{IsOrderText}
 use Rattle.par_model.specs.Outcome.{Outcome}
 use Rattle.par_model.specs.Table.{table_text}
-use Rattle.plan_answers.specs.Answers.{IsTableText}
-use Rattle.query_answer.specs.Lines.{line}
+use Rattle.group_query.specs.Answers.{IsTableText}
+use Rattle.answer_text.specs.Lines.{line}
 use Rattle.row_blocks.specs.Blocks as blocks
-use Rattle.query_answer.specs.declared.status.TheConstants.{MISUSED, REFUSED, TABLE, WRITE_FAULT}
+use Rattle.answer_text.specs.declared.status.TheConstants.{MISUSED, REFUSED, TABLE, WRITE_FAULT}
 use Rattle.table_query.specs.Answers.{IsOutcome, outcome_over, status_of}
 use Rattle.table_query.specs.Asked.{plan_in, usage_in, usage_text, workers_in}
 use Rattle.table_query.specs.Lines.{NamesFirst}

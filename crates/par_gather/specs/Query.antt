@@ -9,7 +9,7 @@ use Rattle.join_query.specs.Words as join
 use Rattle.join_query.specs.declared.cause.Cause.TheVariants as cause
 use Rattle.plan_spec.specs.Merging.{is_merge}
 use Rattle.plan_spec.specs.Query as plan
-use Rattle.query_answer.specs.declared.status.TheConstants.{MISUSED, NO_MEMORY}
+use Rattle.answer_text.specs.declared.status.TheConstants.{MISUSED, NO_MEMORY}
 use Rattle.table_query.specs.Asked.{asked, plan_in, usage_in, usage_text}
 use Rattle.table_query.specs.declared.wanted.Wanted.{Wanted}
 use Rattle.table_query.specs.declared.wanted.Wanted.TheVariants.{Groups, Order}

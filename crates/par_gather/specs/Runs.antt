@@ -2,8 +2,8 @@
 use Rattle.std.specs.Prelude.{ℕ, List, Option, Some}
 use Rattle.gen_query.specs.Used.{IsGatheredBy}
 use Rattle.join_query.specs.Used.{IsJoinBy}
-use Rattle.merge_answers.specs.Ordered.{IsMergedBy}
-use Rattle.plan_answers.specs.Made.{IsMadeBy}
+use Rattle.order_query.specs.Ordered.{IsMergedBy}
+use Rattle.group_query.specs.Made.{IsMadeBy}
 use Rattle.table_query.specs.declared.wanted.Wanted.TheVariants.{Groups, Order}
 use Rattle.par_gather.specs.Query.{Query, OfTable, OfJoin, OfGen}
 use Rattle.par_gather.specs.declared.Ran.{Ran}

@@ -1,7 +1,7 @@
 //! The forms of a command line.
 
 ghost use Rattle.std.specs.Prelude.{◌≡◌};
-ghost use Rattle.query_answer.specs.Words.{texts};
+ghost use Rattle.answer_text.specs.Words.{texts};
 ghost use Rattle.par_gather.specs.Query.{form_of};
 
 use gen_query::is_gen;

@@ -12,8 +12,8 @@
 
 ghost use Rattle.std.specs.Prelude.{◌≡◌, ◌≢◌, ◌⊎◌, ℕ, List, Option, IfSome, None, Contains};
 ghost use Rattle.par_io.specs.Faults.{Rose};
-ghost use Rattle.query_answer.specs.Lines.{IsSaid, line, statuses};
-ghost use Rattle.query_answer.specs.Words.{texts};
+ghost use Rattle.answer_text.specs.Lines.{IsSaid, line, statuses};
+ghost use Rattle.answer_text.specs.Words.{texts};
 ghost use Rattle.par_gather.specs.Answers.{Answers, IsLine, IsStatus};
 ghost use Rattle.par_gather.specs.Query.{ReadsNothing, input_of, query_of, usage_of};
 ghost use Rattle.par_gather.specs.declared.Ran.{Ran};
@@ -21,14 +21,14 @@ ghost use Rattle.par_gather.specs.declared.Ran.{Ran};
 mod form;
 mod forms;
 
+pub use answer_text::{MISUSED, NO_MEMORY, READ_FAULT, REFUSED, TABLE, TOO_LARGE, WRITE_FAULT};
 use form::{Form, form_of};
 use forms::{in_gen, in_join, in_merge, in_plan};
 use gather_merge::Merged;
 use gather_run::Gathered;
+pub use group_query::aggregate_alone;
 use join_query::{Cause, Joined};
 use par_io::{Sink, Source};
-pub use plan_answers::aggregate_alone;
-pub use query_answer::{MISUSED, NO_MEMORY, READ_FAULT, REFUSED, TABLE, TOO_LARGE, WRITE_FAULT};
 use std::alloc::Global;
 use std::sync::Wait;
 use std::thread::Threads;

@@ -4,7 +4,7 @@ use Rattle.std.specs.Prelude.{if◌then◌else◌}
 use Rattle.std.specs.List.{list_any}
 use Rattle.plan_spec.specs.Query as plan
 use Rattle.plan_spec.proofs.Present.{any-map}
-use Rattle.query_answer.specs.Words.{texts}
+use Rattle.answer_text.specs.Words.{texts}
 use Rattle.par_stream.specs.Words.{is_of_table, query_of}
 
 module _ {A : Type 0} (words : List (String A)) where

@@ -5,7 +5,7 @@ use Rattle.par_model.specs.declared.refusal.Refusal.{Refusal}
 use Rattle.par_model.specs.Named.{NamedPlan}
 use Rattle.par_model.specs.Outcome.{Outcome, Usage, TooManyBytes, NoHeader, TooManyRows, NoColumn, Refused, Table}
 use Rattle.plan_spec.specs.Query.{Query}
-use Rattle.query_answer.specs.declared.status.TheConstants.{MISUSED, NO_MEMORY, READ_FAULT, REFUSED, TABLE, WRITE_FAULT}
+use Rattle.answer_text.specs.declared.status.TheConstants.{MISUSED, NO_MEMORY, READ_FAULT, REFUSED, TABLE, WRITE_FAULT}
 use Rattle.table_query.specs.Answers.{status_of}
 use Rattle.table_query.specs.Lines.{refusal_text, refused_of, row_text}
 use Rattle.par_stream.specs.Answers.{IsTold, statuses}

@@ -3,7 +3,7 @@ use Rattle.std.specs.Prelude.{◌≡◌, ◌≢◌, [], ◌∷◌, ℕ, List, No
 use Rattle.csv_rows.specs.Records.{records_of}
 use Rattle.par_model.specs.Named.{NamedPlan}
 use Rattle.par_model.specs.Outcome.{IsAnswer, Table}
-use Rattle.query_answer.specs.declared.status.TheConstants.{MISUSED, NO_MEMORY, READ_FAULT, REFUSED, TABLE, WRITE_FAULT}
+use Rattle.answer_text.specs.declared.status.TheConstants.{MISUSED, NO_MEMORY, READ_FAULT, REFUSED, TABLE, WRITE_FAULT}
 use Rattle.par_stream.specs.Outcome.{outcome_over}
 use Rattle.par_stream.specs.declared.stop.TheConstants.{LONG_RECORD}
 

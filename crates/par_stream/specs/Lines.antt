@@ -3,7 +3,7 @@ use Rattle.std.specs.Prelude.{[], ◌≡◌, ◌++◌, ◌∷◌, ℕ, List, Opt
 use Rattle.par_model.specs.Named.{NamedPlan}
 use Rattle.par_model.specs.Outcome.{Outcome}
 use Rattle.par_model.specs.declared.refusal.Refusal.{Refusal}
-use Rattle.query_answer.specs.declared.status.TheConstants.{MISUSED, NO_MEMORY, READ_FAULT, REFUSED, WRITE_FAULT}
+use Rattle.answer_text.specs.declared.status.TheConstants.{MISUSED, NO_MEMORY, READ_FAULT, REFUSED, WRITE_FAULT}
 use Rattle.table_query.specs.Answers.{status_of}
 use Rattle.table_query.specs.Lines.{outcome_text, refused_of, row_text}
 use Rattle.par_stream.specs.Outcome.{HasLong, outcome_over}

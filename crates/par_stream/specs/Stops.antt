@@ -11,7 +11,7 @@ use Rattle.partial_agg.specs.declared.map.BlockAnswer.TheVariants as answer
 use Rattle.plan_spec.specs.Query.{Query}
 use Rattle.plan_spec.specs.declared.plan.PlanAnswer.{PlanAnswer}
 use Rattle.plan_spec.specs.declared.plan.PlanAnswer.TheVariants as words
-use Rattle.query_answer.specs.declared.status.TheConstants.{MISUSED, NO_MEMORY, READ_FAULT, REFUSED, WRITE_FAULT}
+use Rattle.answer_text.specs.declared.status.TheConstants.{MISUSED, NO_MEMORY, READ_FAULT, REFUSED, WRITE_FAULT}
 use Rattle.row_blocks.specs.Blocks.{Table as Records}
 use Rattle.row_windows.specs.Stretch.{Stretch}
 use Rattle.row_windows.specs.declared.window.WindowAnswer.{WindowAnswer}

@@ -14,8 +14,8 @@
 ghost use Rattle.std.specs.Prelude.{◌≡◌, ◌≢◌, ◌⊎◌, ℕ, List, None, Some, Contains, Err, IfErr, IfSome, IsNone, OnOk, take};
 ghost use Rattle.std.specs.Io.KnownBytes.{Appends};
 ghost use Rattle.par_io.specs.Faults.{Rose};
-ghost use Rattle.query_answer.specs.Lines.{IsSaid};
-ghost use Rattle.query_answer.specs.Words.{texts};
+ghost use Rattle.answer_text.specs.Lines.{IsSaid};
+ghost use Rattle.answer_text.specs.Words.{texts};
 ghost use Rattle.table_query.specs.Answers.{status_of};
 ghost use Rattle.par_stream.specs.Answers.{IsTableText, IsTold, statuses};
 ghost use Rattle.par_stream.specs.Lines.{IsLine, NamesFirstRow, line};
@@ -33,10 +33,10 @@ mod rows;
 mod stop;
 mod words;
 
+pub use answer_text::{MISUSED, NO_MEMORY, READ_FAULT, REFUSED, TABLE, WRITE_FAULT};
 use output::write_table;
 use par_io::{Sink, Source};
 pub use progress::{Progress, SoFar, Untold};
-pub use query_answer::{MISUSED, NO_MEMORY, READ_FAULT, REFUSED, TABLE, WRITE_FAULT};
 use reading::read_groups;
 use std::alloc::Global;
 use std::sync::Wait;

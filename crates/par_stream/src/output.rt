@@ -9,9 +9,9 @@ ghost use Rattle.par_stream.specs.declared.stop.Stop.TheVariants as stop;
 
 use crate::reading::ReadGroups;
 use crate::stop::Stop;
+use answer_text::write_each;
 use par_io::Sink;
 use plan_spec::Plan;
-use query_answer::write_each;
 use split_run::{FEWEST_GROUPS, table_text};
 use std::alloc::Global;
 use std::thread::Threads;

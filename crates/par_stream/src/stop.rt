@@ -2,16 +2,16 @@
 
 ghost use Rattle.std.specs.Prelude.{◌≡◌, ◌⊎◌, ◌++◌, IfOk, map};
 ghost use Rattle.std.specs.List.{concat};
-ghost use Rattle.query_answer.specs.Lines.{IsSaid};
+ghost use Rattle.answer_text.specs.Lines.{IsSaid};
 ghost use Rattle.par_stream.specs.Lines.{line};
 ghost use Rattle.par_stream.specs.Stops.{IsRefusedRow, cause_text, stop_of_words, stop_status, stop_text, text_of};
 ghost use Rattle.table_query.specs.Lines.{refusal_text};
 ghost use Rattle.par_stream.specs.declared.stop.Stop.TheVariants as stop;
 
+use answer_text::{MISUSED, NO_MEMORY, READ_FAULT, REFUSED, WRITE_FAULT, write_pieces};
 use par_io::{Failed, Sink};
 use par_model::{ITEM_CAUSE, KEY_CAUSE, Refusal, WIDTH_CAUSE};
 use plan_spec::{Plan, PlanAnswer};
-use query_answer::{MISUSED, NO_MEMORY, READ_FAULT, REFUSED, WRITE_FAULT, write_pieces};
 use std::alloc::{AllocError, Global};
 
 /// A record is longer than 64 MiB.

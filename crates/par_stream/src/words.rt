@@ -2,7 +2,7 @@
 
 ghost use Rattle.std.specs.Prelude.{◌≡◌, ◌⊎◌, None, Some, Err, IfErr, IfOk, string_bytes};
 ghost use Rattle.std.specs.List.{list_any};
-ghost use Rattle.query_answer.specs.Words.{texts};
+ghost use Rattle.answer_text.specs.Words.{texts};
 ghost use Rattle.par_stream.specs.Words.{is_of_table, query_of};
 ghost use Rattle.par_stream.specs.declared.stop.Stop.TheVariants as stop;
 

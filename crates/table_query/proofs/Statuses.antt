@@ -6,12 +6,12 @@ use Rattle.par_model.specs.declared.refusal.Refusal.{Refusal}
 use Rattle.par_model.specs.Named.{NamedPlan}
 use Rattle.par_model.specs.Outcome.{Outcome, Usage, TooManyBytes, NoHeader, TooManyRows, NoColumn, Refused, Table}
 use Rattle.table_query.specs.Answers.{IsOutcome, outcome_over, status_of}
-use Rattle.query_answer.specs.Lines.{line, statuses}
+use Rattle.answer_text.specs.Lines.{line, statuses}
 use Rattle.table_query.specs.Asked.{usage_in}
 use Rattle.table_query.specs.Lines.{IsLine, NamesFirst, NamesRow, outcome_text, refusal_text, refused_of, row_text}
 use Rattle.table_query.specs.Stops.{Explains, IsExplained, IsFirstStop, cause_text, stop_status, stop_text}
 use Rattle.table_query.specs.declared.wanted.Wanted.{Wanted}
-use Rattle.query_answer.specs.declared.status.TheConstants.{NO_MEMORY, READ_FAULT, REFUSED, TABLE, WRITE_FAULT}
+use Rattle.answer_text.specs.declared.status.TheConstants.{NO_MEMORY, READ_FAULT, REFUSED, TABLE, WRITE_FAULT}
 use Rattle.table_query.specs.declared.stop.Cause.{Cause}
 use Rattle.table_query.specs.declared.stop.Stop.{Stop}
 use Rattle.table_query.specs.declared.stop.Stop.TheVariants as stop

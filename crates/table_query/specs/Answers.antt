@@ -4,7 +4,7 @@ use Rattle.csv_rows.specs.Records.{record_at, records_of}
 use Rattle.par_model.specs.Named.{NamedPlan, bound_plan}
 use Rattle.par_model.specs.Plan.{Plan}
 use Rattle.par_model.specs.Outcome.{Outcome, outcome, Usage, TooManyBytes, NoHeader, TooManyRows, NoColumn, Refused, Table}
-use Rattle.query_answer.specs.declared.status.TheConstants.{MISUSED, REFUSED, TABLE, TOO_LARGE}
+use Rattle.answer_text.specs.declared.status.TheConstants.{MISUSED, REFUSED, TABLE, TOO_LARGE}
 
 -- the status of an outcome
 abbrev pub status_of : Outcome → ℕ

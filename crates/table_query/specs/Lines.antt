@@ -6,8 +6,8 @@ use Rattle.par_model.specs.Outcome.{Outcome, Usage, TooManyBytes, NoHeader, TooM
 use Rattle.par_model.specs.Refuse.{item_cause, key_cause, width_cause}
 use Rattle.par_model.specs.declared.refusal.Refusal.{Refusal}
 use Rattle.table_query.specs.Answers.{status_of}
-use Rattle.query_answer.specs.Lines.{line}
-use Rattle.query_answer.specs.declared.status.TheConstants.{MISUSED, NO_MEMORY, READ_FAULT, REFUSED, TOO_LARGE, WRITE_FAULT}
+use Rattle.answer_text.specs.Lines.{line}
+use Rattle.answer_text.specs.declared.status.TheConstants.{MISUSED, NO_MEMORY, READ_FAULT, REFUSED, TOO_LARGE, WRITE_FAULT}
 
 -- what a line says of an outcome that is neither a refusal of rows nor a table, where this is said of words that are none
 abbrev pub outcome_text : List ℕ → Outcome → List ℕ

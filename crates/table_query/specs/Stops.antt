@@ -13,7 +13,7 @@ use Rattle.table_query.specs.Answers.{IsOutcome}
 use Rattle.table_query.specs.Asked.{usage_in}
 use Rattle.table_query.specs.Lines.{refusal_text, refused_of}
 use Rattle.table_query.specs.declared.wanted.Wanted.{Wanted}
-use Rattle.query_answer.specs.declared.status.TheConstants.{MISUSED, NO_MEMORY, READ_FAULT, REFUSED, TOO_LARGE, WRITE_FAULT}
+use Rattle.answer_text.specs.declared.status.TheConstants.{MISUSED, NO_MEMORY, READ_FAULT, REFUSED, TOO_LARGE, WRITE_FAULT}
 use Rattle.table_query.specs.declared.stop.Cause.{Cause}
 use Rattle.table_query.specs.declared.stop.Cause.TheVariants as cause
 use Rattle.table_query.specs.declared.stop.Stop.{Stop}

@@ -11,7 +11,7 @@ ghost use Rattle.par_model.specs.Named.{bound_plan, missing_name};
 ghost use Rattle.par_model.specs.Outcome.{by_records};
 ghost use Rattle.partial_agg.specs.Rows.{header_width};
 ghost use Rattle.plan_spec.specs.declared.plan.PlanAnswer.TheVariants as answer;
-ghost use Rattle.query_answer.specs.Words.{texts};
+ghost use Rattle.answer_text.specs.Words.{texts};
 ghost use Rattle.table_query.specs.Asked.{asked, plan_in};
 ghost use Rattle.table_query.specs.Ready.{AreRecordsOf, IsReady};
 ghost use Rattle.table_query.specs.Stops.{Explains, IsEarly, IsExplained};

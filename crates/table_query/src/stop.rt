@@ -2,15 +2,15 @@
 
 ghost use Rattle.std.specs.Prelude.{◌≡◌, ◌++◌, map};
 ghost use Rattle.std.specs.List.{concat};
-ghost use Rattle.query_answer.specs.Lines.{IsSaid, line};
+ghost use Rattle.answer_text.specs.Lines.{IsSaid, line};
 ghost use Rattle.table_query.specs.Stops.{cause_text, stop_of_parsing, stop_of_reading, stop_of_words, stop_status, stop_text, text_of};
 ghost use Rattle.table_query.specs.declared.stop.Stop.TheVariants as stop;
 
 use crate::wanted::Wanted;
+use answer_text::{MISUSED, NO_MEMORY, READ_FAULT, REFUSED, TOO_LARGE, WRITE_FAULT, write_pieces};
 use csv_rows::{ReadAnswer, RowsAnswer};
 use par_io::Sink;
 use plan_spec::PlanAnswer;
-use query_answer::{MISUSED, NO_MEMORY, READ_FAULT, REFUSED, TOO_LARGE, WRITE_FAULT, write_pieces};
 use std::alloc::AllocError;
 
 /// Why a row is refused, with the name of the column of which its line speaks.

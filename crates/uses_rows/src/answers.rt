@@ -1,8 +1,8 @@
 //! Bytes that wait and then go on together, and records as the crate `csv` writes them.
 
+use answer_text::{Held, put_record};
 use csv_rows::{RowStore, rows};
 use par_io::MemSink;
-use query_answer::{Held, put_record};
 use std::alloc::Global;
 use std::test::Fail;
 

@@ -1,8 +1,8 @@
 //! Windows of a few bytes, so that each end of a line comes to stand at a seam, and so do quotes, breaks and marks.
 
+use group_query::aggregate_alone;
 use par_io::{MemSink, MemSource};
 use par_stream::{Untold, stream_table};
-use plan_answers::aggregate_alone;
 use std::alloc::{AllocError, Global};
 use std::sync::Wait;
 use std::test::Fail;

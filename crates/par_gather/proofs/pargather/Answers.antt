@@ -1,7 +1,7 @@
 use Rattle.std.proofs.Common.{◌≡◌, ◌≢◌, ◌⊎◌, ℕ, List, IfSome, refl, subst}
-use Rattle.query_answer.specs.Lines.{IsSaid}
-use Rattle.query_answer.specs.Words.{texts}
-use Rattle.query_answer.specs.declared.status.TheConstants.{NO_MEMORY, READ_FAULT, TABLE}
+use Rattle.answer_text.specs.Lines.{IsSaid}
+use Rattle.answer_text.specs.Words.{texts}
+use Rattle.answer_text.specs.declared.status.TheConstants.{NO_MEMORY, READ_FAULT, TABLE}
 use Rattle.par_gather.specs.Answers.{Answers, IsLine, IsStatus}
 use Rattle.par_gather.specs.Query.{ReadsNothing, form_of, input_of, query_in}
 use Rattle.par_gather.specs.declared.form.Form.{Form}

@@ -1,6 +1,6 @@
 use Rattle.std.proofs.Common.{◌≡◌, subst}
-use Rattle.query_answer.specs.Lines.{IsSaid, line}
-use Rattle.query_answer.specs.Words.{texts}
+use Rattle.answer_text.specs.Lines.{IsSaid, line}
+use Rattle.answer_text.specs.Words.{texts}
 use Rattle.par_gather.specs.Query.{form_of, query_in, usage_of}
 use Rattle.par_gather.specs.declared.form.Form.{Form}
 use Rattle.par_gather.specs.declared.form.Form.TheVariants as form

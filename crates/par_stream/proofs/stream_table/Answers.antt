@@ -1,5 +1,5 @@
 use Rattle.std.proofs.Common.{◌∙◌, Contains, ℕ, subst, sym}
-use Rattle.query_answer.specs.Words.{texts}
+use Rattle.answer_text.specs.Words.{texts}
 use Rattle.par_stream.specs.Answers.{statuses}
 use Rattle.par_stream.specs.Lines.{IsLine, line}
 use Rattle.par_stream.specs.Stops.{stop_text}

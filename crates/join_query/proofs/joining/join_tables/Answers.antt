@@ -2,11 +2,11 @@ use Rattle.std.proofs.Common.{◌≡◌, ◌⊎◌, [], ℕ, List, Option, None,
 use Rattle.std.specs.Io.KnownBytes.{Appends}
 use Rattle.row_blocks.specs.Blocks.{Table}
 use Rattle.par_model.specs.Table.{table_text}
-use Rattle.query_answer.specs.Lines.{line}
-use Rattle.query_answer.specs.declared.status.TheConstants.{NO_MEMORY, TABLE}
+use Rattle.answer_text.specs.Lines.{line}
+use Rattle.answer_text.specs.declared.status.TheConstants.{NO_MEMORY, TABLE}
 use Rattle.join_query.specs.Lines.{IsStatus}
 use Rattle.join_query.specs.Stops.{stop_text}
-use Rattle.query_answer.specs.Words.{texts}
+use Rattle.answer_text.specs.Words.{texts}
 use Rattle.join_query.specs.Words.{Asked, asked_by, join_of}
 use Rattle.join_query.specs.declared.cause.Cause.TheVariants as cause
 use Rattle.join_query.specs.declared.stop.Stop.TheVariants as stop

@@ -1,6 +1,6 @@
 use Rattle.std.proofs.Common.{◌≡◌, ◌∙◌, [], length, string_bytes, ap, ap₂, arith, sym}
 use Rattle.std.proofs.lemmas.List.{get_or-map, length-map}
-use Rattle.query_answer.specs.Words.{texts}
+use Rattle.answer_text.specs.Words.{texts}
 use Rattle.join_query.specs.Words.{asked_in}
 use Rattle.join_query.proofs.Asked.{other_first, other_number, three_words}
 use Rattle.join_query.proofs.words.read_words.Goals.{then-words-ne3-via-then-words-ne3, then-words-ne3-via-else-words-ne3+then-not-is_join}

@@ -2,9 +2,9 @@ use Rattle.std.proofs.Common.{◌≡◌, ◌++◌, [], ℕ, List, append-nil, ap
 use Rattle.csv.specs.Writing.{default_writer, row_text}
 use Rattle.csv_rows.specs.Records.{record_at}
 use Rattle.par_model.specs.Table.{table_text}
-use Rattle.query_answer.specs.Held.{Puts}
-use Rattle.query_answer.proofs.Going.{puts-then}
-use Rattle.query_answer.proofs.RowLines.{text-first}
+use Rattle.answer_text.specs.Held.{Puts}
+use Rattle.answer_text.proofs.Going.{puts-then}
+use Rattle.answer_text.proofs.RowLines.{text-first}
 use Rattle.join_query.specs.Writable.{beside}
 use Rattle.join_query.proofs.writing.put_all.Goals as goal
 

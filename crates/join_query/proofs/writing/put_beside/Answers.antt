@@ -1,7 +1,7 @@
 use Rattle.std.proofs.Common.{◌++◌, ◌∷◌, [], ℕ, List, subst}
 use Rattle.csv.specs.Writing.{default_writer, row_body}
-use Rattle.query_answer.specs.Held.{Puts}
-use Rattle.query_answer.proofs.Going.{puts-then}
+use Rattle.answer_text.specs.Held.{Puts}
+use Rattle.answer_text.proofs.Going.{puts-then}
 use Rattle.join_query.proofs.Besides.{row-beside}
 use Rattle.join_query.proofs.writing.put_beside.Goals as goal
 

@@ -4,9 +4,9 @@ use Rattle.std.proofs.lemmas.Option.{get_or_from_slice_get, slice_get-get_or}
 use Rattle.csv.specs.Writing.{default_writer, row_text}
 use Rattle.join_pairs.specs.declared.pairs.Pair.{Pair}
 use Rattle.par_model.specs.Table.{table_text}
-use Rattle.query_answer.specs.Held.{Puts}
-use Rattle.query_answer.proofs.Going.{puts-broken, puts-none, puts-then}
-use Rattle.query_answer.proofs.RowLines.{row-more, rows-cut, text-none}
+use Rattle.answer_text.specs.Held.{Puts}
+use Rattle.answer_text.proofs.Going.{puts-broken, puts-none, puts-then}
+use Rattle.answer_text.proofs.RowLines.{row-more, rows-cut, text-none}
 use Rattle.join_query.specs.Writable.{beside}
 use Rattle.join_query.proofs.Writables.{none, writable_at}
 use Rattle.join_query.proofs.writing.put_pairs.Goals as goal

@@ -1,6 +1,6 @@
 use Rattle.std.proofs.Common.{map, take}
 use Rattle.par_model.specs.Table.{table_text}
-use Rattle.query_answer.specs.Held.{Puts}
+use Rattle.answer_text.specs.Held.{Puts}
 use Rattle.join_query.specs.Writable.{beside}
 use Rattle.join_query.proofs.writing.put_pairs.Given as goal
 

@@ -3,7 +3,7 @@ use Rattle.std.specs.Io.KnownBytes.{Appends}
 use Rattle.par_model.specs.Table.{table_text}
 use Rattle.join_pairs.specs.Join.{joined_records}
 use Rattle.join_pairs.specs.declared.pairs.Pair.{Pair}
-use Rattle.query_answer.proofs.Going.{all_gone, faults_rose, part_gone}
+use Rattle.answer_text.proofs.Going.{all_gone, faults_rose, part_gone}
 use Rattle.join_query.specs.Writable.{AreWritable}
 use Rattle.join_query.proofs.writing.write_joined.Goals as goal
 

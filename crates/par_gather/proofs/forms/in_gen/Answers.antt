@@ -2,8 +2,8 @@ use Rattle.std.proofs.Common.{◌≡◌, ◌∙◌, Contains, ℕ, ap, subst, sy
 use Rattle.gen_query.specs.Words.{gen_of}
 use Rattle.gen_query.specs.declared.GenAnswer.{GenAnswer}
 use Rattle.gen_query.specs.declared.GenAnswer.TheVariants as generating
-use Rattle.query_answer.specs.Lines.{IsSaid, line, statuses}
-use Rattle.query_answer.specs.Words.{texts}
+use Rattle.answer_text.specs.Lines.{IsSaid, line, statuses}
+use Rattle.answer_text.specs.Words.{texts}
 use Rattle.table_query.specs.Stops.{stop_status, stop_text}
 use Rattle.table_query.specs.declared.stop.Stop.{Stop}
 use Rattle.table_query.specs.declared.wanted.Wanted.TheVariants.{Groups}

@@ -1,4 +1,4 @@
-use Rattle.query_answer.specs.Words.{texts}
+use Rattle.answer_text.specs.Words.{texts}
 use Rattle.join_query.specs.Words.{join_of}
 use Rattle.par_gather.proofs.Joins.{answered, said, stopped}
 use Rattle.par_gather.proofs.forms.in_join.Goals as goal

@@ -1,7 +1,7 @@
 use Rattle.std.proofs.Common.{◌∙◌, Contains, ap, inl, inr, ℕ, Some, subst, sym}
 use Rattle.plan_spec.specs.Merging.{merge_of}
-use Rattle.query_answer.specs.Lines.{line, statuses}
-use Rattle.query_answer.specs.Words.{texts}
+use Rattle.answer_text.specs.Lines.{line, statuses}
+use Rattle.answer_text.specs.Words.{texts}
 use Rattle.table_query.specs.Stops.{stop_status, stop_text}
 use Rattle.table_query.specs.declared.wanted.Wanted.TheVariants.{Order}
 use Rattle.table_query.proofs.Statuses.{is_read_fault, is_status, is_write_fault, never_table}

@@ -4,7 +4,7 @@ use Rattle.par_model.specs.Named.{NamedPlan}
 use Rattle.table_query.specs.Stops.{IsExplained}
 use Rattle.table_query.proofs.Outcomes.{by_records_bound, explained_rows, plan_is, ready_outcome, ready_records}
 use Rattle.table_query.proofs.Inputs.{explained-words}
-use Rattle.query_answer.specs.Words.{texts}
+use Rattle.answer_text.specs.Words.{texts}
 use Rattle.table_query.specs.Asked.{asked, plan_in}
 use Rattle.table_query.proofs.input.prepare.Goals as goal
 
