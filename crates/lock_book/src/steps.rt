@@ -17,6 +17,7 @@ use crate::noted::Noted;
 use crate::table::{Advise, Board, Give, Held, Place, Take, WORDS_OF_VALUE};
 use crossbeam_utils::Backoff;
 use std::sync::Wait;
+use std::time::Duration;
 
 /// The lock's word of a value that is free. That of one that is taken is 1 + the number of the caller that has it.
 pub(crate) const FREE: u64 = 0;
@@ -25,6 +26,10 @@ pub(crate) const FREE: u64 = 0;
 const SOMEBODY: u32 = 1;
 
 const NOBODY: u64 = 0;
+
+/// The longest sleep in milliseconds, after which a caller looks again: a turn that was tried for (`try_turn`) wakes nobody,
+/// so that it can stand in a library for C, which may not wake threads.
+const LONGEST_SLEEP: u64 = 1;
 
 /// The word of the lock of the value `at`.
 #[inline(always)]
@@ -106,7 +111,12 @@ fn sleep_until_taken<T: Kept, R: Wait>(
         if look_and_take(board, seat, number, at) {
             return;
         }
-        board.shared.park(rt, sleep_word(at), SOMEBODY);
+        board.shared.park_timeout(
+            rt,
+            sleep_word(at),
+            SOMEBODY,
+            Duration::from_millis(LONGEST_SLEEP),
+        );
     }
     unreachable!()
 }
@@ -223,8 +233,22 @@ fn wake_if_asleep<T: Kept>(board: &Board<T>, seat: &mut Place<T>, at: usize)
     }
 }
 
-/// Adds the call to the history of the value that the seat has, and gives the value back: one store, and one load to see
-/// whether somebody sleeps, which has to come after the store.
+/// Adds the call to the history of the value that the seat has, and gives the value back: one store. It wakes nobody.
+#[inline(always)]
+pub(crate) fn free_value<T: Kept>(board: &Board<T>, seat: &mut Place<T>, at: usize)
+    requires own { seat.old.table_id ≡ board.now.shared.table_id }
+    requires word { (sleep_at at < board.now.shared.table_id.words) × (sleep_at at < 2 ^ 64) × (at < board.now.shared.table_id.slots) }
+    requires holding { seat.old.me.0.stage ≡ Holding at }
+    requires held { (x : _) × (c : _) × (r : _) × (seat.old.me.1 ≡ (at, x) ∷ []) × (made_of T.call T.chosen T.reply x.made ≡ Some (c, r))
+        × ((o : _) → get_elem? seat.old.me.0.opens at ≡ some o → (T.name x.value ≡ o.0) × T.legal o.0 seat.old.me.0.from (last_of o.1 (seen_at seat.old.me.0 at)) c r (T.state x.value)) }
+    ensures own { seat.new.table_id ≡ seat.old.table_id }
+    ensures added { (x : _) (c : _) (r : _) → seat.old.me.1 ≡ (at, x) ∷ [] → made_of T.call T.chosen T.reply x.made ≡ Some (c, r)
+        → (seat.new.me.1 ≡ []) × (seat.new.me.0 ≡ served seat.old.me.0 at (entry seat.old.me.0.from c r (T.state x.value))) }
+{
+    board.shared.store::<Give>(seat, lock_word(at), FREE);
+}
+
+/// The same, and one load to see whether somebody sleeps, which has to come after the store.
 #[inline(always)]
 pub(crate) fn release<T: Kept>(board: &Board<T>, seat: &mut Place<T>, at: usize)
     requires own { seat.old.table_id ≡ board.now.shared.table_id }
@@ -236,6 +260,6 @@ pub(crate) fn release<T: Kept>(board: &Board<T>, seat: &mut Place<T>, at: usize)
     ensures added { (x : _) (c : _) (r : _) → seat.old.me.1 ≡ (at, x) ∷ [] → made_of T.call T.chosen T.reply x.made ≡ Some (c, r)
         → (seat.new.me.1 ≡ []) × (seat.new.me.0 ≡ served seat.old.me.0 at (entry seat.old.me.0.from c r (T.state x.value))) }
 {
-    board.shared.store::<Give>(seat, lock_word(at), FREE);
+    free_value(board, seat, at);
     wake_if_asleep(board, seat, at);
 }

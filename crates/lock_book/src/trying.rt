@@ -12,7 +12,7 @@ ghost use Rattle.lock_book.specs.Told.{Adds, IsPass};
 
 use crate::Kept;
 use crate::shelf::{Pass, Shelf, give_back, lend};
-use crate::steps::{FREE, lock_word, release, serve};
+use crate::steps::{FREE, free_value, lock_word, serve};
 use crate::table::{Board, Place, TakeOnce};
 
 /// Whether the value `at` was free. The seat then has it; else the try is counted.
@@ -61,7 +61,7 @@ fn try_turn<T: Kept>(
         return Err(input);
     }
     let output = serve(board, seat, at, env, input);
-    release(board, seat, at);
+    free_value(board, seat, at);
     Ok(output)
 }
 

@@ -19,11 +19,11 @@ serve-output-requires-clause-held g c κs within =
       subst (λ q. K.in_fits (K.name d.slot.value) q c.args.input) (sym (ap (λ v. v.from) d.view)) (subst (λ n. K.in_fits n c.args.seat.now.me.0.from c.args.input) (sym k.1) f.1),
     )
 
-pub release-requires-clause-holding : goal.release-requires-clause-holding
-release-requires-clause-holding g c κs within = ap (λ v. v.stage) c.serve-output.ensures.own.1 ∙ ap (λ v. v.stage) (c.try_once.ensures.taken c.if-not-try_once.false).view
+pub free_value-requires-clause-holding : goal.free_value-requires-clause-holding
+free_value-requires-clause-holding g c κs within = ap (λ v. v.stage) c.serve-output.ensures.own.1 ∙ ap (λ v. v.stage) (c.try_once.ensures.taken c.if-not-try_once.false).view
 
-pub release-requires-clause-held : goal.release-requires-clause-held
-release-requires-clause-held g c κs within =
+pub free_value-requires-clause-held : goal.free_value-requires-clause-held
+free_value-requires-clause-held g c κs within =
     let K = g.T.Kept in
     let d = (c.try_once.ensures.taken c.if-not-try_once.false) in
     let s = c.serve-output.ensures.served in
@@ -53,14 +53,14 @@ release-requires-clause-held g c κs within =
 pub returns-clause-own : goal.returns-clause-own
 returns-clause-own g c =
     let s = c.serve-output.ensures.served in
-    (c.release.ensures.own ∙ (c.serve-output.ensures.own.0 ∙ c.try_once.ensures.own), (c.release.ensures.added s.1 _ _ s.3 s.7).0)
+    (c.free_value.ensures.own ∙ (c.serve-output.ensures.own.0 ∙ c.try_once.ensures.own), (c.free_value.ensures.added s.1 _ _ s.3 s.7).0)
 
 pub returns-clause-same : goal.returns-clause-same
 returns-clause-same g c =
     let K = g.T.Kept in
     let s = c.serve-output.ensures.served in
     same_pass (λ x. K.name x.value) (λ x. K.state x.value) K.legal c.args.at _ _ c.requires.own.1 (c.try_once.ensures.taken c.if-not-try_once.false)
-    c.serve-output.new.seat.me.0 c.release.new.seat.me.0 _ _ _ c.serve-output.ensures.own.1 (c.release.ensures.added s.1 _ _ s.3 s.7).1
+    c.serve-output.new.seat.me.0 c.free_value.new.seat.me.0 _ _ _ c.serve-output.ensures.own.1 (c.free_value.ensures.added s.1 _ _ s.3 s.7).1
 
 pub returns-clause-called : goal.returns-clause-called
 returns-clause-called g c =
@@ -70,8 +70,8 @@ returns-clause-called g c =
     let call = unwrap_or (K.chosen c.args.input c.serve-output.result) (K.call c.args.input) in
     let reply = K.reply c.serve-output.result in
     whole (λ x. K.name x.value) (λ x. K.state x.value) K.legal c.args.at _ _ c.requires.own.1 d
-    c.serve-output.new.seat.me.0 c.release.new.seat.me.0 s.0 call reply (K.state s.1.value)
-    c.serve-output.ensures.own.1 (c.release.ensures.added s.1 call reply s.3 s.7).1 s.2
+    c.serve-output.new.seat.me.0 c.free_value.new.seat.me.0 s.0 call reply (K.state s.1.value)
+    c.serve-output.ensures.own.1 (c.free_value.ensures.added s.1 call reply s.3 s.7).1 s.2
     (subst (λ q. K.legal (K.name s.0.value) q (K.state s.0.value) call reply (K.state s.1.value)) (ap (λ v. v.from) d.view) s.4)
 
 pub returns-clause-stands : goal.returns-clause-stands
@@ -82,8 +82,8 @@ returns-clause-stands g c =
     let call = unwrap_or (K.chosen c.args.input c.serve-output.result) (K.call c.args.input) in
     let reply = K.reply c.serve-output.result in
     whole_stands (λ x. K.name x.value) (λ x. K.state x.value) K.legal c.args.at _ _ c.requires.own.1 d
-    c.serve-output.new.seat.me.0 c.release.new.seat.me.0 s.0 call reply (K.state s.1.value)
-    c.serve-output.ensures.own.1 (c.release.ensures.added s.1 call reply s.3 s.7).1 s.2
+    c.serve-output.new.seat.me.0 c.free_value.new.seat.me.0 s.0 call reply (K.state s.1.value)
+    c.serve-output.ensures.own.1 (c.free_value.ensures.added s.1 call reply s.3 s.7).1 s.2
     (subst (λ q. K.legal (K.name s.0.value) q (K.state s.0.value) call reply (K.state s.1.value)) (ap (λ v. v.from) d.view) s.4)
     c.requires.stands
 
@@ -99,4 +99,4 @@ pub returns-clause-free : goal.returns-clause-free
 returns-clause-free g c =
     let d = (c.try_once.ensures.taken c.if-not-try_once.false) in
     let s = c.serve-output.ensures.served in
-    ap (λ v. v.misses) (c.release.ensures.added s.1 _ _ s.3 s.7).1 ∙ (ap (λ v. v.misses) c.serve-output.ensures.own.1 ∙ ap (λ v. v.misses) d.view)
+    ap (λ v. v.misses) (c.free_value.ensures.added s.1 _ _ s.3 s.7).1 ∙ (ap (λ v. v.misses) c.serve-output.ensures.own.1 ∙ ap (λ v. v.misses) d.view)
