@@ -80,6 +80,25 @@ where
         self.shelf.call(rt, &(), pass, 0, Ask { by, wish })
     }
 
+    /// One turn at the desk that parties may wait for, and news of it.
+    fn call_with_news<R: Wait>(
+        &self,
+        rt: &R,
+        pass: &mut ExchangePass<X>,
+        wish: Wish<X::Token>,
+    ) -> Answer<X::Token>
+        requires exchange { (sign : _) × IsExchange sign self.now }
+        requires own { Belongs self.now pass.old }
+        requires fits { (sign : _) → IsExchange sign self.now → CallFits (X.brings sign) (X.gives sign) (parties_of self.now) (number_of pass.old) (call_of wish) }
+        ensures own { Belongs self.now pass.new × (number_of pass.new ≡ number_of pass.old) }
+        ensures turned { (sign : _) → IsExchange sign self.now → Turned (X.brings sign) (X.gives sign) (parties_of self.now) (number_of pass.old) (history_of pass.old) (own_of pass.old) (history_of pass.new) (own_of pass.new) (call_of wish) (reply_of result) }
+        ensures fits { AnswerFits wish result }
+    {
+        let answer = self.call(rt, pass, wish);
+        self.shelf.announce(pass, 0);
+        answer
+    }
+
     /// Brings a token. The party that is the last to do so is elected, and gets what all have brought, in order of the
     /// parties; the others wait for what it gives them, as by `receive`. The token comes back where the party has brought
     /// one already, or has one to take or to give. It may wait for its turn, and not for the others.
@@ -127,7 +146,7 @@ where
         ensures elected { stage_of pass.old ≡ stage.Elected → IsOk result }
         ensures back { IfErr result (λ v. v ≡ tokens) }
     {
-        match self.call(rt, pass, Wish::Give(tokens)) {
+        match self.call_with_news(rt, pass, Wish::Give(tokens)) {
             Answer::Given => Ok(()),
             Answer::AllBack(tokens) => Err(tokens),
             _ => unreachable!(),

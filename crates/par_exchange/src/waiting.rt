@@ -8,7 +8,6 @@ ghost use Rattle.par_exchange.specs.declared.history.PartyStage.TheVariants as s
 
 use crate::exchange::{Exchange, ExchangePass};
 use crate::trade::Trade;
-use crossbeam_utils::Backoff;
 use std::sync::Wait;
 
 impl<X: Trade + Send> Exchange<X>
@@ -16,8 +15,8 @@ where
     X::Token: Send,
     X::Sign: Send,
 {
-    /// Takes the token that was given to the party, and waits until there is one: it tries again and again, and backs
-    /// off in between. It may wait for ever, where somebody brings no token or the elected gives none.
+    /// Takes the token that was given to the party, and waits until there is one: it tries each time that tokens were
+    /// given, and sleeps in between. It may wait for ever, if somebody brings no token or the elected gives none.
     pub fn receive<R: Wait>(&self, rt: &R, pass: &mut ExchangePass<X>) -> X::Token
         requires exchange { (sign : _) × IsExchange sign self.now }
         requires own { Belongs self.now pass.old }
@@ -26,11 +25,11 @@ where
         ensures taken { HasTaken (number_of pass.old) (history_of pass.new) result }
         ensures token { (sign : _) → IsExchange sign self.now → X.gives sign (number_of pass.old) result }
     {
-        let backoff = Backoff::new();
         for _ in rt.forever() {
+            let seen = self.shelf.news(0);
             match self.take(rt, pass) {
                 Some(token) => return token,
-                None => backoff.snooze(),
+                None => self.shelf.await_news(rt, pass, 0, seen),
             }
         }
         unreachable!()
