@@ -73,6 +73,37 @@ impl Barrier {
             .call(rt, &(), &mut pass.pass, 0, Ask { by, call })
     }
 
+    /// Tells those who wait, if such a reply may have come with the end of a phase.
+    fn announce_end(&self, pass: &mut BarrierPass, reply: BarrierReply)
+        requires own { Belongs self.now pass.old }
+        ensures own { Belongs self.now pass.new × (number_of pass.new ≡ number_of pass.old) }
+        ensures same { (history_of pass.new ≡ history_of pass.old) × (own_of pass.new ≡ own_of pass.old) }
+    {
+        if matches!(
+            reply,
+            BarrierReply::Released(_, _) | BarrierReply::Left(_, _)
+        ) {
+            self.shelf.announce(&mut pass.pass, 0);
+        }
+    }
+
+    /// One turn at the value that may end a phase.
+    fn call_with_news<R: Wait>(
+        &self,
+        rt: &R,
+        pass: &mut BarrierPass,
+        call: BarrierCall,
+    ) -> BarrierReply
+        requires own { Belongs self.now pass.old }
+        ensures own { Belongs self.now pass.new × (number_of pass.new ≡ number_of pass.old) }
+        ensures called { Called pass.old pass.new call result }
+        ensures fits { MayAnswer call result }
+    {
+        let reply = self.call(rt, pass, call);
+        self.announce_end(pass, reply);
+        reply
+    }
+
     /// The caller takes part from now on, and gets the phase that is on. AlreadyIn exactly where it takes part already.
     /// It may wait for its turn.
     pub fn attach<R: Wait>(&self, rt: &R, pass: &mut BarrierPass) -> Result<u64, BarrierAnswer>
@@ -94,7 +125,7 @@ impl Barrier {
         ensures own { Belongs self.now pass.new × (number_of pass.new ≡ number_of pass.old) }
         ensures called { Called pass.old pass.new Arrive (arrival_reply result) }
     {
-        match self.call(rt, pass, BarrierCall::Arrive) {
+        match self.call_with_news(rt, pass, BarrierCall::Arrive) {
             BarrierReply::Waiting => Ok(Arrival::Waiting),
             BarrierReply::Released(phase, elected) => Ok(Arrival::Released { phase, elected }),
             BarrierReply::NotIn(phase) => Err(BarrierAnswer::NotIn { phase }),
@@ -124,7 +155,7 @@ impl Barrier {
         ensures own { Belongs self.now pass.new × (number_of pass.new ≡ number_of pass.old) }
         ensures called { Called pass.old pass.new Detach (detach_reply result) }
     {
-        match self.call(rt, pass, BarrierCall::Detach) {
+        match self.call_with_news(rt, pass, BarrierCall::Detach) {
             BarrierReply::Left(phase, last) => Ok(Left { phase, last }),
             BarrierReply::NotIn(phase) => Err(BarrierAnswer::NotIn { phase }),
             _ => unreachable!(),
