@@ -1,7 +1,7 @@
-//! What waits cost: the processor time of a receiver that waits two seconds, how long a sleeper takes to wake up, and single calls
-//! beside it. `cargo bench -p lembokuj --bench waits`.
+//! What waits cost: the processor time of a receiver that waits two seconds, and how long a sleeper takes to wake up.
+//! `cargo bench -p lembokuj --bench waits`.
 
-use lembokuj::{Barrier, Table, queue};
+use lembokuj::{Barrier, queue};
 use std::thread;
 use std::time::{Duration, Instant};
 
@@ -48,36 +48,7 @@ fn wake_up() {
     println!("a receiver that sleeps has its message after {middle:.0} us in the middle, {most:.0} us at most");
 }
 
-/// The time of one call, in nanoseconds: the middle of some rounds.
-fn each(what: &str, mut call: impl FnMut(u64)) {
-    const CALLS: u64 = 200_000;
-    let mut round = || {
-        let start = Instant::now();
-        (0..CALLS).for_each(&mut call);
-        start.elapsed().as_nanos() as f64 / CALLS as f64
-    };
-    let times = (0..7).map(|_| round()).collect();
-    println!("{what}: {:.0} ns", middle(times).0);
-}
-
-fn calls() {
-    let (mut tx, mut rx) = queue(1024, 1000).unwrap();
-    for size in [8, 1000] {
-        let message = vec![7; size];
-        each(&format!("try_send and try_receive of {size} bytes in one thread"), |_| {
-            tx.try_send(&message).unwrap();
-            rx.try_receive().unwrap();
-        });
-    }
-    let mut table = Table::<u64, u64>::open(1000, 1).unwrap();
-    (0..1000).for_each(|key| assert_eq!(table.insert(&key, 0), Ok(None)));
-    each("get", |n| assert!(table.get(&(n % 1000)).is_some()));
-    each("update", |n| assert!(table.update(&(n % 1000), |old| old.map(|old| old + 1)).is_ok()));
-    each("update_with", |n| assert!(table.update_with(&(n % 1000), 1, |old, more| old.map(|old| old + more)).is_ok()));
-}
-
 fn main() {
     idle();
     wake_up();
-    calls();
 }

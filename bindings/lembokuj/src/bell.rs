@@ -4,6 +4,8 @@
 //! each of its calls. The counts of a ring and the flag here are sequentially consistent: so either that look finds that somebody
 //! sleeps, or the last try saw what the call did, and no ring of the bell is missed.
 
+use crate::shared::shared;
+use rattle_std::alloc::AllocError;
 use std::hint::spin_loop;
 use std::sync::atomic::AtomicBool;
 use std::sync::atomic::Ordering::SeqCst;
@@ -53,23 +55,15 @@ impl Limit<'_> {
 /// The limit of a wait is reached.
 pub(crate) struct Over;
 
-/// Where a thread parks. It is the library's own, so a wake-up that comes late disturbs nobody else's parking.
+/// Where a thread parks. Each end of a queue has one, made with the queue, so a wait takes no memory, and a wake-up that comes late
+/// disturbs nobody else's parking.
 #[derive(Default)]
 pub(crate) struct Parker {
     is_rung: Mutex<bool>,
     rung: Condvar,
 }
 
-thread_local! {
-    static PARKER: Arc<Parker> = Arc::default();
-}
-
 impl Parker {
-    /// This thread's.
-    pub(crate) fn of_this_thread() -> Arc<Parker> {
-        PARKER.try_with(Arc::clone).unwrap_or_default()
-    }
-
     /// Sleeps until it was rung since the last time, or the time is over.
     fn park(&self, time: Option<Duration>) {
         let is_rung = self.is_rung.lock().unwrap_or_else(PoisonError::into_inner);
@@ -97,11 +91,12 @@ enum Sleeper {
 }
 
 /// Where one end sleeps. It has cache lines of its own, since the other end reads it at each call.
-#[derive(Default)]
 #[repr(align(128))]
 pub(crate) struct Bell {
     sleeps: AtomicBool,
     sleeper: Mutex<Option<Sleeper>>,
+    /// Where the thread parks that waits for this bell only, or for several of which this is the first.
+    parker: Arc<Parker>,
 }
 
 impl std::fmt::Debug for Bell {
@@ -111,6 +106,20 @@ impl std::fmt::Debug for Bell {
 }
 
 impl Bell {
+    /// Nobody sleeps here yet.
+    pub(crate) fn new() -> Result<Bell, AllocError> {
+        Ok(Bell {
+            sleeps: AtomicBool::new(false),
+            sleeper: Mutex::new(None),
+            parker: shared(Parker::default())?,
+        })
+    }
+
+    /// Where the thread parks that waits here.
+    pub(crate) fn parker(&self) -> &Arc<Parker> {
+        &self.parker
+    }
+
     /// Wakes the end that sleeps here, if one does. One load if none does.
     #[inline]
     pub(crate) fn ring(&self) {
@@ -167,9 +176,8 @@ impl Bell {
         if let Some(done) = awake(&mut attempt) {
             return Some(done);
         }
-        let parker = Parker::of_this_thread();
-        self.attach_thread(&parker);
-        let done = asleep(&parker, limit, &mut attempt);
+        self.attach_thread(&self.parker);
+        let done = asleep(&self.parker, limit, &mut attempt);
         self.detach();
         done
     }

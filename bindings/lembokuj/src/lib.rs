@@ -51,7 +51,6 @@ mod bell;
 mod owned;
 mod queue;
 mod region;
-mod room;
 mod select;
 mod shared;
 mod table;

@@ -5,7 +5,6 @@
 
 use crate::bell::{Bell, Limit};
 use crate::errors;
-use crate::room::{GivenBack, Room, frame_words};
 use crate::shared::{Opaque, reserved, shared};
 use mq_handle::{ReceiveAnswer, Receiver, SendAnswer, Sender, attach};
 use mq_ring::{Ring, is_ring_size};
@@ -44,13 +43,11 @@ errors!(QueueError {
 pub enum SendError {
     /// The receiver has gone. No message comes through any more.
     Detached,
-    /// The message is longer than the queue's greatest. Nothing was stored.
+    /// The message is longer than the queue's greatest; or, for a call that sends it whole or not at all, than the ring, so that it
+    /// never has room: [`Tx::send`], or [`Tx::try_send_part`] again and again, send it by parts. Nothing was stored.
     TooLong,
     /// The ring has no room for the whole message, or the wait for it was ended. Nothing was stored: the message is the caller's.
     WouldBlock,
-    /// The message is longer than the ring, so it never has room for all of it. Nothing was stored. [`Tx::send`], or
-    /// [`Tx::try_send_part`] again and again, send it by parts.
-    LongerThanRing,
     /// A part of the message is on the ring: send the same message again. Only calls that send by parts answer this.
     Begun,
     /// A part of another message is on the ring, after the answer [`SendError::Begun`]: send that one again first. Nothing was
@@ -60,9 +57,8 @@ pub enum SendError {
 
 errors!(SendError {
     Detached => "the receiver is gone",
-    TooLong => "the message is longer than the queue's greatest",
+    TooLong => "the message is longer than the queue's greatest, or than the ring, where only `send` and `try_send_part` take it",
     WouldBlock => "the ring has no room for the message",
-    LongerThanRing => "the message is longer than the ring; only `send` or parts take it",
     Begun => "a part of the message is on the ring; send the same message again",
     OtherMessage => "a part of another message is on the ring; send that one again first",
 });
@@ -82,13 +78,12 @@ errors!(ReceiveError {
     Detached => "the sender is gone, and all its messages were received",
 });
 
-/// What both ends share: the words, where each of them sleeps, and what surely came back of the ring.
+/// What both ends share: the words, and where each of them sleeps.
 #[derive(Debug)]
 struct Common {
     words: Opaque<Region>,
     sender: Bell,
     receiver: Bell,
-    room: Room,
 }
 
 /// The sending end. If it is dropped, the receiver gets what was sent and then [`ReceiveError::Detached`].
@@ -98,13 +93,8 @@ pub struct Tx {
     end: Opaque<Sender>,
     max: u32,
     ring_words: u64,
-    /// The words of all messages that are on the ring as wholes.
-    sent: u64,
-    /// What surely came back of them, by the last look.
-    returned: u64,
+    /// Whether a call found that the receiver has gone.
     receiver_is_gone: bool,
-    /// Whether the receiver may not see all that was sent.
-    is_unseen: bool,
     /// The message of which a part is on the ring. Its memory was reserved with the queue, and is kept.
     pending: Vec<u8>,
     is_pending: bool,
@@ -115,7 +105,6 @@ pub struct Tx {
 pub struct Rx {
     common: Arc<Common>,
     end: Opaque<Receiver>,
-    given_back: GivenBack,
     /// What a wait for several receivers found here, which the next call tells.
     held: Option<ReceiveAnswer>,
     /// When such a wait last chose this one.
@@ -187,9 +176,8 @@ pub fn queue(ring_words: u64, max_bytes: u32) -> Result<(Tx, Rx), QueueError> {
     let pending = reserved(max_bytes as usize).map_err(|_| QueueError::Memory)?;
     let common = Common {
         words: Opaque(region),
-        sender: Bell::default(),
-        receiver: Bell::default(),
-        room: Room::default(),
+        sender: Bell::new().map_err(|_| QueueError::Memory)?,
+        receiver: Bell::new().map_err(|_| QueueError::Memory)?,
     };
     let common = shared(common).map_err(|_| QueueError::Memory)?;
     let tx = Tx {
@@ -197,17 +185,13 @@ pub fn queue(ring_words: u64, max_bytes: u32) -> Result<(Tx, Rx), QueueError> {
         end: Opaque(sender),
         max: max_bytes,
         ring_words,
-        sent: 0,
-        returned: 0,
         receiver_is_gone: false,
-        is_unseen: false,
         pending,
         is_pending: false,
     };
     let rx = Rx {
         common,
         end: Opaque(receiver),
-        given_back: GivenBack::of_a_ring(ring_words),
         held: None,
         chosen: 0,
     };
@@ -328,7 +312,6 @@ impl Tx {
     /// Shows the receiver all that was sent.
     pub fn flush(&mut self) {
         self.end.0.flush(&self.common.words.0);
-        self.is_unseen = false;
         self.common.receiver.ring();
     }
 
@@ -373,8 +356,9 @@ impl Tx {
         Poll::Ready(answer)
     }
 
+    /// Whether the words of a message, its length and its bytes, are more than the ring has.
     fn is_longer_than_ring(&self, message: &[u8]) -> bool {
-        frame_words(message.len()) > self.ring_words
+        1 + message.len().div_ceil(8) as u64 > self.ring_words
     }
 
     /// Makes a call of which nothing hinders the message, and keeps it if a part of it is on the ring then.
@@ -423,31 +407,17 @@ impl Tx {
         }
     }
 
-    /// Whether a message has room for all its words, at this moment and so until it is sent.
-    fn has_room(&mut self, words: u64) -> bool {
-        if self.sent + words <= self.ring_words + self.returned {
-            return true;
-        }
-        self.returned = self.common.room.returned();
-        self.sent + words <= self.ring_words + self.returned
-    }
-
+    /// One try. What is left of a message that was begun goes by parts, whatever the way.
     fn try_put(&mut self, message: &[u8], way: Way) -> Result<(), SendError> {
-        let words = frame_words(message.len());
-        if !way.by_parts && !self.is_pending {
-            if words > self.ring_words {
-                return Err(SendError::LongerThanRing);
-            }
-            if !self.has_room(words) {
-                return Err(self.full());
-            }
-        }
-        let answer = self.end.0.try_send(&self.common.words.0, message, way.flush);
-        self.is_unseen = !way.flush;
+        let words = &self.common.words.0;
+        let answer = if way.by_parts || self.is_pending {
+            self.end.0.try_send(words, message, way.flush)
+        } else {
+            self.end.0.try_send_whole(words, message, way.flush)
+        };
         self.common.receiver.ring();
         match answer {
             SendAnswer::Sent => {
-                self.sent += words;
                 self.is_pending = false;
                 Ok(())
             }
@@ -459,19 +429,6 @@ impl Tx {
             }
             SendAnswer::TooLong { .. } => Err(SendError::TooLong),
         }
-    }
-
-    /// The answer if there is no room: a receiver that is gone gives none back. What was sent later has to be seen, since nothing
-    /// comes back of what is not.
-    fn full(&mut self) -> SendError {
-        if self.is_unseen {
-            self.flush();
-        }
-        if self.common.room.receiver_is_gone() {
-            self.receiver_is_gone = true;
-            return SendError::Detached;
-        }
-        SendError::WouldBlock
     }
 
     /// Sends with a wait. Without a limit what has room is stored at once, since the message is sent in the end.
@@ -597,10 +554,6 @@ impl Rx {
 
     fn take(&mut self) -> ReceiveAnswer {
         let answer = self.end.0.try_receive(&self.common.words.0);
-        match answer {
-            ReceiveAnswer::Message => self.given_back.message(&self.common.room, self.end.0.message().len()),
-            ReceiveAnswer::WouldBlock | ReceiveAnswer::Detached => self.given_back.nothing_there(&self.common.room),
-        }
         self.common.sender.ring();
         answer
     }
@@ -627,7 +580,6 @@ impl Rx {
 impl Drop for Rx {
     fn drop(&mut self) {
         self.end.0.detach(&self.common.words.0);
-        self.common.room.receiver_goes();
         self.common.sender.ring();
     }
 }

@@ -2,6 +2,7 @@
 
 use crate::Rx;
 use crate::bell::{Limit, Parker, asleep, awake};
+use std::sync::Arc;
 use std::time::Duration;
 
 /// Waits until one of the receivers has a message, or its sender has gone, and gives its place in the list: its next call does not
@@ -44,15 +45,25 @@ pub fn select_while(receivers: &mut [&mut Rx], mut go_on: impl FnMut() -> bool) 
 fn select_by(receivers: &mut [&mut Rx], limit: &mut Limit<'_>) -> Option<usize> {
     let mut found = awake(&mut || ready(receivers));
     if found.is_none() {
-        let parker = Parker::of_this_thread();
-        receivers.iter().for_each(|receiver| receiver.bell().attach_thread(&parker));
-        found = asleep(&parker, limit, &mut || ready(receivers));
-        receivers.iter().for_each(|receiver| receiver.bell().detach());
+        let parker = receivers.first().map(|receiver| Arc::clone(receiver.bell().parker()));
+        found = match parker {
+            Some(parker) => asleep_at(&parker, receivers, limit),
+            // Nobody wakes this one.
+            None => asleep(&Parker::default(), limit, &mut || None),
+        };
     }
     let last = receivers.iter().map(|receiver| receiver.chosen).max().unwrap_or(0);
     if let Some(at) = found {
         receivers[at].chosen = last + 1;
     }
+    found
+}
+
+/// The thread sleeps at this parker until one of the receivers is ready: the bell of each rings there meanwhile.
+fn asleep_at(parker: &Arc<Parker>, receivers: &mut [&mut Rx], limit: &mut Limit<'_>) -> Option<usize> {
+    receivers.iter().for_each(|receiver| receiver.bell().attach_thread(parker));
+    let found = asleep(parker, limit, &mut || ready(receivers));
+    receivers.iter().for_each(|receiver| receiver.bell().detach());
     found
 }
 

@@ -298,7 +298,7 @@ fn a_queue_says_what_is_wrong() {
     let (mut tx, mut rx) = queue(8, 64).unwrap();
     assert_eq!(tx.try_send(&[0; 65]), Err(SendError::TooLong));
     assert_eq!(rx.try_receive(), Err(ReceiveError::WouldBlock));
-    assert_eq!(tx.try_send(&[1; 64]), Err(SendError::LongerThanRing));
+    assert_eq!(tx.try_send(&[1; 64]), Err(SendError::TooLong));
     assert_eq!(tx.try_send_part(&[1; 64]), Err(SendError::Begun));
     assert_eq!(tx.try_send_part(&[2; 64]), Err(SendError::OtherMessage));
     assert_eq!(tx.try_send_slices(&[&[2; 64]]), Err(SendError::OtherMessage));

@@ -99,7 +99,7 @@ static void queues(void) {
     HOLDS(len == 10 && memcmp(bytes, "three part", len) == 0);
     WANT(lk_queue_receive(rx, &bytes, &len), LK_OK);
     HOLDS(len == 0);
-    WANT(lk_queue_try_send(tx, big, 2048, 0), LK_LONGER_THAN_RING);
+    WANT(lk_queue_try_send(tx, big, 2048, 0), LK_TOO_LONG);
     WANT(lk_queue_try_send_part(tx, big, 2048), LK_BEGUN);
     WANT(lk_queue_try_send(tx, "other", 5, 0), LK_OTHER_MESSAGE);
     WANT(lk_queue_send_within(tx, big, 2048, &soon), LK_BEGUN);

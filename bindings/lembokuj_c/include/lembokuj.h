@@ -58,7 +58,7 @@ enum {
     LK_NO_MEMORY = -4,        /* the system gave no memory */
     LK_BAD_SIZE = -5,         /* a size out of range */
     LK_BAD_CALLERS = -6,      /* no callers, or more than 4,096 */
-    LK_TOO_LONG = -7,         /* the message is longer than the queue's greatest */
+    LK_TOO_LONG = -7,         /* the message is longer than the queue's greatest, or than the ring if it may not go by parts */
     LK_OTHER_MESSAGE = -8,    /* a part of another message is on the ring: send that one again first */
     LK_NO_SPACE = -9,         /* the pages are used up */
     LK_NO_WORD = -10,         /* the chunk has no such word */
@@ -68,8 +68,7 @@ enum {
     LK_TWICE = -14,           /* the caller has arrived in this phase already; a receiver that is twice in a list */
     LK_FULL = -15,            /* the table of contents is full */
     LK_KEY_THERE = -16,       /* the table of contents has the key already */
-    LK_LONGER_THAN_RING = -17, /* the message never has room as a whole: lk_queue_send, or parts, take it */
-    LK_NO_HANDLE = -18,       /* as many handles are out as the object was made for */
+    LK_NO_HANDLE = -17,       /* as many handles are out as the object was made for */
 };
 
 /* The text of a code, and the version of the library that runs, to be compared with LK_VERSION. They live forever. */
@@ -98,8 +97,9 @@ enum { LK_LATER = 1 };
  * 2^20 at most. On the ring a message takes a word and its bytes, rounded up to 8. LK_BAD_SIZE, LK_NO_MEMORY. */
 LK_TELLS int lk_queue_new(uint64_t ring_words, uint32_t max_bytes, lk_sender **tx, lk_receiver **rx);
 
-/* Sends a message as a whole, or stores nothing: LK_WOULD_BLOCK if it has no room now, LK_LONGER_THAN_RING if it never has.
- * LK_DETACHED if the receiver is gone, LK_TOO_LONG. The bytes are copied. */
+/* Sends a message as a whole, or stores nothing: LK_WOULD_BLOCK if it has no room now, LK_TOO_LONG if it never has, since it is
+ * longer than the queue's greatest or than the ring (lk_queue_send and lk_queue_try_send_part take the latter), LK_DETACHED if the
+ * receiver is gone. The bytes are copied. */
 LK_TELLS int lk_queue_try_send(lk_sender *tx, const void *bytes, size_t len, int flags);
 
 /* The same, but waits while the ring is full. A message that is longer than the ring needs a receiver at work. */

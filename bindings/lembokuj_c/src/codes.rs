@@ -40,7 +40,7 @@ codes! {
     LK_NO_MEMORY = -4 => "out of memory",
     LK_BAD_SIZE = -5 => "a size out of range",
     LK_BAD_CALLERS = -6 => "the number of callers is out of range",
-    LK_TOO_LONG = -7 => "the message is longer than the queue's greatest",
+    LK_TOO_LONG = -7 => "the message is longer than the queue's greatest, or than the ring, where a send by parts takes it",
     LK_OTHER_MESSAGE = -8 => "a part of another message is on the ring",
     LK_NO_SPACE = -9 => "the pages are used up",
     LK_NO_WORD = -10 => "no such word",
@@ -50,8 +50,7 @@ codes! {
     LK_TWICE = -14 => "the caller has arrived in this phase already",
     LK_FULL = -15 => "the table of contents is full",
     LK_KEY_THERE = -16 => "the key is there already",
-    LK_LONGER_THAN_RING = -17 => "the message is longer than the ring: lk_queue_send or parts take it",
-    LK_NO_HANDLE = -18 => "as many handles are out as it was made for",
+    LK_NO_HANDLE = -17 => "as many handles are out as it was made for",
 }
 
 /// The version of the library, as `LK_VERSION` of the header it was built with. It lives forever.

@@ -69,7 +69,6 @@ fn sent(answer: Result<(), SendError>) -> c_int {
         Err(SendError::Begun) => LK_BEGUN,
         Err(SendError::TooLong) => LK_TOO_LONG,
         Err(SendError::OtherMessage) => LK_OTHER_MESSAGE,
-        Err(SendError::LongerThanRing) => LK_LONGER_THAN_RING,
         Err(_) => LK_DETACHED,
     }
 }
