@@ -81,7 +81,7 @@ fn messages(bytes: usize) {
 
 /// A table of some keys, by this library and by std.
 fn tables(keys: u64) {
-    let mut table = Table::<u64, u64>::open(lembokuj::table_pages(keys, 1, 1), 1).unwrap();
+    let mut table = Table::<u64, u64>::open(keys, 1).unwrap();
     (0..keys).for_each(|key| assert_eq!(table.insert(&key, 0), Ok(None)));
     let table = std::cell::RefCell::new(table);
     let map = Mutex::new((0..keys).map(|key| (key, 0)).collect::<HashMap<u64, u64>>());
