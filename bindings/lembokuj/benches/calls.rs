@@ -2,7 +2,9 @@
 //! nanoseconds a call, the least of some rounds that are made in turns; all in one thread but the barrier and the busy queues.
 
 use lembokuj::{Area, Barrier, Table, queue};
+use mq_handle::{ReceiveAnswer, ReceiveDone, Receiver, SendAnswer, SendDone, Sender, attach};
 use mq_ring::Ring;
+use rattle_std::HostRuntime;
 use rattle_std::alloc::Global;
 use region_words::Region;
 use std::collections::HashMap;
@@ -12,7 +14,7 @@ use std::sync::mpsc::sync_channel;
 use std::thread;
 use std::time::Instant;
 
-const ROUNDS: usize = 15;
+const ROUNDS: usize = 25;
 const CALLS: u64 = 20_000;
 const PHASES: u64 = 2_000;
 
@@ -44,16 +46,22 @@ fn compare(what: &str, mut ways: Vec<Way<'_>>) {
     println!();
 }
 
+/// A queue of the crates below this library.
+fn crates_queue(words: u64) -> (Region, Sender, Receiver) {
+    let (region, mut part) = Region::new(Global, words as usize + 4).unwrap_or_else(|_| panic!("memory"));
+    let chunk = part.split_chunk(&region, 1, words + 3);
+    let (tx, rx) = Ring::create(&region, chunk, words, 0, 1000);
+    let (sender, receiver) = attach(Global, tx, rx).unwrap_or_else(|_| panic!("memory"));
+    (region, sender, receiver)
+}
+
 /// A message that goes and comes in one thread: by this library, by the crates below it, and by std.
 fn messages(bytes: usize) {
     const WORDS: u64 = 1024;
     let message = vec![7u8; bytes];
     let (mut tx, mut rx) = queue(WORDS, 1000).unwrap();
     let (mut later, mut rx_later) = queue(WORDS, 1000).unwrap();
-    let (region, mut part) = Region::new(Global, WORDS as usize + 4).unwrap_or_else(|_| panic!("memory"));
-    let chunk = part.split_chunk(&region, 1, WORDS + 3);
-    let (ring_tx, ring_rx) = Ring::create(&region, chunk, WORDS, 0, 1000);
-    let (mut sender, mut receiver) = mq_handle::attach(Global, ring_tx, ring_rx).unwrap_or_else(|_| panic!("memory"));
+    let (region, mut sender, mut receiver) = crates_queue(WORDS);
     let (channel, inbox) = sync_channel::<Vec<u8>>(64);
     compare(
         &format!("a message of {bytes} bytes, sent and received"),
@@ -67,8 +75,8 @@ fn messages(bytes: usize) {
                 black_box(rx_later.try_receive().map_or(0, <[u8]>::len));
             }),
             calls("crates below", |_| {
-                assert_eq!(sender.try_send_whole(&region, &message, true), mq_handle::SendAnswer::Sent);
-                assert_eq!(receiver.try_receive(&region), mq_handle::ReceiveAnswer::Message);
+                assert_eq!(sender.try_send_whole(&region, &message, true), SendAnswer::Sent);
+                assert_eq!(receiver.try_receive(&region), ReceiveAnswer::Message);
                 black_box(receiver.message());
             }),
             calls("sync_channel of Vec", |_| {
@@ -180,13 +188,26 @@ fn streams() {
             |n| assert_eq!(rx.receive(), Ok(&n.to_le_bytes()[..])),
         )
     };
+    let below = || {
+        let (region, mut sender, mut receiver) = crates_queue(2048);
+        let host = HostRuntime::new();
+        stream(
+            |n| assert_eq!(sender.send(&host, &region, &n.to_le_bytes(), true), SendDone::Sent),
+            |_| assert_eq!(receiver.receive(&host, &region), ReceiveDone::Message),
+        )
+    };
     let std = || {
         let (tx, rx) = sync_channel::<[u8; 8]>(1024);
         stream(move |n| tx.send(n.to_le_bytes()).unwrap(), move |n| assert_eq!(rx.recv(), Ok(n.to_le_bytes())))
     };
     compare(
         "a message of 8 bytes from thread to thread",
-        vec![("queue", Box::new(ours)), ("shown later", Box::new(later)), ("sync_channel", Box::new(std))],
+        vec![
+            ("queue", Box::new(ours)),
+            ("shown later", Box::new(later)),
+            ("crates below", Box::new(below)),
+            ("sync_channel", Box::new(std)),
+        ],
     );
 }
 

@@ -38,10 +38,10 @@ errors!(AreaError {
     Memory => "out of memory",
 });
 
-/// The area has not as many free pages in a row as the request needs.
+/// The area has no row of free pages that is long enough for the request.
 #[derive(Clone, Copy, Debug, PartialEq, Eq)]
 pub struct NoSpace {
-    /// The pages that were wanted: 16 for a chunk of up to 8,192 bytes, which is cut from so many. For a request of more than
+    /// The pages that were wanted: 16 for a chunk of up to 8,192 bytes, which is cut from that number. For a request of more than
     /// 2^44 bytes it is `u32::MAX`.
     pub pages: u32,
     /// The pages of the longest row that was free when the area looked.
@@ -65,7 +65,7 @@ impl From<dsa_area::NoSpace> for NoSpace {
     }
 }
 
-/// A new area in a region of its own, with so many passes for each caller.
+/// A new area in a new region, with `each` passes for each caller.
 pub(crate) fn new_area(pages: u32, callers: u32, each: u32) -> Result<(Region, dsa_area::Area, Vec<AreaPass>), AreaError> {
     if pages > MOST_PAGES {
         return Err(AreaError::Pages);
@@ -133,7 +133,7 @@ impl fmt::Debug for Area {
 }
 
 impl Area {
-    /// An area of so many pages of 4 KiB, and a handle for each of its callers. It takes memory for the pages, 1.6 % of
+    /// An area of `pages` pages of 4 KiB, and a handle for each of its callers. It takes memory for the pages, 1.6 % of
     /// them for their records, and a few words for each caller. Chunks of up to 8,192 bytes are cut from 16 pages at a
     /// time, for each of 36 size classes, and a class keeps such 16 pages once it has some.
     ///
@@ -148,7 +148,7 @@ impl Area {
         Ok(handles)
     }
 
-    /// The same with one handle; [`Area::handle`] makes the others, up to so many at a time.
+    /// The same with one handle; [`Area::handle`] makes the others, up to `callers` at a time.
     ///
     /// # Errors
     ///
@@ -171,7 +171,7 @@ impl Area {
         Ok(Area { shared, passes })
     }
 
-    /// One more handle, unless as many are out as the area was made for. A handle that is dropped makes room for another.
+    /// One more handle, unless all that the area was made for are out. A handle that is dropped makes room for another.
     #[must_use]
     pub fn handle(&self) -> Option<Area> {
         let passes = self.shared.spare.lock().unwrap_or_else(PoisonError::into_inner).pop()?;
@@ -181,8 +181,8 @@ impl Area {
         })
     }
 
-    /// A chunk of at least so many bytes, at least 1: up to 8,192 bytes of a size class that holds it, and otherwise of whole
-    /// pages. It may wait for the lock of one size class and for that of the pages.
+    /// A chunk of at least `bytes` bytes, and of at least 1: up to 8,192 bytes of a size class that holds it, and otherwise of
+    /// whole pages. It may wait for the lock of one size class and for that of the pages.
     ///
     /// **Its words hold whatever their last owner left there**, at first 0: [`Area::alloc_zeroed`] clears them.
     ///
@@ -300,7 +300,7 @@ impl Chunk {
         self.words
     }
 
-    /// Whether it has so many places from one on.
+    /// Whether it has `count` places from one on.
     fn has(&self, at: u64, count: usize, each: u64) -> Result<(), NoWord> {
         let end = at.checked_add(count as u64).ok_or(NoWord)?;
         if end <= self.words * each { Ok(()) } else { Err(NoWord) }
@@ -332,7 +332,7 @@ impl Chunk {
         }
     }
 
-    /// Copies its words from a place on, as many as the slice has.
+    /// Copies its words from a place on, until the slice is full.
     ///
     /// # Errors
     ///
@@ -355,7 +355,7 @@ impl Chunk {
         (at..).zip(words).try_for_each(|(at, word)| self.store(at, *word))
     }
 
-    /// Copies its bytes from a place on, as many as the slice has.
+    /// Copies its bytes from a place on, until the slice is full.
     ///
     /// # Errors
     ///
@@ -385,7 +385,7 @@ impl Chunk {
     }
 }
 
-/// So many bytes from a place on, cut at the ends of words: the word, its bytes, and how many bytes came before.
+/// `count` bytes from a place on, cut at the ends of words: the word, its bytes, and how many bytes came before.
 fn pieces(at: u64, count: usize) -> impl Iterator<Item = (u64, std::ops::Range<usize>, usize)> {
     let mut done = 0;
     std::iter::from_fn(move || {

@@ -55,7 +55,7 @@ pub struct Arrival {
     pub is_elected: bool,
 }
 
-/// What all callers share: the barrier, and where those sleep who wait for the end of a phase.
+/// What all callers share: the barrier, and what callers sleep at that wait for the end of a phase.
 struct Shared {
     barrier: par_barrier::Barrier,
     sleepers: AtomicU32,
@@ -65,7 +65,7 @@ struct Shared {
 }
 
 impl Shared {
-    /// Wakes those who sleep, after a call that may have ended a phase. Who sleeps counts itself and then looks once more, so either
+    /// Wakes those that sleep, after a call that may have ended a phase. A sleeper counts itself and then looks once more, so either
     /// that look sees what the call did, or the count is seen here.
     fn wake(&self) {
         if self.sleepers.load(SeqCst) > 0 {
@@ -82,7 +82,7 @@ impl Shared {
             if let Some(found) = look() {
                 break Some(found);
             }
-            // A caller's function is asked with the door shut behind it: others come and go meanwhile.
+            // A caller's function is asked with the door unlocked: others come and go meanwhile.
             drop(door);
             let next = limit.next_sleep();
             door = self.door.lock().unwrap_or_else(PoisonError::into_inner);
@@ -144,7 +144,7 @@ impl Barrier {
         Ok(handles)
     }
 
-    /// The same with one handle, whose caller takes part; [`Barrier::handle`] makes the others, up to so many at a time.
+    /// The same with one handle, whose caller takes part; [`Barrier::handle`] makes the others, up to `callers` at a time.
     ///
     /// # Errors
     ///
@@ -169,7 +169,7 @@ impl Barrier {
         Ok(first)
     }
 
-    /// One more handle, whose caller takes part from the phase that is on; None if as many are out as the barrier was made for. A
+    /// One more handle, whose caller takes part from the phase that is on; None if all that the barrier was made for are out. A
     /// handle that is dropped makes room for another.
     #[must_use]
     pub fn handle(&self) -> Option<Barrier> {
@@ -205,7 +205,7 @@ impl Barrier {
         }
     }
 
-    /// As [`Barrier::wait`], but waits no longer than so much time: None then. The caller has arrived all the same, and learns of
+    /// As [`Barrier::wait`], but waits no longer than this time: None then. The caller has arrived all the same, and learns of
     /// the end of the phase by [`Barrier::look`].
     ///
     /// # Errors

@@ -15,7 +15,7 @@ use std::task::Waker;
 use std::thread;
 use std::time::{Duration, Instant};
 
-/// How many tries are made awake before the first sleep: so many that spin, each twice as long as the one before, and so many that
+/// How many tries are made awake before the first sleep: those that spin, each twice as long as the one before, and then those that
 /// yield the processor.
 const SPINS: u32 = 7;
 const YIELDS: u32 = 24;
@@ -34,7 +34,7 @@ pub(crate) enum Limit<'a> {
 }
 
 impl Limit<'_> {
-    /// A limit of so much time from now on. A time beyond all clocks is none.
+    /// A limit at this time from now on. A time beyond all clocks is none.
     pub(crate) fn after(time: Duration) -> Limit<'static> {
         Instant::now().checked_add(time).map_or(Limit::Forever, Limit::Until)
     }
@@ -55,8 +55,8 @@ impl Limit<'_> {
 /// The limit of a wait is reached.
 pub(crate) struct Over;
 
-/// Where a thread parks. Each end of a queue has one, made with the queue, so a wait takes no memory, and a wake-up that comes late
-/// disturbs nobody else's parking.
+/// What a thread parks at. Each end of a queue has one, made with the queue: so a wait takes no memory, and a wake-up that comes
+/// late disturbs nobody else's parking.
 #[derive(Default)]
 pub(crate) struct Parker {
     is_rung: Mutex<bool>,
@@ -90,12 +90,12 @@ enum Sleeper {
     Task(Waker),
 }
 
-/// Where one end sleeps. It has cache lines of its own, since the other end reads it at each call.
+/// What one end sleeps at. It has its own cache lines, since the other end reads it at each call.
 #[repr(align(128))]
 pub(crate) struct Bell {
     sleeps: AtomicBool,
     sleeper: Mutex<Option<Sleeper>>,
-    /// Where the thread parks that waits for this bell only, or for several of which this is the first.
+    /// What the thread parks at that waits for this bell only, or for several of which this is the first.
     parker: Arc<Parker>,
 }
 
@@ -115,7 +115,7 @@ impl Bell {
         })
     }
 
-    /// Where the thread parks that waits here.
+    /// What the thread parks at that waits here.
     pub(crate) fn parker(&self) -> &Arc<Parker> {
         &self.parker
     }
@@ -198,7 +198,7 @@ pub(crate) fn awake<T>(attempt: &mut impl FnMut() -> Option<T>) -> Option<T> {
     None
 }
 
-/// Tries by a thread that sleeps in between: its parker is attached to the bells that tell of something new.
+/// Tries by a thread that sleeps in between: its parker is attached to the bells that ring for something new.
 pub(crate) fn asleep<T>(parker: &Parker, limit: &mut Limit<'_>, attempt: &mut impl FnMut() -> Option<T>) -> Option<T> {
     loop {
         if let Some(done) = attempt() {

@@ -1,7 +1,7 @@
 //! A table whose values are owned things, as chunks of an area are.
 //!
 //! A [`Table`] holds words. Here its words are a place in a list of slots and the number of the value there, and each slot keeps
-//! its value behind a lock of its own. A number is never used again, so whoever has looked a key up sees at the slot whether that is
+//! its value under its own lock. A number is never used again, so a caller that has looked a key up sees at the slot whether that is
 //! still its value.
 
 use crate::shared::{reserved, shared};
@@ -9,11 +9,11 @@ use crate::{AllocError, Chunk, NoSpace, Table, TableError, Words};
 use std::fmt;
 use std::sync::{Arc, Mutex, MutexGuard, PoisonError};
 
-/// Why a value was not put in; it comes back beside this.
+/// Why a value was not put in; it comes back with this.
 #[derive(Clone, Copy, Debug, PartialEq, Eq)]
 #[non_exhaustive]
 pub enum OwnedError {
-    /// There are as many values as the table was made for.
+    /// The table has all the values that it was made for.
     Full,
     /// The table of keys has no room for the key.
     NoSpace(NoSpace),
@@ -86,7 +86,7 @@ impl<T> Slots<T> {
 }
 
 /// A handle of a table from keys to values that are owned: chunks of an area ([`ChunkTable`]), lists, files. A value lies
-/// behind a lock of its own, so a long look at one keeps nobody from the others.
+/// under its own lock, so a long look at one keeps nobody from the others.
 ///
 /// ```
 /// use lembokuj::{Area, ChunkTable, Text};
@@ -121,7 +121,7 @@ impl<K, T> fmt::Debug for OwnedTable<K, T> {
 }
 
 impl<K: Words, T: Send> OwnedTable<K, T> {
-    /// An empty table for so many values; [`OwnedTable::handle`] makes more handles, up to `callers` at a time. It takes memory for
+    /// An empty table for `values` values; [`OwnedTable::handle`] makes more handles, up to `callers` at a time. It takes memory for
     /// all values from the start, and for their keys.
     ///
     /// # Errors
@@ -138,7 +138,7 @@ impl<K: Words, T: Send> OwnedTable<K, T> {
         })
     }
 
-    /// One more handle, unless as many are out as the table was made for.
+    /// One more handle, unless all that the table was made for are out.
     #[must_use]
     pub fn handle(&self) -> Option<OwnedTable<K, T>> {
         Some(OwnedTable {

@@ -1,7 +1,7 @@
 //! A queue of messages between one sender and one receiver.
 //!
 //! Messages lie on a ring of words. What the calls beneath ask of a caller is kept here: an end is used only before its
-//! detach, with the region of its own queue; and while a part of a message is on the ring, only that message is sent.
+//! detach, with the region of its queue; and while a part of a message is on the ring, only that message is sent.
 
 use crate::bell::{Bell, Limit};
 use crate::errors;
@@ -16,7 +16,7 @@ use std::time::Duration;
 /// The longest message of any queue, in bytes.
 const MOST_BYTES: u32 = 1 << 20;
 
-/// The words of a ring beside its cells: the two counts and the flag.
+/// The words of a ring besides its cells: the two counts and the flag.
 const RING_HEAD: u64 = 3;
 
 /// Why there is no queue.
@@ -78,7 +78,7 @@ errors!(ReceiveError {
     Detached => "the sender is gone, and all its messages were received",
 });
 
-/// What both ends share: the words, and where each of them sleeps.
+/// What both ends share: the words, and what each of them sleeps at.
 #[derive(Debug)]
 struct Common {
     words: Opaque<Region>,
@@ -105,7 +105,7 @@ pub struct Tx {
 pub struct Rx {
     common: Arc<Common>,
     end: Opaque<Receiver>,
-    /// What a wait for several receivers found here, which the next call tells.
+    /// What a wait for several receivers found here, which the next call returns.
     held: Option<ReceiveAnswer>,
     /// When such a wait last chose this one.
     pub(crate) chosen: u64,
@@ -271,7 +271,7 @@ impl Tx {
         self.keeping(message, |tx| tx.put(message, false, &mut Limit::Forever))
     }
 
-    /// As [`Tx::send`], but waits no longer than so much time.
+    /// As [`Tx::send`], but waits no longer than this time.
     ///
     /// # Errors
     ///
@@ -385,7 +385,9 @@ impl Tx {
         self.fits(slices.iter().fold(0, |sum: usize, slice| sum.saturating_add(slice.len())))?;
         if !self.is_pending {
             self.pending.clear();
-            slices.iter().for_each(|slice| self.pending.extend_from_slice(slice));
+            for slice in slices {
+                self.pending.extend_from_slice(slice);
+            }
         } else if !slices.iter().copied().flatten().eq(&self.pending) {
             return Err(SendError::OtherMessage);
         }
@@ -396,7 +398,7 @@ impl Tx {
         answer
     }
 
-    /// Whether a message of so many bytes may go to this receiver at all.
+    /// Whether a message of this length may go to this receiver at all.
     fn fits(&self, bytes: usize) -> Result<(), SendError> {
         if bytes > self.max as usize {
             Err(SendError::TooLong)
@@ -477,7 +479,7 @@ impl Rx {
         self.wait(&mut Limit::Forever)
     }
 
-    /// As [`Rx::receive`], but waits no longer than so much time.
+    /// As [`Rx::receive`], but waits no longer than this time.
     ///
     /// # Errors
     ///
@@ -540,7 +542,7 @@ impl Rx {
         self.held.is_some()
     }
 
-    /// Where its thread sleeps.
+    /// What its thread sleeps at.
     pub(crate) fn bell(&self) -> &Bell {
         &self.common.receiver
     }

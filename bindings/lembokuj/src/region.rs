@@ -76,7 +76,7 @@ fn holds(owned: &[Range<u64>], at: u64) -> Result<(), PartError> {
 }
 
 impl Part {
-    /// The part that owns all words of a new region: so many, all 0. It takes memory for them.
+    /// The part that owns all `words` words of a new region, all 0. It takes memory for them.
     ///
     /// # Errors
     ///
@@ -175,7 +175,7 @@ impl Part {
     }
 }
 
-/// Words that change no more. Each reader has a share of its own.
+/// Words that change no more. Each reader has its own share.
 pub struct Frozen {
     region: Arc<region_words::Region>,
     frozen: region_words::Frozen,

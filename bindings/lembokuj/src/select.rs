@@ -29,7 +29,7 @@ pub fn select(receivers: &mut [&mut Rx]) -> usize {
     }
 }
 
-/// As [`select`], but waits no longer than so much time: None then.
+/// As [`select`], but waits no longer than this time: None then.
 #[must_use]
 pub fn select_timeout(receivers: &mut [&mut Rx], time: Duration) -> Option<usize> {
     select_by(receivers, &mut Limit::after(time))
@@ -61,9 +61,13 @@ fn select_by(receivers: &mut [&mut Rx], limit: &mut Limit<'_>) -> Option<usize> 
 
 /// The thread sleeps at this parker until one of the receivers is ready: the bell of each rings there meanwhile.
 fn asleep_at(parker: &Arc<Parker>, receivers: &mut [&mut Rx], limit: &mut Limit<'_>) -> Option<usize> {
-    receivers.iter().for_each(|receiver| receiver.bell().attach_thread(parker));
+    for receiver in &*receivers {
+        receiver.bell().attach_thread(parker);
+    }
     let found = asleep(parker, limit, &mut || ready(receivers));
-    receivers.iter().for_each(|receiver| receiver.bell().detach());
+    for receiver in receivers {
+        receiver.bell().detach();
+    }
     found
 }
 

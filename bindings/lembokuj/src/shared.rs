@@ -12,7 +12,7 @@ impl<T> std::fmt::Debug for Opaque<T> {
     }
 }
 
-/// An empty list with room for so many items.
+/// An empty list with this room.
 pub(crate) fn reserved<T>(room: usize) -> Result<Vec<T>, AllocError> {
     let mut items = Vec::new();
     items.try_reserve_exact(room)?;

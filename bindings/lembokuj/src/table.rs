@@ -1,7 +1,7 @@
 //! A hash table that many threads use at once.
 //!
 //! What the calls beneath ask of a caller is kept here: passes are used with their own table, area and region, and a key
-//! has as many words as the table's keys. Under a partition's lock only words are moved; the one function of a caller's that runs
+//! has the number of words of the table's keys. Under a partition's lock only words are moved; the one function of a caller's that runs
 //! there, that of `update_with`, is caught if it panics.
 
 use crate::area::new_area;
@@ -115,7 +115,7 @@ enum Reply<V: Words> {
 }
 
 impl<V: Words> Reply<V> {
-    /// The words before the call. The caller's panic goes on here, where no lock is held.
+    /// The words before the call. The caller's panic goes on here, with no lock held.
     fn before(self) -> Option<V::Raw> {
         match self {
             Reply::Before(raw) => raw,
@@ -187,7 +187,7 @@ struct Passes<V: Words> {
 /// A handle of a table from keys to values. Keys are the same if their words are.
 ///
 /// A call takes the lock of one of 128 partitions, by the key's hash, for a walk along one chain of items. The hash is fixed
-/// and known: whoever chooses the keys can choose them in one chain (HashDoS), so keys of strangers want a hash with a secret in
+/// and known: a caller that chooses the keys can choose them in one chain (HashDoS), so keys of strangers need a hash with a secret in
 /// front. A table that is full refuses new keys and goes on with those that it has.
 ///
 /// ```
@@ -245,7 +245,7 @@ impl<K: Words, V: Words> Table<K, V> {
         assert!(V::WORDS <= MOST_VALUE_WORDS, "a value has at most 65536 words");
     };
 
-    /// An empty table with room for so many keys, and a handle for each of its callers. It is sized by [`table_pages`], which is
+    /// An empty table with room for `keys` keys, and a handle for each of its callers. It is sized by [`table_pages`], which is
     /// enough if the keys' hashes are well distributed.
     ///
     /// # Errors
@@ -255,7 +255,7 @@ impl<K: Words, V: Words> Table<K, V> {
         Table::with_pages(table_pages(keys, K::WORDS, V::WORDS), callers)
     }
 
-    /// An empty table in an area of so many pages of 4 KiB, and a handle for each of its callers.
+    /// An empty table in an area of `pages` pages of 4 KiB, and a handle for each of its callers.
     ///
     /// # Errors
     ///
@@ -268,7 +268,7 @@ impl<K: Words, V: Words> Table<K, V> {
         Ok(handles)
     }
 
-    /// As [`Table::for_keys`] with one handle; [`Table::handle`] makes the others, up to so many at a time.
+    /// As [`Table::for_keys`] with one handle; [`Table::handle`] makes the others, up to `callers` at a time.
     ///
     /// # Errors
     ///
@@ -277,7 +277,7 @@ impl<K: Words, V: Words> Table<K, V> {
         Table::open_pages(table_pages(keys, K::WORDS, V::WORDS), callers)
     }
 
-    /// As [`Table::with_pages`] with one handle; [`Table::handle`] makes the others, up to so many at a time.
+    /// As [`Table::with_pages`] with one handle; [`Table::handle`] makes the others, up to `callers` at a time.
     ///
     /// # Errors
     ///
@@ -374,9 +374,9 @@ impl<K: Words, V: Words> Table<K, V> {
         if let Some(value) = self.get(key) {
             return Ok(value);
         }
-        let made = make();
-        let found = self.call(key, &Ask::Swap(None, Some(made.store())))?;
-        Ok(found.as_ref().map_or(made, V::load))
+        let value = make();
+        let found = self.call(key, &Ask::Swap(None, Some(value.store())))?;
+        Ok(found.as_ref().map_or(value, V::load))
     }
 
     /// If the value of a key is `expected` (None: there is no such key), it becomes `new` (None: the key is taken out), in one
@@ -522,7 +522,7 @@ impl<K: Words, V: Words> Table<K, V> {
     /// [`AllocError`]: it takes memory for a key, and there is none. The others are still there.
     pub fn clear(&mut self) -> Result<u64, AllocError> {
         let mut gone = 0;
-        // At most as many as are there now, so that it ends while others put in.
+        // At most the number that is there now, so that it ends while others put in.
         for _ in 0..self.count() {
             match self.take_any()? {
                 Some(_) => gone += 1,
@@ -548,7 +548,7 @@ impl<K: Words, V: Words> Table<K, V> {
 
 /// What does not depend on how many words a key has: that is known when a table is made.
 impl<K, V: Words> Table<K, V> {
-    /// One more handle, unless as many are out as the table was made for. A handle that is dropped makes room for another.
+    /// One more handle, unless all that the table was made for are out. A handle that is dropped makes room for another.
     #[must_use]
     pub fn handle(&self) -> Option<Table<K, V>> {
         let passes = self.shared.spare.lock().unwrap_or_else(PoisonError::into_inner).pop()?;
@@ -571,7 +571,7 @@ impl<K, V: Words> Table<K, V> {
         u64::try_from(keys).unwrap_or(u64::MAX)
     }
 
-    /// An empty table in so many pages, whose keys have so many words, 1 to 64.
+    /// An empty table in `pages` pages, whose keys have `key_words` words, 1 to 64.
     pub(crate) fn with_key_words(pages: u32, callers: u32, key_words: u32) -> Result<Table<K, V>, TableError> {
         let (region, area, mut area_passes) = new_area(pages, callers, 1)?;
         let made = Dshash::new(&crate::HOST, Global, &region, &area, &mut area_passes[0], key_words, callers);
@@ -596,7 +596,7 @@ impl<K, V: Words> Table<K, V> {
         })
     }
 
-    /// The words under a key of just as many words as the table's keys have.
+    /// The words under a key, which has just the number of words of the table's keys.
     pub(crate) fn get_at(&mut self, key: &[u64]) -> Option<V::Raw> {
         let Shared { region, table, .. } = &*self.shared;
         let Some(passes) = &mut self.passes else { unreachable!("a handle has its passes up to its drop") };
@@ -662,7 +662,7 @@ const PAGE: u64 = 4096;
 const SUPERBLOCK_PAGES: u64 = 16;
 const LARGEST_CLASS: u64 = 8192;
 
-/// How many pages an area needs for a table of so many keys whose hashes are well distributed. It counts: for the keys' items,
+/// How many pages an area needs for a table of `keys` keys whose hashes are well distributed. It counts: for the keys' items,
 /// whole superblocks of 16 pages; for the bucket slices of all partitions, those of the size that they come to and of
 /// each smaller one, since slices of two sizes are out while the partitions grow, and what is given back may lie apart.
 /// An empty table takes 16 pages.
@@ -695,7 +695,7 @@ pub fn table_pages(keys: u64, key_words: usize, value_words: usize) -> u32 {
     u32::try_from(items.saturating_add(slices)).unwrap_or(u32::MAX)
 }
 
-/// The pages that so many chunks of one size take at most.
+/// The pages that `count` chunks of one size take at most.
 fn chunks_pages(count: u64, bytes: u64) -> u64 {
     if bytes > LARGEST_CLASS {
         return count.saturating_mul(bytes.div_ceil(PAGE));

@@ -1,6 +1,6 @@
 //! A table of contents: chunks by keys, which all threads read.
 //!
-//! What the calls beneath ask of a caller is kept here: a chunk is used with its own table, and a word is read only where
+//! What the calls beneath ask of a caller is kept here: a chunk is used with its own table, and a word is read only if
 //! it belongs to a chunk that was kept.
 
 use crate::shared::shared;
@@ -77,7 +77,7 @@ impl fmt::Debug for TocBuilder {
     }
 }
 
-/// A chunk of a table that is being filled. Its words are its holder's alone.
+/// A chunk of a table that is being filled. Only its holder uses its words.
 pub struct TocChunk {
     region: Arc<Region>,
     chunk: region_words::Chunk,
@@ -117,7 +117,7 @@ impl TocChunk {
 }
 
 impl TocBuilder {
-    /// An empty table of so many bytes, rounded up to 32: 32 for its head, 16 for each key, and each chunk rounded up to
+    /// An empty table of `bytes` bytes, rounded up to 32: 32 for its head, 16 for each key, and each chunk rounded up to
     /// 32. It takes memory for them.
     ///
     /// # Errors
@@ -143,7 +143,7 @@ impl TocBuilder {
         self.toc.free_bytes()
     }
 
-    /// A chunk of at least so many bytes.
+    /// A chunk of at least `bytes` bytes.
     ///
     /// # Errors
     ///

@@ -35,12 +35,12 @@ type Sized<const N: usize> = Table<Words, [u64; N]>;
 /// Keys of a number of words that is known at run time.
 enum Words {}
 
-/// A value's words with zeros behind them.
+/// A value's words, followed by zeros.
 fn filled<const N: usize>(words: &[u64]) -> [u64; N] {
     std::array::from_fn(|at| words.get(at).copied().unwrap_or(0))
 }
 
-/// Writes as many words of a value as there is room for, and says whether there was one.
+/// Writes the words of a value for which there is room, and says whether there was one.
 fn told<const N: usize>(value: Option<[u64; N]>, out: &mut [u64]) -> bool {
     if let Some(words) = &value {
         for (out, word) in out.iter_mut().zip(words) {
@@ -123,13 +123,13 @@ impl std::fmt::Debug for WordTable {
 }
 
 impl WordTable {
-    /// How many pages a table of so many keys takes whose hashes are well distributed.
+    /// How many pages a table of `keys` keys takes whose hashes are well distributed.
     #[must_use]
     pub fn pages(keys: u64, key_words: usize, value_words: usize) -> u32 {
         table_pages(keys, key_words, value_words.next_power_of_two())
     }
 
-    /// An empty table in an area of so many pages of 4 KiB, and one handle; [`WordTable::handle`] makes the others, up to
+    /// An empty table in an area of `pages` pages of 4 KiB, and one handle; [`WordTable::handle`] makes the others, up to
     /// `callers` at a time.
     ///
     /// # Errors
@@ -156,7 +156,7 @@ impl WordTable {
         })
     }
 
-    /// One more handle, unless as many are out as the table was made for, or there is no memory.
+    /// One more handle, unless all that the table was made for are out, or there is no memory.
     #[must_use]
     pub fn handle(&self) -> Option<WordTable> {
         Some(WordTable {

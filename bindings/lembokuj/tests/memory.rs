@@ -79,8 +79,8 @@ fn limited<T>(limit: usize, call: impl FnOnce() -> T) -> (T, Option<usize>) {
 fn each_refused_of<S, T, E>(what: &str, make: impl Fn() -> S, mut call: impl FnMut(S) -> Result<T, E>) {
     let (mut limit, mut refused) = (0, 0);
     loop {
-        let made = make();
-        let (answer, wanted) = limited(limit, || call(made).is_ok());
+        let subject = make();
+        let (answer, wanted) = limited(limit, || call(subject).is_ok());
         let Some(wanted) = wanted else {
             assert!(answer, "{what}: refused for another reason");
             break;

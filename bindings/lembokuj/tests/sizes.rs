@@ -107,7 +107,7 @@ fn chunks_go_back() {
 fn a_table_that_is_full_says_so_and_stays() {
     assert_eq!(Table::<u64, u64>::with_pages(0, 1).unwrap_err(), TableError::NoSpace);
     let mut table = Table::<u64, u64>::with_pages(64, 1).unwrap().pop().unwrap();
-    let refused = (0..).find(|key| table.insert(key, 2 * key).is_err()).unwrap();
+    let refused = (0..100_000).find(|key| table.insert(key, 2 * key).is_err()).unwrap();
     assert_eq!(table.count(), refused);
     assert!((0..refused).all(|key| table.get(&key) == Some(2 * key)));
     assert_eq!(table.get(&refused), None);
@@ -235,7 +235,7 @@ fn a_table_has_calls_for_each_want() {
     let mut seen = 0;
     table.for_each(|key, value| seen += u64::from(key == value)).unwrap();
     assert_eq!(seen, 499);
-    let parts: usize = (0..Table::<u64, u64>::PARTITIONS + 1).map(|number| table.partition(number).unwrap().len()).sum();
+    let parts: usize = (0..=Table::<u64, u64>::PARTITIONS).map(|number| table.partition(number).unwrap().len()).sum();
     assert_eq!(parts, 499);
     assert_eq!(table.retain(|key, _| key % 2 == 0), Ok(249));
     assert_eq!((table.count(), table.get(&4), table.get(&5)), (250, Some(4), None));

@@ -1,6 +1,7 @@
 //! Four threads at each object, with counts and sums that have to come out.
 
 use lembokuj::{Area, Barrier, ReceiveError, Table, Text, queue};
+use std::collections::VecDeque;
 use std::thread;
 
 /// In a debug build fewer.
@@ -102,7 +103,7 @@ fn chunks_do_not_overlap() {
     thread::scope(|scope| {
         for (id, mut area) in (0u64..).zip(Area::new(2048, 4).unwrap()) {
             scope.spawn(move || {
-                let mut held: std::collections::VecDeque<(u64, lembokuj::Chunk)> = Default::default();
+                let mut held: VecDeque<(u64, lembokuj::Chunk)> = VecDeque::new();
                 for n in 0..CALLS / 4 {
                     let mut chunk = area.alloc(8 + n * 37 % 3000).unwrap();
                     for at in 0..chunk.words() {

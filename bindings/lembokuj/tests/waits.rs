@@ -93,7 +93,7 @@ fn nothing_is_lost_between_sleeps() {
         let messages = 3_000u64;
         let sender = thread::spawn(move || {
             for n in 0..messages {
-                if n.wrapping_mul(0x9E37_79B9) >> 8 & 511 == 0 {
+                if (n.wrapping_mul(0x9E37_79B9) >> 8).is_multiple_of(512) {
                     thread::sleep(Duration::from_micros(300));
                 }
                 let message = [n as u8; 40];
@@ -108,7 +108,7 @@ fn nothing_is_lost_between_sleeps() {
             }
         });
         for n in 0..messages {
-            if n.wrapping_mul(0x85EB_CA6B) >> 8 & 511 == 0 {
+            if (n.wrapping_mul(0x85EB_CA6B) >> 8).is_multiple_of(512) {
                 thread::sleep(Duration::from_micros(300));
             }
             assert_eq!(rx.receive_timeout(LONG), Ok(&[n as u8; 40][..(n % 41) as usize]));

@@ -3,7 +3,7 @@
  * lembokuj.h: objects that the threads of one process share, over regions of words: queues, areas, hash tables, barriers,
  * tables of contents. Other processes can't see them.
  *
- * Handles. A call that makes something gives a handle for each of its callers; lk_.._handle makes one more in place of one that
+ * Handles. A call that makes something gives a handle for each of its callers; lk_.._handle makes one more instead of one that
  * was closed. What is shared lives until its last handle is closed. A close takes the place of the handle and makes it NULL;
  * closing NULL is LK_OK. There is no global state: different objects have nothing to do with one another.
  *
@@ -68,7 +68,7 @@ enum {
     LK_TWICE = -14,           /* the caller has arrived in this phase already; a receiver that is twice in a list */
     LK_FULL = -15,            /* the table of contents is full */
     LK_KEY_THERE = -16,       /* the table of contents has the key already */
-    LK_NO_HANDLE = -17,       /* as many handles are out as the object was made for */
+    LK_NO_HANDLE = -17,       /* all handles that the object was made for are out */
 };
 
 /* The text of a code, and the version of the library that runs, to be compared with LK_VERSION. They live forever. */
@@ -136,7 +136,7 @@ LK_TELLS int lk_queue_receive_within(lk_receiver *rx, const lk_limit *limit, con
  * given up. LK_TWICE, LK_BAD_SIZE, LK_NO_MEMORY. */
 LK_TELLS int lk_wait_any(lk_receiver *const *rx, size_t count, const lk_limit *limit, size_t *which);
 
-/* Ends the queue on one side, and tells the other. What was sent can still be received. */
+/* Ends the queue on one side, and lets the other know. What was sent can still be received. */
 int lk_queue_close_sender(lk_sender **tx);
 int lk_queue_close_receiver(lk_receiver **rx);
 
@@ -145,14 +145,14 @@ int lk_queue_close_receiver(lk_receiver **rx);
 typedef struct lk_area lk_area;
 typedef struct lk_chunk lk_chunk; /* its words are only its holder's */
 
-/* An area of so many pages of 4 KiB, 65,536 at most; writes a handle for each caller to out[0 .. callers]. Chunks of up
+/* An area of pages of 4 KiB, 65,536 at most; writes a handle for each caller to out[0 .. callers]. Chunks of up
  * to 8,192 bytes are cut from 16 pages at a time for each of 36 size classes. LK_BAD_SIZE, LK_BAD_CALLERS, LK_NO_MEMORY. */
 LK_TELLS int lk_area_new(uint32_t pages, uint32_t callers, lk_area **out);
 
 /* One more handle, if fewer are out than the area was made for. LK_NO_HANDLE, LK_NO_MEMORY. */
 LK_TELLS int lk_area_handle(const lk_area *area, lk_area **out);
 
-/* A chunk of at least so many bytes. Its words hold whatever their last owner left there; those of the second call are 0. It may
+/* A chunk of at least this number of bytes. Its words hold whatever their last owner left there; those of the second call are 0. It may
  * wait for the lock of one size class and for that of the pages. LK_NO_SPACE, LK_NO_MEMORY. */
 LK_TELLS int lk_area_alloc(lk_area *area, uint64_t bytes, lk_chunk **out);
 LK_TELLS int lk_area_alloc_zeroed(lk_area *area, uint64_t bytes, lk_chunk **out);
@@ -168,7 +168,7 @@ LK_TELLS int lk_chunk_words(const lk_chunk *chunk, uint64_t *out);
 LK_TELLS int lk_chunk_load(lk_chunk *chunk, uint64_t at, uint64_t *out);
 LK_TELLS int lk_chunk_store(lk_chunk *chunk, uint64_t at, uint64_t value);
 
-/* Copies count of its words, or bytes, from the place at on: out of it and into it. LK_NO_WORD: it has not so many, and nothing
+/* Copies count of its words, or bytes, from the place at on: out of it and into it. LK_NO_WORD: it has fewer, and nothing
  * was changed. */
 LK_TELLS int lk_chunk_read(lk_chunk *chunk, uint64_t at, uint64_t *words, size_t count);
 LK_TELLS int lk_chunk_write(lk_chunk *chunk, uint64_t at, const uint64_t *words, size_t count);
@@ -181,11 +181,11 @@ int lk_area_close(lk_area **area);
 
 typedef struct lk_table lk_table;
 
-/* How many pages a table of so many keys takes whose hashes are well distributed. 1,000 keys take 112, a million 12,000. The hash
- * is fixed and known: whoever chooses the keys can choose them in one chain. */
+/* How many pages a table takes for this number of keys whose hashes are well distributed. 1,000 keys take 112, a million 12,000. The hash
+ * is fixed and known: a caller that chooses the keys can choose them in one chain. */
 uint32_t lk_table_pages(uint64_t keys);
 
-/* A table in an area of so many pages of 4 KiB, 65,536 at most, of which an empty one takes 16; writes a handle for each
+/* A table in an area of pages of 4 KiB, 65,536 at most, of which an empty one takes 16; writes a handle for each
  * caller to out[0 .. callers]. LK_BAD_SIZE, LK_BAD_CALLERS, LK_NO_MEMORY, LK_NO_SPACE. */
 LK_TELLS int lk_table_new(uint32_t pages, uint32_t callers, lk_table **out);
 
@@ -215,7 +215,7 @@ int lk_table_close(lk_table **table);
 typedef struct lk_words lk_words;
 
 /* How many pages such a table takes, and the table: keys of 1 to 64 words, values of 0 to 256, which take the next power of two.
- * It writes one handle; lk_words_handle makes the others, up to so many callers at a time. LK_BAD_SIZE, LK_BAD_CALLERS,
+ * It writes one handle; lk_words_handle makes the others, up to callers at a time. LK_BAD_SIZE, LK_BAD_CALLERS,
  * LK_NO_MEMORY, LK_NO_SPACE. */
 uint32_t lk_table_pages_words(uint64_t keys, uint32_t key_words, uint32_t value_words);
 LK_TELLS int lk_table_new_words(uint32_t pages, uint32_t callers, uint32_t key_words, uint32_t value_words, lk_words **out);
@@ -274,11 +274,11 @@ typedef struct lk_toc lk_toc;             /* while its one holder fills it */
 typedef struct lk_toc_chunk lk_toc_chunk; /* a chunk of it that is not entered yet */
 typedef struct lk_toc_share lk_toc_share; /* a reader's share once it is frozen */
 
-/* An empty table of so many bytes, below 2^29: 32 for its head, 16 for each key, and each chunk rounded up to 32.
+/* An empty table of this number of bytes, below 2^29: 32 for its head, 16 for each key, and each chunk rounded up to 32.
  * LK_BAD_SIZE, LK_NO_MEMORY. */
 LK_TELLS int lk_toc_new(uint64_t bytes, lk_toc **out);
 
-/* A chunk of at least so many bytes, and a change of a word of it. LK_FULL, LK_BAD_SIZE; LK_NO_WORD. */
+/* A chunk of at least this number of bytes, and a change of a word of it. LK_FULL, LK_BAD_SIZE; LK_NO_WORD. */
 LK_TELLS int lk_toc_allocate(lk_toc *toc, uint64_t bytes, lk_toc_chunk **out);
 LK_TELLS int lk_toc_store(lk_toc_chunk *chunk, uint64_t at, uint64_t value);
 

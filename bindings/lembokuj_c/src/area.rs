@@ -45,7 +45,7 @@ impl Caller {
         if self.freed.len() == KEPT
             && let Some(oldest) = self.freed.pop_front()
         {
-            // SAFETY: it was retired, and the header says that nobody uses it after so many frees.
+            // SAFETY: it was retired, and the header says that nobody uses it after that number of frees.
             unsafe { release(oldest) };
         }
         self.freed.push_back(handle);
@@ -84,7 +84,7 @@ pub(crate) fn why_no_area(why: AreaError) -> c_int {
 ///
 /// # Safety
 ///
-/// `out` is null or has room for so many handles.
+/// `out` is null or has room for a handle of each caller.
 #[unsafe(no_mangle)]
 pub unsafe extern "C" fn lk_area_new(pages: u32, callers: u32, out: *mut *mut Handle<Caller>) -> c_int {
     if out.is_null() {
@@ -120,7 +120,7 @@ pub unsafe extern "C" fn lk_area_handle(area: *const Handle<Caller>, out: *mut *
 ///
 /// # Safety
 ///
-/// `area` is a handle that this call has alone; `out` is null or may be written.
+/// `area` is a handle that only this call uses; `out` is null or may be written.
 unsafe fn alloc(area: *mut Handle<Caller>, bytes: u64, clear: bool, out: *mut *mut ChunkHandle) -> Result<c_int, c_int> {
     if out.is_null() {
         return Err(LK_NULL);
@@ -139,7 +139,7 @@ unsafe fn alloc(area: *mut Handle<Caller>, bytes: u64, clear: bool, out: *mut *m
 ///
 /// # Safety
 ///
-/// `area` is a handle that this call has alone; `out` is null or may be written.
+/// `area` is a handle that only this call uses; `out` is null or may be written.
 #[unsafe(no_mangle)]
 pub unsafe extern "C" fn lk_area_alloc(area: *mut Handle<Caller>, bytes: u64, out: *mut *mut ChunkHandle) -> c_int {
     // SAFETY: the same duty.
@@ -150,7 +150,7 @@ pub unsafe extern "C" fn lk_area_alloc(area: *mut Handle<Caller>, bytes: u64, ou
 ///
 /// # Safety
 ///
-/// `area` is a handle that this call has alone; `out` is null or may be written.
+/// `area` is a handle that only this call uses; `out` is null or may be written.
 #[unsafe(no_mangle)]
 pub unsafe extern "C" fn lk_area_alloc_zeroed(area: *mut Handle<Caller>, bytes: u64, out: *mut *mut ChunkHandle) -> c_int {
     // SAFETY: the same duty.
@@ -161,14 +161,14 @@ pub unsafe extern "C" fn lk_area_alloc_zeroed(area: *mut Handle<Caller>, bytes: 
 ///
 /// # Safety
 ///
-/// `area` is a handle that this call has alone; `chunk` is null or points to one.
+/// `area` is a handle that only this call uses; `chunk` is null or points to one.
 #[unsafe(no_mangle)]
 pub unsafe extern "C" fn lk_area_free(area: *mut Handle<Caller>, chunk: *mut *mut ChunkHandle) -> c_int {
     // SAFETY: the caller's duty.
     code(unsafe { open(area, AREA).and_then(|caller| free(caller, chunk)) })
 }
 
-/// Takes back the chunk that stands at a place.
+/// Takes back the chunk at a place.
 ///
 /// # Safety
 ///
@@ -177,7 +177,7 @@ unsafe fn free(caller: &mut Caller, place: *mut *mut ChunkHandle) -> Result<c_in
     if place.is_null() {
         return Err(LK_NULL);
     }
-    // SAFETY: the place may be read, and what stands there is null or a handle that this call has alone.
+    // SAFETY: the place may be read, and what stands there is null or a handle that only this call uses.
     let handle = unsafe { *place };
     let chunk = unsafe { open(handle, CHUNK) }?.as_ref().ok_or(LK_FREED)?;
     if !caller.area.is_home_of(chunk) {
@@ -196,7 +196,7 @@ unsafe fn free(caller: &mut Caller, place: *mut *mut ChunkHandle) -> Result<c_in
 ///
 /// # Safety
 ///
-/// `chunk` is null or points to a handle that this call has alone.
+/// `chunk` is null or points to a handle that only this call uses.
 #[unsafe(no_mangle)]
 pub unsafe extern "C" fn lk_chunk_close(chunk: *mut *mut ChunkHandle) -> c_int {
     // SAFETY: the caller's duty.
@@ -207,7 +207,7 @@ pub unsafe extern "C" fn lk_chunk_close(chunk: *mut *mut ChunkHandle) -> c_int {
 ///
 /// # Safety
 ///
-/// `area` is null or points to a handle that this call has alone.
+/// `area` is null or points to a handle that only this call uses.
 #[unsafe(no_mangle)]
 pub unsafe extern "C" fn lk_area_close(area: *mut *mut Handle<Caller>) -> c_int {
     // SAFETY: the caller's duty.
@@ -218,7 +218,7 @@ pub unsafe extern "C" fn lk_area_close(area: *mut *mut Handle<Caller>) -> c_int 
 ///
 /// # Safety
 ///
-/// `chunk` is a handle that this call has alone; `out` is null or may be written.
+/// `chunk` is a handle that only this call uses; `out` is null or may be written.
 #[unsafe(no_mangle)]
 pub unsafe extern "C" fn lk_chunk_words(chunk: *const ChunkHandle, out: *mut u64) -> c_int {
     // SAFETY: the caller's duty.
@@ -234,7 +234,7 @@ pub unsafe extern "C" fn lk_chunk_words(chunk: *const ChunkHandle, out: *mut u64
 ///
 /// # Safety
 ///
-/// `chunk` is a handle that this call has alone; `out` is null or may be written.
+/// `chunk` is a handle that only this call uses; `out` is null or may be written.
 #[unsafe(no_mangle)]
 pub unsafe extern "C" fn lk_chunk_load(chunk: *mut ChunkHandle, at: u64, out: *mut u64) -> c_int {
     // SAFETY: the caller's duty.
@@ -251,7 +251,7 @@ pub unsafe extern "C" fn lk_chunk_load(chunk: *mut ChunkHandle, at: u64, out: *m
 ///
 /// # Safety
 ///
-/// `chunk` is a handle that this call has alone.
+/// `chunk` is a handle that only this call uses.
 unsafe fn on_chunk(chunk: *mut ChunkHandle, call: impl FnOnce(&mut Chunk) -> Result<(), NoWord>) -> c_int {
     // SAFETY: the caller's duty.
     let chunk = unsafe { open(chunk, CHUNK) }.and_then(|chunk| chunk.as_mut().ok_or(LK_FREED));
@@ -262,18 +262,18 @@ unsafe fn on_chunk(chunk: *mut ChunkHandle, call: impl FnOnce(&mut Chunk) -> Res
 ///
 /// # Safety
 ///
-/// `chunk` is a handle that this call has alone.
+/// `chunk` is a handle that only this call uses.
 #[unsafe(no_mangle)]
 pub unsafe extern "C" fn lk_chunk_store(chunk: *mut ChunkHandle, at: u64, value: u64) -> c_int {
     // SAFETY: the same duty.
     unsafe { on_chunk(chunk, |chunk| chunk.store(at, value)) }
 }
 
-/// The place for so many items that C lends for a call.
+/// The place for `count` items that C lends for a call.
 ///
 /// # Safety
 ///
-/// The place is null or has so many items, which this call may change, and nobody else reads or changes meanwhile.
+/// The place is null or has these items, which this call may change, and nobody else reads or changes meanwhile.
 unsafe fn lent_mut<'a, T>(place: *mut T, count: usize) -> Result<&'a mut [T], c_int> {
     match (count, place.is_null()) {
         (0, _) => Ok(&mut []),
@@ -287,7 +287,7 @@ unsafe fn lent_mut<'a, T>(place: *mut T, count: usize) -> Result<&'a mut [T], c_
 ///
 /// # Safety
 ///
-/// `chunk` is a handle that this call has alone; `words` is null or has so many.
+/// `chunk` is a handle that only this call uses; `words` is null or has `count` of them.
 #[unsafe(no_mangle)]
 pub unsafe extern "C" fn lk_chunk_read(chunk: *mut ChunkHandle, at: u64, words: *mut u64, count: usize) -> c_int {
     // SAFETY: the caller's duty.
@@ -302,7 +302,7 @@ pub unsafe extern "C" fn lk_chunk_read(chunk: *mut ChunkHandle, at: u64, words: 
 ///
 /// # Safety
 ///
-/// `chunk` is a handle that this call has alone; `words` is null or has so many.
+/// `chunk` is a handle that only this call uses; `words` is null or has `count` of them.
 #[unsafe(no_mangle)]
 pub unsafe extern "C" fn lk_chunk_write(chunk: *mut ChunkHandle, at: u64, words: *const u64, count: usize) -> c_int {
     // SAFETY: the caller's duty.
@@ -317,7 +317,7 @@ pub unsafe extern "C" fn lk_chunk_write(chunk: *mut ChunkHandle, at: u64, words:
 ///
 /// # Safety
 ///
-/// `chunk` is a handle that this call has alone; `bytes` is null or has so many.
+/// `chunk` is a handle that only this call uses; `bytes` is null or has `count` of them.
 #[unsafe(no_mangle)]
 pub unsafe extern "C" fn lk_chunk_read_bytes(chunk: *mut ChunkHandle, at: u64, bytes: *mut c_void, count: usize) -> c_int {
     // SAFETY: the caller's duty.
@@ -332,7 +332,7 @@ pub unsafe extern "C" fn lk_chunk_read_bytes(chunk: *mut ChunkHandle, at: u64, b
 ///
 /// # Safety
 ///
-/// `chunk` is a handle that this call has alone; `bytes` is null or has so many.
+/// `chunk` is a handle that only this call uses; `bytes` is null or has `count` of them.
 #[unsafe(no_mangle)]
 pub unsafe extern "C" fn lk_chunk_write_bytes(chunk: *mut ChunkHandle, at: u64, bytes: *const c_void, count: usize) -> c_int {
     // SAFETY: the caller's duty.

@@ -16,7 +16,7 @@ fn why(error: BarrierError) -> c_int {
     }
 }
 
-/// Tells C of an arrival.
+/// Reports an arrival to C.
 ///
 /// # Safety
 ///
@@ -41,7 +41,7 @@ unsafe fn told(arrival: Option<Arrival>, phase: *mut u64, elected: *mut c_int) -
 ///
 /// # Safety
 ///
-/// `barrier` is a handle that this call has alone; `phase` and `elected` are null or may be written.
+/// `barrier` is a handle that only this call uses; `phase` and `elected` are null or may be written.
 unsafe fn call(
     barrier: *mut Handle<Barrier>,
     phase: *mut u64,
@@ -61,7 +61,7 @@ unsafe fn call(
 ///
 /// # Safety
 ///
-/// `out` is null or has room for so many handles.
+/// `out` is null or has room for a handle of each caller.
 #[unsafe(no_mangle)]
 pub unsafe extern "C" fn lk_barrier_new(callers: u32, out: *mut *mut Handle<Barrier>) -> c_int {
     if out.is_null() {
@@ -78,7 +78,7 @@ pub unsafe extern "C" fn lk_barrier_new(callers: u32, out: *mut *mut Handle<Barr
 ///
 /// # Safety
 ///
-/// `barrier` is a handle that this call has alone; `phase` and `elected` are null or may be written.
+/// `barrier` is a handle that only this call uses; `phase` and `elected` are null or may be written.
 #[unsafe(no_mangle)]
 pub unsafe extern "C" fn lk_barrier_wait(barrier: *mut Handle<Barrier>, phase: *mut u64, elected: *mut c_int) -> c_int {
     // SAFETY: the same duty.
@@ -89,7 +89,7 @@ pub unsafe extern "C" fn lk_barrier_wait(barrier: *mut Handle<Barrier>, phase: *
 ///
 /// # Safety
 ///
-/// `barrier` is a handle that this call has alone; `phase` and `elected` are null or may be written; `limit` is null or a limit,
+/// `barrier` is a handle that only this call uses; `phase` and `elected` are null or may be written; `limit` is null or a limit,
 /// whose function may be called.
 #[unsafe(no_mangle)]
 pub unsafe extern "C" fn lk_barrier_wait_within(
@@ -130,7 +130,7 @@ pub unsafe extern "C" fn lk_barrier_handle(barrier: *const Handle<Barrier>, out:
 ///
 /// # Safety
 ///
-/// `barrier` is a handle that this call has alone; `phase` and `elected` are null or may be written.
+/// `barrier` is a handle that only this call uses; `phase` and `elected` are null or may be written.
 #[unsafe(no_mangle)]
 pub unsafe extern "C" fn lk_barrier_arrive(barrier: *mut Handle<Barrier>, phase: *mut u64, elected: *mut c_int) -> c_int {
     // SAFETY: the same duty.
@@ -141,7 +141,7 @@ pub unsafe extern "C" fn lk_barrier_arrive(barrier: *mut Handle<Barrier>, phase:
 ///
 /// # Safety
 ///
-/// `barrier` is a handle that this call has alone; `phase` and `elected` are null or may be written.
+/// `barrier` is a handle that only this call uses; `phase` and `elected` are null or may be written.
 #[unsafe(no_mangle)]
 pub unsafe extern "C" fn lk_barrier_look(barrier: *mut Handle<Barrier>, phase: *mut u64, elected: *mut c_int) -> c_int {
     // SAFETY: the same duty.
@@ -152,7 +152,7 @@ pub unsafe extern "C" fn lk_barrier_look(barrier: *mut Handle<Barrier>, phase: *
 ///
 /// # Safety
 ///
-/// `barrier` is a handle that this call has alone.
+/// `barrier` is a handle that only this call uses.
 #[unsafe(no_mangle)]
 pub unsafe extern "C" fn lk_barrier_attach(barrier: *mut Handle<Barrier>) -> c_int {
     // SAFETY: the caller's duty.
@@ -167,7 +167,7 @@ pub unsafe extern "C" fn lk_barrier_attach(barrier: *mut Handle<Barrier>) -> c_i
 ///
 /// # Safety
 ///
-/// `barrier` is a handle that this call has alone; `last` is null or may be written.
+/// `barrier` is a handle that only this call uses; `last` is null or may be written.
 #[unsafe(no_mangle)]
 pub unsafe extern "C" fn lk_barrier_detach(barrier: *mut Handle<Barrier>, last: *mut c_int) -> c_int {
     // SAFETY: the caller's duty.
@@ -184,7 +184,7 @@ pub unsafe extern "C" fn lk_barrier_detach(barrier: *mut Handle<Barrier>, last: 
 ///
 /// # Safety
 ///
-/// `barrier` is null or points to a handle that this call has alone.
+/// `barrier` is null or points to a handle that only this call uses.
 #[unsafe(no_mangle)]
 pub unsafe extern "C" fn lk_barrier_close(barrier: *mut *mut Handle<Barrier>) -> c_int {
     // SAFETY: the caller's duty.

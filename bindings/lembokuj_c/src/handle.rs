@@ -21,7 +21,7 @@ pub(crate) const TOC_CHUNK: Kind = Kind(0x6c6b_544f_4300_0002);
 pub(crate) const WORD_TABLE: Kind = Kind(0x6c6b_574f_5244_0001);
 pub(crate) const FROZEN: Kind = Kind(0x6c6b_544f_4300_0003);
 
-/// A value that C holds by a pointer. The kind stands first, whatever the value is.
+/// A value that C holds by a pointer. The kind comes first, whatever the value is.
 #[repr(C)]
 pub struct Handle<T> {
     kind: Kind,
@@ -71,12 +71,12 @@ pub(crate) unsafe fn open<'a, T>(handle: *mut Handle<T>, kind: Kind) -> Result<&
     if found != kind {
         return Err(wrong(found));
     }
-    // SAFETY: the kind says that a `T` stands there, since each kind is given to handles of one type alone; and this call
-    // has it alone.
+    // SAFETY: the kind says that a `T` is there, since each kind is given to handles of only one type; and only this call
+    // uses it.
     Ok(unsafe { &mut (*handle).value })
 }
 
-/// Takes back the handle that stands at a place, which becomes null. A null handle is no error: it is closed already.
+/// Takes back the handle at a place, which becomes null. A null handle is no error: it is closed already.
 ///
 /// # Safety
 ///
@@ -124,7 +124,7 @@ pub(crate) unsafe fn retire<T>(handle: *mut Handle<Option<T>>, kind: Kind) -> Re
 ///
 /// The handle was retired, and nobody else has it.
 pub(crate) unsafe fn refill<T>(handle: *mut Handle<Option<T>>, kind: Kind, value: T) {
-    // SAFETY: its memory was kept, and this call has it alone.
+    // SAFETY: its memory was kept, and only this call uses it.
     unsafe {
         (*handle).value = Some(value);
         (*handle).kind = kind;
@@ -175,7 +175,7 @@ pub(crate) unsafe fn put_handle<T>(place: *mut *mut Handle<T>, kind: Kind, value
 ///
 /// # Safety
 ///
-/// The list is null or has room for so many.
+/// The list is null or has room for all of them.
 pub(crate) unsafe fn put_all<T>(places: *mut *mut Handle<T>, kind: Kind, values: Vec<T>) -> Result<(), c_int> {
     if places.is_null() {
         return Err(LK_NULL);

@@ -42,7 +42,7 @@ pub unsafe extern "C" fn lk_queue_new(
 ///
 /// # Safety
 ///
-/// So many items may be read, which nobody changes during the call.
+/// That number of items may be read, which nobody changes during the call.
 pub(crate) unsafe fn lent<'a, T>(items: *const T, count: usize) -> Result<&'a [T], c_int> {
     match (count, items.is_null()) {
         (0, _) => Ok(&[]),
@@ -77,7 +77,7 @@ fn sent(answer: Result<(), SendError>) -> c_int {
 ///
 /// # Safety
 ///
-/// `tx` is a handle that this call has alone; `len` bytes may be read.
+/// `tx` is a handle that only this call uses; `len` bytes may be read.
 unsafe fn send(
     tx: *mut Handle<Tx>,
     bytes: *const c_void,
@@ -95,7 +95,7 @@ unsafe fn send(
 ///
 /// # Safety
 ///
-/// `tx` is a handle that this call has alone; `len` bytes may be read.
+/// `tx` is a handle that only this call uses; `len` bytes may be read.
 #[unsafe(no_mangle)]
 pub unsafe extern "C" fn lk_queue_try_send(tx: *mut Handle<Tx>, bytes: *const c_void, len: usize, flags: c_int) -> c_int {
     let call = if flags & LATER == 0 { Tx::try_send } else { Tx::try_send_later };
@@ -107,7 +107,7 @@ pub unsafe extern "C" fn lk_queue_try_send(tx: *mut Handle<Tx>, bytes: *const c_
 ///
 /// # Safety
 ///
-/// `tx` is a handle that this call has alone; `len` bytes may be read.
+/// `tx` is a handle that only this call uses; `len` bytes may be read.
 #[unsafe(no_mangle)]
 pub unsafe extern "C" fn lk_queue_try_send_part(tx: *mut Handle<Tx>, bytes: *const c_void, len: usize) -> c_int {
     // SAFETY: the same duty.
@@ -118,7 +118,7 @@ pub unsafe extern "C" fn lk_queue_try_send_part(tx: *mut Handle<Tx>, bytes: *con
 ///
 /// # Safety
 ///
-/// `tx` is a handle that this call has alone; `len` bytes may be read.
+/// `tx` is a handle that only this call uses; `len` bytes may be read.
 #[unsafe(no_mangle)]
 pub unsafe extern "C" fn lk_queue_send(tx: *mut Handle<Tx>, bytes: *const c_void, len: usize, flags: c_int) -> c_int {
     let call = if flags & LATER == 0 { Tx::send } else { Tx::send_later };
@@ -130,7 +130,7 @@ pub unsafe extern "C" fn lk_queue_send(tx: *mut Handle<Tx>, bytes: *const c_void
 ///
 /// # Safety
 ///
-/// `tx` is a handle that this call has alone; `len` bytes may be read; `limit` is null or a limit, whose function may be called.
+/// `tx` is a handle that only this call uses; `len` bytes may be read; `limit` is null or a limit, whose function may be called.
 #[unsafe(no_mangle)]
 pub unsafe extern "C" fn lk_queue_send_within(
     tx: *mut Handle<Tx>,
@@ -154,7 +154,7 @@ pub unsafe extern "C" fn lk_queue_send_within(
 ///
 /// # Safety
 ///
-/// `tx` is a handle that this call has alone; so many slices may be read, and the bytes of each.
+/// `tx` is a handle that only this call uses; `count` slices may be read, and the bytes of each.
 unsafe fn send_slices(
     tx: *mut Handle<Tx>,
     slices: *const Slice,
@@ -178,7 +178,7 @@ unsafe fn send_slices(
 ///
 /// # Safety
 ///
-/// `tx` is a handle that this call has alone; so many slices may be read, and the bytes of each.
+/// `tx` is a handle that only this call uses; `count` slices may be read, and the bytes of each.
 #[unsafe(no_mangle)]
 pub unsafe extern "C" fn lk_queue_sendv(tx: *mut Handle<Tx>, slices: *const Slice, count: usize) -> c_int {
     // SAFETY: the same duty.
@@ -189,7 +189,7 @@ pub unsafe extern "C" fn lk_queue_sendv(tx: *mut Handle<Tx>, slices: *const Slic
 ///
 /// # Safety
 ///
-/// `tx` is a handle that this call has alone; so many slices may be read, and the bytes of each.
+/// `tx` is a handle that only this call uses; `count` slices may be read, and the bytes of each.
 #[unsafe(no_mangle)]
 pub unsafe extern "C" fn lk_queue_try_sendv(tx: *mut Handle<Tx>, slices: *const Slice, count: usize) -> c_int {
     // SAFETY: the same duty.
@@ -200,7 +200,7 @@ pub unsafe extern "C" fn lk_queue_try_sendv(tx: *mut Handle<Tx>, slices: *const 
 ///
 /// # Safety
 ///
-/// `tx` is a handle that this call has alone.
+/// `tx` is a handle that only this call uses.
 #[unsafe(no_mangle)]
 pub unsafe extern "C" fn lk_queue_flush(tx: *mut Handle<Tx>) -> c_int {
     // SAFETY: the caller's duty.
@@ -210,11 +210,11 @@ pub unsafe extern "C" fn lk_queue_flush(tx: *mut Handle<Tx>) -> c_int {
     }))
 }
 
-/// Makes a call of a receiver, and tells C what it found.
+/// Makes a call of a receiver, and gives C what it found.
 ///
 /// # Safety
 ///
-/// `rx` is a handle that this call has alone; `bytes` and `len` are null or may be written.
+/// `rx` is a handle that only this call uses; `bytes` and `len` are null or may be written.
 unsafe fn receive(
     rx: *mut Handle<Rx>,
     bytes: *mut *const u8,
@@ -238,7 +238,7 @@ unsafe fn receive(
 ///
 /// # Safety
 ///
-/// `rx` is a handle that this call has alone; `bytes` and `len` are null or may be written.
+/// `rx` is a handle that only this call uses; `bytes` and `len` are null or may be written.
 #[unsafe(no_mangle)]
 pub unsafe extern "C" fn lk_queue_try_receive(rx: *mut Handle<Rx>, bytes: *mut *const u8, len: *mut usize) -> c_int {
     // SAFETY: the same duty.
@@ -249,7 +249,7 @@ pub unsafe extern "C" fn lk_queue_try_receive(rx: *mut Handle<Rx>, bytes: *mut *
 ///
 /// # Safety
 ///
-/// `rx` is a handle that this call has alone; `bytes` and `len` are null or may be written.
+/// `rx` is a handle that only this call uses; `bytes` and `len` are null or may be written.
 #[unsafe(no_mangle)]
 pub unsafe extern "C" fn lk_queue_receive(rx: *mut Handle<Rx>, bytes: *mut *const u8, len: *mut usize) -> c_int {
     // SAFETY: the same duty.
@@ -260,7 +260,7 @@ pub unsafe extern "C" fn lk_queue_receive(rx: *mut Handle<Rx>, bytes: *mut *cons
 ///
 /// # Safety
 ///
-/// `rx` is a handle that this call has alone; `bytes` and `len` are null or may be written; `limit` is null or a limit, whose
+/// `rx` is a handle that only this call uses; `bytes` and `len` are null or may be written; `limit` is null or a limit, whose
 /// function may be called.
 #[unsafe(no_mangle)]
 pub unsafe extern "C" fn lk_queue_receive_within(
@@ -288,7 +288,7 @@ const MOST_RECEIVERS: usize = 256;
 ///
 /// # Safety
 ///
-/// `rx` has so many handles, different ones, which this call has alone; `which` is null or may be written; `limit` is null or a
+/// `rx` has `count` handles, different ones, which only this call uses; `which` is null or may be written; `limit` is null or a
 /// limit, whose function may be called.
 #[unsafe(no_mangle)]
 pub unsafe extern "C" fn lk_wait_any(
@@ -340,7 +340,7 @@ unsafe fn wait_any(rx: *const *mut Handle<Rx>, count: usize, limit: *const Limit
 ///
 /// # Safety
 ///
-/// `tx` is null or points to a handle that this call has alone.
+/// `tx` is null or points to a handle that only this call uses.
 #[unsafe(no_mangle)]
 pub unsafe extern "C" fn lk_queue_close_sender(tx: *mut *mut Handle<Tx>) -> c_int {
     // SAFETY: the caller's duty.
@@ -351,7 +351,7 @@ pub unsafe extern "C" fn lk_queue_close_sender(tx: *mut *mut Handle<Tx>) -> c_in
 ///
 /// # Safety
 ///
-/// `rx` is null or points to a handle that this call has alone.
+/// `rx` is null or points to a handle that only this call uses.
 #[unsafe(no_mangle)]
 pub unsafe extern "C" fn lk_queue_close_receiver(rx: *mut *mut Handle<Rx>) -> c_int {
     // SAFETY: the caller's duty.

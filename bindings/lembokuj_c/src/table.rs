@@ -18,7 +18,7 @@ pub extern "C" fn lk_table_pages(keys: u64) -> u32 {
 ///
 /// # Safety
 ///
-/// `out` is null or has room for so many handles.
+/// `out` is null or has room for a handle of each caller.
 #[unsafe(no_mangle)]
 pub unsafe extern "C" fn lk_table_new(pages: u32, callers: u32, out: *mut *mut Handle<Numbers>) -> c_int {
     if out.is_null() {
@@ -57,11 +57,11 @@ pub unsafe extern "C" fn lk_table_handle(table: *const Handle<Numbers>, out: *mu
     })
 }
 
-/// Makes a call of a table, and tells C the value before it.
+/// Makes a call of a table, and gives C the value before it.
 ///
 /// # Safety
 ///
-/// `table` is a handle that this call has alone; `old` is null or may be written.
+/// `table` is a handle that only this call uses; `old` is null or may be written.
 unsafe fn call(
     table: *mut Handle<Numbers>,
     old: *mut u64,
@@ -85,7 +85,7 @@ unsafe fn call(
 ///
 /// # Safety
 ///
-/// `table` is a handle that this call has alone; `old` is null or may be written.
+/// `table` is a handle that only this call uses; `old` is null or may be written.
 #[unsafe(no_mangle)]
 pub unsafe extern "C" fn lk_table_put(table: *mut Handle<Numbers>, key: u64, value: u64, old: *mut u64) -> c_int {
     // SAFETY: the same duty.
@@ -96,7 +96,7 @@ pub unsafe extern "C" fn lk_table_put(table: *mut Handle<Numbers>, key: u64, val
 ///
 /// # Safety
 ///
-/// `table` is a handle that this call has alone; `old` is null or may be written.
+/// `table` is a handle that only this call uses; `old` is null or may be written.
 #[unsafe(no_mangle)]
 pub unsafe extern "C" fn lk_table_add(table: *mut Handle<Numbers>, key: u64, more: u64, old: *mut u64) -> c_int {
     // SAFETY: the same duty.
@@ -111,7 +111,7 @@ pub unsafe extern "C" fn lk_table_add(table: *mut Handle<Numbers>, key: u64, mor
 ///
 /// # Safety
 ///
-/// `table` is a handle that this call has alone; `value` is null or may be written.
+/// `table` is a handle that only this call uses; `value` is null or may be written.
 #[unsafe(no_mangle)]
 pub unsafe extern "C" fn lk_table_get(table: *mut Handle<Numbers>, key: u64, value: *mut u64) -> c_int {
     // SAFETY: the same duty.
@@ -122,7 +122,7 @@ pub unsafe extern "C" fn lk_table_get(table: *mut Handle<Numbers>, key: u64, val
 ///
 /// # Safety
 ///
-/// `table` is a handle that this call has alone; `old` is null or may be written.
+/// `table` is a handle that only this call uses; `old` is null or may be written.
 #[unsafe(no_mangle)]
 pub unsafe extern "C" fn lk_table_delete(table: *mut Handle<Numbers>, key: u64, old: *mut u64) -> c_int {
     // SAFETY: the same duty.
@@ -133,7 +133,7 @@ pub unsafe extern "C" fn lk_table_delete(table: *mut Handle<Numbers>, key: u64, 
 ///
 /// # Safety
 ///
-/// `table` is a handle that this call has alone; `out` is null or may be written.
+/// `table` is a handle that only this call uses; `out` is null or may be written.
 #[unsafe(no_mangle)]
 pub unsafe extern "C" fn lk_table_count(table: *mut Handle<Numbers>, out: *mut u64) -> c_int {
     // SAFETY: the caller's duty.
@@ -144,7 +144,7 @@ pub unsafe extern "C" fn lk_table_count(table: *mut Handle<Numbers>, out: *mut u
 ///
 /// # Safety
 ///
-/// `table` is a handle that this call has alone; `each` may be called with `with`.
+/// `table` is a handle that only this call uses; `each` may be called with `with`.
 #[unsafe(no_mangle)]
 pub unsafe extern "C" fn lk_table_each(
     table: *mut Handle<Numbers>,
@@ -173,7 +173,7 @@ pub unsafe extern "C" fn lk_table_each(
 ///
 /// # Safety
 ///
-/// `table` is null or points to a handle that this call has alone.
+/// `table` is null or points to a handle that only this call uses.
 #[unsafe(no_mangle)]
 pub unsafe extern "C" fn lk_table_close(table: *mut *mut Handle<Numbers>) -> c_int {
     // SAFETY: the caller's duty.

@@ -36,7 +36,7 @@ pub unsafe extern "C" fn lk_toc_new(bytes: u64, out: *mut *mut Handle<TocBuilder
 ///
 /// # Safety
 ///
-/// `toc` is a handle that this call has alone; `out` is null or may be written.
+/// `toc` is a handle that only this call uses; `out` is null or may be written.
 #[unsafe(no_mangle)]
 pub unsafe extern "C" fn lk_toc_allocate(toc: *mut Handle<TocBuilder>, bytes: u64, out: *mut *mut Handle<TocChunk>) -> c_int {
     if out.is_null() {
@@ -55,7 +55,7 @@ pub unsafe extern "C" fn lk_toc_allocate(toc: *mut Handle<TocBuilder>, bytes: u6
 ///
 /// # Safety
 ///
-/// `chunk` is a handle that this call has alone.
+/// `chunk` is a handle that only this call uses.
 #[unsafe(no_mangle)]
 pub unsafe extern "C" fn lk_toc_store(chunk: *mut Handle<TocChunk>, at: u64, value: u64) -> c_int {
     // SAFETY: the caller's duty.
@@ -66,7 +66,7 @@ pub unsafe extern "C" fn lk_toc_store(chunk: *mut Handle<TocChunk>, at: u64, val
 ///
 /// # Safety
 ///
-/// `chunk` is null or points to a handle that this call has alone.
+/// `chunk` is null or points to a handle that only this call uses.
 #[unsafe(no_mangle)]
 pub unsafe extern "C" fn lk_toc_chunk_close(chunk: *mut *mut Handle<TocChunk>) -> c_int {
     // SAFETY: the caller's duty.
@@ -77,7 +77,7 @@ pub unsafe extern "C" fn lk_toc_chunk_close(chunk: *mut *mut Handle<TocChunk>) -
 ///
 /// # Safety
 ///
-/// `toc` is a handle that this call has alone; `chunk` is null or points to one.
+/// `toc` is a handle that only this call uses; `chunk` is null or points to one.
 #[unsafe(no_mangle)]
 pub unsafe extern "C" fn lk_toc_keep(toc: *mut Handle<TocBuilder>, key: u64, chunk: *mut *mut Handle<TocChunk>) -> c_int {
     // SAFETY: the caller's duty.
@@ -94,7 +94,7 @@ pub unsafe extern "C" fn lk_toc_keep(toc: *mut Handle<TocBuilder>, key: u64, chu
 ///
 /// # Safety
 ///
-/// `toc` is null or points to a handle that this call has alone; `out` is null or may be written.
+/// `toc` is null or points to a handle that only this call uses; `out` is null or may be written.
 #[unsafe(no_mangle)]
 pub unsafe extern "C" fn lk_toc_freeze(toc: *mut *mut Handle<TocBuilder>, out: *mut *mut Handle<Toc>) -> c_int {
     if out.is_null() {
@@ -113,7 +113,7 @@ pub unsafe extern "C" fn lk_toc_freeze(toc: *mut *mut Handle<TocBuilder>, out: *
 ///
 /// # Safety
 ///
-/// `toc` is a handle that this call has alone; `out` is null or may be written.
+/// `toc` is a handle that only this call uses; `out` is null or may be written.
 #[unsafe(no_mangle)]
 pub unsafe extern "C" fn lk_toc_share_again(toc: *mut Handle<Toc>, out: *mut *mut Handle<Toc>) -> c_int {
     if out.is_null() {
@@ -127,7 +127,7 @@ pub unsafe extern "C" fn lk_toc_share_again(toc: *mut Handle<Toc>, out: *mut *mu
 ///
 /// # Safety
 ///
-/// `toc` is a handle that this call has alone; `out` is null or may be written.
+/// `toc` is a handle that only this call uses; `out` is null or may be written.
 #[unsafe(no_mangle)]
 pub unsafe extern "C" fn lk_toc_words(toc: *mut Handle<Toc>, key: u64, out: *mut u64) -> c_int {
     // SAFETY: the caller's duty.
@@ -138,7 +138,7 @@ pub unsafe extern "C" fn lk_toc_words(toc: *mut Handle<Toc>, key: u64, out: *mut
 ///
 /// # Safety
 ///
-/// `toc` is a handle that this call has alone; `out` is null or may be written.
+/// `toc` is a handle that only this call uses; `out` is null or may be written.
 #[unsafe(no_mangle)]
 pub unsafe extern "C" fn lk_toc_load(toc: *mut Handle<Toc>, key: u64, at: u64, out: *mut u64) -> c_int {
     // SAFETY: the caller's duty.
@@ -154,7 +154,7 @@ pub unsafe extern "C" fn lk_toc_load(toc: *mut Handle<Toc>, key: u64, at: u64, o
 ///
 /// # Safety
 ///
-/// `toc` is null or points to a handle that this call has alone.
+/// `toc` is null or points to a handle that only this call uses.
 #[unsafe(no_mangle)]
 pub unsafe extern "C" fn lk_toc_close(toc: *mut *mut Handle<Toc>) -> c_int {
     // SAFETY: the caller's duty.

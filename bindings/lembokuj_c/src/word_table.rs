@@ -56,7 +56,7 @@ pub unsafe extern "C" fn lk_words_handle(table: *const Handle<WordTable>, out: *
 ///
 /// # Safety
 ///
-/// `table` is a handle that this call has alone; `key` is null or has the words of a key, `old` those of a value, and may be
+/// `table` is a handle that only this call uses; `key` is null or has the words of a key, `old` those of a value, and may be
 /// written.
 unsafe fn call(
     table: *mut Handle<WordTable>,
@@ -93,7 +93,7 @@ fn was_there(there: bool) -> c_int {
 ///
 /// # Safety
 ///
-/// `table` is a handle that this call has alone; `key` and `value` are null or have the words of a key and a value.
+/// `table` is a handle that only this call uses; `key` and `value` are null or have the words of a key and a value.
 #[unsafe(no_mangle)]
 pub unsafe extern "C" fn lk_words_get(table: *mut Handle<WordTable>, key: *const u64, value: *mut u64) -> c_int {
     // SAFETY: the same duty.
@@ -104,7 +104,7 @@ pub unsafe extern "C" fn lk_words_get(table: *mut Handle<WordTable>, key: *const
 ///
 /// # Safety
 ///
-/// `table` is a handle that this call has alone; `key`, `value` and `old` are null or have the words of a key and of values.
+/// `table` is a handle that only this call uses; `key`, `value` and `old` are null or have the words of a key and of values.
 #[unsafe(no_mangle)]
 pub unsafe extern "C" fn lk_words_put(
     table: *mut Handle<WordTable>,
@@ -125,7 +125,7 @@ pub unsafe extern "C" fn lk_words_put(
 ///
 /// # Safety
 ///
-/// `table` is a handle that this call has alone; `key` and `old` are null or have the words of a key and a value.
+/// `table` is a handle that only this call uses; `key` and `old` are null or have the words of a key and a value.
 #[unsafe(no_mangle)]
 pub unsafe extern "C" fn lk_words_delete(table: *mut Handle<WordTable>, key: *const u64, old: *mut u64) -> c_int {
     // SAFETY: the same duty.
@@ -136,7 +136,7 @@ pub unsafe extern "C" fn lk_words_delete(table: *mut Handle<WordTable>, key: *co
 ///
 /// # Safety
 ///
-/// `table` is a handle that this call has alone; `key` is null or has the words of a key, each of the others those of a value.
+/// `table` is a handle that only this call uses; `key` is null or has the words of a key, each of the others those of a value.
 #[unsafe(no_mangle)]
 pub unsafe extern "C" fn lk_words_compare_and_put(
     table: *mut Handle<WordTable>,
@@ -148,9 +148,8 @@ pub unsafe extern "C" fn lk_words_compare_and_put(
     // SAFETY: the same duty.
     unsafe {
         call(table, key, found, |table, key, found| {
-            let given = |words: *const u64| match words.is_null() {
-                true => Ok(None),
-                false => lent(words, found.len()).map(Some),
+            let given = |words: *const u64| {
+                if words.is_null() { Ok(None) } else { lent(words, found.len()).map(Some) }
             };
             let (expected, new) = (given(expected)?, given(value)?);
             match table.compare_and_put(key, expected, new, found) {
@@ -167,7 +166,7 @@ pub unsafe extern "C" fn lk_words_compare_and_put(
 ///
 /// # Safety
 ///
-/// `table` is a handle that this call has alone; `out` is null or may be written.
+/// `table` is a handle that only this call uses; `out` is null or may be written.
 #[unsafe(no_mangle)]
 pub unsafe extern "C" fn lk_words_count(table: *mut Handle<WordTable>, out: *mut u64) -> c_int {
     // SAFETY: the caller's duty.
@@ -178,7 +177,7 @@ pub unsafe extern "C" fn lk_words_count(table: *mut Handle<WordTable>, out: *mut
 ///
 /// # Safety
 ///
-/// `table` is a handle that this call has alone; `each` may be called with `with`.
+/// `table` is a handle that only this call uses; `each` may be called with `with`.
 #[unsafe(no_mangle)]
 pub unsafe extern "C" fn lk_words_each(
     table: *mut Handle<WordTable>,
@@ -202,7 +201,7 @@ pub unsafe extern "C" fn lk_words_each(
 ///
 /// # Safety
 ///
-/// `table` is null or points to a handle that this call has alone.
+/// `table` is null or points to a handle that only this call uses.
 #[unsafe(no_mangle)]
 pub unsafe extern "C" fn lk_words_close(table: *mut *mut Handle<WordTable>) -> c_int {
     // SAFETY: the caller's duty.

@@ -77,7 +77,7 @@ enum {
 
 /* ---- Waiting ----
  *
- * What stands in the words of a bell, or is answered by lk_ends, decides when a call looks again, and never what it
+ * What is in the words of a bell, or is answered by lk_ends, decides when a call looks again, and never what it
  * answers: that is the answer of its last try. */
 
 enum {
@@ -87,8 +87,8 @@ enum {
     LK_SLEEP_MILLIS = 50   /* the longest sleep at a bell, after which lk_ends is asked */
 };
 
-/* A bell of a queue: all zero at first, and where both sides have it (for processes: in memory that both map). Each side has
- * a word on a cache line of its own, and says there that it is about to sleep. */
+/* A bell of a queue: all zero at first, in memory that both sides have (for processes: that both map). Each side has
+ * a word on its own cache line, and says there that it is about to sleep. */
 typedef struct lk_bell {
     uint32_t sender __attribute__((aligned(64)));
     uint32_t receiver __attribute__((aligned(64)));
@@ -156,7 +156,7 @@ static inline int lk_queue_new_try(uint64_t ring_words, uint32_t max_bytes, lk_h
 }
 
 /* Sends a message, or answers LK_WOULD_BLOCK; then a part of it may be on the ring, and until it is sent no other may be
- * (LK_OTHER_MESSAGE). LK_DETACHED where the receiver has left, LK_TOO_LONG. The bytes are copied. */
+ * (LK_OTHER_MESSAGE). LK_DETACHED if the receiver has left, LK_TOO_LONG. The bytes are copied. */
 static inline int lk_queue_send_try(lk_handle *tx, const void *bytes, size_t len, int flags) {
     if (!tx || (!bytes && len)) return LK_NULL;
     return lk_raw_queue_send(tx, bytes ? (const uint8_t *)bytes : (const uint8_t *)"", len, !(flags & LK_LATER));
@@ -199,7 +199,7 @@ static inline int lk_queue_flush_try(lk_handle *tx) {
 }
 
 /* At LK_OK the next message is in out[0 .. *len]. The room has to be the queue's max_bytes at least: else
- * LK_SHORT_BUFFER, and *len is how much it has to be. LK_WOULD_BLOCK where no whole message is there, LK_DETACHED where
+ * LK_SHORT_BUFFER, and *len is how much it has to be. LK_WOULD_BLOCK if no whole message is there, LK_DETACHED if
  * the sender has left and all was received. */
 static inline int lk_queue_receive_try(lk_handle *rx, void *out, size_t room, size_t *len) {
     uint8_t none = 0;
@@ -235,12 +235,12 @@ static inline int lk_queue_receive_park(lk_handle *rx, lk_bell *bell, void *out,
     }
 }
 
-/* Leaves the queue on one side, and tells the other. What was sent can still be received. A second time: LK_GONE. */
+/* Leaves the queue on one side, and lets the other know. What was sent can still be received. A second time: LK_GONE. */
 static inline int lk_queue_leave_try(lk_handle *handle) {
     return handle ? lk_raw_queue_leave(handle) : LK_NULL;
 }
 
-/* Leaves, where that was not done, and gives the side's memory back; the handle is blank then. */
+/* Leaves, if that was not done, and gives the side's memory back; the handle is blank then. */
 static inline int lk_queue_close_try(lk_handle *handle) {
     if (!handle) return LK_NULL;
     lk_raw_queue_leave(handle);
@@ -265,7 +265,7 @@ static inline int lk_queue_close_park(lk_handle *handle, lk_bell *bell) {
 
 /* ---- Hash tables: 64-bit words under 64-bit keys, for many callers ----
  *
- * Words. Each caller brings words of 8 bytes. A new key takes 4 of its caller's, and whoever takes a key out has them for
+ * Words. Each caller brings words of 8 bytes. A new key takes 4 of its caller's, and a caller that takes a key out has them for
  * a key of its own. The table has 128 partitions; one that has more keys than three quarters of its buckets (1, 2, 4 ..)
  * doubles them before a new key comes in, and takes as many words as it has buckets then, of the caller who brings the
  * key. For n keys whose hashes are spread that makes 7 n to 10 n words in all. */
@@ -284,13 +284,13 @@ int32_t lk_raw_table_get(lk_table_try *table, uint64_t key, uint64_t *word);
 int32_t lk_raw_table_delete(lk_table_try *table, uint64_t key, uint64_t *old);
 int32_t lk_raw_table_close(lk_table_try *table);
 
-/* An empty table for so many callers, and a handle of the first one, who has all words. The handle has to be blank.
+/* An empty table for this number of callers, and a handle of the first one, which has all words. The handle has to be blank.
  * LK_BAD_SIZE (above 67,108,735 words), LK_BAD_CALLERS, LK_NO_MEMORY, LK_IN_USE. */
 static inline int lk_table_new_try(uint32_t callers, uint64_t words, lk_table_try *first) {
     return first ? lk_raw_table_new(callers, words, first) : LK_NULL;
 }
 
-/* A handle of a further caller, who gets so many of this one's words, at least 1. It has to be blank. LK_BAD_CALLERS where
+/* A handle of a further caller, which gets this number of its words, at least 1. It has to be blank. LK_BAD_CALLERS if
  * all callers have handles, LK_NO_SPACE, LK_IN_USE; LK_NO_MEMORY, and then the further caller may be lost with its words. */
 static inline int lk_table_share_try(lk_table_try *from, uint64_t words, lk_table_try *next) {
     if (!from || !next) return LK_NULL;
