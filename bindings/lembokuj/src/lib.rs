@@ -7,15 +7,15 @@
 //! |---|---|---|
 //! | messages from one thread to another | [`queue`], [`select`] | what a receiver took is whole messages, a prefix of what was sent |
 //! | a hash table for many threads | [`Table`] | each key's calls are, in one legal history, those of one cell |
-//! | owned things under keys | [`OwnedTable`] | nothing of its own: it is code of this crate over [`Table`] |
+//! | owned things under keys | [`OwnedTable`] | nothing: it is code of this crate over [`Table`] |
 //! | chunks of words for everybody | [`Area`] | live chunks never overlap, and a request is refused only for its cause |
 //! | threads that wait for one another | [`Barrier`] | a phase ends when all who take part have arrived, and elects one |
 //! | a directory that all threads read | [`TocBuilder`] | a key leads to the chunk that was entered under it |
 //! | plain words, each with one owner | [`Part`] | a word is read as its owner left it |
 //!
 //! The code below was proved in Rattle for every interleaving of threads. Here its contracts are erased, and rustc compiles what is
-//! left; this crate checks at run time what those contracts require of callers, and adds the waits that sleep, the tries that send all
-//! or nothing, and the conversions of values. **Nothing of this crate, nor of what rustc makes of the rest, is proved.**
+//! left; this crate checks at run time what those contracts require of callers, and adds the waits that sleep, handles on demand, and
+//! the conversions of values. **Nothing of this crate, nor of what rustc makes of the rest, is proved.**
 //! `docs/EMBEDDING.md` of the repository lists what lies in between, and how it is tested; nothing at all is said of progress,
 //! fairness, deadlock or time.
 //!
@@ -24,20 +24,26 @@
 //! What is shared lives until the last handle of it is gone.
 //!
 //! **Waits** of queues and barriers stay awake for some microseconds and then sleep; they have forms with a time and with a function
-//! that is asked. A call of a table or an area may meet a lock that another call holds for a short while: it spins, and then yields
-//! the processor.
+//! that is asked. A call of a table or an area may meet a lock that another call holds for a short while: it spins, yields the
+//! processor, and then sleeps until the lock is given back.
 //!
-//! **Cost** beside std, by the figures in `docs/PERFORMANCE.md` of the repository, in nanoseconds a call with one thread:
+//! **Cost**, by the figures in `docs/PERFORMANCE.md` of the repository, in nanoseconds a call of this crate in one thread:
 //!
-//! | | here | std |
-//! |---|--:|--:|
-//! | a message of 8 bytes, shown later | 22 | 288 (`sync_channel`) |
-//! | a message of 1,000 bytes, shown later | 1,054 | 371 (`sync_channel`) |
-//! | a get, 1,000 keys | 31 | 30 (`HashMap` behind a mutex) |
-//! | a put or delete, 1,000,000 keys | 525 | 129 (`HashMap` behind a mutex) |
-//! | an allocation and its free, 24 bytes | 76 | 10 (the system's allocator) |
+//! | | here | std | |
+//! |---|--:|---|--:|
+//! | a message of 8 bytes, sent and received, shown at once / later | 28 / 22 | `sync_channel` of vectors | 29 |
+//! | a message of 1,000 bytes, likewise | 1,029 / 1,015 | `sync_channel` of vectors | 38 |
+//! | `get`, 1,000 / 1,000,000 keys | 15 / 172 | `Mutex<HashMap>` | 13 / 105 |
+//! | `insert` under a key that is there | 29 / 212 | `Mutex<HashMap>` | 14 / 113 |
+//! | `update` | 45 / 197 | `Mutex<HashMap>` | 14 / 132 |
+//! | `update_with` | 30 / 115 | `Mutex<HashMap>` | 14 / 132 |
+//! | a chunk of 24 / 600 bytes, made and given back | 94 / 93 | `Box` | 27 / 47 |
+//! | a phase of a barrier, 2 / 4 threads | 1,111 / 6,163 | `Barrier` | 2,788 / 7,662 |
 //!
-//! **Memory.** Calls that make something take some, and those whose page says so; all of them answer an error if there is none.
+//! **Memory.** Calls that make something take some, and so do those that list entries, take any of them, or split, join and freeze
+//! parts; their answer is an error (of `handle`, None) if there is none. The others ask for none, with these exceptions: a call that
+//! sleeps at the lock of a table or an area enters a list that may grow (it yields instead if there is no memory), and std makes its
+//! record of a thread that it has not started; a future clones its executor's `Waker`.
 //!
 //! **Hostile keys.** The hash of a [`Table`] is fixed and known (HashDoS). **A new chunk** of an [`Area`] holds whatever its last
 //! owner left there.

@@ -88,12 +88,12 @@ fn sleepers_are_woken() {
 /// Both sides pause at random, over rings of all sizes, so that either sleeps and is woken again and again.
 #[test]
 fn nothing_is_lost_between_sleeps() {
-    for ring in [1, 4, 64] {
+    // On a small ring the ends take turns at each word, and on a busy machine a turn takes long.
+    for (ring, messages) in [(1, 100u64), (4, 300), (64, 3_000)] {
         let (mut tx, mut rx) = queue(ring, 40).unwrap();
-        let messages = 3_000u64;
         let sender = thread::spawn(move || {
             for n in 0..messages {
-                if (n.wrapping_mul(0x9E37_79B9) >> 8).is_multiple_of(512) {
+                if (n.wrapping_mul(0x9E37_79B9) >> 8).is_multiple_of(64) {
                     thread::sleep(Duration::from_micros(300));
                 }
                 let message = [n as u8; 40];
@@ -108,7 +108,7 @@ fn nothing_is_lost_between_sleeps() {
             }
         });
         for n in 0..messages {
-            if (n.wrapping_mul(0x85EB_CA6B) >> 8).is_multiple_of(512) {
+            if (n.wrapping_mul(0x85EB_CA6B) >> 8).is_multiple_of(64) {
                 thread::sleep(Duration::from_micros(300));
             }
             assert_eq!(rx.receive_timeout(LONG), Ok(&[n as u8; 40][..(n % 41) as usize]));
