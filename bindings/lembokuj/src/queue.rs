@@ -344,12 +344,12 @@ impl Tx {
             by_parts: self.is_longer_than_ring(message),
         };
         let answer = self.keeping(message, |tx| tx.try_put(message, way));
-        if !matches!(answer, Err(SendError::WouldBlock | SendError::Begun)) {
+        if !lacks_room(answer) {
             return Poll::Ready(answer);
         }
         self.common.sender.attach_task(task.waker());
         let answer = self.keeping(message, |tx| tx.try_put(message, way));
-        if matches!(answer, Err(SendError::WouldBlock | SendError::Begun)) {
+        if lacks_room(answer) {
             return Poll::Pending;
         }
         self.common.sender.detach();
@@ -368,12 +368,19 @@ impl Tx {
             return Err(SendError::OtherMessage);
         }
         let answer = call(self);
-        if answer == Err(SendError::Begun) && !self.is_pending {
+        if answer == Err(SendError::Begun) {
+            self.keep(message);
+        }
+        answer
+    }
+
+    /// A part of the message is on the ring, and no other may come next.
+    fn keep(&mut self, message: &[u8]) {
+        if !self.is_pending {
             self.pending.clear();
             self.pending.extend_from_slice(message);
             self.is_pending = true;
         }
-        answer
     }
 
     /// The same with the bytes of slices in a row, which are put together in the memory for the pending message.
@@ -433,21 +440,37 @@ impl Tx {
         }
     }
 
+    /// One try before a wait. If the caller's function is asked in between, it may panic after a part was stored, so the message is
+    /// kept at once.
+    fn try_put_within(&mut self, message: &[u8], way: Way, is_asked: bool) -> Result<(), SendError> {
+        let answer = self.try_put(message, way);
+        if is_asked && answer == Err(SendError::Begun) {
+            self.keep(message);
+        }
+        answer
+    }
+
     /// Sends with a wait. Without a limit what has room is stored at once, since the message is sent in the end.
     fn put(&mut self, message: &[u8], flush: bool, limit: &mut Limit<'_>) -> Result<(), SendError> {
         let by_parts = matches!(limit, Limit::Forever) || self.is_longer_than_ring(message);
+        let is_asked = matches!(limit, Limit::While(_));
         let way = Way { flush, by_parts };
-        let mut answer = self.try_put(message, way);
-        if !matches!(answer, Err(SendError::WouldBlock | SendError::Begun)) {
+        let mut answer = self.try_put_within(message, way, is_asked);
+        if !lacks_room(answer) {
             return answer;
         }
         let common = Arc::clone(&self.common);
         let done = common.sender.wait(limit, || {
-            answer = self.try_put(message, way);
-            (!matches!(answer, Err(SendError::WouldBlock | SendError::Begun))).then_some(answer)
+            answer = self.try_put_within(message, way, is_asked);
+            (!lacks_room(answer)).then_some(answer)
         });
         done.unwrap_or(answer)
     }
+}
+
+/// Whether a further try may come to something else.
+fn lacks_room(answer: Result<(), SendError>) -> bool {
+    matches!(answer, Err(SendError::WouldBlock | SendError::Begun))
 }
 
 impl Drop for Tx {

@@ -37,8 +37,8 @@ fn tasks_wait_for_threads_and_for_each_other() {
     let (mut to_thread, mut from_task) = queue(4, 100).unwrap();
     let (mut one, mut two) = queue(2, 100).unwrap();
     let source = thread::spawn(move || {
-        for n in 0..2_000u64 {
-            if n % 300 == 0 {
+        for n in 0..300u64 {
+            if n % 50 == 0 {
                 thread::sleep(Duration::from_millis(1));
             }
             to_task.send(&n.to_le_bytes()).unwrap();
@@ -69,7 +69,7 @@ fn tasks_wait_for_threads_and_for_each_other() {
     });
     run(vec![first, second]);
     source.join().unwrap();
-    assert_eq!(sink.join().unwrap(), (0..2_000).sum());
+    assert_eq!(sink.join().unwrap(), (0..300).sum());
     let (mut tx, rx) = queue(2, 8).unwrap();
     drop(rx);
     run(vec![pin!(async move { assert_eq!(tx.send_async(b"late").await, Err(SendError::Detached)) })]);

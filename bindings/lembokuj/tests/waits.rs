@@ -1,6 +1,7 @@
 //! Waits sleep, end at their time, and wake up at once.
 
 use lembokuj::{Barrier, ChunkTable, ReceiveError, SendError, queue, select, select_timeout, select_while};
+use std::panic::{AssertUnwindSafe, catch_unwind};
 use std::sync::atomic::{AtomicBool, AtomicU64, Ordering::SeqCst};
 use std::thread;
 use std::time::{Duration, Instant};
@@ -51,6 +52,14 @@ fn waits_end_at_their_time_and_sleep_meanwhile() {
     let sender = thread::spawn(move || tx.send(&[3; 100]));
     assert_eq!(rx.receive(), Ok(&[3; 100][..]));
     assert_eq!((sender.join().unwrap(), rx.receive_while(|| true)), (Ok(()), Err(ReceiveError::Detached)));
+    // A caller's function that panics leaves the begun message the next one.
+    let (mut tx, mut rx) = queue(8, 100).unwrap();
+    let panicked = catch_unwind(AssertUnwindSafe(|| tx.send_while(&[5; 100], || panic!("asked"))));
+    assert!(panicked.is_err());
+    assert_eq!(tx.try_send(b"other"), Err(SendError::OtherMessage));
+    let sender = thread::spawn(move || tx.send(&[5; 100]));
+    assert_eq!(rx.receive(), Ok(&[5; 100][..]));
+    assert_eq!((sender.join().unwrap(), rx.receive()), (Ok(()), Err(ReceiveError::Detached)));
     let (_tx, mut rx) = queue(8, 8).unwrap();
     assert_eq!(rx.receive_while(|| false), Err(ReceiveError::WouldBlock));
     assert_eq!(rx.receive_timeout(Duration::ZERO), Err(ReceiveError::WouldBlock));
