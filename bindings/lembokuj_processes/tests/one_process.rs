@@ -1,0 +1,130 @@
+//! What one process sees of a region: keys, handles, wrong use.
+
+use lembokuj_processes::{AreaError, AttachError, BarrierError, BuildError, ReceiveError, Region, SendError, TakeError, Ticket};
+
+#[test]
+fn what_can_t_be_laid_out_is_refused_by_name() {
+    assert_eq!(Region::create(63).err(), Some(BuildError::Words));
+    assert_eq!(Region::create(1 << 26).err(), Some(BuildError::Words));
+    assert_eq!(Region::create_named("a/b", 64).err(), Some(BuildError::System));
+    let mut builder = Region::create(1 << 16).unwrap();
+    assert_eq!(builder.queue(1, 63, 8), Err(BuildError::RingSize));
+    assert_eq!(builder.queue(1, 64, 1 << 27), Err(BuildError::MessageSize));
+    assert_eq!(builder.queue(1, 1 << 17, 8), Err(BuildError::Full));
+    assert_eq!(builder.area(1, 0, 1), Err(BuildError::Pages));
+    assert_eq!(builder.area(1, 1, 0), Err(BuildError::Callers));
+    assert_eq!(builder.area(1, 1, 4097), Err(BuildError::Callers));
+    assert_eq!(builder.table(1, 1, 1), Err(BuildError::NoSpace));
+    assert_eq!(builder.barrier(1, 64), Err(BuildError::Callers));
+    assert_eq!(builder.words(1, &[]), Err(BuildError::Words));
+    builder.words(1, &[42]).unwrap();
+    for again in [builder.words(1, &[1]), builder.queue(1, 64, 8), builder.area(1, 1, 1), builder.table(1, 20, 1), builder.barrier(1, 2)] {
+        assert_eq!(again, Err(BuildError::KeyThere));
+    }
+    let region = builder.open();
+    assert_eq!(region.load(1, 0), Ok(Some(42)));
+    assert_eq!(region.load(2, 0), Err(TakeError::NoKey));
+}
+
+#[test]
+fn nobody_attaches_before_a_region_is_open() {
+    let name = format!("lk.half.{}", std::process::id());
+    let mut builder = Region::create_named(&name, 1 << 12).unwrap();
+    assert_eq!(Region::create_named(&name, 1 << 12).err(), Some(BuildError::System));
+    builder.words(1, &[5]).unwrap();
+    assert_eq!(Region::attach_named(&name).err(), Some(AttachError::NotOpen));
+    let region = builder.open();
+    let other = Region::attach_named(&name).unwrap();
+    assert_ne!(region.address(), other.address());
+    assert_eq!(other.load(1, 0), Ok(Some(5)));
+    Region::unlink(&name).unwrap();
+    assert_eq!(Region::attach_named(&name).err(), Some(AttachError::System));
+    assert_eq!(other.load(1, 0), Ok(Some(5)));
+}
+
+#[test]
+fn a_handle_is_taken_once() {
+    let mut builder = Region::create(1 << 16).unwrap();
+    builder.queue(1, 64, 100).unwrap();
+    builder.table(2, 20, 2).unwrap();
+    builder.barrier(3, 2).unwrap();
+    let region = builder.open();
+    let other = Region::attach(&region).unwrap();
+    assert_eq!(region.sender(2).err(), Some(TakeError::NoKey));
+    assert_eq!(region.table(9).err(), Some(TakeError::NoKey));
+    let mut tx = region.sender(1).unwrap();
+    assert_eq!(other.sender(1).err(), Some(TakeError::Taken));
+    // What was sent before the receiver came is there, and so is the end.
+    tx.send(b"one").unwrap();
+    tx.send(&[7; 100]).unwrap();
+    assert_eq!(tx.send(&[0; 101]), Err(SendError::TooLong));
+    drop(tx);
+    assert_eq!(other.sender(1).err(), Some(TakeError::Taken));
+    let mut rx = other.receiver(1).unwrap();
+    assert_eq!(rx.receive(), Ok(&b"one"[..]));
+    assert_eq!(rx.try_receive(), Ok(&[7; 100][..]));
+    assert_eq!(rx.receive(), Err(ReceiveError::Detached));
+    let (one, two) = (region.table(2).unwrap(), other.table(2).unwrap());
+    assert_eq!(region.table(2).err(), Some(TakeError::Taken));
+    drop(one);
+    assert!(other.table(2).is_ok());
+    drop(two);
+    // A caller of a barrier that leaves does not hinder the other, and its place is not given again.
+    let (mut one, two) = (region.barrier(3).unwrap(), other.barrier(3).unwrap());
+    assert_eq!(one.arrive(), Ok(None));
+    assert_eq!(one.arrive(), Err(BarrierError::Twice));
+    drop(two);
+    assert_eq!(one.look().unwrap().map(|arrival| arrival.phase), Some(1));
+    assert_eq!(region.barrier(3).err(), Some(TakeError::Taken));
+    assert_eq!(region.reap(), Default::default());
+}
+
+#[test]
+fn tables_and_areas_keep_what_they_are_given() {
+    let mut builder = Region::create(1 << 19).unwrap();
+    builder.table(1, 400, 2).unwrap();
+    builder.area(2, 100, 2).unwrap();
+    builder.area(3, 40, 1).unwrap();
+    builder.queue(4, 16, 4000).unwrap();
+    let region = builder.open();
+    let (mut table, mut other) = (region.table(1).unwrap(), region.table(1).unwrap());
+    for key in 0..5000 {
+        assert_eq!(table.add(key, key), Ok(None));
+        assert_eq!(other.add(key, 1), Ok(Some(key)));
+    }
+    assert_eq!(table.insert(5, 50), Ok(Some(6)));
+    assert_eq!(other.remove(5), Ok(Some(50)));
+    assert_eq!(table.get(5), Ok(None));
+    assert_eq!(table.count(), Ok(4999));
+    let mut entries = other.entries().unwrap();
+    entries.sort_unstable();
+    assert!(entries.iter().copied().eq((0..5000).filter(|key| *key != 5).map(|key| (key, key + 1))));
+    // A chunk by ticket: once, and only of its own area.
+    let (mut area, mut stranger) = (region.area(2).unwrap(), region.area(3).unwrap());
+    for bytes in [1, 8, 100, 8184, 8185, 40_000] {
+        let mut chunk = area.alloc(bytes).unwrap();
+        assert!(chunk.words() >= bytes.div_ceil(8));
+        assert_eq!(chunk.load(chunk.words()), None);
+        assert!(chunk.store(chunk.words(), 0).is_err());
+        let last = chunk.words() - 1;
+        chunk.store(last, bytes).unwrap();
+        let ticket = chunk.post();
+        assert_eq!(stranger.fetch(ticket).err(), Some(AreaError::Stranger));
+        assert_eq!(area.fetch(Ticket { bytes: 1 << 40, ..ticket }).err(), Some(AreaError::Stranger));
+        assert_eq!(area.fetch(Ticket { number: ticket.number + 1, ..ticket }).err(), Some(AreaError::Stranger));
+        let mut chunk = area.fetch(Ticket::from_bytes(&ticket.to_bytes()).unwrap()).unwrap();
+        assert_eq!(area.fetch(ticket).err(), Some(AreaError::Stranger));
+        assert_eq!(chunk.load(last), Some(bytes));
+        area.free(chunk).unwrap();
+    }
+    assert_eq!(area.alloc(1 << 20).err(), Some(AreaError::NoSpace));
+    assert_eq!(area.alloc(0).err(), Some(AreaError::NoSpace));
+    let chunk = stranger.alloc(8).unwrap();
+    assert_eq!(area.free(chunk), Err(AreaError::Stranger));
+    // A message longer than the ring goes by parts.
+    let (mut tx, mut rx) = (region.sender(4).unwrap(), region.receiver(4).unwrap());
+    assert_eq!(tx.try_send(&[1; 4000]), Err(SendError::LongerThanRing));
+    let sender = std::thread::spawn(move || tx.send(&[9; 4000]));
+    assert_eq!(rx.receive(), Ok(&[9; 4000][..]));
+    assert_eq!(sender.join().unwrap(), Ok(()));
+}

@@ -1,0 +1,37 @@
+//! A region that lies in a mapping, as each process has it. Not proved.
+use crate::{Frozen, Region};
+use atomic_table::{Badge, Mapping, Site, Table};
+use std::sync::Arc;
+use std::sync::atomic::AtomicU64;
+
+impl Region {
+    /// Where it lies.
+    pub fn site(&self) -> Site {
+        self.table.shared.site()
+    }
+
+    /// A word, whoever owns it.
+    pub fn word(&self, at: u64) -> &AtomicU64 {
+        self.table.shared.word(at as usize)
+    }
+
+    /// The region at a site.
+    ///
+    /// # Safety
+    ///
+    /// As `atomic_table::Table::attach`.
+    pub unsafe fn attach(mapping: &Arc<Mapping>, site: Site) -> Region {
+        // SAFETY: as the caller says.
+        let table = unsafe { Table::attach(mapping, site) };
+        Region { table }
+    }
+}
+
+impl Frozen {
+    /// A token of words that are frozen.
+    pub fn taken() -> Frozen {
+        Frozen {
+            seat: Badge::blank().into_seat(),
+        }
+    }
+}
