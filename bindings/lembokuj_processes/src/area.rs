@@ -160,7 +160,7 @@ impl Area {
         }
     }
 
-    /// Gives a chunk back, whoever asked for it. If it is refused, it stays live, and nobody has it.
+    /// Gives a chunk back; anybody may have asked for it. If it is refused, it stays live, and nobody has it.
     pub fn free(&mut self, chunk: Chunk) -> Result<(), AreaError> {
         let Area { handle, area, pass } = self;
         if chunk.area_key != handle.entry.key || !Arc::ptr_eq(&chunk.map, &handle.map) {

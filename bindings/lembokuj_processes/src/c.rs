@@ -155,7 +155,7 @@ fn given<T, E: Code>(made: Result<T, E>, out: Option<&mut *mut T>) -> c_int {
     }
 }
 
-/// A number of a key, where there is one, for C.
+/// A number of a key, if there is one, for C.
 fn answered(answer: Result<Option<u64>, TableError>, out: Option<&mut u64>) -> c_int {
     match answer {
         Ok(Some(found)) => {

@@ -1,4 +1,4 @@
-//! The directory: which objects a region has, under which keys, and where they lie.
+//! The directory: which objects a region has, under which keys, at which places.
 //!
 //! It is a table of contents in the region's first words, frozen before others attach. A process reads all of it once, as it
 //! attaches, and goes by what it read: what a file says is looked at before it is believed.
@@ -100,7 +100,7 @@ fn area_of(numbers: &[u64]) -> Option<AreaSite> {
 }
 
 impl Object {
-    /// The number of its kind, and the numbers that say where it lies.
+    /// The number of its kind, and the numbers that say its place.
     fn numbers(&self) -> (u64, Vec<u64>) {
         match self {
             Object::Queue {

@@ -30,7 +30,7 @@
 //!
 //! **After a fork** the child attaches anew, and does not use its parent's handles; if it drops them, nothing happens.
 //!
-//! **Trust.** Whoever may write the file can spoil it for all: the processes that have it are one domain of trust. What a file
+//! **Trust.** Everybody that may write the file can spoil it for all: the processes that have it are one domain of trust. What a file
 //! says of its layout is looked at before anything is used ([`AttachError`]); what processes change later is looked at
 //! only so far that no word outside of it is touched, and answers `Damaged` then.
 //!

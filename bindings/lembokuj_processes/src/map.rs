@@ -16,8 +16,8 @@
 //! | 4 | the words of the region | the maker |
 //! | 5 | the number of the system (its start, and its space of process ids) | the maker |
 //! | 6 | a sum over words 1 to 5 and the directory | the maker |
-//! | 7 | 0 while it is made, 1 once it is open, 2 once a process found it damaged | the maker; whoever finds it |
-//! | 8 | how many tickets were written | whoever posts a chunk |
+//! | 7 | 0 while it is made, 1 once it is open, 2 once a process found it damaged | the maker; a process that finds it |
+//! | 8 | how many tickets were written | a process that posts a chunk |
 
 use crate::directory::Directory;
 use crate::sys::{self, Process, Sum};

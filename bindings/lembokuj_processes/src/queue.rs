@@ -185,7 +185,7 @@ impl End {
     }
 }
 
-/// Detaches an end for its process, which has ended: it sets the flag of the ring, as that end would have. Whoever finds the
+/// Detaches an end for its process, which has ended: it sets the flag of the ring, as that end would have. The process that finds the
 /// claim lost does it again, since the one that marked it may have ended in between.
 pub(crate) fn detach_lost(map: &crate::map::Map, entry: &crate::directory::Entry, number: u32, found: u64) {
     let claim = claim_of(map, entry, number);

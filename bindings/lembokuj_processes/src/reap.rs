@@ -21,8 +21,8 @@ pub struct Reaped {
 
 impl Region {
     /// Looks for handles of processes that have ended: those of tables and areas may be taken again, ends of queues and callers
-    /// of barriers are detached. Whoever waits for such a process notices by itself; this is for a supervisor, or for whoever
-    /// wants another handle. It costs a question to the system for each handle that is taken. Chunks that the dead had stay
+    /// of barriers are detached. A caller that waits for such a process notices by itself; this is for a supervisor, or for a
+    /// process that wants another handle. It costs a question to the system for each handle that is taken. Chunks that the dead had stay
     /// live.
     pub fn reap(&self) -> Reaped {
         let mut reaped = Reaped::default();

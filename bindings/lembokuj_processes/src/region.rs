@@ -150,7 +150,7 @@ impl Region {
         self.map.file.as_raw_fd()
     }
 
-    /// Where the mapping begins in this process, for the curious: other processes have it elsewhere.
+    /// Where the mapping begins in this process, for the curious: other processes have it at another address.
     pub fn address(&self) -> usize {
         self.map.mapping.address()
     }
