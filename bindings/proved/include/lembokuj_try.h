@@ -36,11 +36,15 @@
 #include <time.h>
 #ifdef __linux__
 #include <sys/syscall.h>
-#include <unistd.h>
 #endif
 
 #ifdef __cplusplus
 extern "C" {
+#endif
+
+#ifdef SYS_futex
+/* The C library's `syscall`, which its own header declares only for programs that ask for more than C11. */
+extern long lk_system_call(long number, ...) __asm__("syscall");
 #endif
 
 #ifndef LEMBOKUJ_H
@@ -98,27 +102,28 @@ typedef struct lk_bell {
  * still alive, or whether it was interrupted itself. It may be NULL. */
 typedef bool (*lk_ends)(void *of);
 
+/* Sleeps while a word has this value, and no longer than these microseconds. It may wake for no reason. */
+static inline void lk_sleep_while(uint32_t *word, uint32_t value, long micros) {
+    struct timespec most = {0, 1000L * micros};
+#ifdef SYS_futex
+    lk_system_call(SYS_futex, word, 0 /* FUTEX_WAIT, of all processes */, value, &most, NULL, 0);
+#else
+    (void)word;
+    (void)value;
+    nanosleep(&most, NULL);
+#endif
+}
+
 /* What a wait does between two tries. */
 static inline void lk_between(unsigned tries) {
+    uint32_t nobody = 0;
     if (tries < LK_SPINS) return;
     if (tries < LK_YIELDS) {
         sched_yield();
         return;
     }
-    unsigned micros = 50 * (tries - LK_YIELDS + 1);
-    struct timespec nap = {0, 1000L * (long)(micros < LK_NAP_MICROS ? micros : LK_NAP_MICROS)};
-    nanosleep(&nap, NULL);
-}
-
-/* Sleeps while a word of a bell is 1. It may wake for no reason. */
-static inline void lk_bell_sleep(uint32_t *word) {
-    struct timespec most = {0, LK_SLEEP_MILLIS * 1000000L};
-#ifdef SYS_futex
-    syscall(SYS_futex, word, 0 /* FUTEX_WAIT, of all processes */, 1, &most, NULL, 0);
-#else
-    (void)most;
-    lk_between(UINT_MAX / 100);
-#endif
+    long micros = 50L * (long)(tries - LK_YIELDS + 1);
+    lk_sleep_while(&nobody, 0, tries < LK_YIELDS + 10 && micros < (long)LK_NAP_MICROS ? micros : (long)LK_NAP_MICROS);
 }
 
 /* Wakes who sleeps at a word of a bell. If nobody does it is one load. */
@@ -126,7 +131,7 @@ static inline void lk_bell_ring(uint32_t *word) {
     if (__atomic_load_n(word, __ATOMIC_SEQ_CST)) {
         __atomic_store_n(word, 0, __ATOMIC_SEQ_CST);
 #ifdef SYS_futex
-        syscall(SYS_futex, word, 1 /* FUTEX_WAKE */, INT_MAX, NULL, NULL, 0);
+        lk_system_call(SYS_futex, word, 1 /* FUTEX_WAKE */, INT_MAX, NULL, NULL, 0);
 #endif
     }
 }
@@ -184,7 +189,7 @@ static inline int lk_queue_send_park(lk_handle *tx, lk_bell *bell, const void *b
             return code;
         }
         if (!sleeps) continue;
-        lk_bell_sleep(&bell->sender);
+        lk_sleep_while(&bell->sender, 1, 1000L * LK_SLEEP_MILLIS);
         if (ends && ends(of)) {
             code = lk_queue_send_try(tx, bytes, len, flags); /* the other side may have made room before it went */
             lk_bell_ring(&bell->receiver);
@@ -227,7 +232,7 @@ static inline int lk_queue_receive_park(lk_handle *rx, lk_bell *bell, void *out,
             return code;
         }
         if (!sleeps) continue;
-        lk_bell_sleep(&bell->receiver);
+        lk_sleep_while(&bell->receiver, 1, 1000L * LK_SLEEP_MILLIS);
         if (ends && ends(of)) {
             code = lk_queue_receive_try(rx, out, room, len); /* a message may have come before the other side went */
             return code == LK_WOULD_BLOCK ? LK_ENDED : code;
