@@ -20,8 +20,11 @@
 
 enum { RING_WORDS = 1024, MOST = 64, HEAP_BYTES = 1 << 20 };
 
+/* The system tells it once; asked again, the answer has to be the same. */
 static bool child_ended(void *of) {
-    return waitpid(*(pid_t *)of, NULL, WNOHANG) == *(pid_t *)of;
+    static bool ended;
+    if (!ended) ended = waitpid(*(pid_t *)of, NULL, WNOHANG) == *(pid_t *)of;
+    return ended;
 }
 
 static bool parent_ended(void *of) {

@@ -99,7 +99,8 @@ typedef struct lk_bell {
 } lk_bell;
 
 /* Asked each time a wait at a bell wakes; true ends the wait with LK_ENDED. A program asks here whether the other side is
- * still alive, or whether it was interrupted itself. It may be NULL. */
+ * still alive, or whether it was interrupted itself. Once it was true it has to stay so: a message that was there first is
+ * received before the wait ends. It may be NULL. */
 typedef bool (*lk_ends)(void *of);
 
 /* Sleeps while a word has this value, and no longer than these microseconds. It may wake for no reason. */
