@@ -1,5 +1,5 @@
 -- Windows of a source, one after another.
-use Rattle.std.proofs.Common.{◌≡◌, ◌<◌, ◌++◌, ◌∙◌, ℕ, Bool, true, false, List, [], ◌∷◌, Option, None, Some, Result, Ok, Err, IfErr, IfOk, IfSome, length, length-append, refl, ap, sym, arith, append_assoc, append-nil}
+use Rattle.std.proofs.Common.{◌≡◌, ◌⊎◌, ◌<◌, ◌++◌, ◌∙◌, ℕ, Bool, true, false, List, [], ◌∷◌, Option, None, Some, Result, Ok, Err, IfErr, IfOk, IfSome, length, length-append, refl, ap, sym, arith, append_assoc, append-nil}
 use Rattle.std.specs.Prelude.{OnOk}
 use Rattle.std.specs.Io.KnownBytes.{IsAtEnd}
 use Rattle.csv_rows.specs.Records.{records_of}
@@ -11,7 +11,9 @@ use Rattle.row_windows.specs.Stretch.{Fills, Stretch}
 use Rattle.row_windows.specs.declared.window.WindowAnswer.{WindowAnswer}
 use Rattle.row_windows.specs.declared.window.WindowAnswer.TheVariants as answer
 use Rattle.row_windows.proofs.Seams.{records_add_up}
-use Rattle.par_stream.specs.Outcome.{HasLong}
+use Rattle.par_model.specs.Named.{NamedPlan}
+use Rattle.par_model.specs.Outcome.{Table as IsTable}
+use Rattle.par_stream.specs.Outcome.{HasLong, outcome}
 use Rattle.par_stream.specs.Reading.{AreRead, HasRead, IsFilled, IsNotFilled, Reaches}
 use Rattle.par_stream.specs.Stops.{Tells, stop_of_window}
 use Rattle.par_stream.specs.declared.stop.Stop.TheVariants as stop
@@ -70,11 +72,11 @@ filled (Some bytes) (Some old) (Some new) was lines rest records is_last read f 
 }
 
 -- a window that begins with a record that is too long
-pub long_read : (from old new : Option (List ℕ)) (was text : List ℕ) (records : Table) (row : ℕ) → HasRead from old records was → length records ≡ row → Fills old new was text → IsLong text → IfSome from (λ bytes. HasLong bytes row)
-long_read None old new was text records row read number f long = tt
-long_read (Some bytes) None new was text records row read number f long = absurd read
-long_read (Some bytes) (Some old) None was text records row read number f long = absurd f.1
-long_read (Some bytes) (Some old) (Some new) was text records row read number f long =
+pub long_read : (from old new : Option (List ℕ)) (was text : List ℕ) (plan : Option NamedPlan) (records : Table) (row : ℕ) → (records ≡ []) ⊎ (outcome plan records ≡ IsTable) → HasRead from old records was → length records ≡ row → Fills old new was text → IsLong text → IfSome from (λ bytes. HasLong plan bytes row)
+long_read None old new was text plan records row whole read number f long = tt
+long_read (Some bytes) None new was text plan records row whole read number f long = absurd read
+long_read (Some bytes) (Some old) None was text plan records row whole read number f long = absurd f.1
+long_read (Some bytes) (Some old) (Some new) was text plan records row whole read number f long =
     let left : was ++ old ≡ text ++ new = ap (λ (l : List ℕ). was ++ l) f.1 ∙ (sym (append_assoc was f.0 new) ∙ ap (λ (l : List ℕ). l ++ new) (sym f.2)) in
     record {
       front = read.front;
@@ -85,6 +87,7 @@ long_read (Some bytes) (Some old) (Some new) was text records row read number f 
       number = number;
       parts = read.parts ∙ ap (λ (l : List ℕ). records ++ records_of l) left;
       long = long;
+      whole = whole;
     }
 
 -- ---- what the filling of a window came to
@@ -113,10 +116,10 @@ is_not_filled old new old_faults new_faults was (Err answer.Memory) fault long =
 
 module _ (old new : Option (List ℕ)) (old_faults new_faults : ℕ) (was : Stretch) where
   -- what the reason says, where so many records stand in front of the window
-  pub window_tells : (query : Query) (from : Option (List ℕ)) (records : Table) (row : ℕ) (why : WindowAnswer) → HasRead from old records was.rest → length records ≡ row → IsNotFilled old new old_faults new_faults was why → Tells query from (stop_of_window why row)
-  window_tells query from records row answer.ReadFault read number is = tt
-  window_tells query from records row answer.LongRecord read number is = long_read from old new was.rest is.0 records row read number is.1 is.2
-  window_tells query from records row answer.Memory read number is = tt
+  pub window_tells : (query : Query) (from : Option (List ℕ)) (records : Table) (row : ℕ) (why : WindowAnswer) → (records ≡ []) ⊎ (outcome (Some query.plan) records ≡ IsTable) → HasRead from old records was.rest → length records ≡ row → IsNotFilled old new old_faults new_faults was why → Tells query from (stop_of_window why row)
+  window_tells query from records row answer.ReadFault whole read number is = tt
+  window_tells query from records row answer.LongRecord whole read number is = long_read from old new was.rest is.0 (Some query.plan) records row whole read number is.1 is.2
+  window_tells query from records row answer.Memory whole read number is = tt
 
   -- where it is a read that failed
   pub window_fault : (row : ℕ) (why : WindowAnswer) → IsNotFilled old new old_faults new_faults was why → stop_of_window why row ≡ stop.ReadFault → Rose old_faults new_faults

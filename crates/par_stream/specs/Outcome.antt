@@ -1,9 +1,9 @@
 -- What a query over a table of any length comes to, and what no answer can be over.
-use Rattle.std.specs.Prelude.{◌≡◌, ◌++◌, [], ◌∷◌, ℕ, List, None, Option, Some, length}
+use Rattle.std.specs.Prelude.{◌≡◌, ◌⊎◌, ◌++◌, [], ◌∷◌, ℕ, List, None, Option, Some, length}
 use Rattle.csv_rows.specs.Records.{records_of}
 use Rattle.row_blocks.specs.Blocks.{Table as Records}
 use Rattle.par_model.specs.Named.{NamedPlan, missing_name}
-use Rattle.par_model.specs.Outcome.{Outcome, NoHeader, Usage, by_missing}
+use Rattle.par_model.specs.Outcome.{Outcome, NoHeader, Table, Usage, by_missing}
 use Rattle.row_windows.specs.Seams.{IsLong}
 
 -- of a plan, or of words that are none, over some records, of which the first is the header
@@ -17,8 +17,9 @@ abbrev pub outcome_over : Option NamedPlan → List ℕ → Outcome
 outcome_over plan bytes = outcome plan (records_of bytes)
 
 -- Behind so many records of some bytes begins a record of more bytes than a record may have: from some place on they
--- have the other records, and begin with a text that is too long and cannot be cut
-pub record HasLong (bytes : List ℕ) (row : ℕ) : Type 0 where
+-- have the other records, and begin with a text that is too long and cannot be cut. The records in front, where there are
+-- any, are a table of the plan: it has its columns, and none of their rows is refused
+pub record HasLong (plan : Option NamedPlan) (bytes : List ℕ) (row : ℕ) : Type 0 where
   pub front : List ℕ
   pub text : List ℕ
   pub back : List ℕ
@@ -27,3 +28,4 @@ pub record HasLong (bytes : List ℕ) (row : ℕ) : Type 0 where
   pub number : length before ≡ row
   pub parts : records_of bytes ≡ before ++ records_of (text ++ back)
   pub long : IsLong text
+  pub whole : (before ≡ []) ⊎ (outcome plan before ≡ Table)

@@ -15,7 +15,3 @@ query_of words = if list_any is_of_table words then None else plan.query_of word
 -- its plan
 abbrev pub plan_of : List (List ℕ) → Option NamedPlan
 plan_of words = option_map (λ query. query.plan) (query_of words)
-
--- how many workers it asks for
-abbrev pub workers_of : List (List ℕ) → Option ℕ
-workers_of words = option_map (λ query. query.workers) (query_of words)

@@ -11,17 +11,16 @@
 
 #![tactic(auto)]
 
-ghost use Rattle.std.specs.Prelude.{◌≡◌, ◌≢◌, ◌⊎◌, ℕ, List, None, Some, Contains, Err, IfErr, IfSome, IsNone, OnOk, take};
+ghost use Rattle.std.specs.Prelude.{◌≡◌, ◌≢◌, ℕ, List, IfErr, IfSome, IsNone, OnOk, take};
 ghost use Rattle.std.specs.Io.KnownBytes.{Appends};
 ghost use Rattle.par_io.specs.Faults.{Rose};
 ghost use Rattle.answer_text.specs.Lines.{IsSaid};
 ghost use Rattle.answer_text.specs.Words.{texts};
-ghost use Rattle.table_query.specs.Answers.{status_of};
-ghost use Rattle.par_stream.specs.Answers.{IsTableText, IsTold, statuses};
-ghost use Rattle.par_stream.specs.Lines.{IsLine, NamesFirstRow, line};
-ghost use Rattle.par_stream.specs.Outcome.{HasLong, outcome_over};
-ghost use Rattle.par_stream.specs.Stops.{TellsOf, usage_text};
-ghost use Rattle.par_stream.specs.Words.{plan_of, query_of, workers_of};
+ghost use Rattle.par_stream.specs.Answers.{IsTableText};
+ghost use Rattle.par_stream.specs.Lines.{line};
+ghost use Rattle.par_stream.specs.Stops.{TellsOf, stop_status, stop_text, usage_text};
+ghost use Rattle.par_stream.specs.Words.{plan_of, query_of};
+ghost use Rattle.par_stream.specs.declared.stop.Stop.{Stop};
 ghost use Rattle.par_stream.specs.declared.stop.Stop.TheVariants as stop;
 
 mod adding;
@@ -41,8 +40,7 @@ use reading::read_groups;
 use std::alloc::Global;
 use std::sync::Wait;
 use std::thread::Threads;
-pub use stop::LONG_RECORD;
-use stop::Stop;
+pub use stop::{Cause, LONG_RECORD, Stop};
 use words::read_words;
 
 /// The bytes that a window of the program is to have: 4 MiB.
@@ -66,14 +64,14 @@ pub fn stream_table<R: Threads + Wait + Sync, S: Source, O: Sink, E: Sink, P: Pr
     window_bytes: usize,
     progress: &mut P,
 ) -> u8
-    // There is no other status. A fault is answered only where it came in this call.
-    ensures statuses { Contains statuses result }
+    // On every status but that of a table there is a reason, which tells of the outcome over all bytes; the status is the
+    // reason's, and so is the line that `err` receives, or a prefix of it where a write of it failed. A fault is answered
+    // only where it came in this call.
+    ensures why { (result ≢ TABLE) → (why : Stop) × TellsOf (query_of (texts words.now)) (S.left source.old) why × (result ≡ stop_status why)
+        × IsSaid (E.taken err.old) (E.taken err.new) (E.faults err.old) (E.faults err.new) (line (stop_text why)) }
     ensures read_fault { result ≡ READ_FAULT → Rose (S.faults source.old) (S.faults source.new) }
     ensures write_fault { result ≡ WRITE_FAULT → Rose (O.faults out.old) (O.faults out.new) }
-
-    // A status that tells of no fault, of no long record and not of memory is that of the outcome over all bytes.
-    ensures outcome { IfSome (S.left source.old) (λ bytes. IsTold result → result ≡ status_of (outcome_over (plan_of (texts words.now)) bytes)) }
-    ensures long { result ≡ LONG_RECORD → IfSome (S.left source.old) (λ bytes. (row : ℕ) × HasLong bytes row) }
+    ensures quiet { result ≡ TABLE → err.new ≡ err.old }
 
     // `out` receives the table, or a prefix of it where a write failed, and on every other status nothing.
     ensures table { result ≡ TABLE → IfSome (S.left source.old) (λ bytes.
@@ -82,16 +80,8 @@ pub fn stream_table<R: Threads + Wait + Sync, S: Source, O: Sink, E: Sink, P: Pr
         (text : List ℕ) × IsTableText (plan_of (texts words.now)) bytes text × (n : ℕ) × Appends (O.taken out.old) (O.taken out.new) (take n text)) }
     ensures nothing { (result ≢ TABLE) → (result ≢ WRITE_FAULT) → out.new ≡ out.old }
 
-    // Words that are no plan are answered before anything is read.
-    ensures no_plan { IsNone (plan_of (texts words.now)) → (result ≡ MISUSED) ⊎ (result ≡ NO_MEMORY) }
-    ensures unread { IsNone (plan_of (texts words.now)) → source.new ≡ source.old }
-
-    // `err` receives the line of the status, or a prefix of it where a write of it failed, and beside a table nothing.
-    // Without workers the row that it names is the first that is refused.
-    ensures line { (result ≢ TABLE) → (said : List ℕ) × IsLine (plan_of (texts words.now)) (S.left source.old) result said
-        × (workers_of (texts words.now) ≡ Some 0 → result ≡ REFUSED → IfSome (S.left source.old) (λ bytes. NamesFirstRow (plan_of (texts words.now)) bytes said))
-        × IsSaid (E.taken err.old) (E.taken err.new) (E.faults err.old) (E.faults err.new) said }
-    ensures quiet { result ≡ TABLE → err.new ≡ err.old }
+    // Words that are no query are answered before anything is read.
+    ensures unread { IsNone (query_of (texts words.now)) → source.new ≡ source.old }
 {
     match answer_stream(rt, alloc, words, source, out, window_bytes, progress) {
         Ok(()) => TABLE,

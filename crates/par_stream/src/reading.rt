@@ -42,6 +42,13 @@ pub(crate) struct Stream {
     pub(crate) added: Added,
 }
 
+/// The most bytes of the first window, unless a record is longer: so a wrong name is told of a slow source too.
+const FIRST_BYTES: usize = 4096;
+
+/// Each window has the header's line again, so it is as long as that, but for headers of more bytes: so many never have more
+/// rows than a store takes.
+const MOST_FOR_HEADER: usize = 8_000_000;
+
 /// Reads the whole source, in windows of so many bytes or more, and tells how far it has come.
 pub(crate) fn read_groups<R: Threads + Wait + Sync, S: Source, P: Progress>(
     rt: &R,
@@ -56,7 +63,7 @@ pub(crate) fn read_groups<R: Threads + Wait + Sync, S: Source, P: Progress>(
     ensures read_fault { IfErr result (λ why. why ≡ stop.ReadFault → Rose (S.faults source.old) (S.faults source.new)) }
     ensures no_write { IfErr result (λ why. (why ≡ stop.WriteFault) → ⊥) }
 {
-    let first = first_window(rt, alloc, source, size)?;
+    let first = first_window(rt, alloc, source, size.min(FIRST_BYTES))?;
     let bound = bind(alloc, plan, &first.header)?;
     let mut stream = open(alloc, plan, &bound, first)?;
     let mut bytes = 0u64;
@@ -136,6 +143,7 @@ fn next_window<R: Threads + Wait + Sync, S: Source>(
         mut added,
     } = stream;
     spare.follow(&window)?;
+    let size = size.max(spare.table().len().min(MOST_FOR_HEADER));
     let filled = add_and_fill(
         rt, alloc, plan, bound, &window, &mut added, &mut spare, source, size,
     )?;

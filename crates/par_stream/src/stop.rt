@@ -19,7 +19,7 @@ pub const LONG_RECORD: u8 = 7;
 
 /// Why a row is refused, with the name of the column of which its line speaks.
 #[derive(Debug, Drop)]
-pub(crate) enum Cause {
+pub enum Cause {
     Width,
     LongKey,
     Item(String),
@@ -28,7 +28,7 @@ pub(crate) enum Cause {
 
 /// Why there is no table. A row has its number over the whole input; the number of the header is 0.
 #[derive(Debug, Drop)]
-pub(crate) enum Stop {
+pub enum Stop {
     Usage,
     ReadFault,
     NoHeader,

@@ -1,4 +1,4 @@
-use Rattle.std.proofs.Common.{◌≡◌, ◌∙◌, rules, arith, [], ℕ, List, Err, ap, refl, subst, sym}
+use Rattle.std.proofs.Common.{inl, ◌≡◌, ◌∙◌, rules, arith, [], ℕ, List, Err, ap, refl, subst, sym}
 use Rattle.csv_rows.specs.Records.{records_of}
 use Rattle.par_io.specs.Faults.{Rose}
 use Rattle.row_blocks.specs.Blocks.{Table}
@@ -14,7 +14,7 @@ returns-in-Err-clause-why g c =
     let old = c.loop.source in
     let new = c.fill.new.source in
     λ query. subst (Tells query from) (sym c.stop_of_window.ensures)
-    (window_tells (g.S.Source.left old) (g.S.Source.left new) (g.S.Source.faults old) (g.S.Source.faults new) c.loop.window query from [] 0 c.in-Err.why c.loop.invariant.read refl c.in-Err.ensures.why)
+    (window_tells (g.S.Source.left old) (g.S.Source.left new) (g.S.Source.faults old) (g.S.Source.faults new) c.loop.window query from [] 0 c.in-Err.why (inl refl) c.loop.invariant.read refl c.in-Err.ensures.why)
 
 pub returns-in-Err-clause-read_fault : goal.returns-in-Err-clause-read_fault
 returns-in-Err-clause-read_fault g c = λ e.

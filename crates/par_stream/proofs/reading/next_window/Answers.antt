@@ -1,10 +1,10 @@
-use Rattle.std.proofs.Common.{◌≡◌, ◌+◌, ◌++◌, ◌∷◌, ◌∙◌, ℕ, Bool, List, Option, Result, IfErr, IfOk, arith, length, rules, subst, sym}
+use Rattle.std.proofs.Common.{inr, ◌≡◌, ◌+◌, ◌++◌, ◌∷◌, ◌∙◌, ℕ, Bool, List, Option, Result, IfErr, IfOk, arith, length, rules, subst, sym}
 use Rattle.csv_rows.specs.Records.{record_at}
 use Rattle.row_blocks.specs.Blocks.{Table}
 use Rattle.row_windows.specs.declared.window.WindowAnswer.{WindowAnswer}
 use Rattle.par_stream.specs.Reading.{Begins, HasRead, HasRows, IsBound, IsFilled, IsNotFilled, window_rows}
 use Rattle.par_stream.specs.Stops.{Tells}
-use Rattle.par_stream.proofs.Refusals.{begins}
+use Rattle.par_stream.proofs.Refusals.{accepted_table, begins}
 use Rattle.par_stream.proofs.Streams.{added_behind, header_at, next_header, next_reaches, same_added}
 use Rattle.par_stream.proofs.Windows.{window_tells}
 use Rattle.par_stream.proofs.reading.next_window.Goals as goal
@@ -42,7 +42,7 @@ returns-in-Err-clause-why g c =
     let read : HasRead from old records c.follow.new.self.rest = subst (HasRead from old records) (sym c.in_ok-follow.ensures.rest) (has.reaches.more c.requires.more) in
     let number : length records ≡ c.add_and_fill.new.added.count + 1 = omega (arith, all.count) in
     subst (Tells c.args.plan.now from) (sym c.stop_of_window.ensures)
-    (window_tells old new old_faults new_faults c.follow.new.self c.args.plan.now from records (c.add_and_fill.new.added.count + 1) why read number is)
+    (window_tells old new old_faults new_faults c.follow.new.self c.args.plan.now from records (c.add_and_fill.new.added.count + 1) why (inr (accepted_table c.args.plan.now header c.args.bound.now c.requires.stream.bound (rows ++ window_rows s.window) all.shared.accepted)) read number is)
 
 pub returns-clause-stream : goal.returns-clause-stream
 returns-clause-stream g c =
