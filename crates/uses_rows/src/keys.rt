@@ -3,7 +3,7 @@
 
 ghost use Rattle.std.specs.Prelude.{◌≡◌, IfOk, Some, slice_get};
 
-use key_index::KeyTable;
+use key_index::{KeyTable, hash_of};
 use std::alloc::{AllocError, Global};
 use std::test::Fail;
 
@@ -45,6 +45,39 @@ fn come_to_places(keys: &mut KeyTable, alloc: Global) -> Result<bool, AllocError
 fn places_of_keys(rt: HostRuntime) -> Result<(), Fail> {
     let mut keys = KeyTable::new(rt.alloc());
     assert!(rt; come_to_places(&mut keys, rt.alloc())?);
+    Ok(())
+}
+
+/// Keys with their hashes: each is found at its place, by a guess that is right, wrong or past the end. Keys of up to
+/// three words differ in each byte.
+fn found_by_hash(alloc: Global) -> Result<bool, AllocError> {
+    let mut keys = KeyTable::new(alloc);
+    let long = [b'k'; 24];
+    for len in 0..=long.len() {
+        let key = &long[..len];
+        keys.push_hashed(alloc, hash_of(key), key)?;
+    }
+    for at in 0..long.len() {
+        let mut key = long;
+        key[at] = b'l';
+        if keys.find_hashed(hash_of(&key), long.len(), &key).is_some() {
+            return Ok(false);
+        }
+    }
+    for len in 0..=long.len() {
+        let key = &long[..len];
+        for guess in [len, 0, usize::MAX] {
+            if keys.find_hashed(hash_of(key), guess, key) != Some(len) {
+                return Ok(false);
+            }
+        }
+    }
+    Ok(true)
+}
+
+#[test]
+fn keys_with_their_hashes(rt: HostRuntime) -> Result<(), Fail> {
+    assert!(rt; found_by_hash(rt.alloc())?);
     Ok(())
 }
 
