@@ -16,9 +16,9 @@ outcome (Some plan) (header ∷ rows) = by_missing plan header rows (missing_nam
 abbrev pub outcome_over : Option NamedPlan → List ℕ → Outcome
 outcome_over plan bytes = outcome plan (records_of bytes)
 
--- Behind so many records of some bytes begins a record of more bytes than a record may have: from some place on they
--- have the other records, and begin with a text that is too long and cannot be cut. The records in front, where there are
--- any, are a table of the plan: it has its columns, and none of their rows is refused
+-- After so many records of some bytes begins a record of more bytes than a record may have: from some place on they
+-- have the other records, and begin with a text that is too long and cannot be cut. The records before it, if there are
+-- any, come to a table of the plan: the header has its columns, and no row is refused
 pub record HasLong (plan : Option NamedPlan) (bytes : List ℕ) (row : ℕ) : Type 0 where
   pub front : List ℕ
   pub text : List ℕ

@@ -4,7 +4,7 @@
 //! The words name a plan; the bytes are read window by window, whole records each. The rows of a window are shared out to
 //! the participants, and where there are workers the caller's thread reads the next window meanwhile. After the last window
 //! the groups are put together, and their text is made in ranges of the order and written. So nothing is written before the
-//! last byte was read, and only the groups and two windows with the rows of one stand in memory.
+//! last byte was read, and only the groups and two windows with the rows of one are in memory.
 //!
 //! The first fault ends it: the words, a read that failed, no header, a column that it lacks, a record that is too long, a
 //! refused row, and the writing, as they come on the way through the input.
@@ -48,9 +48,9 @@ pub const WINDOW_BYTES: usize = 4_194_304;
 
 /// Answers the query that `words`, those after the program's name, name by options: writes its table to `out`, or a line
 /// to `err` that says why there is none, and returns the exit status. The source is read in windows of `window_bytes`
-/// ([`WINDOW_BYTES`] by the program) or more, where a record is longer. As many workers as the words ask for share the
-/// rows with the caller's thread. How far the reading has come is told window by window to `progress` ([`Untold`] where
-/// nobody asks), and that it has ended before anything is written.
+/// ([`WINDOW_BYTES`] by the program), the first of 4,096 at most; one is longer if a record or the header's line is. As
+/// many workers as the words ask for share the rows with the caller's thread. How far the reading has come is told window
+/// by window to `progress` ([`Untold`] if nobody asks), and that it has ended before anything is written.
 ///
 /// Time is linear in the input, but for the look-up of each row's group and the order of the groups. Memory is two
 /// windows, the records of one, for each participant the groups of its own rows, and the text.
@@ -65,15 +65,15 @@ pub fn stream_table<R: Threads + Wait + Sync, S: Source, O: Sink, E: Sink, P: Pr
     progress: &mut P,
 ) -> u8
     // On every status but that of a table there is a reason, which tells of the outcome over all bytes; the status is the
-    // reason's, and so is the line that `err` receives, or a prefix of it where a write of it failed. A fault is answered
-    // only where it came in this call.
+    // reason's, and so is the line that `err` receives, or a prefix of it if a write of it failed. A fault is answered
+    // only if it came in this call.
     ensures why { (result ≢ TABLE) → (why : Stop) × TellsOf (query_of (texts words.now)) (S.left source.old) why × (result ≡ stop_status why)
         × IsSaid (E.taken err.old) (E.taken err.new) (E.faults err.old) (E.faults err.new) (line (stop_text why)) }
     ensures read_fault { result ≡ READ_FAULT → Rose (S.faults source.old) (S.faults source.new) }
     ensures write_fault { result ≡ WRITE_FAULT → Rose (O.faults out.old) (O.faults out.new) }
     ensures quiet { result ≡ TABLE → err.new ≡ err.old }
 
-    // `out` receives the table, or a prefix of it where a write failed, and on every other status nothing.
+    // `out` receives the table, or a prefix of it if a write failed, and on every other status nothing.
     ensures table { result ≡ TABLE → IfSome (S.left source.old) (λ bytes.
         (text : List ℕ) × IsTableText (plan_of (texts words.now)) bytes text × Appends (O.taken out.old) (O.taken out.new) text) }
     ensures part { result ≡ WRITE_FAULT → IfSome (S.left source.old) (λ bytes.

@@ -42,11 +42,11 @@ pub(crate) struct Stream {
     pub(crate) added: Added,
 }
 
-/// The most bytes of the first window, unless a record is longer: so a wrong name is told of a slow source too.
+/// The most bytes of the first window, unless a record is longer: so a wrong name is answered early, even if the source is slow.
 const FIRST_BYTES: usize = 4096;
 
-/// Each window has the header's line again, so it is as long as that, but for headers of more bytes: so many never have more
-/// rows than a store takes.
+/// A window repeats the header's line, and is at least as long as it, up to so many bytes: these never have more rows than a
+/// store takes.
 const MOST_FOR_HEADER: usize = 8_000_000;
 
 /// Reads the whole source, in windows of so many bytes or more, and tells how far it has come.
