@@ -1,4 +1,3 @@
-use Rattle.std.proofs.Common.{◌∙◌, sym}
 use Rattle.par_stream.proofs.stream_table.Goals as goal
 
 pub returns-in-Err-clause-why : goal.returns-in-Err-clause-why
