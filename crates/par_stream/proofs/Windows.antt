@@ -1,5 +1,5 @@
 -- Windows of a source, one after another.
-use Rattle.std.proofs.Common.{◌≡◌, ◌⊎◌, ◌<◌, ◌++◌, ◌∙◌, ℕ, Bool, true, false, List, [], ◌∷◌, Option, None, Some, Result, Ok, Err, IfErr, IfOk, IfSome, length, length-append, refl, ap, sym, arith, append_assoc, append-nil}
+use Rattle.std.proofs.Common.{◌≡◌, ◌⊎◌, ◌<◌, ◌≤◌, ◌+◌, ◌++◌, ◌∙◌, ℕ, Bool, true, false, List, [], ◌∷◌, Option, None, Some, Result, Ok, Err, IfErr, IfOk, IfSome, length, length-append, refl, ap, sym, arith, append_assoc, append-nil}
 use Rattle.std.specs.Prelude.{OnOk}
 use Rattle.std.specs.Io.KnownBytes.{IsAtEnd}
 use Rattle.csv_rows.specs.Records.{records_of}
@@ -8,13 +8,14 @@ use Rattle.plan_spec.specs.Query.{Query}
 use Rattle.row_blocks.specs.Blocks.{Table}
 use Rattle.row_windows.specs.Seams.{BeginsLine, IsLong, IsSeam}
 use Rattle.row_windows.specs.Stretch.{Fills, Stretch}
+use Rattle.row_windows.specs.declared.window.TheConstants.{MOST_RECORD_BYTES}
 use Rattle.row_windows.specs.declared.window.WindowAnswer.{WindowAnswer}
 use Rattle.row_windows.specs.declared.window.WindowAnswer.TheVariants as answer
 use Rattle.row_windows.proofs.Seams.{records_add_up}
 use Rattle.par_model.specs.Named.{NamedPlan}
 use Rattle.par_model.specs.Outcome.{Table as IsTable}
 use Rattle.par_stream.specs.Outcome.{HasLong, outcome}
-use Rattle.par_stream.specs.Reading.{AreRead, HasRead, IsFilled, IsNotFilled, Reaches}
+use Rattle.par_stream.specs.Reading.{AreRead, HasRead, IsFilled, IsNotFilled, Reaches, ReadInOrder}
 use Rattle.par_stream.specs.Stops.{Tells, stop_of_window}
 use Rattle.par_stream.specs.declared.stop.Stop.TheVariants as stop
 
@@ -71,21 +72,34 @@ filled (Some bytes) (Some old) (Some new) was lines rest records is_last read f 
   more = λ e. more_read bytes old new was lines rest f.0 records read f.1 f.2 (seam e);
 }
 
+-- some records, and what was read on after them
+pub read_on : (from old new : Option (List ℕ)) (was text : List ℕ) (records : Table) → HasRead from old records was → Fills old new was text → HasRead from new records text
+read_on None old new was text records read f = tt
+read_on (Some bytes) None new was text records read f = absurd read
+read_on (Some bytes) (Some old) None was text records read f = absurd f.1
+read_on (Some bytes) (Some old) (Some new) was text records read f =
+    let left : was ++ old ≡ text ++ new = ap (λ (l : List ℕ). was ++ l) f.1 ∙ (sym (append_assoc was f.0 new) ∙ ap (λ (l : List ℕ). l ++ new) (sym f.2)) in
+    record {
+      front = read.front;
+      are = read.are ∙ ap (λ (l : List ℕ). read.front ++ l) left;
+      parts = read.parts ∙ ap (λ (l : List ℕ). records ++ records_of l) left;
+    }
+
 -- a window that begins with a record that is too long
 pub long_read : (from old new : Option (List ℕ)) (was text : List ℕ) (plan : Option NamedPlan) (records : Table) (row : ℕ) → (records ≡ []) ⊎ (outcome plan records ≡ IsTable) → HasRead from old records was → length records ≡ row → Fills old new was text → IsLong text → IfSome from (λ bytes. HasLong plan bytes row)
 long_read None old new was text plan records row whole read number f long = tt
 long_read (Some bytes) None new was text plan records row whole read number f long = absurd read
 long_read (Some bytes) (Some old) None was text plan records row whole read number f long = absurd f.1
 long_read (Some bytes) (Some old) (Some new) was text plan records row whole read number f long =
-    let left : was ++ old ≡ text ++ new = ap (λ (l : List ℕ). was ++ l) f.1 ∙ (sym (append_assoc was f.0 new) ∙ ap (λ (l : List ℕ). l ++ new) (sym f.2)) in
+    let now : AreRead bytes new records text = read_on (Some bytes) (Some old) (Some new) was text records read f in
     record {
-      front = read.front;
+      front = now.front;
       text = text;
       back = new;
-      are = read.are ∙ ap (λ (l : List ℕ). read.front ++ l) left;
+      are = now.are;
       before = records;
       number = number;
-      parts = read.parts ∙ ap (λ (l : List ℕ). records ++ records_of l) left;
+      parts = now.parts;
       long = long;
       whole = whole;
     }
@@ -108,11 +122,12 @@ is_filled old new was now (Ok is_last) header reads last seam = record {
     some true last seam begins = omega (arith, ap length (last refl).0, ap length reads.2, length-append now.lines now.rest, length-append was.rest reads.0, begins.some)
 
 pub is_not_filled : (old new : Option (List ℕ)) (old_faults new_faults : ℕ) (was : Stretch) (r : Result Bool WindowAnswer) → (r ≡ Err answer.ReadFault → Rose old_faults new_faults)
+    → (r ≡ Err answer.ReadFault → (text : List ℕ) × Fills old new was.rest text × (length text ≤ MOST_RECORD_BYTES + 1))
     → (r ≡ Err answer.LongRecord → (text : List ℕ) × Fills old new was.rest text × IsLong text) → IfErr r (IsNotFilled old new old_faults new_faults was)
-is_not_filled old new old_faults new_faults was (Ok is_last) fault long = tt
-is_not_filled old new old_faults new_faults was (Err answer.ReadFault) fault long = fault refl
-is_not_filled old new old_faults new_faults was (Err answer.LongRecord) fault long = long refl
-is_not_filled old new old_faults new_faults was (Err answer.Memory) fault long = tt
+is_not_filled old new old_faults new_faults was (Ok is_last) fault part long = tt
+is_not_filled old new old_faults new_faults was (Err answer.ReadFault) fault part long = (fault refl, part refl)
+is_not_filled old new old_faults new_faults was (Err answer.LongRecord) fault part long = long refl
+is_not_filled old new old_faults new_faults was (Err answer.Memory) fault part long = tt
 
 module _ (old new : Option (List ℕ)) (old_faults new_faults : ℕ) (was : Stretch) where
   -- what the reason says, where so many records stand in front of the window
@@ -123,9 +138,16 @@ module _ (old new : Option (List ℕ)) (old_faults new_faults : ℕ) (was : Stre
 
   -- where it is a read that failed
   pub window_fault : (row : ℕ) (why : WindowAnswer) → IsNotFilled old new old_faults new_faults was why → stop_of_window why row ≡ stop.ReadFault → Rose old_faults new_faults
-  window_fault row answer.ReadFault is e = is
+  window_fault row answer.ReadFault is e = is.0
   window_fault row answer.LongRecord is e = cc e
   window_fault row answer.Memory is e = cc e
+
+  -- and what was read by then
+  pub window_in_order : (plan : Option NamedPlan) (from : Option (List ℕ)) (records : Table) (row : ℕ) (why : WindowAnswer) → (records ≡ []) ⊎ (outcome plan records ≡ IsTable) → HasRead from old records was.rest → IsNotFilled old new old_faults new_faults was why
+      → stop_of_window why row ≡ stop.ReadFault → ReadInOrder plan from new
+  window_in_order plan from records row answer.ReadFault whole read is e = record { records = records; rest = is.1; read = read_on from old new was.rest is.1 records read is.2; short = is.3; whole = whole }
+  window_in_order plan from records row answer.LongRecord whole read is e = cc e
+  window_in_order plan from records row answer.Memory whole read is e = cc e
 
 pub window_no_write : (row : ℕ) (why : WindowAnswer) → stop_of_window why row ≡ stop.WriteFault → ⊥
 window_no_write row answer.ReadFault e = cc e

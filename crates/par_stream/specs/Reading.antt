@@ -1,20 +1,23 @@
 -- What was read of a source, window by window.
-use Rattle.std.specs.Prelude.{◌≡◌, ◌≤◌, ◌+◌, ◌++◌, ◌^◌, [], ◌∷◌, ℕ, Bool, List, None, Option, Some, IfSome, drop, false, length, true, ⊤}
+use Rattle.std.specs.Prelude.{◌≡◌, ◌≤◌, ◌+◌, ◌++◌, ◌^◌, ◌⊎◌, [], ◌∷◌, ℕ, Bool, List, None, Option, Some, IfSome, drop, false, length, true, ⊤}
 use Rattle.std.specs.Io.KnownBytes.{IsAtEnd}
 use Rattle.csv_rows.specs.Cuts.{IsCut}
 use Rattle.csv_rows.specs.Records.{record_at, records_of}
 use Rattle.par_io.specs.Faults.{Rose}
 use Rattle.par_model.specs.Columns.{HasColumns}
-use Rattle.par_model.specs.Named.{bound_plan, missing_name}
+use Rattle.par_model.specs.Named.{NamedPlan, bound_plan, missing_name}
+use Rattle.par_model.specs.Outcome.{Table as IsTable}
 use Rattle.par_model.specs.Plan.{Plan}
 use Rattle.partial_agg.specs.Rows.{header_width}
 use Rattle.plan_spec.specs.Query.{Query}
 use Rattle.row_blocks.specs.Blocks.{Table}
 use Rattle.row_windows.specs.Seams.{BeginsLine, IsLong, IsSeam}
 use Rattle.row_windows.specs.Stretch.{Fills, Stretch}
+use Rattle.row_windows.specs.declared.window.TheConstants.{MOST_RECORD_BYTES}
 use Rattle.row_windows.specs.declared.window.WindowAnswer.{WindowAnswer}
 use Rattle.row_windows.specs.declared.window.WindowAnswer.TheVariants as answer
 use Rattle.split_law.specs.Shares.{AreShared}
+use Rattle.par_stream.specs.Outcome.{outcome}
 use Rattle.par_stream.specs.declared.adding.Added.{Added}
 use Rattle.par_stream.specs.declared.reading.ReadGroups.{ReadGroups}
 use Rattle.par_stream.specs.declared.reading.Stream.{Stream}
@@ -42,6 +45,15 @@ HasAll from records = IfSome from (λ bytes. records_of bytes ≡ records)
 abbrev pub Begins : Option (List ℕ) → Table → Type 0
 Begins from records = IfSome from (λ bytes. (more : Table) × (records_of bytes ≡ records ++ more))
 
+-- Where a read has failed, of a source that had some bytes left and now has others: some records come to a table of the
+-- plan, or there are none, and after them at most a record was read, and a byte
+pub record ReadInOrder (plan : Option NamedPlan) (from left : Option (List ℕ)) : Type 0 where
+  pub records : Table
+  pub rest : List ℕ
+  pub read : HasRead from left records rest
+  pub short : length rest ≤ MOST_RECORD_BYTES + 1
+  pub whole : (records ≡ []) ⊎ (outcome plan records ≡ IsTable)
+
 -- what there is of a source after a window that is the last, or not
 pub record Reaches (from left : Option (List ℕ)) (records : Table) (rest : List ℕ) (is_last : Bool) : Type 0 where
   pub all : is_last ≡ true → HasAll from records
@@ -65,9 +77,10 @@ pub record IsFilled (old new : Option (List ℕ)) (was now : Stretch) (is_last :
   pub seam : is_last ≡ false → IsSeam now.lines now.rest
   pub line : BeginsLine was.rest → BeginsLine now.lines
 
--- why it was not filled: a read failed, or what there was and what was read begins with a record that is too long
+-- why it was not filled: a read failed, after no more than a record and a byte, or what there was and what was read begins
+-- with a record that is too long
 abbrev pub IsNotFilled : Option (List ℕ) → Option (List ℕ) → ℕ → ℕ → Stretch → WindowAnswer → Type 0
-IsNotFilled old new old_faults new_faults was answer.ReadFault = Rose old_faults new_faults
+IsNotFilled old new old_faults new_faults was answer.ReadFault = Rose old_faults new_faults × (text : List ℕ) × Fills old new was.rest text × (length text ≤ MOST_RECORD_BYTES + 1)
 IsNotFilled old new old_faults new_faults was answer.LongRecord = (text : List ℕ) × Fills old new was.rest text × IsLong text
 IsNotFilled old new old_faults new_faults was answer.Memory = ⊤
 

@@ -6,7 +6,7 @@ ghost use Rattle.csv_rows.specs.Records.{record_at, records_of};
 ghost use Rattle.csv_rows.specs.declared.records.RowsAnswer.TheVariants as parsing;
 ghost use Rattle.par_io.specs.Faults.{Rose};
 ghost use Rattle.row_blocks.specs.Blocks.{Table};
-ghost use Rattle.par_stream.specs.Reading.{HasHeader, IsFilled, IsNotFilled, Reaches, window_records};
+ghost use Rattle.par_stream.specs.Reading.{HasHeader, IsFilled, IsNotFilled, Reaches, ReadInOrder, window_records};
 ghost use Rattle.par_stream.specs.Stops.{Tells, stop_of_window};
 ghost use Rattle.par_stream.specs.declared.stop.Stop.TheVariants as stop;
 
@@ -36,6 +36,7 @@ pub(crate) fn first_window<R: Wait, S: Source>(
     ensures reaches { IfOk result (λ f. Reaches (S.left source.old) (S.left source.new) (window_records f.window) f.window.rest f.is_last) }
     ensures why { IfErr result (λ why. (query : _) → Tells query (S.left source.old) why) }
     ensures read_fault { IfErr result (λ why. why ≡ stop.ReadFault → Rose (S.faults source.old) (S.faults source.new)) }
+    ensures in_order { IfErr result (λ why. why ≡ stop.ReadFault → (plan : _) → ReadInOrder plan (S.left source.old) (S.left source.new)) }
     ensures faults { S.faults source.old ≤ S.faults source.new }
     ensures no_write { IfErr result (λ why. (why ≡ stop.WriteFault) → ⊥) }
 {

@@ -18,6 +18,7 @@ ghost use Rattle.answer_text.specs.Lines.{IsSaid};
 ghost use Rattle.answer_text.specs.Words.{texts};
 ghost use Rattle.par_stream.specs.Answers.{IsTableText};
 ghost use Rattle.par_stream.specs.Lines.{line};
+ghost use Rattle.par_stream.specs.Reading.{ReadInOrder};
 ghost use Rattle.par_stream.specs.Stops.{TellsOf, stop_status, stop_text, usage_text};
 ghost use Rattle.par_stream.specs.Words.{plan_of, query_of};
 ghost use Rattle.par_stream.specs.declared.stop.Stop.{Stop};
@@ -70,6 +71,7 @@ pub fn stream_table<R: Threads + Wait + Sync, S: Source, O: Sink, E: Sink, P: Pr
     ensures why { (result ≢ TABLE) → (why : Stop) × TellsOf (query_of (texts words.now)) (S.left source.old) why × (result ≡ stop_status why)
         × IsSaid (E.taken err.old) (E.taken err.new) (E.faults err.old) (E.faults err.new) (line (stop_text why)) }
     ensures read_fault { result ≡ READ_FAULT → Rose (S.faults source.old) (S.faults source.new) }
+    ensures in_order { result ≡ READ_FAULT → ReadInOrder (plan_of (texts words.now)) (S.left source.old) (S.left source.new) }
     ensures write_fault { result ≡ WRITE_FAULT → Rose (O.faults out.old) (O.faults out.new) }
     ensures quiet { result ≡ TABLE → err.new ≡ err.old }
 
@@ -114,6 +116,7 @@ fn answer_stream<R: Threads + Wait + Sync, S: Source, O: Sink, P: Progress>(
     ensures nothing { IfErr result (λ why. (why ≢ stop.WriteFault) → out.new ≡ out.old) }
     ensures why { IfErr result (TellsOf (query_of (texts words.now)) (S.left source.old)) }
     ensures read_fault { IfErr result (λ why. why ≡ stop.ReadFault → Rose (S.faults source.old) (S.faults source.new)) }
+    ensures in_order { IfErr result (λ why. why ≡ stop.ReadFault → ReadInOrder (plan_of (texts words.now)) (S.left source.old) (S.left source.new)) }
     ensures write_fault { IfErr result (λ why. why ≡ stop.WriteFault → Rose (O.faults out.old) (O.faults out.new)) }
     ensures some { OnOk result (IsNone (query_of (texts words.now)) → ⊥) }
     ensures unread { IsNone (query_of (texts words.now)) → source.new ≡ source.old }

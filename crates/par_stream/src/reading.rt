@@ -1,10 +1,10 @@
 //! The groups of a source, window by window.
 
-ghost use Rattle.std.specs.Prelude.{◌≡◌, ◌≤◌, ◌++◌, ◌∷◌, ◌⊎◌, [], ℕ, List, Option, IfErr, IfOk, false, true};
+ghost use Rattle.std.specs.Prelude.{◌≡◌, ◌≤◌, ◌++◌, ◌∷◌, ◌⊎◌, [], ℕ, List, Option, Some, IfErr, IfOk, false, true};
 ghost use Rattle.csv_rows.specs.Records.{record_at};
 ghost use Rattle.par_io.specs.Faults.{Rose};
 ghost use Rattle.row_blocks.specs.Blocks.{Table};
-ghost use Rattle.par_stream.specs.Reading.{AreGroupsOver, HasHeader, HasRows, IsBound, IsStream, Reaches, window_records};
+ghost use Rattle.par_stream.specs.Reading.{AreGroupsOver, HasHeader, HasRows, IsBound, IsStream, Reaches, ReadInOrder, window_records};
 ghost use Rattle.par_stream.specs.Stops.{Tells};
 ghost use Rattle.par_stream.specs.declared.stop.Stop.TheVariants as stop;
 
@@ -61,6 +61,7 @@ pub(crate) fn read_groups<R: Threads + Wait + Sync, S: Source, P: Progress>(
     ensures groups { IfOk result (AreGroupsOver plan.now (S.left source.old)) }
     ensures why { IfErr result (Tells plan.now (S.left source.old)) }
     ensures read_fault { IfErr result (λ why. why ≡ stop.ReadFault → Rose (S.faults source.old) (S.faults source.new)) }
+    ensures in_order { IfErr result (λ why. why ≡ stop.ReadFault → ReadInOrder (Some plan.now.plan) (S.left source.old) (S.left source.new)) }
     ensures no_write { IfErr result (λ why. (why ≡ stop.WriteFault) → ⊥) }
 {
     let first = first_window(rt, alloc, source, size.min(FIRST_BYTES))?;
@@ -132,6 +133,7 @@ fn next_window<R: Threads + Wait + Sync, S: Source>(
         → (all : Table) × HasRows bound.now from (S.left source.new) s all) }
     ensures why { IfErr result (λ why. (from : Option (List ℕ)) (rows : Table) → HasRows bound.now from (S.left source.old) stream rows → Tells plan.now from why) }
     ensures read_fault { IfErr result (λ why. why ≡ stop.ReadFault → Rose (S.faults source.old) (S.faults source.new)) }
+    ensures in_order { IfErr result (λ why. why ≡ stop.ReadFault → (from : Option (List ℕ)) (rows : Table) → HasRows bound.now from (S.left source.old) stream rows → ReadInOrder (Some plan.now.plan) from (S.left source.new)) }
     ensures faults { S.faults source.old ≤ S.faults source.new }
     ensures no_write { IfErr result (λ why. (why ≡ stop.WriteFault) → ⊥) }
 {

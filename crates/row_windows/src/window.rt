@@ -104,8 +104,9 @@ impl Window {
         ensures seam { IfOk result (λ last. last ≡ false → IsSeam self.new.lines self.new.rest × (0 < length self.new.lines)) }
         ensures short { OnOk result (length self.new.lines ≤ MOST_RECORD_BYTES) }
 
-        // Why it answers an error.
+        // Why it answers an error, and how much there was when a read failed.
         ensures read_fault { result ≡ Err answer.ReadFault → Rose (S.faults source.old) (S.faults source.new) }
+        ensures part { result ≡ Err answer.ReadFault → (text : List ℕ) × Fills (S.left source.old) (S.left source.new) self.old.rest text × (length text ≤ MOST_RECORD_BYTES + 1) }
         ensures long { result ≡ Err answer.LongRecord → (text : List ℕ) × Fills (S.left source.old) (S.left source.new) self.old.rest text × IsLong text }
         ensures faults { S.faults source.old ≤ S.faults source.new }
     {
@@ -144,6 +145,7 @@ impl Window {
         ensures seam { IfOk result (λ r. r ≡ found.Lines false → IsSeam self.new.lines self.new.rest × (0 < length self.new.lines)) }
         ensures no_cut { IfOk result (λ r. r ≡ found.NoCut → (self.new.lines ≡ []) × (goal ≤ length self.new.rest) × (goal ≡ MOST_RECORD_BYTES + 1 → NoCut (strip_bom self.new.rest))) }
         ensures short { OnOk result (length self.new.lines ≤ MOST_RECORD_BYTES) }
+        ensures part { result ≡ Err answer.ReadFault → (text : List ℕ) × Fills (S.left source.old) (S.left source.new) self.old.rest text × (length text ≤ goal) }
         ensures read_fault { result ≡ Err answer.ReadFault → Rose (S.faults source.old) (S.faults source.new) }
         ensures faults { S.faults source.old ≤ S.faults source.new }
         ensures why { IfErr result (λ why. (why ≡ answer.LongRecord) → ⊥) }

@@ -5,7 +5,7 @@ use Rattle.row_blocks.specs.Blocks.{Table}
 use Rattle.row_windows.specs.Stretch.{Stretch}
 use Rattle.par_stream.specs.Reading.{HasRead, Reaches, window_records}
 use Rattle.par_stream.specs.Stops.{Tells}
-use Rattle.par_stream.proofs.Windows.{filled, window_fault, window_tells}
+use Rattle.par_stream.proofs.Windows.{filled, window_fault, window_in_order, window_tells}
 use Rattle.par_stream.proofs.filling.first_window.Goals as goal
 
 pub returns-in-Err-clause-why : goal.returns-in-Err-clause-why
@@ -22,6 +22,13 @@ returns-in-Err-clause-read_fault g c = λ e.
     let new = c.fill.new.source in
     let rose : Rose (g.S.Source.faults old) (g.S.Source.faults new) = window_fault (g.S.Source.left old) (g.S.Source.left new) (g.S.Source.faults old) (g.S.Source.faults new) c.loop.window 0 c.in-Err.why c.in-Err.ensures.why (sym c.stop_of_window.ensures ∙ e) in
     search rules
+
+pub returns-in-Err-clause-in_order : goal.returns-in-Err-clause-in_order
+returns-in-Err-clause-in_order g c = λ e plan.
+    let from = g.S.Source.left c.args.source.now in
+    let old = c.loop.source in
+    let new = c.fill.new.source in
+    window_in_order (g.S.Source.left old) (g.S.Source.left new) (g.S.Source.faults old) (g.S.Source.faults new) c.loop.window plan from [] 0 c.in-Err.why (inl refl) c.loop.invariant.read c.in-Err.ensures.why (sym c.stop_of_window.ensures ∙ e)
 
 pub returns-in-Ok-part_header-clause-reaches : goal.returns-in-Ok-part_header-clause-reaches
 returns-in-Ok-part_header-clause-reaches g c =

@@ -1,4 +1,4 @@
-use Rattle.std.proofs.Common.{◌≡◌, ◌≤◌, ◌+◌, ◌-◌, ◌∙◌, ap, sym, arith, drop, length, refl, take}
+use Rattle.std.proofs.Common.{◌≡◌, ◌≤◌, ◌+◌, ◌-◌, ◌++◌, ◌∙◌, ap, sym, arith, drop, length, length-append, refl, take}
 use Rattle.std.proofs.lemmas.List.{length-drop, length-take}
 use Rattle.row_windows.specs.Stretch.{Stretch, between}
 use Rattle.row_windows.proofs.Stretches.{between-none, front-less, window-lines, window-reads}
@@ -17,6 +17,19 @@ returns-then-body-min-clause-reads g c =
     let rest = sym (ap (λ (x : Stretch). x.rest) c.self.view_is) in
     let low = c.self.invariant in
     rw rest (window-reads w.text.items c.read_to.new.text.items w.header w.end w.filled c.in-Ok.read.upto c.in-Ok.read.upto _ _ low none c.in-Ok.ensures.front c.in-Ok.ensures.low c.in-Ok.ensures.read (omega (arith, low.low, low.high, c.in-Ok.ensures.low)) (omega arith))
+
+pub returns-in-Err-clause-part : goal.returns-in-Err-clause-part
+returns-in-Err-clause-part g c = λ is.
+    let w = c.self.inside in
+    let none = ap (λ (x : Stretch). x.lines) c.self.view_is ∙ c.requires.lines in
+    let same = window-lines w.text.items w.header w.end w.filled c.self.invariant none in
+    let rest = ap (λ (x : Stretch). length x.rest) c.self.view_is in
+    let size = length-take (w.filled - w.end) (drop w.end w.text.items) in
+    let back = length-drop w.end w.text.items in
+    let read = c.in-Err.ensures.part is in
+    let more = read.1 in
+    let whole = length-append c.args.self.now.rest more.0 in
+    (c.args.self.now.rest ++ more.0, (more.0, more.1, refl), omega (arith, same, rest, size, back, whole, more.2, read.2, c.self.invariant.low, c.self.invariant.high, c.self.invariant.within))
 
 pub returns-in-Some-clause-header : goal.returns-in-Some-clause-header
 returns-in-Some-clause-header g c =
