@@ -13,3 +13,4 @@ pub mod Frees
 pub mod Offers
 pub mod FreeCounts
 pub mod Spares
+pub mod Batches

@@ -64,20 +64,23 @@ pub record IsSettled (l : Layout) (s : PoolState) : Type 0 where
   pub some_active : (p i : ℕ) → IsSome (object_in s p i) → IsSome s.active
 
 -- a call: an object; a superblock that is added, by its first word; an object that comes back, by its first word and
--- its bytes
+-- its bytes; as many objects as this; objects that come back, by their first words
 pub data PoolCall : Type 0 where
   Alloc : PoolCall
   Add : ℕ → PoolCall
   Free : ℕ → ℕ → PoolCall
+  AllocMany : ℕ → PoolCall
+  FreeMany : List ℕ → PoolCall
 
--- a reply: the first word of an object; no object is free; the object is free now; the superblock that went back with
--- it, by its first word; the object is handed back
+-- a reply: the first word of an object, or those of several; no object is free; what came back is free now; the
+-- superblock that went back with it, by its first word; an object is handed back
 pub data PoolReply : Type 0 where
   Object : ℕ → PoolReply
   Full : PoolReply
   Kept : PoolReply
   Whole : ℕ → PoolReply
   Stranger : PoolReply
+  Objects : List ℕ → PoolReply
 
 -- a free object becomes live, of the active superblock where that has one; its superblock is the active one then
 -- (`alloc_object` and `ensure_active_superblock` of dsa.c)
@@ -145,6 +148,33 @@ pub record IsStranger (l : Layout) (before : PoolState) (at bytes : ℕ) (after 
   pub none : (p i : ℕ) → at ≡ place l p i → bytes ≡ 8 * l.size → object_in before p i ≡ None
   pub same : after ≡ before
 
+-- objects become live one after another, in this order, each as by a call of its own
+abbrev pub AreAllocs : Layout → PoolState → List ℕ → PoolState → Type 0
+AreAllocs l before [] after = after ≡ before
+AreAllocs l before (at ∷ ats) after = (mid : PoolState) × IsAlloc l before at mid × AreAllocs l mid ats after
+
+-- n objects become live, or fewer, and then no other is free
+pub record IsAllocMany (l : Layout) (before : PoolState) (n : ℕ) (ats : List ℕ) (after : PoolState) : Type 0 where
+  pub few : length ats ≤ n
+  pub each : AreAllocs l before ats after
+  pub full : length ats < n → AllLive after
+
+-- objects become free one after another, from the last of the list to its first, each as by a call of its own that
+-- leaves its superblock
+abbrev pub AreFreed : Layout → PoolState → List ℕ → PoolState → Type 0
+AreFreed l before [] after = after ≡ before
+AreFreed l before (at ∷ ats) after = (mid : PoolState) × AreFreed l before ats mid × IsFreed l mid at (8 * l.size) after
+
+-- the same, but that a superblock goes out with the first of the list, which comes back after all others
+abbrev pub EndsEmptied : Layout → PoolState → List ℕ → ℕ → PoolState → Type 0
+EndsEmptied l before [] run after = ⊥
+EndsEmptied l before (at ∷ ats) run after = (mid : PoolState) × AreFreed l before ats mid × IsEmptied l mid at (8 * l.size) run after
+
+-- the same, but that the first of the list is handed back
+abbrev pub EndsStrange : Layout → PoolState → List ℕ → PoolState → Type 0
+EndsStrange l before [] after = ⊥
+EndsStrange l before (at ∷ ats) after = (mid : PoolState) × AreFreed l before ats mid × IsStranger l mid at (8 * l.size) after
+
 -- what a call may reply, and what it does to the state. A reply of another call never comes
 abbrev pub IsLegal : Layout → PoolState → PoolCall → PoolReply → PoolState → Type 0
 IsLegal l before Alloc (Object at) after = IsAlloc l before at after
@@ -153,4 +183,8 @@ IsLegal l before (Add run) (Object at) after = IsAdd l before run at after
 IsLegal l before (Free at bytes) Kept after = IsFreed l before at bytes after
 IsLegal l before (Free at bytes) (Whole run) after = IsEmptied l before at bytes run after
 IsLegal l before (Free at bytes) Stranger after = IsStranger l before at bytes after
+IsLegal l before (AllocMany n) (Objects ats) after = IsAllocMany l before n ats after
+IsLegal l before (FreeMany ats) Kept after = AreFreed l before ats after
+IsLegal l before (FreeMany ats) (Whole run) after = EndsEmptied l before ats run after
+IsLegal l before (FreeMany ats) Stranger after = EndsStrange l before ats after
 IsLegal l before call reply after = ⊥

@@ -4,3 +4,4 @@ pub mod Shape
 pub mod Legal
 pub mod View
 pub mod PoolView
+pub mod Batch

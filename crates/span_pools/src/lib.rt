@@ -7,6 +7,7 @@
 
 #![tactic(auto)]
 
+mod batch;
 mod find;
 mod histories;
 mod layout;
