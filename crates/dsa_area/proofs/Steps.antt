@@ -1,7 +1,8 @@
 -- A call at the pages or at one pool is an event of the area; and events after events.
-use Rattle.std.proofs.Common.{◌≡◌, ◌≢◌, ℕ, ◌+◌, ◌-◌, ◌/◌, ◌%◌, ◌<◌, ◌⊎◌, ⊎_elim, inl, inr, Bool, true, false, IfOk, IfErr, Option, Some, None, is_some, IsSomeAnd, Result, Ok, Err, List, [], ◌∷◌, refl, sym, ap, ◌∙◌, subst, arith}
+use Rattle.std.proofs.Common.{◌≡◌, ◌≢◌, ℕ, ◌+◌, ◌-◌, ◌*◌, ◌/◌, ◌%◌, ◌<◌, ◌⊎◌, ⊎_elim, inl, inr, Bool, true, false, IfOk, IfErr, Option, Some, None, is_some, IsSomeAnd, Vec, Result, Ok, Err, List, [], ◌∷◌, refl, sym, ap, ◌∙◌, subst, arith}
 use mathlib.Core.Option.{some}
 use lib.ListN.{get_elem?}
+use Rattle.std.specs.Global.{Global}
 use Rattle.atomic_table.specs.Seated.{TableId}
 use Rattle.lock_book.specs.declared.view.Entry.{Entry}
 use Rattle.lock_book.specs.Told.{Adds}
@@ -16,6 +17,7 @@ use Rattle.free_pages.specs.Legal.{PagesCall, PagesReply, Give, Accepts, HandsBa
 use Rattle.span_pools.specs.Legal.{PoolCall, PoolReply, PoolState}
 use Rattle.span_pools.specs.declared.layout.Layout.{Layout}
 use Rattle.span_pools.specs.PoolView.{IsSuperblock}
+use Rattle.span_pools.specs.Batch.{AreChunks}
 use Rattle.span_pools.proofs.Offers.{object_bytes}
 use Rattle.dsa_area.specs.declared.area.Area.{Area}
 use Rattle.dsa_area.specs.declared.area.AreaPass.{AreaPass}
@@ -25,7 +27,12 @@ use Rattle.dsa_area.specs.declared.pages.PagesAnswer.TheVariants.{Granted, Refus
 use Rattle.dsa_area.specs.declared.pages.PagesAsk.TheVariants.{TakeRun, GiveRun}
 use Rattle.dsa_area.specs.Pages as pages
 use Rattle.dsa_area.specs.Pages.{PagesLegal}
+use Rattle.dsa_area.specs.Pools as pools
 use Rattle.dsa_area.specs.Pools.{PoolLegal, IsObject}
+use Rattle.dsa_area.specs.declared.pools.PoolAnswer.{PoolAnswer}
+use Rattle.dsa_area.specs.declared.pools.PoolAnswer.TheVariants.{Given, AllLive, Freed, Emptied, NotOurs, Filled, FreedMany, EmptiedMany, NotAllOurs}
+use Rattle.dsa_area.specs.declared.pools.PoolAsk.TheVariants.{AllocObject, FreeObject, AllocObjects, FreeObjects}
+use Rattle.span_pools.specs.declared.histories.PoolName.{PoolName}
 use Rattle.dsa_area.specs.Shown.{IsArea, number_of, pages_name, none_granted, pool_name, no_superblock, pages_legal, pool_legal, pages_seen, pages_mine, pool_seen, pool_mine}
 use Rattle.lock_book.specs.Told.{MakesAll}
 use Rattle.dsa_area.specs.Requests.{Events, PageEvents, IsHandedBack}
@@ -73,9 +80,74 @@ no_other_give n run (Refused x) f g h = f
 no_other_give n run Returned f g h = g refl
 no_other_give n run (Back x) f g h = h x refl
 
+-- an object is given, or none is free
+pub no_other_alloc : (n : PoolName) (answer : PoolAnswer) → pools.AnswerFits n AllocObject answer → ((x : Chunk) → answer ≡ Given x → ⊥) → (answer ≡ AllLive → ⊥) → ⊥
+no_other_alloc n (Given x) f g h = g x refl
+no_other_alloc n AllLive f g h = h refl
+no_other_alloc n Freed f g h = f
+no_other_alloc n (Emptied x) f g h = f
+no_other_alloc n (NotOurs x) f g h = f
+no_other_alloc n (Filled x) f g h = f
+no_other_alloc n (FreedMany x) f g h = f
+no_other_alloc n (EmptiedMany x y) f g h = f
+no_other_alloc n (NotAllOurs x y) f g h = f
+
+-- an object that was brought is taken, with its superblock or without, or is handed back
+pub no_other_free : (n : PoolName) (object : Chunk) (answer : PoolAnswer) → pools.AnswerFits n (FreeObject object) answer → (answer ≡ Freed → ⊥) → ((x : Run) → answer ≡ Emptied x → ⊥) → ((x : Chunk) → answer ≡ NotOurs x → ⊥) → ⊥
+no_other_free n object (Given x) f g h k = f
+no_other_free n object AllLive f g h k = f
+no_other_free n object Freed f g h k = g refl
+no_other_free n object (Emptied x) f g h k = h x refl
+no_other_free n object (NotOurs x) f g h k = k x refl
+no_other_free n object (Filled x) f g h k = f
+no_other_free n object (FreedMany x) f g h k = f
+no_other_free n object (EmptiedMany x y) f g h k = f
+no_other_free n object (NotAllOurs x y) f g h k = f
+
+-- a list that was to be filled comes back
+pub no_other_fill : (n : PoolName) (count : ℕ) (objects : Vec Chunk Global) (answer : PoolAnswer) → pools.AnswerFits n (AllocObjects count objects) answer → ((x : Vec Chunk Global) → answer ≡ Filled x → ⊥) → ⊥
+no_other_fill n count objects (Given x) f g = f
+no_other_fill n count objects AllLive f g = f
+no_other_fill n count objects Freed f g = f
+no_other_fill n count objects (Emptied x) f g = f
+no_other_fill n count objects (NotOurs x) f g = f
+no_other_fill n count objects (Filled x) f g = g x refl
+no_other_fill n count objects (FreedMany x) f g = f
+no_other_fill n count objects (EmptiedMany x y) f g = f
+no_other_fill n count objects (NotAllOurs x y) f g = f
+
+-- the rest of a list comes back in three ways
+pub no_other_return : (n : PoolName) (count : ℕ) (objects : Vec Chunk Global) (answer : PoolAnswer) → pools.AnswerFits n (FreeObjects count objects) answer → ((x : Vec Chunk Global) → answer ≡ FreedMany x → ⊥)
+    → ((x : Vec Chunk Global) (y : Run) → answer ≡ EmptiedMany x y → ⊥) → ((x : Vec Chunk Global) (y : Chunk) → answer ≡ NotAllOurs x y → ⊥) → ⊥
+no_other_return n count objects (Given x) f g h k = f
+no_other_return n count objects AllLive f g h k = f
+no_other_return n count objects Freed f g h k = f
+no_other_return n count objects (Emptied x) f g h k = f
+no_other_return n count objects (NotOurs x) f g h k = f
+no_other_return n count objects (Filled x) f g h k = f
+no_other_return n count objects (FreedMany x) f g h k = g x refl
+no_other_return n count objects (EmptiedMany x y) f g h k = h x y refl
+no_other_return n count objects (NotAllOurs x y) f g h k = k x y refl
+
 -- an object has the bytes of its class
 pub is_object : (region : TableId) (a : Area) (class : ℕ) (x : Chunk) → IsClass class → IsObject (pool_name region a class) x → (x.bytes ≡ class_size class) × (x.part.region ≡ region)
 is_object region a class x is o = (o.0 ∙ object_bytes class a.first a.count is, o.1)
+
+-- and so have many
+pub are_objects : (region : TableId) (a : Area) (class : ℕ) (xs : List Chunk) → IsClass class → AreChunks region (8 * (pool_name region a class).layout.size) xs → AreChunks region (class_size class) xs
+are_objects region a class xs is h = subst (λ (z : ℕ). AreChunks region z xs) (object_bytes class a.first a.count is) h
+
+-- a pool may be given chunks of its class's bytes
+pub may_come : (region : TableId) (a : Area) (class : ℕ) (xs : List Chunk) → IsClass class → AreChunks region (class_size class) xs → AreChunks region (8 * (pool_name region a class).layout.size) xs
+may_come region a class xs is h = subst (λ (z : ℕ). AreChunks region z xs) (sym (object_bytes class a.first a.count is)) h
+
+-- so the pool of the class may be asked to take them
+pub pool_asked : (region : TableId) (a : Area) (class at : ℕ) (xs : List Chunk) (o : PoolName × PoolState) → IsArea region a → IsClass class → at + 2 ≡ class → get_elem? (shelf.opens_of a.pools) at ≡ some o
+    → AreChunks region (class_size class) xs → (region ≡ o.0.region) × AreChunks o.0.region (8 * o.0.layout.size) xs
+pool_asked region a class at xs o k is here e h =
+    let there : some (pool_name region a class, no_superblock) ≡ some o = sym (pool_there region a class at k is here) ∙ e in
+    let same : ◌≡◌ {A = PoolName × PoolState} (pool_name region a class, no_superblock) o = cc in
+    subst (λ (z : PoolName × PoolState). (region ≡ z.0.region) × AreChunks z.0.region (8 * z.0.layout.size) xs) same (refl, may_come region a class xs is h)
 
 -- events at the pages after events at a pool
 pub pool_then_pages : (a : Area) (p m q : AreaPass) (class : ℕ) (es : List (PoolCall × PoolReply)) (fs : List (PagesCall × PagesReply)) → number_of m ≡ number_of p → IsClass class

@@ -15,7 +15,7 @@ use Rattle.free_pages.specs.Legal as pages
 use Rattle.free_pages.specs.Legal.{PagesState, PagesCall, PagesReply, Take, Give, Gets, Lacks, Accepts, HandsBack, IsNoRun}
 use Rattle.span_pools.specs.declared.layout.Layout.{Layout}
 use Rattle.span_pools.specs.Legal as pool
-use Rattle.span_pools.specs.Legal.{PoolState, PoolCall, PoolReply, Alloc, Add, Free, Object, Full, Kept, Whole, Stranger, IsSettled}
+use Rattle.span_pools.specs.Legal.{PoolState, PoolCall, PoolReply, Alloc, Add, Free, AllocMany, FreeMany, Object, Full, Kept, Whole, Stranger, Objects, AreAllocs, AreFreed, IsSettled}
 use Rattle.span_pools.specs.PoolView.{layout_of}
 use Rattle.dsa_area.specs.declared.area.Area.{Area}
 use Rattle.dsa_area.specs.declared.area.AreaPass.{AreaPass}
@@ -45,23 +45,48 @@ pages_step first n s (Give x k w) (Lacks y z) t h l = absurd l
 pages_step first n s (Give x k w) Accepts t h l = (l.pages ∙ h.0, subst (λ (z : ℕ). pages.AreApart z 0 t.granted) (l.pages ∙ h.0) l.apart)
 pages_step first n s (Give x k w) HandsBack t h l = subst (λ (z : PagesState). (z.pages ≡ n) × pages.AreApart n 0 z.granted) (sym l.same) h
 
+all_settled : (l : Layout) (s : PoolState) (ats : List ℕ) (t : PoolState) → IsSettled l s → AreAllocs l s ats t → IsSettled l t
+all_settled l s [] t h k = subst (IsSettled l) (sym k) h
+all_settled l s (x ∷ xs) t h k = all_settled l k.0 xs t k.1.settled k.2
+
+freed_settled : (l : Layout) (s : PoolState) (ats : List ℕ) (t : PoolState) → IsSettled l s → AreFreed l s ats t → IsSettled l t
+freed_settled l s [] t h k = subst (IsSettled l) (sym k) h
+freed_settled l s (x ∷ xs) t h k = k.2.settled
+
 -- a call at a pool leaves it settled
 pool_step : (l : Layout) (s : PoolState) (c : PoolCall) (r : PoolReply) (t : PoolState) → IsSettled l s → pool.IsLegal l s c r t → IsSettled l t
-pool_step l s Alloc (Object x) t h k = k.settled
+pool_step l s Alloc (Object z) t h k = k.settled
 pool_step l s Alloc Full t h k = subst (IsSettled l) (sym k.same) h
 pool_step l s Alloc Kept t h k = absurd k
-pool_step l s Alloc (Whole x) t h k = absurd k
+pool_step l s Alloc (Whole z) t h k = absurd k
 pool_step l s Alloc Stranger t h k = absurd k
-pool_step l s (Add x) (Object y) t h k = k.settled
+pool_step l s Alloc (Objects zs) t h k = absurd k
+pool_step l s (Add x) (Object z) t h k = k.settled
 pool_step l s (Add x) Full t h k = absurd k
 pool_step l s (Add x) Kept t h k = absurd k
-pool_step l s (Add x) (Whole y) t h k = absurd k
+pool_step l s (Add x) (Whole z) t h k = absurd k
 pool_step l s (Add x) Stranger t h k = absurd k
+pool_step l s (Add x) (Objects zs) t h k = absurd k
 pool_step l s (Free x y) (Object z) t h k = absurd k
 pool_step l s (Free x y) Full t h k = absurd k
 pool_step l s (Free x y) Kept t h k = k.settled
 pool_step l s (Free x y) (Whole z) t h k = k.settled
 pool_step l s (Free x y) Stranger t h k = subst (IsSettled l) (sym k.same) h
+pool_step l s (Free x y) (Objects zs) t h k = absurd k
+pool_step l s (AllocMany n) (Object z) t h k = absurd k
+pool_step l s (AllocMany n) Full t h k = absurd k
+pool_step l s (AllocMany n) Kept t h k = absurd k
+pool_step l s (AllocMany n) (Whole z) t h k = absurd k
+pool_step l s (AllocMany n) Stranger t h k = absurd k
+pool_step l s (AllocMany n) (Objects zs) t h k = all_settled l s zs t h k.each
+pool_step l s (FreeMany xs) (Object z) t h k = absurd k
+pool_step l s (FreeMany xs) Full t h k = absurd k
+pool_step l s (FreeMany xs) Kept t h k = freed_settled l s xs t h k
+pool_step l s (FreeMany []) (Whole z) t h k = absurd k
+pool_step l s (FreeMany (x ∷ xs)) (Whole z) t h k = k.2.settled
+pool_step l s (FreeMany []) Stranger t h k = absurd k
+pool_step l s (FreeMany (x ∷ xs)) Stranger t h k = subst (IsSettled l) (sym k.2.same) (freed_settled l s xs k.0 h k.1)
+pool_step l s (FreeMany xs) (Objects zs) t h k = absurd k
 
 none_settled : (l : Layout) → IsSettled l no_superblock
 none_settled l = record {

@@ -4,7 +4,7 @@ use Rattle.std.specs.Prelude.{◌≡◌, ◌≢◌, ℕ, ◌/◌, ◌%◌, ◌<�
 use Rattle.size_classes.specs.Classes.{IsClass, IsLeast, class_size, largest_size}
 use Rattle.free_pages.specs.Area.{superblock_pages}
 use Rattle.free_pages.specs.Legal.{PagesCall, PagesReply, Take, Give, Gets, Lacks, Accepts, HandsBack}
-use Rattle.span_pools.specs.Legal.{PoolCall, PoolReply, Alloc, Add, Free, Object, Full, Kept, Whole, Stranger}
+use Rattle.span_pools.specs.Legal.{PoolCall, PoolReply, Alloc, Add, Free, FreeMany, Object, Full, Kept, Whole, Stranger}
 use Rattle.dsa_area.specs.Sizes.{page_bytes, pages_for}
 use Rattle.lock_book.specs.Told.{MakesAll}
 use Rattle.dsa_area.specs.Shown.{number_of, none_granted, no_superblock, pages_legal, pool_legal, pages_seen, pages_mine, pool_seen, pool_mine}
@@ -66,3 +66,10 @@ module _ (a : Area) (p q : AreaPass) where
       ((class : ℕ) × IsClass class × (class_size class ≡ bytes) × PoolEvents class ((Free at bytes, Stranger) ∷ []))
       ⊎ (((largest_size < bytes) × (bytes % page_bytes ≡ 0) × PageEvents ((Give at (bytes / page_bytes) false, HandsBack) ∷ []))
       ⊎ (((class : ℕ) → IsClass class → class_size class ≢ bytes) × (largest_size < bytes → bytes % page_bytes ≢ 0) × PageEvents []))
+
+  -- Objects of a class come back in one turn at its pool: their superblocks stay; or one goes to the pages with the last
+  -- that came back, whatever they reply
+  abbrev pub AreTakenBack : ℕ → List ℕ → Type 0
+  AreTakenBack class ats =
+      PoolEvents class ((FreeMany ats, Kept) ∷ [])
+      ⊎ ((run : ℕ) × (reply : PagesReply) × Events class ((FreeMany ats, Whole run) ∷ []) ((Give run superblock_pages true, reply) ∷ []))

@@ -1,9 +1,11 @@
-//! The three calls that a request makes at a pool, each one event of `span_pools`.
+//! The calls that a request makes at a pool, each one event of `span_pools`.
 
-ghost use Rattle.std.specs.Prelude.{◌≡◌, ◌+◌, [], ◌∷◌, IfNone, IfSome, IfOk, IfErr};
+ghost use Rattle.std.specs.Prelude.{◌≡◌, ◌+◌, ◌≤◌, [], ◌∷◌, IfNone, IfSome, IfOk, IfErr, vec_capacity};
 ghost use Rattle.size_classes.specs.Classes.{IsClass, class_size, first_class};
-ghost use Rattle.span_pools.specs.Legal.{Alloc, Add, Free, Object, Full, Kept, Whole, Stranger};
+ghost use Rattle.span_pools.specs.Legal.{Alloc, Add, Free, AllocMany, FreeMany, Object, Full, Kept, Whole, Stranger, Objects};
 ghost use Rattle.span_pools.specs.PoolView.{IsSuperblock};
+ghost use Rattle.span_pools.specs.Batch.{AreChunks, gone, places};
+ghost use Rattle.dsa_area.specs.Pools.{IsRestOf};
 ghost use Rattle.dsa_area.specs.Shown.{Belongs, IsArea, number_of, pool_name};
 ghost use Rattle.dsa_area.specs.Requests.{PoolEvents};
 
@@ -115,6 +117,77 @@ pub(crate) fn free_object<R: Wait>(
         PoolAnswer::Freed => Ok(None),
         PoolAnswer::Emptied(run) => Ok(Some(run)),
         PoolAnswer::NotOurs(object) => Err(object),
+        _ => unreachable!(),
+    }
+}
+
+/// Up to as many free objects of a class as this, in an empty list. It waits for the pool's lock.
+pub(crate) fn alloc_objects<R: Wait>(
+    rt: &R,
+    area: &Area,
+    r: &Region,
+    pass: &mut AreaPass,
+    class: u8,
+    count: usize,
+    empty: Vec<Chunk>,
+) -> Vec<Chunk>
+    requires area { IsArea r.now area.now }
+    requires own { Belongs area.now pass.old }
+    requires class { IsClass class }
+    requires empty { empty.items ≡ [] }
+    requires room { count ≤ vec_capacity empty }
+    ensures own { Belongs area.now pass.new }
+    ensures caller { number_of pass.new ≡ number_of pass.old }
+    ensures given { PoolEvents area.now pass.old pass.new class ((AllocMany count, Objects (places result.items)) ∷ []) }
+    ensures chunks { AreChunks r.now (class_size class) result.items }
+    ensures capacity { vec_capacity result ≡ vec_capacity empty }
+{
+    match area.pools.call(
+        rt,
+        r,
+        &mut pass.pools,
+        place_of(class),
+        PoolAsk::AllocObjects(count, empty),
+    ) {
+        PoolAnswer::Filled(objects) => objects,
+        _ => unreachable!(),
+    }
+}
+
+/// Gives up to as many objects of a class as this back, from the end of a list on: the rest of it; and the superblock
+/// that goes out with the last of them, or the last of them again, with which it stopped. It waits for the pool's lock.
+pub(crate) fn free_objects<R: Wait>(
+    rt: &R,
+    area: &Area,
+    r: &Region,
+    pass: &mut AreaPass,
+    class: u8,
+    count: usize,
+    objects: Vec<Chunk>,
+) -> (Vec<Chunk>, Result<Option<Run>, Chunk>)
+    requires area { IsArea r.now area.now }
+    requires own { Belongs area.now pass.old }
+    requires class { IsClass class }
+    requires chunks { AreChunks r.now (class_size class) objects.items }
+    ensures own { Belongs area.now pass.new }
+    ensures caller { number_of pass.new ≡ number_of pass.old }
+    ensures rest { IsRestOf count objects result.0 }
+    ensures freed { IfOk result.1 (λ out. IfNone out (PoolEvents area.now pass.old pass.new class ((FreeMany (places (gone objects.items result.0.items)), Kept) ∷ []))) }
+    ensures emptied { IfOk result.1 (λ out. IfSome out (λ run. PoolEvents area.now pass.old pass.new class ((FreeMany (places (gone objects.items result.0.items)), Whole run.at) ∷ []))) }
+    ensures run { IfOk result.1 (λ out. IfSome out (λ run. IsSuperblock r.now (pool_name r.now area.now class).layout run.at run.pages run.words run.control)) }
+    ensures refused { IfErr result.1 (λ _. PoolEvents area.now pass.old pass.new class ((FreeMany (places (gone objects.items result.0.items)), Stranger) ∷ [])) }
+    ensures back { IfErr result.1 (λ back. (others : _) × (gone objects.items result.0.items ≡ back ∷ others)) }
+{
+    match area.pools.call(
+        rt,
+        r,
+        &mut pass.pools,
+        place_of(class),
+        PoolAsk::FreeObjects(count, objects),
+    ) {
+        PoolAnswer::FreedMany(rest) => (rest, Ok(None)),
+        PoolAnswer::EmptiedMany(rest, run) => (rest, Ok(Some(run))),
+        PoolAnswer::NotAllOurs(rest, object) => (rest, Err(object)),
         _ => unreachable!(),
     }
 }

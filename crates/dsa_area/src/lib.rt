@@ -7,7 +7,8 @@
 //! else.
 //!
 //! `pages` and `pools` are the locked values, `at_pages` and `at_pools` one event at each; `objects` and `whole` are
-//! the requests of the two kinds over these, and `requests` chooses between them. `open`, `meet` and `close` are how
+//! the requests of the two kinds over these, and `requests` chooses between them; `batches` are many objects in one turn
+//! at a pool. `open`, `meet` and `close` are how
 //! an area begins, how passes tell each other, and how it ends.
 
 #![tactic(auto)]
@@ -15,6 +16,7 @@
 mod area;
 mod at_pages;
 mod at_pools;
+mod batches;
 mod close;
 mod meet;
 mod objects;

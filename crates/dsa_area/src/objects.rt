@@ -74,7 +74,7 @@ fn grow_pool<R: Wait>(
 }
 
 /// A superblock goes to the pages; where they hand it back, it is dropped.
-fn give_superblock<R: Wait>(
+pub(crate) fn give_superblock<R: Wait>(
     rt: &R,
     area: &Area,
     r: &Region,

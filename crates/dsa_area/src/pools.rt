@@ -4,7 +4,7 @@
 //! and the object or the superblock that goes in or comes out is a token.
 
 ghost use Rattle.std.specs.Prelude.{◌≡◌};
-ghost use Rattle.dsa_area.specs.Pools.{name_of, call_of, reply_of, AskFits, AnswerFits, PoolLegal};
+ghost use Rattle.dsa_area.specs.Pools.{name_of, call_of, chosen_of, reply_of, AskFits, AnswerFits, PoolLegal};
 
 use lock_book::Kept;
 use region_words::{Chunk, Region, Run};
@@ -19,6 +19,10 @@ pub(crate) enum PoolAsk {
     AddRun(Run),
     /// An object comes back.
     FreeObject(Chunk),
+    /// As many objects as this, into an empty list.
+    AllocObjects(usize, Vec<Chunk>),
+    /// As many objects as this come back, from the end of a list on.
+    FreeObjects(usize, Vec<Chunk>),
 }
 
 /// What a locked pool answers.
@@ -34,6 +38,14 @@ pub(crate) enum PoolAnswer {
     Emptied(Run),
     /// The object is none of the pool's.
     NotOurs(Chunk),
+    /// The list of objects.
+    Filled(Vec<Chunk>),
+    /// The rest of the list; the objects of its end were taken back.
+    FreedMany(Vec<Chunk>),
+    /// The same, and the superblock of the last of them goes out.
+    EmptiedMany(Vec<Chunk>, Run),
+    /// The same, but that the last of them is none of the pool's.
+    NotAllOurs(Vec<Chunk>, Chunk),
 }
 
 /// The pool of one size class of an area.
@@ -65,6 +77,8 @@ impl Kept for LockedPool {
 
     ghost reply = { reply_of };
 
+    ghost chosen = { chosen_of };
+
     ghost env_fits = { λ n r. r ≡ n.region };
 
     ghost in_fits = { λ n _ ask. AskFits n ask };
@@ -86,6 +100,17 @@ impl Kept for LockedPool {
                 Ok(Some(run)) => PoolAnswer::Emptied(run),
                 Err(object) => PoolAnswer::NotOurs(object),
             },
+            PoolAsk::AllocObjects(count, mut objects) => {
+                pool.alloc_many(r, count, &mut objects);
+                PoolAnswer::Filled(objects)
+            }
+            PoolAsk::FreeObjects(count, mut objects) => {
+                match pool.free_many(r, count, &mut objects) {
+                    Ok(None) => PoolAnswer::FreedMany(objects),
+                    Ok(Some(run)) => PoolAnswer::EmptiedMany(objects, run),
+                    Err(object) => PoolAnswer::NotAllOurs(objects, object),
+                }
+            }
         }
     }
 }
