@@ -12,6 +12,7 @@ use std::alloc::{AllocError, Global};
 
 mod answers;
 mod lone;
+mod spares;
 mod two;
 mod walk;
 
