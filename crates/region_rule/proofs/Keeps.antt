@@ -1,8 +1,8 @@
 -- Each kind of step keeps a sound world sound.
 use Rattle.std.proofs.Common.{sym, subst}
 use Rattle.region_rule.specs.Sound.{World, Sound}
-use Rattle.region_rule.specs.Steps.{Event, Load, Store, Split, Join, Freeze, Share, LoadFrozen, EndShare, MakeRing, LoadRead, StoreData, StoreWritten, LoadWritten, LoadData, StoreRead, StoreSenderFlag, StoreReceiverFlag, LoadSenderFlag, LoadReceiverFlag, LoadWrittenLast, JoinEnds, LoadDone, EndDone, PartAgain, Happens}
-use Rattle.region_rule.proofs.Owners.{loads, stores, splits, joins, freezes, shares, loads_frozen, ends_share}
+use Rattle.region_rule.specs.Steps.{Event, Load, Store, Split, Join, Freeze, Share, LoadFrozen, EndShare, Gather, MakeRing, LoadRead, StoreData, StoreWritten, LoadWritten, LoadData, StoreRead, StoreSenderFlag, StoreReceiverFlag, LoadSenderFlag, LoadReceiverFlag, LoadWrittenLast, JoinEnds, LoadDone, EndDone, PartAgain, Happens}
+use Rattle.region_rule.proofs.Owners.{loads, stores, splits, joins, freezes, shares, loads_frozen, ends_share, gathers}
 use Rattle.region_rule.proofs.Rings.{loads_read, stores_data, stores_written, loads_written, loads_data, stores_read, stores_sender_flag, stores_receiver_flag, loads_sender_flag, loads_receiver_flag, loads_last}
 use Rattle.region_rule.proofs.Meets.{makes_ring, joins_ends, loads_done, ends_done, parts_again}
 
@@ -15,6 +15,7 @@ keeps (Freeze i k x) before after s h = subst Sound (sym h.4) (freezes before i 
 keeps (Share i) before after s h = subst Sound (sym h.2) (shares before i h.0 s h.1)
 keeps (LoadFrozen i k x) before after s h = subst Sound (sym h.3) (loads_frozen before i h.0 s h.1)
 keeps (EndShare i j) before after s h = subst Sound (sym h.4) (ends_share before i j h.0 s h.1 h.2 h.3)
+keeps (Gather i j) before after s h = subst Sound (sym h.5) (gathers before i j h.0 h.1 s h.2 h.3 h.4)
 keeps (MakeRing i r) before after s h = subst Sound (sym h.4) (makes_ring before i r h.0 h.1 s h.2 h.3)
 keeps (LoadRead i x) before after s h = subst Sound (sym h.7) (loads_read before i x h.2 h.0 h.1 s h.3 h.5 h.6)
 keeps (StoreData i x) before after s h = subst Sound (sym h.7) (stores_data before i x h.0 h.1 s h.2 h.4 h.5 h.6)

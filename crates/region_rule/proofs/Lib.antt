@@ -6,6 +6,9 @@ pub mod Rings
 pub mod Meets
 pub mod Keeps
 pub mod Runs
+pub mod Takers
+pub mod Moves
+pub mod Opens
 pub mod Allows
 pub mod OwnerSteps
 pub mod RingSteps

@@ -171,7 +171,7 @@ paired_again words s q g ends = record {
   told_receiver = record { ring = refl; published = le_refl s.published; room = le_refl s.room; gone = λ g. g };
 }
 
-covers : (s : Sending) (q : Receiving) → length s.cells ≡ s.ring.size → (k : ℕ) → InRing s.ring k → Has (ring_map s q) k
+pub covers : (s : Sending) (q : Receiving) → length s.cells ≡ s.ring.size → (k : ℕ) → InRing s.ring k → Has (ring_map s q) k
 covers s q l k p =
     let d = p.0 in
     let e = p.1 in
@@ -179,7 +179,7 @@ covers s q l k p =
     let y = has_at (ring_words s q) i (omega arith) in
     (y.0, numbered_at (ring_words s q) s.ring.base i y.0 k (omega arith) y.1)
 
-in_ring : (s : Sending) (q : Receiving) (k : ℕ) → length s.cells ≡ s.ring.size → Has (ring_map s q) k → InRing s.ring k
+pub in_ring : (s : Sending) (q : Receiving) (k : ℕ) → length s.cells ≡ s.ring.size → Has (ring_map s q) k → InRing s.ring k
 in_ring s q k l h =
     let p = numbered_from (ring_words s q) s.ring.base k h.0 h.1 in
     let b = in_list (ring_words s q) (k - s.ring.base) h.0 p.1 in

@@ -1,11 +1,13 @@
 -- The steps of an owner: load, store, split, join and freeze. And those of a token that shares frozen words.
-use Rattle.std.proofs.Common.{◌≡◌, ◌≢◌, ◌⊎◌, ℕ, zero, suc, ◌<◌, List, [], ◌∷◌, slice_set, Some, None, refl, sym, ap, subst, ◌∙◌, inl, inr, ⊎_elim, arith}
+use Rattle.std.proofs.Common.{Option, ◌≡◌, ◌≢◌, ◌⊎◌, ℕ, zero, suc, ◌<◌, List, [], ◌∷◌, slice_set, Some, None, refl, sym, ap, subst, ◌∙◌, inl, inr, ⊎_elim, arith}
 use mathlib.Core.Option.{some, some-injective, some-ne-none}
+use mathlib.Core.Logic.{dite}
+use native.Mathlib.Decide.{ℕ_discrete}
 use lib.ListN.{get_elem?}
 use Rattle.std.specs.FinMap as fin
 use Rattle.atomic_table.proofs.Lists.{at_set, set_here, set_else}
 use Rattle.word_map.specs.WordMap.{WordMap, at, range_of, rest_of, union, numbered, Has, Disjoint}
-use Rattle.word_map.proofs.Maps.{at-insert, range_inside, rest_inside, rest-range_disjoint, union_from, numbered_from}
+use Rattle.word_map.proofs.Maps.{at-insert, range_inside, rest_inside, rest-range_disjoint, at-union, or_else, union_from, numbered_from}
 use Rattle.ring_rule.proofs.Stored.{in_list}
 use Rattle.region_rule.specs.View.{View, Own, Frozen, Spent, Olds, role}
 use Rattle.region_rule.specs.Sound.{World, Sees, AreWords, Agrees, Honest, Beside, HasPartner, Sound}
@@ -111,6 +113,37 @@ shares w i m s here = arrive (seen_anew w i (Frozen m)) (Frozen m) (loads_frozen
 pub ends_share : (w : World) (i j : ℕ) (m : WordMap) → Sound w → Sees w i (Frozen m) → Sees w j (Frozen m) → j ≢ i
     → Sound (joined_anew w i (Frozen m) j)
 ends_share w i j m s here there apart = ends (seen_anew w i (Frozen m)) j (Frozen m) (loads_frozen w i m s here) (set_else w.views i j (Frozen m) apart ∙ there) refl
+
+-- the value of either
+union_value : (m n p : WordMap) (k : ℕ) → (Has m k → at m k ≡ at p k) → (Has n k → at n k ≡ at p k) → Has (union m n) k → at (union m n) k ≡ at p k
+union_value m n p k a b h = go (at n k) refl
+  where
+    go : (o : Option ℕ) → at n k ≡ o → at (union m n) k ≡ at p k
+    go (Some y) e = at-union m n k ∙ ap (λ (z : Option ℕ). or_else z (at m k)) e ∙ sym e ∙ b (y, e)
+    go None e =
+        let same : at (union m n) k ≡ at m k = at-union m n k ∙ ap (λ (z : Option ℕ). or_else z (at m k)) e in same ∙ a (h.0, sym same ∙ h.1)
+
+gathered_beside : (words : List ℕ) (m n : WordMap) (x : View) → Beside words (Frozen m) x → Beside words (Frozen n) x → Beside words (Frozen (union m n)) x × Beside words x (Frozen (union m n))
+gathered_beside words m n (Frozen p) a b = (λ k h g. union_value m n p k (λ t. a k t g) (λ t. b k t g) h, λ k g h. sym (union_value m n p k (λ t. a k t g) (λ t. b k t g) h))
+gathered_beside words m n x a b = (
+  λ k h g. ⊎_elim (λ (t : Has n k). absurd (b k t g)) (λ (t : Has m k). absurd (a k t g)) (has_union m n k h),
+  λ k g h. ⊎_elim (λ (t : Has n k). absurd (b k t g)) (λ (t : Has m k). absurd (a k t g)) (has_union m n k h),
+)
+
+-- two tokens of frozen words become one
+pub gathers : (w : World) (i j : ℕ) (m n : WordMap) → Sound w → Sees w i (Frozen m) → Sees w j (Frozen n) → j ≢ i → Sound (joined_anew w i (Frozen (union m n)) j)
+gathers w i j m n s here there apart =
+    let both : Sound (seen_anew w i (Frozen (union m n))) = turn_still w i (Frozen m) (Frozen (union m n)) s here refl
+    (agrees_union w.words m n (s.honest i (Frozen m) here) (s.honest j (Frozen n) there))
+    (λ k x ne at_k b. gathered_beside w.words m n x b (beside_other k x at_k)) in
+    ends (seen_anew w i (Frozen (union m n))) j (Frozen n) both (set_else w.views i j (Frozen (union m n)) apart ∙ there) refl
+  where
+    beside_other : (k : ℕ) (x : View) → Sees w k x → Beside w.words (Frozen n) x
+    beside_other k x at_k = dite (ℕ_discrete k j)
+        (λ (e : k ≡ j).
+        let same : Frozen n ≡ x = some-injective (Frozen n) x (sym there ∙ ap (get_elem? w.views) (sym e) ∙ at_k) in
+        subst (Beside w.words (Frozen n)) same (λ q h g. refl))
+        (λ (ne : k ≢ j). s.apart j k (Frozen n) x (λ e. ne (sym e)) there at_k)
 
 -- the world at the start is sound
 pub opens : (words : List ℕ) → AreWords words → Sound (opening words)

@@ -3,7 +3,7 @@ use Rattle.std.proofs.Common.{◌≡◌, ℕ, zero, suc, List, [], ◌∷◌, �
 use mathlib.Core.Option.{some-injective, some-ne-none}
 use Rattle.region_rule.specs.View.{View}
 use Rattle.region_rule.specs.Sound.{World, AreWords, Sound}
-use Rattle.region_rule.specs.Steps.{Event, Load, Store, Split, Join, Freeze, Share, LoadFrozen, EndShare, MakeRing, LoadRead, StoreData, StoreWritten, LoadWritten, LoadData, StoreRead, StoreSenderFlag, StoreReceiverFlag, LoadSenderFlag, LoadReceiverFlag, LoadWrittenLast, JoinEnds, LoadDone, EndDone, PartAgain, Happens, Run, opening, Reached}
+use Rattle.region_rule.specs.Steps.{Event, Load, Store, Split, Join, Freeze, Share, LoadFrozen, EndShare, Gather, MakeRing, LoadRead, StoreData, StoreWritten, LoadWritten, LoadData, StoreRead, StoreSenderFlag, StoreReceiverFlag, LoadSenderFlag, LoadReceiverFlag, LoadWrittenLast, JoinEnds, LoadDone, EndDone, PartAgain, Happens, Run, opening, Reached}
 use Rattle.region_rule.proofs.Keeps.{keeps}
 use Rattle.region_rule.proofs.Owners.{opens}
 
@@ -38,6 +38,7 @@ happens-length (Freeze i k x) before after h = ap (λ (w : World). length w.word
 happens-length (Share i) before after h = ap (λ (w : World). length w.words) h.2
 happens-length (LoadFrozen i k x) before after h = ap (λ (w : World). length w.words) h.3
 happens-length (EndShare i j) before after h = ap (λ (w : World). length w.words) h.4
+happens-length (Gather i j) before after h = ap (λ (w : World). length w.words) h.5
 happens-length (MakeRing i r) before after h = ap (λ (w : World). length w.words) h.4
 happens-length (LoadRead i x) before after h = ap (λ (w : World). length w.words) h.7
 happens-length (StoreData i x) before after h = ap (λ (w : World). length w.words) h.7 ∙ length-set {A = ℕ} before.words _ _
@@ -59,7 +60,7 @@ run-length : (events : List Event) (before after : World) → Run events before 
 run-length [] before after r = ap (λ (w : World). length w.words) (sym r)
 run-length (e ∷ es) before after r = run-length es r.0 after r.2 ∙ happens-length e before r.0 r.1
 
-zeros-length : (n : ℕ) → length {A = ℕ} (replicate n 0) ≡ n
+pub zeros-length : (n : ℕ) → length {A = ℕ} (replicate n 0) ≡ n
 zeros-length zero = refl
 zeros-length (suc n) = ap suc (zeros-length n)
 

@@ -4,3 +4,4 @@ pub mod Sound
 pub mod Steps
 pub mod Tells
 pub mod Effects
+pub mod Places

@@ -2,7 +2,6 @@
 use Rattle.std.specs.Prelude.{◌≡◌, ◌≢◌, ℕ, ◌+◌, ◌^◌, ◌<◌, false, List, [], ◌∷◌, ◌++◌, length, replicate, slice_set, Some, None}
 use mathlib.Core.Option.{some}
 use lib.ListN.{get_elem?}
-use Rattle.atomic_table.specs.Table.{State}
 use Rattle.std.specs.FinMap as fin
 use Rattle.word_map.specs.WordMap.{WordMap, Has, range_of, rest_of, union, numbered, values_from}
 use Rattle.ring_rule.specs.Frames.{IsFramed}
@@ -23,6 +22,7 @@ pub data Event : Type 0 where
   Share : (token : ℕ) → Event
   LoadFrozen : (token word found : ℕ) → Event
   EndShare : (token other : ℕ) → Event
+  Gather : (token other : ℕ) → Event
   MakeRing : (token : ℕ) (ring : Ring) → Event
   LoadRead : (token found : ℕ) → Event
   StoreData : (token value : ℕ) → Event
@@ -75,6 +75,7 @@ Happens (Freeze i k x) before after = (m : WordMap) × (olds : Olds) × Sees bef
 Happens (Share i) before after = (m : WordMap) × Sees before i (Frozen m) × (after ≡ cut_anew before i (Frozen m) (Frozen m))
 Happens (LoadFrozen i k x) before after = (m : WordMap) × Sees before i (Frozen m) × Finds before k x × (after ≡ seen_anew before i (Frozen m))
 Happens (EndShare i j) before after = (m : WordMap) × Sees before i (Frozen m) × Sees before j (Frozen m) × (j ≢ i) × (after ≡ joined_anew before i (Frozen m) j)
+Happens (Gather i j) before after = (m n : WordMap) × Sees before i (Frozen m) × Sees before j (Frozen n) × (j ≢ i) × (after ≡ joined_anew before i (Frozen (union m n)) j)
 Happens (MakeRing i r) before after =
     (m : WordMap) × (olds : Olds) × Sees before i (Own m olds) × IsFresh m r
     × (after ≡ cut_anew before i (Sender (first_sending r (values_from m (r.base + 3) r.size)) None) (Receiver (first_receiving r) None))
@@ -134,7 +135,3 @@ opening words = record { words = words; views = Own (numbered 0 words) None ∷ 
 -- some steps lead here from that many words, all 0, which one token owns
 abbrev pub Reached : ℕ → List ℕ → List View → Type 0
 Reached count words views = (events : List Event) × Run events (opening (replicate count 0)) record { words = words; views = views }
-
--- what the rule says of a table of that many words
-abbrev pub Ruled : ℕ → State (Unit {0}) View → Type 0
-Ruled count s = Reached count s.words s.views

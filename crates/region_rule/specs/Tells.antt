@@ -16,6 +16,11 @@ abbrev pub TellsLoad : View → ℕ → ℕ → View → Type 0
 TellsLoad (Own m olds) k n after = IfSome (at m k) (λ x. x ≡ n) × OldsApart olds × (after ≡ Own m None)
 TellsLoad u k n after = ⊥
 
+-- an owner that was joined to another learns that their maps had no word in common
+abbrev pub TellsApart : View → View → Type 0
+TellsApart (Own m olds) after = OldsApart olds × (after ≡ Own m None)
+TellsApart u after = ⊥
+
 -- an owner that stores n in word k has its map with n there
 abbrev pub TellsStore : View → ℕ → ℕ → View → Type 0
 TellsStore (Own m olds) k n after = after ≡ Own (fin.insert m k n) olds
@@ -45,6 +50,11 @@ TellsFreeze u after = ⊥
 abbrev pub TellsFrozen : View → ℕ → ℕ → View → Type 0
 TellsFrozen (Frozen m) k n after = IfSome (at m k) (λ x. x ≡ n) × (after ≡ Frozen m)
 TellsFrozen u k n after = ⊥
+
+-- a token of frozen words takes in another
+abbrev pub gathered_view : View → View → View
+gathered_view (Frozen m) (Frozen n) = Frozen (union m n)
+gathered_view u v = u
 
 -- an owner of just a ring becomes its sender
 abbrev pub sender_view : Ring → View → View
@@ -118,6 +128,11 @@ receiver_again u = u
 abbrev pub TellsDone : View → View → Type 0
 TellsDone (Done m s q) after = AreEnds s q × (after ≡ Done m s q)
 TellsDone u after = ⊥
+
+-- the joined ends find n in word k: the value of their map
+abbrev pub TellsCount : View → ℕ → ℕ → Type 0
+TellsCount (Done m s q) k n = IfSome (at m k) (λ x. x ≡ n)
+TellsCount u k n = ⊥
 
 -- the joined ends become the owner of the ring's words
 abbrev pub TellsEnd : View → View → Type 0

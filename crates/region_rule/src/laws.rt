@@ -12,7 +12,7 @@ ghost use Rattle.ring_rule.specs.Ends.{first_sending, first_receiving, looks_rea
 ghost use Rattle.region_rule.specs.RingMap.{ring_map, IsFresh};
 ghost use Rattle.region_rule.specs.View.{View, Own, Frozen, Sender, Receiver, Done, Olds};
 ghost use Rattle.region_rule.specs.Sound.{World, Sees, AreWords, OldsApart, Sound};
-ghost use Rattle.region_rule.specs.Steps.{Event, Load, Store, Split, Join, Freeze, Share, LoadFrozen, EndShare, MakeRing, LoadRead, StoreData, StoreWritten, LoadWritten, LoadData, StoreRead, StoreSenderFlag, StoreReceiverFlag, LoadSenderFlag, LoadReceiverFlag, LoadWrittenLast, JoinEnds, LoadDone, EndDone, PartAgain, Happens, Run, opening};
+ghost use Rattle.region_rule.specs.Steps.{Event, Load, Store, Split, Join, Freeze, Share, LoadFrozen, EndShare, Gather, MakeRing, LoadRead, StoreData, StoreWritten, LoadWritten, LoadData, StoreRead, StoreSenderFlag, StoreReceiverFlag, LoadSenderFlag, LoadReceiverFlag, LoadWrittenLast, JoinEnds, LoadDone, EndDone, PartAgain, Happens, Run, opening};
 ghost use Rattle.region_rule.specs.Effects.{Turns, Cuts, Joins, WordsStay, SenderTurns, ReceiverTurns, ReceivesFrom, SendsTo};
 
 /// Every list of events from an opening world leads to a sound world.
@@ -89,6 +89,12 @@ pub fn load_frozen_law()
 pub fn end_share_law()
     ensures { (before after : World) (i j : ℕ) → Sound before → Happens (EndShare i j) before after
         → (m : WordMap) × Joins before after i j (Frozen m) (Frozen m) (Frozen m) × WordsStay before after }
+{}
+
+/// Two tokens of frozen words become one of the words of both.
+pub fn gather_law()
+    ensures { (before after : World) (i j : ℕ) → Sound before → Happens (Gather i j) before after
+        → (m n : WordMap) × Joins before after i j (Frozen m) (Frozen n) (Frozen (union m n)) × WordsStay before after }
 {}
 
 /// An owner of just a ring, with both counts and the flag as at the start, becomes its two ends, which have done

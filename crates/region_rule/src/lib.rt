@@ -17,13 +17,15 @@ mod plays;
 mod rule;
 
 pub use laws::{
-    end_done_law, end_share_law, freeze_law, join_ends_law, join_law, load_data_law, load_done_law,
-    load_flag_law, load_frozen_law, load_last_law, load_law, load_read_law, load_written_law,
-    make_ring_law, opening_law, part_again_law, partner_law, share_law, sound_always, split_law,
-    step_law, store_data_law, store_flag_law, store_law, store_read_law, store_written_law,
+    end_done_law, end_share_law, freeze_law, gather_law, join_ends_law, join_law, load_data_law,
+    load_done_law, load_flag_law, load_frozen_law, load_last_law, load_law, load_read_law,
+    load_written_law, make_ring_law, opening_law, part_again_law, partner_law, share_law,
+    sound_always, split_law, step_law, store_data_law, store_flag_law, store_law, store_read_law,
+    store_written_law,
 };
 pub use plays::{
-    Cuts, Ends, Freezes, GivesBack, Glues, Leaves, Loads, LoadsDone, LoadsFlag, LoadsFrozen,
-    LooksRead, LooksWritten, Makes, Meeting, Publishes, Puts, Range, Shape, Shares, Stores, Takes,
+    Begins, Copies, Cuts, Ends, Freezes, Gathers, GivesBack, Glues, Learns, Leaves, Loads,
+    LoadsCount, LoadsDone, LoadsFlag, LoadsFrozen, LooksRead, LooksWritten, Makes, Meeting,
+    Publishes, Puts, Range, Shape, Shares, Stores, Takes, TakesOut,
 };
 pub use rule::{Known, RegionRule};

@@ -1,33 +1,36 @@
-//! The rule of a table that is a region: its words and views are those of a run.
+//! The rule of a table that is a region: its tokens' views are those of a run, and the words of the run lie in the table
+//! where the tokens look for them.
 
 ghost use Rattle.std.specs.Prelude.{List, replicate, None};
 ghost use Rattle.word_map.specs.WordMap.{numbered};
 ghost use Rattle.region_rule.specs.View.{View, Own};
-ghost use Rattle.region_rule.specs.Steps.{Ruled};
+ghost use Rattle.region_rule.specs.Places.{Token, idle, Ruled};
 
 use atomic_table::TableRule;
 use std::marker::Model;
 
-/// What a token knows. Contracts see it as a `View`. No value of it is made.
+/// What a seat of the table is. Contracts see it as a `Token`. No value of it is made.
 pub struct Known {
     nothing: (),
 }
 
 impl Model for Known {
-    ghost use Rattle.region_rule.specs.View.{View, Spent, view_code};
+    ghost use Rattle.region_rule.specs.View.{Spent};
+    ghost use Rattle.region_rule.specs.Places.{Token, idle, token_code};
 
-    ghost Value = { View };
+    ghost Value = { Token };
 
-    ghost coded = { view_code };
+    ghost coded = { token_code };
 
-    ghost view = { λ _. Spent };
+    ghost view = { λ _. idle Spent };
 }
 
-/// The words and the views are those of a run from words that are all 0. The key is their number.
+/// The views are those of a run from words that are all 0, and its words lie in as many slots and words of the table. The
+/// key is their number.
 pub struct RegionRule;
 
-impl TableRule<(), Known, usize> for RegionRule {
+impl TableRule<u64, Known, usize> for RegionRule {
     ghost holds = { λ count s. Ruled count s };
 
-    ghost first = { λ count. Own (numbered 0 (replicate count 0)) None };
+    ghost first = { λ count. idle (Own (numbered 0 (replicate count 0)) None) };
 }

@@ -36,7 +36,7 @@ looks_read_paired words s t q u n is p =
     }
 
 -- it stores a word
-next_cell : (s : Sending) → IsSendingEnd s → cell_of s.ring (length s.put) < s.ring.size
+pub next_cell : (s : Sending) → IsSendingEnd s → cell_of s.ring (length s.put) < s.ring.size
 next_cell s h = mod-lt (s.ring.start + length s.put) (some_cells s.ring h.ring)
 
 pub puts_own : (words : List ℕ) (s : Sending) (x : ℕ) → length s.put < s.room + s.ring.size → IsFramed s.ring.max (s.put ++ x ∷ []) → IsSending words s
@@ -64,7 +64,7 @@ puts_own words s x room framed h =
           (at_set s.cells c j x y e);
     }
 
-apart_cells : (s : Sending) (q : Receiving) (i : ℕ) → 0 < s.ring.size → length s.put < s.room + s.ring.size → s.room ≤ q.returned → q.returned ≤ i → i < length s.put
+pub apart_cells : (s : Sending) (q : Receiving) (i : ℕ) → 0 < s.ring.size → length s.put < s.room + s.ring.size → s.room ≤ q.returned → q.returned ≤ i → i < length s.put
     → cell_of s.ring i ≢ cell_of s.ring (length s.put)
 apart_cells s q i more room below from to e =
     let same : s.ring.start + i ≡ s.ring.start + length s.put = one_turn (s.ring.start + i) (s.ring.start + length s.put) s.ring.size (omega arith) (omega arith) e in
