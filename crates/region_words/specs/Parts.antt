@@ -6,6 +6,7 @@ use Rattle.atomic_table.specs.Seated.{TableId, table_id_coded}
 use Rattle.atomic_table.specs.Table.{Me}
 use Rattle.word_map.specs.WordMap.{WordMap, at, is_within, HasJust}
 use Rattle.region_rule.specs.View.{View, Own, Frozen, map_code}
+use Rattle.region_rule.specs.Places.{Token, idle}
 
 -- a region, and the words of it that a token has, with their values
 pub record Owned : Type 0 where
@@ -34,20 +35,20 @@ frozen_map u = fin.empty
 abbrev pub IsBelow : WordMap → ℕ → Type 0
 IsBelow m n = (k x : ℕ) → at m k ≡ Some x → k < n
 
--- a region has 1 to 2 ^ 26 words
+-- a region has 1 to 2 ^ 26 words, and a slot beside each
 abbrev pub IsSized : TableId → Type 0
-IsSized region = (0 < region.words) × (region.words ≤ 67108864)
+IsSized region = (0 < region.words) × (region.words ≤ 67108864) × (region.slots ≡ region.words)
 
 -- the token owns its words, and nothing is left of a join
-pub record IsPart (region : TableId) (me : Me (Unit {0}) View) : Type 0 where
-  pub owns : me ≡ (Own (own_map me.0) None, [])
-  pub below : IsBelow (own_map me.0) region.words
+pub record IsPart (region : TableId) (me : Me ℕ Token) : Type 0 where
+  pub owns : me ≡ (idle (Own (own_map me.0.view) None), [])
+  pub below : IsBelow (own_map me.0.view) region.words
   pub sized : IsSized region
 
 -- the token has frozen its words
-pub record IsFrozen (region : TableId) (me : Me (Unit {0}) View) : Type 0 where
-  pub shares : me ≡ (Frozen (frozen_map me.0), [])
-  pub below : IsBelow (frozen_map me.0) region.words
+pub record IsFrozen (region : TableId) (me : Me ℕ Token) : Type 0 where
+  pub shares : me ≡ (idle (Frozen (frozen_map me.0.view)), [])
+  pub below : IsBelow (frozen_map me.0.view) region.words
   pub sized : IsSized region
 
 -- that a map has just these words has one proof at most, so a ghost field can say it

@@ -1,18 +1,19 @@
 //! Frozen words: nobody changes them any more, so any number of tokens may share them.
 
 ghost use Rattle.std.specs.Prelude.{◌≡◌, ℕ, ◌<◌, ◌^◌, Some, IsSome};
-ghost use Rattle.word_map.specs.WordMap.{at as word_at};
+ghost use Rattle.word_map.specs.WordMap.{at as word_at, union};
+ghost use Rattle.region_words.specs.Parts.{owned};
 
 use crate::region::Region;
 use atomic_table::Seat;
-use region_rule::{Known, LoadsFrozen, Shares};
+use region_rule::{Gathers, Known, LoadsFrozen, Shares};
 use std::marker::Model;
 
 /// A token for words that no longer change. Contracts see its region and the map from its words' numbers to their
 /// values. It has no bytes.
 #[derive(Drop)]
 pub struct Frozen {
-    pub(crate) seat: Seat<(), Known>,
+    pub(crate) seat: Seat<u64, Known>,
 }
 
 impl Model for Frozen {
@@ -22,7 +23,7 @@ impl Model for Frozen {
 
     ghost coded = { owned_code };
 
-    ghost view = { λ p. owned p.seat.table_id (frozen_map p.seat.me.0) };
+    ghost view = { λ p. owned p.seat.table_id (frozen_map p.seat.me.0.view) };
 
     ghost invariant = { λ p. IsFrozen p.seat.table_id p.seat.me };
 }
@@ -58,6 +59,16 @@ impl Frozen {
     {
         let Frozen { seat } = other;
         r.join_as::<Shares>(&mut self.seat, seat);
+    }
+
+    /// This token has the words of both, which agree in those that both have.
+    pub fn gather(&mut self, r: &Region, other: Frozen)
+        requires here { self.old.region ≡ r.now }
+        requires other_here { other.region ≡ r.now }
+        ensures { self.new ≡ owned self.old.region (union self.old.words other.words) }
+    {
+        let Frozen { seat } = other;
+        r.join_as::<Gathers>(&mut self.seat, seat);
     }
 
     /// Tells that each word's number is below 2^26, so that places can be added up. It does nothing.

@@ -1,22 +1,29 @@
 //! The region: the table that holds the words, and the only way to its steps. Its words and tokens are always those of
 //! a run of the rule.
+//!
+//! The table has a slot and a word for each word of the region. A word that one token owns, and a cell of a ring, lies in
+//! its slot, which is plain memory: a token takes the slot out by a load of word 0, reads or writes it, and gives it back
+//! by another load. What several tokens read at once, frozen words and the counts and flags of rings, lies in the table's
+//! words.
 
-ghost use Rattle.std.specs.Prelude.{[], ◌≡◌, ℕ, ◌<◌, ◌≤◌, ◌^◌, cond, Option, Some, None, IfOk};
+ghost use Rattle.std.specs.Prelude.{[], ◌≡◌, ℕ, suc, ◌+◌, ◌<◌, ◌≤◌, ◌^◌, cond, Option, Some, None, IfOk, IsSome, replicate};
 ghost use mathlib.Core.Option.{none};
 ghost use Rattle.atomic_table.specs.Table.{step, Allows, Splits, Joins};
 ghost use Rattle.word_map.specs.WordMap.{at as word_at, is_within};
-ghost use Rattle.region_rule.specs.Steps.{Ruled};
+ghost use Rattle.region_rule.specs.View.{Own};
+ghost use Rattle.region_rule.specs.Places.{Ruled, MayTake, copying, out_of};
+ghost use Rattle.region_words.specs.Parts.{own_map};
 
 use crate::part::Part;
-use atomic_table::{Join, Play, Seat, Split, Table};
-use region_rule::{Known, RegionRule};
+use atomic_table::{Join, Play, Refused, Seat, Split, Table};
+use region_rule::{Copies, Known, Range, RegionRule, TakesOut};
 use std::alloc::{AllocError, Global};
-use std::marker::Model;
+use std::marker::{Brand, Model};
 
 /// A fixed array of words that all threads see. Contracts see which one it is, with the number of its words.
 #[derive(Drop)]
 pub struct Region {
-    table: Table<(), Known, usize, RegionRule, Global>,
+    table: Table<u64, Known, usize, RegionRule, Global>,
 }
 
 impl Model for Region {
@@ -33,23 +40,35 @@ impl Model for Region {
     ghost invariant = { λ r. IsSized r.table.shared.table_id × (r.table.shared.key ≡ r.table.shared.table_id.words) };
 }
 
+/// That many zeros.
+fn zeros(alloc: Global, count: usize) -> Result<Vec<u64>, AllocError>
+    ensures { IfOk result (λ v. v.items ≡ replicate count 0) }
+{
+    vec![in alloc; 0u64; count]
+}
+
 impl Region {
-    /// A region of that many words, all 0, and the part that owns all of them. The one allocation is of the words.
+    /// A region of that many words, all 0, and the part that owns all of them. It takes 16 bytes a word, and as many again
+    /// while it is made.
     pub fn new(alloc: Global, words: usize) -> Result<(Region, Part), AllocError>
         requires { (1 ≤ words) × (words ≤ 2 ^ 26) }
         ensures words { IfOk result (λ r. r.0.words ≡ words) }
         ensures region { IfOk result (λ r. r.1.region ≡ r.0) }
         ensures zeros { IfOk result (λ r. (k : ℕ) → word_at r.1.words k ≡ cond {A = Option ℕ} (is_within 0 words k) (Some 0) None) }
     {
-        let zeros = vec![in alloc; 0u64; words]?;
-        let (table, seat) = Table::of_words(alloc, zeros.as_slice(), &words)?;
+        let row = zeros(alloc, words)?;
+        let slots = zeros(alloc, words)?;
+        let (table, seat) = match Table::new(alloc, row.as_slice(), slots, &words) {
+            Ok(made) => made,
+            Err(Refused { slots: _ }) => return Err(AllocError),
+        };
         Ok((Region { table }, Part { seat }))
     }
 
-    /// A load by a token of any kind, for the crates that have kinds of their own, as the ends of a ring. The rule has
-    /// to allow the step.
+    /// A load of the table's word by a token of any kind, for the crates that have kinds of their own, as the ends of a
+    /// ring. The rule has to allow the step.
     #[inline]
-    pub fn load_as<M: Play<(), Known>>(&self, seat: &mut Seat<(), Known>, at: u64) -> u64
+    pub fn load_as<M: Play<u64, Known>>(&self, seat: &mut Seat<u64, Known>, at: u64) -> u64
         requires here { seat.old.table_id ≡ self.now }
         requires inside { at < self.now.words }
         requires allowed { Allows (Ruled self.now.words) self.now.slots seat.old.id seat.old.me at (λ n. n) (M.then (step self.now.slots at 0 0 none) seat.old.me) }
@@ -59,9 +78,9 @@ impl Region {
         self.table.shared.load::<M>(seat, at as usize)
     }
 
-    /// A store by a token of any kind.
+    /// A store in the table's word by a token of any kind.
     #[inline]
-    pub fn store_as<M: Play<(), Known>>(&self, seat: &mut Seat<(), Known>, at: u64, value: u64)
+    pub fn store_as<M: Play<u64, Known>>(&self, seat: &mut Seat<u64, Known>, at: u64, value: u64)
         requires here { seat.old.table_id ≡ self.now }
         requires inside { at < self.now.words }
         requires allowed { Allows (Ruled self.now.words) self.now.slots seat.old.id seat.old.me at (λ _. value) (λ _. M.then (step self.now.slots at value 0 none) seat.old.me value) }
@@ -71,9 +90,110 @@ impl Region {
         self.table.shared.store::<M>(seat, at as usize, value);
     }
 
+    /// The value of a word that lies in its slot, by a token of any kind: two loads of word 0, of which the second gives
+    /// the slot back as the step `M`, and a plain load between them. The token may take the slot, and has not copied
+    /// the word.
+    #[inline]
+    pub fn load_slot_as<M: Play<u64, Known>>(&self, seat: &mut Seat<u64, Known>, at: u64) -> u64
+        requires here { seat.old.table_id ≡ self.now }
+        requires inside { at < self.now.words }
+        requires rests { seat.old.me ≡ (copying seat.old.me.0.view seat.old.me.0.from seat.old.me.0.copied, []) }
+        requires may { MayTake seat.old.me.0.view at }
+        requires fresh { seat.old.me.0.from ≤ at → at < seat.old.me.0.from + seat.old.me.0.copied → ⊥ }
+        requires allowed { (x : ℕ) → Allows (Ruled self.now.words) self.now.slots seat.old.id (out_of seat.old.me.0 at x x) 0 (λ n. n) (M.then (step self.now.slots 0 0 0 none) (out_of seat.old.me.0 at x x)) }
+        ensures seat { (seat.new.table_id ≡ seat.old.table_id) × (seat.new.id ≡ seat.old.id) }
+        ensures told { (n : ℕ) × M.then (step self.now.slots 0 0 0 none) (out_of seat.old.me.0 at result result) n seat.new.me }
+    {
+        self.load_slot_at::<M, Brand>(seat, at)
+    }
+
+    /// The same for the slot that `J` names, since a step can't take it as an argument.
+    #[inline]
+    fn load_slot_at<M: Play<u64, Known>, J: Range>(
+        &self,
+        seat: &mut Seat<u64, Known>,
+        at: u64,
+    ) -> u64
+        requires here { seat.old.table_id ≡ self.now }
+        requires inside { at < self.now.words }
+        requires rests { seat.old.me ≡ (copying seat.old.me.0.view seat.old.me.0.from seat.old.me.0.copied, []) }
+        requires may { MayTake seat.old.me.0.view at }
+        requires fresh { seat.old.me.0.from ≤ at → at < seat.old.me.0.from + seat.old.me.0.copied → ⊥ }
+        requires allowed { (x : ℕ) → Allows (Ruled self.now.words) self.now.slots seat.old.id (out_of seat.old.me.0 at x x) 0 (λ n. n) (M.then (step self.now.slots 0 0 0 none) (out_of seat.old.me.0 at x x)) }
+        requires place { J.from ≡ at }
+        ensures seat { (seat.new.table_id ≡ seat.old.table_id) × (seat.new.id ≡ seat.old.id) }
+        ensures told { (n : ℕ) × M.then (step self.now.slots 0 0 0 none) (out_of seat.old.me.0 at result result) n seat.new.me }
+    {
+        self.table.shared.load::<TakesOut<J>>(seat, 0);
+        let value = *seat.slot_mut(&self.table.shared, at as usize);
+        self.table.shared.load::<M>(seat, 0);
+        value
+    }
+
+    /// Changes a word that lies in its slot, by a token of any kind: two loads of word 0, of which the second gives the
+    /// slot back as the step `M`, and a plain store between them.
+    #[inline]
+    pub fn store_slot_as<M: Play<u64, Known>>(
+        &self,
+        seat: &mut Seat<u64, Known>,
+        at: u64,
+        value: u64,
+    )
+        requires here { seat.old.table_id ≡ self.now }
+        requires inside { at < self.now.words }
+        requires rests { seat.old.me ≡ (copying seat.old.me.0.view seat.old.me.0.from seat.old.me.0.copied, []) }
+        requires may { MayTake seat.old.me.0.view at }
+        requires fresh { seat.old.me.0.from ≤ at → at < seat.old.me.0.from + seat.old.me.0.copied → ⊥ }
+        requires allowed { (x : ℕ) → Allows (Ruled self.now.words) self.now.slots seat.old.id (out_of seat.old.me.0 at x value) 0 (λ n. n) (M.then (step self.now.slots 0 0 0 none) (out_of seat.old.me.0 at x value)) }
+        ensures seat { (seat.new.table_id ≡ seat.old.table_id) × (seat.new.id ≡ seat.old.id) }
+        ensures told { (n : ℕ) × (x : ℕ) × M.then (step self.now.slots 0 0 0 none) (out_of seat.old.me.0 at x value) n seat.new.me }
+    {
+        self.store_slot_at::<M, Brand>(seat, at, value);
+    }
+
+    /// The same for the slot that `J` names.
+    #[inline]
+    fn store_slot_at<M: Play<u64, Known>, J: Range>(
+        &self,
+        seat: &mut Seat<u64, Known>,
+        at: u64,
+        value: u64,
+    )
+        requires here { seat.old.table_id ≡ self.now }
+        requires inside { at < self.now.words }
+        requires rests { seat.old.me ≡ (copying seat.old.me.0.view seat.old.me.0.from seat.old.me.0.copied, []) }
+        requires may { MayTake seat.old.me.0.view at }
+        requires fresh { seat.old.me.0.from ≤ at → at < seat.old.me.0.from + seat.old.me.0.copied → ⊥ }
+        requires allowed { (x : ℕ) → Allows (Ruled self.now.words) self.now.slots seat.old.id (out_of seat.old.me.0 at x value) 0 (λ n. n) (M.then (step self.now.slots 0 0 0 none) (out_of seat.old.me.0 at x value)) }
+        requires place { J.from ≡ at }
+        ensures seat { (seat.new.table_id ≡ seat.old.table_id) × (seat.new.id ≡ seat.old.id) }
+        ensures told { (n : ℕ) × (x : ℕ) × M.then (step self.now.slots 0 0 0 none) (out_of seat.old.me.0 at x value) n seat.new.me }
+    {
+        self.table.shared.load::<TakesOut<J>>(seat, 0);
+        self.table.shared.exchange(seat, at as usize, value);
+        self.table.shared.load::<M>(seat, 0);
+    }
+
+    /// Copies the next word of an owner from its slot to the table's word of its number. `J` names the slot.
+    #[inline]
+    pub(crate) fn copy_word_at<J: Range>(&self, seat: &mut Seat<u64, Known>, at: u64)
+        requires here { seat.old.table_id ≡ self.now }
+        requires inside { at < self.now.words }
+        requires owns { seat.old.me ≡ (copying (Own (own_map seat.old.me.0.view) None) seat.old.me.0.from seat.old.me.0.copied, []) }
+        requires has { IsSome (word_at (own_map seat.old.me.0.view) at) }
+        requires next { at ≡ seat.old.me.0.from + seat.old.me.0.copied }
+        requires place { J.from ≡ at }
+        ensures seat { (seat.new.table_id ≡ seat.old.table_id) × (seat.new.id ≡ seat.old.id) }
+        ensures copied { seat.new.me ≡ (copying seat.old.me.0.view seat.old.me.0.from (suc seat.old.me.0.copied), []) }
+    {
+        self.table.shared.load::<TakesOut<J>>(seat, 0);
+        let value = *seat.slot_mut(&self.table.shared, at as usize);
+        self.table.shared.store::<Copies>(seat, at as usize, value);
+    }
+
     /// Cuts a new token off one of any kind.
     #[inline]
-    pub fn split_as<M: Split<Known>>(&self, seat: &mut Seat<(), Known>) -> Seat<(), Known>
+    pub fn split_as<M: Split<Known>>(&self, seat: &mut Seat<u64, Known>) -> Seat<u64, Known>
         requires here { seat.old.table_id ≡ self.now }
         requires allowed { Splits (Ruled self.now.words) seat.old.id seat.old.me.0 (M.left seat.old.me.0) (M.right seat.old.me.0) }
         ensures seat { (seat.new.table_id ≡ seat.old.table_id) × (seat.new.id ≡ seat.old.id) }
@@ -85,7 +205,7 @@ impl Region {
 
     /// Joins a token of any kind to another.
     #[inline]
-    pub fn join_as<M: Join<Known>>(&self, seat: &mut Seat<(), Known>, other: Seat<(), Known>)
+    pub fn join_as<M: Join<Known>>(&self, seat: &mut Seat<u64, Known>, other: Seat<u64, Known>)
         requires here { seat.old.table_id ≡ self.now }
         requires other { (other.table_id ≡ self.now) × (other.me.1 ≡ []) }
         requires allowed { Joins (Ruled self.now.words) seat.old.id seat.old.me.0 other.id other.me.0 (M.both seat.old.me.0 other.me.0) M.spent }

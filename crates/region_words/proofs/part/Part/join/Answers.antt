@@ -15,4 +15,4 @@ pub invariant_of-self : goal.invariant_of-self
 invariant_of-self c =
     let same = same_table c.self.inside.seat.table_id _ _ _ c.self.view_is c.requires.here in
     let other = same_table c.other.inside.seat.table_id _ _ _ c.other.view_is c.requires.other_here in
-    (joined _ _ _ c.load_as.result _ _ _ _ c.self.invariant c.other.invariant (other ∙ sym same) (c.load_as.ensures.seat.0 ∙ c.join_as.ensures.seat.0) c.join_as.ensures.both c.load_as.ensures.told).0
+    (joined _ _ _ _ _ _ _ c.self.invariant c.other.invariant (other ∙ sym same) (c.load_as.ensures.seat.0 ∙ c.join_as.ensures.seat.0) c.join_as.ensures.both c.load_as.ensures.told).0
