@@ -1,10 +1,10 @@
 -- How far one count is behind another, from their words; and where in the region a ring's words are.
-use Rattle.std.proofs.Common.{◌≡◌, ℕ, ◌+◌, ◌-◌, ◌%◌, ◌^◌, ◌<◌, ◌≤◌, sym, ap, subst, ◌∙◌, arith, pow_mono}
+use Rattle.std.proofs.Common.{◌≡◌, ℕ, ◌+◌, ◌-◌, ◌%◌, ◌^◌, ◌<◌, ◌≤◌, sym, ap, subst, ◌∙◌, arith, pow_mono, mod-lt}
 use Rattle.std.proofs.lemmas.Nat.{and_mask}
 use Rattle.std.specs.Int.Bits.{bit_and}
 use Rattle.atomic_table.specs.Seated.{TableId}
-use Rattle.ring_rule.specs.Ring.{Ring, count_word, place_of}
-use Rattle.ring_rule.proofs.Counts.{cell_by_word}
+use Rattle.ring_rule.specs.Ring.{Ring, count_word, cell_of, place_of}
+use Rattle.ring_rule.proofs.Counts.{cell_by_word, some_cells}
 use Rattle.mq_ring.specs.Ends.{LiesIn}
 
 -- the count r of a word n is that far behind the count `put` of a word `position`
@@ -26,6 +26,14 @@ place_is t r base size max position n k lies e is =
     ap (λ (x : ℕ). position % x) lies.size_is ∙ ap (λ (x : ℕ). x % r.size) e ∙ cell_by_word r n lies.ring in
     let b = lies.base_is in
     omega arith
+
+-- a cell is a word of the region
+pub place_inside : (t z : TableId) (r : Ring) (base size max n : ℕ) → LiesIn t r base size max → t ≡ z → place_of r n < z.words
+place_inside t z r base size max n lies same =
+    let below : cell_of r n < r.size = mod-lt (r.start + n) (some_cells r lies.ring) in
+    let b = lies.base_is in
+    let c = lies.size_is in
+    in_region t z r base size max (place_of r n) lies same (omega arith)
 
 -- a ring has few cells
 pub power_few : (words e : ℕ) → words ≡ 2 ^ e → e ≤ 20 → words ≤ 2 ^ 20

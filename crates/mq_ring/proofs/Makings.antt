@@ -2,22 +2,23 @@
 use Rattle.std.proofs.Common.{◌≡◌, ℕ, zero, suc, ◌+◌, ◌-◌, ◌*◌, ◌/◌, ◌<◌, ◌≤◌, Bool, true, false, ◌||◌, cond, [], ◌∷◌, length, Option, Some, None, IsSome, is_some, unwrap_or, refl, sym, ap, subst, ◌∙◌, arith}
 use Rattle.std.proofs.lemmas.Bool.Decides.{nat_tests}
 use Rattle.std.specs.FinMap as fin
-use Rattle.atomic_table.specs.Table.{Me, Splits}
+use Rattle.atomic_table.specs.Table.{Splits}
 use Rattle.atomic_table.specs.Seated.{TableId}
 use Rattle.word_map.specs.WordMap.{WordMap, at, HasJust, is_within, range_of, rest_of, union, values_from}
 use Rattle.word_map.proofs.Maps.{at-insert_same, at-insert_other, at-range_in, at-rest_cond, at-union_cond, within_true, within_is, same_answers, just_has, insert-just, range-just, rest-just, numbered_from, numbered_at}
 use Rattle.ring_rule.specs.Ring.{Ring, IsRing, Sending, Receiving, ring_words}
 use Rattle.ring_rule.proofs.Stored.{in_list, has_at}
 use Rattle.region_rule.specs.RingMap.{IsFresh, ring_map}
-use Rattle.region_rule.specs.View.{View, Own}
-use Rattle.region_rule.specs.Steps.{Ruled}
+use Rattle.region_rule.specs.View.{Own}
+use Rattle.region_rule.specs.Places.{idle, copying, Ruled}
+use Rattle.region_words.proofs.Seats.{Mine}
 use Rattle.region_rule.specs.Tells.{sender_view, receiver_view}
 use Rattle.region_rule.proofs.RingSteps.{make_ring_allowed}
 use Rattle.region_words.specs.Parts.{Owned, owned, IsBelow}
 use Rattle.mq_ring.specs.Ends.{ring_of}
 
-pub make_allows : (count id : ℕ) (me : Me (Unit {0}) View) (m : WordMap) (r : Ring) → me ≡ (Own m None, []) → IsFresh m r → Splits (Ruled count) id me.0 (sender_view r me.0) (receiver_view r me.0)
-make_allows count id me m r e fresh = subst (λ (x : Me (Unit {0}) View). Splits (Ruled count) id x.0 (sender_view r x.0) (receiver_view r x.0)) (sym e) (make_ring_allowed count id r m None fresh)
+pub make_allows : (count id : ℕ) (me : Mine) (m : WordMap) (r : Ring) → me ≡ (copying (Own m None) r.base 3, []) → IsFresh m r → Splits (Ruled count) id me.0 (idle (sender_view r me.0.view)) (idle (receiver_view r me.0.view))
+make_allows count id me m r e fresh = subst (λ (x : Mine). Splits (Ruled count) id x.0 (idle (sender_view r x.0.view)) (idle (receiver_view r x.0.view))) (sym e) (make_ring_allowed count id r m None fresh)
 
 -- THE WORDS OF A NEW RING: the first of a chunk, with both counts and the flag stored
 abbrev pub fresh_map : WordMap → ℕ → ℕ → ℕ → WordMap

@@ -8,6 +8,7 @@ use Rattle.ring_rule.specs.Ring.{Ring, IsRing, Sending, Receiving, AreEnds, coun
 use Rattle.ring_rule.specs.Ends.{first_sending, first_receiving}
 use Rattle.ring_rule.specs.Codes.{sending_code, receiving_code}
 use Rattle.region_rule.specs.View.{View, Sender, Receiver, Done, map_code}
+use Rattle.region_rule.specs.Places.{Token, IsIdle}
 use Rattle.region_rule.specs.RingMap.{ring_map}
 use Rattle.region_words.specs.Parts.{IsSized}
 
@@ -102,23 +103,23 @@ pub record LiesIn (region : TableId) (r : Ring) (base size max : ℕ) : Type 0 w
   pub sized : IsSized region
 
 -- what the numbers of a sender's end are: its position is the word of the count of what it has put
-pub record IsSender (region rest : TableId) (me : Me (Unit {0}) View) (base size max position : ℕ) : Type 0 where
-  pub sends : me ≡ (Sender (tx_of me.0) (tx_told me.0), [])
-  pub lies : LiesIn region (tx_of me.0).ring base size max
-  pub position_is : position ≡ count_word (tx_of me.0).ring (length (tx_of me.0).put)
+pub record IsSender (region rest : TableId) (me : Me ℕ Token) (base size max position : ℕ) : Type 0 where
+  pub sends : IsIdle me (Sender (tx_of me.0.view) (tx_told me.0.view))
+  pub lies : LiesIn region (tx_of me.0.view).ring base size max
+  pub position_is : position ≡ count_word (tx_of me.0.view).ring (length (tx_of me.0.view).put)
   pub rest_here : rest ≡ region
 
 -- likewise of a receiver's end, with what it has taken
-pub record IsReceiver (region : TableId) (me : Me (Unit {0}) View) (base size max position : ℕ) : Type 0 where
-  pub receives : me ≡ (Receiver (rx_of me.0) (rx_told me.0), [])
-  pub lies : LiesIn region (rx_of me.0).ring base size max
-  pub position_is : position ≡ count_word (rx_of me.0).ring (length (rx_of me.0).taken)
-  pub returned : (rx_of me.0).returned ≤ length (rx_of me.0).taken
-  pub taken : length (rx_of me.0).taken ≤ (rx_of me.0).avail
+pub record IsReceiver (region : TableId) (me : Me ℕ Token) (base size max position : ℕ) : Type 0 where
+  pub receives : IsIdle me (Receiver (rx_of me.0.view) (rx_told me.0.view))
+  pub lies : LiesIn region (rx_of me.0.view).ring base size max
+  pub position_is : position ≡ count_word (rx_of me.0.view).ring (length (rx_of me.0.view).taken)
+  pub returned : (rx_of me.0.view).returned ≤ length (rx_of me.0.view).taken
+  pub taken : length (rx_of me.0.view).taken ≤ (rx_of me.0.view).avail
 
 -- the token of the ends that came home
-pub record IsHome (region rest : TableId) (me : Me (Unit {0}) View) (base size max : ℕ) : Type 0 where
-  pub done : me ≡ (Done (ring_map (tx_of me.0) (rx_of me.0)) (tx_of me.0) (rx_of me.0), [])
-  pub ends : AreEnds (tx_of me.0) (rx_of me.0)
-  pub lies : LiesIn region (tx_of me.0).ring base size max
+pub record IsHome (region rest : TableId) (me : Me ℕ Token) (base size max : ℕ) : Type 0 where
+  pub done : IsIdle me (Done (ring_map (tx_of me.0.view) (rx_of me.0.view)) (tx_of me.0.view) (rx_of me.0.view))
+  pub ends : AreEnds (tx_of me.0.view) (rx_of me.0.view)
+  pub lies : LiesIn region (tx_of me.0.view).ring base size max
   pub rest_here : rest ≡ region

@@ -5,6 +5,7 @@ ghost use Rattle.word_map.specs.WordMap.{rest_of, values_from};
 ghost use Rattle.ring_rule.specs.Ends.{first_sending, first_receiving};
 ghost use Rattle.region_rule.specs.RingMap.{IsFresh};
 ghost use Rattle.region_rule.specs.View.{Own};
+ghost use Rattle.region_rule.specs.Places.{copying};
 ghost use Rattle.region_words.specs.Parts.{own_map};
 ghost use Rattle.mq_ring.specs.Ends.{sending_end, receiving_end, ring_of, LiesIn};
 
@@ -64,25 +65,26 @@ impl Ring {
             bytes,
             rest,
         };
-        part_ends::<Brand>(r, part.into_seat(), spare, site, from)
+        let seat = part.into_copied_seat(r, base, 3);
+        part_ends::<Brand>(r, seat, spare, site, from)
     }
 }
 
-/// The owner of a fresh ring becomes its two ends. `J` names the ring, since a cut can't take it as an argument.
+/// The owner of a fresh ring, which has copied the counts and the flag, becomes its two ends. `J` names the ring, since a cut can't take it as an argument.
 fn part_ends<J: Shape>(
     r: &Region,
-    mut seat: Seat<(), Known>,
-    spare: Seat<(), Known>,
+    mut seat: Seat<u64, Known>,
+    spare: Seat<u64, Known>,
     site: Site,
     from: u64,
 ) -> (RingTx, RingRx)
     requires here { seat.table_id ≡ r.now }
     requires rest { site.rest.region ≡ r.now }
     requires ring { J.ring ≡ ring_of site.base site.size from site.max }
-    requires owns { seat.me ≡ (Own (own_map seat.me.0) None, []) }
-    requires fresh { IsFresh (own_map seat.me.0) J.ring }
+    requires owns { seat.me ≡ (copying (Own (own_map seat.me.0.view) None) J.ring.base 3, []) }
+    requires fresh { IsFresh (own_map seat.me.0.view) J.ring }
     requires lies { LiesIn r.now J.ring site.base site.size site.max }
-    ensures tx { result.0 ≡ sending_end r.now (first_sending J.ring (values_from (own_map seat.me.0) (J.ring.base + 3) J.ring.size)) None site.rest.words site.bytes }
+    ensures tx { result.0 ≡ sending_end r.now (first_sending J.ring (values_from (own_map seat.me.0.view) (J.ring.base + 3) J.ring.size)) None site.rest.words site.bytes }
     ensures rx { result.1 ≡ receiving_end r.now (first_receiving J.ring) None }
 {
     let _ = from;

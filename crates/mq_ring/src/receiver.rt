@@ -15,7 +15,7 @@ use std::marker::Model;
 /// meeting (`told`).
 #[derive(Drop)]
 pub struct RingRx {
-    pub(crate) seat: Seat<(), Known>,
+    pub(crate) seat: Seat<u64, Known>,
     /// The word of the written count, the first of the ring.
     pub(crate) base: u64,
     /// How many cells the ring has, a power of two.
@@ -33,7 +33,7 @@ impl Model for RingRx {
 
     ghost coded = { receiving_end_code };
 
-    ghost view = { λ e. receiving_end e.seat.table_id (rx_of e.seat.me.0) (rx_told e.seat.me.0) };
+    ghost view = { λ e. receiving_end e.seat.table_id (rx_of e.seat.me.0.view) (rx_told e.seat.me.0.view) };
 
     ghost invariant = { λ e. IsReceiver e.seat.table_id e.seat.me e.base e.size e.max e.position };
 }
@@ -78,7 +78,7 @@ impl RingRx {
         ensures framed { IsFramed self.old.end.ring.max self.new.end.taken }
     {
         let place = place_at(self.base, self.size, self.position);
-        let word = r.load_as::<Takes>(&mut self.seat, place);
+        let word = r.load_slot_as::<Takes>(&mut self.seat, place);
         self.position = self.position.wrapping_add(1);
         word
     }

@@ -16,9 +16,9 @@ use std::marker::Model;
 /// meeting (`told`), and what it keeps of the chunk (`rest`, `bytes`).
 #[derive(Drop)]
 pub struct RingTx {
-    pub(crate) seat: Seat<(), Known>,
+    pub(crate) seat: Seat<u64, Known>,
     /// A token of no words, which stands in the place of the receiver's while the ends are joined.
-    pub(crate) spare: Option<Seat<(), Known>>,
+    pub(crate) spare: Option<Seat<u64, Known>>,
     pub(crate) site: Site,
     /// The word of the count of what was put.
     pub(crate) position: u64,
@@ -32,7 +32,7 @@ impl Model for RingTx {
 
     ghost coded = { sending_end_code };
 
-    ghost view = { λ e. sending_end e.seat.table_id (tx_of e.seat.me.0) (tx_told e.seat.me.0) e.site.rest.words e.site.bytes };
+    ghost view = { λ e. sending_end e.seat.table_id (tx_of e.seat.me.0.view) (tx_told e.seat.me.0.view) e.site.rest.words e.site.bytes };
 
     ghost invariant = { λ e. IsSender e.seat.table_id e.site.rest.region e.seat.me e.site.base e.site.size e.site.max e.position × IsSome e.spare };
 }
@@ -52,7 +52,7 @@ impl RingTx {
         self.site.max
     }
 
-    /// Stores one word in the ring. The receiver may take it once it is published.
+    /// Stores one word in the ring, by a plain store. The receiver may take it once it is published.
     pub fn put(&mut self, r: &Region, word: u64)
         requires here { self.old.region ≡ r.now }
         requires stays { self.old.end.gone ≡ false }
@@ -61,7 +61,7 @@ impl RingTx {
         ensures { self.new ≡ record self.old { end = puts self.old.end word } }
     {
         let place = place_at(self.site.base, self.site.size, self.position);
-        r.store_as::<Puts>(&mut self.seat, place, word);
+        r.store_slot_as::<Puts>(&mut self.seat, place, word);
         self.position = self.position.wrapping_add(1);
     }
 

@@ -1,12 +1,11 @@
 use Rattle.std.proofs.Common.{◌≡◌, ℕ, ◌+◌, ◌/◌, ◌≤◌, None, refl, ap, sym, subst, ◌∙◌, arith}
-use Rattle.atomic_table.specs.Table.{Me}
 use Rattle.atomic_table.specs.Seated.{TableId}
 use Rattle.word_map.specs.WordMap.{WordMap, HasJust, rest_of, values_from}
 use Rattle.word_map.proofs.Maps.{just_has}
 use Rattle.ring_rule.specs.Ring.{IsRing}
 use Rattle.ring_rule.specs.Ends.{first_sending}
 use Rattle.region_rule.specs.RingMap.{IsFresh}
-use Rattle.region_rule.specs.View.{View}
+use Rattle.region_words.proofs.Seats.{Mine}
 use Rattle.region_words.specs.Parts.{Owned, own_map, IsSized}
 use Rattle.region_words.proofs.Chunks.{just_after}
 use Rattle.mq_ring.specs.Ends.{sending_end, ring_of}
@@ -52,6 +51,17 @@ store-requires-3-clause-owns c =
     let j2 = just_after c.store-2.new.self c.store.new.self (b + 1) c.args.from b (c.args.words + 3) j1 (just_has _ b (c.args.words + 3) (b + 1) j1 (omega arith) (omega arith)) c.store-2.ensures in
     just_has _ b (c.args.words + 3) (b + 2) j2 (omega arith) (omega arith)
 
+pub into_copied_seat-seat-requires-clause-owns : goal.into_copied_seat-seat-requires-clause-owns
+into_copied_seat-seat-requires-clause-owns c = λ k low high.
+    let b = c.word-base.result in
+    let m = c.args.chunk.part.words in
+    let w = c.args.words in
+    let few : c.args.words + 3 ≤ c.args.chunk.bytes / 8 = let r = c.requires.room in omega arith in
+    let j = first_row m c.args.chunk.at (c.args.chunk.bytes / 8) b w c.args.chunk.just c.word-base.ensures few in
+    let part = three_stores c.split-part.result c.store.new.self c.store-2.new.self c.store-3.new.self _ m b w c.args.from c.split-part.ensures.range c.store.ensures c.store-2.ensures c.store-3.ensures in
+    let just : HasJust c.store-3.new.self.words b (w + 3) = subst (λ (n : WordMap). HasJust n b (w + 3)) (sym (ap (λ (o : Owned). o.words) part)) (fresh_just m b w c.args.from j) in
+    just_has c.store-3.new.self.words b (w + 3) k just low (omega arith)
+
 pub invariant_of-site : goal.invariant_of-site
 invariant_of-site c =
     let few : c.args.words + 3 ≤ c.args.chunk.bytes / 8 = let r = c.requires.room in omega arith in
@@ -73,7 +83,7 @@ part_ends-requires-clause-fresh c =
     let words : c.store-3.new.self.words ≡ fresh_map m b w c.args.from =
     ap (λ (o : Owned). o.words) (three_stores c.split-part.result c.store.new.self c.store-2.new.self c.store-3.new.self _ m b w c.args.from c.split-part.ensures.range c.store.ensures c.store-2.ensures c.store-3.ensures) in
     let ring : IsRing (ring_of b w c.args.from c.args.max) = record { power = c.requires.power; start = omega (arith, c.ranges.from); max = c.requires.max } in
-    subst (λ (n : WordMap). IsFresh n (ring_of b w c.args.from c.args.max)) (sym (ap (λ (x : Me (Unit {0}) View). own_map x.0) c.into_seat.ensures.owns ∙ words)) (fresh_ring m b w c.args.from c.args.max j ring)
+    subst (λ (n : WordMap). IsFresh n (ring_of b w c.args.from c.args.max)) (sym (ap (λ (x : Mine). own_map x.0.view) c.into_copied_seat-seat.ensures.copied ∙ words)) (fresh_ring m b w c.args.from c.args.max j ring)
 
 pub part_ends-requires-clause-lies : goal.part_ends-requires-clause-lies
 part_ends-requires-clause-lies c =
@@ -85,14 +95,14 @@ part_ends-requires-clause-lies c =
     let part = three_stores c.split-part.result c.store.new.self c.store-2.new.self c.store-3.new.self _ m b w c.args.from c.split-part.ensures.range c.store.ensures c.store-2.ensures c.store-3.ensures in
     let here : c.store-3.new.self.region ≡ c.args.r.now = ap (λ (o : Owned). o.region) part ∙ c.requires.here in
     let just : HasJust c.store-3.new.self.words b (w + 3) = subst (λ (n : WordMap). HasJust n b (w + 3)) (sym (ap (λ (o : Owned). o.words) part)) (fresh_just m b w c.args.from j) in
-    let inside = inside_of c.store-3.new.self.words b w c.store-3.new.self.region.words just c.into_seat.ensures.below in
+    let inside = inside_of c.store-3.new.self.words b w c.store-3.new.self.region.words just c.into_copied_seat-seat.ensures.below in
     record {
       ring = record { power = c.requires.power; start = omega (arith, c.ranges.from); max = c.requires.max };
       base_is = refl;
       size_is = refl;
       max_is = refl;
       inside = subst (λ (t : TableId). b + 3 + w ≤ t.words) here inside;
-      sized = subst IsSized here c.into_seat.ensures.sized;
+      sized = subst IsSized here c.into_copied_seat-seat.ensures.sized;
     }
 
 pub returns-clause-tx : goal.returns-clause-tx
@@ -103,8 +113,8 @@ returns-clause-tx c =
     let e = c.word-base.ensures in
     let words : c.store-3.new.self.words ≡ fresh_map m b w c.args.from =
     ap (λ (o : Owned). o.words) (three_stores c.split-part.result c.store.new.self c.store-2.new.self c.store-3.new.self _ m b w c.args.from c.split-part.ensures.range c.store.ensures c.store-2.ensures c.store-3.ensures) in
-    let map = ap (λ (x : Me (Unit {0}) View). own_map x.0) c.into_seat.ensures.owns ∙ words in
-    let cells : values_from (own_map c.into_seat.result.me.0) (b + 3) w ≡ values_from m (b + 3) w =
+    let map = ap (λ (x : Mine). own_map x.0.view) c.into_copied_seat-seat.ensures.copied ∙ words in
+    let cells : values_from (own_map c.into_copied_seat-seat.result.me.0.view) (b + 3) w ≡ values_from m (b + 3) w =
     ap (λ (n : WordMap). values_from n (b + 3) w) map ∙ cells_kept m b w c.args.from (b + 3) w (omega arith) (omega arith) in
     let rest : c.split.new.self.words ≡ rest_of m b (w + 3) = ap (λ (o : Owned). o.words) c.split.ensures.rest ∙ rest_nothing c.split-part.new.self.words b ∙ ap (λ (o : Owned). o.words) c.split-part.ensures.rest in
     c.part_ends.ensures.tx ∙ (λ i. sending_end c.args.r.now (first_sending (ring_of b w c.args.from c.args.max) (cells i)) None (rest i) c.args.chunk.bytes)

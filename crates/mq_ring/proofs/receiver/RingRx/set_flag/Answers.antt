@@ -2,4 +2,4 @@ use Rattle.mq_ring.proofs.ReceiverSteps.{leave_allows}
 use Rattle.mq_ring.proofs.receiver.RingRx.set_flag.Goals as goal
 
 pub store_as-requires-clause-allowed : goal.store_as-requires-clause-allowed
-store_as-requires-clause-allowed c = leave_allows c.self.inside.seat.table_id _ _ c.self.inside.seat.id c.self.inside.seat.me _ _ _ _ _ c.self.invariant c.self.view_is c.requires.stays
+store_as-requires-clause-allowed c = leave_allows c.self.inside.seat.table_id _ c.self.inside.seat.id c.self.inside.seat.me _ _ _ _ _ c.self.invariant c.self.view_is c.requires.here c.requires.stays
