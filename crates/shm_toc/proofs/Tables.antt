@@ -1,15 +1,17 @@
 -- What stores do to the table that stands in words.
 use Rattle.std.proofs.Common.{◌≡◌, ◌≢◌, ℕ, suc, ◌+◌, ◌-◌, ◌*◌, ◌/◌, ◌%◌, ◌<◌, ◌≤◌, ◌==◌, Bool, true, false, cond, [], ◌∷◌, ◌++◌, Option, Some, None, IsSome, is_some, unwrap_or, refl, sym, ap, subst, ◌∙◌, arith, length-append}
+use Rattle.std.proofs.lemmas.Bool.{false_from_ne_true, eqb-true}
+use Rattle.std.proofs.lemmas.Bool.Decides.{nat_tests}
 use Rattle.word_map.specs.WordMap.{WordMap, at}
 use Rattle.shm_toc.specs.Table.{Table, rounded, free_bytes_of, front_of, place_of, word_of, entries_from, table_of, HasRoomFor, IsTable}
 use Rattle.shm_toc.specs.Requests.{empty_table, with_chunk, with_entry}
 use Rattle.shm_toc.specs.Held.{IsHeld}
 use Rattle.word_map.specs.WordMap.{is_within, rest_of, union, Disjoint}
-use Rattle.word_map.proofs.Maps.{at-rest_cond, within_true, within_is}
+use Rattle.word_map.proofs.Maps.{at-rest_cond, within_true, within_is, just_has}
 use Rattle.word_map.proofs.Uses.{union-left}
 use Rattle.word_map.specs.WordMap.{HasJust}
 use Rattle.region_words.specs.Parts.{Owned, owned}
-use Rattle.shm_toc.proofs.Stores.{other, this, IsStored, stored_at, stored_has}
+use Rattle.shm_toc.proofs.Stores.{other, this, IsStored, stored_at, stored_has, stored_just}
 use Rattle.shm_toc.proofs.Entries.{length-entries, word_same, entries_same, entries_more, differ_more}
 
 -- what the numbers of a table are
@@ -83,6 +85,23 @@ puts_has m v count key place k p has = ap is_some (p k) ∙ three (k == 3) (k ==
     three false false true o h = refl
     three false false false o h = h
 
+-- the words that are there are as before
+pub puts_keys : (m v : WordMap) (total taken count key place : ℕ) → IsHeld m total taken count → Puts m v count key place → 32 + 16 * (count + 1) + taken ≤ total → (k : ℕ) → is_some (at v k) ≡ is_some (at m k)
+puts_keys m v total taken count key place h p room k = ap is_some (p k) ∙ stored (k == 3) refl (k == 5 + 2 * count) refl (k == 4 + 2 * count) refl
+  where
+    here : (q : ℕ) → (k == q) ≡ true → q < 6 + 2 * count → true ≡ is_some (at m k)
+    here q e low = sym (entry_has m total taken count 2 k h (omega arith) (let z = eqb-true k q e in omega (arith, z)))
+
+    stored : (a : Bool) → (k == 3) ≡ a → (b : Bool) → (k == 5 + 2 * count) ≡ b → (c : Bool) → (k == 4 + 2 * count) ≡ c
+        → is_some (cond a (Some (count + 1)) (cond b (Some place) (cond c (Some key) (at m k)))) ≡ is_some (at m k)
+    stored true e b f c g = here 3 e (omega arith)
+    stored false e true f c g = here (5 + 2 * count) f (omega arith)
+    stored false e false f true g = here (4 + 2 * count) g (omega arith)
+    stored false e false f false g = refl
+
+put_row : (m v : WordMap) (total taken count key place : ℕ) → IsHeld m total taken count → Puts m v count key place → 32 + 16 * (count + 1) + taken ≤ total → HasJust v 0 ((total - taken) / 8)
+put_row m v total taken count key place h p room k = puts_keys m v total taken count key place h p room k ∙ h.row k
+
 -- the table after an entry is put behind the others
 pub put_held : (m v : WordMap) (total taken count key place : ℕ) → IsHeld m total taken count → Puts m v count key place → place_of (table_of m).entries key ≡ None → 32 + 16 * (count + 1) + taken ≤ total
     → IsHeld v total taken (count + 1) × (table_of v ≡ with_entry (table_of m) (record { key = key; place = place }))
@@ -102,6 +121,7 @@ put_held m v total taken count key place h p none room =
         total_is = ap (λ (t : Table). t.total) e ∙ h.total_is;
         taken_is = ap (λ (t : Table). t.taken) e ∙ h.taken_is;
         count_is = value_is v 3 (count + 1) (p 3);
+        row = put_row m v total taken count key place h p room;
       },
       e,
     )
@@ -123,27 +143,20 @@ table_same m v same =
     let entries = ap (entries_from v 4) third ∙ entries_same m v 4 (word_of m 3) (λ k a b. same k b) in
     λ i. record { magic = magic i; total = total i; taken = taken i; entries = entries i }
 
--- the table after a chunk comes back
-pub kept_held : (m n : WordMap) (o p : Owned) (total taken count : ℕ) → IsHeld m total taken count → o.words ≡ m → p ≡ owned o.region (union o.words n) → Disjoint o.words n
-    → IsHeld p.words total taken count × (table_of p.words ≡ table_of m)
-kept_held m n o p total taken count h is e apart =
-    let here : (k : ℕ) → IsSome (at m k) → at p.words k ≡ at m k =
-    λ k has. ap (λ (z : Owned). at z.words k) e ∙ union-left o.words n k apart (subst (λ (z : WordMap). IsSome (at z k)) (sym is) has) ∙ ap (λ (z : WordMap). at z k) is in
+-- the table beside words that are apart from it
+pub kept_table : (m n : WordMap) → IsTable m → Disjoint m n → IsTable (union m n) × (table_of (union m n) ≡ table_of m)
+kept_table m n t apart =
+    let here : (k : ℕ) → IsSome (at m k) → at (union m n) k ≡ at m k = λ k has. union-left m n k apart has in
     let l = length-entries m 4 (word_of m 3) in
-    let same = table_same m p.words (λ k low. here k (h.table.owns k (omega (arith, h.table.room, l)))) in (
-      record {
-        table = subst (HasRoomFor p.words) (sym same) (record {
-          owns = λ k low. let has = h.table.owns k low in ap is_some (here k has) ∙ has;
-          room = h.table.room;
-          whole = h.table.whole;
-          whole_chunks = h.table.whole_chunks;
-          small = h.table.small;
-          different = h.table.different;
-        });
-        total_is = ap (λ (t : Table). t.total) same ∙ h.total_is;
-        taken_is = ap (λ (t : Table). t.taken) same ∙ h.taken_is;
-        count_is = word_same m p.words 3 (here 3 (h.table.owns 3 (omega (arith, h.table.room, l)))) ∙ h.count_is;
-      },
+    let same = table_same m (union m n) (λ k low. here k (t.owns k (omega (arith, t.room, l)))) in (
+      subst (HasRoomFor (union m n)) (sym same) (record {
+        owns = λ k low. let has = t.owns k low in ap is_some (here k has) ∙ has;
+        room = t.room;
+        whole = t.whole;
+        whole_chunks = t.whole_chunks;
+        small = t.small;
+        different = t.different;
+      }),
       same,
     )
 
@@ -165,6 +178,31 @@ not_within from len k low = go (is_within from len k) refl
 
 gives_low : (m v : WordMap) (from len taken k : ℕ) → Gives m v from len taken → k < from → at v k ≡ cond {A = Option ℕ} (k == 2) (Some taken) (at m k)
 gives_low m v from len taken k g low = g k ∙ ap (λ b. cond {A = Option ℕ} b None (cond {A = Option ℕ} (k == 2) (Some taken) (at m k))) (not_within from len k low)
+
+-- no word comes
+pub gives_fewer : (m v : WordMap) (from len taken k : ℕ) → Gives m v from len taken → IsSome (at m 2) → IsSome (at v k) → IsSome (at m k)
+gives_fewer m v from len taken k g two has = left (is_within from len k) (k == 2) refl (sym (ap is_some (g k)) ∙ has)
+  where
+    left : (a b : Bool) → (k == 2) ≡ b → is_some (cond a None (cond {A = Option ℕ} b (Some taken) (at m k))) ≡ true → IsSome (at m k)
+    left true b e h = cc
+    left false true e h = ap (λ (z : ℕ). is_some (at m z)) (eqb-true k 2 e) ∙ two
+    left false false e h = h
+
+-- a word of a row that is not one of its last is one of the others
+same_row : (all from len k : ℕ) → all ≡ from + len → is_within from len k ≡ false → is_within 0 all k ≡ is_within 0 from k
+same_row all from len k e out = grind (arith, nat_tests)
+
+-- the words that are left are a row
+given_row : (m v : WordMap) (total taken count wanted : ℕ) → IsHeld m total taken count → wanted % 32 ≡ 0 → 32 + 16 * count + taken + wanted ≤ total
+    → Gives m v ((total - (taken + wanted)) / 8) (wanted / 8) (taken + wanted) → HasJust v 0 ((total - (taken + wanted)) / 8)
+given_row m v total taken count wanted h units room g k =
+    ap is_some (g k) ∙ left (is_within ((total - (taken + wanted)) / 8) (wanted / 8) k) refl (k == 2) refl
+  where
+    left : (a : Bool) → is_within ((total - (taken + wanted)) / 8) (wanted / 8) k ≡ a → (b : Bool) → (k == 2) ≡ b
+        → is_some (cond a None (cond {A = Option ℕ} b (Some (taken + wanted)) (at m k))) ≡ is_within 0 ((total - (taken + wanted)) / 8) k
+    left true e b f = sym (false_from_ne_true (is_within 0 ((total - (taken + wanted)) / 8) k) (λ z. let i = within_is _ _ k e in let j = within_is _ _ k z in omega (arith, i.0, j.1)))
+    left false e true f = sym (within_true 0 ((total - (taken + wanted)) / 8) k (omega arith) (let z = eqb-true k 2 f in omega (arith, z)))
+    left false e false f = h.row k ∙ same_row ((total - taken) / 8) ((total - (taken + wanted)) / 8) (wanted / 8) k (omega arith) e
 
 -- the table after a chunk goes out
 pub given_held : (m v : WordMap) (total taken count bytes wanted : ℕ) → IsHeld m total taken count → wanted ≡ rounded bytes → 32 + 16 * count + taken + wanted ≤ total
@@ -196,6 +234,7 @@ given_held m v total taken count bytes wanted h w room g =
         total_is = total_same ∙ h.total_is;
         taken_is = value_is v 2 (taken + wanted) second;
         count_is = third ∙ h.count_is;
+        row = given_row m v total taken count wanted h (omega arith) room g;
       },
       e,
     )
@@ -213,6 +252,11 @@ created o p q s t words magic a b c d just some four few =
     λ k. stored_at s t 3 0 k d ∙ ap (λ (z : Option ℕ). cond {A = Option ℕ} (k == 3) (Some 0) z)
     (stored_at q s 2 0 k c ∙ ap (λ (z : Option ℕ). cond {A = Option ℕ} (k == 2) (Some 0) z)
     (stored_at p q 1 (8 * words) k b ∙ ap (λ (z : Option ℕ). cond {A = Option ℕ} (k == 1) (Some (8 * words)) z) (stored_at o p 0 magic k a))) in
+    let has : (k : ℕ) → k < words → IsSome (at o.words k) = λ k low. just k ∙ within_true 0 words k (omega arith) (omega arith) in
+    let row_p = stored_just o p 0 magic words a (has 0 (omega arith)) just in
+    let row_q = stored_just p q 1 (8 * words) words b (just_has p.words 0 words 1 row_p (omega arith) (omega arith)) row_p in
+    let row_s = stored_just q s 2 0 words c (just_has q.words 0 words 2 row_q (omega arith) (omega arith)) row_q in
+    let row = stored_just s t 3 0 words d (just_has s.words 0 words 3 row_s (omega arith) (omega arith)) row_s in
     let zeroth : word_of t.words 0 ≡ magic = value_is t.words 0 magic (all 0) in
     let first : word_of t.words 1 ≡ 8 * words = value_is t.words 1 (8 * words) (all 1) in
     let second : word_of t.words 2 ≡ 0 = value_is t.words 2 0 (all 2) in
@@ -231,6 +275,7 @@ created o p q s t words magic a b c d just some four few =
         total_is = first;
         taken_is = second;
         count_is = third;
+        row = subst (HasJust t.words 0) (let z : words ≡ (8 * words - 0) / 8 = omega arith in z) row;
       },
       e,
       λ k high. all k ∙ other k 3 _ _ (λ z. omega arith) ∙ other k 2 _ _ (λ z. omega arith) ∙ other k 1 _ _ (λ z. omega arith) ∙ other k 0 _ _ (λ z. omega arith),

@@ -1,17 +1,15 @@
-//! The table while it grows. Only the holder of the `Toc` changes words 0 to 3 and the entries. Words 1 to 3 stand in
-//! fields too, so that no call loads them again.
+//! The table while it grows: the words that its holder alone reads, and the chunks that it kept, which are frozen.
 
-ghost use Rattle.std.specs.Prelude.{◌≡◌, ℕ, ◌+◌, ◌*◌, ◌/◌, ◌-◌, ◌%◌, ◌<◌, ◌≤◌, ◌^◌, ◌==◌, cond, IfOk, IfErr, OnOk, IsSome, Option, None, Some};
-ghost use Rattle.word_map.specs.WordMap.{at as word_at, is_within, union};
-ghost use Rattle.word_map.specs.WordMap.{HasJust};
-ghost use Rattle.shm_toc.specs.Table.{Table, Entry, rounded, free_bytes_of, low_of, front_of, place_of, entries_from, table_of, IsTable};
+ghost use Rattle.std.specs.Prelude.{◌≡◌, ℕ, ◌*◌, ◌/◌, ◌%◌, ◌≤◌, ◌^◌, cond, IfOk, IfErr, OnOk, Option, None};
+ghost use Rattle.word_map.specs.WordMap.{at as word_at, is_within, union, HasJust};
+ghost use Rattle.shm_toc.specs.Table.{Table, Entry, rounded, free_bytes_of, low_of, front_of, place_of, table_of, IsTable};
 ghost use Rattle.shm_toc.specs.Requests.{empty_table, with_chunk, with_entry};
 ghost use Rattle.shm_toc.specs.Answers.{IsFull, IsRefused, StaysFrom};
-ghost use Rattle.shm_toc.specs.Held.{IsHeld};
+ghost use Rattle.shm_toc.specs.Held.{IsKept};
 
 use crate::frozen::FrozenToc;
-use crate::room::round_up;
-use region_words::{Chunk, Part, Region};
+use crate::growing::Growing;
+use region_words::{Chunk, Frozen, Part, Region};
 use rel_pointer::RelPtr;
 use std::marker::Model;
 
@@ -27,23 +25,22 @@ pub enum TocAnswer {
 /// A table of contents that grows. Contracts see its region and its words, of which `table_of` says what they mean.
 #[derive(Drop)]
 pub struct Toc {
-    part: Part,
-    total: u64,
-    taken: u64,
-    count: u64,
+    growing: Growing,
+    kept: Frozen,
 }
 
 impl Model for Toc {
-    ghost use Rattle.region_words.specs.Parts.{Owned, owned_code};
-    ghost use Rattle.shm_toc.specs.Held.{IsHeld};
+    ghost use Rattle.word_map.specs.WordMap.{union};
+    ghost use Rattle.region_words.specs.Parts.{Owned, owned, owned_code};
+    ghost use Rattle.shm_toc.specs.Held.{IsKept};
 
     ghost Value = { Owned };
 
     ghost coded = { owned_code };
 
-    ghost view = { λ t. t.part };
+    ghost view = { λ t. owned t.growing.region (union t.growing.words t.kept.words) };
 
-    ghost invariant = { λ t. IsHeld t.part.words t.total t.taken t.count };
+    ghost invariant = { λ t. IsKept t.growing t.kept };
 }
 
 impl Toc {
@@ -56,18 +53,11 @@ impl Toc {
         ensures empty { table_of result.words ≡ empty_table magic (8 * words) }
         ensures others { StaysFrom 4 part.words result.words }
     {
-        part.is_small();
-        let total = 8 * words;
         let mut part = part;
-        part.store(r, 0, magic);
-        part.store(r, 1, total);
-        part.store(r, 2, 0);
-        part.store(r, 3, 0);
+        let kept = part.split(r, 0, 0).freeze(r, 0, 0);
         Toc {
-            part,
-            total,
-            taken: 0,
-            count: 0,
+            growing: Growing::create(r, part, words, magic),
+            kept,
         }
     }
 
@@ -76,7 +66,7 @@ impl Toc {
         ensures free { result ≡ free_bytes_of (table_of self.now.words) }
         ensures table { IsTable self.now.words }
     {
-        self.total - 32 - 16 * self.count - self.taken
+        self.growing.free_bytes()
     }
 
     /// A chunk of that many bytes, rounded up to a multiple of 32, which the caller owns. It is the one before the
@@ -92,13 +82,7 @@ impl Toc {
             → word_at self.new.words k ≡ cond {A = Option ℕ} (is_within chunk.at (chunk.bytes / 8) k) None (word_at self.old.words k)) }
         ensures full { IfErr result (λ answer. IsFull (table_of self.old.words) (rounded bytes) answer × (self.new ≡ self.old)) }
     {
-        let wanted = round_up(bytes);
-        let free = self.free_bytes();
-        if wanted > free {
-            return Err(TocAnswer::TocFull { wanted, free });
-        }
-        self.taken += wanted;
-        Ok(give_chunk(&mut self.part, r, self.total, self.taken, wanted))
+        self.growing.allocate(r, bytes)
     }
 
     /// Puts the key and the place behind the other entries. A key that stands keeps its place.
@@ -111,93 +95,30 @@ impl Toc {
         ensures others { OnOk result (StaysFrom (front_of (table_of self.new.words)) self.old.words self.new.words) }
         ensures refused { IfErr result (λ answer. IsRefused (table_of self.old.words) key answer × (self.new ≡ self.old)) }
     {
-        let found = find(&mut self.part, r, self.count, key);
-        if let Some(at) = found {
-            return Err(TocAnswer::KeyThere { at });
-        }
-        let free = self.free_bytes();
-        if free < 16 {
-            return Err(TocAnswer::TocFull { wanted: 16, free });
-        }
-        put_entry(&mut self.part, r, self.count, key, at);
-        self.count += 1;
-        Ok(())
+        self.growing.insert(r, key, at)
     }
 
-    /// Takes a chunk back, so that its words are frozen with the table.
+    /// Takes a chunk back, so that its words are frozen with the table. A store for each of its words, which are frozen
+    /// from now on.
     pub fn keep(&mut self, r: &Region, chunk: Chunk)
         requires here { (self.old.region ≡ r.now) × (chunk.part.region ≡ r.now) }
         ensures here { self.new.region ≡ self.old.region }
         ensures words { self.new.words ≡ union self.old.words chunk.part.words }
         ensures same { table_of self.new.words ≡ table_of self.old.words }
     {
-        let Chunk {
-            at: _,
-            bytes: _,
-            part,
-        } = chunk;
-        self.part.join(r, part);
+        let frozen = self.growing.freeze_chunk(r, chunk);
+        self.kept.gather(r, frozen);
     }
 
     /// From now on no word of the table or of a chunk that it kept changes. The words that it never gave are frozen
-    /// too.
+    /// too. A store for each of its words and of those; the chunks that it kept were frozen when it took them back.
     pub fn freeze(self, r: &Region) -> FrozenToc
         requires here { self.region ≡ r.now }
         ensures { result ≡ self }
     {
-        let Toc { part, .. } = self;
-        FrozenToc::of(part.freeze(r))
+        let Toc { growing, kept } = self;
+        let mut frozen = growing.freeze(r);
+        frozen.gather(r, kept);
+        FrozenToc::of(frozen)
     }
-}
-
-/// Splits the lowest chunk off the part and writes down that it is given.
-fn give_chunk(part: &mut Part, r: &Region, total: u64, taken: u64, bytes: u64) -> Chunk
-    requires here { part.old.region ≡ r.now }
-    requires sizes { (bytes % 32 ≡ 0) × (taken % 32 ≡ 0) × (total % 32 ≡ 0) × (taken + 32 ≤ total) × (bytes ≤ taken) }
-    requires owns { (k : ℕ) → 8 * k + taken < total + bytes → IsSome (word_at part.old.words k) }
-    requires small { total ≤ 2 ^ 29 }
-    ensures here { part.new.region ≡ part.old.region }
-    ensures chunk { (result.part.region ≡ r.now) × (result.bytes ≡ bytes) × (result.at ≡ (total - taken) / 8) }
-    ensures words { (k : ℕ) → word_at part.new.words k
-        ≡ cond {A = Option ℕ} (is_within ((total - taken) / 8) (bytes / 8) k) None (cond {A = Option ℕ} (k == 2) (Some taken) (word_at part.old.words k)) }
-{
-    let at = (total - taken) / 8;
-    part.store(r, 2, taken);
-    let part = part.split(r, at, bytes / 8);
-    Chunk {
-        at: RelPtr::of(at),
-        bytes,
-        part,
-    }
-}
-
-/// Writes an entry behind the others, and then that it is there.
-fn put_entry(part: &mut Part, r: &Region, count: u64, key: u64, at: RelPtr)
-    requires here { part.old.region ≡ r.now }
-    requires owns { (k : ℕ) → k < 6 + 2 * count → IsSome (word_at part.old.words k) }
-    requires small { count < 2 ^ 32 }
-    ensures here { part.new.region ≡ part.old.region }
-    ensures words { (k : ℕ) → word_at part.new.words k
-        ≡ cond {A = Option ℕ} (k == 3) (Some (count + 1))
-        (cond {A = Option ℕ} (k == 5 + 2 * count) (Some at) (cond {A = Option ℕ} (k == 4 + 2 * count) (Some key) (word_at part.old.words k))) }
-{
-    part.store(r, 4 + 2 * count, key);
-    part.store(r, 5 + 2 * count, at.word());
-    part.store(r, 3, count + 1);
-}
-
-/// The place beside the key, in the first of the entries that has it.
-fn find(part: &mut Part, r: &Region, count: u64, key: u64) -> Option<RelPtr>
-    requires here { part.old.region ≡ r.now }
-    requires owns { (k : ℕ) → k < 4 + 2 * count → IsSome (word_at part.old.words k) }
-    requires small { count < 2 ^ 32 }
-    ensures same { part.new ≡ part.old }
-    ensures found { result ≡ place_of (entries_from part.old.words 4 count) key }
-{
-    for i in 0..count {
-        if part.load(r, 4 + 2 * i) == key {
-            return Some(RelPtr::of(part.load(r, 5 + 2 * i)));
-        }
-    }
-    None
 }

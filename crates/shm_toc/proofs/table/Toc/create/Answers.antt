@@ -1,35 +1,29 @@
-use Rattle.std.proofs.Common.{arith, ◌∙◌}
-use Rattle.word_map.proofs.Maps.{within_true}
-use Rattle.shm_toc.proofs.Stores.{stored_has, few_words}
-use Rattle.shm_toc.proofs.Tables.{created}
+use Rattle.std.proofs.Common.{sym, ap, subst, ◌∙◌}
+use Rattle.word_map.specs.WordMap.{at, HasJust}
+use Rattle.region_words.specs.Parts.{Owned}
+use Rattle.shm_toc.proofs.Tables.{kept_table}
+use Rattle.shm_toc.proofs.Kept.{none_row, rest_of_none, apart_from_none, stays_with_none}
 use Rattle.shm_toc.proofs.table.Toc.create.Goals as goal
 
-pub overflow_mul-total : goal.overflow_mul-total
-overflow_mul-total c = let few = few_words c.args.part.words c.args.words c.requires.owns c.is_small.ensures in omega arith
+pub freeze-kept-requires-clause-row : goal.freeze-kept-requires-clause-row
+freeze-kept-requires-clause-row c = none_row _ _ c.split.ensures.range
 
-pub store-requires-2-clause-owns : goal.store-requires-2-clause-owns
-store-requires-2-clause-owns c = stored_has _ _ _ _ 1 c.store.ensures (c.requires.owns 1 ∙ within_true 0 c.args.words 1 (omega arith) (omega (arith, c.requires.size)))
-
-pub store-requires-3-clause-owns : goal.store-requires-3-clause-owns
-store-requires-3-clause-owns c =
-    stored_has _ _ _ _ 2 c.store-2.ensures (stored_has _ _ _ _ 2 c.store.ensures (c.requires.owns 2 ∙ within_true 0 c.args.words 2 (omega arith) (omega (arith, c.requires.size))))
-
-pub store-requires-4-clause-owns : goal.store-requires-4-clause-owns
-store-requires-4-clause-owns c =
-    stored_has _ _ _ _ 3 c.store-3.ensures
-    (stored_has _ _ _ _ 3 c.store-2.ensures (stored_has _ _ _ _ 3 c.store.ensures (c.requires.owns 3 ∙ within_true 0 c.args.words 3 (omega arith) (omega (arith, c.requires.size)))))
+pub create-requires-clause-owns : goal.create-requires-clause-owns
+create-requires-clause-owns c = subst (λ (o : Owned). HasJust o.words 0 c.args.words) (sym (rest_of_none _ _ c.split.ensures.rest)) c.requires.owns
 
 pub invariant_of-result : goal.invariant_of-result
-invariant_of-result c =
-    (created _ _ _ _ _ c.args.words c.args.magic c.store.ensures c.store-2.ensures c.store-3.ensures c.store-4.ensures c.requires.owns c.requires.size.0 c.requires.size.1
-    (few_words c.args.part.words c.args.words c.requires.owns c.is_small.ensures)).0
+invariant_of-result c = record {
+  table = c.create.ensures.table;
+  here = ap (λ (o : Owned). o.region) (c.freeze-kept.ensures ∙ c.split.ensures.range) ∙ c.requires.here ∙ sym c.create.ensures.here;
+  apart = apart_from_none c.create.result.words _ _ (c.freeze-kept.ensures ∙ c.split.ensures.range);
+}
 
 pub returns-clause-empty : goal.returns-clause-empty
 returns-clause-empty c =
-    (created _ _ _ _ _ c.args.words c.args.magic c.store.ensures c.store-2.ensures c.store-3.ensures c.store-4.ensures c.requires.owns c.requires.size.0 c.requires.size.1
-    (few_words c.args.part.words c.args.words c.requires.owns c.is_small.ensures)).1
+    (kept_table _ _ c.create.ensures.table (apart_from_none c.create.result.words _ _ (c.freeze-kept.ensures ∙ c.split.ensures.range))).1 ∙ c.create.ensures.empty
 
 pub returns-clause-others : goal.returns-clause-others
-returns-clause-others c =
-    (created _ _ _ _ _ c.args.words c.args.magic c.store.ensures c.store-2.ensures c.store-3.ensures c.store-4.ensures c.requires.owns c.requires.size.0 c.requires.size.1
-    (few_words c.args.part.words c.args.words c.requires.owns c.is_small.ensures)).2
+returns-clause-others c = λ k high.
+    stays_with_none c.create.result.words _ _ k (c.freeze-kept.ensures ∙ c.split.ensures.range)
+    ∙ c.create.ensures.others k high
+    ∙ ap (λ (o : Owned). at o.words k) (rest_of_none _ _ c.split.ensures.rest)

@@ -1,7 +1,7 @@
 use Rattle.std.proofs.Common.{◌+◌, ◌*◌, arith}
 use Rattle.shm_toc.proofs.Stores.{stored_has}
 use Rattle.shm_toc.proofs.Tables.{put_words}
-use Rattle.shm_toc.proofs.table.put_entry.Goals as goal
+use Rattle.shm_toc.proofs.growing.put_entry.Goals as goal
 
 pub store-requires-2-clause-owns : goal.store-requires-2-clause-owns
 store-requires-2-clause-owns c = stored_has _ _ _ _ (5 + 2 * c.args.count) c.store.ensures (c.requires.owns (5 + 2 * c.args.count) (omega arith))

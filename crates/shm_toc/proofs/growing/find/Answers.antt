@@ -2,7 +2,7 @@ use Rattle.std.proofs.Common.{◌≡◌, suc, ◌+◌, ◌*◌, Some, arith, ref
 use Rattle.shm_toc.specs.Table.{word_of}
 use Rattle.shm_toc.proofs.Entries.{place_none, place_found, none_more}
 use Rattle.shm_toc.proofs.Tables.{read_is}
-use Rattle.shm_toc.proofs.table.find.Goals as goal
+use Rattle.shm_toc.proofs.growing.find.Goals as goal
 
 pub returns-then-load-key-clause-found : goal.returns-then-load-key-clause-found
 returns-then-load-key-clause-found c =

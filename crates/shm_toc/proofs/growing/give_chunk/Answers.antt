@@ -4,7 +4,7 @@ use Rattle.region_words.specs.Parts.{Owned}
 use Rattle.word_map.proofs.Uses.{range-there}
 use Rattle.shm_toc.proofs.Stores.{stored_has}
 use Rattle.shm_toc.proofs.Tables.{given_words}
-use Rattle.shm_toc.proofs.table.give_chunk.Goals as goal
+use Rattle.shm_toc.proofs.growing.give_chunk.Goals as goal
 
 pub split-part-requires-clause-owns : goal.split-part-requires-clause-owns
 split-part-requires-clause-owns c = λ k low high. stored_has _ _ _ _ k c.store.ensures (c.requires.owns k (omega (arith, c.requires.sizes)))

@@ -1,6 +1,6 @@
 use Rattle.std.proofs.Common.{◌≡◌}
 use Rattle.shm_toc.proofs.Entries.{NotBelow}
-use Rattle.shm_toc.proofs.table.find.Given as goal
+use Rattle.shm_toc.proofs.growing.find.Given as goal
 
 abbrev pub invariant-loop-i : goal.invariant-loop-i
 invariant-loop-i l = record {
