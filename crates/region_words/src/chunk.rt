@@ -1,4 +1,4 @@
-//! Chunks and runs: parts whose words stand in a row, so that a place and a length say which they are.
+//! Chunks and runs: parts whose words lie in a row, so that a place and a length say which they are.
 
 ghost use Rattle.std.specs.Prelude.{◌≡◌, ◌+◌, ◌*◌, ◌/◌, ◌%◌, ◌^◌, ◌<◌, ◌≤◌, Some};
 ghost use Rattle.std.specs.FinMap as fin;
@@ -104,7 +104,7 @@ impl Run {
     }
 }
 
-/// Tells that words of a part that stand in a row are at most 2^26. It does nothing.
+/// Tells that words of a part that lie in a row are at most 2^26. It does nothing.
 fn few_words(part: &Part, at: u64, words: u64)
     requires { HasJust part.now.words at words }
     ensures { words ≤ 2 ^ 26 }

@@ -15,7 +15,7 @@ use region_rule::{Begins, Cuts, Freezes, Glues, Known, Learns, Loads, Range, Sto
 use std::marker::{Brand, Model};
 
 /// A token that owns some words of a region. Contracts see its region and the map from its words' numbers to their
-/// values. It has no bytes; where it is dropped nobody can reach its words any more.
+/// values. It has no bytes; if it is dropped nobody can reach its words any more.
 #[derive(Drop)]
 pub struct Part {
     pub(crate) seat: Seat<u64, Known>,
@@ -34,7 +34,7 @@ impl Model for Part {
 }
 
 impl Part {
-    /// The value of a word: a plain load between two loads of a word that nobody stores.
+    /// The value of a word: a plain load, between two loads of the table's word 0.
     #[inline]
     pub fn load(&mut self, r: &Region, at: u64) -> u64
         requires here { self.old.region ≡ r.now }
@@ -45,7 +45,7 @@ impl Part {
         r.load_slot_as::<Loads>(&mut self.seat, at)
     }
 
-    /// Changes a word: a plain store between two loads of a word that nobody stores.
+    /// Changes a word: a plain store, between two loads of the table's word 0.
     #[inline]
     pub fn store(&mut self, r: &Region, at: u64, value: u64)
         requires here { self.old.region ≡ r.now }
@@ -103,8 +103,8 @@ impl Part {
         r.load_as::<Learns>(&mut self.seat, 0);
     }
 
-    /// From now on no word of the part changes, and it can be shared. Its words stand in a row, the `len` from `from`:
-    /// each is stored once, where many tokens can read it.
+    /// From now on no word of the part changes, and it can be shared. Its words lie in a row, the `len` from `from`: each
+    /// is stored once, where many tokens can read it.
     pub fn freeze(self, r: &Region, from: u64, len: u64) -> Frozen
         requires here { self.region ≡ r.now }
         requires row { HasJust self.words from len }

@@ -4,7 +4,7 @@
 //! The table has a slot and a word for each word of the region. A word that one token owns, and a cell of a ring, lies in
 //! its slot, which is plain memory: a token takes the slot out by a load of word 0, reads or writes it, and gives it back
 //! by another load. What several tokens read at once, frozen words and the counts and flags of rings, lies in the table's
-//! words.
+//! words. Word 0 is hardly ever stored: it is no ring's count, since a chunk begins at word 1 or later.
 
 ghost use Rattle.std.specs.Prelude.{[], ◌≡◌, ℕ, suc, ◌+◌, ◌<◌, ◌≤◌, ◌^◌, cond, Option, Some, None, IfOk, IsSome, replicate};
 ghost use mathlib.Core.Option.{none};
