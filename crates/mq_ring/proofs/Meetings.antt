@@ -1,7 +1,6 @@
 -- The rule allows a meeting of the ends, and what the joined ends are, over plain values.
-use Rattle.std.proofs.Common.{◌≡◌, ℕ, suc, ◌+◌, ◌<◌, ◌≤◌, [], Option, Some, None, IfSome, sym, ap, subst, ◌∙◌, arith, length}
+use Rattle.std.proofs.Common.{◌≡◌, ℕ, suc, ◌+◌, ◌<◌, [], Option, Some, None, IfSome, sym, ap, subst, ◌∙◌, arith, length}
 use Rattle.atomic_table.specs.Table.{Allows, Splits, Joins}
-use Rattle.atomic_table.specs.Seated.{TableId}
 use Rattle.word_map.specs.WordMap.{WordMap, Has, at}
 use Rattle.ring_rule.specs.Ring.{Sending, Receiving, AreEnds}
 use Rattle.region_rule.specs.RingMap.{ring_map}
@@ -11,7 +10,6 @@ use Rattle.region_rule.specs.Tells.{done_view, sender_again, receiver_again, Tel
 use Rattle.region_rule.proofs.RingSteps.{join_ends_allowed, load_done_allowed, load_count_allowed, end_done_allowed, part_again_allowed}
 use Rattle.region_rule.proofs.Allows.{begin_allows, restore_allows}
 use Rattle.region_rule.proofs.Meets.{covers}
-use Rattle.region_words.specs.Parts.{IsSized}
 use Rattle.region_words.proofs.Seats.{Mine, idle_as}
 
 pub join_allows : (count id other : ℕ) (mine yours : Mine) (s : Sending) (t : Option Receiving) (q : Receiving) (u : Option Sending) → IsIdle mine (Sender s t) → IsIdle yours (Receiver q u) → s.ring ≡ q.ring

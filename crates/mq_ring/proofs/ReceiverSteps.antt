@@ -1,9 +1,9 @@
 -- The rule allows each step of a receiver's end, over plain values.
-use Rattle.std.proofs.Common.{◌≡◌, ℕ, ◌+◌, ◌-◌, ◌%◌, ◌<◌, ◌≤◌, false, length, Bool, true, cond, ◌==◌, refl, le_trans, sym, ap, subst, ◌∙◌, arith, mod-lt}
+use Rattle.std.proofs.Common.{◌≡◌, ℕ, ◌+◌, ◌-◌, ◌%◌, ◌<◌, ◌≤◌, false, length, Bool, true, cond, ◌==◌, refl, le_trans, sym, ap, subst, ◌∙◌, arith}
 use Rattle.atomic_table.specs.Table.{Allows}
 use Rattle.atomic_table.specs.Seated.{TableId}
-use Rattle.ring_rule.specs.Ring.{Receiving, count_word, place_of, cell_of}
-use Rattle.ring_rule.proofs.Counts.{some_cells, few_cells}
+use Rattle.ring_rule.specs.Ring.{Receiving, count_word, place_of}
+use Rattle.ring_rule.proofs.Counts.{few_cells}
 use Rattle.ring_rule.specs.Ends.{looks_written, looks_last, sees_written}
 use Rattle.region_rule.specs.View.{View, Receiver}
 use Rattle.region_rule.specs.Places.{IsIdle, MayTake, Ruled, out_of}

@@ -103,7 +103,7 @@ fn bytes_are_stored_and_words_are_shared(rt: HostRuntime) -> Result<(), Fail> {
     assert_eq!(rt; chunk.load(&region, 0), 0x6867666564636261);
     assert_eq!(rt; chunk.load(&region, 1), 0x3231);
     part.store(&region, 40, 8);
-    let mut frozen = part.freeze(&region);
+    let mut frozen = part.split(&region, 40, 1).freeze(&region, 40, 1);
     assert!(rt; load_twice(&rt, &region, &mut frozen, 40) == (8, 8));
     Ok(())
 }

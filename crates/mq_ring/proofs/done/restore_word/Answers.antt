@@ -1,5 +1,4 @@
 use Rattle.std.proofs.Common.{◌∙◌}
-use Rattle.region_words.proofs.Seats.{not_yet}
 use Rattle.mq_ring.specs.Ends.{tx_of, rx_of}
 use Rattle.mq_ring.proofs.Meetings.{count_allows, count_value, may_restore, restores, now_as}
 use Rattle.mq_ring.proofs.done.restore_word.Goals as goal

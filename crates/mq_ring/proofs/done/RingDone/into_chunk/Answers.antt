@@ -1,5 +1,4 @@
-use Rattle.std.proofs.Common.{◌≡◌, ap, ◌∙◌}
-use Rattle.region_rule.specs.RingMap.{ring_map}
+use Rattle.std.proofs.Common.{ap, ◌∙◌}
 use Rattle.region_words.specs.Parts.{Owned}
 use Rattle.mq_ring.specs.Ends.{tx_of, rx_of}
 use Rattle.mq_ring.proofs.Makings.{chunk_just}
