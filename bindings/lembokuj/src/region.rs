@@ -160,18 +160,21 @@ impl Part {
         Ok(())
     }
 
-    /// From now on its words never change, and many may read them.
+    /// From now on its words never change, and many may read them. A store for each of its words.
     ///
     /// # Errors
     ///
     /// [`PartError::Memory`]; then the part's words are lost to the region.
     pub fn freeze(self) -> Result<Frozen, PartError> {
-        let owned = shared(self.owned).map_err(|_| PartError::Memory)?;
-        Ok(Frozen {
-            frozen: self.part.freeze(&self.region),
-            region: self.region,
-            owned,
-        })
+        let Part { region, mut part, owned } = self;
+        let owned = shared(owned).map_err(|_| PartError::Memory)?;
+        let mut frozen = part.split(&region, 0, 0).freeze(&region, 0, 0);
+        for range in owned.iter() {
+            let (from, len) = (range.start, range.end - range.start);
+            let row = part.split(&region, from, len).freeze(&region, from, len);
+            frozen.gather(&region, row);
+        }
+        Ok(Frozen { region, frozen, owned })
     }
 }
 

@@ -14,7 +14,7 @@
 mod home;
 mod sleep;
 
-use home::Home;
+use home::Homes;
 use rattle_std::alloc::{AllocError, Global};
 use rattle_std::vec::Vec;
 use std::marker::PhantomData;
@@ -48,11 +48,18 @@ impl<S, V> Seat<S, V> {
     /// The value of a slot that this seat holds.
     #[inline]
     pub fn slot_mut<'a, K, P: TableRule<S, V, K>>(&'a mut self, table: &'a Shared<S, V, K, P>, slot: usize) -> &'a mut S {
-        // SAFETY: the call's contract is that this seat holds the slot. The crates above call it only between a
-        // compare-and-exchange that took the slot's lock, a word, from 0 to the caller's number and the store that gives it back, and prove that no
-        // other seat holds the slot then; both are sequentially consistent, so what one holder wrote the next one sees.
+        // SAFETY: the call's contract is that this seat holds the slot, and the crates above prove that no other seat holds it
+        // then. What one holder wrote the next one sees, since between their turns at the slot there is always a step that
+        // orders them:
+        // - a value behind a lock is held between the compare-and-exchange that took its lock and the store that gives it
+        //   back, both sequentially consistent;
+        // - a word that one token owns is held by whoever has the token. A token is a value that is not `Copy`, so it comes to
+        //   another thread only as Rust hands values over, or inside a value behind a lock;
+        // - a cell of a ring is written by the sender before it stores the written count and read by the receiver after it
+        //   loaded that count, and comes back in the same way by the read count, all of them sequentially consistent.
+        // The loads by which an owner takes a slot out and gives it back order nothing: they are there for the proof.
         // The borrow of the seat ends before the seat can take another step.
-        unsafe { &mut *table.slots[slot].get() }
+        unsafe { &mut *table.slots.get(slot) }
     }
 }
 
@@ -74,12 +81,12 @@ impl<V> Badge<V> {
 /// The words and slots, as threads see them.
 pub struct Shared<S, V, K, P: TableRule<S, V, K>> {
     words: Box<[AtomicU64]>,
-    slots: Box<[Home<S>]>,
+    slots: Homes<S>,
     marker: PhantomData<fn() -> (V, K, P)>,
 }
 
-// SAFETY: the words are atomic. A slot is reached only by `slot_mut`, through the one seat that holds it, so threads hand
-// its value to one another and never share it: that asks for `S: Send`.
+// SAFETY: the words are atomic. A slot is reached only by `slot_mut` (`exchange` calls it), through the one seat that holds
+// it, so threads hand its value to one another and never share it: that asks for `S: Send`.
 unsafe impl<S: Send, V, K, P: TableRule<S, V, K>> Sync for Shared<S, V, K, P> {}
 
 impl<S, V, K, P: TableRule<S, V, K>> Shared<S, V, K, P> {
@@ -122,6 +129,12 @@ impl<S, V, K, P: TableRule<S, V, K>> Shared<S, V, K, P> {
         }
     }
 
+    /// The value of a slot that the seat holds, which becomes `new`.
+    #[inline]
+    pub fn exchange(&self, seat: &mut Seat<S, V>, slot: usize, new: S) -> S {
+        std::mem::replace(seat.slot_mut(self, slot), new)
+    }
+
     /// A second seat. A view changes only at a step, so this and `join_seat` load word 0.
     pub fn split_seat<M: Split<V>>(&self, _seat: &mut Seat<S, V>) -> Seat<S, V> {
         self.peek(0);
@@ -155,7 +168,7 @@ impl<S, V, K, P: TableRule<S, V, K>> Table<S, V, K, P, Global> {
         let table = Table {
             shared: Shared {
                 words,
-                slots: slots.into_iter().map(Home::new).collect(),
+                slots: Homes::new(slots.into_iter()),
                 marker: PhantomData,
             },
             alloc: PhantomData,
@@ -171,7 +184,7 @@ impl<S, V, K, P: TableRule<S, V, K>> Table<S, V, K, P, Global> {
     /// Ends the table. The values come back, each in its slot.
     pub fn close_with(self, _seat: Seat<S, V>) -> Closed<S, Global> {
         Closed {
-            slots: self.shared.slots.into_iter().map(|slot| Some(slot.into_inner())).collect(),
+            slots: self.shared.slots.into_values().map(Some).collect(),
             alloc: PhantomData,
         }
     }
