@@ -133,13 +133,8 @@ impl fmt::Debug for Area {
 }
 
 impl Area {
-<<<<<<< HEAD
-    /// An area of `pages` pages of 4 KiB, and a handle for each of its callers. It takes memory for the pages, 1.6 % of
-    /// them for their records, and a few words for each caller. Chunks of up to 8,192 bytes are cut from 16 pages at a
-=======
-    /// An area of so many pages of 4 KiB, and a handle for each of its callers. It takes memory for the pages twice over,
+    /// An area of `pages` pages of 4 KiB, and a handle for each of its callers. It takes memory for the pages twice over,
     /// 1.6 % of them for their records, and a few words for each caller. Chunks of up to 8,192 bytes are cut from 16 pages at a
->>>>>>> f358cbda (bindings: a region's owned words are plain memory in the erased build too)
     /// time, for each of 36 size classes, and a class keeps such 16 pages once it has some.
     ///
     /// # Errors
