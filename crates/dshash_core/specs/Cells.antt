@@ -28,7 +28,7 @@ pub record PartitionView (S : Type 0) : Type 0 where
 abbrev pub layout_of : {S : Type 0} → PartitionView S → ℕ → Layout
 layout_of p value_words = record { key_words = p.key_words; value_words = value_words; item_bytes = p.item_bytes }
 
--- the code by which proofs tell such values apart
+-- the code by which proofs distinguish such values
 abbrev pub partition_code : {S : Type 0} → Coded S → Coded (PartitionView S)
 partition_code {S} s =
     code_by (TableId × (ℕ × (ℕ × (ℕ × (ℕ × (ℕ × KeyMap S)))))) (coded× table_id_coded (coded× coded_ℕ (coded× coded_ℕ (coded× coded_ℕ (coded× coded_ℕ (coded× coded_ℕ (fin.code (coded_list coded_ℕ) s)))))))

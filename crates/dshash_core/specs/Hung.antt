@@ -23,7 +23,7 @@ pub record Hung : Type 0 where
   pub layout : Layout
   pub chains : List (List Item)
 
--- the codes by which proofs tell such values apart
+-- the codes by which proofs distinguish such values
 abbrev pub layout_code : Coded Layout
 layout_code = code_by (ℕ × (ℕ × ℕ)) (coded× coded_ℕ (coded× coded_ℕ coded_ℕ)) (λ l. (l.key_words, (l.value_words, l.item_bytes))) (λ p. record { key_words = p.0; value_words = p.1.0; item_bytes = p.1.1 }) (λ _. refl)
 

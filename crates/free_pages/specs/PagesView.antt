@@ -18,15 +18,15 @@ pub record PagesView : Type 0 where
 abbrev pub pages_view : TableId → ℕ → ℕ → List Granted → PagesView
 pages_view region first pages granted = record { region = region; first = first; state = record { pages = pages; granted = granted } }
 
--- the code by which proofs tell granted runs apart
+-- the code by which proofs distinguish granted runs
 abbrev pub granted_code : Coded Granted
 granted_code = code_by (ℕ × (ℕ × Bool)) (coded× coded_ℕ (coded× coded_ℕ coded_bool)) (λ g. (g.from, (g.len, g.control))) (λ p. record { from = p.0; len = p.1.0; control = p.1.1 }) (λ _. refl)
 
--- the code by which proofs tell states apart
+-- the code by which proofs distinguish states
 abbrev pub pages_state_code : Coded PagesState
 pages_state_code = code_by (ℕ × List Granted) (coded× coded_ℕ (coded_list granted_code)) (λ s. (s.pages, s.granted)) (λ p. record { pages = p.0; granted = p.1 }) (λ _. refl)
 
--- the code by which proofs tell such values apart
+-- the code by which proofs distinguish such values
 abbrev pub pages_view_code : Coded PagesView
 pages_view_code = code_by (TableId × (ℕ × (ℕ × List Granted))) (coded× table_id_coded (coded× coded_ℕ (coded× coded_ℕ (coded_list granted_code))))
     (λ b. (b.region, (b.first, (b.state.pages, b.state.granted)))) (λ p. pages_view p.0 p.1.0 p.1.1.0 p.1.1.1) (λ _. refl)

@@ -19,7 +19,7 @@ pub record Incoming : Type 0 where
 abbrev pub incoming : TableId → Receiving → Option Sending → List ℕ → Incoming
 incoming region q told message = record { region = region; end = q; told = told; message = message }
 
--- the code by which proofs tell such ends apart
+-- the code by which proofs distinguish such ends
 abbrev pub incoming_code : Coded Incoming
 incoming_code = code_by (TableId × (Receiving × (Option Sending × List ℕ))) (coded× table_id_coded (coded× receiving_code (coded× (coded_option sending_code) (coded_list coded_ℕ))))
     (λ p. (p.region, (p.end, (p.told, p.message)))) (λ p. record { region = p.0; end = p.1.0; told = p.1.1.0; message = p.1.1.1 }) (λ _. refl)

@@ -52,7 +52,7 @@ ends_home region s q rest bytes = record { region = region; sender = s; receiver
 abbrev pub ring_of : ℕ → ℕ → ℕ → ℕ → Ring
 ring_of base size from max = record { base = base; size = size; start = from; max = max }
 
--- the code by which proofs tell sending ends apart
+-- the code by which proofs distinguish sending ends
 abbrev pub sending_end_code : Coded SendingEnd
 sending_end_code = code_by (TableId × (Sending × (Option Receiving × (WordMap × ℕ)))) (coded× table_id_coded (coded× sending_code (coded× (coded_option receiving_code) (coded× map_code coded_ℕ))))
     (λ p. (p.region, (p.end, (p.told, (p.rest, p.bytes))))) (λ p. record { region = p.0; end = p.1.0; told = p.1.1.0; rest = p.1.1.1.0; bytes = p.1.1.1.1 }) (λ _. refl)

@@ -10,7 +10,7 @@ pub record PartiesView : Type 0 where
   pub callers : ℕ
   pub state : BarrierState
 
--- the code by which proofs tell such values apart
+-- the code by which proofs distinguish such values
 abbrev pub parties_code : Coded PartiesView
 parties_code = code_by (ℕ × (ℕ × (List ℕ × (List ℕ × Option ℕ)))) (coded× coded_ℕ (coded× coded_ℕ (coded× (coded_list coded_ℕ) (coded× (coded_list coded_ℕ) (coded_option coded_ℕ))))) (λ p. (p.callers, (p.state.phase, (p.state.attached, (p.state.arrived, p.state.elected))))) (λ p. record { callers = p.0; state = record { phase = p.1.0; attached = p.1.1.0; arrived = p.1.1.1.0; elected = p.1.1.1.1 } }) (λ _. refl)
 

@@ -13,7 +13,7 @@ pub record TokensView (T : Type 0) : Type 0 where
   pub parties : ℕ
   pub state : ExchangeState T
 
--- the code by which proofs tell such values apart
+-- the code by which proofs distinguish such values
 abbrev pub tokens_code : {T : Type 0} → Coded T → Coded (TokensView T)
 tokens_code {T} c =
     code_by (ℕ × (List (Option T) × (List (Option T) × Option ℕ))) (coded× coded_ℕ (coded× (coded_list (coded_option c)) (coded× (coded_list (coded_option c)) (coded_option coded_ℕ))))

@@ -1,4 +1,4 @@
--- What a step does to the tokens, with no word of how.
+-- What a step does to the tokens, without a word of how.
 use Rattle.std.specs.Prelude.{◌≡◌, ◌≢◌, ℕ, length, Option}
 use lib.ListN.{get_elem?}
 use Rattle.ring_rule.specs.Ring.{Sending, Receiving}
@@ -11,7 +11,7 @@ pub record Turns (before after : World) (i : ℕ) (u v : View) : Type 0 where
   pub now : Sees after i v
   pub others : (j : ℕ) → j ≢ i → get_elem? after.views j ≡ get_elem? before.views j
 
--- and a new token, the last one, has a view of its own
+-- and a new token, the last one, which has its own view
 pub record Cuts (before after : World) (i : ℕ) (u v new : View) : Type 0 where
   pub was : Sees before i u
   pub now : Sees after i v
@@ -30,7 +30,7 @@ pub record Joins (before after : World) (i j : ℕ) (u x v : View) : Type 0 wher
 abbrev pub WordsStay : World → World → Type 0
 WordsStay before after = after.words ≡ before.words
 
--- token i is a sender whose end goes from s to r. What it was told of the other end stays
+-- token i is a sender whose end goes from s to r. What it learnt of the other end stays
 abbrev pub SenderTurns : World → World → ℕ → Sending → Sending → Type 0
 SenderTurns before after i s r = (told : Option Receiving) × Turns before after i (Sender s told) (Sender r told)
 

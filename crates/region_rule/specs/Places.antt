@@ -1,9 +1,9 @@
 -- Where the words of a region lie in the table. A word that a token owns, and a cell of a ring, lies in the slot of its
--- number: plain memory, which one seat at a time may have out. What several tokens read at once lies in the table's word
--- of that number: frozen words, and the two counts and the flag of a ring.
+-- number: plain memory, which one seat at a time may have taken out. What several tokens read at once lies in the
+-- table's word of that number: frozen words, and the two counts and the flag of a ring.
 --
--- Who may have a slot out: the owner of its word; the sender of a ring the cell of the next word, if it has room; and the
--- receiver the cell of the next word, if it has seen that there is one.
+-- Who may take a slot out: the owner of its word; the sender of a ring the cell of the next word, if it has room; and
+-- the receiver the cell of the next word, if it has seen that there is one.
 use Rattle.std.specs.Prelude.{◌≡◌, ◌≢◌, ℕ, ◌+◌, ◌<◌, ◌≤◌, List, [], ◌∷◌, length, map, Option, Some, None, refl}
 use mathlib.Core.Option.{some}
 use lib.ListN.{get_elem?}
@@ -14,9 +14,9 @@ use Rattle.ring_rule.specs.Ring.{Ring, place_of}
 use Rattle.region_rule.specs.View.{View, Own, Frozen, Sender, Receiver, Done, Spent, view_code}
 use Rattle.region_rule.specs.Steps.{Reached}
 
--- What a seat is: the token's view, the slot that it has out, with the value that it found there, and how many words it
--- has copied, from which one on. An owner copies words from their slots, to freeze them or to make a ring of them; joined
--- ends copy their counts and their flag back
+-- What a seat is: the token's view, the slot that it has taken out, with the value that it found there, and how many
+-- words it has copied, from which one on. An owner copies words from their slots, to freeze them or to make a ring of
+-- them; joined ends copy their counts and their flag back
 pub record Token : Type 0 where
   pub view : View
   pub out : Option (ℕ × ℕ)
@@ -27,7 +27,7 @@ pub record Token : Type 0 where
 abbrev pub copying : View → ℕ → ℕ → Token
 copying v from n = record { view = v; out = None; from = from; copied = n }
 
--- the same, with the slot k out, in which it found x
+-- the same, with the slot k taken out, in which it found x
 abbrev pub taking : View → ℕ → ℕ → ℕ → ℕ → Token
 taking v k x from n = record { view = v; out = Some (k, x); from = from; copied = n }
 
@@ -35,11 +35,11 @@ taking v k x from n = record { view = v; out = Some (k, x); from = from; copied 
 abbrev pub idle : View → Token
 idle v = copying v 0 0
 
--- the seat of a token with the slot k out, in which it found x and has y now
+-- the seat of a token with the slot k taken out, in which it found x and now has y
 abbrev pub out_of : Token → ℕ → ℕ → ℕ → Me ℕ Token
 out_of t k x y = (taking t.view k x t.from t.copied, (k, y) ∷ [])
 
--- the code by which proofs tell tokens apart
+-- the code by which proofs distinguish tokens
 abbrev pub token_code : Coded Token
 token_code = code_by (View × (Option (ℕ × ℕ) × (ℕ × ℕ))) (coded× view_code (coded× (coded_option (coded× coded_ℕ coded_ℕ)) (coded× coded_ℕ coded_ℕ)))
     (λ t. (t.view, (t.out, (t.from, t.copied)))) (λ p. record { view = p.0; out = p.1.0; from = p.1.1.0; copied = p.1.1.1 }) (λ _. refl)
@@ -95,7 +95,7 @@ Copied (Own m olds) table homes k x = get_elem? table k ≡ some x
 Copied (Done m s q) table homes k x = get_elem? homes k ≡ some (some x)
 Copied v table homes k x = Unit {0}
 
--- it may have out what it has out, and has found there the region's word, if that lies there
+-- it may take the slot that it has taken out, and it found there the region's word, if that lies there
 abbrev pub IsOut : List ℕ → Token → Type 0
 IsOut words t = (p : ℕ × ℕ) → t.out ≡ Some p → MayTake t.view p.0 × (InSlot t.view p.0 → get_elem? words p.0 ≡ some p.1)
 
@@ -103,11 +103,11 @@ IsOut words t = (p : ℕ × ℕ) → t.out ≡ Some p → MayTake t.view p.0 × 
 abbrev pub IsCopied : List ℕ → List ℕ → List (mathlib.Core.Option.Option ℕ) → Token → Type 0
 IsCopied words table homes t = (k : ℕ) → t.from ≤ k → k < t.from + t.copied → Sole t.view k × ((x : ℕ) → get_elem? words k ≡ some x → Copied t.view table homes k x)
 
--- nobody has slot k out
+-- nobody has taken slot k out
 abbrev pub Nobody : List Token → ℕ → Type 0
 Nobody tokens k = (i : ℕ) (t : Token) (p : ℕ × ℕ) → get_elem? tokens i ≡ some t → t.out ≡ Some p → p.0 ≢ k
 
--- the region's words, which stand in the proofs alone, lie in the table where their tokens look for them
+-- the region's words, which appear only in the proofs, lie in the table where their tokens look for them
 pub record Placed (count : ℕ) (words : List ℕ) (s : State ℕ Token) : Type 0 where
   pub counted : length s.words ≡ count
   pub outs : (i : ℕ) (t : Token) → get_elem? s.views i ≡ some t → IsOut words t
@@ -120,7 +120,7 @@ pub record Placed (count : ℕ) (words : List ℕ) (s : State ℕ Token) : Type 
 abbrev pub views_of : List Token → List View
 views_of tokens = map (λ (t : Token). t.view) tokens
 
--- what the rule says of a table of that many words and slots
+-- what the rule says of a table of the given number of words and slots
 abbrev pub Ruled : ℕ → State ℕ Token → Type 0
 Ruled count s = (words : List ℕ) × Reached count words (views_of s.views) × Placed count words s
 

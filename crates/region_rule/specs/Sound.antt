@@ -45,7 +45,7 @@ Beside words u v = (k : ℕ) → Holds u k → Holds v k → MayShare words u v 
 abbrev pub HasPartner : World → View → Type 0
 HasPartner w u = (j : ℕ) × (v : View) × Sees w j v × (role v ≡ partner (role u))
 
--- A world is sound where its words have 64 bits, each token knows its words as they are, no two tokens hold a word that
+-- A world is sound if its words have 64 bits, each token knows its words as they are, no two tokens hold a word that
 -- they may not share, and each end of a ring has its other end. (It has only one: two tokens of one role would hold the
 -- ring's words together.)
 pub record Sound (w : World) : Type 0 where

@@ -48,15 +48,15 @@ Finds w k x = get_elem? w.words k ≡ some x
 abbrev pub seen_anew : World → ℕ → View → World
 seen_anew w i v = record { words = w.words; views = slice_set w.views i v }
 
--- the same where a word has another value too
+-- the same, and a word has another value too
 abbrev pub written_anew : World → ℕ → ℕ → ℕ → View → World
 written_anew w k x i v = record { words = slice_set w.words k x; views = slice_set w.views i v }
 
--- the same where a new token comes
+-- the same, and a new token comes
 abbrev pub cut_anew : World → ℕ → View → View → World
 cut_anew w i v new = record { words = w.words; views = slice_set w.views i v ++ new ∷ [] }
 
--- the same where another token is spent
+-- the same, and another token is spent
 abbrev pub joined_anew : World → ℕ → View → ℕ → World
 joined_anew w i v j = record { words = w.words; views = slice_set (slice_set w.views i v) j Spent }
 
@@ -132,6 +132,6 @@ Run (e ∷ es) before after = (between : World) × Happens e before between × R
 abbrev pub opening : List ℕ → World
 opening words = record { words = words; views = Own (numbered 0 words) None ∷ [] }
 
--- some steps lead here from that many words, all 0, which one token owns
+-- some steps lead here from the given number of words, all 0, which one token owns
 abbrev pub Reached : ℕ → List ℕ → List View → Type 0
 Reached count words views = (events : List Event) × Run events (opening (replicate count 0)) record { words = words; views = views }

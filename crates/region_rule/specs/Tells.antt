@@ -1,5 +1,5 @@
--- What each step tells its token, and the views that a cut and a join leave. No step tells anything to a token of
--- another kind.
+-- What a token learns by each of its steps, and the views that a cut and a join leave. A token of another kind than the
+-- step's learns nothing.
 use Rattle.std.specs.Prelude.{◌≡◌, ℕ, ◌+◌, ◌≤◌, ◌∷◌, ◌++◌, [], true, Some, None, IfSome}
 use Rattle.std.specs.FinMap as fin
 use Rattle.word_map.specs.WordMap.{at, range_of, rest_of, union, values_from}
@@ -66,7 +66,8 @@ abbrev pub receiver_view : Ring → View → View
 receiver_view r (Own m olds) = Receiver (first_receiving r) None
 receiver_view r u = u
 
--- a sender that loads the read count finds the word of a count that is no less than it saw, nor than it was told of
+-- a sender that loads the read count finds the word of a count that is no less than it saw, nor than it learnt of at
+-- the last meeting
 abbrev pub TellsLookRead : View → ℕ → View → Type 0
 TellsLookRead (Sender s t) x after = (n : ℕ) × (after ≡ Sender (looks_read s n) t) × IsReadCount s x n × (s.room ≤ n) × IfSome t (λ old. old.returned ≤ n)
 TellsLookRead u x after = ⊥
@@ -81,8 +82,8 @@ abbrev pub TellsPublish : View → View → Type 0
 TellsPublish (Sender s t) after = after ≡ Sender (publishes s) t
 TellsPublish u after = ⊥
 
--- a receiver that loads the written count finds the word of a count, likewise. By its last note of the flag it has seen
--- all or not
+-- a receiver that loads the written count finds the word of a count that is no less than it saw, nor than it learnt of
+-- at the last meeting. By what it last found in the flag it has seen all or not
 abbrev pub TellsLookWritten : View → ℕ → View → Type 0
 TellsLookWritten (Receiver q u) x after = (n : ℕ) × (after ≡ Receiver (sees_written q n) u) × IsWrittenCount q x n × (q.avail ≤ n) × IfSome u (λ old. old.published ≤ n)
 TellsLookWritten v x after = ⊥
@@ -103,7 +104,8 @@ TellsLeave (Sender s t) after = after ≡ Sender (sender_leaves s) t
 TellsLeave (Receiver q u) after = after ≡ Receiver (receiver_leaves q) u
 TellsLeave u after = ⊥
 
--- an end loads the flag and finds 0 or 1; 1 where it was told that the other end is gone, and 1 again where it found 1
+-- an end loads the flag and finds 0 or 1; it finds 1 if it has learnt that the other end is gone, and 1 again if it
+-- found 1 before
 abbrev pub TellsFlag : View → ℕ → View → Type 0
 TellsFlag (Sender s t) x after = (after ≡ Sender (sender_sees_flag s x) t) × (x ≤ 1) × IfSome t (λ old. old.gone ≡ true → x ≡ 1) × (s.flag_value ≡ 1 → x ≡ 1)
 TellsFlag (Receiver q u) x after = (after ≡ Receiver (receiver_sees_flag q x) u) × (x ≤ 1) × IfSome u (λ old. old.gone ≡ true → x ≡ 1) × (q.flag_value ≡ 1 → x ≡ 1)

@@ -13,7 +13,7 @@ abbrev pub Olds : Type 0
 Olds = Option (WordMap × WordMap)
 
 -- The view of a token, which only its own steps change:
--- an owner of words, which alone reads and changes them;
+-- an owner of words: only it reads and changes them;
 -- a token of frozen words, which nobody changes any more;
 -- the sender's or the receiver's end of a ring, each with what the other end was at their last meeting;
 -- two ends that were joined, with the ring's words;
@@ -26,7 +26,7 @@ pub data View : Type 0 where
   Done : WordMap → Sending → Receiving → View
   Spent : View
 
--- the code by which proofs tell maps apart
+-- the code by which proofs distinguish maps
 abbrev pub map_code : Coded WordMap
 map_code = fin.code coded_ℕ coded_ℕ
 
@@ -61,7 +61,7 @@ restored-stored (Receiver q told) = refl
 restored-stored (Done m s q) = refl
 restored-stored Spent = refl
 
--- the code by which proofs tell views apart
+-- the code by which proofs distinguish views
 abbrev pub view_code : Coded View
 view_code = code_by Stored
     (coded⊎ (coded× map_code (coded_option (coded× map_code map_code)))
@@ -99,7 +99,7 @@ role (Sender s told) = Sends s.ring
 role (Receiver q told) = Receives q.ring
 role u = Neither
 
--- the role of the token that has to be there beside it: the other end for an end, and for any other token its own
+-- the role of the token that has to exist along with it: the other end for an end, and for any other token its own
 abbrev pub partner : Role → Role
 partner Neither = Neither
 partner (Sends r) = Receives r

@@ -39,7 +39,7 @@ pub fn partner_law()
     ensures one_sender { (w : World) (i j : ℕ) (r s : Sending) (t u : Option Receiving) → Sound w → Sees w i (Sender r t) → Sees w j (Sender s u) → r.ring ≡ s.ring → i ≡ j }
 {}
 
-/// A load by an owner finds the value of its map, and tells that the two maps of its last join had no word in common.
+/// A load by an owner finds the value of its map, and shows that the two maps of its last join had no word in common.
 pub fn load_law()
     ensures { (before after : World) (i k x : ℕ) → Sound before → Happens (Load i k x) before after
         → (m : WordMap) × (olds : Olds) × Turns before after i (Own m olds) (Own m None) × WordsStay before after
@@ -53,7 +53,7 @@ pub fn store_law()
         × (after.words ≡ slice_set before.words k x) × Has m k × (x < 2 ^ 64) }
 {}
 
-/// A split gives a range of an owner's words to a new token; any range, also one that it has no word of.
+/// A split gives a range of an owner's words to a new token. Any range will do, even one of whose words it has none.
 pub fn split_law()
     ensures { (before after : World) (i from len : ℕ) → Sound before → Happens (Split i from len) before after
         → (m : WordMap) × (olds : Olds) × Cuts before after i (Own m olds) (Own (rest_of m from len) olds) (Own (range_of m from len) None)
@@ -134,7 +134,8 @@ pub fn load_written_law()
         × (q.gone ≡ false) × (q.flag_value ≢ 1) × SendsTo before q s × (x ≡ count_word s.ring s.published) }
 {}
 
-/// The same after the receiver has found the flag set: the sender is gone, and this is all that it ever publishes.
+/// The receiver finds the same number after it has found the flag set: the sender is gone, and this is all that it ever
+/// publishes.
 pub fn load_last_law()
     ensures { (before after : World) (i x : ℕ) → Sound before → Happens (LoadWrittenLast i x) before after
         → (q : Receiving) × (s : Sending) × ReceiverTurns before after i q (looks_last q s.published) × WordsStay before after
@@ -173,14 +174,14 @@ pub fn load_flag_law()
         × (q.gone ≡ false) × SendsTo before q s × (x ≡ flag_word s.gone) }
 {}
 
-/// The two ends of a ring are joined, and what holds of them both holds of their last views.
+/// The two ends of a ring are joined, and what holds of both ends holds of their last views.
 pub fn join_ends_law()
     ensures { (before after : World) (i j : ℕ) → Sound before → Happens (JoinEnds i j) before after
         → (s : Sending) × (t : Option Receiving) × (q : Receiving) × (u : Option Sending)
         × Joins before after i j (Sender s t) (Receiver q u) (Done (ring_map s q) s q) × WordsStay before after × AreEnds s q }
 {}
 
-/// A load by the joined ends tells what holds of them.
+/// A load by the joined ends shows what holds of them.
 pub fn load_done_law()
     ensures { (before after : World) (i k x : ℕ) → Sound before → Happens (LoadDone i k x) before after
         → (m : WordMap) × (s : Sending) × (q : Receiving) × Turns before after i (Done m s q) (Done m s q) × WordsStay before after × AreEnds s q }
@@ -192,7 +193,7 @@ pub fn end_done_law()
         → (m : WordMap) × (s : Sending) × (q : Receiving) × Turns before after i (Done m s q) (Own m None) × WordsStay before after × (m ≡ ring_map s q) }
 {}
 
-/// The joined ends part, as they were, and each is told what the other was.
+/// The joined ends part, as they were, and each learns what the other was.
 pub fn part_again_law()
     ensures { (before after : World) (i : ℕ) → Sound before → Happens (PartAgain i) before after
         → (m : WordMap) × (s : Sending) × (q : Receiving) × Cuts before after i (Done m s q) (Sender s (Some q)) (Receiver q (Some s)) × WordsStay before after }

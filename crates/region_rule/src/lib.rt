@@ -2,12 +2,12 @@
 //! the region sound.
 //!
 //! Nothing here runs. `specs/View.antt` says what a token knows and holds, `specs/Sound.antt` what holds of the words
-//! and all tokens at every moment, `specs/Steps.antt` what each kind of step does, and `specs/Tells.antt` what it
-//! tells. The laws say of every kind that it keeps a sound region sound, and what it finds. `RegionRule` is the rule of
-//! an `atomic_table` whose states are runs of these steps, so the crates that step on the table cite the laws and prove
-//! nothing of threads.
+//! and all tokens at every moment, `specs/Steps.antt` what each kind of step does, and `specs/Tells.antt` what its
+//! token learns by it. The laws say of every kind that it keeps a sound region sound, and what it finds. `RegionRule`
+//! is the rule of an `atomic_table` whose states are runs of these steps, so the crates that step on the table cite the
+//! laws and prove nothing about threads.
 //!
-//! Who may change which word, and when: an owner (`Own`) alone reads and changes its words; frozen words (`Frozen`)
+//! Who may change which word, and when: only an owner (`Own`) reads and changes its words; frozen words (`Frozen`)
 //! change no more; the words of a ring are changed by its two ends as `ring_rule` says.
 
 #![tactic(auto)]

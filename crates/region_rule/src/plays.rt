@@ -1,7 +1,9 @@
-//! The kinds of step, as a table is told them: what each tells its token, and what a cut and a join leave.
+//! The kinds of step, in the form that a table takes them: what the token learns by each, and what a cut and a join
+//! leave.
 //!
 //! A word in a slot is loaded or stored in two steps of the table: `TakesOut` takes the slot, which is no step of the
-//! region, and a second step gives it back, which is the region's load or store. Between the two the slot is plain memory.
+//! region, and a second step gives it back, which is the region's load or store. Between the two the slot is plain
+//! memory.
 
 ghost use Rattle.std.specs.Prelude.{◌≡◌, ℕ, suc, [], ◌∷◌};
 ghost use Rattle.ring_rule.specs.Ring.{Ring};
@@ -13,7 +15,7 @@ use crate::rule::Known;
 use atomic_table::{Join, Play, Split};
 use std::marker::{Brand, PhantomData};
 
-/// Which words are meant. A call picks them.
+/// Which words are meant. A call chooses them.
 pub trait Range {
     ghost from: { ℕ };
 
@@ -209,7 +211,7 @@ impl Play<u64, Known> for LoadsFlag {
     ghost then = { λ step before found after. TellsFlag before.0.view found after.0.view × IsIdle after after.0.view };
 }
 
-/// Which ring is made. A call picks it.
+/// Which ring is made. A call chooses it.
 pub trait Shape {
     ghost ring: { Ring };
 }

@@ -1,5 +1,5 @@
-//! The rule of a table that is a region: its tokens' views are those of a run, and the words of the run lie in the table
-//! where the tokens look for them.
+//! The rule of a table that is a region: its tokens' views are those of a run, and the words of the run lie in the
+//! table at the places in which the tokens look for them.
 
 ghost use Rattle.std.specs.Prelude.{List, replicate, None};
 ghost use Rattle.word_map.specs.WordMap.{numbered};
@@ -25,8 +25,8 @@ impl Model for Known {
     ghost view = { λ _. idle Spent };
 }
 
-/// The views are those of a run from words that are all 0, and its words lie in as many slots and words of the table. The
-/// key is their number.
+/// The views are those of a run from words that are all 0. The table has one slot and one word for each word of the
+/// run, and the run's words lie in them. The key is their number.
 pub struct RegionRule;
 
 impl TableRule<u64, Known, usize> for RegionRule {

@@ -17,7 +17,7 @@ pub record Owned : Type 0 where
 abbrev pub owned : TableId → WordMap → Owned
 owned region words = record { region = region; words = words }
 
--- the code by which proofs tell such values apart
+-- the code by which proofs distinguish such values
 abbrev pub owned_code : Coded Owned
 owned_code = code_by (TableId × WordMap) (coded× table_id_coded map_code) (λ p. (p.region, p.words)) (λ p. record { region = p.0; words = p.1 }) (λ _. refl)
 

@@ -9,7 +9,7 @@ AllBytes bytes = All (λ b. b < 256) bytes
 abbrev pub word_count : ℕ → ℕ
 word_count bytes = (bytes + 7) / 8
 
--- the number that the bytes stand for
+-- the number that the bytes encode
 abbrev pub value_of : List ℕ → ℕ
 value_of [] = 0
 value_of (b ∷ bs) = b + 256 * value_of bs
@@ -27,6 +27,6 @@ packed_words (suc n) bytes = value_of (take 8 bytes) ∷ packed_words n (drop 8 
 abbrev pub is_of_word : ℕ → ℕ → Bool
 is_of_word place i = leb (8 * place) i && ltb i (8 * place + 8)
 
--- the byte of the word that stands at i of the bytes
+-- the byte of the word that is byte i of the bytes
 abbrev pub byte_of : ℕ → ℕ → ℕ
 byte_of word i = word / 2 ^ (8 * (i % 8)) % 256

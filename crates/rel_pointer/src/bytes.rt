@@ -10,7 +10,7 @@ pub fn words_of(bytes: u64) -> u64
     bytes.div_ceil(8)
 }
 
-/// The number that up to eight bytes stand for.
+/// The number that up to eight bytes encode.
 fn value(bytes: &[u8]) -> u64
     requires { length bytes.now ≤ 8 }
     ensures { result ≡ value_of bytes.now }

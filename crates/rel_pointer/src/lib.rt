@@ -1,4 +1,4 @@
-//! Places in a region, which hold wherever the region lies, and the packing of bytes into its words.
+//! Places in a region, which are valid wherever the region is mapped, and the packing of bytes into its words.
 
 #![tactic(auto)]
 

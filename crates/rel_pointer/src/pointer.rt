@@ -42,7 +42,7 @@ impl RelPtr {
         self.word > 0
     }
 
-    /// The pointer to the word that many words on.
+    /// The pointer to the word the given number of words further on.
     pub fn plus(self, words: u64) -> RelPtr
         requires valid { 0 < self }
         requires fits { self + words < 2 ^ 64 }

@@ -1,4 +1,4 @@
--- The codes by which proofs tell the values of the ends apart.
+-- The codes by which proofs distinguish the values of the ends.
 use Rattle.std.specs.Prelude.{ℕ, Bool, List, refl}
 use Rattle.std.specs.Coded.{Coded, code_by, coded×, coded_ℕ, coded_bool, coded_list}
 use Rattle.ring_rule.specs.Ring.{Ring, Sending, Receiving}

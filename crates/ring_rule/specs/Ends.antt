@@ -43,15 +43,15 @@ sender_leaves s = record s { gone = true; turn = s.turn + 1 }
 abbrev pub sender_sees_flag : Sending → ℕ → Sending
 sender_sees_flag s x = record s { turn = s.turn + 1; flag_loads = s.flag_loads + 1; flag_turn = s.turn + 1; flag_value = x }
 
--- the receiver has loaded the written count, not having found the flag set
+-- the receiver has loaded the written count, and had not found the flag set
 abbrev pub looks_written : Receiving → ℕ → Receiving
 looks_written q n = record q { avail = n; turn = q.turn + 1; looked = q.turn + 1; looked_empty = n == length q.taken }
 
--- it has loaded the written count after it had found the flag set
+-- it has loaded the written count, after it had found the flag set
 abbrev pub looks_last : Receiving → ℕ → Receiving
 looks_last q n = record q { avail = n; turn = q.turn + 1; final = true; looked = q.turn + 1; looked_empty = n == length q.taken }
 
--- it has loaded the written count: by its last note of the flag
+-- it has loaded the written count: one of these two, by what it last found in the flag
 abbrev pub sees_written : Receiving → ℕ → Receiving
 sees_written q n = cond (q.flag_value == 1) (looks_last q n) (looks_written q n)
 

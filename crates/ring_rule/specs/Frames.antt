@@ -1,4 +1,4 @@
--- Messages as words, in the manner of shm_mq.c: the length of a message in one word, and then its bytes, the last word
+-- Messages as words, laid out as shm_mq.c does: the length of a message in one word, and then its bytes, the last word
 -- filled up with zeros.
 use Rattle.std.specs.Prelude.{◌≡◌, ℕ, ◌≤◌, List, [], ◌∷◌, ◌++◌, length, All}
 use Rattle.rel_pointer.specs.Bytes.{AllBytes, word_count, packed_words}

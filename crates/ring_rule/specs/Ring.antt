@@ -1,18 +1,17 @@
--- A ring of words that one sender and one receiver share, in the manner of shm_mq.c. Who may change which word, and
--- when:
+-- A ring of words that one sender and one receiver share, as in shm_mq.c. Who may change which word, and when:
 --
 -- * The first word is the count of words written. Only the sender stores it, and only the length of what it has stored
 --   before.
 -- * The second is the count of words read. Only the receiver stores it, and only the length of what it has taken
 --   before.
 -- * The third is the flag, 0 or 1. Either end sets it, as its last step, and none clears it.
--- * The cells come after these. Only the sender stores them, and only in the cell of the next word, where by its last
---   look at the read count what stood there was taken. The receiver loads a cell only where by its last look at the
---   written count its word stands there.
+-- * The cells come after these. Only the sender stores them. It stores only the cell of the next word, and only if by
+--   its last look at the read count the word that lay there was taken. The receiver loads a cell only if by its last
+--   look at the written count its word lies there.
 --
--- Counts have no bound, and their words are modulo 2 ^ 64. `IsSending` is what the sender's end says, `IsReceiving`
--- what the receiver's says, and `ArePaired` what ties the two. Each has a part that speaks of the ends alone: `AreEnds`
--- is these three parts together.
+-- Counts have no bound, and their words are modulo 2 ^ 64. `IsSending` is what holds of the sender's end, `IsReceiving`
+-- what holds of the receiver's, and `ArePaired` what ties the two. Each has a part that speaks only of the ends:
+-- `AreEnds` is these three parts together.
 use Rattle.std.specs.Prelude.{◌≡◌, ℕ, ◌+◌, ◌%◌, ◌^◌, ◌<◌, ◌≤◌, Bool, true, ◌||◌, cond, List, ◌∷◌, ◌++◌, length, Option, IfSome}
 use mathlib.Core.Option.{some}
 use lib.ListN.{get_elem?}
@@ -82,7 +81,7 @@ pub record Receiving : Type 0 where
   pub avail : ℕ
   -- it has set the flag
   pub gone : Bool
-  -- as of the sender
+  -- as in the sender's end
   pub turn : ℕ
   -- it has seen all that is ever written: it loaded the written count after it had found the flag set
   pub final : Bool
@@ -107,8 +106,8 @@ pub record IsReceivingEnd (q : Receiving) : Type 0 where
   pub returned : q.returned ≤ length q.taken
   pub taken : length q.taken ≤ q.avail
 
--- what ties the ends: a word that was put and not given back stands in its cell, what was taken is a beginning of what
--- was put, no end has seen more than the other has published, and a flag that an end found set was set by the other
+-- what ties the ends: a word that was put and not given back is in its cell, what was taken is a beginning of what was
+-- put, no end has seen more than the other has published, and a flag that an end found set was set by the other
 pub record AreTied (s : Sending) (q : Receiving) : Type 0 where
   pub same : s.ring ≡ q.ring
   pub cells : (i x : ℕ) → q.returned ≤ i → get_elem? s.put i ≡ some x → get_elem? s.cells (cell_of s.ring i) ≡ some x
@@ -125,32 +124,32 @@ pub record AreEnds (s : Sending) (q : Receiving) : Type 0 where
   pub receiver : IsReceivingEnd q
   pub tied : AreTied s q
 
--- the sender's end, and the words that it alone stores
+-- the sender's end, and the words that only it stores
 pub record IsSending (words : List ℕ) (s : Sending) : Type 0 where
   pub own : IsSendingEnd s
   pub written : get_elem? words s.ring.base ≡ some (count_word s.ring s.published)
   pub stored : (i x : ℕ) → get_elem? s.cells i ≡ some x → get_elem? words (s.ring.base + 3 + i) ≡ some x
 
--- the receiver's end, and the word that it alone stores
+-- the receiver's end, and the word that only it stores
 pub record IsReceiving (words : List ℕ) (q : Receiving) : Type 0 where
   pub own : IsReceivingEnd q
   pub read : get_elem? words (q.ring.base + 1) ≡ some (count_word q.ring q.returned)
 
--- what a sender was told of the receiver is no more than what holds of it
+-- what a sender learnt of the receiver is no more than what holds of it
 pub record WasReceiving (old q : Receiving) : Type 0 where
   pub ring : old.ring ≡ q.ring
   pub returned : old.returned ≤ q.returned
   pub avail : old.avail ≤ q.avail
   pub gone : old.gone ≡ true → q.gone ≡ true
 
--- what a receiver was told of the sender is no more than what holds of it
+-- what a receiver learnt of the sender is no more than what holds of it
 pub record WasSending (old s : Sending) : Type 0 where
   pub ring : old.ring ≡ s.ring
   pub published : old.published ≤ s.published
   pub room : old.room ≤ s.room
   pub gone : old.gone ≡ true → s.gone ≡ true
 
--- the two ends, the flag, and what each was told at their last meeting
+-- the two ends, the flag, and what each learnt at their last meeting
 pub record ArePaired (words : List ℕ) (s : Sending) (told_s : Option Receiving) (q : Receiving) (told_q : Option Sending) : Type 0 where
   pub tied : AreTied s q
   pub flag : get_elem? words (s.ring.base + 2) ≡ some (flag_word (s.gone || q.gone))

@@ -2,8 +2,7 @@
 //!
 //! There is nothing to run here. `specs/Ring.antt` says what each end knows and which rules tie the two, and who may
 //! change which word and when; `specs/Ends.antt` what an end knows after each of its steps; `specs/Frames.antt` how
-//! messages lie in words. The lemmas of `proofs/` say that each step of an end keeps the rules, for tokens of whatever
-//! kind.
+//! messages lie in words. The lemmas of `proofs/` say that each step of an end keeps the rules, for tokens of any kind.
 
 #![tactic(auto)]
 

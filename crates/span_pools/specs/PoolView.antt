@@ -31,20 +31,20 @@ layout_of class first pages = record {
   marks = marks_at first pages class;
 }
 
--- the code by which proofs tell superblocks apart
+-- the code by which proofs distinguish superblocks
 abbrev pub span_code : Coded Span
 span_code = code_by (ℕ × List Bool) (coded× coded_ℕ (coded_list coded_bool)) (λ s. (s.page, s.live)) (λ p. record { page = p.0; live = p.1 }) (λ _. refl)
 
--- the code by which proofs tell layouts apart
+-- the code by which proofs distinguish layouts
 abbrev pub layout_code : Coded Layout
 layout_code = code_by (ℕ × (ℕ × (ℕ × (ℕ × (ℕ × ℕ))))) (coded× coded_ℕ (coded× coded_ℕ (coded× coded_ℕ (coded× coded_ℕ (coded× coded_ℕ coded_ℕ)))))
     (λ l. (l.first, (l.pages, (l.size, (l.objects, (l.records, l.marks)))))) (λ p. record { first = p.0; pages = p.1.0; size = p.1.1.0; objects = p.1.1.1.0; records = p.1.1.1.1.0; marks = p.1.1.1.1.1 }) (λ _. refl)
 
--- the code by which proofs tell states apart
+-- the code by which proofs distinguish states
 abbrev pub pool_state_code : Coded PoolState
 pool_state_code = code_by (List Span × Option ℕ) (coded× (coded_list span_code) (coded_option coded_ℕ)) (λ s. (s.spans, s.active)) (λ p. record { spans = p.0; active = p.1 }) (λ _. refl)
 
--- the code by which proofs tell such values apart
+-- the code by which proofs distinguish such values
 abbrev pub pool_view_code : Coded PoolView
 pool_view_code = code_by (TableId × (Layout × (List Span × Option ℕ))) (coded× table_id_coded (coded× layout_code (coded× (coded_list span_code) (coded_option coded_ℕ))))
     (λ b. (b.region, (b.layout, (b.state.spans, b.state.active)))) (λ p. record { region = p.0; layout = p.1.0; state = record { spans = p.1.1.0; active = p.1.1.1 } }) (λ _. refl)

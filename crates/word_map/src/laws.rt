@@ -9,8 +9,8 @@ pub fn cut_and_joined()
     ensures apart { (m : WordMap) (from len : ℕ) → Disjoint (rest_of m from len) (range_of m from len) }
 {}
 
-/// Words in a row that are joined to words apart from them are cut off again as they were. So who joins two owners
-/// learns that they have no word in common, and parts them again by one cut.
+/// Words in a row that are joined to a map without any of them are cut off again as they were. So a caller that joins
+/// two owners learns that they have no word in common, and can separate them again by one cut.
 pub fn joined_and_cut()
     ensures row { (m n : WordMap) (from len : ℕ) → HasJust n from len → range_of (union m n) from len ≡ n }
     ensures others { (m n : WordMap) (from len : ℕ) → Disjoint m n → HasJust n from len → rest_of (union m n) from len ≡ m }
