@@ -35,7 +35,7 @@ frozen_map u = fin.empty
 abbrev pub IsBelow : WordMap → ℕ → Type 0
 IsBelow m n = (k x : ℕ) → at m k ≡ Some x → k < n
 
--- a region has 1 to 2 ^ 26 words, and a slot beside each
+-- a region has 1 to 2 ^ 26 words, and a slot for each word
 abbrev pub IsSized : TableId → Type 0
 IsSized region = (0 < region.words) × (region.words ≤ 67108864) × (region.slots ≡ region.words)
 

@@ -9,7 +9,7 @@ use crate::part::Part;
 use crate::region::Region;
 use rel_pointer::RelPtr;
 
-/// Words in a row: `bytes / 8` of them from the valid place `at`. Whoever holds the chunk owns them.
+/// Words in a row: `bytes / 8` of them from the valid place `at`. The holder of the chunk owns them.
 #[derive(Drop)]
 pub struct Chunk {
     /// Its first word.
@@ -32,7 +32,7 @@ pub struct Run {
     pub pages: u32,
     /// The token of its words, just these.
     pub words: Part,
-    /// Of a superblock: the token of the words of its pages' control records, which stand elsewhere. Which words these
+    /// Of a superblock: the token of the words of its pages' control records, which lie elsewhere. Which words these
     /// are is for the crate that lays the records out to say.
     pub control: Option<Part>,
     pub ghost valid: { 0 < at },

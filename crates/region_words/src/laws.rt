@@ -1,11 +1,11 @@
-//! A chunk is told by its place, its length and its words, and so is a run: what else they keep are facts.
+//! A chunk is determined by its place, its length and its words, and so is a run: what else they keep are facts.
 
 ghost use Rattle.std.specs.Prelude.{◌≡◌};
 ghost use Rattle.region_words.specs.declared.chunk.Chunk.{Chunk};
 ghost use Rattle.region_words.specs.declared.chunk.Run.{Run};
 
-/// Two chunks of the same words are one. So where a chunk is taken apart and made again, a clause may say that it is
-/// the same.
+/// Two chunks of the same words are one. So if a chunk is taken apart and made again, a clause may say that it is the
+/// same.
 pub fn same_chunk()
     ensures { (c d : Chunk) → c.at ≡ d.at → c.bytes ≡ d.bytes → c.part ≡ d.part → c ≡ d }
 {}

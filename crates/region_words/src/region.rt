@@ -1,10 +1,10 @@
 //! The region: the table that holds the words, and the only way to its steps. Its words and tokens are always those of
 //! a run of the rule.
 //!
-//! The table has a slot and a word for each word of the region. A word that one token owns, and a cell of a ring, lies in
-//! its slot, which is plain memory: a token takes the slot out by a load of word 0, reads or writes it, and gives it back
-//! by another load. What several tokens read at once, frozen words and the counts and flags of rings, lies in the table's
-//! words. Word 0 is hardly ever stored: it is no ring's count, since a chunk begins at word 1 or later.
+//! The table has a slot and a word for each word of the region. A word that one token owns, and a cell of a ring, lies
+//! in its slot, which is plain memory: a token takes the slot out by a load of word 0, reads or writes it, and gives it
+//! back by another load. What several tokens read at once, frozen words and the counts and flags of rings, lies in the
+//! table's words. Word 0 is hardly ever stored: it is no ring's count, since a chunk begins at word 1 or later.
 
 ghost use Rattle.std.specs.Prelude.{[], ◌≡◌, ℕ, suc, ◌+◌, ◌<◌, ◌≤◌, ◌^◌, cond, Option, Some, None, IfOk, IsSome, replicate};
 ghost use mathlib.Core.Option.{none};
@@ -40,7 +40,7 @@ impl Model for Region {
     ghost invariant = { λ r. IsSized r.table.shared.table_id × (r.table.shared.key ≡ r.table.shared.table_id.words) };
 }
 
-/// That many zeros.
+/// The given number of zeros.
 fn zeros(alloc: Global, count: usize) -> Result<Vec<u64>, AllocError>
     ensures { IfOk result (λ v. v.items ≡ replicate count 0) }
 {
@@ -48,8 +48,8 @@ fn zeros(alloc: Global, count: usize) -> Result<Vec<u64>, AllocError>
 }
 
 impl Region {
-    /// A region of that many words, all 0, and the part that owns all of them. It takes 16 bytes a word, and as many again
-    /// while it is made.
+    /// A region of the given number of words, all 0, and the part that owns all of them. It takes 16 bytes a word, and
+    /// 16 more a word while it is made.
     pub fn new(alloc: Global, words: usize) -> Result<(Region, Part), AllocError>
         requires { (1 ≤ words) × (words ≤ 2 ^ 26) }
         ensures words { IfOk result (λ r. r.0.words ≡ words) }
@@ -65,8 +65,8 @@ impl Region {
         Ok((Region { table }, Part { seat }))
     }
 
-    /// A load of the table's word by a token of any kind, for the crates that have kinds of their own, as the ends of a
-    /// ring. The rule has to allow the step.
+    /// A load of the table's word by a token of any kind, for the crates that have their own kinds, such as the ends of
+    /// a ring. The rule has to allow the step.
     #[inline]
     pub fn load_as<M: Play<u64, Known>>(&self, seat: &mut Seat<u64, Known>, at: u64) -> u64
         requires here { seat.old.table_id ≡ self.now }
@@ -90,9 +90,9 @@ impl Region {
         self.table.shared.store::<M>(seat, at as usize, value);
     }
 
-    /// The value of a word that lies in its slot, by a token of any kind: two loads of word 0, of which the second gives
-    /// the slot back as the step `M`, and a plain load between them. The token may take the slot, and has not copied
-    /// the word.
+    /// The value of a word that lies in its slot, by a token of any kind: two loads of word 0, of which the second
+    /// gives the slot back as the step `M`, and a plain load between them. The token may take the slot, and has not
+    /// copied the word.
     #[inline]
     pub fn load_slot_as<M: Play<u64, Known>>(&self, seat: &mut Seat<u64, Known>, at: u64) -> u64
         requires here { seat.old.table_id ≡ self.now }
@@ -151,7 +151,7 @@ impl Region {
         self.store_slot_at::<M, Brand>(seat, at, value);
     }
 
-    /// The same for the slot that `J` names.
+    /// The same for the slot that `J` names, since a step can't take it as an argument.
     #[inline]
     fn store_slot_at<M: Play<u64, Known>, J: Range>(
         &self,
