@@ -2,7 +2,7 @@
 use Rattle.std.specs.Prelude.{◌≡◌, ℕ, ◌+◌, ◌*◌, ◌<◌, ◌≤◌, List, length, take, drop, slice_index, true}
 use Rattle.rel_pointer.specs.Bytes.{word_count, packed_words, byte_of, is_of_word}
 
--- that many words of the bytes, from this one on
+-- the given number of words of the bytes, from this one on
 abbrev pub words_from : ℕ → ℕ → List ℕ → List ℕ
 words_from from count bytes = take count (drop from (packed_words (word_count (length bytes)) bytes))
 

@@ -13,7 +13,7 @@ use Rattle.region_rule.specs.RingMap.{ring_map}
 use Rattle.region_words.specs.Parts.{IsSized}
 
 -- the sender's end: its region, what it knows, what the receiver was at their last meeting, the words of the chunk
--- behind the ring, and the bytes of the whole chunk
+-- after the ring, and the bytes of the whole chunk
 pub record SendingEnd : Type 0 where
   pub region : TableId
   pub end : Sending
@@ -35,8 +35,8 @@ pub record ReceivingEnd : Type 0 where
 abbrev pub receiving_end : TableId → Receiving → Option Sending → ReceivingEnd
 receiving_end region q told = record { region = region; end = q; told = told }
 
--- the two ends that came home: the last view of each, the words of the chunk behind the ring, and the bytes of the
--- whole chunk
+-- the two ends that came home: the last view of each, the words of the chunk after the ring, and the bytes of the whole
+-- chunk
 pub record EndsHome : Type 0 where
   pub region : TableId
   pub sender : Sending
@@ -48,7 +48,7 @@ pub record EndsHome : Type 0 where
 abbrev pub ends_home : TableId → Sending → Receiving → WordMap → ℕ → EndsHome
 ends_home region s q rest bytes = record { region = region; sender = s; receiver = q; rest = rest; bytes = bytes }
 
--- the ring of that many words at a place
+-- the ring of the given number of words at a place
 abbrev pub ring_of : ℕ → ℕ → ℕ → ℕ → Ring
 ring_of base size from max = record { base = base; size = size; start = from; max = max }
 
@@ -77,7 +77,7 @@ tx_of (Sender s t) = s
 tx_of (Done m s q) = s
 tx_of v = first_sending no_ring []
 
--- and what it was told of the receiver's
+-- and what it learnt of the receiver's
 abbrev pub tx_told : View → Option Receiving
 tx_told (Sender s t) = t
 tx_told v = None
@@ -88,7 +88,7 @@ rx_of (Receiver q u) = q
 rx_of (Done m s q) = q
 rx_of v = first_receiving no_ring
 
--- and what it was told of the sender's
+-- and what it learnt of the sender's
 abbrev pub rx_told : View → Option Sending
 rx_told (Receiver q u) = u
 rx_told v = None
@@ -109,7 +109,7 @@ pub record IsSender (region rest : TableId) (me : Me ℕ Token) (base size max p
   pub position_is : position ≡ count_word (tx_of me.0.view).ring (length (tx_of me.0.view).put)
   pub rest_here : rest ≡ region
 
--- likewise of a receiver's end, with what it has taken
+-- what the numbers of a receiver's end are: its position is the word of the count of what it has taken
 pub record IsReceiver (region : TableId) (me : Me ℕ Token) (base size max position : ℕ) : Type 0 where
   pub receives : IsIdle me (Receiver (rx_of me.0.view) (rx_told me.0.view))
   pub lies : LiesIn region (rx_of me.0.view).ring base size max

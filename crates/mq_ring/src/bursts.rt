@@ -1,4 +1,4 @@
-//! Runs of words: as many calls of `put` or `take`, one after the other, whose words are bytes of a message.
+//! Runs of words: calls of `put` or `take`, one after the other, whose words are bytes of a message.
 
 ghost use Rattle.std.specs.Prelude.{◌≡◌, ◌+◌, ◌<◌, ◌≤◌, ◌++◌, List, ℕ, false, length};
 ghost use Rattle.std.specs.List.{fold};
@@ -13,8 +13,8 @@ use region_words::Region;
 use rel_pointer::{pack, unpack};
 
 impl RingTx {
-    /// Stores that many words of the bytes, from word `from` on, one after the other. The receiver may take them once
-    /// they are published. One store a word.
+    /// Stores the given number of words of the bytes, from word `from` on, one after the other. The receiver may take
+    /// them once they are published. One store a word.
     pub fn put_words(&mut self, r: &Region, bytes: &[u8], from: u64, words: u64)
         requires here { self.old.region ≡ r.now }
         requires stays { self.old.end.gone ≡ false }
@@ -30,8 +30,8 @@ impl RingTx {
 }
 
 impl RingRx {
-    /// Takes that many words that were put, one after the other, and writes their bytes to `out` from word `from` on,
-    /// as far as it has room for them. One load a word.
+    /// Takes the given number of words that were put, one after the other, and writes their bytes to `out` from word
+    /// `from` on, as far as it has room for them. One load a word.
     pub fn take_words(&mut self, r: &Region, out: &mut [u8], from: u64, words: u64)
         requires here { self.old.region ≡ r.now }
         requires stays { self.old.end.gone ≡ false }

@@ -38,7 +38,7 @@ impl Model for RingDone {
     ghost invariant = { λ e. IsHome e.seat.table_id e.site.rest.region e.seat.me e.site.base e.site.size e.site.max };
 }
 
-/// Ends a ring, gone ends or not. What holds of both ends is told to the caller.
+/// Ends a ring, whether its ends are gone or not. The caller learns what holds of both ends.
 pub fn home(tx: RingTx, rx: RingRx, r: &Region) -> RingDone
     requires here { tx.region ≡ r.now }
     requires rx_here { rx.region ≡ r.now }

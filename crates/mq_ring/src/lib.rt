@@ -1,10 +1,10 @@
-//! A ring of words that one sender and one receiver share, in the manner of shm_mq.c.
+//! A ring of words that one sender and one receiver share, as in shm_mq.c.
 //!
 //! The first three words of the ring's part of a chunk are the count of words written, the count of words read and the
-//! flag; the cells come after them. Who may change which word and when is told in `ring_rule`'s `specs/Ring.antt`. The
-//! counts and the flag are atomic words; a cell is plain memory, which the sender and the receiver have by turns. Each
-//! call of an end is one load or one store of one of these words, so a reader of the contracts knows what the other end
-//! can see between any two calls. An end knows of the other only what it has loaded, and what `meet` told it. No call
+//! flag; the cells come after them. `ring_rule`'s `specs/Ring.antt` says who may change which word and when. The counts
+//! and the flag are atomic words; a cell is plain memory, which the sender and the receiver have by turns. Each call of
+//! an end is one load or one store of one of these words, so a reader of the contracts knows what the other end can see
+//! between any two calls. An end knows of the other only what it has loaded, and what it learnt by `meet`. No call
 //! waits, takes memory or refuses.
 
 #![tactic(auto)]

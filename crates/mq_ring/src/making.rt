@@ -20,7 +20,7 @@ use std::marker::Brand;
 /// A ring that is to be made; its two ends are the values to hold.
 pub struct Ring;
 
-/// Whether a ring may have that many cells: a power of two, up to 2^20. At most 21 steps.
+/// Whether a ring may have this number of cells: a power of two, up to 2^20. At most 21 steps.
 #[tactic(auto, using(crate::proofs::Distances::power_few))]
 pub fn is_ring_size(words: u64) -> bool
     ensures allowed { IsTrue result → (e : ℕ) × (words ≡ 2 ^ e) × (e ≤ 20) }
@@ -70,7 +70,8 @@ impl Ring {
     }
 }
 
-/// The owner of a fresh ring, which has copied the counts and the flag, becomes its two ends. `J` names the ring, since a cut can't take it as an argument.
+/// The owner of a fresh ring, which has copied the counts and the flag, becomes its two ends. `J` names the ring, since
+/// a cut can't take it as an argument.
 fn part_ends<J: Shape>(
     r: &Region,
     mut seat: Seat<u64, Known>,

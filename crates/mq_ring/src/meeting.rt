@@ -8,8 +8,8 @@ use crate::sender::RingTx;
 use region_rule::{LoadsDone, Meeting};
 use region_words::Region;
 
-/// The two ends of a ring meet, gone or not: each is told what the other is, and what holds of both is told to the
-/// caller. It changes nothing that they have put, taken, published or set. Three loads.
+/// The two ends of a ring meet, gone or not: each learns what the other is, and the caller learns what holds of both.
+/// It changes nothing that they have put, taken, published or set. Three loads.
 pub fn meet(tx: &mut RingTx, rx: &mut RingRx, r: &Region)
     requires here { tx.old.region ≡ r.now }
     requires rx_here { rx.old.region ≡ r.now }

@@ -1,4 +1,4 @@
-//! Where a word of a ring stands in the region.
+//! Where a word of a ring lies in the region.
 
 ghost use Rattle.std.specs.Prelude.{◌≡◌, ℕ, ◌+◌, ◌%◌, ◌^◌, ◌<◌, ◌≤◌};
 

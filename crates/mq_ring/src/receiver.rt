@@ -1,4 +1,4 @@
-//! The receiver's end of a ring. It alone stores the read count.
+//! The receiver's end of a ring. Only it stores the read count.
 
 ghost use Rattle.std.specs.Prelude.{◌≡◌, ◌+◌, ◌<◌, ◌≤◌, false, true, length, IfSome, IsTrue};
 ghost use Rattle.ring_rule.specs.Frames.{IsFramed};
@@ -53,7 +53,7 @@ impl RingRx {
         self.max
     }
 
-    /// Loads the written count, and answers how many published words are not yet taken. Where the last look at the flag
+    /// Loads the written count, and returns how many published words are not yet taken. If the last look at the flag
     /// found it set, this is the last count that the sender ever publishes.
     pub fn look_written(&mut self, r: &Region) -> u64
         requires here { self.old.region ≡ r.now }
@@ -92,7 +92,7 @@ impl RingRx {
         r.store_as::<GivesBack>(&mut self.seat, self.base + 1, self.position);
     }
 
-    /// Sets the flag: this end is gone, and makes no step any more.
+    /// Sets the flag: this end is gone, and makes no further step.
     pub fn set_flag(&mut self, r: &Region)
         requires here { self.old.region ≡ r.now }
         requires stays { self.old.end.gone ≡ false }

@@ -1,4 +1,4 @@
-//! The sender's end of a ring. It alone stores the cells and the written count.
+//! The sender's end of a ring. Only it stores the cells and the written count.
 
 ghost use Rattle.std.specs.Prelude.{◌≡◌, ◌+◌, ◌<◌, ◌≤◌, ◌++◌, ◌∷◌, [], false, true, length, IfSome, IsTrue};
 ghost use Rattle.ring_rule.specs.Frames.{IsFramed};
@@ -17,7 +17,7 @@ use std::marker::Model;
 #[derive(Drop)]
 pub struct RingTx {
     pub(crate) seat: Seat<u64, Known>,
-    /// A token of no words, which stands in the place of the receiver's while the ends are joined.
+    /// A token of no words, which replaces the receiver's while the ends are joined.
     pub(crate) spare: Option<Seat<u64, Known>>,
     pub(crate) site: Site,
     /// The word of the count of what was put.
@@ -74,7 +74,7 @@ impl RingTx {
         r.store_as::<Publishes>(&mut self.seat, self.site.base, self.position);
     }
 
-    /// Loads the read count, and answers how many more words may be put.
+    /// Loads the read count, and returns how many more words may be put.
     pub fn look_read(&mut self, r: &Region) -> u64
         requires here { self.old.region ≡ r.now }
         requires stays { self.old.end.gone ≡ false }
@@ -88,7 +88,7 @@ impl RingTx {
         self.site.size - self.position.wrapping_sub(found)
     }
 
-    /// Sets the flag: this end is gone, and makes no step any more.
+    /// Sets the flag: this end is gone, and makes no further step.
     pub fn set_flag(&mut self, r: &Region)
         requires here { self.old.region ≡ r.now }
         requires stays { self.old.end.gone ≡ false }

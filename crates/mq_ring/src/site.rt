@@ -1,4 +1,4 @@
-//! The chunk of a ring: where the ring lies, and the words of the chunk behind it, which the sender's end keeps.
+//! The chunk of a ring: where the ring lies, and the words of the chunk after it, which the sender's end keeps.
 
 ghost use Rattle.std.specs.Prelude.{◌≡◌, ◌+◌, ◌-◌, ◌*◌, ◌/◌, ◌%◌, ◌<◌, ◌≤◌};
 ghost use Rattle.word_map.specs.WordMap.{HasJust};
@@ -17,7 +17,7 @@ pub(crate) struct Site {
     pub(crate) max: u32,
     /// The bytes of the whole chunk.
     pub(crate) bytes: u64,
-    /// The words of the chunk behind the ring.
+    /// The words of the chunk after the ring.
     pub(crate) rest: Part,
     ghost valid: { 0 < base },
     ghost whole: { bytes % 8 ≡ 0 },
