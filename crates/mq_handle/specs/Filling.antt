@@ -17,12 +17,12 @@ total_with put message = length put - length (left_of put) + length (frame messa
 abbrev pub LacksRoom : ℕ → Sending → Type 0
 LacksRoom total s = (length s.put ≡ s.room + s.ring.size) × (length s.put < total)
 
--- all that was put is published; where it is already, no step is made
+-- all that was put is published; if it is already, no step is made
 abbrev pub publishes_rest : Sending → Sending
 publishes_rest s = cond {A = Sending} (s.published == length s.put) s (publishes s)
 
--- the steps of a sender's end up to an end at which words may be left: a word is stored; or, where it lacks room, what
--- it put and has not published is published, then it looks at the read count, and finds that there is room again
+-- the steps of a sender's end up to an end at which words may be left: a word is stored; or, if it lacks room, what it
+-- put and has not published is published, then it looks at the read count, and finds that there is room again
 pub data Fills (total : ℕ) (old : Sending) : Sending → Type 0 where
   enters : Fills total old old
   stores : (s : Sending) (word : ℕ) → Fills total old s → Fills total old (puts s word)
@@ -36,6 +36,6 @@ FillsUp total old new = (s : Sending) × (n : ℕ) × Fills total old s × Lacks
 abbrev pub FillsTo : Bool → ℕ → Sending → Sending → Type 0
 FillsTo done total old new = MatchBool done (Fills total old new) (FillsUp total old new)
 
--- at the end of a message, all is published where that is asked for or more than a quarter of the ring is not published
+-- at the end of a message, all is published if that is asked for or more than a quarter of the ring is not published
 abbrev pub finishes : Bool → Sending → Sending
 finishes flush s = cond {A = Sending} (flush || ltb (s.published + s.ring.size / 4) (length s.put)) (publishes s) s

@@ -1,4 +1,4 @@
--- What the two ends keep beside the ring.
+-- What the two ends keep besides the ring.
 use Rattle.std.specs.Prelude.{◌≡◌, ℕ, ◌+◌, ◌<◌, ◌≤◌, ◌^◌, ◌⊎◌, Bool, true, false, List, [], ◌++◌, length, All}
 use Rattle.ring_rule.specs.Frames.{frame, frames, IsMessage}
 use Rattle.ring_rule.specs.Ring.{Sending, Receiving}

@@ -7,8 +7,8 @@ use Rattle.mq_handle.specs.Receives.{IsWaiting, IsOver}
 use Rattle.mq_handle.specs.declared.answers.ReceiveAnswer.{ReceiveAnswer}
 use Rattle.mq_handle.specs.declared.answers.ReceiveAnswer.TheVariants.{Message, WouldBlock, Detached}
 
--- the sender looks for room only where by what it knows fewer words fit than are wanted, and has published all before
--- it does
+-- the sender looks for room only if by what it knows fewer words fit than are wanted, and has published all before it
+-- does
 abbrev pub LooksForRoom : Sending → Sending → ℕ → ℕ → ℕ → Type 0
 LooksForRoom old new wanted free unpublished = ((new ≡ old) × (wanted ≤ free)) ⊎ ((free < wanted) × (unpublished ≡ 0) × (new ≡ looks_read (publishes_rest old) new.room))
 

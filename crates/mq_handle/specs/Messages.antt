@@ -35,10 +35,10 @@ whole_in zero words = []
 whole_in (suc n) words =
     option_map_or (λ m. m ∷ whole_in n (drop (length (frame m)) words)) (first_of words) []
 
--- the whole messages of words: as many as there are words would not fit, since each takes one at least
+-- the whole messages of words. No more messages than words are looked for, since each takes one word at least
 unfoldable pub whole_of : List ℕ → List (List ℕ)
 whole_of words = whole_in (length words) words
 
--- the words behind the whole messages
+-- the words after the whole messages
 unfoldable pub left_of : List ℕ → List ℕ
 left_of words = drop (length (frames (whole_of words))) words

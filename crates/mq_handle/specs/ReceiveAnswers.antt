@@ -24,9 +24,9 @@ HasPlace Message len room = len ≤ room
 HasPlace WouldBlock len room = Unit {0}
 HasPlace Detached len room = Unit {0}
 
--- how many steps a try to receive makes at most beside four for each word that it takes, which are the load of the word
--- and a look at the count, the flag and the count again. At the end of a message it may give room back; any other
--- answer follows a look
+-- the greatest number of steps of a try to receive, apart from four for each word that it takes, which are the load of
+-- the word and a look at the count, the flag and the count again. At the end of a message it may give room back; any
+-- other answer follows a look
 abbrev pub steps_beside : ReceiveAnswer → ℕ
 steps_beside Message = 1
 steps_beside WouldBlock = 3

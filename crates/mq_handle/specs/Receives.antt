@@ -24,8 +24,8 @@ abbrev pub incoming_code : Coded Incoming
 incoming_code = code_by (TableId × (Receiving × (Option Sending × List ℕ))) (coded× table_id_coded (coded× receiving_code (coded× (coded_option sending_code) (coded_list coded_ℕ))))
     (λ p. (p.region, (p.end, (p.told, p.message)))) (λ p. record { region = p.0; end = p.1.0; told = p.1.1.0; message = p.1.1.1 }) (λ _. refl)
 
--- the read count at the end of a message: all that was taken, where more than a quarter of the ring is above the count
--- at entry
+-- the read count at the end of a message: all that was taken, if more than a quarter of the ring is above the count at
+-- entry
 abbrev pub returned_of : ℕ → ℕ → ℕ → ℕ
 returned_of taken returned quarter = cond (ltb (returned + quarter) taken) taken returned
 

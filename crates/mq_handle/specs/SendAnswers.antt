@@ -6,7 +6,7 @@ use Rattle.mq_handle.specs.Sends.{IsSent, IsBlocked}
 use Rattle.mq_handle.specs.declared.answers.SendAnswer.{SendAnswer}
 use Rattle.mq_handle.specs.declared.answers.SendAnswer.TheVariants.{Sent, WouldBlock, Detached, TooLong}
 
--- the length alone decides the last; then the load of the flag; then whether the ring is full
+-- only the length decides the last; then the load of the flag; then whether the ring is full
 abbrev pub Answers : Sending → Sending → List ℕ → Bool → SendAnswer → Type 0
 Answers old new message flush Sent = IsSent old new message flush
 Answers old new message flush (WouldBlock stored) = IsBlocked old new message stored

@@ -14,12 +14,12 @@ pub record FlagLoad (old new : Sending) (x : ℕ) : Type 0 where
   pub first : new.flag_turn ≡ old.turn + 1
   pub found : new.flag_value ≡ x
 
--- p is the published count at entry where the call did not load the read count. Where it did, all was published at its
--- last load, and p is how much was put by then: more than was known to have room at entry, and not the whole frame
+-- p is the published count at entry if the call did not load the read count. If it did, all was published at its last
+-- load, and p is how much was put by then: more than was known to have room at entry, and not the whole frame
 abbrev pub Since : Sending → Sending → ℕ → Type 0
 Since old new p = ((new.looked ≡ old.looked) × (p ≡ old.published)) ⊎ ((old.turn < new.looked) × (p ≡ new.looked_put) × (old.room + old.ring.size ≤ p) × (p < length new.put))
 
--- the published count at the end of a message: all that was put, where that is asked for or more than a quarter of the
+-- the published count at the end of a message: all that was put, if that is asked for or more than a quarter of the
 -- ring above p
 abbrev pub published_of : Bool → ℕ → ℕ → ℕ → ℕ
 published_of flush put p quarter = cond (flush || ltb (p + quarter) put) put p
@@ -46,8 +46,8 @@ pub record IsBlocked (old new : Sending) (message : List ℕ) (stored : ℕ) : T
   pub more : stored < length (frame message)
   pub published : new.published ≡ length new.put
 
--- what stays in each call of the sender's end but `detach`: it stays open, what was put stays put, and a flag that was
--- found set is found set again
+-- what stays in each call of the sender's end except `detach`: it stays open, what was put stays put, and a flag that
+-- was found set is found set again
 pub record StaysOpen (old new : Sending) : Type 0 where
   pub ring : new.ring ≡ old.ring
   pub stays : new.gone ≡ false

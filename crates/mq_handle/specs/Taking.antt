@@ -21,8 +21,8 @@ HasBytes buffer (n ∷ tail) len = (len ≡ n) × ((i : ℕ) → i < n → i < 8
 abbrev pub IsBegun : ℕ → List ℕ → Type 0
 IsBegun max part = (part ≡ []) ⊎ ((message more : List ℕ) × IsMessage max message × (frame message ≡ part ++ more))
 
--- the frame in hand: it begins behind `base`, which is the frames of messages; that many of its words are taken, and
--- their bytes are kept
+-- the frame in hand: it begins after `base`, which is the frames of messages; `words` of its words are taken, and their
+-- bytes are kept
 pub record InHand (max : ℕ) (base taken buffer : List ℕ) (words len : ℕ) : Type 0 where
   pub messages : List (List ℕ)
   pub part : List ℕ

@@ -17,12 +17,12 @@ FitsRing r message = (length message ≤ r.max) × (length (frame message) ≤ r
 abbrev pub rest_of : List ℕ → List ℕ → List ℕ
 rest_of put message = drop (length (left_of put)) (frame message)
 
--- so many more words fit by the last look at the read count
+-- at least this many more words fit by the last look at the read count
 abbrev pub HasRoom : Sending → ℕ → Type 0
 HasRoom s n = length s.put + n ≤ s.room + s.ring.size
 
--- an end that knows whether so many words fit. If they do by what it knew, it made no step; if not, it published what it
--- had put before and looked at the read count
+-- an end that knows whether that number of words fits. If it does by what it knew, it made no step; if not, it
+-- published what it had put before and looked at the read count
 abbrev pub Looked : ℕ → Sending → Sending → Type 0
 Looked n old new = (HasRoom old n × (new ≡ old)) ⊎ ((HasRoom old n → ⊥) × (new ≡ looks_read (publishes_rest old) new.room))
 
@@ -43,7 +43,7 @@ pub record IsLeftOut (old new : Sending) (message : List ℕ) (stored : ℕ) : T
   pub lacked : HasRoom old (length (rest_of old.put message)) → ⊥
   pub lacks : HasRoom new (length (rest_of old.put message)) → ⊥
 
--- which answer comes when: the message and the ring alone decide the last; then the load of the flag; then the room
+-- which answer comes when: only the message and the ring decide the last; then the load of the flag; then the room
 abbrev pub AnswersWhole : Sending → Sending → List ℕ → Bool → SendAnswer → Type 0
 AnswersWhole old new message flush Sent = IsSentWhole old new message flush
 AnswersWhole old new message flush (WouldBlock stored) = IsLeftOut old new message stored

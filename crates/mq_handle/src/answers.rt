@@ -5,13 +5,13 @@
 pub enum SendAnswer {
     /// The message is on the ring.
     Sent,
-    /// The ring is full; that many words of the frame, its length word too, are on it. Call again with the same
-    /// message. Of a whole send: the ring has too little room, and as many words of the frame are on it as before,
-    /// mostly none; then any message may follow.
+    /// The ring is full; this many words of the frame, with its length word, are on it. Call again with the same
+    /// message. After a whole send it means that the ring has too little room, and as many words of the frame are on it
+    /// as before, mostly none; then any message may follow.
     WouldBlock { stored: u64 },
     /// The receiver has detached. Nothing was stored.
     Detached,
-    /// The message, of this length in bytes, is longer than the queue takes; of a whole send also: its frame is longer
+    /// The message, of this length in bytes, is longer than the queue takes; or, in a whole send, its frame is longer
     /// than the ring. Nothing was done.
     TooLong { length: u64 },
 }

@@ -1,6 +1,6 @@
-//! An end that can't go on by what it knows looks at what the other end has published. Where too few words fit, the
-//! sender publishes what it put and looks at the read count; where no more words may be taken, the receiver looks at
-//! the written count, then at the flag, and where this is set at the count once more.
+//! An end that can't go on by what it knows looks at what the other end has published. If too few words fit, the sender
+//! publishes what it put and looks at the read count; if no more words may be taken, the receiver looks at the written
+//! count, then at the flag, and if this is set at the count once more.
 
 ghost use Rattle.std.specs.Prelude.{◌≡◌, ◌+◌, ◌<◌, ◌≤◌, false, length};
 ghost use Rattle.mq_handle.specs.Taking.{Ready};
@@ -65,7 +65,7 @@ fn return_rest(rx: &mut RingRx, r: &Region, taken: Taken)
     }
 }
 
-/// Looks for more words. Where there are none it answers why.
+/// Looks for more words. If there are none it says why.
 pub(crate) fn look_for_words(
     rx: &mut RingRx,
     r: &Region,

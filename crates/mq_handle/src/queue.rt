@@ -62,8 +62,8 @@ pub fn attach(alloc: Global, tx: RingTx, rx: RingRx) -> Result<(Sender, Receiver
     Ok((Sender::new(tx), Receiver::new(rx, buffer)))
 }
 
-/// The two ends of a queue meet, detached or not: each is told what the other is, and what holds of both is told to the
-/// caller. Nothing that was sent, received, published or set changes. Three loads.
+/// The two ends of a queue meet, detached or not: each learns what the other is, and the caller learns what holds of
+/// both. Nothing that was sent, received, published or set changes. Three loads.
 pub fn meet(s: &mut Sender, q: &mut Receiver, r: &Region)
     requires here { s.old.region ≡ r.now }
     requires q_here { q.old.region ≡ r.now }
@@ -75,8 +75,8 @@ pub fn meet(s: &mut Sender, q: &mut Receiver, r: &Region)
     mq_ring::meet(&mut s.tx, &mut q.rx, r);
 }
 
-/// Ends a queue, detached ends or not. What was received is a beginning of what was sent, and all of it where the
-/// receiver was answered Detached. Two loads; the receiver's buffer is given back to its allocator.
+/// Ends a queue, whether its ends are detached or not. What was received is a beginning of what was sent, and all of it
+/// if the receiver was answered Detached. Two loads; the receiver's buffer is given back to its allocator.
 pub fn home(s: Sender, q: Receiver, r: &Region) -> MqDone
     requires here { s.region ≡ r.now }
     requires q_here { q.region ≡ r.now }
@@ -94,8 +94,8 @@ pub fn home(s: Sender, q: Receiver, r: &Region) -> MqDone
 }
 
 impl MqDone {
-    /// Tells what holds of the ends of a queue that came home: what was received is a beginning of what was sent, and
-    /// all of it where the receiver was answered Detached. It does nothing.
+    /// Tells that what was received is a beginning of what was sent, and all of it if the receiver was answered
+    /// Detached, as holds of the ends of a queue that came home. It does nothing.
     pub fn is_sound(&self)
         ensures sound { AreEnds self.now.sender self.now.receiver }
         ensures beginning { (rest : List (List ℕ)) × (whole_of self.now.sender.put ≡ whole_of self.now.receiver.taken ++ rest) }

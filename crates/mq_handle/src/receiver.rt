@@ -16,9 +16,9 @@ use mq_ring::RingRx;
 use region_words::Region;
 use std::marker::Model;
 
-/// The receiving end of a queue. Contracts see the ring's end, of whose words `whole_of` gives the messages received,
-/// and the message of the last receive call. It owns a buffer for the greatest message. A receiver that is dropped
-/// tells the sender nothing: `detach` first.
+/// The receiving end of a queue. Contracts see the ring's end, `whole_of` of whose words gives the messages received,
+/// and the message of the last receive call. It owns a buffer for the greatest message. A receiver that is dropped says
+/// nothing to the sender: `detach` first.
 #[derive(Drop)]
 pub struct Receiver {
     pub(crate) rx: RingRx,
@@ -70,9 +70,9 @@ impl Receiver {
     }
 
     /// Takes the next message off the ring, if a whole one is there, and a part of it otherwise. Each byte is copied
-    /// once, from the ring to the receiver's buffer, where the message before is lost. A word costs one load; each time
-    /// that the words known are used up, it loads the written count, and where there are no more the flag, and at the
-    /// end it may store the read count. It takes no memory.
+    /// once, from the ring to the receiver's buffer, which loses the message before. A word costs one load; each time
+    /// that the words known are used up, it loads the written count, and if there are no more the flag, and at the end
+    /// it may store the read count. It takes no memory.
     pub fn try_receive(&mut self, r: &Region) -> ReceiveAnswer
         requires here { self.old.region ≡ r.now }
         requires stays { self.old.end.gone ≡ false }
@@ -94,7 +94,7 @@ impl Receiver {
         answer
     }
 
-    /// The message of the last receive call, where it answered Message; else nothing. It is lent from the receiver's
+    /// The message of the last receive call, if it answered Message; else nothing. It is lent from the receiver's
     /// buffer, without a copy, up to the next receive call.
     pub fn message(&self) -> &[u8]
         ensures { result.now ≡ self.now.message }
@@ -106,8 +106,8 @@ impl Receiver {
         }
     }
 
-    /// Tells the sender that nothing more is received; what is on the ring stays there. One store; afterwards the end
-    /// can only meet, come home and lend its last message. On a detached end it does nothing.
+    /// Lets the sender know that nothing more is received; what is on the ring stays there. One store; afterwards the
+    /// end can only meet, come home and lend its last message. On a detached end it does nothing.
     pub fn detach(&mut self, r: &Region)
         requires here { self.old.region ≡ r.now }
         ensures first { self.old.end.gone ≡ false → self.new ≡ record self.old { end = receiver_leaves self.old.end } }

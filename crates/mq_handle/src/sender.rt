@@ -18,9 +18,9 @@ use mq_ring::RingTx;
 use region_words::Region;
 use std::marker::Model;
 
-/// The sending end of a queue. Contracts see the ring's end, of whose words `whole_of` gives the messages sent. A
-/// sender that is dropped tells the receiver nothing, and the ring's words are lost: `detach` first, and bring both
-/// ends `home`.
+/// The sending end of a queue. Contracts see the ring's end; `whole_of` of its words gives the messages sent. A sender
+/// that is dropped says nothing to the receiver, and the ring's words are lost: `detach` first, and bring both ends
+/// `home`.
 #[derive(Drop)]
 pub struct Sender {
     pub(crate) tx: RingTx,
@@ -62,11 +62,11 @@ impl Sender {
         }
     }
 
-    /// Puts the message on the ring as far as there is room. Where a part of a frame is stored, the message has to be
-    /// that frame's: repeat the call with it. Where the message fits it costs one load, one store a word and at most
-    /// one store of the count; each time that the room known is used up, a store and a load of the counts come to it.
-    /// It takes no memory and keeps nothing of `message`. `flush` lets the receiver see the message at once; without it
-    /// up to a quarter of the ring may stay unseen until a later call.
+    /// Puts the message on the ring as far as there is room. If a part of a frame is stored, the message has to be that
+    /// frame's: repeat the call with it. If the message fits it costs one load, one store a word and at most one store
+    /// of the count, and one store and one load of the counts more each time that the room known is used up. It takes
+    /// no memory and keeps nothing of `message`. `flush` lets the receiver see the message at once; without it up to a
+    /// quarter of the ring may stay unseen until a later call.
     pub fn try_send(&mut self, r: &Region, message: &[u8], flush: bool) -> SendAnswer
         requires here { self.old.region ≡ r.now }
         requires stays { self.old.end.gone ≡ false }
@@ -103,7 +103,7 @@ impl Sender {
         answer
     }
 
-    /// Lets the receiver see all that was put, a part of a message too. One store.
+    /// Lets the receiver see all that was put, including a part of a message. One store.
     pub fn flush(&mut self, r: &Region)
         requires here { self.old.region ≡ r.now }
         requires stays { self.old.end.gone ≡ false }
@@ -113,8 +113,8 @@ impl Sender {
         self.counts.unpublished = 0;
     }
 
-    /// Lets the receiver see all that was put, and tells it that no more comes. Two stores; afterwards the end can only
-    /// meet and come home. On a detached end it does nothing.
+    /// Lets the receiver see all that was put, and that no more comes. Two stores; afterwards the end can only meet and
+    /// come home. On a detached end it does nothing.
     pub fn detach(&mut self, r: &Region)
         requires here { self.old.region ≡ r.now }
         ensures first { self.old.end.gone ≡ false → self.new ≡ record self.old { end = sender_leaves (publishes self.old.end) } }
@@ -129,7 +129,7 @@ impl Sender {
         self.gone = true;
     }
 
-    /// The ring's end, for the way home. It tells that a sender that is gone has published all that it put.
+    /// The ring's end, for the way home. The contract says that a sender that is gone has published all that it put.
     pub(crate) fn into_ring(self) -> RingTx
         ensures ring { result ≡ self }
         ensures flushed { self.end.gone ≡ true → self.end.published ≡ length self.end.put }

@@ -14,7 +14,7 @@ use mq_ring::RingTx;
 use region_words::Region;
 use rel_pointer::words_of;
 
-/// What a sender knows of its ring beside the ring's own end.
+/// What a sender knows of its ring, besides the ring's own end.
 #[derive(Clone, Copy)]
 pub(crate) struct Stored {
     /// How many words of the frame in hand are stored.
@@ -25,7 +25,7 @@ pub(crate) struct Stored {
     pub(crate) unpublished: u64,
 }
 
-/// Stores that many words of the message's frame, from word `at` on.
+/// Stores the given number of words of the message's frame, from word `at` on.
 fn put_frame_words(tx: &mut RingTx, r: &Region, message: &[u8], at: u64, run: u64)
     requires here { tx.old.region ≡ r.now }
     requires stays { tx.old.end.gone ≡ false }
@@ -65,7 +65,7 @@ pub(crate) fn store_run(tx: &mut RingTx, r: &Region, message: &[u8], counts: Sto
     }
 }
 
-/// Stores words of the frame as long as they fit. Answers whether all are stored.
+/// Stores words of the frame as long as they fit. Returns whether all are stored.
 pub(crate) fn store_words(
     tx: &mut RingTx,
     r: &Region,
@@ -98,7 +98,7 @@ pub(crate) fn store_words(
     (counts, true)
 }
 
-/// At the end of a message, publishes where that is asked for or more than a quarter of the ring is not published.
+/// At the end of a message, publishes if that is asked for or more than a quarter of the ring is not published.
 pub(crate) fn finish_storing(tx: &mut RingTx, r: &Region, counts: Stored, flush: bool) -> Stored
     requires here { tx.old.region ≡ r.now }
     requires stays { tx.old.end.gone ≡ false }

@@ -12,7 +12,7 @@ use mq_ring::RingRx;
 use region_words::Region;
 use rel_pointer::words_of;
 
-/// What a receiver knows of its ring beside the ring's own end.
+/// What a receiver knows of its ring, besides the ring's own end.
 #[derive(Clone, Copy)]
 pub(crate) struct Taken {
     /// How many words of the frame in hand are taken.
@@ -63,7 +63,7 @@ fn take_run(rx: &mut RingRx, r: &Region, buffer: &mut [u8], taken: Taken) -> Tak
     }
 }
 
-/// Takes words until the message is whole or no more may be taken. Answers whether it is whole.
+/// Takes words until the message is whole or no more may be taken. Returns whether it is whole.
 pub(crate) fn take_words(
     rx: &mut RingRx,
     r: &Region,
@@ -96,7 +96,7 @@ pub(crate) fn take_words(
     (taken, false)
 }
 
-/// At the end of a message, gives room back where more than a quarter of the ring was not given back.
+/// At the end of a message, gives room back if more than a quarter of the ring was not given back.
 pub(crate) fn finish_taking(rx: &mut RingRx, r: &Region, taken: Taken) -> Taken
     requires here { rx.old.region ≡ r.now }
     requires stays { rx.old.end.gone ≡ false }

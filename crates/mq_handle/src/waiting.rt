@@ -15,8 +15,8 @@ use std::sync::Wait;
 
 impl Sender {
     /// Sends the message, and waits while the ring is full: it tries again and again, and backs off in between. It
-    /// answers as the last try did, which did not block. It may wait for ever, where the receiver neither takes words
-    /// nor detaches.
+    /// answers as the last try did, which did not block. It may wait forever, if the receiver neither takes words nor
+    /// detaches.
     pub fn send<R: Wait>(&mut self, rt: &R, r: &Region, message: &[u8], flush: bool) -> SendDone
         requires here { self.old.region ≡ r.now }
         requires stays { self.old.end.gone ≡ false }
@@ -41,8 +41,7 @@ impl Sender {
 
 impl Receiver {
     /// Receives the next message, and waits while none is there: it tries again and again, and backs off in between. It
-    /// answers as the last try did, which did not block. It may wait for ever, where the sender neither sends nor
-    /// detaches.
+    /// answers as the last try did, which did not block. It may wait forever, if the sender neither sends nor detaches.
     pub fn receive<R: Wait>(&mut self, rt: &R, r: &Region) -> ReceiveDone
         requires here { self.old.region ≡ r.now }
         requires stays { self.old.end.gone ≡ false }
