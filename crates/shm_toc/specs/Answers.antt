@@ -10,7 +10,7 @@ abbrev pub IsFull : Table → ℕ → TocAnswer → Type 0
 IsFull t needed (TocFull wanted free) = (wanted ≡ needed) × (free ≡ free_bytes_of t) × (free < wanted)
 IsFull t needed (KeyThere at) = ⊥
 
--- why an entry is refused: its key stands beside that place, or it is new and its 16 bytes are not left
+-- why an entry is refused: its key is there with that place, or it is new and its 16 bytes are not left
 abbrev pub IsRefused : Table → ℕ → TocAnswer → Type 0
 IsRefused t key (TocFull wanted free) = (place_of t.entries key ≡ None) × IsFull t 16 (TocFull wanted free)
 IsRefused t key (KeyThere at) = place_of t.entries key ≡ Some at

@@ -1,4 +1,4 @@
--- The table that a `Toc` holds, and what it has of it beside the words.
+-- The table that a `Toc` holds, and what it has of it besides the words.
 use Rattle.std.specs.Prelude.{◌≡◌, ℕ, ◌-◌, ◌/◌, ◌≤◌, true, cond, Option, None, IsSome}
 use Rattle.word_map.specs.WordMap.{WordMap, at, is_within, Disjoint, HasJust}
 use Rattle.region_words.specs.Parts.{Owned}
@@ -16,7 +16,7 @@ pub record IsHeld (m : WordMap) (total taken count : ℕ) : Type 0 where
 abbrev pub HasNoMore : WordMap → WordMap → Type 0
 HasNoMore old new = (k : ℕ) → IsSome (at new k) → IsSome (at old k)
 
--- the len words from `from` go out, which were all there, and those from `front` on are else as before
+-- the len words from `from`, all of which were there, go out, and the other words from `front` on are as before
 pub record GivesRow (from len front : ℕ) (old new : WordMap) : Type 0 where
   pub had : (k : ℕ) → is_within from len k ≡ true → IsSome (at old k)
   pub others : (k : ℕ) → front ≤ k → at new k ≡ cond {A = Option ℕ} (is_within from len k) None (at old k)

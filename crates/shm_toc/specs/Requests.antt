@@ -28,7 +28,7 @@ empty_table magic total = record { magic = magic; total = total; taken = 0; entr
 abbrev pub with_chunk : Table → ℕ → Table
 with_chunk t bytes = record t { taken = t.taken + rounded bytes }
 
--- the table after an entry was put behind the others
+-- the table after an entry was put after the others
 abbrev pub with_entry : Table → Entry → Table
 with_entry t entry = record t { entries = t.entries ++ entry ∷ [] }
 

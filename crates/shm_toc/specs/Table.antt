@@ -1,8 +1,9 @@
--- What the words of a table of contents mean. The layout is that of shm_toc.c, but for the header, which has no lock.
+-- What the words of a table of contents mean. The layout is that of shm_toc.c, except for the header, which has no
+-- lock.
 use Rattle.std.specs.Prelude.{◌≡◌, ℕ, zero, suc, ◌+◌, ◌-◌, ◌*◌, ◌/◌, ◌%◌, ◌<◌, ◌≤◌, ◌^◌, ◌==◌, cond, List, [], ◌∷◌, length, sum_by, Option, Some, None, IsSome, unwrap_or}
 use Rattle.word_map.specs.WordMap.{WordMap, at}
 
--- a key and the place, a word number, that it stands for
+-- a key and its place, a word number
 pub record Entry : Type 0 where
   pub key : ℕ
   pub place : ℕ
@@ -32,11 +33,11 @@ free_bytes_of t = t.total - 32 - 16 * length t.entries - t.taken
 abbrev pub low_of : Table → ℕ
 low_of t = (t.total - t.taken) / 8
 
--- the first word behind the entries
+-- the first word after the entries
 abbrev pub front_of : Table → ℕ
 front_of t = 4 + 2 * length t.entries
 
--- the place beside a key, in the first entry that has it
+-- the place of a key, in the first entry that has it
 abbrev pub place_of : List Entry → ℕ → Option ℕ
 place_of [] key = None
 place_of (e ∷ es) key = cond (e.key == key) (Some e.place) (place_of es key)
@@ -55,7 +56,7 @@ abbrev pub entries_from : WordMap → ℕ → ℕ → List Entry
 entries_from m k zero = []
 entries_from m k (suc n) = record { key = word_of m k; place = word_of m (suc k) } ∷ entries_from m (suc (suc k)) n
 
--- the table that stands in the words from word 0 on
+-- the table that lies in the words from word 0 on
 abbrev pub table_of : WordMap → Table
 table_of m = record { magic = word_of m 0; total = word_of m 1; taken = word_of m 2; entries = entries_from m 4 (word_of m 3) }
 

@@ -15,7 +15,7 @@ pub struct WrongMagic {
     pub frozen: Frozen,
 }
 
-/// A share of a frozen table. Contracts see its region and its words, of which `table_of` says what they mean.
+/// A share of a frozen table. Contracts see its region and its words; `table_of` says what the words mean.
 #[derive(Drop)]
 pub struct FrozenToc {
     frozen: Frozen,
@@ -52,7 +52,7 @@ impl FrozenToc {
         self.frozen.share(r)
     }
 
-    /// The table in frozen words, where it begins with this magic number.
+    /// The table in frozen words, if it begins with this magic number.
     pub fn attach(frozen: Frozen, r: &Region, magic: u64) -> Result<FrozenToc, WrongMagic>
         requires here { frozen.region ≡ r.now }
         requires table { IsTable frozen.words }
@@ -67,7 +67,7 @@ impl FrozenToc {
         Ok(FrozenToc { frozen })
     }
 
-    /// The place beside the key.
+    /// The place of the key.
     pub fn lookup(&mut self, r: &Region, key: u64) -> Option<RelPtr>
         requires here { self.old.region ≡ r.now }
         ensures same { self.new ≡ self.old }
@@ -88,7 +88,7 @@ impl FrozenToc {
     }
 }
 
-/// The place beside the key, in the first of the entries that has it.
+/// The place of the key, in the first of the entries that has it.
 fn find(frozen: &mut Frozen, r: &Region, count: u64, key: u64) -> Option<RelPtr>
     requires here { frozen.old.region ≡ r.now }
     requires owns { (k : ℕ) → k < 4 + 2 * count → IsSome (word_at frozen.old.words k) }

@@ -1,5 +1,5 @@
-//! The words of a table that nobody else reads yet: the header, the entries and what is not given. Words 1 to 3 lie in
-//! fields too, so that no call loads them again.
+//! The words of a table that nobody else reads yet: the header, the entries and what is not given. Words 1 to 3 are
+//! kept in fields too, so that no call loads them again.
 
 ghost use Rattle.std.specs.Prelude.{◌≡◌, ℕ, ◌+◌, ◌*◌, ◌/◌, ◌-◌, ◌%◌, ◌<◌, ◌≤◌, ◌^◌, ◌==◌, cond, IfOk, IfErr, OnOk, IsSome, Option, None, Some};
 ghost use Rattle.word_map.specs.WordMap.{at as word_at, is_within, Disjoint, HasJust};
@@ -91,7 +91,7 @@ impl Growing {
         Ok(give_chunk(&mut self.part, r, self.total, self.taken, wanted))
     }
 
-    /// Puts the key and the place behind the other entries. A key that is there keeps its place.
+    /// Puts the key and the place after the other entries. A key that is there keeps its place.
     pub(crate) fn insert(&mut self, r: &Region, key: u64, at: RelPtr) -> Result<(), TocAnswer>
         requires here { self.old.region ≡ r.now }
         ensures here { self.new.region ≡ self.old.region }
@@ -116,7 +116,7 @@ impl Growing {
         Ok(())
     }
 
-    /// Freezes the words of a chunk, and tells that the table has none of them.
+    /// Freezes the words of a chunk, and shows that the table has none of them.
     pub(crate) fn freeze_chunk(&mut self, r: &Region, chunk: Chunk) -> Frozen
         requires here { self.old.region ≡ r.now }
         requires chunk_here { chunk.part.region ≡ r.now }
@@ -142,7 +142,7 @@ impl Growing {
     }
 }
 
-/// Freezes the words of a chunk. The part takes them in and gives them away again, by which it learns that it had none of
+/// Freezes the words of a chunk. The part takes them in and gives them away again, which shows that it had none of
 /// them.
 fn freeze_row(part: &mut Part, r: &Region, chunk: Chunk) -> Frozen
     requires here { part.old.region ≡ r.now }
@@ -183,7 +183,7 @@ fn give_chunk(part: &mut Part, r: &Region, total: u64, taken: u64, bytes: u64) -
     }
 }
 
-/// Writes an entry behind the others, and then that it is there.
+/// Writes an entry after the others, and then that it is there.
 fn put_entry(part: &mut Part, r: &Region, count: u64, key: u64, at: RelPtr)
     requires here { part.old.region ≡ r.now }
     requires owns { (k : ℕ) → k < 6 + 2 * count → IsSome (word_at part.old.words k) }
@@ -198,7 +198,7 @@ fn put_entry(part: &mut Part, r: &Region, count: u64, key: u64, at: RelPtr)
     part.store(r, 3, count + 1);
 }
 
-/// The place beside the key, in the first of the entries that has it.
+/// The place of the key, in the first of the entries that has it.
 fn find(part: &mut Part, r: &Region, count: u64, key: u64) -> Option<RelPtr>
     requires here { part.old.region ≡ r.now }
     requires owns { (k : ℕ) → k < 4 + 2 * count → IsSome (word_at part.old.words k) }

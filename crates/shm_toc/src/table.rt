@@ -1,4 +1,4 @@
-//! The table while it grows: the words that its holder alone reads, and the chunks that it kept, which are frozen.
+//! The table while it grows: the words that only its holder reads, and the chunks that it kept, which are frozen.
 
 ghost use Rattle.std.specs.Prelude.{◌≡◌, ℕ, ◌*◌, ◌/◌, ◌%◌, ◌≤◌, ◌^◌, cond, IfOk, IfErr, OnOk, Option, None};
 ghost use Rattle.word_map.specs.WordMap.{at as word_at, is_within, union, HasJust};
@@ -18,11 +18,11 @@ use std::marker::Model;
 pub enum TocAnswer {
     /// Fewer bytes are left than are wanted.
     TocFull { wanted: u64, free: u64 },
-    /// The key stands beside this place.
+    /// The key is there already, with this place.
     KeyThere { at: RelPtr },
 }
 
-/// A table of contents that grows. Contracts see its region and its words, of which `table_of` says what they mean.
+/// A table of contents that grows. Contracts see its region and its words; `table_of` says what the words mean.
 #[derive(Drop)]
 pub struct Toc {
     growing: Growing,
@@ -61,7 +61,7 @@ impl Toc {
         }
     }
 
-    /// The bytes that are left. Tells too that the words have a table, in which no key stands twice.
+    /// The bytes that are left. The contract also says that the words have a table in which no key comes twice.
     pub fn free_bytes(&self) -> u64
         ensures free { result ≡ free_bytes_of (table_of self.now.words) }
         ensures table { IsTable self.now.words }
@@ -69,8 +69,8 @@ impl Toc {
         self.growing.free_bytes()
     }
 
-    /// A chunk of that many bytes, rounded up to a multiple of 32, which the caller owns. It is the one before the
-    /// chunk that was given last, or the segment's end.
+    /// A chunk of the given number of bytes, rounded up to a multiple of 32, which the caller owns. It is the one
+    /// before the chunk that was given last, or before the segment's end.
     pub fn allocate(&mut self, r: &Region, bytes: u64) -> Result<Chunk, TocAnswer>
         requires here { self.old.region ≡ r.now }
         requires size { (1 ≤ bytes) × (bytes ≤ 2 ^ 40) }
@@ -85,7 +85,7 @@ impl Toc {
         self.growing.allocate(r, bytes)
     }
 
-    /// Puts the key and the place behind the other entries. A key that stands keeps its place.
+    /// Puts the key and the place after the other entries. A key that is there keeps its place.
     pub fn insert(&mut self, r: &Region, key: u64, at: RelPtr) -> Result<(), TocAnswer>
         requires here { self.old.region ≡ r.now }
         ensures here { self.new.region ≡ self.old.region }
