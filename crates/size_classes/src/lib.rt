@@ -94,7 +94,7 @@ pub fn class_bytes(class: u8) -> u32
     SIZES[class as usize - FIRST_CLASS]
 }
 
-/// The class whose objects have just this many bytes, or None where no class's have. No two classes have the same size.
+/// The class whose objects have just this many bytes, or None if no class's have. No two classes have the same size.
 pub fn class_with(bytes: u64) -> Option<u8>
     ensures some { IfSome result (λ class. IsClass class × (class_size class ≡ bytes)) }
     ensures none { IfNone result ((class : ℕ) → IsClass class → class_size class ≢ bytes) }
