@@ -1,7 +1,6 @@
--- Where the words of an area stand, before its pages: a head, of which the first word has the number of pages; a run
--- word for each page; a control record for each page; and for each size class a bit for each page, in whole words.
--- (dsa.c has its control object, the page map and freepage.c's manager at the head of a segment; this order is our
--- own.)
+-- Where the words of an area lie, before its pages: a head, whose first word has the number of pages; a run word for
+-- each page; a control record for each page; and for each size class a bit for each page, in whole words. (dsa.c has
+-- its control object, the page map and freepage.c's manager at the head of a segment; this order is our own.)
 use Rattle.std.specs.Prelude.{◌≡◌, ℕ, ◌+◌, ◌*◌, ◌-◌, ◌/◌, Bool, true, false, Option, Some, None}
 use Rattle.atomic_table.specs.Seated.{TableId}
 use Rattle.word_map.specs.WordMap.{HasJust}
@@ -27,7 +26,7 @@ superblock_pages = 16
 abbrev pub class_count : ℕ
 class_count = 36
 
--- the number behind the last class's; the classes are numbered from 2
+-- the number after the last class's; the classes are numbered from 2
 abbrev pub class_end : ℕ
 class_end = 38
 
@@ -47,7 +46,7 @@ front pages = control_words pages + class_count * mark_words pages
 abbrev pub area_size : ℕ → ℕ
 area_size pages = head_words + front pages + page_words * pages
 
--- the first word of page 0's control record, where page 0 begins at word `first`
+-- the first word of page 0's control record, if page 0 begins at word `first`
 abbrev pub records_at : ℕ → ℕ → ℕ
 records_at first pages = first - front pages + pages
 
@@ -55,7 +54,7 @@ records_at first pages = first - front pages + pages
 abbrev pub marks_at : ℕ → ℕ → ℕ → ℕ
 marks_at first pages class = first - (class_end - class) * mark_words pages
 
--- the control records of n pages from page `from`, where they went with them
+-- the control records of n pages from page `from`, if they went with them
 abbrev pub HasRecords : TableId → ℕ → ℕ → ℕ → ℕ → Bool → Option Owned → Type 0
 HasRecords region first pages from n true (Some o) = (o.region ≡ region) × HasJust o.words (records_at first pages + record_words * from) (record_words * n)
 HasRecords region first pages from n true None = ⊥

@@ -33,7 +33,7 @@ pub record IsLargest (pages : ℕ) (granted : List Granted) (n : ℕ) : Type 0 w
 abbrev pub Adds : List Granted → List Granted → Granted → Type 0
 Adds before after g = (xs ys : List Granted) × (before ≡ xs ++ ys) × (after ≡ xs ++ (g ∷ ys))
 
--- the runs stand in the order of their pages, from page `low` on; each has a page, and no two have one in common
+-- the runs are in the order of their pages, from page `low` on; each has a page, and no two have one in common
 abbrev pub AreApart : ℕ → ℕ → List Granted → Type 0
 AreApart pages low [] = Unit {0}
 AreApart pages low (g ∷ gs) = (low ≤ g.from) × (0 < g.len) × (g.from + g.len ≤ pages) × AreApart pages (g.from + g.len) gs

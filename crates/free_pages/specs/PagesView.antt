@@ -47,7 +47,7 @@ pub record IsPages (first pages heads : ℕ) (runs words records : Owned) : Type
   pub keeps : HasKept words.words first page_words pages (is_taken (granted_in runs.words heads pages))
   pub keeps_records : HasKept records.words (heads + pages) record_words pages (is_recorded (granted_in runs.words heads pages))
 
--- the longest run of free pages, where it is known
+-- the longest run of free pages, if it is known
 abbrev pub IsLongest : ℕ → List Granted → Option ℕ → Type 0
 IsLongest pages granted known = IfSome known (λ n. IsLargest pages granted n)
 
@@ -60,18 +60,18 @@ pub record IsRunOf (region : TableId) (first pages n : ℕ) (control : Bool) (pl
   pub here : words.region ≡ region
   pub records_are : HasRecords region first pages from n control records
 
--- the tokens of a run that may be offered: where its place is that of some of these pages, the control records with it
--- are those of its pages
+-- the tokens of a run that may be offered: if its place is that of some of these pages, the control records with it are
+-- those of its pages
 pub record MayGive (region : TableId) (first pages place run_pages : ℕ) (words : Owned) (records : Option Owned) : Type 0 where
   pub here : words.region ≡ region
   pub records_are : (from : ℕ) → place ≡ first + page_words * from → from + run_pages ≤ pages → HasRecords region first pages from run_pages (is_some records) records
 
--- a range is split off a part, where `control` is true
+-- a range is split off a part, if `control` is true
 abbrev pub SplitsOff : Bool → Owned → Owned → Option Owned → ℕ → ℕ → Type 0
 SplitsOff true before after out from len = (after ≡ owned before.region (rest_of before.words from len)) × (out ≡ Some (owned before.region (range_of before.words from len)))
 SplitsOff false before after out from len = (after ≡ before) × (out ≡ None)
 
--- a part takes in another one, where there is one
+-- a part takes in another one, if there is one
 abbrev pub JoinsBack : Owned → Owned → Option Owned → Type 0
 JoinsBack before after (Some o) = after ≡ owned before.region (union before.words o.words)
 JoinsBack before after None = after ≡ before

@@ -1,7 +1,7 @@
--- The run words, which stand in the region and say which runs of pages are granted. Only `Pages` changes them: the word
--- of a run's first page is four times its number of pages, plus 0 where it is free, 1 where it was granted without its
+-- The run words, which lie in the region and say which runs of pages are granted. Only `Pages` changes them: the word
+-- of a run's first page is four times its number of pages, plus 0 if it is free, 1 if it was granted without its
 -- control records, 2 with them. Every other run word is 0. (freepage.c keeps free runs in a tree in the pages; here all
--- runs stand in these words.)
+-- runs are in these words.)
 use Rattle.std.specs.Prelude.{◌≡◌, ℕ, zero, suc, ◌+◌, ◌/◌, ◌%◌, ◌<◌, ◌≤◌, cond, ◌==◌, true, List, [], ◌∷◌, unwrap_or, IsSome}
 use Rattle.word_map.specs.WordMap.{WordMap, at}
 use Rattle.free_pages.specs.Legal.{Granted, IsFree, is_taken}

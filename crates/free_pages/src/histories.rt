@@ -1,7 +1,7 @@
 //! What the history of an area's pages is made of: the states, the calls and the replies of `specs/Legal.antt`, as
 //! types.
 //!
-//! They stand in contracts and proofs alone, where a layer above keeps a history; no value of them need be made.
+//! They appear only in contracts and proofs, if a layer above keeps a history; no value of them need be made.
 
 use std::marker::Model;
 

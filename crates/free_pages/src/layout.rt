@@ -1,4 +1,4 @@
-//! Where the words of an area stand: the numbers of its layout, and the sums that give the place of each kind of word.
+//! Where the words of an area lie: the numbers of its layout, and the sums that give the place of each kind of word.
 //!
 //! `specs/Area.antt` says the same for contracts. The layers above take these numbers from here.
 
@@ -20,7 +20,7 @@ pub const SUPERBLOCK_PAGES: u32 = 16;
 /// How many size classes have bits of the pages.
 pub const CLASS_COUNT: u64 = 36;
 
-/// The number behind the last class's; the classes are numbered from 2.
+/// The number after the last class's; the classes are numbered from 2.
 pub const CLASS_END: u64 = 38;
 
 /// The words of one class's bits of this many pages.

@@ -1,10 +1,10 @@
 //! The pages of a shared area, of 4,096 bytes each: runs of them are granted and given back (the part of dsa.c's
 //! freepage.c).
 //!
-//! All that is known of the runs stands in the region, in one run word for each page (`specs/Runs.antt`), so `Pages`
-//! takes no memory and a call walks from run to run. Free runs that touch count as one: a walk makes one of them as it
-//! goes, so giving a run back is one store. A walk begins behind the pages that are granted without a gap from page 0
-//! on, whose number `Pages` keeps beside the region. The state, the calls and their replies are `specs/Legal.antt`,
+//! All that is known of the runs is in the region, in one run word for each page (`specs/Runs.antt`), so `Pages` takes
+//! no memory and a call walks from run to run. Free runs that touch count as one: a walk makes one of them as it goes,
+//! so giving a run back is one store. A walk begins after the pages that are granted without a gap from page 0 on;
+//! `Pages` keeps their number besides the region. The state, the calls and their replies are in `specs/Legal.antt`,
 //! which the layers above cite.
 
 #![tactic(auto)]

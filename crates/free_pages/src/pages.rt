@@ -2,8 +2,8 @@
 //!
 //! `Pages` owns the 64 words at the head of the area and the run words for good, and the words and the control records
 //! of each page that is not granted. Nobody else changes a run word. A granted run takes the words of its pages with
-//! it, and its control records where they are asked for; `give` takes the same tokens back. What the parts own is
-//! `IsPages` of `specs/PagesView.antt`: one equation for each word, whether it is kept. What the calls answer is
+//! it, and its control records if they are asked for; `give` takes the same tokens back. What the parts own is
+//! `IsPages` of `specs/PagesView.antt`: one equation for each word says whether it is kept. What the calls answer is
 //! `IsLegal` of `specs/Legal.antt`.
 
 ghost use Rattle.std.specs.Prelude.{◌≡◌, ℕ, ◌+◌, ◌*◌, ◌-◌, ◌/◌, ◌<◌, ◌≤◌, ◌^◌, [], ◌≢◌, MatchResult, IfOk, IfErr, Some, IfSome, IsSome, is_some};
@@ -41,7 +41,7 @@ pub struct Pages {
     heads: u64,
     /// A page before which every page is granted; a run begins there, or the pages end. A walk begins here.
     filled: u64,
-    /// The pages of the longest free run, from the walk that told it until a run is granted or given back.
+    /// The pages of the longest free run, from the walk that found it until a run is granted or given back.
     longest: Option<u32>,
     /// The words at the head and the run words.
     runs: Part,
@@ -101,10 +101,10 @@ impl Pages {
         }
     }
 
-    /// Any `n` pages in a row that are free, with their control records where `control` is true. Walks from run to run,
+    /// Any `n` pages in a row that are free, with their control records if `control` is true. Walks from run to run,
     /// from the first free page to the first free run of `n` pages, and makes one of the free runs that touch on its
-    /// way; a refusal walks over all runs. Where the longest free run is known since then, a further refusal walks over
-    /// none.
+    /// way; a refusal walks over all runs. While the longest free run is known from that walk, a further refusal walks
+    /// over none.
     pub fn take(&mut self, r: &Region, n: u32, control: bool) -> Result<Run, NoRun>
         requires here { self.old.region ≡ r.now }
         requires some { 1 ≤ n }
@@ -119,7 +119,7 @@ impl Pages {
         }
     }
 
-    /// `take` by a walk, where no longest free run is known that is too short.
+    /// `take` by a walk, if no longest free run is known that is too short.
     fn look_for(&mut self, r: &Region, n: u32, control: bool) -> Result<Run, NoRun>
         requires here { self.old.region ≡ r.now }
         requires some { 1 ≤ n }
@@ -169,8 +169,8 @@ impl Pages {
         })
     }
 
-    /// Takes a granted run back. Hands it back where no granted run has its first page, its length and its records or
-    /// lack of them. Looks at one run word.
+    /// Takes a granted run back. Hands it back if no granted run has its first page, its length and its records or lack
+    /// of them. Looks at one run word.
     pub fn give(&mut self, r: &Region, run: Run) -> Result<(), Run>
         requires here { self.old.region ≡ r.now }
         requires run { MayGive self.old.region self.old.first self.old.state.pages run.at run.pages run.words run.control }
@@ -209,7 +209,7 @@ impl Pages {
         Ok(())
     }
 
-    /// The pages of the longest run that is free; 0 where no page is. Walks once over all runs from the first free page
+    /// The pages of the longest run that is free; 0 if no page is. Walks once over all runs from the first free page
     /// on, unless it is known from a walk since the last change.
     pub fn largest(&mut self, r: &Region) -> u32
         requires here { self.old.region ≡ r.now }
@@ -222,7 +222,7 @@ impl Pages {
         }
     }
 
-    /// `largest` by a walk, where it is not known.
+    /// `largest` by a walk, if it is not known.
     fn look_over(&mut self, r: &Region) -> u32
         requires here { self.old.region ≡ r.now }
         ensures same { self.new ≡ self.old }

@@ -221,14 +221,14 @@ pub(crate) fn grant(
     }
 }
 
-/// The mark of a granted run: 2 where its control records went with it, else 1.
+/// The mark of a granted run: 2 if its control records went with it, else 1.
 fn mark_of(control: bool) -> u64
     ensures { result ≡ cond control 2 1 }
 {
     if control { 2 } else { 1 }
 }
 
-/// Frees the run of page `at`, where a granted run has this first page, length and mark.
+/// Frees the run of page `at`, if a granted run has this first page, length and mark.
 pub(crate) fn release(
     runs: &mut Part,
     r: &Region,
