@@ -16,7 +16,7 @@ AreChunks region bytes (c ∷ cs) = (c.bytes ≡ bytes) × (c.part.region ≡ re
 abbrev pub gone : List Chunk → List Chunk → List Chunk
 gone before after = drop (length after) before
 
--- so many went off the end of a list, or fewer; and one at least, where there was one and one was asked for
+-- at most `count` objects went off the end of a list; and one at least, if there was one and one was asked for
 pub record IsRest (count : ℕ) (before after : List Chunk) : Type 0 where
   pub begins : before ≡ after ++ gone before after
   pub few : length before ≤ length after + count

@@ -1,6 +1,6 @@
 -- What a pool answers, as a relation of the state before, the call, the reply and the state after. Source: dsa.c
--- (`alloc_object`, `ensure_active_superblock`, `dsa_free`), but for its fullness classes: here each superblock that has
--- a free object serves as well as another, and only the active one comes first.
+-- (`alloc_object`, `ensure_active_superblock`, `dsa_free`), except for its fullness classes: here any superblock that
+-- has a free object may serve, and only the active one comes first.
 use Rattle.std.specs.Prelude.{◌≡◌, ◌≢◌, ℕ, ◌+◌, ◌*◌, ◌<◌, ◌≤◌, ◌==◌, ◌⊎◌, Bool, true, false, cond, List, [], ◌∷◌, Option, Some, None, IsSome, length}
 use Rattle.std.specs.List.{slice_get}
 use Rattle.free_pages.specs.Area.{superblock_pages}
@@ -19,7 +19,7 @@ pub record PoolState : Type 0 where
   pub spans : List Span
   pub active : Option ℕ
 
--- whether object i of the superblock at page p is live, where there is such an object
+-- whether object i of the superblock at page p is live, if there is such an object
 abbrev pub object_at : List Span → ℕ → ℕ → Option Bool
 object_at [] p i = None
 object_at (s ∷ ss) p i = cond (s.page == p) (slice_get s.live i) (object_at ss p i)
@@ -48,15 +48,15 @@ SameBut before after p i = (q j : ℕ) → (q ≢ p) ⊎ (j ≢ i) → object_in
 abbrev pub SameBeside : PoolState → PoolState → ℕ → Type 0
 SameBeside before after p = (q j : ℕ) → q ≢ p → object_in after q j ≡ object_in before q j
 
--- the superblocks stand in the order of their pages, from page `low` on; each has 16 of the pages and says of each of
--- its objects whether it is live, and no two have a page in common
+-- the superblocks are in the order of their pages, from page `low` on; each has 16 of the pages and says of each of its
+-- objects whether it is live, and no two have a page in common
 abbrev pub AreApart : Layout → ℕ → List Span → Type 0
 AreApart l low [] = Unit {0}
 AreApart l low (s ∷ ss) = (low ≤ s.page) × (s.page + superblock_pages ≤ l.pages) × (length s.live ≡ l.objects) × AreApart l (s.page + superblock_pages) ss
 
 -- What is so between two calls: the superblocks are apart, each has a live object or is the active one, and one is
--- active exactly where there is one. (In dsa.c, too, a superblock that is wholly free goes back at once, unless it is
--- the active one.)
+-- active exactly if there is one. (In dsa.c, too, a superblock that is wholly free goes back at once, unless it is the
+-- active one.)
 pub record IsSettled (l : Layout) (s : PoolState) : Type 0 where
   pub apart : AreApart l 0 s.spans
   pub used : (p i : ℕ) → IsSome (object_in s p i) → (s.active ≡ Some p) ⊎ HasLive s p
@@ -64,7 +64,7 @@ pub record IsSettled (l : Layout) (s : PoolState) : Type 0 where
   pub some_active : (p i : ℕ) → IsSome (object_in s p i) → IsSome s.active
 
 -- a call: an object; a superblock that is added, by its first word; an object that comes back, by its first word and
--- its bytes; as many objects as this; objects that come back, by their first words
+-- its bytes; up to this many objects; objects that come back, by their first words
 pub data PoolCall : Type 0 where
   Alloc : PoolCall
   Add : ℕ → PoolCall
@@ -82,7 +82,7 @@ pub data PoolReply : Type 0 where
   Stranger : PoolReply
   Objects : List ℕ → PoolReply
 
--- a free object becomes live, of the active superblock where that has one; its superblock is the active one then
+-- a free object becomes live, of the active superblock if that has one; its superblock is the active one then
 -- (`alloc_object` and `ensure_active_superblock` of dsa.c)
 pub record IsAlloc (l : Layout) (before : PoolState) (at : ℕ) (after : PoolState) : Type 0 where
   pub page : ℕ
@@ -95,12 +95,12 @@ pub record IsAlloc (l : Layout) (before : PoolState) (at : ℕ) (after : PoolSta
   pub first : (p i : ℕ) → before.active ≡ Some p → object_in before p i ≡ Some false → p ≡ page
   pub settled : IsSettled l after
 
--- no object is free (where `ensure_active_superblock` of dsa.c would ask for a new superblock)
+-- no object is free (when `ensure_active_superblock` of dsa.c would ask for a new superblock)
 pub record IsFull (before after : PoolState) : Type 0 where
   pub all_live : AllLive before
   pub same : after ≡ before
 
--- A superblock comes in that was not there; one of its objects is live. It is the active one exactly where no other
+-- A superblock comes in that was not there; one of its objects is live. It is the active one exactly if no other
 -- superblock has a free object
 pub record IsAdd (l : Layout) (before : PoolState) (run at : ℕ) (after : PoolState) : Type 0 where
   pub page : ℕ
@@ -148,19 +148,19 @@ pub record IsStranger (l : Layout) (before : PoolState) (at bytes : ℕ) (after 
   pub none : (p i : ℕ) → at ≡ place l p i → bytes ≡ 8 * l.size → object_in before p i ≡ None
   pub same : after ≡ before
 
--- objects become live one after another, in this order, each as by a call of its own
+-- objects become live one after another, in this order, each as by a separate call
 abbrev pub AreAllocs : Layout → PoolState → List ℕ → PoolState → Type 0
 AreAllocs l before [] after = after ≡ before
 AreAllocs l before (at ∷ ats) after = (mid : PoolState) × IsAlloc l before at mid × AreAllocs l mid ats after
 
--- n objects become live, or fewer, and then no other is free
+-- at most n objects become live; if fewer, then no other is free
 pub record IsAllocMany (l : Layout) (before : PoolState) (n : ℕ) (ats : List ℕ) (after : PoolState) : Type 0 where
   pub few : length ats ≤ n
   pub each : AreAllocs l before ats after
   pub full : length ats < n → AllLive after
 
--- objects become free one after another, from the last of the list to its first, each as by a call of its own that
--- leaves its superblock
+-- objects become free one after another, from the last of the list to its first, each as by a separate call that leaves
+-- its superblock
 abbrev pub AreFreed : Layout → PoolState → List ℕ → PoolState → Type 0
 AreFreed l before [] after = after ≡ before
 AreFreed l before (at ∷ ats) after = (mid : PoolState) × AreFreed l before ats mid × IsFreed l mid at (8 * l.size) after

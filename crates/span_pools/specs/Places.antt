@@ -1,5 +1,5 @@
--- Where the superblocks of one class, their objects and their records stand. (A superblock of dsa.c has 16 pages, too;
--- its records stand in objects of a class of their own, and here in the control records of its pages.)
+-- Where the superblocks of one class, their objects and their records lie. (A superblock of dsa.c has 16 pages, too;
+-- its records are in objects of a separate class, and here in the control records of its pages.)
 use Rattle.std.specs.Prelude.{ℕ, ◌+◌, ◌*◌, ◌-◌, ◌/◌, ◌≤◌, ◌<◌, Bool}
 use Rattle.word_map.specs.WordMap.{is_within}
 use Rattle.free_pages.specs.Area.{page_words, record_words, superblock_pages, mark_words}

@@ -1,4 +1,4 @@
--- A pool as a value, and where the superblocks of its class stand.
+-- A pool as a value, and where the superblocks of its class lie.
 use Rattle.std.specs.Prelude.{◌≡◌, ℕ, ◌/◌, ◌+◌, ◌≤◌, Bool, List, Option, IsSomeAnd, refl}
 use Rattle.std.specs.Coded.{Coded, code_by, coded×, coded_ℕ, coded_bool, coded_list, coded_option}
 use Rattle.atomic_table.specs.Seated.{TableId, table_id_coded}
@@ -10,7 +10,7 @@ use Rattle.span_pools.specs.declared.layout.Layout.{Layout}
 use Rattle.span_pools.specs.Places.{base, record_at, superblock_records}
 use Rattle.span_pools.specs.Legal.{Span, PoolState}
 
--- the region, where the superblocks stand, and the state
+-- the region, where the superblocks lie, and the state
 pub record PoolView : Type 0 where
   pub region : TableId
   pub layout : Layout
@@ -20,7 +20,7 @@ pub record PoolView : Type 0 where
 abbrev pub pool_view : TableId → Layout → PoolState → PoolView
 pool_view region layout state = record { region = region; layout = layout; state = state }
 
--- where the superblocks of a class stand, in an area of this many pages whose page 0 begins at word `first`
+-- where the superblocks of a class lie, in an area of this many pages whose page 0 begins at word `first`
 abbrev pub layout_of : ℕ → ℕ → ℕ → Layout
 layout_of class first pages = record {
   first = first;
@@ -58,7 +58,7 @@ pub record IsSuperblock (region : TableId) (l : Layout) (at_word pages : ℕ) (w
   pub here : words.region ≡ region
   pub records_are : IsSomeAnd records (λ o. (o.region ≡ region) × HasJust o.words (record_at l page) superblock_records)
 
--- the superblocks stand in an area of this many pages whose page 0 begins at word `from`
+-- the superblocks lie in an area of this many pages whose page 0 begins at word `from`
 pub record IsOver (l : Layout) (from of_pages : ℕ) : Type 0 where
   pub first : l.first ≡ from
   pub pages : l.pages ≡ of_pages

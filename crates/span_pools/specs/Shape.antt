@@ -5,8 +5,8 @@ use Rattle.free_pages.specs.Area.{superblock_pages}
 use Rattle.span_pools.specs.declared.layout.Layout.{Layout}
 use Rattle.span_pools.specs.Places.{place, record_at, covers, object_of, superblock_records}
 
--- Superblocks do not overlap. The pool owns words of superblocks alone: of each object all or none, and each word
--- behind the last object. The objects whose words it does not own are live
+-- Superblocks do not overlap. The pool owns only words of superblocks: of each object all or none, and each word after
+-- the last object. The objects whose words it does not own are live
 pub record IsShape (l : Layout) (marked own : ℕ → Bool) : Type 0 where
   pub inside : (p : ℕ) → marked p ≡ true → p + superblock_pages ≤ l.pages
   pub apart : (p q : ℕ) → marked p ≡ true → marked q ≡ true → p < q → p + superblock_pages ≤ q

@@ -18,7 +18,7 @@ mark_of l m p = bit_at (unwrap_or (at m (l.marks + p / 64)) 0) (p % 64) == 1
 abbrev pub owns : WordMap → ℕ → Bool
 owns m k = is_some (at m k)
 
--- the value of the first word of object i of the superblock at page p, where the pool owns it
+-- the value of the first word of object i of the superblock at page p, if the pool owns it
 abbrev pub first_word : Layout → WordMap → ℕ → ℕ → Option ℕ
 first_word l m p i = at m (place l p i)
 
@@ -55,7 +55,7 @@ pub record IsRecordOf (l : Layout) (records words : WordMap) (p : ℕ) : Type 0 
 abbrev pub HasRoom : Layout → WordMap → ℕ → Type 0
 HasRoom l records p = (room : ℕ) × (at records (record_at l p) ≡ Some room) × (0 < room)
 
--- how many objects of the superblock at page p are free, by its record; none where no superblock begins there
+-- how many objects of the superblock at page p are free, by its record; none if no superblock begins there
 abbrev pub room_at : Layout → WordMap → WordMap → ℕ → ℕ
 room_at l marks records p = cond {A = ℕ} (mark_of l marks p) (unwrap_or (at records (record_at l p)) 0) 0
 
@@ -72,7 +72,7 @@ free_objects l marks records = total (room_at l marks records) l.pages
 abbrev pub IsSpare : Layout → Option ℕ → WordMap → WordMap → Type 0
 IsSpare l spare marks records = (p : ℕ) → spare ≡ Some p → 0 < room_at l marks records p
 
--- object i goes out: the record says so where its words are no longer owned, and those of the others are
+-- object i goes out: the record says so if its words are no longer owned, and those of the others are
 abbrev pub IsPopped : ℕ → (ℕ → ℕ) → (ℕ → Option ℕ) → ℕ → ℕ → ℕ → ℕ → Type 0
 IsPopped objects place word i room head used = (after : ℕ → Option ℕ) → after i ≡ None → ((j : ℕ) → j ≢ i → after j ≡ word j) → IsListed objects place after room head used
 
@@ -149,7 +149,7 @@ pub record IsReleased (l : Layout) (p : ℕ) (records words part records2 words2
   pub control_is : control ≡ owned records.region (range_of records.words (record_at l p) superblock_records)
 
 -- The parts of a pool: `marks` has the words of its class's bits, `records` the control records of its superblocks,
--- `words` the words of their free objects and the words behind their last objects
+-- `words` the words of their free objects and the words after their last objects
 pub record IsPool (l : Layout) (active : Option ℕ) (marks records words : Owned) : Type 0 where
   pub records_here : records.region ≡ marks.region
   pub words_here : words.region ≡ marks.region

@@ -1,5 +1,5 @@
-//! Many objects in one call: as `Pool::alloc` and `Pool::free` one after the other, so that a caller who keeps free
-//! objects of its own takes the pool's lock once for all of them.
+//! Many objects in one call: as `Pool::alloc` and `Pool::free` one after the other, so that a caller that keeps its own
+//! free objects takes the pool's lock once for all of them.
 
 ghost use Rattle.std.specs.Prelude.{◌≡◌, ◌-◌, ◌*◌, ◌≤◌, [], ◌∷◌, IfOk, IfErr, IfNone, IfSome, length, vec_capacity};
 ghost use Rattle.span_pools.specs.Legal.{IsLegal, AllocMany, FreeMany, Kept, Objects, Stranger, Whole};
@@ -10,8 +10,8 @@ use crate::pool::Pool;
 use region_words::{Chunk, Region, Run};
 
 impl Pool {
-    /// As many free objects as this, which are live then, into an empty list with room for them; or fewer, where no
-    /// other is free. Costs a call of `alloc` for each.
+    /// Up to the given number of free objects, which are live then, into an empty list with room for them; fewer only
+    /// if no other is free. Costs a call of `alloc` for each.
     pub fn alloc_many(&mut self, r: &Region, count: usize, objects: &mut Vec<Chunk>)
         requires here { self.old.region ≡ r.now }
         requires empty { objects.old.items ≡ [] }
@@ -29,7 +29,7 @@ impl Pool {
         }
     }
 
-    /// Takes back as many objects as this, from the end of a list on, or all where there are fewer. Stops after one
+    /// Takes back the given number of objects, from the end of a list on, or all if there are fewer. Stops after one
     /// with which a superblock goes out, which it gives, and after one that no superblock has, which it hands back.
     /// Costs a call of `free` for each.
     pub fn free_many(

@@ -55,8 +55,8 @@ fn find_free(marks: &mut Part, records: &mut Part, r: &Region, layout: Layout) -
     None
 }
 
-/// A page whose superblock has a free object: the active one's, where that has one, and else the spare one, where there
-/// is one.
+/// A page whose superblock has a free object: the active one's, if that has one, and else the spare one, if there is
+/// one.
 pub(crate) fn free_page(
     active: Option<u64>,
     spare: Option<u64>,
@@ -99,7 +99,7 @@ fn is_object(layout: Layout, page: u64, place: u64) -> bool
     offset % layout.size == 0 && offset / layout.size < layout.objects
 }
 
-/// How many pages before a page the active superblock begins, where it has that page, and else 0.
+/// How many pages before a page the active superblock begins, if it has that page, and else 0.
 fn first_back(active: Option<u64>, page: u64) -> u64
     ensures few { result < superblock_pages }
     ensures begins { 0 < result → (p : ℕ) × (active ≡ Some p) × (p + result ≡ page) }
@@ -111,7 +111,7 @@ fn first_back(active: Option<u64>, page: u64) -> u64
 }
 
 /// The page whose superblock has an object at a place: looks at the bit of the place's page and those of the 15 pages
-/// before it, and at one bit where the active superblock has the place.
+/// before it, and at only one bit if the active superblock has the place.
 pub(crate) fn holder(
     active: Option<u64>,
     marks: &mut Part,

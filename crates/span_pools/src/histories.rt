@@ -1,17 +1,17 @@
 //! What the history of a pool is made of: its name, and the states, the calls and the replies of `specs/Legal.antt`, as
 //! types.
 //!
-//! They stand in contracts and proofs alone, where a layer above keeps a history; no value of them need be made.
+//! They appear only in contracts and proofs, if a layer above keeps a history; no value of them need be made.
 
 use crate::layout::Layout;
 use region_words::Region;
 use std::marker::Model;
 
-/// What is fixed of a pool: the region of its words, and where they stand.
+/// What is fixed of a pool: the region of its words, and where they lie.
 pub struct PoolName {
     /// The region of the words.
     pub region: Region,
-    /// Where they stand.
+    /// Where they lie.
     pub layout: Layout,
 }
 

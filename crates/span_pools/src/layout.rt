@@ -1,4 +1,4 @@
-//! Where the words of a pool stand.
+//! Where the words of a pool lie.
 
 ghost use Rattle.std.specs.Prelude.{◌≡◌, ◌+◌, ◌*◌, ◌≤◌, ◌^◌};
 ghost use Rattle.size_classes.specs.Classes.{IsClass};
@@ -15,8 +15,8 @@ pub(crate) const SUPERBLOCK_WORDS: u64 = SUPERBLOCK_PAGES as u64 * PAGE_WORDS;
 /// The words of the control records of a superblock.
 pub(crate) const SUPERBLOCK_RECORDS: u64 = SUPERBLOCK_PAGES as u64 * RECORD_WORDS;
 
-/// Where the words of a pool stand: six numbers that say the class and the area. Contracts see them; callers have no
-/// use for one but to name a pool in a contract.
+/// Where the words of a pool lie: six numbers that say the class and the area. Contracts see them; callers have no use
+/// for one except to name a pool in a contract.
 #[derive(Clone, Copy)]
 pub struct Layout {
     /// The first word of page 0.

@@ -1,6 +1,5 @@
-//! The objects of a superblock and its record, which stands in the first three words of its first page's control
-//! record: how many objects are free, the place of the first of the list of free ones or 0, and how many were used so
-//! far.
+//! The objects of a superblock and its record, which is in the first three words of its first page's control record:
+//! how many objects are free, the place of the first of the list of free ones or 0, and how many were used so far.
 //!
 //! Only the pool changes a record. The list goes through the first words of the free objects, each of which has the
 //! place of the next; an object that was never used is free and on no list. `IsRecordOf` of `specs/View.antt` says what

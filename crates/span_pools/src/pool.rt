@@ -2,9 +2,9 @@
 //!
 //! The pool owns the words of its class's bits, the control records of its superblocks, and of the superblocks' words
 //! those of no live object. Nobody else changes any of them. An object that goes out takes its words with it, and they
-//! are live until they come back: so which objects are live is read off the words that the pool owns, and its record
-//! and its list only say so again. What the parts own is `IsPool` of `specs/View.antt`; what the calls answer is
-//! `IsLegal` of `specs/Legal.antt`.
+//! are live until they come back: so the words that the pool owns show which objects are live, and its record and its
+//! list only say so again. What the parts own is `IsPool` of `specs/View.antt`; what the calls answer is `IsLegal` of
+//! `specs/Legal.antt`.
 
 ghost use Rattle.std.specs.Prelude.{◌≡◌, ◌≢◌, ℕ, ◌+◌, ◌*◌, ◌/◌, ◌<◌, ◌≤◌, ◌^◌, ◌⊎◌, [], None, Some, IfSome, IfNone, IfOk, IfErr, true, IsSome, is_some};
 ghost use Rattle.word_map.specs.WordMap.{HasJust};
@@ -23,19 +23,19 @@ use region_words::{Chunk, Part, Region, Run};
 use rel_pointer::RelPtr;
 use std::marker::Model;
 
-/// The superblocks of one size class. Contracts see the region, where the superblocks stand, the superblocks with their
+/// The superblocks of one size class. Contracts see the region, where the superblocks lie, the superblocks with their
 /// live objects, and which of them is active.
 #[derive(Drop)]
 pub struct Pool {
-    /// Where the words stand.
+    /// Where the words lie.
     layout: Layout,
     /// The page of the active superblock.
     active: Option<u64>,
-    /// How many objects of all superblocks are free. It only says again what the records say, so that nobody has to
-    /// look at each.
+    /// How many objects of all superblocks are free. It only repeats what the records say, so that nobody has to look
+    /// at each.
     left: u64,
-    /// The page of a superblock with a free object, where one is remembered: one to which an object came back that was
-    /// not the active one. It is used where the active one is full, so that the bits need not be gone over.
+    /// The page of a superblock with a free object, if one is remembered: one to which an object came back that was not
+    /// the active one. It is used if the active one is full, so that the bits need not be gone over.
     spare: Option<u64>,
     /// The words of the class's bits.
     marks: Part,
@@ -92,7 +92,7 @@ impl Pool {
         }
     }
 
-    /// A free object, which is live then: of the active superblock, where that has one. Costs the same for every state
+    /// A free object, which is live then: of the active superblock, if that has one. Costs the same for every state
     /// while the active superblock has a free object, one that was not active got one back since, or none has; else it
     /// goes over the class's bits, a word at a time.
     pub fn alloc(&mut self, r: &Region) -> Option<Chunk>
@@ -162,9 +162,9 @@ impl Pool {
         }
     }
 
-    /// Takes an object back. Where it was the last live one of a superblock that is not the active one, gives the
-    /// superblock back. Hands the object back where no superblock has an object at this place and of this size. Looks
-    /// at one bit where the active superblock has the object, and else at 16 at most.
+    /// Takes an object back. If it was the last live one of a superblock that is not the active one, gives the
+    /// superblock back. Hands the object back if no superblock has an object at this place and of this size. Looks at
+    /// one bit if the active superblock has the object, and else at 16 at most.
     pub fn free(&mut self, r: &Region, object: Chunk) -> Result<Option<Run>, Chunk>
         requires here { (self.old.region ≡ r.now) × (object.part.region ≡ r.now) }
         ensures same { self.new ≡ record self.old { state = self.new.state } }
@@ -232,7 +232,7 @@ fn is_page(active: Option<u64>, page: u64) -> bool
     }
 }
 
-/// What is remembered as spare, where that is no longer to be this page.
+/// What is remembered as spare, if that is no longer to be this page.
 fn other_than(spare: Option<u64>, page: u64) -> Option<u64>
     ensures { (p : ℕ) → result ≡ Some p → (spare ≡ Some p) × (p ≢ page) }
 {
@@ -242,7 +242,7 @@ fn other_than(spare: Option<u64>, page: u64) -> Option<u64>
     }
 }
 
-/// What is remembered as spare, when an object came back to the superblock of a page: that one, where it is not active.
+/// What is remembered as spare, when an object came back to the superblock of a page: that one, if it is not active.
 fn spare_with(active: Option<u64>, spare: Option<u64>, page: u64) -> Option<u64>
     ensures { (p : ℕ) → result ≡ Some p → (spare ≡ Some p) ⊎ (p ≡ page) }
 {
