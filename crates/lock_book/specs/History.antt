@@ -27,12 +27,12 @@ module _ {S C R : Type 0} where
   abbrev pub StartsWith : List (Entry S C R) → List (Entry S C R) → Type 0
   StartsWith log seen = (rest : List (Entry S C R)) × (log ≡ seen ++ rest)
 
-  -- each entry's reply and state are what its caller's call may give where it stands
+  -- each entry's reply and state are what its caller's call may give at that point
   abbrev pub IsLegal : (ℕ → S → C → R → S → Type 0) → S → List (Entry S C R) → Type 0
   IsLegal legal s [] = Unit {0}
   IsLegal legal s (e ∷ es) = legal e.by s e.call e.reply e.after × IsLegal legal e.after es
 
-  -- the longer of two lists, and the first where they are as long
+  -- the longer of two lists, and the first if they are equally long
   abbrev pub longer : List (Entry S C R) → List (Entry S C R) → List (Entry S C R)
   longer xs ys = if ltb (length xs) (length ys) then ys else xs
 
@@ -49,7 +49,7 @@ put_row [] (suc i) y = [] ∷ put_row [] i y
 put_row (x ∷ xs) zero y = y ∷ xs
 put_row (x ∷ xs) (suc i) y = x ∷ put_row xs i y
 
--- the first list alone
+-- only the first list
 abbrev pub first_row : {A : Type 0} → List A → List A
 first_row [] = []
 first_row (l ∷ ls) = l ∷ []

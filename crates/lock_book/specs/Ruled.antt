@@ -1,4 +1,4 @@
--- The rule of a shelf's table, and what each step tells.
+-- The rule of a shelf's table, and what is learnt by each step.
 -- X is what a slot holds, N a name, S a state, C a call and R a reply.
 use Rattle.std.specs.Prelude.{◌≡◌, ◌≢◌, ℕ, ◌+◌, ◌*◌, ◌<◌, ◌≤◌, ◌==◌, if◌then◌else◌, List, [], ◌∷◌, ◌++◌, length, slice_index, replicate, Option, Some}
 use mathlib.Core.Option.{some}
@@ -15,12 +15,12 @@ abbrev pub total : {V : Type 0} → (V → ℕ) → List V → ℕ
 total f [] = 0
 total f (v ∷ vs) = f v + total f vs
 
--- The table has eight words for each value, a line of the cache, of which four are used. The first is the lock's: 0 while
--- the value is free, and else 1 + the number of the caller that has it.
+-- The table has eight words for each value, a cache line, of which four are used. The first is the lock's: 0 while the
+-- value is free, and else 1 + the number of the caller that has it.
 abbrev pub lock_at : ℕ → ℕ
 lock_at i = 8 * i
 
--- The other three are advice: no rule says what is in them. One tells whether somebody sleeps until the value is free,
+-- The other three are advice: no rule says what is in them. One says whether somebody sleeps until the value is free,
 abbrev pub sleep_at : ℕ → ℕ
 sleep_at i = 8 * i + 1
 
@@ -28,7 +28,7 @@ sleep_at i = 8 * i + 1
 abbrev pub news_at : ℕ → ℕ
 news_at i = 8 * i + 2
 
--- and one those who sleep until something is announced.
+-- and one the callers that sleep until something is announced.
 abbrev pub readers_at : ℕ → ℕ
 readers_at i = 8 * i + 3
 
@@ -39,17 +39,17 @@ abbrev pub named : ℕ → ℕ → Stage → ℕ
 named i n Idle = 0
 named i n (Holding j) = if j == i then n + 1 else 0
 
--- 1 where a seat at this stage has the value i, and else 0
+-- 1 if a seat at this stage has the value i, and else 0
 abbrev pub holders : ℕ → Stage → ℕ
 holders i Idle = 0
 holders i (Holding j) = if j == i then 1 else 0
 
 module _ {N S C R : Type 0} where
-  -- the seat stands for the caller n
+  -- the seat represents the caller n
   abbrev pub Stands : ℕ → (View N S C R) → Type 0
   Stands n v = (v.from ≤ n) × (n < v.from + length v.owns)
 
-  -- the calls at the value i of the k-th caller that the seat stands for
+  -- the calls at the value i of the k-th caller that the seat represents
   abbrev pub mine_at : (View N S C R) → ℕ → ℕ → List (Entry S C R)
   mine_at v k i = calls_at i (row_at v.owns k)
 
@@ -57,7 +57,7 @@ module _ {N S C R : Type 0} where
   abbrev pub seen_at : (View N S C R) → ℕ → List (Entry S C R)
   seen_at v i = row_at v.seen i
 
-  -- the history of the value i that a note told the seat
+  -- the history of the value i that the seat learnt by a note
   abbrev pub told_at : (View N S C R) → ℕ → List (Entry S C R)
   told_at v i = row_at v.told i
 
@@ -81,7 +81,7 @@ module _ {N S C R : Type 0} where
   abbrev pub missing : (View N S C R) → (View N S C R)
   missing v = record v { misses = v.misses + 1 }
 
-  -- the seat after a look: of each value it has seen the longer of what it had seen and what it was told
+  -- the seat after a look: of each value it has seen the longer of what it had seen and what it had learnt
   abbrev pub merged : (View N S C R) → (View N S C R)
   merged v = record v { seen = longer_rows v.seen v.told; told = [] }
 
@@ -93,11 +93,11 @@ module _ {N S C R : Type 0} where
   abbrev pub other_callers : (View N S C R) → (View N S C R)
   other_callers v = record v { from = v.from + 1; owns = other_rows v.owns; stage = Idle }
 
-  -- a seat that has seen as much and stands for nobody
+  -- a seat that has seen as much and represents nobody
   abbrev pub note : (View N S C R) → (View N S C R)
   note v = record v { from = 0; owns = []; told = []; stage = Idle }
 
-  -- the seat v once it was told what w has seen
+  -- the seat v once it has learnt what w has seen
   abbrev pub informed : (View N S C R) → (View N S C R) → (View N S C R)
   informed v w = record v { told = w.seen }
 
@@ -109,12 +109,13 @@ module _ {N S C R : Type 0} where
   abbrev pub nobody : (View N S C R)
   nobody = record { opens = []; callers = 0; from = 0; owns = []; seen = []; told = []; stage = Idle; misses = 0 }
 
-  -- the first seat, which stands for all callers and has seen nothing
+  -- the first seat, which represents all callers and has seen nothing
   abbrev pub newcomers : List (N × S) → ℕ → (View N S C R)
   newcomers opens callers = record { opens = opens; callers = callers; from = 0; owns = replicate callers []; seen = []; told = []; stage = Idle; misses = 0 }
 
   module _ (opens : List (N × S)) (callers : ℕ) (logs : ℕ → List (Entry S C R)) where
-    -- what is true of a seat at a stage: whoever has a value is one caller, and has seen the value's whole history
+    -- what is true of a seat at a stage: a seat that has a value is of one caller, and has seen the value's whole
+    -- history
     abbrev pub StageOk : (View N S C R) → Stage → Type 0
     StageOk v Idle = Unit {0}
     StageOk v (Holding i) = (length v.owns ≡ 1) × (i < length opens) × (seen_at v i ≡ logs i)
@@ -161,20 +162,20 @@ module _ {N S C R : Type 0} where
       pub mine : mine_at m.0 0 i ≡ calls_by m.0.from log
       pub bounded : (n : ℕ) → m.0.callers ≤ n → calls_by n log ≡ []
 
-    -- a try to take the value: where the word found is 0 the seat has it, and else nothing changed
+    -- a try to take the value: if the word found is 0 the seat has it, and else nothing changed
     abbrev pub tried : Step X → Me X (View N S C R) → ℕ → Me X (View N S C R) → Type 0
     tried st m r m' = (i : ℕ) → st.word ≡ lock_at i → (r ≡ 0 → Taken m i m') × (r ≢ 0 → m' ≡ m)
 
-    -- a single try to take the value: where the word found is 0 the seat has it, and else another has it, and the try is
+    -- a single try to take the value: if the word found is 0 the seat has it, and else another has it, and the try is
     -- counted
     abbrev pub tried_once : Step X → Me X (View N S C R) → ℕ → Me X (View N S C R) → Type 0
     tried_once st m r m' = (i : ℕ) → st.word ≡ lock_at i → (r ≡ 0 → Taken m i m') × (r ≢ 0 → m' ≡ (missing m.0, m.1))
 
-    -- the call that the slot tells of stands in the history, the value went back, and the seat has none
+    -- the call that the slot names is in the history, the value went back, and the seat has none
     abbrev pub given_back : (X → Option (C × R)) → Step X → Me X (View N S C R) → ℕ → Me X (View N S C R) → Type 0
     given_back made st m r m' = (i : ℕ) (x : X) (c : C) (y : R) → st.word ≡ lock_at i → m.1 ≡ (i, x) ∷ [] → made x ≡ Some (c, y) → (m'.1 ≡ rest m.1) × (m'.0 ≡ served m.0 i (entry m.0.from c y (slot_state x)))
 
-    -- what was seen and what was told are beginnings of one legal history, and the longer of the two is seen
+    -- what was seen and what was learnt are beginnings of one legal history, and the longer of the two is seen
     pub record Looks (v w : (View N S C R)) : Type 0 where
       pub view : w ≡ merged v
       pub seen : (i : ℕ) → StartsWith (seen_at w i) (seen_at v i)

@@ -75,8 +75,8 @@ module _ {T E I O N S C R : Type 0} {g : Ghosts T E I O N S C R} where
   abbrev pub first_of : Joined T E I O N S C R g → ℕ
   first_of j = j.whole.me.0.from
 
-  -- These are the passes that were joined, of the callers from that number on to the last: their own calls are all
-  -- kept, and what is seen begins with what each had seen
+  -- These are the passes that were joined, of the callers from the joined passes' first number on to the last: their
+  -- own calls are all kept, and what is seen begins with what each had seen
   pub record IsJoined (s : Shelf T E I O N S C R) (passes : List (Pass T E I O N S C R g)) (j : Joined T E I O N S C R g) : Type 0 where
     pub table : j.whole.table_id ≡ s.board.shared.table_id
     pub opens : j.whole.me.0.opens ≡ opens_of s

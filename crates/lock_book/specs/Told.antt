@@ -1,4 +1,4 @@
--- What the calls of a shelf tell, as facts about plain histories. N is a name, S a state, C a call and R a reply.
+-- What the calls of a shelf show, as facts about plain histories. N is a name, S a state, C a call and R a reply.
 -- `seen` and `mine` give, of each value by its place, the history that a pass has seen and its own calls in it.
 use Rattle.std.specs.Prelude.{◌≡◌, ◌≢◌, ℕ, ◌<◌, ◌≤◌, List, [], ◌∷◌, ◌++◌}
 use mathlib.Core.Option.{some}
@@ -11,8 +11,8 @@ abbrev pub Histories : Type 0 → Type 0 → Type 0 → Type 0
 Histories S C R = ℕ → List (Entry S C R)
 
 module _ {N S C R : Type 0} (legal : N → ℕ → S → C → R → S → Type 0) (opens : List (N × S)) where
-  -- What is always true of a pass with the number n: what it has seen is legal, its own calls stand there in order,
-  -- each once, and no caller but those of the shelf has a call there
+  -- What is always true of a pass with the number n: what it has seen is legal, its own calls are there in order, each
+  -- once, and no caller but those of the shelf has a call there
   pub record IsPass (callers n : ℕ) (seen mine : Histories S C R) : Type 0 where
     pub below : n < callers
     pub lawful : (i : ℕ) (o : N × S) → get_elem? opens i ≡ some o → IsLegal (legal o.0) o.1 (seen i)
@@ -20,7 +20,7 @@ module _ {N S C R : Type 0} (legal : N → ℕ → S → C → R → S → Type 
     pub bounded : (i m : ℕ) → callers ≤ m → calls_by m (seen i) ≡ []
 
   -- What a call c with the reply r at one value adds: the history seen afterwards begins with all that was seen before
-  -- and ends with the call, which is legal where it stands and one more of the caller's own; at other values nothing
+  -- and ends with the call, which is legal at its place and one more of the caller's own; at other values nothing
   -- changes
   pub record Adds (n : ℕ) (seen mine seen' mine' : Histories S C R) (at : ℕ) (c : C) (r : R) : Type 0 where
     pub before : List (Entry S C R)
@@ -32,11 +32,11 @@ module _ {N S C R : Type 0} (legal : N → ℕ → S → C → R → S → Type 
     pub others_seen : (j : ℕ) → j ≢ at → seen' j ≡ seen j
     pub others_mine : (j : ℕ) → j ≢ at → mine' j ≡ mine j
 
--- How what a pass shows of one value grows by calls of its own. S, C and R are the value's states, calls and replies,
+-- How what a pass shows of one value grows by its calls. S, C and R are the value's states, calls and replies,
 -- `opening` the state in which it was shelved, and n the number of the pass
 module _ {S C R : Type 0} (legal : ℕ → S → C → R → S → Type 0) (opening : S) (n : ℕ) where
   -- One call: the history that is seen then begins with all that was seen before, and ends with the call, which is
-  -- legal where it stands and one more of the pass's own
+  -- legal at its place and one more of the pass's own
   pub record Makes (seen mine seen' mine' : List (Entry S C R)) (c : C) (r : R) : Type 0 where
     pub before : List (Entry S C R)
     pub after : S

@@ -68,7 +68,7 @@ impl<T: Kept> Shelf<T> {
         self.finish(whole)
     }
 
-    /// Ends the shelf, where its passes were joined one by one. It takes no memory.
+    /// Ends the shelf, if its passes were joined one by one. It takes no memory.
     pub fn close_joined(self, joined: Joined<T>) -> Closed<T>
         requires joined { (passes : List _) × IsJoined self passes joined }
         requires all { first_of joined ≡ 0 }
@@ -84,7 +84,7 @@ impl<T: Kept> Shelf<T> {
 impl<T: Kept> Closed<T> {
     ghost use Rattle.lock_book.specs.Shown.{left_of, opened_of, whole_of};
 
-    /// The last value that is left, with its name and the last state of its history. None exactly where none is left.
+    /// The last value that is left, with its name and the last state of its history. None exactly if none is left.
     pub fn take_last(&mut self) -> Option<T>
         ensures none { IsNone result ↔ (left_of self.old ≡ 0) }
         ensures some { IfSome result (λ _. left_of self.old ≡ left_of self.new + 1) }

@@ -1,4 +1,4 @@
-//! All passes become one seat. Before a seat is joined, it is told what the seats behind it have seen, so that what the
+//! All passes become one seat. Before a seat is joined, it learns what the seats after it have seen, so that what the
 //! last one has seen begins with what each had seen.
 
 ghost use Rattle.std.specs.Prelude.{◌≡◌, ℕ, ◌+◌, ◌<◌, ◌≤◌, [], ◌++◌, length, map};
@@ -14,7 +14,7 @@ use crate::meet::{make_note, take_note};
 use crate::shelf::Pass;
 use crate::table::{Board, Callers, Place};
 
-/// Joins the seat of the callers behind to that of one caller, which has then seen as much as both.
+/// Joins the seat of the callers after one caller to that caller's, which has then seen as much as both.
 pub(crate) fn join_behind<T: Kept>(board: &Board<T>, seat: &mut Place<T>, mut behind: Place<T>)
     requires own { (seat.old.table_id ≡ board.now.shared.table_id) × (behind.table_id ≡ board.now.shared.table_id) × (0 < board.now.shared.table_id.words) × (behind.me.1 ≡ []) }
     requires free { IsFree seat.old.me.0 × (behind.me.0.stage ≡ Idle) }

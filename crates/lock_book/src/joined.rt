@@ -1,8 +1,8 @@
 //! Passes that are joined one by one, from the last to the first, so that a shelf is closed with no list of them.
 //!
 //! A structure over several shelves has one list, of tokens with a pass of each shelf: it takes its tokens apart and
-//! joins the passes of each shelf. `IsJoined` says which passes were joined; a pass that is joined is told what those
-//! behind it have seen, so what is seen then begins with what each had seen.
+//! joins the passes of each shelf. `IsJoined` says which passes were joined; a pass that is joined learns what those
+//! after it have seen, so what is seen then begins with what each had seen.
 
 ghost use Rattle.std.specs.Prelude.{◌≡◌, ◌+◌, List, [], ◌∷◌};
 ghost use Rattle.lock_book.specs.declared.view.Stage.TheVariants.{Idle};

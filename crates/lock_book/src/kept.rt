@@ -4,8 +4,8 @@ ghost use Rattle.std.specs.Prelude.{◌≡◌, ℕ, Option, None, unwrap_or};
 
 /// A value that threads take turns at. Its name never changes; its state is what a call may change.
 ///
-/// The members say what a contract sees. Only the call and the `reply` of an input and an output stand in a history,
-/// so they have to say all that is to be told of a call; what goes in and comes out whole, as a token, is said by `out_fits`.
+/// The members say what a contract sees. A history has only the call and the `reply` of an input and an output, so they
+/// have to say all that is to be known of a call; what goes in and comes out whole, as a token, is said by `out_fits`.
 pub trait Kept: Send + Drop {
     /// What `apply` may use besides the value, by reference.
     type Env;
@@ -14,8 +14,8 @@ pub trait Kept: Send + Drop {
 
     type Out;
 
-    /// What is fixed of a value, as sizes, places and the region of its tokens. Plain data, as the next three: no value
-    /// of them need be made.
+    /// What is fixed of a value, as sizes, places and the region of its tokens. Plain data, like the next three: no
+    /// value of them need be made.
     type Name;
 
     type State;
@@ -28,12 +28,12 @@ pub trait Kept: Send + Drop {
 
     ghost state: { Self → Self.State };
 
-    // the call that an input stands for, and the reply that an output stands for
+    // the call that an input represents, and the reply that an output represents
     ghost call: { Self.In → Self.Call };
 
     ghost reply: { Self.Out → Self.Reply };
 
-    // the call that the value chose, where it did, as the output tells; where none is told, the input's was made
+    // the call that the value chose, if it did, as the output says; if the output says none, the input's was made
     ghost chosen: { Self.In → Self.Out → Option Self.Call } = { λ input output. None };
 
     // the environments that may be used at a value of this name

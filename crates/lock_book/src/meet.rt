@@ -1,7 +1,7 @@
-//! Two passes tell each other what they have seen.
+//! Two passes exchange what they have seen.
 //!
-//! A note from each side is joined into the other, and then each side looks once: one load tells of all values that
-//! what was seen and what was told of begin the value's one history, so the longer of the two is seen from then on.
+//! A note from each side is joined into the other, and then each side looks once: one load shows for all values that
+//! what was seen and what was learnt begin the value's one history, so the longer of the two is seen from then on.
 
 ghost use Rattle.std.specs.Prelude.{◌≡◌, ℕ, ◌<◌, [], length};
 ghost use Rattle.lock_book.specs.declared.view.Stage.TheVariants.{Idle};
@@ -13,7 +13,7 @@ use crate::Kept;
 use crate::shelf::{Pass, Shelf, give_back, lend};
 use crate::table::{Board, Look, Note, Place};
 
-/// A seat that knows what this one has seen, and stands for nobody.
+/// A seat that knows what this one has seen, and represents nobody.
 pub(crate) fn make_note<T: Kept>(board: &Board<T>, seat: &mut Place<T>) -> Place<T>
     requires own { (seat.old.table_id ≡ board.now.shared.table_id) × (0 < board.now.shared.table_id.words) }
     requires idle { seat.old.me.0.stage ≡ Idle }
@@ -37,7 +37,7 @@ pub(crate) fn take_note<T: Kept>(board: &Board<T>, seat: &mut Place<T>, told: Pl
     board.shared.load::<Look>(seat, 0);
 }
 
-/// Each seat is told what the other has seen.
+/// Each seat learns what the other has seen.
 fn exchange_notes<T: Kept>(board: &Board<T>, this: &mut Place<T>, that: &mut Place<T>)
     requires own { (this.old.table_id ≡ board.now.shared.table_id) × (that.old.table_id ≡ board.now.shared.table_id) × (0 < board.now.shared.table_id.words) }
     requires free { IsFree this.old.me.0 × IsFree that.old.me.0 }

@@ -1,10 +1,11 @@
 //! News of a value: how callers wait, asleep, until another says that the value has changed, as at the end of a
 //! barrier's phase.
 //!
-//! Whoever changed what others wait for announces it after its call: one of the value's words counts the announcements.
-//! Whoever waits reads that count, makes its call, and if the call did not find what it waits for, waits until the count is
-//! another. It needs no turn for that, and no entry of a history. All of this is advice: no clause says what the count is,
-//! so a caller has to look again after each wait, and one that forgets to announce costs others time, and never an answer.
+//! A caller that changed what others wait for announces it after its call: one of the value's words counts the
+//! announcements. A caller that waits reads that count, makes its call, and if the call did not find what it waits for,
+//! waits until the count is another. It needs no turn for that, and no entry of a history. All of this is advice: no
+//! clause says what the count is, so a caller has to look again after each wait, and one that forgets to announce costs
+//! others time, and never an answer.
 
 ghost use Rattle.std.specs.Prelude.{◌≡◌, ℕ, ◌<◌, ◌^◌};
 ghost use Rattle.lock_book.specs.Ruled.{news_at, readers_at};
@@ -15,7 +16,7 @@ use crate::table::{Advise, Board, Place, WORDS_OF_VALUE};
 use crossbeam_utils::Backoff;
 use std::sync::Wait;
 
-/// How many counts are told apart: those who sleep compare the low 32 bits of the word.
+/// How many counts are distinguished: callers that sleep compare the low 32 bits of the word.
 const COUNTS: u64 = 1 << 32;
 
 /// The word that counts what was announced of the value `at`.
@@ -26,7 +27,7 @@ fn news_word(at: usize) -> usize
     at * WORDS_OF_VALUE + 2
 }
 
-/// The word that counts those who sleep until something is announced of it.
+/// The word that counts the callers that sleep until something is announced of it.
 fn readers_word(at: usize) -> usize
     requires { readers_at at < 2 ^ 64 }
     ensures { result ≡ readers_at at }
@@ -43,7 +44,7 @@ fn count_news<T: Kept>(board: &Board<T>, seat: &mut Place<T>, at: usize)
     board.shared.fetch_add::<Advise>(seat, news_word(at), 1);
 }
 
-/// One more sleeps.
+/// One more caller sleeps.
 fn begin_sleep<T: Kept>(board: &Board<T>, seat: &mut Place<T>, at: usize)
     requires own { seat.old.table_id ≡ board.now.shared.table_id }
     requires word { (readers_at at < board.now.shared.table_id.words) × (readers_at at < 2 ^ 64) }
@@ -52,7 +53,7 @@ fn begin_sleep<T: Kept>(board: &Board<T>, seat: &mut Place<T>, at: usize)
     board.shared.fetch_add::<Advise>(seat, readers_word(at), 1);
 }
 
-/// One fewer sleeps.
+/// One caller fewer sleeps.
 fn end_sleep<T: Kept>(board: &Board<T>, seat: &mut Place<T>, at: usize)
     requires own { seat.old.table_id ≡ board.now.shared.table_id }
     requires word { (readers_at at < board.now.shared.table_id.words) × (readers_at at < 2 ^ 64) }
@@ -61,7 +62,7 @@ fn end_sleep<T: Kept>(board: &Board<T>, seat: &mut Place<T>, at: usize)
     board.shared.fetch_sub::<Advise>(seat, readers_word(at), 1);
 }
 
-/// Counts one announcement, and then wakes those who sleep, if there are any.
+/// Counts one announcement, and then wakes the callers that sleep, if there are any.
 fn tell<T: Kept>(board: &Board<T>, seat: &mut Place<T>, at: usize)
     requires own { seat.old.table_id ≡ board.now.shared.table_id }
     requires word { (readers_at at < board.now.shared.table_id.words) × (readers_at at < 2 ^ 64) }
@@ -93,16 +94,16 @@ fn sleep_while<T: Kept, R: Wait>(
 impl<T: Kept> Shelf<T> {
     ghost use Rattle.lock_book.specs.Shown.{Belongs, count_of, mine_of, number_of, seen_of};
 
-    /// How many times something was announced of the value `at`, modulo 2^32: read it before the call whose answer decides
-    /// whether to wait. One load.
+    /// How many times something was announced of the value `at`, modulo 2^32: read it before the call whose answer
+    /// decides whether to wait. One load.
     pub fn news(&self, at: usize) -> u32
         requires place { at < count_of self.now }
     {
         (self.board.shared.peek(news_word(at)) % COUNTS) as u32
     }
 
-    /// Wakes all who wait for news of the value `at`. A locked instruction and a load; a call of the system only if
-    /// somebody sleeps.
+    /// Wakes all that wait for news of the value `at`. A locked instruction and a load; a system call only if somebody
+    /// sleeps.
     pub fn announce(&self, pass: &mut Pass<T>, at: usize)
         requires own { Belongs self.now pass.old }
         requires place { at < count_of self.now }

@@ -1,4 +1,4 @@
-//! A value that clauses alone read. It has no bytes, so that a locked value can carry what its last call was.
+//! A value that only clauses read. It has no bytes, so that a locked value can carry what its last call was.
 
 ghost use Rattle.std.specs.Prelude.{◌≡◌};
 ghost use Rattle.std.specs.Borrow.{ftrue};

@@ -14,7 +14,7 @@ use crate::table::{Board, Callers, Held, Opens, Place, Slot, WORDS_OF_VALUE};
 use atomic_table::{Refused, Table};
 use std::alloc::{AllocError, Global};
 
-/// Each value in a slot of its own.
+/// Each value in a separate slot.
 fn shelved<T: Kept>(alloc: Global, values: Vec<T>) -> Result<Vec<Held<T>>, AllocError>
     ensures { IfOk result (λ v. v.items ≡ map (λ x. record { value = x; made = None }) values.items) }
 {
@@ -58,8 +58,8 @@ fn deal<T: Kept>(
 }
 
 impl<T: Kept> Shelf<T> {
-    /// A shelf of these values, in their order, and a pass for each caller, numbered from 0. Where there is no memory,
-    /// the values are dropped.
+    /// A shelf of these values, in their order, and a pass for each caller, numbered from 0. If there is no memory, the
+    /// values are dropped.
     pub fn new(
         alloc: Global,
         values: Vec<T>,

@@ -1,7 +1,7 @@
 //! The shelf, its passes, and a call.
 //!
 //! A pass keeps its seat in a badge, which names no slot, so that it may go to another thread. Between two calls the
-//! seat stands for the pass's one caller and has no value.
+//! seat represents the pass's one caller and has no value.
 
 ghost use Rattle.std.specs.Prelude.{◌≡◌, ℕ, ◌+◌, ◌*◌, ◌^◌, ◌<◌, ◌≤◌, [], ◌∷◌, length, unwrap_or};
 ghost use mathlib.Core.Option.{some};
@@ -89,9 +89,8 @@ impl<T: Kept> Pass<T> {
 impl<T: Kept> Shelf<T> {
     ghost use Rattle.lock_book.specs.Shown.{Belongs, Called, count_of, number_of, opens_of};
 
-    /// Takes a turn at the value `at`, and applies the call to it. The lock is held for `apply` only.
-    /// It may wait for its turn, asleep after a few
-    /// microseconds, and takes no memory.
+    /// Takes a turn at the value `at`, and applies the call to it. The lock is held for `apply` only. It may wait for
+    /// its turn, asleep after a few microseconds, and takes no memory.
     #[inline(always)]
     pub fn call<R: Wait>(
         &self,

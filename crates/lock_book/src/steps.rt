@@ -1,9 +1,10 @@
 //! The moves of the lock, one by one: take the value, apply the call, give the value back with the call in its history.
 //! What is known between two of them is the stage of the seat and the value that it carries.
 //!
-//! A caller that waits too long sleeps on the word of advice. It stores `SOMEBODY` there and looks at the lock once more
-//! before it sleeps; who gives the value back frees the lock and then looks at the advice. All four are sequentially
-//! consistent, so the one sees that the value is free or the other sees that somebody sleeps. Nothing is proved of that.
+//! A caller that waits too long sleeps on the word of advice. It stores `SOMEBODY` there and looks at the lock once
+//! more before it sleeps; a caller that gives the value back frees the lock and then looks at the advice. All four are
+//! sequentially consistent, so the one sees that the value is free or the other sees that somebody sleeps. Nothing is
+//! proved of that.
 
 ghost use Rattle.std.specs.Prelude.{◌≡◌, ℕ, ◌<◌, ◌^◌, true, false, [], ◌∷◌, length, Some, unwrap_or};
 ghost use mathlib.Core.Option.{some};
@@ -27,8 +28,8 @@ const SOMEBODY: u32 = 1;
 
 const NOBODY: u64 = 0;
 
-/// The longest sleep in milliseconds, after which a caller looks again: a turn that was tried for (`try_turn`) wakes nobody,
-/// so that it can stand in a library for C, which may not wake threads.
+/// The longest sleep in milliseconds, after which a caller looks again: a turn that was tried for (`try_turn`) wakes
+/// nobody, so that it can be part of a library for C, which may not wake threads.
 const LONGEST_SLEEP: u64 = 1;
 
 /// The word of the lock of the value `at`.
@@ -40,7 +41,7 @@ pub(crate) fn lock_word(at: usize) -> usize
     at * WORDS_OF_VALUE
 }
 
-/// The word by which those who sleep until the value `at` is free are known, and on which they sleep.
+/// The word that shows that callers sleep until the value `at` is free, and on which they sleep.
 #[inline(always)]
 fn sleep_word(at: usize) -> usize
     requires { sleep_at at < 2 ^ 64 }
@@ -89,8 +90,8 @@ fn look_and_take<T: Kept>(board: &Board<T>, seat: &mut Place<T>, number: u32, at
     board.shared.peek(lock_word(at)) == FREE && try_take(board, seat, number, at)
 }
 
-/// Waits asleep until the seat has the value `at`. It says that somebody sleeps before each look at the lock, the last one
-/// too: whoever was woken may have left others asleep, and its own giving back wakes the next of them.
+/// Waits asleep until the seat has the value `at`. It says that somebody sleeps before each look at the lock, the last
+/// one too: the caller that woke it may have left others asleep, and its own giving back wakes the next of them.
 #[cold]
 fn sleep_until_taken<T: Kept, R: Wait>(
     rt: &R,
@@ -210,7 +211,7 @@ pub(crate) fn serve<T: Kept>(
     seat.slot_mut(&board.shared, at).apply(env, input)
 }
 
-/// Wakes one of those who sleep until the value `at` is free.
+/// Wakes one of the callers that sleep until the value `at` is free.
 #[cold]
 fn wake_next<T: Kept>(board: &Board<T>, seat: &mut Place<T>, at: usize)
     requires own { seat.old.table_id ≡ board.now.shared.table_id }

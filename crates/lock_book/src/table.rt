@@ -1,22 +1,24 @@
 //! The table of a shelf: its words, its slots and the steps on them.
 //!
-//! Each value has one slot, which has the value while it is free, and a line of the cache's words of its own, of which two
-//! are used: the lock's (`lock_word`) and one of advice (`sleep_word`). The lock's word is 0 while the value is free, and
-//! else 1 + the number of the caller that has it, so that it names its holder. Who may change which, and when:
+//! Each value has one slot, which has the value while it is free, and a separate cache line of words, of which four are
+//! used: the lock's (`lock_word`) and three of advice, `sleep_word` and the two of `news`. The lock's word is 0 while
+//! the value is free, and else 1 + the number of the caller that has it, so that it names its holder. Who may change
+//! which, and when:
 //!
-//! - the lock's word from 0 to 1 + a caller's number: only that caller, while it has no value, by a compare-and-exchange,
-//!   which takes the value out of its slot (`Take`); if it finds another number it changes nothing (`TakeOnce` is the same
-//!   of a caller that will not wait);
+//! - the lock's word from 0 to 1 + a caller's number: only that caller, while it has no value, by a
+//!   compare-and-exchange, which takes the value out of its slot (`Take`); if it finds another number it changes
+//!   nothing (`TakeOnce` is the same step of a caller that will not wait);
 //! - the value: only the caller that has it reads or writes it;
 //! - the lock's word from that number to 0: only the caller that has the value, by a store after it applied its call,
 //!   which adds the call to the history and puts the value back (`Give`);
-//! - the word of advice: anybody, to 1 before it sleeps on that word, and to 0 before it wakes a sleeper (`Advise`). No
-//!   clause rests on it: a wrong one costs time, and never an answer.
+//! - the words of advice: anybody, by `Advise`. `sleep_word` is set to 1 before a caller sleeps on it, and to 0 before
+//!   a caller wakes a sleeper; those of `news` are counts. No clause rests on them: a wrong one costs time, and never
+//!   an answer.
 //!
-//! `named` of specs/Ruled says what a caller may store in a lock's word. Nobody stands in line: a caller that found the
-//! value taken reads the word until it is 0, backs off in between (`Backoff`), tries again, and after some rounds sleeps.
-//! A look (`Look`) is a load that changes nothing but what the caller knows. Passes are cut off and joined by `Callers`,
-//! and told what others have seen by `Note`. The rule is `Ruled` of specs/Ruled.
+//! `named` of specs/Ruled says what a caller may store in a lock's word. There is no queue: a caller that found the
+//! value taken reads the word until it is 0, backs off in between (`Backoff`), tries again, and after some rounds
+//! sleeps. A look (`Look`) is a load that changes nothing but what the caller knows. Passes are cut off and joined by
+//! `Callers`, and learn by `Note` what others have seen. The rule is `Ruled` of specs/Ruled.
 
 ghost use Rattle.lock_book.specs.History.{made_of};
 ghost use Rattle.lock_book.specs.Ruled.{Ruled, newcomers, tried, tried_once, given_back, advised, looked, first_caller, other_callers, note, informed, together, nobody};
@@ -28,10 +30,10 @@ use atomic_table::{Join, Play, Seat, Split, Table, TableRule};
 use std::alloc::Global;
 use std::collections::LinkedList;
 
-/// What the last turn at a value was: its input and its output, and None before the first. It is how the store that gives
-/// a value back learns which call it adds to the history, since a step on a word is told numbers only, and sees the slot.
-/// Whoever has the value writes it, as it applies its call; the step `Give` reads the call and the reply off it
-/// (`made_of`), and nothing else does. Only clauses read what is in it, so both parts have no bytes.
+/// What the last turn at a value was: its input and its output, and None before the first. It is how the store that
+/// gives a value back learns which call it adds to the history, since a step on a word is given only numbers, and sees
+/// the slot. The caller that has the value writes it, as it applies its call; the step `Give` reads the call and the
+/// reply off it (`made_of`), and nothing else does. Only clauses read what is in it, so both parts have no bytes.
 pub type LastTurn<I, O> = Option<(Noted<I>, Noted<O>)>;
 
 /// A locked value, with its last turn.
@@ -55,7 +57,7 @@ pub type Known<T> = View<
 /// The name and the opening state of each value, in order.
 pub type Opens<T> = LinkedList<(<T as Kept>::Name, <T as Kept>::State)>;
 
-/// What the table is told when it is made: how the values open, and how many callers there are.
+/// What the table is given when it is made: how the values open, and how many callers there are.
 pub type About<T> = (Noted<Opens<T>>, u32);
 
 /// The rule of the table.
@@ -95,7 +97,7 @@ impl<T: Kept> Play<Held<T>, Known<T>> for Advise {
     ghost then = { advised };
 }
 
-/// What was seen and what was told of are put together.
+/// What was seen and what was learnt of are put together.
 pub struct Look;
 
 impl<T: Kept> Play<Held<T>, Known<T>> for Look {
@@ -117,7 +119,7 @@ impl<N, S, C, R> Join<View<N, S, C, R>> for Callers {
     ghost spent = { nobody };
 }
 
-/// A seat that knows as much and stands for nobody.
+/// A seat that knows as much and represents nobody.
 pub struct Note;
 
 impl<N, S, C, R> Split<View<N, S, C, R>> for Note {
@@ -132,7 +134,7 @@ impl<N, S, C, R> Join<View<N, S, C, R>> for Note {
     ghost spent = { nobody };
 }
 
-/// How many words a value has: as many as a line of the cache, so that no two locks are on one line.
+/// How many words a value has: a cache line's, so that no two locks are on one line.
 pub(crate) const WORDS_OF_VALUE: usize = 8;
 
 /// The table of a shelf.

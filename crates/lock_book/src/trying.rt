@@ -1,8 +1,8 @@
 //! A call that will not wait: it is made at once, or not at all.
 //!
-//! Whether a value was with another caller is known at one step alone, the compare-and-exchange on the lock's word. So
-//! the seat counts the tries that found it taken (`misses`), and a call that gives its input back has counted one: a body
-//! that gives up of itself has not.
+//! Only one step knows whether a value was with another caller: the compare-and-exchange on the lock's word. So the
+//! seat counts the tries that found it taken (`misses`), and a call that gives its input back has counted one: a body
+//! that gives up by itself has not.
 
 ghost use Rattle.std.specs.Prelude.{◌≡◌, ◌<◌, ◌^◌, [], length, IfOk, IfErr, true, false, unwrap_or};
 ghost use mathlib.Core.Option.{some};
@@ -33,7 +33,7 @@ fn try_once<T: Kept>(board: &Board<T>, seat: &mut Place<T>, number: u32, at: usi
     found == FREE
 }
 
-/// Takes a turn where the value is free at once, and else gives the input back.
+/// Takes a turn if the value is free at once, and else gives the input back.
 #[inline(always)]
 fn try_turn<T: Kept>(
     board: &Board<T>,
@@ -68,7 +68,7 @@ fn try_turn<T: Kept>(
 impl<T: Kept> Shelf<T> {
     ghost use Rattle.lock_book.specs.Shown.{Belongs, Called, Missed, count_of, misses_of, number_of, opens_of};
 
-    /// As `call` where the value `at` is free at this moment; else another caller had it, the input comes back, and the
+    /// As `call` if the value `at` is free at this moment; else another caller had it, the input comes back, and the
     /// pass has seen nothing new. It waits for nobody and takes no memory.
     pub fn try_call(
         &self,

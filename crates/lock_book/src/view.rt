@@ -1,4 +1,4 @@
-//! What a seat at the table knows. It stands in the proofs alone: no value of these types is made.
+//! What a seat at the table knows. It appears only in the proofs: no value of these types is made.
 
 use std::collections::LinkedList;
 
@@ -18,19 +18,19 @@ pub enum Stage {
     Holding(u64),
 }
 
-/// What is known of a shelf by the callers that a seat stands for.
+/// What is known of a shelf by the callers that a seat represents.
 pub struct View<N, S, C, R> {
     /// The name and the opening state of each value.
     pub opens: LinkedList<(N, S)>,
     /// How many callers the shelf has.
     pub callers: u64,
-    /// The number of the first caller that the seat stands for.
+    /// The number of the first caller that the seat represents.
     pub from: u64,
-    /// Of each caller that it stands for, the calls that it made, each with the place of its value.
+    /// Of each caller that it represents, the calls that it made, each with the place of its value.
     pub owns: LinkedList<LinkedList<(u64, Entry<S, C, R>)>>,
     /// Of each value, the history that was seen.
     pub seen: LinkedList<LinkedList<Entry<S, C, R>>>,
-    /// Of each value, the history that the seat was told of.
+    /// Of each value, the history that the seat learnt of from others.
     pub told: LinkedList<LinkedList<Entry<S, C, R>>>,
     /// Whether the seat has a value; only one of one caller may.
     pub stage: Stage,
