@@ -1,4 +1,4 @@
--- The locked pages: which call an ask stands for, which reply an answer stands for, and the runs that go in and come
+-- The locked pages: which call an ask represents, which reply an answer represents, and the runs that go in and come
 -- out.
 use Rattle.std.specs.Prelude.{◌≡◌, ℕ, ◌≤◌, is_some}
 use Rattle.free_pages.specs.Legal.{PagesState, PagesCall, PagesReply, Take, Give, Gets, Lacks, Accepts, HandsBack}
@@ -39,6 +39,6 @@ AnswerFits n (GiveRun run) Returned = Unit {0}
 AnswerFits n (GiveRun run) (Back other) = other ≡ run
 AnswerFits n ask answer = ⊥
 
--- what a call of anyone may reply, and what it does to the state
+-- what a call of any caller may reply, and what it does to the state
 abbrev pub PagesLegal : PagesName → ℕ → PagesState → PagesCall → PagesReply → PagesState → Type 0
 PagesLegal n caller before call reply after = pages.IsLegal n.first before call reply after

@@ -1,4 +1,4 @@
--- A locked pool: which call an ask stands for, which reply an answer stands for, and the tokens that go in and come
+-- A locked pool: which call an ask represents, which reply an answer represents, and the tokens that go in and come
 -- out.
 use Rattle.std.specs.Prelude.{◌≡◌, ℕ, ◌*◌, ◌≤◌, List, [], ◌∷◌, Option, Some, None, Vec, vec_capacity}
 use Rattle.std.specs.Global.{Global}
@@ -76,6 +76,6 @@ AnswerFits n (FreeObjects count objects) (EmptiedMany rest run) = IsRestOf count
 AnswerFits n (FreeObjects count objects) (NotAllOurs rest chunk) = IsRestOf count objects rest × ((others : List Chunk) × (gone objects.items rest.items ≡ chunk ∷ others))
 AnswerFits n ask answer = ⊥
 
--- what a call of anyone may reply, and what it does to the state
+-- what a call of any caller may reply, and what it does to the state
 abbrev pub PoolLegal : PoolName → ℕ → PoolState → PoolCall → PoolReply → PoolState → Type 0
 PoolLegal n caller before call reply after = pool.IsLegal n.layout before call reply after

@@ -1,5 +1,5 @@
 -- Which events a request makes, and which answer it has by them. Each event is a call of `free_pages` or `span_pools`
--- with its reply, which stands in the history of the pages or of one pool.
+-- with its reply, and is in the history of the pages or of one pool.
 use Rattle.std.specs.Prelude.{◌≡◌, ◌≢◌, ℕ, ◌/◌, ◌%◌, ◌<◌, ◌⊎◌, true, false, List, [], ◌∷◌}
 use Rattle.size_classes.specs.Classes.{IsClass, IsLeast, class_size, largest_size}
 use Rattle.free_pages.specs.Area.{superblock_pages}
@@ -37,7 +37,7 @@ module _ (a : Area) (p q : AreaPass) where
     pub pools : (class : ℕ) → IsClass class → AtPool class []
 
   -- The chunk at this word is granted: an object of the least class that holds the request; or the first object of a
-  -- superblock, where every object was live; or whole pages, above the largest size
+  -- superblock, if every object was live; or whole pages, above the largest size
   abbrev pub IsGranted : ℕ → ℕ → Type 0
   IsGranted bytes at =
       ((class : ℕ) × IsLeast bytes class × PoolEvents class ((Alloc, Object at) ∷ []))
@@ -67,8 +67,8 @@ module _ (a : Area) (p q : AreaPass) where
       ⊎ (((largest_size < bytes) × (bytes % page_bytes ≡ 0) × PageEvents ((Give at (bytes / page_bytes) false, HandsBack) ∷ []))
       ⊎ (((class : ℕ) → IsClass class → class_size class ≢ bytes) × (largest_size < bytes → bytes % page_bytes ≢ 0) × PageEvents []))
 
-  -- Objects of a class come back in one turn at its pool: their superblocks stay; or one goes to the pages with the last
-  -- that came back, whatever they reply
+  -- Objects of a class come back in one turn at its pool: their superblocks stay; or one goes to the pages with the
+  -- last that came back, whatever they reply
   abbrev pub AreTakenBack : ℕ → List ℕ → Type 0
   AreTakenBack class ats =
       PoolEvents class ((FreeMany ats, Kept) ∷ [])

@@ -82,7 +82,7 @@ abbrev pub pool_mine : AreaPass → ℕ → List (Entry PoolState PoolCall PoolR
 pool_mine p class = shelf.mine_of p.pools (class - first_class)
 
 -- the pass is one of this area's, with what is always true of such a pass: what it has seen is legal, and its own calls
--- stand there, each once
+-- are there, each once
 pub record Belongs (a : Area) (p : AreaPass) : Type 0 where
   pub pages : shelf.Belongs a.pages p.pages
   pub pools : shelf.Belongs a.pools p.pools

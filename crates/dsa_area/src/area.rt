@@ -1,8 +1,8 @@
 //! The area and its passes.
 //!
-//! The words of an area change hands by tokens: the pages' words are `Pages`' or a run's, an object's are its pool's
-//! or a chunk's. `Pages` and the pools stand behind locks, so a caller changes them only in a call of `Shelf`, one at
-//! a time, and what a chunk owns nobody else touches. `IsArea` of `specs/Shown.antt` says how the two shelves opened.
+//! The words of an area change hands by tokens: the pages' words are `Pages`' or a run's, an object's are its pool's or
+//! a chunk's. `Pages` and the pools are under locks, so a caller changes them only in a call of `Shelf`, one at a time,
+//! and what a chunk owns nobody else touches. `IsArea` of `specs/Shown.antt` says how the two shelves opened.
 
 use crate::pages::LockedPages;
 use crate::pools::LockedPool;

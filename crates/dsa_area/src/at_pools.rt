@@ -23,7 +23,7 @@ fn place_of(class: u8) -> usize
     usize::from(class - FIRST_CLASS)
 }
 
-/// A free object of a class, where its pool has one. It waits for the pool's lock.
+/// A free object of a class, if its pool has one. It waits for the pool's lock.
 pub(crate) fn alloc_object<R: Wait>(
     rt: &R,
     area: &Area,
@@ -121,7 +121,7 @@ pub(crate) fn free_object<R: Wait>(
     }
 }
 
-/// Up to as many free objects of a class as this, in an empty list. It waits for the pool's lock.
+/// Up to the given number of free objects of a class, in an empty list. It waits for the pool's lock.
 pub(crate) fn alloc_objects<R: Wait>(
     rt: &R,
     area: &Area,
@@ -154,8 +154,9 @@ pub(crate) fn alloc_objects<R: Wait>(
     }
 }
 
-/// Gives up to as many objects of a class as this back, from the end of a list on: the rest of it; and the superblock
-/// that goes out with the last of them, or the last of them again, with which it stopped. It waits for the pool's lock.
+/// Gives up to the given number of objects of a class back, from the end of a list on: the rest of it; and the
+/// superblock that goes out with the last of them, or the last of them again, with which it stopped. It waits for the
+/// pool's lock.
 pub(crate) fn free_objects<R: Wait>(
     rt: &R,
     area: &Area,

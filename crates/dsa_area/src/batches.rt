@@ -1,7 +1,7 @@
-//! Many objects of a class in one turn at its pool, for a caller that keeps free objects of its own.
+//! Many objects of a class in one turn at its pool, for a caller that keeps its own free objects.
 //!
 //! Each turn is one event of the pool, whose call and reply say all objects. The pages are not asked for a superblock:
-//! where the pool has no free object, the list stays empty, and `Area::alloc` is there to get one.
+//! if the pool has no free object, the list stays empty, and `Area::alloc` is there to get one.
 
 ghost use Rattle.std.specs.Prelude.{◌≡◌, ◌≤◌, [], ◌∷◌, IfOk, IfErr, vec_capacity};
 ghost use Rattle.size_classes.specs.Classes.{IsClass, class_size};
@@ -19,9 +19,9 @@ use region_words::{Chunk, Region};
 use std::sync::Wait;
 
 impl Area {
-    /// As many free objects of a class as this, which the caller owns from then on, in a list that was empty and has
-    /// room for them; or fewer, where its pool has no other. It takes no memory, asks the pages for nothing, and may
-    /// wait for the pool's lock. Costs one turn at the pool.
+    /// Up to the given number of free objects of a class, which the caller owns from then on, in a list that was empty
+    /// and has room for them; fewer only if its pool has no other. It takes no memory, asks the pages for nothing, and
+    /// may wait for the pool's lock. Costs one turn at the pool.
     pub fn alloc_many<R: Wait>(
         &self,
         rt: &R,
@@ -45,10 +45,10 @@ impl Area {
         alloc_objects(rt, self, r, pass, class, count, empty)
     }
 
-    /// Takes as many objects of a class back as this, from the end of a list on, or all where there are fewer; and
+    /// Takes the given number of objects of a class back, from the end of a list on, or all if there are fewer; and
     /// gives the rest of the list. Stops after one with which a superblock goes to the pages, and after one that is
     /// none of the pool's, which comes back as it was. It takes no memory, and may wait for the pool's lock and for
-    /// that of the pages, one after the other. Costs one turn at the pool, and one at the pages where a superblock goes
+    /// that of the pages, one after the other. Costs one turn at the pool, and one at the pages if a superblock goes
     /// there.
     pub fn free_many<R: Wait>(
         &self,

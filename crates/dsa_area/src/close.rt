@@ -1,7 +1,7 @@
 //! How an area ends: all passes come home, and the whole histories are known.
 //!
-//! Each pass is taken apart into its two, which are joined to those of the callers behind it, so that no list of
-//! passes is made.
+//! Each pass is taken apart into its two, which are joined to those of the callers after it, so that no list of passes
+//! is made.
 
 ghost use Rattle.std.specs.Prelude.{map};
 ghost use Rattle.lock_book.specs.Shown.{IsJoined};

@@ -1,15 +1,14 @@
 //! A shared area (the part of dsa.c): chunks of a region's words, granted and taken back by many callers at once.
 //!
-//! A request of up to 8,192 bytes is an object of the least size class that holds it, a larger one is whole pages.
-//! The one `Pages` stands on a shelf of `lock_book`, and the 36 pools on another, so each has a lock of its own; a
-//! call takes them one after the other, each an event of its own. What calls did is said by the histories of the
-//! pages and of the pools (`specs/Shown.antt`): a call adds the events that `specs/Requests.antt` names, and nothing
-//! else.
+//! A request of up to 8,192 bytes is an object of the least size class that holds it, a larger one is whole pages. The
+//! one `Pages` is on a shelf of `lock_book`, and the 36 pools on another, so each has its own lock; a call takes them
+//! one after the other, each as a separate event. What calls did is said by the histories of the pages and of the pools
+//! (`specs/Shown.antt`): a call adds the events that `specs/Requests.antt` names, and nothing else.
 //!
 //! `pages` and `pools` are the locked values, `at_pages` and `at_pools` one event at each; `objects` and `whole` are
-//! the requests of the two kinds over these, and `requests` chooses between them; `batches` are many objects in one turn
-//! at a pool. `open`, `meet` and `close` are how
-//! an area begins, how passes tell each other, and how it ends.
+//! the requests of the two kinds over these, and `requests` chooses between them; `batches` are many objects in one
+//! turn at a pool. `open`, `meet` and `close` are how an area begins, how passes exchange what they have seen, and how
+//! it ends.
 
 #![tactic(auto)]
 

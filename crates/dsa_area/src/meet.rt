@@ -1,4 +1,4 @@
-//! Passes tell each other what they have seen.
+//! Passes exchange what they have seen.
 
 ghost use Rattle.std.specs.Prelude.{◌≡◌};
 ghost use Rattle.dsa_area.specs.Shown.{Belongs, Met, SeeTheSame, number_of};

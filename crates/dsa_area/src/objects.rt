@@ -1,8 +1,8 @@
 //! Requests that are objects of a size class.
 //!
-//! Its pool is asked first. Where every object is live, 16 pages with their control records are taken from the pages
-//! and become a superblock of the pool; the two locks are taken one after the other. A superblock that goes out with
-//! its last object is given to the pages.
+//! Its pool is asked first. If every object is live, 16 pages with their control records are taken from the pages and
+//! become a superblock of the pool; the two locks are taken one after the other. A superblock that goes out with its
+//! last object is given to the pages.
 
 ghost use Rattle.std.specs.Prelude.{◌≡◌, ℕ, ◌⊎◌, true, [], ◌∷◌, IfOk, IfErr};
 ghost use Rattle.size_classes.specs.Classes.{IsClass, class_size};
@@ -21,7 +21,7 @@ use free_pages::SUPERBLOCK_PAGES;
 use region_words::{Chunk, Region, Run};
 use std::sync::Wait;
 
-/// An object of a class, and a superblock for its pool first where that has no free one.
+/// An object of a class, and a superblock for its pool first if that has no free one.
 pub(crate) fn grant_object<R: Wait>(
     rt: &R,
     area: &Area,
@@ -73,7 +73,7 @@ fn grow_pool<R: Wait>(
     }
 }
 
-/// A superblock goes to the pages; where they hand it back, it is dropped.
+/// A superblock goes to the pages; if they hand it back, it is dropped.
 pub(crate) fn give_superblock<R: Wait>(
     rt: &R,
     area: &Area,
@@ -93,8 +93,8 @@ pub(crate) fn give_superblock<R: Wait>(
     let _handed_back = give_run(rt, area, r, pass, run);
 }
 
-/// An object of a class comes back. Its superblock goes to the pages where none of its objects is live any more and
-/// it is not the active one.
+/// An object of a class comes back. Its superblock goes to the pages if none of its objects is live any more and it is
+/// not the active one.
 pub(crate) fn take_object_back<R: Wait>(
     rt: &R,
     area: &Area,

@@ -1,7 +1,7 @@
 //! How an area is made: its words are given to the pages and to the pools, and each caller gets a pass of both shelves.
 //!
-//! The words are cut off the chunk from its front, in the order in which they stand (`free_pages/specs/Area.antt`):
-//! those at the head with the run words and the control records, the bits of each class, the pages.
+//! The words are cut off the chunk from its front, in the order in which they lie (`free_pages/specs/Area.antt`): those
+//! at the head with the run words and the control records, the bits of each class, the pages.
 
 ghost use Rattle.std.specs.Prelude.{◌≡◌, ℕ, ◌+◌, ◌-◌, ◌*◌, ◌<◌, ◌≤◌, ◌^◌, IfOk, length, map, []};
 ghost use Rattle.std.specs.List.{zip};
@@ -120,8 +120,8 @@ fn pair_up(
 impl Area {
     /// An area of this many pages in a chunk of `8 * area_words(pages)` bytes, which it owns from then on, and a pass
     /// for each caller, in order of their numbers from 0. No page is granted, and no pool has a superblock. It takes
-    /// memory for its locks and its passes; where there is none, the chunk is dropped. Writes each run word and each
-    /// word of bits once.
+    /// memory for its locks and its passes; if there is none, the chunk is dropped. Writes each run word and each word
+    /// of bits once.
     pub fn new(
         alloc: Global,
         r: &Region,

@@ -1,7 +1,7 @@
-//! The pages behind a lock.
+//! The pages under a lock.
 //!
-//! What the locked pages are asked stands for a call of `free_pages`, what they answer for its reply
-//! (`specs/Pages.antt`), and the run that goes in or comes out is a token.
+//! What the locked pages are asked represents a call of `free_pages`, what they answer its reply (`specs/Pages.antt`),
+//! and the run that goes in or comes out is a token.
 
 ghost use Rattle.std.specs.Prelude.{◌≡◌};
 ghost use Rattle.dsa_area.specs.Pages.{name_of, call_of, reply_of, AskFits, AnswerFits, PagesLegal};
@@ -10,7 +10,7 @@ use free_pages::{NoRun, Pages, PagesCalls, PagesReplies, PagesStates};
 use lock_book::Kept;
 use region_words::{Region, Run};
 
-/// What is fixed of the pages. No value of it is made: it stands in contracts alone.
+/// What is fixed of the pages. No value of it is made: it appears only in contracts.
 pub(crate) struct PagesName {
     /// The region of their words.
     pub(crate) region: Region,

@@ -1,7 +1,7 @@
-//! A pool behind a lock.
+//! A pool under a lock.
 //!
-//! What a locked pool is asked stands for a call of `span_pools`, what it answers for its reply (`specs/Pools.antt`),
-//! and the object or the superblock that goes in or comes out is a token.
+//! What a locked pool is asked represents a call of `span_pools`, what it answers its reply (`specs/Pools.antt`), and
+//! the object or the superblock that goes in or comes out is a token.
 
 ghost use Rattle.std.specs.Prelude.{◌≡◌};
 ghost use Rattle.dsa_area.specs.Pools.{name_of, call_of, chosen_of, reply_of, AskFits, AnswerFits, PoolLegal};
@@ -19,9 +19,9 @@ pub(crate) enum PoolAsk {
     AddRun(Run),
     /// An object comes back.
     FreeObject(Chunk),
-    /// As many objects as this, into an empty list.
+    /// Up to this many objects, into an empty list.
     AllocObjects(usize, Vec<Chunk>),
-    /// As many objects as this come back, from the end of a list on.
+    /// Up to this many objects come back, from the end of a list on.
     FreeObjects(usize, Vec<Chunk>),
 }
 

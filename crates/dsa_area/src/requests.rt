@@ -1,7 +1,7 @@
 //! Chunks are granted and taken back.
 //!
-//! A request of up to 8,192 bytes is an object of a size class (`objects`), a larger one is whole pages (`whole`). A
-//! chunk that comes back is told by its size: that of a class's object, or whole pages above 8,192 bytes.
+//! A request of up to 8,192 bytes is an object of a size class (`objects`), a larger one is whole pages (`whole`). The
+//! size of a chunk that comes back says which it is: that of a class's object, or whole pages above 8,192 bytes.
 
 ghost use Rattle.std.specs.Prelude.{◌≡◌, ◌≤◌, ◌^◌, IfOk, IfErr};
 ghost use Rattle.dsa_area.specs.Sizes.{chunk_size};
@@ -32,9 +32,9 @@ pub struct Stranger {
 }
 
 impl Area {
-    /// A chunk of `chunk_bytes(bytes)` bytes, which the caller owns from then on, whatever its words hold. It takes
-    /// no memory, and may wait for the lock of one pool and for that of the pages, one after the other. Costs one
-    /// call of a pool while that has a free object, and three calls where it gets a superblock first.
+    /// A chunk of `chunk_bytes(bytes)` bytes, which the caller owns from then on, whatever its words hold. It takes no
+    /// memory, and may wait for the lock of one pool and for that of the pages, one after the other. Costs one call of
+    /// a pool while that has a free object, and three calls if it gets a superblock first.
     pub fn alloc<R: Wait>(
         &self,
         rt: &R,
@@ -60,7 +60,7 @@ impl Area {
     }
 
     /// Takes a chunk back, which is the area's from then on. It takes no memory, and may wait for the lock of one pool
-    /// and for that of the pages, one after the other. Costs one call of a pool or of the pages, and one more where a
+    /// and for that of the pages, one after the other. Costs one call of a pool or of the pages, and one more if a
     /// superblock goes back to the pages.
     pub fn free<R: Wait>(
         &self,

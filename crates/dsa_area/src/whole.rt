@@ -52,7 +52,7 @@ pub(crate) fn grant_pages<R: Wait>(
     }
 }
 
-/// Whole pages come back. What is no whole number of pages is none of the area's, and nothing is asked.
+/// Whole pages come back. A chunk that is no whole number of pages is none of the area's, and nothing is asked.
 pub(crate) fn take_pages_back<R: Wait>(
     rt: &R,
     area: &Area,
