@@ -1,5 +1,5 @@
--- Free objects of one size class that a caller of an area keeps, and what its calls do to them. A kept object is live at
--- its pool, and its words are the keeper's.
+-- Free objects of one size class that a caller of an area keeps, and what its calls do to them. A kept object is live
+-- at its pool, and its words are the keeper's.
 use Rattle.std.specs.Prelude.{◌≡◌, ℕ, suc, zero, ◌*◌, ◌≤◌, ◌⊎◌, List, [], ◌∷◌, ◌++◌, length, vec_capacity}
 use Rattle.atomic_table.specs.Seated.{TableId}
 use Rattle.region_words.specs.declared.chunk.Chunk.{Chunk}
@@ -40,8 +40,8 @@ module _ (a : Area) (p q : AreaPass) (class batch : ℕ) (before after : List Ch
     pub none_left : after ≡ []
     pub none_free : PoolEvents a p mid class ((AllocMany batch, Objects []) ∷ [])
 
-  -- A chunk comes out: the object that was kept last; or, where none was kept, the last of a batch that the pool gave, of
-  -- which the others are kept; or, where the pool had none, one that the area granted
+  -- A chunk comes out: the object that was kept last; or, if none was kept, the last of a batch that the pool gave, of
+  -- which the others are kept; or, if the pool had none, one that the area granted
   abbrev pub IsTakenOut : Chunk → Type 0
   IsTakenOut c =
       ((q ≡ p) × (before ≡ after ++ c ∷ []))
@@ -53,7 +53,7 @@ module _ (a : Area) (p q : AreaPass) (class batch : ℕ) (before after : List Ch
   IsLacking wanted largest = (mid : AreaPass) × NoneFree mid × IsRefused a mid q (class_size class) wanted largest
 
 module _ (a : Area) (p q : AreaPass) (class : ℕ) (before after : List Chunk) where
-  -- a chunk is kept, behind those that were; or behind those that are left when a batch of them went back
+  -- a chunk is kept, after those that were; or after those that are left when a batch of them went back
   abbrev pub IsKept : Chunk → Type 0
   IsKept c = (rest out : List Chunk) × (before ≡ rest ++ out) × (after ≡ rest ++ c ∷ []) × (((out ≡ []) × (q ≡ p)) ⊎ AreTakenBack a p q class (places out))
 

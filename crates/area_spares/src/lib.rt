@@ -1,8 +1,8 @@
 //! Free objects that a caller of an area keeps for itself, so that it takes a pool's lock once for many of them.
 //!
-//! A kept object is live at its pool until it goes back, so other callers do not get it; whoever keeps it owns its
-//! words. The token of the words says the rest: what comes out has no word in common with any other chunk.
-//! `spares` is the list of one size class.
+//! A kept object is live at its pool until it goes back, so other callers do not get it; the caller that keeps it owns
+//! its words. The token of the words says the rest: what comes out has no word in common with any other chunk. `spares`
+//! is the list of one size class.
 
 #![tactic(auto)]
 

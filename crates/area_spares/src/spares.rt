@@ -1,7 +1,7 @@
 //! The free objects of one size class that a caller keeps.
 //!
-//! Up to two batches are kept. Where none is left, a turn at the pool gives a batch; where two are there, a turn takes
-//! one back. So a caller that allocates and frees in any order of few steps takes the pool's lock once for a batch of
+//! Up to two batches are kept. If none is left, a turn at the pool gives a batch; if two are there, a turn takes one
+//! back. So a caller that allocates and frees in any order of few steps takes the pool's lock once for a batch of
 //! calls. `IsSpares` of `specs/Spares.antt` is what is so between two calls.
 
 ghost use Rattle.std.specs.Prelude.{◌≡◌, ◌*◌, ◌<◌, ◌≤◌, ◌++◌, [], ◌∷◌, IfOk, IfErr, length, vec_capacity};
@@ -22,10 +22,10 @@ use std::sync::Wait;
 /// The objects that one turn at a pool gives or takes at most.
 const MOST: u32 = 32;
 
-/// The bytes that a batch has at most, where it has more than one object.
+/// The bytes that a batch has at most, if it has more than one object.
 const BATCH_BYTES: u32 = 4096;
 
-/// Free objects of one size class that a caller keeps. They are lost to the area where it is let go before
+/// Free objects of one size class that a caller keeps. They are lost to the area if this value is dropped before
 /// `give_back`.
 #[derive(Drop)]
 pub struct Spares {
@@ -39,8 +39,8 @@ pub struct Spares {
     pub(crate) kept: Vec<Chunk>,
 }
 
-/// How many objects of a class a turn at its pool gives or takes: as many as have the bytes of a page, but one at
-/// least and 32 at most.
+/// How many objects of a class a turn at its pool gives or takes: the number that fits into the bytes of a page, but
+/// one at least and 32 at most.
 fn batch_for(class: u8) -> usize
     requires class { IsClass class }
     ensures { (1 ≤ result) × (result ≤ 32) }
@@ -81,8 +81,8 @@ impl Spares {
     }
 
     /// An object of the class, which the caller owns from then on: the one that was kept last; else one of a batch that
-    /// the pool gives; else what the area grants, which may get a superblock first. `NoSpace` comes only where none is
-    /// kept and the pool and the pages had none. It takes no memory, and waits for a lock only where none is kept.
+    /// the pool gives; else what the area grants, which may get a superblock first. `NoSpace` comes only if none is
+    /// kept and the pool and the pages had none. It takes no memory, and waits for a lock only if none is kept.
     pub fn alloc<R: Wait>(
         &mut self,
         rt: &R,
@@ -121,7 +121,7 @@ impl Spares {
         }
     }
 
-    /// `alloc` where none is kept.
+    /// `alloc` if none is kept.
     fn alloc_anew<R: Wait>(
         &mut self,
         rt: &R,
@@ -149,7 +149,7 @@ impl Spares {
         Ok(self.take_kept())
     }
 
-    /// A batch of the pool's free objects, where none is kept.
+    /// A batch of the pool's free objects, if none is kept.
     fn refill<R: Wait>(&mut self, rt: &R, area: &Area, r: &Region, pass: &mut AreaPass)
         requires area { IsArea r.now area.now }
         requires own { Belongs area.now pass.old }
@@ -165,9 +165,9 @@ impl Spares {
         self.kept = area.alloc_many(rt, r, pass, self.class, self.batch, empty);
     }
 
-    /// Keeps an object of the class, which is the keeper's from then on. Where two batches are kept already, a batch
-    /// goes back first. `Stranger` has one of those that were kept, which is none of the area's; the chunk itself is
-    /// kept all the same. It takes no memory, and waits for a lock only where a batch goes back.
+    /// Keeps an object of the class, which is the keeper's from then on. If two batches are kept already, a batch goes
+    /// back first. `Stranger` has one of those that were kept, which is none of the area's; the chunk itself is kept
+    /// all the same. It takes no memory, and waits for a lock only if a batch goes back.
     pub fn free<R: Wait>(
         &mut self,
         rt: &R,
@@ -197,7 +197,7 @@ impl Spares {
         done
     }
 
-    /// Up to as many of the kept objects as this go back in one turn at the pool, and one at least.
+    /// Up to this many of the kept objects go back in one turn at the pool, and one at least.
     fn flush<R: Wait>(
         &mut self,
         rt: &R,
