@@ -10,7 +10,7 @@ unfoldable pub state_after : State → List ℕ → State
 state_after s [] = s
 state_after s (c ∷ rest) = state_after (step default_config s c).0 rest
 
--- whether the machine is between quotes, where a line feed is a byte as any other
+-- whether the machine is between quotes, where a line feed is a byte like any other
 abbrev pub is_quoted : State → Bool
 is_quoted st.InQuoted = true
 is_quoted st.StartRecord = false
@@ -25,6 +25,6 @@ is_quoted st.AfterCr = false
 abbrev pub ends_quoted : List ℕ → Bool
 ends_quoted text = is_quoted (state_after st.StartRecord text)
 
--- a table may be cut between these bytes and a line feed: that ends a record, or stands where none has begun
+-- a table may be cut between these bytes and a line feed: that ends a record, or comes where none has begun
 abbrev pub IsCut : List ℕ → Type 0
 IsCut bytes = ends_quoted (strip_bom bytes) ≡ false

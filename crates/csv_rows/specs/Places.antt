@@ -9,23 +9,23 @@ is_quoted_place place.Quoted = true
 is_quoted_place place.Opens = false
 is_quoted_place place.Inside = false
 
--- after a byte outside quotes that is none
+-- the place after a byte outside quotes that is not a quote
 abbrev pub after_byte : ℕ → Place
 after_byte c = if (c == 44) || (c == 13) || (c == 10) then place.Opens else place.Inside
 
--- after a quote
+-- the place after a quote
 abbrev pub after_quote : Place → Place
 after_quote place.Quoted = place.Opens
 after_quote place.Opens = place.Quoted
 after_quote place.Inside = place.Inside
 
--- after a byte that is no quote
+-- the place after a byte that is no quote
 abbrev pub after_other : Place → ℕ → Place
 after_other place.Quoted c = place.Quoted
 after_other place.Opens c = after_byte c
 after_other place.Inside c = after_byte c
 
--- after these bytes
+-- the place after these bytes
 unfoldable pub place_after : Place → List ℕ → Place
 place_after p [] = p
 place_after p (c ∷ rest) = place_after (if c == 34 then after_quote p else after_other p c) rest

@@ -1,4 +1,4 @@
--- A text without quotes: its records are what stands between line ends, and their fields what stands between commas.
+-- A text without quotes: its records are what lies between line ends, and their fields what lies between commas.
 use Rattle.std.specs.Prelude.{◌≡◌, ◌≢◌, ◌<◌, ◌==◌, ◌||◌, ◌&&◌, length, slice_index, ℕ, Bool, true, false, List, [], ◌∷◌, ◌++◌, if◌then◌else◌}
 
 -- a byte that ends a line
@@ -10,7 +10,7 @@ abbrev pub is_none : {A : Type 0} → List A → Bool
 is_none [] = true
 is_none (x ∷ xs) = false
 
--- the record that a line end or the end of the text ends: none where nothing stands before it
+-- the record that a line end or the end of the text ends: none if nothing comes before it
 abbrev pub closed : List (List ℕ) → List ℕ → List (List (List ℕ))
 closed fields field = if is_none field && is_none fields then [] else (fields ++ (field ∷ [])) ∷ []
 

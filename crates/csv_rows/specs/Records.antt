@@ -2,9 +2,8 @@
 use Rattle.std.specs.Prelude.{ℕ, List, [], get_or}
 use Rattle.csv.specs.Reading.{default_config, records, strip_bom}
 
--- all the records of bytes, each the list of its fields, after a byte order mark: those that RFC 4180
--- gives, as the crate csv states it, the first line being a record as any other and records being of any
--- number of fields
+-- all the records of bytes, each the list of its fields, after a byte order mark: those that RFC 4180 gives, as the
+-- crate csv states it, the first line being a record like any other and records being of any number of fields
 abbrev pub records_of : List ℕ → List (List (List ℕ))
 records_of bytes = records default_config (strip_bom bytes)
 

@@ -2,7 +2,7 @@
 use Rattle.std.specs.Prelude.{◌≡◌, ◌*◌, ℕ, List, [], ◌++◌, map}
 use Rattle.std.specs.List.{range_with_len}
 
--- the first multiples of a width, from once the width on
+-- the first multiples of a width, beginning with the width itself
 abbrev pub multiples : ℕ → ℕ → List ℕ
 multiples width count = map (λ n. n * width) (range_with_len 1 count)
 

@@ -5,7 +5,7 @@ use Rattle.csv.specs.Records.{Rising, last_end}
 use Rattle.csv_rows.specs.Plain.{plain_from, plain_records}
 use Rattle.csv_rows.specs.Store.{Apart, cut_apart, next_start, stored_apart}
 
--- a byte that ends a field where each line ends in a line feed alone
+-- a byte that ends a field if each line ends in only a line feed
 abbrev pub is_separator : ℕ → Bool
 is_separator c = (c == 44) || (c == 10)
 
@@ -22,8 +22,8 @@ pub record IsSplit (text ends rows : List ℕ) (from : ℕ) : Type 0 where
   pub within : last_end 0 rows ≤ length ends
   pub law : stored_apart 1 text ends rows ++ plain_from (drop (last_end 0 rows) (cut_apart 1 0 ends text)) [] (drop from text) ≡ plain_records text
 
--- where a scan stands that has made these lists: in front of the field that starts at this place, in the record whose
--- first field has this number
+-- where a scan that has made these lists is: before the field that starts at this place, in the record whose first
+-- field has this number
 pub record IsAt (text ends rows : List ℕ) (from first : ℕ) : Type 0 where
   pub split : IsSplit text ends rows from
   pub begins : first ≡ last_end 0 rows

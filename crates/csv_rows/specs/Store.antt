@@ -17,12 +17,12 @@ Covers ends size = Rising 0 ends size × (last_end 0 ends ≡ size)
 abbrev pub stored : List ℕ → List ℕ → List ℕ → List (List (List ℕ))
 stored bytes ends row_ends = group_from 0 row_ends (cut_from 0 ends bytes)
 
--- the fields that end at these places, each of which starts this many bytes behind the end of the one before
+-- the fields that end at these places, each of which starts this many bytes after the end of the one before
 unfoldable pub cut_apart : ℕ → ℕ → List ℕ → List ℕ → List (List ℕ)
 cut_apart gap start [] bytes = []
 cut_apart gap start (end ∷ ends) bytes = take (end - start) (drop start bytes) ∷ cut_apart gap (end + gap) ends bytes
 
--- where the field behind these would start
+-- where the field after these would start
 unfoldable pub next_start : ℕ → ℕ → List ℕ → ℕ
 next_start gap start [] = start
 next_start gap start (end ∷ ends) = next_start gap (end + gap) ends
@@ -38,12 +38,12 @@ unfoldable pub Apart : ℕ → ℕ → List ℕ → ℕ → Type 0
 Apart gap start [] size = start ≤ size + gap
 Apart gap start (end ∷ ends) size = (start ≤ end) × Apart gap (end + gap) ends size
 
--- the same records where this many bytes stand between two fields
+-- the records of fields between which this many bytes lie
 abbrev pub stored_apart : ℕ → List ℕ → List ℕ → List ℕ → List (List (List ℕ))
 stored_apart gap bytes ends row_ends = group_from 0 row_ends (cut_apart gap 0 ends bytes)
 
--- what the lists of a store keep: the places of both rise and end within, and there is a header, and at most as many
--- rows after it as an input may have
+-- what the lists of a store keep: the places of both rise and end within, and there is a header, and after it no more
+-- rows than an input may have
 pub record IsStore (gap : ℕ) (bytes ends row_ends : List ℕ) : Type 0 where
   pub fields : Apart gap 0 ends (length bytes)
   pub rows : Rising 0 row_ends (length ends)

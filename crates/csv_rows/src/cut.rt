@@ -1,6 +1,6 @@
-//! Where a table can be cut: in front of a line feed that is not between quotes.
+//! Where a table can be cut: before a line feed that is not between quotes.
 //!
-//! Which bytes stand between quotes depends on all bytes before, so a scan goes through those first.
+//! Which bytes are between quotes depends on all bytes before them, so a scan goes through those first.
 
 ghost use Rattle.std.specs.Prelude.{◌≡◌, ◌≢◌, ◌<◌, ◌≤◌, IfSome, length, slice_index, take};
 ghost use Rattle.csv.specs.Reading.{strip_bom};
@@ -33,7 +33,7 @@ pub(crate) fn find_cut<R: Threads + Sync>(
     }
 }
 
-/// The text after a byte order mark.
+/// The text after its byte order mark, if it begins with one.
 pub(crate) fn without_mark(bytes: &[u8]) -> &[u8]
     ensures text { result.now ≡ strip_bom bytes.now }
     ensures length { length result.now ≤ length bytes.now }
@@ -51,7 +51,7 @@ fn has_mark(bytes: &[u8]) -> bool
     bytes.len() >= 3 && bytes[0] == 0xEF && bytes[1] == 0xBB && bytes[2] == 0xBF
 }
 
-/// The same of a text with no byte order mark.
+/// A place from this one on at which a text with no byte order mark can be cut.
 fn cut_after<R: Threads + Sync>(rt: &R, text: &[u8], from: usize, threads: usize) -> Option<usize>
     requires { from ≤ length text.now }
     ensures bound { IfSome result (λ at. at < length text.now) }

@@ -1,12 +1,12 @@
 //! From the bytes of a source to a store of their records.
 //!
-//! [`read_all`] takes all bytes that a [`Source`](par_io::Source) has left; [`rows`] cuts them into
-//! records, as RFC 4180 has them, by a scan for commas and line feeds where there are no quotes and
-//! else through the crate `csv`, and [`rows_in_threads`] does so in several threads; [`RowStore`]
-//! keeps the records in a few lists of numbers, with no allocation for a record or a field.
+//! [`read_all`] takes all bytes that a [`Source`](par_io::Source) has left; [`rows`] cuts them into records, as RFC
+//! 4180 has them, by a scan for commas and line feeds if there are no quotes, and otherwise through the crate `csv`,
+//! and [`rows_in_threads`] does so in several threads; [`RowStore`] keeps the records in a few lists of numbers, with
+//! no allocation for a record or a field.
 //!
-//! Threads share out the bytes: these are cut in front of line feeds that stand outside quotes, and
-//! each part is read into a piece of the store. No thread waits for another one but at its end.
+//! Threads share out the bytes: these are cut before line feeds that are outside quotes, and each part is read into a
+//! piece of the store. A thread waits for another one only at that one's end.
 
 #![tactic(auto)]
 

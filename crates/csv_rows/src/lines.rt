@@ -1,8 +1,8 @@
 //! A text without quotes, copied so that each of its lines ends in one line feed.
 //!
-//! A carriage return ends a line as a line feed does, and an empty line is no record. So a return in front of a line feed
-//! can go, another one is as good as a line feed, and line ends in front of the first record or behind the last count for
-//! nothing.
+//! A carriage return ends a line as a line feed does, and an empty line is no record. So a return before a line feed
+//! can go, any other return is as good as a line feed, and line ends before the first record or after the last count
+//! for nothing.
 
 ghost use Rattle.std.specs.Prelude.{◌≡◌, IfOk};
 ghost use Rattle.csv_rows.specs.Plain.{NoReturn, is_line_end, plain_records};
@@ -10,7 +10,7 @@ ghost use Rattle.csv_rows.specs.Plain.{NoReturn, is_line_end, plain_records};
 use memchr::memchr;
 use std::alloc::{AllocError, Global};
 
-/// The text without the line ends in front of its first record.
+/// The text without the line ends before its first record.
 pub(crate) fn without_front(text: &[u8]) -> &[u8]
     ensures { plain_records result.now ≡ plain_records text.now }
 {
@@ -21,7 +21,7 @@ pub(crate) fn without_front(text: &[u8]) -> &[u8]
     &text[at..]
 }
 
-/// The text without the line ends behind its last record.
+/// The text without the line ends after its last record.
 pub(crate) fn without_back(text: &[u8]) -> &[u8]
     ensures { plain_records result.now ≡ plain_records text.now }
 {
@@ -39,7 +39,7 @@ fn is_line_end(byte: u8) -> bool
     byte == b'\r' || byte == b'\n'
 }
 
-/// A text of the same records with no carriage return. Where there was none it is one copy.
+/// A text of the same records with no carriage return. If there was none it is one copy.
 pub(crate) fn with_line_feeds(alloc: Global, text: &[u8]) -> Result<Vec<u8>, AllocError>
     ensures records { IfOk result (λ bytes. plain_records bytes.items ≡ plain_records text.now) }
     ensures lines { IfOk result (λ bytes. NoReturn bytes.items) }

@@ -13,7 +13,7 @@ use std::simd::prelude::*;
 /// How many bytes a mask stands for.
 pub(crate) const BLOCK: usize = 64;
 
-/// A mask of the next bytes from a place on. No bit stands for a place behind the text.
+/// A mask of the next bytes from a place on. No bit stands for a place past the end of the text.
 #[inline(always)]
 pub(crate) fn separators(text: &[u8], at: usize) -> u64
     requires { at ≤ length text.now }
@@ -27,7 +27,7 @@ pub(crate) fn separators(text: &[u8], at: usize) -> u64
     places_of(bytes, b',') | places_of(bytes, b'\n')
 }
 
-/// As many bytes as a mask stands for, from a place on.
+/// The 64 bytes from a place on, as a vector.
 #[inline(always)]
 fn load(text: &[u8], at: usize) -> u8x64
     requires { at + 64 ≤ length text.now }
@@ -36,7 +36,7 @@ fn load(text: &[u8], at: usize) -> u8x64
     u8x64::from_slice(&text[at..])
 }
 
-/// Fewer bytes, with zeros behind them.
+/// Fewer than 64 bytes as a vector, with zeros after them.
 #[cold]
 fn load_few(text: &[u8]) -> u8x64
     requires { length text.now < 64 }

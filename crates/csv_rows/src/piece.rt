@@ -1,9 +1,9 @@
 //! A piece of a store: records with no allocation for a record or a field.
 //!
-//! The bytes of the fields stand in one list; a second list has the place where each field ends among the bytes, and
-//! [`RowEnds`] the place where each record ends among the fields. In both the places rise, so a field is a run of bytes and
-//! a record a run of fields. Between two fields there is no byte where csv's machine gave them one by one, and the byte that
-//! parts them where a text was copied as it stands.
+//! The bytes of the fields lie in one list; a second list has the place where each field ends among the bytes, and
+//! [`RowEnds`] the place where each record ends among the fields. In both the places rise, so a field is a run of bytes
+//! and a record a run of fields. Between two fields there is no byte if csv's machine gave them one by one, and the
+//! byte that parts them if a text was copied as a whole.
 
 ghost use Rattle.std.specs.Prelude.{◌≡◌, ◌<◌, ◌≤◌, ◌∷◌, ◌++◌, ◌+◌, ℕ, List, [], IfOk, OnOk, drop, get_or, length, take};
 ghost use Rattle.csv.specs.Records.{Rising, cut_from, fields_of, text_of};
@@ -37,7 +37,7 @@ impl Model for Piece {
 }
 
 impl Piece {
-    /// The piece of these lists, in which this many bytes stand between two fields.
+    /// The piece of these lists, in which this many bytes lie between two fields.
     pub(crate) fn of_lists(bytes: Vec<u8>, ends: Vec<u32>, row_ends: RowEnds, gap: u8) -> Piece
         requires fields { Apart gap 0 ends.items (length bytes.items) }
         requires rows { Rising 0 row_ends (length ends.items) }
@@ -114,7 +114,7 @@ pub(crate) fn push_record(
 }
 
 /// Adds the fields of a record: the bytes of all of them in one copy, and then their ends. The contracts of csv tie a
-/// field to a place of the record's text only while no field behind the first is empty. So from the first such field on
+/// field to a place of the record's text only while no field after the first is empty. So from the first such field on
 /// each is copied by itself.
 fn push_fields(bytes: &mut Vec<u8>, ends: &mut Vec<u32>, row: &ByteRecord) -> Result<(), AllocError>
     requires covers { Covers ends.old.items (length bytes.old.items) }
@@ -133,8 +133,8 @@ fn push_fields(bytes: &mut Vec<u8>, ends: &mut Vec<u32>, row: &ByteRecord) -> Re
     Ok(())
 }
 
-/// Adds the ends of the first fields of a record, whose text stands from this place on: those in front of an empty
-/// field that is not the first of all. Says how many they are, and where the last of them ends.
+/// Adds the ends of the first fields of a record, whose text lies from this place on: those before an empty field that
+/// is not the first of all. Returns how many they are, and where the last of them ends.
 fn push_ends(
     ends: &mut Vec<u32>,
     bytes: &[u8],

@@ -1,8 +1,8 @@
-//! The pieces of a text, each read in a thread of its own.
+//! The pieces of a text, each read in a separate thread.
 //!
-//! The text is halved in front of a line feed that stands outside quotes, and so are its halves. A cut in front of a
-//! line feed needs no care for what stands around it: the front ends its last record there as at the end of a text, and
-//! the back begins with an end of line, which begins no record and hides a byte order mark behind it.
+//! The text is halved before a line feed that is outside quotes, and so are its halves. A cut before a line feed needs
+//! no care for the bytes around it: the first half ends its last record there as at the end of a text, and the second
+//! begins with an end of line, which begins no record, so that a byte order mark after it is not taken for one.
 
 ghost use Rattle.std.specs.Prelude.{◌≡◌, ◌≢◌, ◌<◌, ◌≤◌, IfOk, length};
 ghost use Rattle.std.specs.Thread.{IsSync};

@@ -1,15 +1,15 @@
-//! Where a scan for quotes stands in a text.
+//! The place of a scan for quotes: what a quote would mean next.
 //!
 //! A quote means one thing between quotes, another where a quoted text may begin, and a third in the middle of a field.
-//! Between two quotes only the last byte decides which of these the next one meets, so a scan looks at quotes and at the
-//! byte in front of each.
+//! Between two quotes only the last byte decides which of these the next one meets, so a scan looks at quotes and at
+//! the byte before each.
 
 ghost use Rattle.std.specs.Prelude.{◌≡◌};
 ghost use Rattle.csv_rows.specs.Places.{NoQuote, after_other, after_quote, place_after};
 
 use memchr::memchr;
 
-/// Between quotes, where a quote would begin such a text, or where it would be a byte as any other.
+/// Between quotes, where a quote would begin such a text, or where it would be a byte like any other.
 #[derive(Clone, Copy, Drop, PartialEq, Eq)]
 pub enum Place {
     Quoted,
@@ -17,7 +17,7 @@ pub enum Place {
     Inside,
 }
 
-/// Where a scan stands after these bytes, from a place before them. In linear time.
+/// The place after these bytes, from a place before them. In linear time.
 pub fn scanned(bytes: &[u8], start: Place) -> Place
     ensures { result ≡ place_after start bytes.now }
 {
@@ -30,7 +30,7 @@ pub fn scanned(bytes: &[u8], start: Place) -> Place
     past_others(&bytes[at..], place)
 }
 
-/// The place behind a quote.
+/// The place after a quote.
 pub fn past_quote(place: Place) -> Place
     ensures { result ≡ after_quote place }
 {
@@ -41,7 +41,7 @@ pub fn past_quote(place: Place) -> Place
     }
 }
 
-/// After bytes of which none is a quote. In constant time.
+/// The place after bytes of which none is a quote. In constant time.
 pub fn past_others(bytes: &[u8], start: Place) -> Place
     requires { NoQuote bytes.now }
     ensures { result ≡ place_after start bytes.now }
@@ -52,7 +52,7 @@ pub fn past_others(bytes: &[u8], start: Place) -> Place
     past_other(start, bytes[bytes.len() - 1])
 }
 
-/// The place behind a byte that is no quote.
+/// The place after a byte that is no quote.
 fn past_other(start: Place, byte: u8) -> Place
     ensures { result ≡ after_other start byte }
 {

@@ -1,6 +1,6 @@
 //! The records of a text without quotes, put into one piece of a store.
 //!
-//! Without quotes the records stand between line ends and the fields between commas, so the text is copied as a whole and
+//! Without quotes the records lie between line ends and the fields between commas, so the text is copied as a whole and
 //! only the ends of its fields are written down. A text with a quote, or with an empty line in its middle, is left to
 //! csv's machine.
 

@@ -1,5 +1,5 @@
-//! The records of a text, put into one piece of a store: by a scan where there are no quotes, and else as the crate `csv`
-//! reads them.
+//! The records of a text, put into one piece of a store: by a scan if there are no quotes, and otherwise as the crate
+//! `csv` reads them.
 
 ghost use Rattle.std.specs.Prelude.{◌≡◌, ◌<◌, ◌≤◌, [], IfOk, OnOk, length};
 ghost use Rattle.csv_rows.specs.Records.{records_of};
@@ -27,7 +27,7 @@ pub(crate) fn read_records(alloc: Global, bytes: &[u8]) -> Result<Piece, RowsAns
     }
 }
 
-/// The same by csv's machine, byte by byte.
+/// The records of bytes, in the caller's thread, by csv's machine, byte by byte.
 fn read_by_csv(alloc: Global, bytes: &[u8]) -> Result<Piece, RowsAnswer>
     ensures records { IfOk result (λ piece. piece ≡ records_of bytes.now) }
     ensures some { OnOk result (0 < length (records_of bytes.now)) }

@@ -24,13 +24,13 @@ pub enum RowsAnswer {
 /// The fewest bytes for which one more thread pays.
 const LEAST_BYTES: usize = 65_536;
 
-/// The records of bytes. The time is linear in the bytes, and least where there is no quote among
-/// them. The memory is the bytes of the fields, at most five more for each field, and four for each
-/// record from the first one on whose width is not the header's, each at most twice over.
+/// The records of bytes. The time is linear in the bytes, and least if there is no quote among them. The memory is the
+/// bytes of the fields, at most five more for each field, and four for each record from the first one on whose width is
+/// not the header's, each at most twice over.
 pub fn rows(alloc: Global, bytes: &[u8]) -> Result<RowStore, RowsAnswer>
     ensures records { IfOk result (λ store. store ≡ records_of bytes.now) }
 
-    // When each answer comes: so, but for want of memory, it comes exactly then.
+    // When each answer comes: unless memory runs out, it comes exactly then.
     ensures some { OnOk result (0 < length (records_of bytes.now)) }
     ensures few { OnOk result (length (records_of bytes.now) ≤ MOST_RECORDS) }
     ensures no_header { result ≡ Err answer.NoHeader → records_of bytes.now ≡ [] }
@@ -42,9 +42,9 @@ pub fn rows(alloc: Global, bytes: &[u8]) -> Result<RowStore, RowsAnswer>
     }
 }
 
-/// The same, read by at most this many threads, the caller's among them. The work is that of [`rows`], shared out among
-/// the threads, and for each doubling of their number one more look at half of the bytes. Each thread has at least
-/// 65,536 bytes, so a short text is read by fewer.
+/// The records of bytes, read by at most this many threads, the caller's among them. The work is that of [`rows`],
+/// shared out among the threads, and for each doubling of their number one more look at half of the bytes. Each thread
+/// has at least 65,536 bytes, so a short text is read by fewer.
 pub fn rows_in_threads<R: Threads + Sync>(
     rt: &R,
     alloc: Global,

@@ -1,10 +1,10 @@
 //! The places where the records of a store end among its fields, without a list of them.
 //!
 //! Nearly every table has as many fields in each record as in its header. The ends of such records are the multiples of
-//! that width, so a number for the width and one for how many records have it stand for them all. The ends from the
-//! first record of another width on stand in a list. So an even table pays no memory for its ends, a ragged one pays
-//! from where it is ragged, and no record makes the ones before it be written down again. The first record always
-//! counts as one of the width: without any of these there is no record.
+//! that width, so a number for the width and one for how many records have it stand for them all. From the first record
+//! of another width on the ends are in a list. So an even table pays no memory for its ends, a ragged one pays from its
+//! first record of another width on, and no record makes the ones before it be written down again. The first record
+//! always counts as one of the width: without any of these there is no record.
 
 ghost use Rattle.std.specs.Prelude.{◌≡◌, ◌==◌, ◌<◌, ◌≤◌, ◌-◌, ◌∷◌, ◌++◌, [], IfOk, OnOk, get_or, length};
 ghost use Rattle.csv.specs.Records.{prev};
@@ -94,7 +94,7 @@ impl RowEnds {
         self.push_uneven(end)
     }
 
-    /// Adds the end of the first record, or of one that is none of the width.
+    /// Adds the end of the first record, or of one that does not count as one of the width.
     #[cold]
     fn push_uneven(&mut self, end: usize) -> Result<(), AllocError>
         ensures { OnOk result (self.new ≡ self.old ++ end ∷ []) }
@@ -112,7 +112,7 @@ impl RowEnds {
     }
 }
 
-/// A length as a place of the store: one that does not fit is want of memory.
+/// A length as a place of the store: one that does not fit counts as memory running out.
 pub(crate) fn place(n: usize) -> Result<u32, AllocError>
     ensures { IfOk result (λ k. k ≡ n) }
 {

@@ -1,8 +1,8 @@
 //! A scan for quotes in several threads.
 //!
-//! Each part but the first begins at a line feed, behind which a scan that is not between quotes stands at one place
-//! only. So two scans of each part, one from between quotes and one from outside of them, tell where a scan of the whole
-//! stands.
+//! Each part but the first begins at a line feed, after which a scan that is not between quotes can be at one place
+//! only. So two scans of each part, one from between quotes and one from outside them, give the place of a scan of the
+//! whole.
 
 ghost use Rattle.std.specs.Prelude.{if◌then◌else◌, ◌≡◌};
 ghost use Rattle.std.specs.Thread.{IsSync};
@@ -13,7 +13,8 @@ use crate::place::{Place, past_others, past_quote};
 use memchr::memchr;
 use std::thread::{Threads, join};
 
-/// Where a scan of a text ends: from between quotes, and from where a quote opens.
+/// The places at which scans of a text end: one from between quotes, and one from where a quote would open a quoted
+/// text.
 #[derive(Clone, Copy, Drop)]
 pub(crate) struct Ends {
     pub(crate) quoted: Place,

@@ -1,9 +1,9 @@
 //! A scan of a text without quotes and carriage returns: where its fields end, and where its records.
 //!
-//! The bytes stay where they are. Each comma and each line feed ends a field, and the next one begins behind it; a line
-//! feed ends a record too. The scan keeps [`IsAt`](../specs/Splits.antt): what the lists have and what is left of the text
-//! give the records of the whole. An empty line is no record but would stand among the fields, so a text with one is not
-//! split at all.
+//! The bytes stay where they are. Each comma and each line feed ends a field, and the next one begins after it; a line
+//! feed ends a record too. The scan keeps [`IsAt`](../specs/Splits.antt): what the lists have and what is left of the
+//! text give the records of the whole. An empty line is no record but would appear among the fields, so a text with one
+//! is not split at all.
 
 ghost use Rattle.std.specs.Prelude.{◌≡◌, ◌≤◌, ◌<◌, ◌+◌, [], IfOk, IfSome, OnOk, length, slice_index, true};
 ghost use Rattle.csv_rows.specs.Plain.{NoReturn};
@@ -14,15 +14,15 @@ use crate::piece::push_end;
 use crate::row_ends::RowEnds;
 use std::alloc::AllocError;
 
-/// Where a scan stands: at the first byte of a field, and in the record whose first field has this number.
+/// Where a scan is: at the first byte of a field, and in the record whose first field has this number.
 #[derive(Clone, Copy, Drop)]
 struct Cursor {
     from: usize,
     first: usize,
 }
 
-/// Fills the lists, unless the text has an empty line: then it answers false. After an error or that answer they are only
-/// dropped.
+/// Fills the lists, unless the text has an empty line: then it answers false. After an error or after false the lists
+/// can only be dropped.
 pub(crate) fn split(
     text: &[u8],
     ends: &mut Vec<u32>,

@@ -1,7 +1,7 @@
-//! A store of records, in pieces that stand one after the other.
+//! A store of records, in pieces that follow one another.
 //!
-//! A record is looked for among the pieces, of which there are at most as many as threads read them. Who goes through
-//! the records in turn keeps a [`NearRows`], which searches only where a piece ends.
+//! A record is looked for among the pieces, of which there are no more than threads that read them. A caller that goes
+//! through the records in turn keeps a [`NearRows`], which searches only at the end of a piece.
 
 ghost use Rattle.std.specs.Prelude.{◌≡◌, ◌<◌, ◌≤◌, ◌+◌, [], IfErr, IfOk, IfSome, OnOk, get_or, length, slice_index_or, vec_len};
 ghost use Rattle.csv_rows.specs.InPieces.{IsPieceAt, joined};
@@ -50,7 +50,7 @@ impl RowStore {
         })
     }
 
-    /// How many rows there are beside the header, which is also the number of the last record.
+    /// How many rows there are besides the header, which is also the number of the last record.
     pub fn count(&self) -> u64
         ensures rows { result + 1 ≡ length self.now }
         ensures few { result < MOST_RECORDS }
@@ -75,7 +75,7 @@ impl RowStore {
         self.find(row).field(at)
     }
 
-    /// A record, the header being record 0. In constant time where one thread read the records, and otherwise in time
+    /// A record, the header being record 0. In constant time if one thread read the records, and otherwise in time
     /// linear in how many threads did.
     pub fn find(&self, row: u64) -> Record<'_>
         requires { row < length self.now }
@@ -157,7 +157,7 @@ impl<'a> Model for NearRows<'a> {
 }
 
 impl<'a> NearRows<'a> {
-    /// A record, the header being record 0. In constant time where it stands in the piece, and otherwise in the time of
+    /// A record, the header being record 0. In constant time if it lies in the piece, and otherwise in the time of
     /// [`RowStore::find`].
     pub fn find(&self, row: u64) -> Record<'a>
         requires { row < length self.now }

@@ -1,4 +1,4 @@
--- Which fault of a source or a sink stands behind a failed call.
+-- Whose fault a failed call was: that of a source or that of a sink.
 use Rattle.std.specs.Prelude.{◌≤◌, ◌+◌, ◌-◌, ◌^◌, ℕ, min, OnErr, if◌then◌else◌}
 use Rattle.std.specs.Result.{is_err}
 use Rattle.std.specs.declared.result.Result.{Result}
@@ -7,11 +7,11 @@ use Rattle.std.specs.declared.result.Result.{Result}
 abbrev pub one_more : ℕ → ℕ
 one_more count = min (count + 1) (2 ^ 64 - 1)
 
--- a count of faults rose, or stands at its last value
+-- a count of faults rose, or is at its last value
 abbrev pub Rose : ℕ → ℕ → Type 0
 Rose before now = one_more before ≤ now
 
--- a count of faults has not fallen, and rose where the call failed
+-- a count of faults has not fallen, and rose if the call failed
 pub record HasCause {T E : Type 0} (before now : ℕ) (result : Result T E) : Type 0 where
   pub kept : before ≤ now
   pub failed : OnErr result (Rose before now)

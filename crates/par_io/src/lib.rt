@@ -1,11 +1,10 @@
 //! Sources and sinks of bytes that count their faults.
 //!
-//! A program that reads or writes through [`Source`] and [`Sink`] can say of each failed call which
-//! fault stands behind it: the count of that object rose. Each object keeps one rule: its count
-//! never falls, and no call answers [`Failed`] unless it raised the count (or the count stands at
-//! its last value, 2^64 - 1). What a source has left and what a sink was given are told only where
-//! they can be, as in memory; of the streams of the system nothing but the faults is known.
-//! [`read_whole`] reads a source to its end, [`write_whole`] gives a sink all of some bytes.
+//! A program that reads or writes through [`Source`] and [`Sink`] can say of each failed call whose fault it was: the
+//! count of that object rose. Each object keeps one rule: its count never falls, and no call answers [`Failed`] unless
+//! it raised the count (or the count is at its last value, 2^64 - 1). What a source has left and what a sink was given
+//! are known only if they can be, as in memory; of the system's streams only the faults are known. [`read_whole`] reads
+//! a source to its end, [`write_whole`] gives a sink all of some bytes.
 
 #![tactic(auto)]
 
@@ -29,7 +28,7 @@ pub struct Failed;
 
 /// What bytes are read from.
 pub trait Source {
-    // The bytes that are left, where they are known.
+    // The bytes that are left, if they are known.
     ghost left: { Self → Option (List ℕ) };
 
     // How often a read has failed.
@@ -46,14 +45,14 @@ pub trait Source {
 
 /// What bytes are written to.
 pub trait Sink {
-    // The bytes that it was given, where they are known.
+    // The bytes that it was given, if they are known.
     ghost taken: { Self → Option (List ℕ) };
 
     // How often a write has failed.
     ghost faults: { Self → ℕ };
 
-    /// Takes at least one byte from the front of `piece` and answers how many. A sink that can take
-    /// none answers `Failed`; a failed write took nothing where the sink tells what it was given.
+    /// Takes at least one byte from the front of `piece` and answers how many. A sink that can take none answers
+    /// `Failed`; a failed write took nothing if the sink says what it was given.
     fn write(&mut self, piece: &[u8]) -> Result<usize, Failed>
         requires some { 0 < length piece.now }
         ensures bound { WritesAtMost result piece.now }
@@ -62,8 +61,8 @@ pub trait Sink {
         ensures cause { HasCause (faults self.old) (faults self.new) result };
 }
 
-/// Writes all bytes, in as many calls as the sink needs and one after the other. After `Failed` the
-/// sink has taken a prefix of them. No bytes make no call.
+/// Writes all bytes, in as many calls as the sink needs and one after the other. After `Failed` the sink has taken a
+/// prefix of them. If there are no bytes it makes no call.
 pub fn write_whole<O: Sink>(sink: &mut O, bytes: &[u8]) -> Result<(), Failed>
     ensures whole { OnOk result (Appends (O.taken sink.old) (O.taken sink.new) bytes.now) }
     ensures prefix { OnErr result ((n : ℕ) × Appends (O.taken sink.old) (O.taken sink.new) (take n bytes.now)) }

@@ -1,8 +1,8 @@
-//! A source and a sink in memory, which move small pieces and fail where they are told to.
+//! A source and a sink in memory, which move small pieces and fail at the calls that they are made to fail at.
 //!
-//! They stand in for the streams of the system where a run must be the same each time, and where a
-//! clause is to name every byte. A call's number is fixed by the calls before it, so the model of
-//! each type says which call fails and what each call moves.
+//! They serve as the system's streams if a run must be the same each time, or if a clause is to name every byte. A
+//! call's number is fixed by the calls before it, so the model of each type says which call fails and what each call
+//! moves.
 
 ghost use Rattle.std.specs.Prelude.{◌≡◌, ◌<◌, ◌≤◌, ◌++◌, [], Some, IfOk, IsErr, IsTrue, ◌↔◌, drop, take, length, max, vec_len, vec_capacity};
 ghost use Rattle.std.specs.Io.{ReadsAtMost, WritesAtMost};
@@ -34,8 +34,8 @@ impl Model for MemSource {
 }
 
 impl MemSource {
-    /// A source of these bytes. Each read gives at most `piece` of them, and one where `piece` is 0.
-    /// The reads whose numbers stand in `fail`, counted from 1, fail.
+    /// A source of these bytes. Each read gives at most `piece` of them, and one if `piece` is 0. The reads whose
+    /// numbers, counted from 1, are in `fail` answer a failure.
     pub fn new(bytes: Vec<u8>, piece: usize, fail: Vec<u64>) -> MemSource
         ensures { result ≡ record { left = bytes.items; piece = max piece 1; fail = fail.items; calls = 0; faults = 0 } }
     {
@@ -99,9 +99,9 @@ impl Model for MemSink {
 }
 
 impl MemSink {
-    /// A sink with room for `room` bytes, reserved here, so that a write takes no memory. Each write
-    /// takes at most `piece` bytes, and one where `piece` is 0. The writes whose numbers stand in
-    /// `fail`, counted from 1, fail, and so does each write after the room is used up.
+    /// A sink with room for `room` bytes, reserved here, so that a write takes no memory. Each write takes at most
+    /// `piece` bytes, and one if `piece` is 0. The writes whose numbers, counted from 1, are in `fail` answer a
+    /// failure, and so does each write after the room is used up.
     pub fn new(
         alloc: Global,
         piece: usize,

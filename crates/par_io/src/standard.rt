@@ -1,7 +1,7 @@
 //! A source over a reader of std and a sink over a writer of std: the edge to the system.
 //!
-//! What a stream gives or takes no clause can say, so these tell no bytes. They keep the count of
-//! faults: each error of the reader, the writer or a flush raises it by one.
+//! No clause can say what a stream gives or takes, so these say nothing of the bytes. They keep the count of faults:
+//! each error of the reader, the writer or a flush raises it by one.
 
 ghost use Rattle.std.specs.Prelude.{◌<◌, ◌≤◌, IfSome, length, take};
 ghost use Rattle.std.specs.Io.KnownBytes.{Appends};
@@ -9,7 +9,7 @@ ghost use Rattle.std.specs.Io.KnownBytes.{Appends};
 use crate::{Failed, Sink, Source};
 use std::io::{Read, Write};
 
-/// A source over a reader. It tells no bytes.
+/// A source over a reader. It says nothing of the bytes.
 #[derive(Drop)]
 pub struct StdSource<R> {
     reader: R,
@@ -50,7 +50,7 @@ impl<R: Read> Source for StdSource<R> {
         // A fault is counted for each failed call, and for nothing else.
         ensures counted { read_faults self.new ≡ counted (read_faults self.old) result }
 
-        // Where the reader tells its bytes, as one over memory does, they come from it in order.
+        // If the reader says what its bytes are, as one over memory does, they come from it in order.
         ensures through { ReadConsumes (R.remaining (reader_of self.old)) (R.remaining (reader_of self.new)) result buf.new }
     {
         match self.reader.read(buf) {
@@ -63,7 +63,7 @@ impl<R: Read> Source for StdSource<R> {
     }
 }
 
-/// A sink over a writer. It tells no bytes.
+/// A sink over a writer. It says nothing of the bytes.
 #[derive(Drop)]
 pub struct StdSink<W> {
     writer: W,
@@ -106,7 +106,7 @@ impl<W: Write> Sink for StdSink<W> {
         // A fault is counted for each failed call, and for nothing else.
         ensures counted { write_faults self.new ≡ counted (write_faults self.old) result }
 
-        // Where the writer tells its bytes, as one over memory does, it has taken these.
+        // If the writer says what its bytes are, as one over memory does, it has taken these.
         ensures through { IfOk result (λ n. Appends (W.contents (writer_of self.old)) (W.contents (writer_of self.new)) (take n piece.now)) }
     {
         match written_through(&mut self.writer, piece) {
@@ -119,7 +119,7 @@ impl<W: Write> Sink for StdSink<W> {
     }
 }
 
-/// How many bytes one write took and a flush passed on, or none where either failed.
+/// How many bytes one write took and a flush passed on, or none if either failed.
 fn written_through<W: Write>(writer: &mut W, piece: &[u8]) -> Option<usize>
     ensures some { IfSome result (λ n. 0 < n) }
     ensures bound { IfSome result (λ n. n ≤ length piece.now) }

@@ -1,7 +1,7 @@
 //! All the bytes of a source, read into the growing buffer itself.
 //!
-//! A read goes to the room behind the bytes read so far, which is made a piece at a time; so no byte is copied but where
-//! the buffer moves to grow, and none is read past the limit and one more.
+//! A read goes to the room after the bytes read so far, which is made a piece at a time; so a byte is copied only if
+//! the buffer moves to grow, and at most one byte is read past the limit.
 
 ghost use Rattle.std.specs.Prelude.{◌≡◌, ◌<◌, ◌≤◌, ◌+◌, ◌^◌, ℕ, List, IfOk, IfErr, IfSome, OnOk, OnErr, take, drop, length, vec_len};
 ghost use Rattle.std.specs.Io.KnownBytes.{Consumes, IsAtEnd, Keeps};
@@ -15,7 +15,8 @@ use std::alloc::{AllocError, Global};
 /// How much room is made for a read.
 const PIECE: usize = 131_072;
 
-/// Why a source was not read whole: a read failed, it had more bytes than were asked for at the most, or memory ran out.
+/// Why a source was not read whole: a read failed, it had more bytes than the most that were asked for, or memory ran
+/// out.
 #[derive(Debug, Drop)]
 pub enum NotWhole {
     ReadFault,
@@ -56,8 +57,8 @@ pub fn read_whole<S: Source>(
     Err(NotWhole::TooLong)
 }
 
-/// One read into the room behind the bytes that are filled, and how many it gave. The room is made first, so that want of
-/// memory loses no byte.
+/// One read into the room after the bytes that are filled, and how many it gave. The room is made first, so that no
+/// byte is lost if memory runs out.
 fn read_more<S: Source>(
     source: &mut S,
     bytes: &mut Vec<u8>,

@@ -4,7 +4,7 @@ use Rattle.std.specs.Char.{is_ascii_digit}
 use Rattle.std.specs.List.{list_all, prefix_len, suffix_len}
 use Rattle.std.specs.Str.Parse.{signed_digits_value, without_leading_sign}
 
--- the space, which alone may stand round an integer
+-- the space, the only byte that may come before or after an integer
 abbrev pub is_space : ℕ → Bool
 is_space byte = byte == 32
 

@@ -9,7 +9,7 @@ use Rattle.par_model.specs.declared.plan.Filter.{Filter}
 use Rattle.par_model.specs.declared.plan.FilterOp.{FilterOp}
 use Rattle.par_model.specs.declared.plan.FilterOp.TheVariants as op
 
--- whether the first integer stands in the relation to the second
+-- whether the first integer has the relation to the second
 abbrev pub stands : FilterOp → ℤ → ℤ → Bool
 stands op.Equal a b = int_eq a b
 stands op.NotEqual a b = not (int_eq a b)
@@ -18,8 +18,8 @@ stands op.LessEqual a b = int_le a b
 stands op.Greater a b = int_lt b a
 stands op.GreaterEqual a b = int_le b a
 
--- whether an integer does not stand in the filter's relation to its value; what is no integer is refused, and not left
--- out
+-- whether an integer does not have the filter's relation to its value; a field that is no integer is refused, and not
+-- left out
 abbrev pub fails : Filter → Option ℤ → Bool
 fails filter None = false
 fails filter (Some n) = not (stands filter.op n filter.value)

@@ -12,7 +12,7 @@ is_magnitude digits = (nat_lt 0 (length digits) && list_all is_ascii_digit digit
 abbrev pub magnitude_of : List ℕ → Option ℕ
 magnitude_of digits = if is_magnitude digits then Some (digits_value 10 digits) else None
 
--- the number of 64 signed bits that a magnitude is after a minus, and after none
+-- the number of 64 signed bits that a magnitude is with a minus sign, and without one
 abbrev pub with_sign : Bool → Option ℕ → Option ℤ
 with_sign minus None = None
 with_sign true (Some size) = Some (neg_ℤ (pos size))

@@ -8,7 +8,7 @@ use Rattle.par_model.specs.declared.plan.FilterOp.{FilterOp}
 use Rattle.par_model.specs.declared.plan.Item.{Item}
 use Rattle.par_model.specs.declared.plan.ItemKind.{ItemKind}
 
--- an aggregate, and the name of its column where it reads one
+-- an aggregate, and the name of its column if it reads one
 pub record NamedItem : Type 0 where
   pub kind : ItemKind
   pub column : Option (List ℕ)
@@ -42,7 +42,7 @@ missing_name header plan = find (λ name. is_none (column_of header name)) (name
 abbrev pub bound_column : List (List ℕ) → List ℕ → ℕ
 bound_column header name = unwrap_or (column_of header name) 0
 
--- an aggregate over the column of its name, and over column 0 where it has none
+-- an aggregate over the column of its name, and over column 0 if it has none
 abbrev pub bound_item : List (List ℕ) → NamedItem → Item
 bound_item header item = record { kind = item.kind; column = option_map_or (bound_column header) item.column 0 }
 

@@ -9,7 +9,7 @@ use Rattle.par_model.specs.declared.refusal.Refusal.{Refusal}
 abbrev pub most_bytes : ℕ
 most_bytes = 67108864
 
--- the most rows that it has beside the header
+-- the most rows that it has besides the header
 abbrev pub most_rows : ℕ
 most_rows = 4194304
 
@@ -24,22 +24,22 @@ pub data Outcome : Type 0 where
   Refused : List (ℕ × Refusal) → Outcome
   Table : Outcome
 
--- of rows of which these are refused
+-- the outcome of rows of which these are refused
 abbrev pub by_refused : List (ℕ × Refusal) → Outcome
 by_refused [] = Table
 by_refused (r ∷ rs) = Refused (r ∷ rs)
 
--- of rows under a header that lacks this name of the plan, or none
+-- the outcome of rows under a header that lacks this name of the plan, or none
 abbrev pub by_missing : NamedPlan → List (List ℕ) → List (List (List ℕ)) → Option (List ℕ) → Outcome
 by_missing plan header rows (Some name) = NoColumn name
 by_missing plan header rows None = by_refused (refused_rows (bound_plan header plan) (length header) rows)
 
--- of records, of which the first is the header
+-- the outcome of records, of which the first is the header
 abbrev pub by_records : NamedPlan → List (List (List ℕ)) → Outcome
 by_records plan [] = NoHeader
 by_records plan (header ∷ rows) = if nat_lt most_rows (length rows) then TooManyRows else by_missing plan header rows (missing_name header plan)
 
--- of a plan, or of words that are none, over this many bytes, which are these records
+-- the outcome of a plan, or of words that are none, over this many bytes, which are these records
 unfoldable pub outcome : Option NamedPlan → ℕ → List (List (List ℕ)) → Outcome
 outcome None size records = Usage
 outcome (Some plan) size records = if nat_lt most_bytes size then TooManyBytes else by_records plan records

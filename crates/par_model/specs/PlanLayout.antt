@@ -9,7 +9,7 @@ use Rattle.par_model.specs.declared.plan.ItemKind.TheVariants as kind
 abbrev pub unused : Item
 unused = record { kind = kind.Rows; column = 0 }
 
--- the lists that stand at the front of the arrays
+-- the lists that lie at the front of the arrays
 abbrev pub plan_of : Inside → Plan
 plan_of a = record { groups = take a.group_count a.groups; items = take a.item_count a.items; hash = a.hash; filter = a.filter }
 

@@ -16,19 +16,19 @@ use Rattle.par_model.specs.declared.refusal.Refusal.{Refusal}
 abbrev pub longest_key : ℕ
 longest_key = 248
 
--- the cause of a row that has another number of fields than the header
+-- the cause of a row that has more or fewer fields than the header
 abbrev pub width_cause : ℕ
 width_cause = 1
 
--- of one whose encoded key is too long
+-- the cause of a row whose encoded key is too long
 abbrev pub key_cause : ℕ
 key_cause = 2
 
--- of one in which an aggregate cannot read its field
+-- the cause of a row in which an aggregate cannot read its field
 abbrev pub item_cause : ℕ
 item_cause = 3
 
--- of one whose field of the filter's column is neither null nor an integer
+-- the cause of a row whose field of the filter's column is neither null nor an integer
 abbrev pub filter_cause : ℕ
 filter_cause = 4
 

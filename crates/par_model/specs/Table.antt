@@ -36,11 +36,11 @@ item_text item = kind_text item.kind ++ option_map_or (λ name. codes "(" ++ (na
 abbrev pub table_header : NamedPlan → List (List ℕ)
 table_header plan = plan.groups ++ map item_text plan.items
 
--- a text, or a null where there are no values
+-- a text, or a null if there are no values
 abbrev pub or_null : ℕ → List ℕ → List ℕ
 or_null count text = if count == 0 then [] else text
 
--- what an aggregate of a group prints, where the group has this many rows
+-- what an aggregate prints for a group that has this many rows
 abbrev pub value_text : ItemKind → ℕ → SlotState → List ℕ
 value_text kind.Rows rows slot = decimal rows
 value_text kind.Count rows slot = decimal slot.count
@@ -57,7 +57,7 @@ values_text plan state = map (λ p. value_text p.0.kind state.rows p.1) (zip pla
 abbrev pub group_record : Plan → List (List (List ℕ)) → List (List ℕ) → List (List ℕ)
 group_record plan rows columns = columns ++ values_text plan (state_of plan rows (encoded columns))
 
--- the groups that occur: those of the kept rows, or the one group of all rows where nothing is grouped by
+-- the groups that occur: those of the kept rows, or the one group of all rows if there is no column to group by
 abbrev pub occurring : Plan → List (List (List ℕ)) → List (List (List ℕ))
 occurring plan rows = if length plan.groups == 0 then [] ∷ [] else map (columns_of plan) (filter (is_kept plan) rows)
 

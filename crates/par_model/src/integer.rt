@@ -1,12 +1,11 @@
 //! Which fields are integers: decimal digits after an optional sign, with spaces at either end.
 //!
-//! A field is read as it stands, with no copy and no test of its text: a byte that is no digit, as
-//! each byte of a character beyond ASCII, makes it no integer.
+//! A field is read in place, with no copy and no check of its encoding: a byte that is none of these, such as any byte
+//! of a character beyond ASCII, makes it no integer.
 //!
-//! Nearly every integer has at most eighteen digits and no space round it. Eighteen digits write a
-//! number below 10^18, which fits with either sign, so for these there is a short way: one loop that
-//! looks for no space and tests no step against overflow. Where it finds anything else, the general
-//! way decides.
+//! Nearly every integer has at most eighteen digits and no space around it. Eighteen digits write a number below 10^18,
+//! which fits with either sign, so for these there is a short way: one loop that looks for no space and tests no step
+//! against overflow. If it finds anything else, the general way decides.
 
 ghost use Rattle.std.specs.Prelude.{◌≡◌, ◌<◌, ◌≤◌, ◌^◌, IfSome, Some, length};
 ghost use Rattle.std.specs.List.{prefix_len, suffix_len};
@@ -20,9 +19,9 @@ const LARGEST: u64 = 0x8000_0000_0000_0000;
 /// How many digits the short way reads at most.
 const SHORT: usize = 18;
 
-/// The integer of a field, if it is one: any number of spaces, an optional `+` or `-`, one or more
-/// ASCII digits, any number of spaces, with a value of 64 signed bits. Its time is linear in the
-/// bytes, and shortest where one to eighteen digits stand alone or after a sign.
+/// The integer of a field, if it is one: any number of spaces, an optional `+` or `-`, one or more ASCII digits, any
+/// number of spaces, with a value of 64 signed bits. Its time is linear in the bytes, and shortest for only one to
+/// eighteen digits, with or without a sign.
 pub fn read_integer(field: &[u8]) -> Option<i64>
     ensures { result ≡ integer_of field.now }
 {
@@ -43,7 +42,7 @@ fn short_magnitude(digits: &[u8]) -> Option<u64>
     }
     let mut value: u64 = 0;
     'digits: for digit in digits {
-        // A byte below `0` wraps round, so one test tells the digits.
+        // A byte below `0` wraps around, so one test says whether a byte is a digit.
         let unit = u64::from(*digit).wrapping_sub(u64::from(b'0'));
         if unit > 9 {
             return None;
@@ -53,7 +52,7 @@ fn short_magnitude(digits: &[u8]) -> Option<u64>
     Some(value)
 }
 
-/// A size after a minus, or after none.
+/// The number that a size is with a minus sign, or without one.
 fn signed_size(is_minus: bool, size: u64) -> i64
     requires { size < 2 ^ 63 }
     ensures { Some result ≡ with_sign is_minus (Some size) }

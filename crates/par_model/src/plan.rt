@@ -1,7 +1,7 @@
 //! A plan over the columns of a table: what to group by, what to compute, which rows to keep.
 //!
 //! A plan lies in arrays of a fixed size, so that it can be copied into shared memory word by word. The places past a
-//! count hold column 0 and kind `Rows`, which `BoundPlan` keeps as its invariant; a contract sees the lists alone.
+//! count hold column 0 and kind `Rows`, which `BoundPlan` keeps as its invariant; a contract sees only the lists.
 
 ghost use Rattle.std.specs.Prelude.{◌≡◌, ◌≤◌, length};
 ghost use Rattle.par_model.specs.Keep.{stands};
@@ -27,7 +27,7 @@ pub struct Item {
     pub column: u32,
 }
 
-/// The relation in which a row's integer has to stand to the filter's value.
+/// The relation that a row's integer must have to the filter's value.
 #[derive(Clone, Copy, Debug, PartialEq, Eq)]
 pub enum FilterOp {
     Equal,
@@ -39,7 +39,7 @@ pub enum FilterOp {
 }
 
 impl FilterOp {
-    /// Whether the first number stands in the relation to the second.
+    /// Whether the first number has the relation to the second.
     pub fn stands(self, a: i64, b: i64) -> bool
         ensures { result ≡ stands self a b }
     {
@@ -54,7 +54,7 @@ impl FilterOp {
     }
 }
 
-/// Which rows are kept: those whose integer in a column stands in the relation to the value.
+/// Which rows are kept: those whose integer in a column has the relation to the value.
 #[derive(Clone, Copy, Debug, PartialEq, Eq)]
 pub struct Filter {
     pub column: u32,

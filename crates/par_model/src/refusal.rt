@@ -3,7 +3,7 @@
 /// The most bytes that the encoded key of a group has.
 pub const LONGEST_KEY: usize = 248;
 
-/// The cause of a row that has another number of fields than the header.
+/// The cause of a row that has more or fewer fields than the header.
 pub const WIDTH_CAUSE: u8 = 1;
 
 /// The cause of a row whose encoded group key is longer than [`LONGEST_KEY`] bytes.

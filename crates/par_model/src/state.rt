@@ -1,7 +1,6 @@
-//! The aggregates of a group, as far as rows were added.
+//! The aggregates of a group over the rows that were added so far.
 
-/// The aggregates of one item. Sum, least and greatest integer are 0 where the item reads no integers, and where `count`
-/// is 0.
+/// The aggregates of one item. Sum, least and greatest integer are 0 if the item reads no integers or `count` is 0.
 #[derive(Clone, Copy, Debug, PartialEq, Eq)]
 pub struct SlotState {
     /// How many fields are not empty.

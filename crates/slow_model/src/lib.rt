@@ -1,4 +1,5 @@
-//! The definitions of a refused row and of a group's aggregates as plain slow programs, and worked rows.
+//! The definitions of a refused row and of a group's aggregates as plain slow programs. `proofs/Worked` computes what
+//! the definitions say of small inputs whose answers are known.
 
 #![tactic(auto)]
 

@@ -187,7 +187,7 @@ fn has_key(row: &Row, key: &[u8], plan: &BoundPlan) -> bool
     rest.is_empty()
 }
 
-/// What comes after the encoding of a field, of a text that begins with it.
+/// What comes after the encoding of a field in a text, if the text begins with it.
 fn after_field<'a>(text: &'a [u8], field: &[u8]) -> Option<&'a [u8]>
     ensures { MatchOption result ((rest : List ℕ) → text.now ≢ encoded_field field.now ++ rest) (λ rest. text.now ≡ encoded_field field.now ++ rest.now) }
 {
