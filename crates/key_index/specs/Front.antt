@@ -1,4 +1,4 @@
--- The first bytes of keys, and what they tell of the keys' order.
+-- The first bytes of keys, and what they say of the keys' order.
 use Rattle.std.specs.Prelude.{◌≡◌, ◌<◌, ◌+◌, ◌*◌, ◌^◌, ◌∷◌, ◌++◌, [], ℕ, zero, suc, All, List}
 
 -- each of them is a byte
@@ -10,7 +10,7 @@ pub record IsFrontOf (front key : List ℕ) : Type 0 where
   pub rest : List ℕ
   pub is : key ≡ front ++ rest
 
--- this many bytes as a number, the highest first, with zeros where there are too few
+-- this many bytes as a number, the highest first, with zeros for those that are missing
 unfoldable pub leading : ℕ → List ℕ → ℕ
 leading zero bytes = 0
 leading (suc count) [] = 0

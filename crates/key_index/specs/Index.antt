@@ -1,4 +1,4 @@
--- A table of slots that finds keys by their hash, and the keys that came too late for a slot.
+-- A table of slots that finds keys by their hash, and the keys that found no slot.
 use Rattle.std.specs.Prelude.{◌≡◌, ◌<◌, ◌+◌, ◌-◌, ◌/◌, ◌%◌, ◌^◌, ◌⊎◌, ℕ, List, Option, Some, bit_and, get_or, length, min, slice_get}
 use Rattle.std.specs.BTreeMap.{BTreeMap, get_by}
 use Rattle.std.specs.Global.{Vec}

@@ -16,7 +16,7 @@ pub record IsNumbered (keys : List (List ℕ)) (from : ℕ) (entry : Entry) : Ty
   pub number : entry.bytes ≡ leading 16 (drop from (key_of keys entry))
   pub bytes : AllBytes (take 16 (drop from (key_of keys entry)))
 
--- entries have the numbers of the bytes behind a front that all keys have in common
+-- entries have the numbers of the bytes after a front that all keys have in common
 pub record AreNumbered (keys : List (List ℕ)) (entries : List Entry) : Type 0 where
   pub front : List ℕ
   pub alike : All (IsFrontOf front) keys

@@ -1,4 +1,4 @@
-//! A list of keys whose bytes stand one after the other.
+//! A list of keys whose bytes lie one after the other.
 
 ghost use Rattle.std.specs.Prelude.{◌≡◌, ◌<◌, ◌≤◌, ◌-◌, ◌↔◌, ◌∷◌, ◌++◌, [], All, Some, IsTrue, OnOk, OnErr, drop, get_or, length, slice_get, take};
 ghost use Rattle.csv.specs.Records.{prev};
@@ -52,7 +52,7 @@ impl KeyList {
         &self.bytes.as_slice()[start..end]
     }
 
-    /// How the keys of two places compare, byte by byte. A place of no key is as that of the key of no bytes.
+    /// How the keys of two places compare, byte by byte. A place that has no key compares as the empty key does.
     pub(crate) fn cmp(&self, a: usize, b: usize) -> Ordering
         ensures { result ≡ key_cmp (key_at self.now a) (key_at self.now b) }
     {
@@ -65,7 +65,7 @@ impl KeyList {
         if at < self.len() { self.get(at) } else { &[] }
     }
 
-    /// Bytes with which all keys begin, as many as there are.
+    /// The longest front that all keys have in common.
     pub(crate) fn common_front(&self) -> &[u8]
         ensures { All (IsFrontOf result.now) self.now }
     {
@@ -86,14 +86,14 @@ impl KeyList {
         number(&rest[..rest.len().min(16)])
     }
 
-    /// Whether this key stands there.
+    /// Whether this key is at a place.
     pub(crate) fn is(&self, at: usize, key: &[u8]) -> bool
         ensures { IsTrue result ↔ (slice_get self.now at ≡ Some key.now) }
     {
         at < self.len() && same_bytes(self.get(at), key)
     }
 
-    /// Whether a key that ends with this byte stands there.
+    /// Whether a key that ends with this byte is at a place.
     pub(crate) fn ends_with(&self, at: usize, byte: u8) -> bool {
         at < self.len() && self.get(at).last() == Some(&byte)
     }
@@ -148,7 +148,7 @@ fn last_word(key: &[u8]) -> &[[u8; 8]]
     key[key.len() - WORD..].as_chunks::<WORD>().0
 }
 
-/// Whether as many words are the same.
+/// Whether two lists of the same number of words are the same.
 fn same_words(a: &[[u8; 8]], b: &[[u8; 8]]) -> bool
     requires { length a.now ≡ length b.now }
     ensures { IsTrue result ↔ (a.now ≡ b.now) }
@@ -171,7 +171,7 @@ fn span(ends: &Vec<usize>, at: usize) -> (usize, usize)
     (start, ends[at])
 }
 
-/// Bytes with which both begin, as many as there are.
+/// The longest front that both have in common.
 fn common_front<'a>(front: &'a [u8], key: &[u8]) -> &'a [u8]
     ensures front { IsFrontOf result.now front.now }
     ensures key { IsFrontOf result.now key.now }
@@ -187,7 +187,7 @@ fn common_front<'a>(front: &'a [u8], key: &[u8]) -> &'a [u8]
     front
 }
 
-/// Up to 16 bytes as a number, highest first, with zeros behind them.
+/// Up to 16 bytes as a number, highest first, with zeros after them.
 fn number(bytes: &[u8]) -> u128
     requires { length bytes.now ≤ 16 }
     ensures number { result ≡ leading 16 bytes.now }

@@ -1,6 +1,6 @@
 //! Places in the order of their keys.
 //!
-//! A place is sorted with 16 bytes of its key beside it, as one number: those behind the front that all keys have in
+//! A place is sorted together with 16 bytes of its key as one number: those after the front that all keys have in
 //! common. Unequal numbers decide the order of two keys (`AreNumbered`), so each key is read once for its number, and
 //! again only where two numbers are equal.
 
@@ -51,7 +51,7 @@ fn entries_of(alloc: Global, keys: &KeyList, places: &[usize]) -> Result<Vec<Ent
     Ok(entries)
 }
 
-/// How two entries compare: by their numbers, and by their keys where these are equal.
+/// How two entries compare: by their numbers, and by their keys if these are equal.
 fn compare(keys: &KeyList, a: &Entry, b: &Entry) -> Ordering
     ensures { result ≡ ordering_then (nat_cmp a.now.bytes b.now.bytes) (key_cmp (key_of keys.now a.now) (key_of keys.now b.now)) }
 {

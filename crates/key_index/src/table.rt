@@ -1,8 +1,8 @@
 //! The table that finds keys by their hash.
 //!
 //! A search goes from the slot of a key's hash on to the first free one, but never further than `LONGEST_SEARCH` slots.
-//! No more than half of the slots are taken, so hardly a key in a million is further off, unless someone chose the keys
-//! for their hashes, whose seed is known. A key that finds no slot within that reach goes into an ordered map. So
+//! No more than half of the slots are taken, so hardly any key in a million is further off, unless somebody chose the
+//! keys for their hashes, whose seed is known. A key that finds no slot within that reach goes into an ordered map. So
 //! whatever the keys are, one is found by a bounded number of slots and one search of the map at most.
 //!
 //! The invariant, `IsIndexed`: each key's place is reached before a free slot, or else the map has a place of the key.
@@ -89,8 +89,8 @@ impl KeyTable {
         self.find_hashed(hash_of(key), NO_GUESS, key)
     }
 
-    /// The same for a caller that has the key's hash, by [`hash_of`], and may expect the key at a place that
-    /// [`KeyTable::guess`] gave: there it is looked for first.
+    /// The place of a key, if it has one, for a caller that has the key's hash, by [`hash_of`], and may expect the key
+    /// at a place that [`KeyTable::guess`] gave: there it is looked for first.
     pub fn find_hashed(&self, hash: u64, guess: usize, key: &[u8]) -> Option<usize>
         requires { hash ≡ hashed key.now }
         ensures found { IfSome result (λ place. slice_get self.now place ≡ Some key.now) }
@@ -114,11 +114,11 @@ impl KeyTable {
         find_late(&self.late, &self.keys, key)
     }
 
-    /// Guesses at the places of keys, of which each has a hash, by [`hash_of`], and a last byte. A guess may be wrong, or
-    /// no place at all. In a large table a look-up waits for far memory twice, for a slot and for a key. Here it is the
-    /// slots of all keys that are read first, and then their keys, and nothing that is read waits for anything else of
-    /// the same turn; so [`KeyTable::find_hashed`] finds near what it reads. There are as many guesses as all three lists
-    /// have places for.
+    /// Guesses at the places of keys, of which each has a hash, by [`hash_of`], and a last byte. A guess may be wrong,
+    /// or no place at all. In a large table a look-up waits for far memory twice, for a slot and for a key. Here it is
+    /// the slots of all keys that are read first, and then their keys, and nothing that is read waits for anything else
+    /// of the same turn; so what [`KeyTable::find_hashed`] reads later is near by then. The number of guesses is the
+    /// length of the shortest of the three lists.
     pub fn guess(&self, hashes: &[u64], lasts: &[u8], guesses: &mut [usize]) {
         let size = self.slots.len();
         for (guess, hash) in guesses.iter_mut().zip(hashes) {
@@ -136,8 +136,8 @@ impl KeyTable {
     }
 
     /// Puts places in the order of their keys. A place of no key comes first. If there is memory for it, the places are
-    /// sorted by 16 bytes of their keys, those behind the front that all keys have in common, so that hardly a key is
-    /// looked at twice; without it only takes longer.
+    /// sorted by 16 bytes of their keys, those after the front that all keys have in common, so that hardly any key is
+    /// looked at twice; without the memory it only takes longer.
     pub fn sort(&self, places: &mut Vec<usize>)
         ensures permutation { IsPermutation places.old.items places.new.items }
         ensures sorted { IsSorted key_cmp (map (key_at self.now) places.new.items) }
@@ -148,7 +148,7 @@ impl KeyTable {
         }
     }
 
-    /// Puts a key behind the others. Whether it is there already is not asked.
+    /// Puts a key after the others. It doesn't check whether the key is there already.
     pub fn push(&mut self, alloc: Global, key: &[u8]) -> Result<(), AllocError>
         ensures ok { OnOk result (self.new ≡ self.old ++ key.now ∷ []) }
         ensures err { OnErr result (self.new ≡ self.old) }
@@ -156,7 +156,7 @@ impl KeyTable {
         self.push_hashed(alloc, hash_of(key), key)
     }
 
-    /// The same for a caller that has the key's hash, by [`hash_of`].
+    /// Puts a key after the others, for a caller that has the key's hash, by [`hash_of`].
     pub fn push_hashed(&mut self, alloc: Global, hash: u64, key: &[u8]) -> Result<(), AllocError>
         requires { hash ≡ hashed key.now }
         ensures ok { OnOk result (self.new ≡ self.old ++ key.now ∷ []) }
@@ -187,7 +187,7 @@ impl KeyTable {
         self.late.clear();
     }
 
-    /// Sees to it that no more than half of the slots are taken.
+    /// Makes sure that no more than half of the slots are taken.
     fn make_room(&mut self, alloc: Global) -> Result<(), AllocError>
         ensures { self.new ≡ self.old }
     {
