@@ -1,4 +1,4 @@
--- States that lie as some of their slots, their lanes, from which a layout tells the others.
+-- States that lie as some of their slots, their lanes, from which the others follow by a layout.
 use Rattle.std.specs.Prelude.{◌≡◌, ◌+◌, ◌++◌, ℕ, List, [], ◌∷◌, drop, get_or, length, map, take}
 use Rattle.par_model.specs.Aggregate.{no_values}
 use Rattle.par_model.specs.declared.state.AggState.{AggState}
@@ -8,13 +8,13 @@ use Rattle.partial_agg.specs.declared.layout.Layout.{Layout}
 use Rattle.partial_agg.specs.declared.layout.SlotPart.{SlotPart}
 use Rattle.partial_agg.specs.declared.layout.SlotPart.TheVariants as part
 
--- what a slot is by some lanes
+-- the slot that follows from some lanes
 abbrev pub slot_in : List SlotState → SlotPart → SlotState
 slot_in lanes part.Empty = no_values
 slot_in lanes (part.Count lane) = without_integers (get_or lanes lane no_values)
 slot_in lanes (part.Whole lane) = get_or lanes lane no_values
 
--- and what all of them are
+-- the slots that follow from some lanes
 abbrev pub slots_in : List SlotPart → List SlotState → List SlotState
 slots_in parts lanes = map (slot_in lanes) parts
 
@@ -22,7 +22,7 @@ slots_in parts lanes = map (slot_in lanes) parts
 abbrev pub lanes_of : Layout → List SlotState → List SlotState
 lanes_of layout slots = map (λ at. get_or slots at no_values) (take layout.width layout.kept)
 
--- slots that are told by their lanes
+-- slots that follow from their lanes
 abbrev pub Fits : Layout → List SlotState → Type 0
 Fits layout slots = slots_in layout.parts (lanes_of layout slots) ≡ slots
 

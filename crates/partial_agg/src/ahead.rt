@@ -1,9 +1,10 @@
-//! What is known of a block's rows ahead of them: the hashes of their keys, and where the groups of these may stand.
+//! What is known of a block's rows ahead of them: the hashes of their keys, and where the groups of these may lie.
 //!
 //! In a large map a row waits for far memory several times, one after the other: for the slot of its key, for the key
-//! there, and for the state. A look-ahead goes over the block once for each of these, and no read in a turn waits for
-//! another of it, so the waits of many rows pass at once. Where a group stands it only guesses, and each guess is tested
-//! where it is used, so no contract speaks of them. A hash is that of the row's key (`AreHashed`), and is not made again.
+//! itself, and for the state. A look-ahead goes over the block once for each of these, and no read of one pass over the
+//! block waits for another, so the waits of many rows go by at once. It only guesses where a group lies, and each guess
+//! is tested when it is used, so no contract speaks of guesses. A hash is that of the row's key (`AreHashed`), and is
+//! not made again.
 
 ghost use Rattle.std.specs.Prelude.{◌≡◌, ◌+◌, ◌^◌, ◌<◌, ◌≤◌, ℕ, List, IfSome, length};
 ghost use Rattle.csv_rows.specs.Records.{record_at};
@@ -104,7 +105,7 @@ pub(crate) fn clue_or_hash(clue: Option<Clue>, key: &[u8]) -> Clue
     }
 }
 
-/// The hashes of the keys of this many rows, and the last byte of each key, zeros for a row that has none.
+/// The hashes of the keys of this many rows, and the last byte of each key, zeros for a row that has no key.
 fn hashes_of(
     rows: &NearRows<'_>,
     first: u64,
@@ -129,7 +130,7 @@ fn hashes_of(
     hashes
 }
 
-/// The hash of a row's key and the key's last byte, zeros for a row that has none.
+/// The hash of a row's key and the key's last byte, zeros for a row that has no key.
 fn hash_row(buffer: &mut RowBuffer, row: &Record<'_>, width: u32, plan: &BoundPlan) -> (u64, u8)
     requires { HasColumns plan.now width }
     ensures { IsHashOf plan.now width row.now result.0 }

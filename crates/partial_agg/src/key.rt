@@ -1,5 +1,5 @@
 //! A group's key: its encoded columns, at most 248 bytes, in an array, so that a key takes no allocation. Only the
-//! bytes before `len` are the key's; those past it are what stood there before, and no call reads them.
+//! bytes before `len` are the key's; those past it are left over from before, and no call reads them.
 
 ghost use Rattle.std.specs.Prelude.{◌≡◌, ◌≤◌, ◌+◌, ◌++◌, ◌↔◌, [], IsSome, IfSome, IsTrue, length};
 ghost use Rattle.std.specs.Bool.{OnTrue};
@@ -67,14 +67,14 @@ impl GroupKey {
         key
     }
 
-    /// Takes the bytes away.
+    /// Makes it the key of no bytes.
     pub(crate) fn clear(&mut self)
         ensures { self.new ≡ [] }
     {
         self.len = 0;
     }
 
-    /// Adds bytes behind those that are there, if they all fit.
+    /// Adds bytes after those that are there, if they all fit.
     pub(crate) fn push(&mut self, more: &[u8]) -> bool
         ensures fits { IsTrue result ↔ (length self.old + length more.now ≤ LONGEST_KEY) }
         ensures pushed { OnTrue result (self.new ≡ self.old ++ more.now) }

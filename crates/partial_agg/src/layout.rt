@@ -1,10 +1,10 @@
-//! Which slots of a state are kept, and what the others are by them.
+//! Which slots of a state are kept, and how the others follow from them.
 //!
 //! Aggregates of one column mostly have the same slot: a sum, a minimum, a maximum and an average all keep the count,
-//! the sum, the least and the greatest of the column's integers, a count keeps the count alone, and the slots past the
+//! the sum, the least and the greatest of the column's integers, a count keeps only the count, and the slots past the
 //! plan's aggregates have no values. So a layout keeps some slots of a state, its lanes, and says of each of the eight
-//! slots what it is by these. Whether a state is told by its lanes is tested, so that no layout can be wrong: a layout
-//! that is badly chosen costs a new one.
+//! slots how it follows from these. Whether a state follows from its lanes is tested, so that no layout can be wrong: a
+//! badly chosen layout costs a new one.
 
 ghost use Rattle.std.specs.Prelude.{◌≡◌, ◌<◌, ◌≤◌, ◌↔◌, ℕ, List, IsTrue, None, false, drop, get_or, length, slice_get, take};
 ghost use Rattle.par_model.specs.Aggregate.{no_values};
@@ -15,7 +15,7 @@ ghost use Rattle.partial_agg.specs.Values.{slot_of_value, values_state};
 
 use par_model::{Item, ItemKind, NO_VALUES, SlotState};
 
-/// What a slot is by the lanes of its state.
+/// How a slot follows from the lanes of its state.
 #[derive(Clone, Copy, PartialEq, Eq)]
 pub(crate) enum SlotPart {
     /// It has no values.
@@ -29,7 +29,7 @@ pub(crate) enum SlotPart {
 impl SlotPart {
     ghost use Rattle.partial_agg.specs.Lanes.{slot_in};
 
-    /// The slot by these lanes.
+    /// The slot that follows from these lanes.
     fn slot_in(self, lanes: &[SlotState]) -> SlotState
         ensures { result ≡ slot_in lanes.now self }
     {
@@ -41,7 +41,7 @@ impl SlotPart {
     }
 }
 
-/// Which slots are lanes, and what each of the eight slots is by them.
+/// Which slots are lanes, and how each of the eight slots follows from them.
 #[derive(Clone, Copy)]
 pub(crate) struct Layout {
     parts: [SlotPart; 8],
@@ -135,7 +135,7 @@ impl Layout {
         lanes
     }
 
-    /// Whether slots are told by their lanes.
+    /// Whether slots follow from their lanes.
     pub(crate) fn fits(&self, slots: &[SlotState; 8]) -> bool
         ensures { IsTrue result ↔ Fits self.now slots.now }
     {
@@ -147,7 +147,7 @@ impl Layout {
         true
     }
 
-    /// What a slot has to be by the lanes of these slots.
+    /// What a slot has to be, given the lanes of these slots.
     fn told(&self, slots: &[SlotState; 8], part: SlotPart) -> SlotState
         ensures { result ≡ slot_in (lanes_of self.now slots.now) part }
     {
@@ -169,7 +169,7 @@ impl Layout {
         }
     }
 
-    /// Whether the slots of the one row that has these values are told by their lanes.
+    /// Whether the slots of the one row that has these values follow from their lanes.
     pub(crate) fn fits_values(&self, values: &[Option<i64>]) -> bool
         requires { length values.now ≤ 8 }
         ensures { IsTrue result → Fits self.now (values_state values.now).slots }
@@ -182,8 +182,8 @@ impl Layout {
         true
     }
 
-    /// Whether the slots of each row of these items are told by their lanes, whatever its values are: each item takes the
-    /// value that the item of its lane takes, or counts it. Such a row can be read by its lanes alone.
+    /// Whether the slots of each row of these items follow from their lanes, whatever its values are: each item takes
+    /// the value that the item of its lane takes, or counts it. Of such a row only the lanes need to be read.
     pub(crate) fn fits_items(&self, items: &[Item]) -> bool
         requires { length items.now ≤ 8 }
         ensures { IsTrue result → FitsItems self.now items.now }
@@ -196,7 +196,8 @@ impl Layout {
         true
     }
 
-    /// Whether an item's value is what it has to be by the lanes of each row of these items that has readable lanes.
+    /// Whether an item's value is what it has to be, given the lanes, for each row of these items that has readable
+    /// lanes.
     fn tells_item(&self, items: &[Item], part: SlotPart, item: Option<Item>) -> bool
         ensures { IsTrue result → (row : List (List ℕ)) → AreLanesReadable self.now items.now row → IsToldItem self.now items.now row part item }
     {
@@ -219,7 +220,7 @@ impl Layout {
         }
     }
 
-    /// Whether a value's slot is what it has to be by the lanes of the row that has these values.
+    /// Whether a value's slot is what it has to be, given the lanes of the row that has these values.
     fn tells(&self, values: &[Option<i64>], part: SlotPart, value: Option<i64>) -> bool
         ensures { IsTrue result → slot_in (lanes_of self.now (values_state values.now).slots) part ≡ slot_of_value value }
     {
@@ -242,7 +243,7 @@ impl Layout {
     }
 
     /// A layout for states of this one and for these slots too. Slots that differ in no state are one lane, and a slot
-    /// that has had no integers is the count of another lane where their counts never differed.
+    /// that has had no integers is the count of another lane if their counts never differed.
     pub(crate) fn finer(&self, slots: &[SlotState; 8]) -> Layout {
         let mut finer = Layout::none();
         for at in 0..8 {
@@ -260,14 +261,14 @@ impl Layout {
         finer
     }
 
-    /// Whether a slot has had no integers, as far as this layout tells it, nor has one now.
+    /// Whether a slot has had no integers, as far as this layout shows, and has none now.
     fn is_plain(&self, slots: &[SlotState; 8], at: usize) -> bool
         requires { at < 8 }
     {
         !matches!(self.parts[at], SlotPart::Whole(_)) && slots[at] == only_count(slots[at])
     }
 
-    /// Whether a slot has had no values, nor has one now.
+    /// Whether a slot has had no values, and has none now.
     fn is_empty(&self, slots: &[SlotState; 8], at: usize) -> bool
         requires { at < 8 }
     {
@@ -306,7 +307,7 @@ impl Layout {
         SlotPart::Empty
     }
 
-    /// Makes a slot that is nothing by the lanes a lane of its own.
+    /// Makes a slot that doesn't follow from the lanes a lane itself.
     fn open_lane(&mut self, at: usize)
         requires { at < 8 }
     {
@@ -318,7 +319,7 @@ impl Layout {
     }
 }
 
-/// Whether two slots have the same count by the lanes.
+/// Whether the lanes give two slots the same count.
 fn same_count(a: SlotPart, b: SlotPart) -> bool {
     match (a, b) {
         (SlotPart::Empty, SlotPart::Empty) => true,

@@ -1,7 +1,7 @@
 //! Groups where they lie, for a caller that reads each of them once.
 //!
-//! A key is lent, and of a state only the slots are read that the caller asks for, into a state of its own. So nothing is
-//! copied that a plan has no use for.
+//! A key is lent, and of a state only the slots are read that the caller asks for, into a state of the caller's. So
+//! nothing is copied that a plan has no use for.
 
 ghost use Rattle.std.specs.Prelude.{◌≡◌, ◌<◌, ◌≤◌, Some, drop, length, map, slice_get, take};
 ghost use Rattle.par_model.specs.declared.refusal.TheConstants.{LONGEST_KEY};

@@ -47,7 +47,7 @@ use std::marker::Model;
 /// A map from keys to states, in the order of the keys' bytes.
 #[derive(Drop)]
 pub struct GroupMap {
-    /// Each key that came, with its place, also where its group was taken.
+    /// Each key that came, with its place, even if its group was taken.
     keys: KeyTable,
     /// The state of the key at each place.
     states: StateList,
@@ -75,7 +75,7 @@ impl Model for GroupMap {
     ghost invariant = { λ m. IsGrouped m.keys (length m.states) (reverse m.left.items) m.whole m.sorted };
 }
 
-/// Why a block was not added whole: its first refused row, or want of memory.
+/// Why a block was not added whole: its first refused row, or no memory.
 #[derive(Debug, Drop)]
 pub enum BlockAnswer {
     Row { row: u64, cause: u8, item: u32 },
@@ -114,7 +114,7 @@ impl GroupMap {
         self.add_state(hash_of(key), key, state)
     }
 
-    /// The same under the key of these bytes, which are copied only where the key is new.
+    /// Adds a state under the key of these bytes, which are copied only if the key is new.
     pub fn add_bytes(&mut self, key: &[u8], state: &AggState) -> Result<(), AllocError>
         requires { length key.now ≤ LONGEST_KEY }
         ensures ok { OnOk result (self.new ≡ added self.old key.now state.now) }
@@ -123,7 +123,7 @@ impl GroupMap {
         self.add_state(hash_of(key), key, state)
     }
 
-    /// The groups where they lie, in no order that is told. Takes no memory.
+    /// The groups where they lie, in an order that isn't specified. Takes no memory.
     pub fn lent(&self) -> LentGroups<'_>
         ensures { IsPermutation (listed self.now) result }
     {
@@ -179,9 +179,9 @@ impl GroupMap {
         Groups::of_parts(keys, states, left)
     }
 
-    /// Adds the rows of a block in order, but for those that the filter leaves out. A refused row stops it, the first
-    /// of the block, before which the rows up to it were added; want of memory stops it at a row that it names nowhere,
-    /// and the map is then only dropped. Each row is read once; the time for it is that of a look-up.
+    /// Adds the rows of a block in order, but for those that the filter leaves out. It stops at the first refused row
+    /// of the block, after it has added the rows before that one; if memory runs out it stops at a row that it doesn't
+    /// name, and the map can then only be dropped. Each row is read once; the time for it is that of a look-up.
     pub fn add_block(
         &mut self,
         rows: &RowStore,
@@ -193,11 +193,11 @@ impl GroupMap {
         ensures added { OnOk result (self.new ≡ with_rows plan.now self.old (block_rows rows.now block)) }
         ensures accepted { OnOk result (All (IsAccepted plan.now (header_width rows.now)) (block_rows rows.now block)) }
 
-        // From the map of other rows it makes the map of those and the block's.
+        // From the map of other rows it makes the map of those and the block's rows.
         ensures groups { OnOk result ((xs : List (List (List ℕ))) → All (IsAccepted plan.now (header_width rows.now)) xs → length xs + 256 < 2 ^ 64
             → AreGroups plan.now xs self.old → AreGroups plan.now (xs ++ block_rows rows.now block) self.new) }
 
-        // Where it stopped, and what it has added before.
+        // Where it stopped, and what it added before that.
         ensures stopped { IfErr result (Stopped plan.now rows.now block self.old self.new) }
     {
         let last = rows.count();
@@ -218,7 +218,7 @@ impl GroupMap {
         Ok(())
     }
 
-    /// Sees to what is done once for this many rows: the look-ahead, and whether the states fit the plan's rows.
+    /// Does what is done once for this many rows: the look-ahead, and finding whether the states fit the plan's rows.
     fn look_ahead(
         &mut self,
         rows: &NearRows<'_>,
@@ -269,8 +269,8 @@ impl GroupMap {
         }
     }
 
-    /// Adds a row whose key is read and hashed. A row of a group that is there is mostly read by the lanes of its state
-    /// alone.
+    /// Adds a row whose key is read and hashed. A row of a group that is there is mostly read only as far as the lanes
+    /// of its state need.
     fn add_kept(
         &mut self,
         buffer: &mut RowBuffer,
@@ -299,7 +299,7 @@ impl GroupMap {
         }
     }
 
-    /// The same for a row of a group that may not be there.
+    /// Adds a row, whose key is read and hashed, of a group that may not be there.
     fn add_other(
         &mut self,
         buffer: &mut RowBuffer,
@@ -392,8 +392,8 @@ fn read_kept(
     }
 }
 
-/// Adds a row that is kept to the state at a place: mostly by the lanes of the state alone, else by the values of all
-/// aggregates.
+/// Adds a row that is kept to the state at a place: mostly by the values of the state's lanes only, otherwise by those
+/// of all aggregates.
 fn add_to_known(
     states: &mut StateList,
     place: usize,
@@ -430,7 +430,7 @@ fn is_left(left: &[usize], place: usize) -> bool
     left.contains(&place)
 }
 
-/// Puts places in the order of their keys, the greatest first, if they are not in it.
+/// Puts places in the order of their keys, the greatest first, unless they are in it already.
 fn put_in_order(keys: &KeyTable, left: &mut Vec<usize>, sorted: bool)
     ensures permutation { IsPermutation left.old.items left.new.items }
     ensures sorted { sorted ≡ false → IsSorted key_cmp (map_list (key_at keys.now) (reverse left.new.items)) }

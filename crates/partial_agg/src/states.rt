@@ -2,13 +2,13 @@
 //!
 //! A state has eight slots of 48 bytes, of which a plan seldom needs more than one or two (`Layout`). So a list of
 //! states keeps the number of rows of each in one list and its lanes in another, all under one layout. A state that
-//! doesn't fit the layout gets a finer one, and the lanes of all states are laid anew. That happens where a slot gets
-//! its first values or its first integers, or differs for the first time from another: a few dozen times to a list at
-//! most, and mostly within its first rows. A layout that is chosen from the states themselves needs no plan, so the
+//! doesn't fit the layout gets a finer one, and the lanes of all states are laid out anew. That happens when a slot
+//! gets its first values or its first integers, or differs for the first time from another: a few dozen times to a list
+//! at most, and mostly within its first rows. A layout that is chosen from the states themselves needs no plan, so the
 //! states that a leader receives lie as those of its own rows.
 //!
-//! Whether the layout fits the rows of a plan, whatever their values, is found once for a block of rows (`fit`). A row of
-//! such a plan is then added by the columns of its lanes alone, with no test of its own.
+//! Whether the layout fits the rows of a plan, whatever their values, is found once for a block of rows (`fit`). A row
+//! of such a plan is then added by only the columns of its lanes, with no test for each row.
 
 ghost use Rattle.std.specs.Prelude.{◌≡◌, ◌<◌, ◌≤◌, ◌+◌, ◌*◌, ◌++◌, ◌∷◌, [], All, IfOk, IfSome, IsTrue, None, OnErr, OnOk, Some, drop, get_or, length, map, set, slice_get, take};
 ghost use Rattle.std.specs.Bool.{OnFalse, OnTrue};
@@ -104,7 +104,7 @@ impl StateList {
         self.layout.read(lanes, &mut state.slots, count);
     }
 
-    /// Whether a state stands there in which nothing is counted. No row makes one.
+    /// Whether there is a state at this place in which nothing is counted. No row makes one.
     pub(crate) fn is_blank(&self, at: usize) -> bool {
         let lane = at.wrapping_mul(self.layout.width());
         at < self.rows.len()
@@ -112,7 +112,7 @@ impl StateList {
             && self.rows[at].wrapping_add(self.lanes[lane].count) == 0
     }
 
-    /// Puts a state behind the others.
+    /// Puts a state after the others.
     pub(crate) fn push(&mut self, state: &AggState) -> Result<(), AllocError>
         ensures ok { OnOk result (self.new ≡ self.old ++ state.now ∷ []) }
         ensures err { OnErr result (self.new ≡ self.old) }
@@ -141,7 +141,7 @@ impl StateList {
         self.rows.truncate(len);
     }
 
-    /// Puts a state in the place of another.
+    /// Replaces a state by another.
     pub(crate) fn put(&mut self, at: usize, state: &AggState) -> Result<(), AllocError>
         requires { at < length self.old }
         ensures ok { OnOk result (self.new ≡ set self.old at state.now) }
@@ -199,8 +199,8 @@ impl StateList {
         }
     }
 
-    /// Adds a row to the state at a place, if rows of these items are known to fit, and each can read its field; says
-    /// whether it did. Only the columns of the lanes are read.
+    /// Adds a row to the state at a place, if rows of these items are known to fit, and each can read its field;
+    /// returns whether it did. Only the columns of the lanes are read.
     pub(crate) fn add_row(&mut self, at: usize, row: &Record<'_>, items: &[Item]) -> bool
         requires place { at < length self.old }
         requires columns { All (λ item. IsTrue (reads_column item.kind) → item.column < length row.now) items.now }
@@ -268,7 +268,7 @@ fn is_same(a: Item, b: Item) -> bool
     a == b
 }
 
-/// Adds values to as many lanes from a place on, one to each.
+/// Adds values to the lanes from a place on, one to each.
 fn add_each(lanes: &mut [SlotState], first: usize, values: &[Option<i64>])
     requires { first + length values.now ≤ length lanes.old }
     ensures { lanes.new ≡ with_lanes lanes.old first (combined_slots (take (length values.now) (drop first lanes.old)) (map slot_of_value values.now)) }
@@ -294,7 +294,7 @@ fn lanes_at(lanes: &[SlotState], first: usize, width: usize) -> &[SlotState]
     &lanes[first..first + width]
 }
 
-/// Puts lanes in the place of others.
+/// Replaces lanes by others.
 fn put_lanes(lanes: &mut [SlotState], first: usize, new: &[SlotState])
     requires { first + length new.now ≤ length lanes.old }
     ensures { lanes.new ≡ with_lanes lanes.old first new.now }
@@ -329,7 +329,7 @@ fn add_to_lanes(lanes: &mut [SlotState], layout: &Layout, values: &[Option<i64>]
     }
 }
 
-/// Lays the states anew, if these slots don't fit the layout of their lanes, under one that they fit too.
+/// Lays the states out anew, if these slots don't fit the layout of their lanes, under one that they fit too.
 fn make_fit(
     alloc: Global,
     layout: &mut Layout,
