@@ -38,7 +38,7 @@ item_in text =
     else (if length (after_first (λ byte. byte == 58) text) == 0 then None
     else option_map (item_over (after_first (λ byte. byte == 58) text)) (kind_in (before_first (λ byte. byte == 58) text)))
 
--- the values, where all are there
+-- the values, if all are there
 abbrev pub all_some : {A : Type 0} → List (Option A) → Option (List A)
 all_some [] = Some []
 all_some (None ∷ rest) = None
@@ -62,7 +62,7 @@ relation_in text =
     else (if slice_index text 0 == 60 then Some (op.Less, drop 1 text)
     else (if slice_index text 0 == 62 then Some (op.Greater, drop 1 text) else None)))))
 
--- an integer with no space round it
+-- an integer with no space around it
 abbrev pub bare_integer_in : List ℕ → Option ℤ
 bare_integer_in text = if list_any (λ byte. byte == 32) text then None else integer_of text
 

@@ -5,12 +5,12 @@ use Rattle.par_model.specs.Table.{item_text}
 use Rattle.par_model.specs.declared.plan.ItemKind.{ItemKind}
 use Rattle.plan_spec.specs.declared.plan.TheConstants.{MOST_AREA_PAGES, MOST_WORKERS}
 
--- an aggregate has the text of its output column, and the name of a column exactly where it reads one
+-- an aggregate has the text of its output column, and the name of a column exactly if it reads one
 pub record IsItem (kind : ItemKind) (column : Option (List ℕ)) (text : List ℕ) : Type 0 where
   pub text_is : text ≡ item_text (record { kind = kind; column = column })
   pub named : is_some column ≡ reads_column kind
 
--- at most eight columns to group by, one to eight aggregates, and the most workers and pages that words may ask for
+-- at most eight columns to group by, one to eight aggregates, and no more workers and pages than words may ask for
 pub record FitsLimits (groups items workers pages : ℕ) : Type 0 where
   pub groups_fit : groups ≤ 8
   pub some_item : 1 ≤ items

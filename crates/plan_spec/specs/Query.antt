@@ -17,7 +17,7 @@ pub record Query : Type 0 where
 abbrev pub text_of : Option (Bor (List ℕ)) → Option (List ℕ)
 text_of given = option_map (λ s. s.now) given
 
--- the names to group by: none where the option is not given
+-- the names to group by: none if the option is not given
 abbrev pub groups_given : Option (List ℕ) → Option (List (List ℕ))
 groups_given None = Some []
 groups_given (Some text) = names_in text
@@ -32,7 +32,7 @@ abbrev pub filter_given : Option (List ℕ) → Option (Option NamedFilter)
 filter_given None = Some None
 filter_given (Some text) = option_map Some (filter_in text)
 
--- a number up to `most`, and one where the option is not given
+-- a number up to `most`; `missing` if the option is not given
 abbrev pub number_given : ℕ → ℕ → Option (List ℕ) → Option ℕ
 number_given most missing None = Some missing
 number_given most missing (Some text) = number_in most text
@@ -42,7 +42,7 @@ abbrev pub hash_given : Option (List ℕ) → Option Bool
 hash_given None = Some false
 hash_given (Some text) = hash_in text
 
--- the parts of a query, where all are there
+-- the query of its parts, if all are there
 abbrev pub query_by : Option (List (List ℕ)) → Option (List NamedItem) → Option (Option NamedFilter) → Option Bool → Option ℕ → Option ℕ → Option Query
 query_by groups items filter hash workers pages =
     option_and_then (λ g. option_and_then (λ i. option_and_then (λ f. option_and_then (λ h. option_and_then (λ w. option_map (λ p.

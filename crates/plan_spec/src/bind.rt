@@ -19,8 +19,8 @@ pub struct NoColumn {
 }
 
 impl Plan {
-    /// The plan over the columns of the header, the first record. A name stands for the first field
-    /// with its bytes. It takes no memory; the time is that of the names times the header's fields.
+    /// The plan over the columns of the header, the first record. A name means the first field with its bytes. It takes
+    /// no memory; the time is that of the names times the header's fields.
     pub fn bind(&self, rows: &RowStore) -> Result<BoundPlan, NoColumn>
         ensures bound { IfOk result (λ bound. bound ≡ bound_plan (record_at rows.now 0) self.now.plan) }
         ensures whole { OnOk result (missing_name (record_at rows.now 0) self.now.plan ≡ None) }
@@ -111,7 +111,7 @@ fn bind_items(items: &[PlanItem], rows: &RowStore) -> Result<([Item; 8], u32), u
     Ok((bound, named))
 }
 
-/// An aggregate over its column, with how many columns it has, or none where its name is no field.
+/// An aggregate over its column, with how many columns it has, or none if its name is no field.
 fn bind_item(item: &PlanItem, rows: &RowStore) -> Option<(Item, u32)>
     ensures item { IfSome result (λ r. r.0 ≡ bound_item (record_at rows.now 0) item.now) }
     ensures no_column { IfSome result (λ r. r.0.kind ≡ ItemKind.Rows → r.0.column ≡ 0) }
@@ -131,7 +131,7 @@ fn bind_item(item: &PlanItem, rows: &RowStore) -> Option<(Item, u32)>
     }
 }
 
-/// The filter over its column, or none where its name is no field.
+/// The filter over its column, or none if its name is no field.
 fn bind_filter(filter: &Option<PlanFilter>, rows: &RowStore) -> Option<Option<Filter>>
     ensures filter { IfSome result (λ f. f ≡ option_map (bound_filter (record_at rows.now 0)) filter.now) }
     ensures below { IfSome result (λ f. ForSome f (λ filter. filter.column < length (record_at rows.now 0))) }

@@ -190,7 +190,7 @@ pub(crate) fn filter(alloc: Global, text: &str) -> Result<PlanFilter, PlanAnswer
     }
 }
 
-/// Where the first relation stands, or the end.
+/// Where the first relation is, or the end of the text.
 fn relation_place(bytes: &[u8]) -> usize
     ensures place { result ≡ position_or_len is_relation_byte bytes.now }
     ensures within { result ≤ length bytes.now }
@@ -216,7 +216,7 @@ fn comparison(bytes: &[u8]) -> Option<(FilterOp, i64)>
     Some((op, value))
 }
 
-/// Reads a relation. Answers what comes after it too.
+/// Reads a relation. Returns it and what comes after it.
 fn relation(bytes: &[u8]) -> Option<(FilterOp, &[u8])>
     ensures { option_map (λ found. (found.0, found.1.now)) result ≡ relation_in bytes.now }
 {

@@ -55,7 +55,7 @@ fn merge_plan(alloc: Global, columns: &str, workers: &str) -> Result<Plan, PlanA
     })
 }
 
-/// The number of rows alone.
+/// The list of one aggregate, which counts rows.
 fn row_counts(alloc: Global) -> Result<Vec<PlanItem>, AllocError>
     ensures { IfOk result (λ items. items.items ≡ row_count ∷ []) }
 {

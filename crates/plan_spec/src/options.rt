@@ -1,7 +1,7 @@
 //! The options of a command line, through the crate `clap`.
 //!
-//! `clap` states what its parse gives as a function of the command and the words, so which words are
-//! a command line, and what each option was given, is named by that function alone.
+//! `clap` states what its parse gives as a function of the command and the words, so which words are a command line,
+//! and what each option was given, is said only in terms of that function.
 
 ghost use Rattle.std.specs.Prelude.{◌≡◌, IfOk, OnOk, codes, map, option_map, false, true, string_bytes};
 ghost use Rattle.clap.specs.Words.{app_of, found_of, matches_of, rows_of, with_rule};
@@ -18,7 +18,7 @@ use std::alloc::{AllocError, Global};
 pub(crate) struct OptionValues<'a> {
     pub(crate) group: Option<&'a str>,
     pub(crate) agg: Option<&'a str>,
-    /// Of `--where`.
+    /// The value of `--where`.
     pub(crate) filter: Option<&'a str>,
     pub(crate) workers: Option<&'a str>,
     pub(crate) plan: Option<&'a str>,

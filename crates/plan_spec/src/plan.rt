@@ -14,7 +14,7 @@ pub const MOST_WORKERS: u32 = 64;
 /// The most pages that words may ask for.
 pub const MOST_AREA_PAGES: u32 = 65_536;
 
-/// Why words gave no plan: they are none, or memory ran out.
+/// Why words gave no plan: they aren't those of one, or memory ran out.
 #[derive(Debug, Drop)]
 pub enum PlanAnswer {
     Usage,

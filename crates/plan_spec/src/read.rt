@@ -9,10 +9,10 @@ use crate::options::{OptionValues, option_values};
 use crate::plan::{MOST_AREA_PAGES, MOST_WORKERS, Plan, PlanAnswer, PlanFilter, PlanItem};
 use std::alloc::Global;
 
-/// The workers where words ask for none.
+/// The number of workers if the words ask for none.
 const WORKERS: u32 = 2;
 
-/// The pages where words ask for none.
+/// The number of pages if the words ask for none.
 const AREA_PAGES: u32 = 2_048;
 
 impl Plan {

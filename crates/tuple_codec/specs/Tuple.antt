@@ -13,11 +13,11 @@ use Rattle.par_model.specs.Refuse.{longest_key}
 unfoldable pub word : ℕ → List ℕ
 word n = to_le_bytes w64 n
 
--- a signed one, in two's complement
+-- a signed number in 8 bytes, in two's complement
 abbrev pub signed_word : ℤ → List ℕ
 signed_word z = word (cast_unsigned w64 z)
 
--- one of 128 bits, as its low and its high word
+-- a signed number of 128 bits, as its low and its high word
 abbrev pub sum_bytes : ℤ → List ℕ
 sum_bytes z = word (cast_unsigned w128 z % 2 ^ 64) ++ word (cast_unsigned w128 z / 2 ^ 64)
 

@@ -42,8 +42,8 @@ pub fn decode(bytes: &[u8]) -> Result<(GroupKey, AggState), TupleRead>
     }
 }
 
-/// The same with the key where it lies in the bytes, and the state in place of one that is there, so that nothing is
-/// copied. Bytes that are no tuple leave that as it was.
+/// The group whose tuple these bytes are: its key where it lies in the bytes, and its state, which replaces the one in
+/// `state`, so that nothing is copied. Bytes that are no tuple leave `state` as it was.
 pub fn decode_into<'a>(bytes: &'a [u8], state: &mut AggState) -> Result<&'a [u8], TupleRead>
     ensures tuple { IfOk result (λ key. (slots : ℕ) × IsTuple key.now state.new slots × (tuple_bytes key.now state.new slots ≡ bytes.now)) }
     ensures written { (key : List ℕ) (now : AggState) (slots : ℕ) → IsTuple key now slots → bytes.now ≡ tuple_bytes key now slots

@@ -12,7 +12,7 @@ use partial_agg::GroupKey;
 /// The bytes of the longest tuple, with the longest key and eight slots.
 pub const TUPLE_BYTES: usize = 581;
 
-/// A tuple: the first `len` bytes. Those behind them tell nothing.
+/// A tuple: the first `len` bytes. Those after them mean nothing.
 #[derive(Debug, Drop)]
 pub struct Tuple {
     pub bytes: [u8; TUPLE_BYTES],
@@ -20,7 +20,7 @@ pub struct Tuple {
 }
 
 impl Tuple {
-    /// No bytes.
+    /// A tuple of no bytes yet.
     pub fn new() -> Tuple
         ensures { result.len ≡ 0 }
     {
@@ -44,7 +44,7 @@ pub fn encode(key: &GroupKey, state: &AggState, slots: u32) -> Tuple
     tuple
 }
 
-/// The same into a tuple that is there, in place of its bytes, for the key of these bytes. So one who sends many tuples
+/// Replaces the bytes of `tuple` by the tuple of a state and the key of these bytes. So a caller that sends many tuples
 /// fills the same memory again.
 pub fn encode_into(tuple: &mut Tuple, key: &[u8], state: &AggState, slots: u32)
     requires key { length key.now ≤ LONGEST_KEY }
@@ -62,7 +62,7 @@ pub fn encode_into(tuple: &mut Tuple, key: &[u8], state: &AggState, slots: u32)
     push_slots(tuple, &state.slots, slots as usize);
 }
 
-/// Adds bytes behind those that are there.
+/// Adds bytes after those that are there.
 fn push(tuple: &mut Tuple, part: &[u8])
     requires { tuple.old.len + length part.now ≤ TUPLE_BYTES }
     ensures bytes { take tuple.new.len tuple.new.bytes ≡ take tuple.old.len tuple.old.bytes ++ part.now }
