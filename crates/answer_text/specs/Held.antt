@@ -8,8 +8,8 @@ pub record Waiting : Type 0 where
   pub bytes : List ℕ
   pub is_broken : Bool
 
--- A text was put behind what waited: this many of these bytes went on to the sink, and the others wait, unless a write
--- failed. After that nothing goes on
+-- a text was put after what waited: this many of these bytes went on to the sink, and the others wait, unless a write
+-- failed; after that nothing goes on
 pub record Puts {O : Type 0} (taken : O → Option (List ℕ)) (faults : O → ℕ) (old new : O) (before after : Waiting) (text : List ℕ) : Type 0 where
   pub count : ℕ
   pub gone : Appends (taken old) (taken new) (take count (before.bytes ++ text))

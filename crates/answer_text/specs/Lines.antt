@@ -12,6 +12,6 @@ statuses = TABLE ∷ REFUSED ∷ MISUSED ∷ READ_FAULT ∷ WRITE_FAULT ∷ NO_M
 abbrev pub line : List ℕ → List ℕ
 line text = codes "pargather: " ++ (text ++ 10 ∷ [])
 
--- a sink was given a line, or a prefix of it where its faults rose
+-- a sink was given a line, or a prefix of it if its faults rose
 abbrev pub IsSaid : Option (List ℕ) → Option (List ℕ) → ℕ → ℕ → List ℕ → Type 0
 IsSaid old new before now said = Appends old new said ⊎ (Rose before now × (n : ℕ) × Appends old new (take n said))

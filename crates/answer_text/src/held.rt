@@ -1,6 +1,6 @@
-//! Bytes on their way to a sink: small pieces wait in a buffer, and go on together. Its memory is taken when it is made,
-//! so what was begun is never broken off for want of memory. A write that fails is kept in mind, and nothing goes on
-//! after it, so one who puts many pieces may ask at the end.
+//! Bytes on their way to a sink: small pieces wait in a buffer, and go on together. Its memory is taken when it is
+//! made, so what was begun is never broken off because memory runs out. A failed write is remembered, and nothing goes
+//! on after it, so a caller that puts many pieces may ask at the end.
 
 ghost use Rattle.std.specs.Prelude.{◌≡◌, ◌++◌, [], IfOk, false, length, true};
 ghost use Rattle.answer_text.specs.Held.{Puts};
@@ -29,7 +29,7 @@ impl Model for Held {
 }
 
 impl Held {
-    /// None wait. It takes the memory.
+    /// A buffer in which no bytes wait. It takes the memory.
     pub fn new(alloc: Global) -> Result<Held, AllocError>
         ensures empty { IfOk result (λ held. held.bytes ≡ []) }
         ensures whole { IfOk result (λ held. held.is_broken ≡ false) }
@@ -49,7 +49,7 @@ impl Held {
         self.is_broken
     }
 
-    /// Puts a piece behind those that wait, or writes them and it where there is no room.
+    /// Puts a piece after the bytes that wait, or writes them and the piece if there is no room.
     pub fn put<O: Sink>(&mut self, out: &mut O, piece: &[u8])
         ensures { Puts O.taken O.faults out.old out.new self.old self.new piece.now }
     {
@@ -59,7 +59,7 @@ impl Held {
         }
     }
 
-    /// Writes what waits.
+    /// Writes the bytes that wait.
     pub fn pass_on<O: Sink>(&mut self, out: &mut O)
         ensures puts { Puts O.taken O.faults out.old out.new self.old self.new [] }
         ensures none { self.new.is_broken ≡ false → self.new.bytes ≡ [] }
@@ -70,7 +70,7 @@ impl Held {
         }
     }
 
-    /// Writes a piece where none waits.
+    /// Writes a piece when no bytes wait.
     fn write<O: Sink>(&mut self, out: &mut O, piece: &[u8])
         requires { self.old.is_broken ≡ false → self.old.bytes ≡ [] }
         ensures { Puts O.taken O.faults out.old out.new self.old self.new piece.now }
@@ -80,7 +80,7 @@ impl Held {
         }
     }
 
-    /// Keeps a piece where there is room, and tells whether there was.
+    /// Keeps a piece if there is room, and returns whether there was.
     fn keep(&mut self, piece: &[u8]) -> bool
         ensures kept { result ≡ true → self.new.bytes ≡ self.old.bytes ++ piece.now }
         ensures same { result ≡ false → self.new ≡ self.old }

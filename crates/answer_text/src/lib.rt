@@ -2,9 +2,9 @@
 //! the line that says why there is no answer, and the writing of a text in pieces or of records, one by one or by several
 //! threads, to a sink.
 //!
-//! A form knows what stops it, and which text its line has. This crate writes the text as a line, and knows nothing of
-//! where it comes from. Records go through a buffer whose memory is taken beforehand, so an answer that was begun is
-//! never broken off for want of memory.
+//! A form decides what stops it, and which text its line has. This crate writes the text as a line, and knows nothing
+//! of its origin. Records go through a buffer whose memory is taken beforehand, so an answer that was begun is never
+//! broken off because memory runs out.
 
 #![tactic(auto)]
 

@@ -1,8 +1,9 @@
-//! Records that are written by several threads. The list of what stands for them is cut into ranges, and each thread makes
-//! the text of one. The texts go out one behind the other, since the text of records is that of each behind the other. They
-//! are made round by round, a range for each thread, so that never more than the texts of one round wait.
+//! Records that are written by several threads. The list of the items that stand for them is cut into ranges, and each
+//! thread makes the text of one. The texts go out one after the other, since the text of records is that of each one
+//! after the other. They are made round by round, a range for each thread, so that never more than the texts of one
+//! round wait.
 //!
-//! Where there is no memory for a text, the records of its range go out one by one.
+//! If there is no memory for a text, the records of its range go out one by one.
 
 ghost use Rattle.std.specs.Prelude.{◌≡◌, All, IfOk, map};
 ghost use Rattle.par_model.specs.Table.{table_text};
@@ -15,7 +16,7 @@ use par_io::Sink;
 use std::alloc::{AllocError, Global};
 use std::thread::{Threads, map_chunks};
 
-/// What has a record for each item of a list, and can put these.
+/// What has a record for each item of a list, and can put these records.
 pub trait Lines: Sync {
     ghost use Rattle.std.specs.Prelude.{ℕ, List, All, map};
     ghost use Rattle.par_model.specs.Table.{table_text};
@@ -30,7 +31,7 @@ pub trait Lines: Sync {
     /// The record of an item.
     ghost record_of: { Self → Self.Item → List (List ℕ) };
 
-    /// Puts the records of items behind what waits, up to a write that fails.
+    /// Puts the records of items after what waits, up to a write that fails.
     fn put_lines<O: Sink>(&self, held: &mut Held, out: &mut O, items: &[Self::Item])
         requires { All (fits self.now) items.now }
         ensures { Puts O.taken O.faults out.old out.new held.old held.new (table_text (map (record_of self.now) items.now)) };
@@ -42,11 +43,11 @@ const RANGE: usize = 16_384;
 /// The most threads that make text at once.
 const MOST_THREADS: usize = 65;
 
-/// The text of a range, or want of memory.
+/// The text of a range, or no memory.
 type Part = Result<Vec<u8>, AllocError>;
 
-/// Puts the records of items behind what waits, up to a write that fails, with a text that is made by at most this many
-/// threads, the caller's among them. With more than one thread the text of 16,384 records for each of them is kept besides.
+/// Puts the records of items after what waits, up to a write that fails, with a text that is made by at most this many
+/// threads, the caller's among them. With more than one thread the text of 16,384 records for each of them is kept too.
 pub fn put_in_threads<R: Threads + Sync, L: Lines, O: Sink>(
     rt: &R,
     alloc: Global,
@@ -93,7 +94,7 @@ fn put_round<R: Threads + Sync, L: Lines, O: Sink>(
     }
 }
 
-/// The texts of ranges of records, each by a thread of its own where one can be made.
+/// The texts of ranges of records, each by a separate thread if one can be made.
 fn texts_of<R: Threads + Sync, L: Lines>(
     rt: &R,
     alloc: Global,
@@ -129,7 +130,7 @@ fn text_of<L: Lines>(alloc: Global, lines: &L, items: &[L::Item]) -> Part
     Ok(text.into_bytes())
 }
 
-/// The texts of the ranges, one behind the other.
+/// Puts the texts of the ranges, one after the other.
 fn put_parts<L: Lines, O: Sink>(
     held: &mut Held,
     out: &mut O,
@@ -148,7 +149,7 @@ fn put_parts<L: Lines, O: Sink>(
     }
 }
 
-/// The text of a range, or its records one by one where there was no memory for it.
+/// Puts the text of a range, or its records one by one if there was no memory for it.
 fn put_part<L: Lines, O: Sink>(
     held: &mut Held,
     out: &mut O,

@@ -1,11 +1,11 @@
-//! A text in memory: a sink that grows by what it is given, and fails where there is no memory for it.
+//! A text in memory: a sink that grows by what it is given, and fails if there is no memory for it.
 
 ghost use Rattle.std.specs.Prelude.{◌≡◌, []};
 
 use par_io::{Failed, Sink};
 use std::alloc::{AllocError, Global};
 
-/// The bytes that it was given, one behind the other, and how often it failed.
+/// The bytes that it was given, one after the other, and how often it failed.
 #[derive(Drop)]
 pub(crate) struct Text {
     bytes: Vec<u8>,

@@ -9,15 +9,15 @@ use crate::held::Held;
 use csv_rows::Record;
 use par_io::Sink;
 
-/// Puts a record behind what waits.
+/// Puts a record after what waits.
 pub fn put_record<O: Sink>(held: &mut Held, out: &mut O, row: &Record<'_>)
     ensures { Puts O.taken O.faults out.old out.new held.old held.new (row_text default_writer row.now) }
 {
     put_known(held, out, row, false);
 }
 
-/// Whether a record begins with a byte that calls for quotes. It reads where the record lies, and its first byte: whoever
-/// asks this of several records before they are put waits for the memory of all of them at once.
+/// Whether a record begins with a byte that calls for quotes. It reads where the record lies, and its first byte: a
+/// caller that asks this of several records before it puts them waits for the memory of all of them at once.
 pub fn begins_special(row: &Record<'_>) -> bool
     ensures { result ≡ true → BeginsSpecial row.now }
 {
@@ -33,14 +33,15 @@ pub fn put_known<O: Sink>(held: &mut Held, out: &mut O, row: &Record<'_>, begins
     held.put(out, row_end(row));
 }
 
-/// The fields of a record, with the commas between them.
+/// Puts the fields of a record, with the commas between them.
 pub fn put_fields<O: Sink>(held: &mut Held, out: &mut O, row: &Record<'_>)
     ensures { Puts O.taken O.faults out.old out.new held.old held.new (row_body default_writer row.now) }
 {
     put_known_fields(held, out, row, false);
 }
 
-/// The same, where it may be known that the record begins with a byte that calls for quotes.
+/// Puts the fields of a record, with the commas between them; `begins` says that the record is known to begin with a
+/// byte that calls for quotes.
 fn put_known_fields<O: Sink>(held: &mut Held, out: &mut O, row: &Record<'_>, begins: bool)
     requires known { begins ≡ true → BeginsSpecial row.now }
     ensures { Puts O.taken O.faults out.old out.new held.old held.new (row_body default_writer row.now) }
@@ -51,7 +52,7 @@ fn put_known_fields<O: Sink>(held: &mut Held, out: &mut O, row: &Record<'_>, beg
     }
 }
 
-/// What is known of the field at a place, where something is known of the first.
+/// Whether the field at a place is known to begin with a byte that calls for quotes: the first is, if `begins`.
 fn is_first(at: u32, begins: bool) -> bool
     ensures { result ≡ true → (at ≡ 0) × (begins ≡ true) }
 {
@@ -83,7 +84,7 @@ fn is_blank(row: &Record<'_>) -> bool
     width == 0 || row.field(0).is_empty()
 }
 
-/// Puts a field, in quotes where it needs them, as may be known.
+/// Puts a field, in quotes if it calls for them; `special` says that it is known to.
 fn put_field<O: Sink>(held: &mut Held, out: &mut O, field: &[u8], special: bool)
     requires known { special ≡ true → needs_quotes default_writer field.now ≡ true }
     ensures { Puts O.taken O.faults out.old out.new held.old held.new (field_text default_writer field.now) }
@@ -97,7 +98,7 @@ fn put_field<O: Sink>(held: &mut Held, out: &mut O, field: &[u8], special: bool)
     }
 }
 
-/// Whether a field calls for quotes, as may be known.
+/// Whether a field calls for quotes; `special` says that it is known to.
 fn is_quoted(field: &[u8], special: bool) -> bool
     requires known { special ≡ true → needs_quotes default_writer field.now ≡ true }
     ensures { result ≡ needs_quotes default_writer field.now }

@@ -1,5 +1,5 @@
--- The messages of a worker's error queue as bytes, in the manner of parallel.c: the first byte tells the kind, and the
--- numbers after it stand lowest byte first.
+-- The messages of a worker's error queue as bytes, in the manner of parallel.c: the first byte gives the kind, and each
+-- number after it is stored lowest byte first.
 use Rattle.std.specs.Prelude.{◌<◌, ◌^◌, ◌==◌, if◌then◌else◌, ℕ, List, [], ◌∷◌, ◌++◌, length, Option, Some, None}
 use Rattle.std.specs.Int.{w32, w64, to_le_bytes}
 use Rattle.error_queue.specs.declared.ErrorMessage.{ErrorMessage}
@@ -18,7 +18,7 @@ end_tag = 88
 abbrev pub row_bytes : List ℕ → ℕ → List ℕ → List ℕ
 row_bytes row cause item = (row_tag ∷ (row ++ cause ∷ [])) ++ item
 
--- a message as bytes: `E`, the row in 8 bytes, the cause in one and the item in 4; or `X` alone
+-- a message as bytes: `E`, the row in 8 bytes, the cause in one and the item in 4; or only `X`
 abbrev pub encoding : ErrorMessage → List ℕ
 encoding (message.Row row cause item) = row_bytes (to_le_bytes w64 row) cause (to_le_bytes w32 item)
 encoding message.End = end_tag ∷ []
@@ -39,7 +39,7 @@ end_length = 1
 abbrev pub length_refusal : ℕ → ℕ → Option ErrorRead
 length_refusal wanted found = if found == wanted then None else Some (refused.Length found)
 
--- why bytes are no message: no byte, a first byte that is no kind, another length than the kind's
+-- why bytes are no message: no byte, a first byte that is no kind, a length that is not the kind's
 abbrev pub refusal : List ℕ → Option ErrorRead
 refusal [] = Some (refused.Length 0)
 refusal (tag ∷ rest) =

@@ -1,7 +1,7 @@
 //! What a worker says on its error queue: the row that it was refused, or that it ended in order.
 //!
-//! A message is a few bytes whose first byte tells its kind, as in PostgreSQL's parallel workers: `E` for an error, `X`
-//! for the end. The numbers after `E` stand lowest byte first. `encoding` of `specs/Message.antt` is the format;
+//! A message is a few bytes whose first byte gives its kind, as in PostgreSQL's parallel workers: `E` for an error, `X`
+//! for the end. Each number after `E` is stored lowest byte first. `encoding` of `specs/Message.antt` is the format;
 //! `write` and `read` are its two directions, and neither takes memory.
 
 #![tactic(auto)]
@@ -37,8 +37,8 @@ pub enum ErrorRead {
 }
 
 impl ErrorMessage {
-    /// Writes the message to the front of `out` and gives the number of its bytes, [`MESSAGE_BYTES`] or 1. The bytes
-    /// behind them stay.
+    /// Writes the message to the front of `out` and returns the number of its bytes, [`MESSAGE_BYTES`] or 1. The bytes
+    /// after them stay.
     pub fn write(&self, out: &mut [u8; MESSAGE_BYTES]) -> usize
         ensures bytes { take result out.new ≡ encoding self.now }
         ensures length { result ≡ length (encoding self.now) }

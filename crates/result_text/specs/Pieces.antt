@@ -11,7 +11,7 @@ use Rattle.result_text.specs.GroupOrder.{line_of}
 use Rattle.result_text.specs.Text.{line_record}
 use Rattle.result_text.specs.declared.order.GroupRef.{GroupRef}
 
--- the pieces of a text, one behind the other
+-- the pieces of a text, one after the other
 abbrev pub joined : List (Vec ℕ) → List ℕ
 joined pieces = concat (map (λ piece. piece.items) pieces)
 

@@ -1,4 +1,4 @@
--- Groups that have a text: each has a key of its own, and counts and sums as rows give them.
+-- Groups that have a text: no two have the same key, and counts and sums are as rows give them.
 use Rattle.std.specs.Prelude.{◌≡◌, ◌≤◌, ◌*◌, ◌^◌, ℕ, List, All, bytes_eq, length, map, unsigned_abs}
 use Rattle.std.specs.List.{IsDistinct}
 use Rattle.par_model.specs.Key.{encoded}
@@ -23,8 +23,8 @@ pub record IsSmallSlot (slot : SlotState) : Type 0 where
   pub count : slot.count ≤ 2 ^ 50
   pub sum : unsigned_abs slot.sum ≤ 2 ^ 63 * slot.count
 
--- no two groups have one key, each key is the encoding of as many columns as the plan groups by, and the slots are
--- small
+-- no two groups have the same key, each key is the encoding of the plan's number of columns to group by, and the slots
+-- are small
 pub record ArePrintable (plan : Plan) (groups : List Group) : Type 0 where
   pub different : IsDistinct bytes_eq (map (λ group. group.key) groups)
   pub keys : All (λ group. IsKeyOf (length plan.groups) group.key) groups

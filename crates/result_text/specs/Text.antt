@@ -21,7 +21,7 @@ group_of_line line = record { key = encoded line.0; state = line.1 }
 abbrev pub line_record : Plan → Line → List (List ℕ)
 line_record plan line = line.0 ++ values_text plan line.1
 
--- the lines that are shown: all of them, or that of no rows where nothing is grouped by and there is no group
+-- the lines that are shown: all of them, or that of no rows if there is no column to group by and no group
 abbrev pub shown : Plan → List Line → List Line
 shown plan lines = if (length plan.groups == 0) && (length lines == 0) then ([], empty_state) ∷ [] else lines
 

@@ -1,4 +1,4 @@
--- What a writer over memory has written, and when it stands between two records.
+-- What a writer over memory has written, and when it is between two records.
 use Rattle.std.specs.Prelude.{◌≡◌, ◌++◌, ℕ, List, Vec, false}
 use Rattle.csv.specs.Writing.{default_writer, fields_written, has_written, writer_pending, writer_setup, writer_under}
 use Rattle.csv.specs.declared.writer.Writer.{Writer}

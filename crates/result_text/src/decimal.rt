@@ -22,7 +22,7 @@ pub(crate) fn push_average(text: &mut Vec<u8>, sum: i128, count: u64) -> Result<
     Ok(())
 }
 
-/// A minus, where there is one.
+/// A minus sign, if there is one.
 fn push_sign(text: &mut Vec<u8>, minus: bool) -> Result<(), AllocError>
     ensures { OnOk result (text.new.items ≡ text.old.items ++ sign_text minus) }
 {

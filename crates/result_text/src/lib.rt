@@ -1,9 +1,9 @@
 //! The text of the table that answers a query: the header, and a line for each group.
 //!
-//! The groups come in the order of their encoded keys, in which a short column stands before a long one. The table is
-//! in the order of the columns themselves, so a list of references is sorted, column by column, unless all keys have
-//! columns of the same lengths, where the two orders are one. Each line is put
-//! together in one record, whose memory serves for all lines, and the crate `csv` writes it and decides all quotes.
+//! The groups come in the order of their encoded keys, in which a short column comes before a long one. The table is in
+//! the order of the columns themselves, so a list of references is sorted, column by column, unless all keys have
+//! columns of the same lengths: then the two orders are the same. Each line is put together in one record, whose memory
+//! serves for all lines, and the crate `csv` writes it and decides all quotes.
 
 #![tactic(auto)]
 
@@ -38,8 +38,8 @@ use std::alloc::{AllocError, Global};
 use std::thread::Threads;
 
 /// The text of the table of some groups, under the plan that they were made by and its columns. The groups are only
-/// read. An error is want of memory. It takes memory for the text and 24 bytes a group; the time is that of the text,
-/// and of n log n comparisons of the keys of n groups.
+/// read. An error means that memory ran out. It takes memory for the text and 24 bytes a group; the time is that of the
+/// text, and of n log n comparisons of the keys of n groups.
 pub fn text_of(
     alloc: Global,
     plan: &Plan,
@@ -50,7 +50,7 @@ pub fn text_of(
     requires printable { ArePrintable bound.now groups.now }
     ensures text { IfOk result (λ text. IsTextOf plan.now.plan bound.now groups.now text.items) }
 
-    // Where the groups are those of some rows under a header, the text answers the plan over them.
+    // If the groups are those of some rows under a header, the text answers the plan over them.
     ensures answer { IfOk result (λ text. (header : List (List ℕ)) (rows : List (List (List ℕ))) (m : GroupsByKey)
         → bound.now ≡ bound_plan header plan.now.plan → AreGroups bound.now rows m → groups.now ≡ listed m → IsAnswer plan.now.plan (header ∷ rows) text.items) }
 {
@@ -61,8 +61,8 @@ pub fn text_of(
     table.into_text()
 }
 
-/// The same text in pieces, one behind the other, made by at most this many threads, the caller's among them. It takes
-/// the memory that [`text_of`] takes; the text is never in one list. The lines are shared out, not the sort.
+/// The text of [`text_of`] in pieces, one after the other, made by at most this many threads, the caller's among them.
+/// It takes the memory that [`text_of`] takes; the text is never in one list. The lines are shared out, not the sort.
 pub fn text_in_threads<R: Threads + Sync>(
     rt: &R,
     alloc: Global,
@@ -75,7 +75,7 @@ pub fn text_in_threads<R: Threads + Sync>(
     requires printable { ArePrintable bound.now groups.now }
     ensures text { IfOk result (λ pieces. IsTextOf plan.now.plan bound.now groups.now (joined pieces.items)) }
 
-    // Where the groups are those of some rows under a header, the text answers the plan over them.
+    // If the groups are those of some rows under a header, the text answers the plan over them.
     ensures answer { IfOk result (λ pieces. (header : List (List ℕ)) (rows : List (List (List ℕ))) (m : GroupsByKey)
         → bound.now ≡ bound_plan header plan.now.plan → AreGroups bound.now rows m → groups.now ≡ listed m → IsAnswer plan.now.plan (header ∷ rows) (joined pieces.items)) }
 {
@@ -95,7 +95,7 @@ pub fn text_in_threads<R: Threads + Sync>(
 /// The fewest groups for which one more thread pays.
 const FEWEST_GROUPS: usize = 2048;
 
-/// The line of a table's header alone.
+/// Only the line of a table's header.
 pub fn header_text(alloc: Global, plan: &Plan, bound: &BoundPlan) -> Result<Vec<u8>, AllocError>
     requires bound { IsBoundFrom plan.now.plan bound.now }
     ensures { IfOk result (λ text. text.items ≡ row_text default_writer (table_header plan.now.plan)) }

@@ -22,8 +22,8 @@ pub(crate) struct GroupRef<'a> {
     pub(crate) at: usize,
 }
 
-/// The groups in order of their keys, which have this many columns. It takes 24 bytes a group. Where all keys have
-/// columns of the same lengths, that is the order in which they are listed.
+/// The groups in order of their keys, which have this many columns. It takes 24 bytes a group. If all keys have columns
+/// of the same lengths, that is the order in which they are listed.
 pub(crate) fn in_order<'a>(
     alloc: Global,
     groups: &'a Groups,
@@ -94,7 +94,8 @@ fn is_alike(a: &[u8], b: &[u8], columns: u32) -> bool
     true
 }
 
-/// How two keys compare by this many columns, one after another and each byte by byte, as the lines of a table stand.
+/// How two keys compare by this many columns, one after another and each byte by byte, as the lines of a table are
+/// ordered.
 pub fn compare_columns(a: &[u8], b: &[u8], columns: u32) -> Ordering
     ensures { result ≡ columns_cmp (columns_in columns a.now) (columns_in columns b.now) }
 {

@@ -1,6 +1,6 @@
-//! The lines of a table by several threads: the order of the groups is cut into ranges, and each thread writes the lines
-//! of one with a writer of its own. The texts one behind the other are that of all lines, since the text of a table is
-//! that of its records one behind the other.
+//! The lines of a table by several threads: the order of the groups is cut into ranges, and each thread writes the
+//! lines of one with a separate writer. The texts one after the other are that of all lines, since the text of a table
+//! is that of its records one after the other.
 
 ghost use Rattle.std.specs.Prelude.{◌≡◌, ◌∷◌, ◌<◌, All, IfOk, Ok, length, map};
 ghost use Rattle.result_text.specs.Pieces.{AreParts, lines_text};
@@ -13,7 +13,7 @@ use partial_agg::Groups;
 use std::alloc::{AllocError, Global};
 use std::thread::{Threads, map_chunks};
 
-/// The text of a range of groups, or want of memory.
+/// The text of a range of groups, or no memory.
 pub type Part = Result<Vec<u8>, AllocError>;
 
 /// The texts of the lines of the groups, by at most this many threads, and at least one.
@@ -55,7 +55,7 @@ pub(crate) fn lines_of(
     table.into_text()
 }
 
-/// The texts behind a first one, if there was memory for all of them.
+/// A first text and the texts of the parts after it, if there was memory for all of them.
 pub fn behind(alloc: Global, first: Vec<u8>, parts: Vec<Part>) -> Result<Vec<Vec<u8>>, AllocError>
     ensures { IfOk result (λ pieces. map Ok pieces.items ≡ Ok first ∷ parts.items) }
 {

@@ -1,6 +1,6 @@
 //! The lines of a table, one after the other, as the crate `csv` writes them.
 //!
-//! Between two lines the writer has no field of a record (`IsBetween`). After an error the lines are only dropped.
+//! Between two lines the writer has no field of a record (`IsBetween`). After an error the lines can only be dropped.
 
 ghost use Rattle.std.specs.Prelude.{◌≡◌, ◌<◌, ◌++◌, [], All, IfOk, OnOk, length, map};
 ghost use Rattle.csv.specs.Records.{fields_of};
@@ -20,8 +20,8 @@ use partial_agg::{Groups, empty};
 use plan_spec::Plan;
 use std::alloc::{AllocError, Global};
 
-/// A table as far as it is written. The record and the text of an average are filled anew for each line, in the same
-/// memory.
+/// A table of which some lines are written. The record and the text of an average are filled anew for each line, in the
+/// same memory.
 #[derive(Drop)]
 pub(crate) struct TableWriter {
     writer: Writer<Vec<u8>>,
@@ -54,7 +54,7 @@ impl TableWriter {
         self.write_record()
     }
 
-    /// The lines of the groups in this order, or that of no rows where nothing is grouped by and there is no group.
+    /// The lines of the groups in this order, or that of no rows if there is no column to group by and no group.
     pub(crate) fn write_groups(
         &mut self,
         bound: &BoundPlan,
@@ -111,7 +111,7 @@ impl TableWriter {
         self.write_record()
     }
 
-    /// Writes the record. Over memory nothing but want of memory can fail, since all lines have as many fields.
+    /// Writes the record. Over memory it fails only if memory runs out, since all lines have the same number of fields.
     fn write_record(&mut self) -> Result<(), AllocError>
         requires { IsBetween self.old.writer }
         ensures text { OnOk result (written self.new.writer ≡ written self.old.writer ++ row_text default_writer (fields_of self.old.row)) }

@@ -85,7 +85,7 @@ pub(crate) fn push_values(
     Ok(())
 }
 
-/// The value of one aggregate, or an empty field where it is null.
+/// The value of one aggregate, or an empty field if it is null.
 fn push_value(
     row: &mut ByteRecord,
     average: &mut Vec<u8>,
