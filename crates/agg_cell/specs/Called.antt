@@ -1,4 +1,4 @@
--- What stands under a key of a table after its calls: the called states, all combined.
+-- The state under a key of a table after its calls: the called states, all combined.
 use Rattle.std.specs.Prelude.{◌≡◌, ◌<◌, ◌≤◌, ◌^◌, ◌++◌, ℕ, zero, suc, List, [], ◌∷◌, All, Option, Some, None, fold, length, map, slice_index_or, sum_by}
 use Rattle.std.specs.FinMap as fin
 use Rattle.std.specs.List.{filter_map, flat_map}
@@ -33,7 +33,7 @@ all_combined (state ∷ states) = Some (fold combined state states)
 abbrev pub History : Type 0
 History = List (Entry (PartitionState AggState) (PartitionCalls AggState) (PartitionReplies AggState (Unit {0})))
 
--- the states with which a key was called there, in order, where the call was made
+-- the states of the calls of a key that were made there, in order
 abbrev pub called : List ℕ → History → List AggState
 called key es = map (λ made. made.0) (calls_of_key key es)
 
@@ -41,24 +41,25 @@ called key es = map (λ made. made.0) (calls_of_key key es)
 abbrev pub Seen : Type 0
 Seen = Histories (PartitionState AggState) (PartitionCalls AggState) (PartitionReplies AggState (Unit {0}))
 
--- what stands under a key after all that a pass has seen, and with what it has seen the key called
+-- the state under a key after all that a pass has seen
 abbrev pub stands : Seen → List ℕ → Option AggState
 stands seen key = fin.get (map_at seen (partition_of (hash_of key))) key
 
--- with what a pass has seen a key called
+-- the states with which a pass has seen a key called, in order
 abbrev pub called_in : Seen → List ℕ → List AggState
 called_in seen key = called key (seen (partition_of (hash_of key)))
 
--- In each legal history of a partition, what stands under a key at last is all that it was called with
+-- In each legal history of a partition, what a key has at last is all that it was called with, combined
 abbrev pub CellsCombine : Type 0
 CellsCombine = (number : ℕ) (key : List ℕ) (es : History) → IsLegal (λ _. PartitionLegal stepped number) fresh es → fin.get (last_of fresh es).cells key ≡ all_combined (called key es)
 
--- with what the callers below a number have called a key: each caller's calls in order, one caller behind the other
+-- the states with which the callers below a number have called a key: each caller's calls in order, one caller after
+-- the other
 abbrev pub called_below : ℕ → List ℕ → History → List AggState
 called_below zero key es = []
 called_below (suc n) key es = called_below n key es ++ called key (calls_by n es)
 
--- What a key was called with are the calls of all callers, each once
+-- The states with which a key was called are those of the calls of all callers, each once
 abbrev pub CallersMakeAll : Type 0
 CallersMakeAll = (callers : ℕ) (key : List ℕ) (es : History) → ((n : ℕ) → callers ≤ n → calls_by n es ≡ []) → IsPermutation (called_below callers key es) (called key es)
 
@@ -66,7 +67,7 @@ CallersMakeAll = (callers : ℕ) (key : List ℕ) (es : History) → ((n : ℕ) 
 abbrev pub count_at : ℕ → AggState → ℕ
 count_at i state = (slice_index_or state.slots i no_values).count
 
--- the values of each slot of all states are no more than a machine number counts
+-- the values of each slot, over all states, are no more than a machine number can count
 abbrev pub CountsFit : List AggState → Type 0
 CountsFit states = (i : ℕ) → sum_by (count_at i) states < 2 ^ 64
 
@@ -78,7 +79,7 @@ AnyOrder = (xs ys : List AggState) → All IsSettled xs → CountsFit xs → IsP
 abbrev pub PartsCombine : Type 0
 PartsCombine = (xs ys : List AggState) → CountsFit (xs ++ ys) → all_combined (xs ++ ys) ≡ both (all_combined xs) (all_combined ys)
 
--- the rows of all parts, one part behind the other
+-- the rows of all parts, one part after the other
 abbrev pub all_rows : List (List (List (List ℕ))) → List (List (List ℕ))
 all_rows parts = flat_map (λ rows. rows) parts
 
@@ -86,7 +87,7 @@ all_rows parts = flat_map (λ rows. rows) parts
 abbrev pub groups_in : Plan → List (List (List (List ℕ))) → List ℕ → List AggState
 groups_in plan parts key = filter_map (λ rows. group_of plan rows key) parts
 
--- The aggregates of a key in parts of the rows, all combined in whatever order, are those of all rows
+-- The aggregates of a key in parts of the rows, all combined in any order, are those of all rows
 abbrev pub GroupsCombine : Type 0
 GroupsCombine = (plan : Plan) (width : ℕ) (parts : List (List (List (List ℕ)))) (key : List ℕ) (states : List AggState) → length plan.items ≤ 8 → All (IsAccepted plan width) (all_rows parts) → length (all_rows parts) < 2 ^ 64
     → IsPermutation (groups_in plan parts key) states → all_combined states ≡ group_of plan (all_rows parts) key

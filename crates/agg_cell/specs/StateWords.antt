@@ -1,5 +1,5 @@
--- How a state stands in the words of a cell: the number of rows, then of each slot the count, the sum in two words, the
--- least and the greatest value.
+-- How a state is stored in the words of a cell: the number of rows, then of each slot the count, the sum in two words,
+-- the least and the greatest value.
 use Rattle.std.specs.Prelude.{◌≡◌, ◌<◌, ◌+◌, ◌*◌, ◌/◌, ◌%◌, ◌^◌, ℕ, ℤ, List, [], ◌∷◌, FitsSigned, length, map, slice_index}
 use Rattle.std.specs.Int.{cast_signed, cast_unsigned, w64, w128}
 use Rattle.std.specs.List.{AllByRecursion, concat, range_with_len}
@@ -7,7 +7,7 @@ use Rattle.par_model.specs.declared.state.AggState.{AggState}
 use Rattle.par_model.specs.declared.state.SlotState.{SlotState}
 use Rattle.agg_cell.specs.declared.words.TheConstants.{FIRST_SLOT, SLOT_WORDS}
 
--- the words of a slot; signed numbers stand in two's complement, one of 128 bits as its low and its high word
+-- the words of a slot; signed numbers are in two's complement, one of 128 bits as its low and its high word
 abbrev pub slot_words : SlotState → List ℕ
 slot_words slot = slot.count ∷ cast_unsigned w128 slot.sum % 2 ^ 64 ∷ cast_unsigned w128 slot.sum / 2 ^ 64 ∷ cast_unsigned w64 slot.least ∷ cast_unsigned w64 slot.greatest ∷ []
 

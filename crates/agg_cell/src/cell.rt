@@ -5,8 +5,8 @@ use dshash_core::CellObject;
 use par_model::AggState;
 use partial_agg::combine;
 
-/// The state of a group. A call has a state of other rows of the group, which is combined into the cell; where there is
-/// no cell, it becomes the cell's state. There is nothing to reply.
+/// The state of a group. A call has a state of other rows of the group, which is combined into the cell; if there is no
+/// cell, it becomes the cell's state. There is nothing to reply.
 pub struct AggObject;
 
 impl CellObject for AggObject {

@@ -1,6 +1,6 @@
-//! How a state stands in the words of a cell.
+//! How a state is stored in the words of a cell.
 //!
-//! Word 0 is the number of rows. Behind it stand the eight slots, five words each: the count, the low and the high word
+//! Word 0 is the number of rows. After it come the eight slots, five words each: the count, the low and the high word
 //! of the sum, the least and the greatest value. Signed numbers are in two's complement.
 
 ghost use Rattle.std.specs.Prelude.{◌≡◌, ◌+◌, ◌*◌, ◌≤◌, length, map};
@@ -28,7 +28,7 @@ pub(crate) fn write_state(state: &AggState, words: &mut [u64])
     write_slots(&state.slots, &mut words[FIRST_SLOT..]);
 }
 
-/// Writes slots one behind the other.
+/// Writes slots one after the other.
 fn write_slots(slots: &[SlotState; 8], words: &mut [u64])
     requires { length words.old ≡ 8 * SLOT_WORDS }
     ensures words { words.new ≡ concat (map slot_words slots.now) }

@@ -1,5 +1,5 @@
--- Where the participants put the groups of their blocks into a shared table, or left them, the leader's map, to which
--- what they left and then the table's entries were added, has the groups of one pass over all rows.
+-- If the participants put the groups of their blocks into a shared table, or left them, the leader's map, to which what
+-- they left and then the table's entries were added, has the groups of one pass over all rows.
 use Rattle.std.specs.Prelude.{◌≡◌, ◌≤◌, ◌<◌, ◌+◌, ◌*◌, ◌^◌, ◌++◌, ℕ, List, All, drop, length, map as map_list}
 use Rattle.std.specs.FinMap as map
 use Rattle.std.specs.List.{AllZip, flat_map}
@@ -26,7 +26,7 @@ pub record Shares (plan : Plan) (width : ℕ) (records : Table) (draws : List �
   pub accepted : All (IsAccepted plan width) (rows_of_blocks records draws)
 
 -- What all participants did with their draws, and the leader with its map. The table has what each of them put in, and
--- no more. The map had what they left, in any order, and then what stands in the table was added: so it became `last`
+-- no more. The map had what they left, in any order, and then the table's entries were added: so it became `last`
 pub record IsTabled (plan : Plan) (width : ℕ) (records : Table) (draws : List (List ℕ)) (shares : List Share) (history : Seen) (left : List Group) (last : GroupsByKey) : Type 0 where
   pub shared : AllZip (Shares plan width records) draws shares
   pub table : HoldsAll history (map_list (λ (s : Share). s.put) shares)

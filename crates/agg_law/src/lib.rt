@@ -1,15 +1,15 @@
 //! The law of the plan with a shared table: what the groups that participants put into the table, and those that they
-//! left, come to, whoever drew a block and in whatever order the calls came.
+//! left, come to, no matter which participant drew a block and in which order the calls came.
 //!
-//! It speaks of plain lists and histories alone. A group of a block stands for those rows of the block that have its
-//! key; what stands under a key of the table at last is all that it was called with, combined; and aggregates do not
-//! depend on the order of rows.
+//! It speaks only of plain lists and histories. A group of a block stands for those rows of the block that have its
+//! key; what a key of the table has at last is all that it was called with, combined; and aggregates do not depend on
+//! the order of rows.
 
 #![tactic(auto)]
 
 ghost use Rattle.agg_law.specs.Law.{TableGathers};
 
-/// Where each block was drawn once, each group of a block was put into the table or left, and the leader has added what
+/// If each block was drawn once, each group of a block was put into the table or left, and the leader has added what
 /// was left and then the table's entries to its map, no row is refused and the map is that of one pass over all rows. A
 /// law: it does nothing when it runs.
 pub fn table_gathers()

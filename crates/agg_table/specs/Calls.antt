@@ -38,7 +38,7 @@ pub record Use : Type 0 where
 abbrev pub made_call : List ℕ → AggState → Unit {0} → Group
 made_call key state reply = (key, state)
 
--- the call that an entry is, where it was made
+-- the call of an entry, if it was made
 abbrev pub done_of : AggCall → AggReply → List Group
 done_of call reply = done.done_of made_call call reply
 

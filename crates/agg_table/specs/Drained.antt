@@ -1,4 +1,4 @@
--- What stands in a closed table, and a map to which its entries were added.
+-- The entries of a closed table, and a map to which they were added.
 use Rattle.std.specs.Prelude.{◌≡◌, ◌<◌, ◌≤◌, ℕ, List, [], All, IsTrue, None, Some, fold, length, map as map_list, slice_get}
 use Rattle.std.specs.FinMap as map
 use Rattle.agg_cell.specs.Called.{Seen, stands}
@@ -23,8 +23,8 @@ pub record HoldsAll (history : Seen) (puts : List (List Group)) : Type 0 where
   pub done : (k i : ℕ) (put : List Group) → slice_get puts k ≡ Some put → i < 128 → done_in (calls_by k (history i)) ≡ calls_at i put
   pub no_others : (k i : ℕ) → length puts ≤ k → i < 128 → calls_by k (history i) ≡ []
 
--- What stands under each key of the table was added to the map g once, which gives h: a key has what it had and what
--- stands under it, combined, and a key under which nothing stands has what it had
+-- The state under each key of the table was added to the map g once, which gives h: a key of the table has what it had
+-- in g and that state, combined, and a key that isn't in the table has what it had
 pub record AddsTable (history : Seen) (g h : GroupsByKey) : Type 0 where
   pub each : (key : List ℕ) → AllBytes key → length key ≤ 248 → map.get h key ≡ both (map.get g key) (stands history (packed_key key))
   pub rest : (key : List ℕ) → (AllBytes key → length key ≤ 248 → stands history (packed_key key) ≡ None) → map.get h key ≡ map.get g key
@@ -35,7 +35,7 @@ pub record AddsTable (history : Seen) (g h : GroupsByKey) : Type 0 where
 abbrev pub ArePacked : KeyMap AggState → Type 0
 ArePacked cells = (key : List ℕ) → IsTrue (map.contains_key cells key) → IsPackedKey key
 
--- the same of the keys of one partition alone
+-- as AddsTable, for the keys of one partition only
 pub record AddsCells (cells : KeyMap AggState) (g h : GroupsByKey) : Type 0 where
   pub each : (key : List ℕ) → AllBytes key → length key ≤ 248 → map.get h key ≡ both (map.get g key) (map.get cells (packed_key key))
   pub rest : (key : List ℕ) → (AllBytes key → length key ≤ 248 → map.get cells (packed_key key) ≡ None) → map.get h key ≡ map.get g key

@@ -48,13 +48,13 @@ pub record Grew (s t : HashSeat) : Type 0 where
   pub pools : (class : ℕ) → IsClass class → StartsWith (pool_mine t.area class) (pool_mine s.area class)
   pub pools_seen : (class : ℕ) → IsClass class → StartsWith (pool_seen t.area class) (pool_seen s.area class)
 
--- the participant has made no turn at the table, and no request of its for pages was refused
+-- the participant has made no turn at the table, and none of its requests for pages was refused
 pub record IsUnusedBy (number : ℕ) (s : HashSeat) : Type 0 where
   pub number_is : number_of s.table ≡ number
   pub turns : (number : ℕ) → mine_of s.table number ≡ []
   pub pages : lacks (pages_mine s.area) ≡ 0
 
--- a participant's passes are there exactly where the table is, and the participant has not used them
+-- a participant has passes exactly if there is a table, and it has not used them
 abbrev pub IsHashSeat : TableId → ℕ → Option HashPart → Option HashSeat → Type 0
 IsHashSeat region number None None = Unit {0}
 IsHashSeat region number None (Some s) = ⊥
@@ -70,7 +70,7 @@ StaysSeated None (Some s) t = ⊥
 StaysSeated (Some p) None t = ⊥
 StaysSeated (Some p) (Some s) None = ⊥
 
--- what a participant did with the table, where there is one
+-- what a participant did with the table, if there is one
 abbrev pub use_in : Option HashSeat → Option Use
 use_in None = None
 use_in (Some s) = Some (use_of s)

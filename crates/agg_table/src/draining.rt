@@ -43,7 +43,7 @@ fn add_entries(entries: &[Entry<AggObject>], groups: &mut GroupMap) -> Result<()
     Ok(())
 }
 
-/// Adds what stands in a partition to the map.
+/// Adds the entries of a partition to the map.
 fn add_partition(
     alloc: Global,
     r: &Region,
@@ -58,9 +58,9 @@ fn add_partition(
     add_entries(entries.as_slice(), groups)
 }
 
-/// Adds what stands in a closed table to a map of groups: each entry once. It takes the partitions from the last to the
-/// first, lists each, which takes memory for its entries, and looks up the map once for an entry. After want of memory
-/// some of the entries were added, and the map is then only dropped.
+/// Adds the entries of a closed table to a map of groups, each once. It takes the partitions from the last to the
+/// first, lists each, which takes memory for its entries, and looks up the map once for an entry. If there was no
+/// memory, some of the entries were added, and the map is then only dropped.
 pub fn drain(
     alloc: Global,
     r: &Region,

@@ -45,7 +45,7 @@ fn pair_up(
 
 /// An empty table in an area of this many pages, in a chunk of `8 * area_words(pages)` bytes, and the passes of this
 /// many participants, in order of their numbers from 0. It takes memory for the locks and the passes. An area of 16
-/// pages or more has room for the slices, so a refusal of theirs is want of memory too.
+/// pages or more has room for the slices, so if these are refused, that too means that there was no memory.
 pub fn open<R: Wait>(
     rt: &R,
     alloc: Global,

@@ -27,9 +27,9 @@ fn words_of(bytes: &[u8]) -> [u64; 32]
 }
 
 impl HashPart {
-    /// Combines a group's state into the cell of its key, by one call of the table. False where the area has no room
-    /// for a new cell, or for the table to grow: the group is then left to the caller. It takes no memory, and may wait
-    /// for the locks of the table and of the area, one after another.
+    /// Combines a group's state into the cell of its key, by one call of the table. False if the area has no room for a
+    /// new cell, or for the table to grow: the group is then left to the caller. It takes no memory, and may wait for
+    /// the locks of the table and of the area, one after another.
     pub fn put<R: Wait>(
         &self,
         rt: &R,

@@ -17,7 +17,7 @@ pub record AreAllGroups (plan : Plan) (records : Table) (groups : List Group) : 
   pub are : AreGroups plan (drop 1 records) whole
   pub in_order : groups ≡ listed whole
 
--- an answer that names a row names a refused one; want of memory says nothing
+-- an answer that names a row names a refused one; a lack of memory says nothing
 abbrev pub IsCause : Plan → Table → GatherAnswer → Type 0
 IsCause plan records (Row row cause item) = IsRefused plan records row cause item
 IsCause plan records Memory = Unit {0}

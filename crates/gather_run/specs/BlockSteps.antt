@@ -15,7 +15,7 @@ use Rattle.gather_run.specs.declared.GatherAnswer.TheVariants.{Row, Memory}
 use Rattle.gather_run.specs.declared.leading.Step.{Step}
 use Rattle.gather_run.specs.declared.leading.Step.TheVariants.{Next, NoMore, Failed}
 
--- where the leader goes on, its map for the groups of a block is empty again
+-- if the leader goes on, its map for the groups of a block is empty again
 abbrev pub ClearsMap : Step → GroupsByKey → Type 0
 ClearsMap Next m = m ≡ map.empty
 ClearsMap NoMore m = Unit {0}

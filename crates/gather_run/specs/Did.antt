@@ -15,7 +15,7 @@ use Rattle.worker_run.specs.declared.WorkerEnd.{WorkerEnd}
 abbrev pub sends_in : Account → Sends
 sends_in a = record { errors = a.errors; tuples = a.tuples; errors_gone = a.errors_gone; tuples_gone = a.tuples_gone }
 
--- what it did: all that its end says, with the table of groups where there is one
+-- what it did: all that its end says, with the table of groups if there is one
 abbrev pub DidWork : Plan → Table → ℕ → Account → WorkerEnd → Type 0
 DidWork plan records blocks a end = EndsWith plan records blocks a.draws a.used (sends_in a) end
 

@@ -22,7 +22,7 @@ use Rattle.gather_run.specs.declared.GatherAnswer.{GatherAnswer}
 use Rattle.gather_run.specs.declared.GatherAnswer.TheVariants.{Row, Memory}
 
 -- The blocks that it drew are done, and none of their rows is refused. Its map has their rows and the groups of all
--- messages that it took off the tuple queues; with a table of groups, in place of the rows, the groups of its own blocks
+-- messages that it took off the tuple queues; with a table of groups, instead of the rows the groups of its own blocks
 -- that the table had no room for
 pub record IsLeading (plan : Plan) (records : Table) (draws : List ℕ) (used : Option Use) (tuples : List (List (List ℕ))) (groups : GroupsByKey) : Type 0 where
   pub parts : List Part
@@ -34,11 +34,11 @@ pub record IsLeading (plan : Plan) (records : Table) (draws : List ℕ) (used : 
   pub read : AllZip ReadAs tuples taken
   pub received : IsPermutation (received_in parts) (left ++ flat_map (λ groups. groups) taken)
 
--- where it is alone it draws the blocks in order
+-- if it is alone it draws the blocks in order
 abbrev pub DrawsInOrder : Claims → ClaimSeat → Type 0
 DrawsInOrder claims claim = callers_of claims ≡ 1 → draws_of claim ≡ below (length (draws_of claim))
 
--- a row that it met is refused, and where it is alone it is the first
+-- a row that it met is refused, and if it is alone it is the first
 pub record MetRow (plan : Plan) (records : Table) (alone : Type 0) (row cause item : ℕ) : Type 0 where
   pub refused : IsRefused plan records row cause item
   pub first : alone → IsFirst plan records row

@@ -1,5 +1,5 @@
--- What the leader does with its own blocks: without a table of groups their rows go into its map; with one each of their
--- groups is put into the table, or goes into the map where the table has no room.
+-- What the leader does with its own blocks: without a table of groups their rows go into its map; with one each of
+-- their groups is put into the table, or goes into the map if the table has no room.
 use Rattle.std.specs.Prelude.{◌≡◌, ◌⊎◌, ◌++◌, ℕ, List, [], Option, Some, None}
 use Rattle.agg_table.specs.Calls.{HasPut, IsLeft, IsPut, Use}
 use Rattle.par_model.specs.Plan.{Plan}
@@ -40,7 +40,7 @@ pub record StopsAtRow (plan : Plan) (records : Table) (block row cause item : �
   pub now : GroupsByKey
   pub stopped : Stopped plan records block before now (answer.Row row cause item)
 
--- why a block was not done; want of memory says nothing
+-- why a block was not done; a lack of memory says nothing
 abbrev pub StopsAt : Plan → Table → ℕ → BlockAnswer → Type 0
 StopsAt plan records block (answer.Row row cause item) = StopsAtRow plan records block row cause item
 StopsAt plan records block answer.Memory = Unit {0}
@@ -52,7 +52,7 @@ pub record SharesBlocks (plan : Plan) (records : Table) (draws : List ℕ) (u : 
   pub put : List Group
   pub has : HasPut (groups_of_blocks plan records draws) u put left
 
--- the blocks that were drawn are done, where the rows of some went into the map and these groups were left by the table
+-- the blocks that were drawn are done: the rows of these went into the map, and these groups were left by the table
 abbrev pub DoesBlocks : Plan → Table → List ℕ → Option Use → List ℕ → List Group → Type 0
 DoesBlocks plan records draws None blocks left = (rows_of_blocks records blocks ≡ rows_of_blocks records draws) × (left ≡ [])
 DoesBlocks plan records draws (Some u) blocks left = SharesBlocks plan records draws u blocks left

@@ -40,7 +40,8 @@ pub record AreBlockGroups (plan : Plan) (records : Table) (block : ℕ) (groups 
 
 -- A participant put each group of each block that it drew into the table, or left it. At each partition its calls that
 -- were made are those of the groups that it put in, in order, and no others. For each group that it left the histories
--- have a call of its own with that key and that state which was not made, and one of its requests for pages was refused
+-- have one of its calls, with that key and that state, which was not made, and one of its requests for pages was
+-- refused
 pub record SharedItsBlocks (plan : Plan) (records : Table) (draws : List ℕ) (u : Use) : Type 0 where
   pub blocks : List (List Group)
   pub are : AllZip (AreBlockGroups plan records) draws blocks

@@ -1,6 +1,6 @@
-//! The leader's loop: before each block of its own it hears all workers, and when there are no more blocks it hears
-//! them until none has more to say. Its map then has the rows of its own blocks and all groups that the workers sent. With
-//! a table of groups it has of its own blocks only the groups that found no room there.
+//! The leader's loop: before each of its own blocks it hears all workers, and when there are no more blocks it hears
+//! them until none has more to say. Its map then has the rows of its own blocks and all groups that the workers sent.
+//! With a table of groups it has of its own blocks only the groups that found no room there.
 
 ghost use Rattle.std.specs.Prelude.{◌≡◌, suc, All, length, map};
 ghost use Rattle.std.specs.FinMap as fin;
@@ -64,7 +64,7 @@ fn lead_block<G: Gate, R: Wait>(
     Step::Next
 }
 
-/// Hears all workers, and then does a block of its own.
+/// Hears all workers, and then does one of its own blocks.
 fn lead_next<G: Gate, R: Wait>(
     rt: &R,
     job: &Job<'_, G>,
@@ -99,7 +99,7 @@ fn lead_next<G: Gate, R: Wait>(
     lead_block(rt, job, claim, seat, block_groups, groups)
 }
 
-/// Does blocks until there are no more, and then hears the workers to the end. Where there is no answer it says why, at
+/// Does blocks until there are no more, and then hears the workers to the end. If there is no answer it says why, at
 /// once. With a table one map is used for the groups of each block.
 pub(crate) fn lead_all<G: Gate, R: Wait>(
     rt: &R,

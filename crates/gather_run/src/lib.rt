@@ -2,12 +2,12 @@
 //!
 //! Participants draw blocks of rows, each block drawn once by one of them. A worker sends its groups as tuples; the
 //! leader puts the groups of its own blocks and those that it takes off the tuple queues into one map. That this map is
-//! the one of a single pass over all rows, whoever drew which block and in whatever order the tuples came, is the law
-//! of `gather_law`; here it is shown that a run is one of those that the law speaks of. A worker that ended early has
-//! left rows out, so the answer is then a refused row or want of memory, and never groups.
+//! the one of a single pass over all rows, no matter which participant drew which block and in which order the tuples
+//! came, is the law of `gather_law`; here it is shown that a run is one of those that the law speaks of. A worker that
+//! ended early has left rows out, so the answer is then a refused row or a lack of memory, and never groups.
 //!
 //! With a shared table the leader and the workers put the groups of each block there. Only a group for which the table
-//! has no room goes as a tuple, or into the leader's map. When all are home, what stands in the closed table is added to
+//! has no room goes as a tuple, or into the leader's map. When all are home, what is in the closed table is added to
 //! the map, each key once; `agg_law` says that the map is then that of one pass.
 
 #![tactic(auto)]
@@ -49,7 +49,7 @@ mod verdicts;
 /// Why there is no answer.
 #[derive(Debug, Clone, Copy, PartialEq, Eq)]
 pub enum GatherAnswer {
-    /// This row is refused, for this cause; `item` is the place of the aggregate where the cause is one's.
+    /// This row is refused, for this cause; `item` is the place of the aggregate if the cause is an aggregate's.
     Row { row: u64, cause: u8, item: u32 },
     /// There was no memory.
     Memory,
@@ -71,7 +71,7 @@ pub struct Gathered {
     pub finished: Finished<WorkerEnd>,
 }
 
-/// Adds what stands in the table of groups to the map, if there is a table.
+/// Adds the entries of the table of groups to the map, if there is a table.
 fn add_table(
     alloc: Global,
     r: &Region,
@@ -90,16 +90,16 @@ fn add_table(
     }
 }
 
-/// Runs a query in the caller's thread, as participant 0, with this many workers beside it. Each participant passes the
-/// gate before each of its blocks. Where the plan asks for a shared table of groups, it is made in an area of this many
-/// pages, if these are 16 or more; else the workers send their groups to the leader. Of several refused rows any may be
-/// named, unless there are no workers. A refused row that the leader met or read goes before a worker's want of memory;
-/// on either, and on want of memory of its own, the leader leaves its queues at once, which stops the workers. Fewer
-/// workers than asked for may start, also none.
+/// Runs a query in the caller's thread, as participant 0, with this many workers besides it. Each participant passes
+/// the gate before each of its blocks. If the plan asks for a shared table of groups, it is made in an area of this
+/// many pages, as long as these are 16 or more; else the workers send their groups to the leader. Of several refused
+/// rows any may be named, unless there are no workers. A refused row that the leader met or read goes before a worker's
+/// lack of memory; on either, and if it has no memory itself, the leader leaves its queues at once, which stops the
+/// workers. Fewer workers than asked for may start, also none.
 ///
 /// The time of the rows is shared out by blocks of 256; that of taking the groups off the queues, and of draining the
-/// table, is the leader's. Memory is 82 KB for each worker, the groups, the table's area, and where there is no table
-/// the groups of each worker's own rows.
+/// table, is the leader's. Memory is 82 KB for each worker, the groups, the table's area, and if there is no table the
+/// groups of each worker's own rows.
 pub fn gather<G: Gate + Sync, R: Threads + Wait + Sync>(
     rt: &R,
     alloc: Global,

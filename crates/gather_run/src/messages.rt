@@ -115,7 +115,7 @@ fn hear_end<R: Wait>(rt: &R, r: &Region, errors: &mut Receiver) -> Hearing
     }
 }
 
-/// Hears a worker: its notices, and then its tuples. Where it sends no more tuples, its last notice is waited for.
+/// Hears a worker: its notices, and then its tuples. If it sends no more tuples, its last notice is waited for.
 fn hear<R: Wait>(rt: &R, r: &Region, queue: &mut LeaderEnds, groups: &mut GroupMap) -> Hearing
     requires { IsOpen r.now queue.old }
     ensures same { SameQueues queue.old queue.new }

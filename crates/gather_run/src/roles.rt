@@ -77,8 +77,8 @@ pub(crate) struct Leader<'a, G: Gate> {
     pub(crate) rows: &'a RowStore,
     /// What it passes before each of its blocks.
     pub(crate) gate: &'a G,
-    /// The groups of its own blocks and those that it took off the queues; without those that stand in the table of
-    /// groups, where there is one. Empty before it leads.
+    /// The groups of its own blocks and those that it took off the queues; without those that are in the table of
+    /// groups, if there is one. Empty before it leads.
     pub(crate) groups: GroupMap,
     /// Why it has no answer, once it has led, if it has none.
     pub(crate) failure: Option<GatherAnswer>,

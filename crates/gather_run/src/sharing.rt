@@ -20,7 +20,7 @@ use std::alloc::AllocError;
 use std::sync::Wait;
 use worker_run::Job;
 
-/// Puts a group into the table, or adds it to the map where the table has no room.
+/// Puts a group into the table, or adds it to the map if the table has no room.
 fn share_group<R: Wait>(
     rt: &R,
     r: &Region,
@@ -65,7 +65,7 @@ fn share_groups<R: Wait>(
     unreachable!()
 }
 
-/// Shares out the groups of a block. Their map is empty before, and afterwards where the block was done.
+/// Shares out the groups of a block. Their map is empty before, and afterwards if the block was done.
 fn share_block<G, R: Wait>(
     rt: &R,
     job: &Job<'_, G>,
@@ -95,7 +95,7 @@ fn share_block<G, R: Wait>(
     Ok(())
 }
 
-/// Does a block of the leader's: shares out its groups where there is a table, and else adds its rows to the map.
+/// Does a block of the leader's: shares out its groups if there is a table, and else adds its rows to the map.
 pub(crate) fn do_block<G, R: Wait>(
     rt: &R,
     job: &Job<'_, G>,

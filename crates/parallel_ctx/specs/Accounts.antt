@@ -51,7 +51,7 @@ pub record IsIdle (a : Account) : Type 0 where
   pub errors : a.errors ≡ []
   pub tuples : a.tuples ≡ []
 
--- what a worker did that drew these numbers, by its ends
+-- what a worker that drew these numbers did, by its ends
 abbrev pub account_in : List ℕ → Option Use → Sending → Sending → Account
 account_in draws used errors tuples =
     record { draws = draws; used = used; errors = whole_of errors.put; tuples = whole_of tuples.put; errors_gone = errors.flag_value == 1; tuples_gone = tuples.flag_value == 1 }

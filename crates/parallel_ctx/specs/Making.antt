@@ -24,11 +24,11 @@ pub record IsMaking (t : Table) (next bytes : ℕ) : Type 0 where
   pub unused : (key : ℕ) → next ≤ key → place_of t.entries key ≡ None
   pub room : bytes ≤ free_bytes_of t
 
--- it after a ring of that many bytes was put under a key
+-- the table of contents after a ring of this many bytes was put under a key
 abbrev pub with_queue : Table → ℕ → ℕ → ℕ → Table
 with_queue t key bytes at = with_entry (with_chunk t bytes) (record { key = key; place = at })
 
--- and after the two rings of a worker, of 2,048 and 8,192 words and three more each
+-- the table of contents after the two rings of a worker were put in, of 2,048 and 8,192 words and three more each
 abbrev pub with_queues : Table → ℕ → WorkerEnds → Table
 with_queues t number e = with_queue (with_queue t (16 + 2 * number) 16408 e.errors.end.ring.base) (17 + 2 * number) 65560 e.tuples.end.ring.base
 
@@ -63,7 +63,7 @@ ends_in h = h.ends
 abbrev pub hash_in : Hand → Option HashSeat
 hash_in h = h.seats.hash
 
--- this many of some passes, from the first on, one for each participant; none where they are used up
+-- this many of some passes, from the first on, one for each participant; none once they are used up
 abbrev pub firsts : List HashSeat → ℕ → List (Option HashSeat)
 firsts seats zero = []
 firsts [] (suc n) = None ∷ firsts [] n
@@ -74,7 +74,7 @@ abbrev pub AreDealt : TableId → ℕ → Option HashPart → List HashSeat → 
 AreDealt region callers None seats = seats ≡ []
 AreDealt region callers (Some p) seats = IsPart region p × (callers_of p ≡ callers) × AreUnusedSeats p seats
 
--- there is a table exactly where the plan asks for it and the area has room for it; the area has this many pages
+-- there is a table exactly if the plan asks for it and the area has room for it; the area has this many pages
 abbrev pub HasTable : Plan → ℕ → Option HashPart → Type 0
 HasTable plan pages None = (plan.hash && leb 16 pages) ≡ false
 HasTable plan pages (Some p) = ((plan.hash && leb 16 pages) ≡ true) × (pages_of p.area ≡ pages)

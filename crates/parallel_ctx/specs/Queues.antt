@@ -4,8 +4,8 @@ use Rattle.mq_handle.specs.Messages.{whole_of}
 use Rattle.mq_ring.specs.Ends.{EndsHome}
 use Rattle.parallel_ctx.specs.Accounts.{is_over}
 
--- what a queue that came home tells: both ends are detached; the messages taken are a beginning of those sent, and all
--- of them where the receiver saw the last
+-- what is known of a queue that came home: both ends are detached; the messages taken are a beginning of those sent,
+-- and all of them if the receiver saw the last
 pub record IsQueue (q : EndsHome) : Type 0 where
   pub sender_left : q.sender.gone ≡ true
   pub receiver_left : q.receiver.gone ≡ true

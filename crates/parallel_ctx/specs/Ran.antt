@@ -18,8 +18,8 @@ use Rattle.parallel_ctx.specs.Queues.{IsQueue}
 use Rattle.parallel_ctx.specs.Accounts.{Account, Heard, IsIdle, account_of, heard_of, use_by}
 use Rattle.parallel_ctx.specs.Tokens.{AreNumbered, Prepared}
 
--- of a worker that came home: it did nothing where it did not start, and else kept its promise; its queues are home,
--- with all ends detached
+-- of a worker that came home: it did nothing if it did not start, and else kept its promise; its queues are home, with
+-- all ends detached
 pub record Finishes {E : Type 0} (did : Plan → ℕ → Account → E → Type 0) (uses : ℕ → Option Use) (plan : Plan) (blocks : ℕ) (draws : List ℕ) (r : Returned E) : Type 0 where
   pub done : MatchOption r.end (IsIdle (account_of uses draws r)) (λ e. did plan blocks (account_of uses draws r) e)
   pub errors : IsQueue r.errors

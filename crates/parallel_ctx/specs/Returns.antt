@@ -23,13 +23,13 @@ use Rattle.parallel_ctx.specs.Tokens.{AreHere, AreLeft, AreLeftByLead, IsFresh, 
 abbrev pub CanWork : (Plan → ℕ → Type 0) → Shared → Hand → Type 0
 CanWork asks w h = (plan : Plan) × IsFresh plan w h.seats h.ends × asks plan (blocks_of w.claims)
 
--- likewise of the lead
+-- the lead may lead with these tokens: they are fresh, and their plan is one that it can lead
 abbrev pub CanLead : (Plan → ℕ → Type 0) → Shared → Seats → List LeaderEnds → Type 0
 CanLead asks w s qs = (plan : Plan) × IsFreshLead plan w s qs × asks plan (blocks_of w.claims)
 
 module _ {E : Type 0} (did : Plan → ℕ → Account → E → Type 0) where
-  -- The same tokens stand in their places, and its ends are detached. Nothing was done where the worker did not start,
-  -- and else it kept its promise
+  -- The same tokens are in their places, and its ends are detached. Nothing was done if the worker did not start, and
+  -- else it kept its promise
   pub record Returns (w : Shared) (h : Hand) (b : Back E) : Type 0 where
     pub seats : SameSeats w h.seats b.hand.seats
     pub ends : SameEnds h.ends b.hand.ends

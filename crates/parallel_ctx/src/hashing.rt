@@ -1,5 +1,5 @@
-//! The table of groups of a context: its area is a chunk of the segment, under a key of its own. It is made only where
-//! the plan asks for it and the area has room for it.
+//! The table of groups of a context: its area is a chunk of the segment, under its own key. It is made only if the plan
+//! asks for it and the area has room for it.
 
 ghost use Rattle.std.specs.Prelude.{◌&&◌, leb, ◌∷◌, ◌≡◌, ◌≤◌, ◌*◌, ◌+◌, ◌%◌, ℕ, IfOk, IfSome, OnOk, None, is_some, true};
 ghost use Rattle.free_pages.specs.Area.{area_size};
@@ -91,7 +91,7 @@ pub(crate) fn open_hash<R: Wait>(
     Ok((Some(part), seats))
 }
 
-/// The passes of the next participant, where some are left.
+/// The passes of the next participant, if some are left.
 pub(crate) fn next_seat(rest: &mut IntoIter<HashSeat>) -> Option<HashSeat>
     ensures { (n : ℕ) → firsts (into_iter_items rest.old) (n + 1) ≡ result ∷ firsts (into_iter_items rest.new) n }
 {

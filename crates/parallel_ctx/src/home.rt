@@ -25,7 +25,7 @@ use scan_claim::{ClaimSeat, Drawn};
 pub struct Returned<E> {
     /// The worker's number, from 1 on.
     pub number: u32,
-    /// What the worker answered, or `None` where its thread did not start.
+    /// What the worker answered, or `None` if its thread did not start.
     pub end: Option<E>,
     /// Both ends of its error queue, home.
     pub errors: MqDone,
@@ -44,9 +44,9 @@ pub struct Finished<E> {
     pub drawn: Drawn,
     /// The region of the context; the queues' words are home.
     pub region: Region,
-    /// The table of groups, closed, where there was one. It shows each participant's turns.
+    /// The table of groups, closed, if there was one. It shows each participant's turns.
     pub table: Option<ClosedTable<AggObject>>,
-    /// The participants' passes of the table's area, in order, and none where there was no table.
+    /// The participants' passes of the table's area, in order, and none if there was no table.
     pub areas: Vec<AreaPass>,
 }
 
@@ -71,7 +71,7 @@ struct Settled<E> {
     worker: Returned<E>,
     /// Its seat at the counter of blocks, with all that it drew.
     claim: ClaimSeat,
-    /// Its passes of the table of groups, where there is one.
+    /// Its passes of the table of groups, if there is one.
     hash: Option<HashSeat>,
 }
 
@@ -116,7 +116,7 @@ pub(crate) struct AllSettled<E> {
     pub(crate) hashes: Vec<HashSeat>,
 }
 
-/// Puts passes behind others, where they are there.
+/// Puts passes after others, if there are any.
 pub(crate) fn keep_seat(hashes: &mut Vec<HashSeat>, hash: Option<HashSeat>)
     requires room { vec_len hashes.old < vec_capacity hashes.old }
     ensures kept { hashes.new.items ≡ hashes.old.items ++ there (hash ∷ []) }
@@ -168,8 +168,8 @@ pub(crate) fn settle_all<E: Drop>(
     }
 }
 
-/// Ends the table of groups, where there is one, with the passes of all participants in order of their numbers, and
-/// gives those of its area. The two lists that it fills have room.
+/// Ends the table of groups, if there is one, with the passes of all participants in order of their numbers, and gives
+/// those of its area. The two lists that it fills have room.
 pub(crate) fn close_table(
     hash: Option<HashPart>,
     hashes: Vec<HashSeat>,

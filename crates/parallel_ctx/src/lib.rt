@@ -1,5 +1,5 @@
-//! A parallel query's context, in the manner of parallel.c: it makes what a lead and its workers share, runs the
-//! workers in threads of their own beside the lead, and brings every token home.
+//! A parallel query's context, in the manner of parallel.c: it makes what a lead and its workers share, runs each
+//! worker in its own thread while the lead works, and brings every token home.
 //!
 //! The context owns a region, which has a table of contents with the plan and two queues for each worker, and a counter
 //! that hands out blocks. Each participant gets a share of the table and a seat at the counter (`Seats`), each worker
@@ -79,8 +79,8 @@ impl Model for Context {
 
 impl Context {
     /// Makes the region, the table of contents with the plan, the queues, and the tokens of the lead and of the workers
-    /// asked for. Want of memory is its only answer beside `Ok`. It takes 82 KB for each worker and the receivers'
-    /// buffers, and writes each word of the region once.
+    /// asked for. Its only answer besides `Ok` is that there is no memory. It takes 82 KB for each worker and the
+    /// receivers' buffers, and writes each word of the region once.
     pub fn build<R: Wait>(
         rt: &R,
         alloc: Global,
@@ -134,9 +134,9 @@ impl Context {
 
     /// Starts the workers, calls the lead in the caller's own thread, joins the workers and brings all tokens home.
     /// Ends that they leave attached are detached: the lead's as soon as the lead comes back, which stops the workers
-    /// that still send. A worker whose start is refused, also for want of memory, has the end `None`. `run` takes
-    /// memory of its own only before it starts a worker: on `Err` neither a worker nor the lead was called, and the
-    /// context is dropped.
+    /// that still send. A worker whose start is refused, also for lack of memory, has the end `None`. `run` itself
+    /// takes memory only before it starts a worker: on `Err` neither a worker nor the lead was called, and the context
+    /// is dropped.
     pub fn run<W: Worker, L: Lead, R: Threads + Wait + Sync>(
         self,
         rt: &R,

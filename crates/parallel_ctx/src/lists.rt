@@ -122,7 +122,7 @@ fn home_lists<E: Drop>(alloc: Global, asked: usize) -> Result<HomeLists<E>, Allo
     })
 }
 
-/// The lists of a run of this many workers, in one step: whoever runs has one way out for want of memory.
+/// The lists of a run of this many workers, in one step, so that a run that has no memory ends in one place.
 pub(crate) fn run_lists<P: Drop, B: Drop, E: Drop>(
     alloc: Global,
     asked: usize,

@@ -1,10 +1,10 @@
 //! The parts of a context. The region is one segment with a table of contents at its start; the plan's descriptor and
-//! the rings of the queues are chunks of it, each under a key of its own:
+//! the rings of the queues are chunks of it, each under its own key:
 //!
 //! | key | chunk |
 //! |---|---|
 //! | 1 | the plan's descriptor |
-//! | 2 | the area of the table of groups, where there is one |
+//! | 2 | the area of the table of groups, if there is one |
 //! | 16 + 2w | the error queue of worker w, from 1 on |
 //! | 17 + 2w | its tuple queue |
 //!
@@ -51,7 +51,7 @@ pub const LONGEST_NOTICE: u32 = 64;
 
 pub const LONGEST_TUPLE: u32 = 1024;
 
-/// How many words the segment of a context for this many workers has, beside those of its table of groups.
+/// How many words the segment of a context for this many workers has, besides those of its table of groups.
 pub(crate) fn words_for(workers: u32, hash: u64) -> u64
     requires workers { workers ≤ 64 }
     requires hash { (hash ≤ 40000000) × (hash % 4 ≡ 0) }
@@ -237,7 +237,7 @@ pub(crate) struct Dealt {
 }
 
 /// Gives each participant its number, its share of the table of contents, its seat and its passes of the table of
-/// groups, where there is one, and each worker its ends.
+/// groups, if there is one, and each worker its ends.
 pub(crate) fn deal(
     r: &Region,
     mut toc: FrozenToc,

@@ -1,6 +1,6 @@
-//! The two roles of a parallel query. Whoever runs one says by `asks` which plans it can do, and by `did` and `led`
-//! what it promises of its draws and its messages; `Context::run` gives these promises to its caller. They speak of
-//! lists alone, so what happens to an end after the call, as its detaching, does not touch them.
+//! The two roles of a parallel query. Each says by `asks` which plans it can do, and by `did` and `led` what it
+//! promises of its draws and its messages; `Context::run` gives these promises to its caller. They speak only of lists,
+//! so what happens to an end after the call, such as its detaching, does not touch them.
 
 ghost use Rattle.agg_table.specs.Shown.{use_in};
 ghost use Rattle.std.specs.Prelude.{◌≡◌, map};
@@ -54,8 +54,8 @@ pub trait Lead {
     /// Which plans, over this many blocks, it can lead.
     ghost asks: { Self → Plan → ℕ → Type 0 };
 
-    /// What the call did by a plan over this many blocks: the numbers it drew, what it did with the table of groups,
-    /// where there is one, and what it took of each worker's queues.
+    /// What the call did by a plan over this many blocks: the numbers it drew, what it did with the table of groups, if
+    /// there is one, and what it took of each worker's queues.
     ghost led: { Self → Plan → ℕ → List ℕ → Option Use → List Heard → Self → Type 0 };
 
     /// Leads with unused tokens, and one pair of ends for each worker asked for, in order. They stay in their places;

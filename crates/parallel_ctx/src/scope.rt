@@ -1,4 +1,4 @@
-//! The scope in which the workers run beside the lead.
+//! The scope in which the workers run while the lead works.
 
 ghost use Rattle.agg_table.specs.Shown.{use_in};
 ghost use Rattle.std.specs.Prelude.{◌≡◌, All, map};
@@ -106,7 +106,7 @@ where
     }
 }
 
-/// Serves a query in a scope of its own, in which all threads end.
+/// Serves a query in its own scope, in which all threads end.
 pub(crate) fn serve<W: Worker, L: Lead, R: Threads + Wait + Sync>(
     rt: &R,
     worker: &W,

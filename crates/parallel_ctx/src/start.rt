@@ -1,7 +1,7 @@
-//! Workers in threads of their own: how each is started, and brought home.
+//! Workers, each in its own thread: how each is started, and brought home.
 //!
 //! A job owns its worker's tokens (`Hand`), lends them to `work`, and gives them back (`Back`). What comes back is the
-//! job's promise (`Brings`), so that the one who joins the thread knows it. A flag for each job says that its start was
+//! job's promise (`Brings`), so that the thread that joins it knows it. A flag for each job says that its start was
 //! refused; no contract sees a plain atomic, and none needs to: the promise holds whether the worker was called or not.
 
 ghost use Rattle.std.specs.Prelude.{◌≡◌, ◌≤◌, [], All, length, vec_capacity, vec_len};
@@ -20,7 +20,7 @@ use std::thread::{Promise, PromisedHandle, Scope, Threads};
 /// What a thread gives back.
 #[derive(Drop)]
 pub(crate) struct Back<E> {
-    /// What the worker answered, or `None` where it was not called.
+    /// What the worker answered, or `None` if it was not called.
     pub(crate) end: Option<E>,
     /// The thread's tokens, with both ends of its queues detached.
     pub(crate) hand: Hand,
@@ -50,7 +50,7 @@ impl<W: Worker> Promise<Back<W::End>> for Brings<W> {
     ghost kept_by = { Keeps W.did };
 }
 
-/// A worker that runs in its thread, or what came back where none could be made.
+/// A worker that runs in its thread, or what came back if none could be made.
 pub(crate) enum Placed<W: Worker> {
     Running(PromisedHandle<Back<W::End>, Brings<W>>),
     Here(Back<W::End>),
@@ -103,8 +103,8 @@ fn work_or_return<W: Worker, R: Wait + Sync>(
     }
 }
 
-/// Starts a worker in a thread of its own. A refused start gives the job back: its flag is set, and the job is called
-/// here, which then only gives the tokens back.
+/// Starts a worker in its own thread. A refused start gives the job back: its flag is set, and the job is called here,
+/// which then only gives the tokens back.
 fn launch<'s, E, W: Worker, R: Threads + Wait + Sync>(
     scope: &Scope<'s, E>,
     rt: &'s R,

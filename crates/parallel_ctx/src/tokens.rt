@@ -14,7 +14,7 @@ pub struct Shared {
     pub region: Region,
     /// The counter that hands out the blocks.
     pub claims: Claims,
-    /// The table of groups that all share, where the plan has one.
+    /// The table of groups that all share, if the plan has one.
     pub hash: Option<HashPart>,
 }
 
@@ -27,7 +27,7 @@ pub struct Seats {
     pub toc: FrozenToc,
     /// Its seat at the counter of blocks.
     pub claim: ClaimSeat,
-    /// Its passes of the table of groups, where there is one.
+    /// Its passes of the table of groups, if there is one.
     pub hash: Option<HashSeat>,
 }
 

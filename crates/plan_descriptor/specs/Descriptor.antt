@@ -1,5 +1,5 @@
--- The plan descriptor: a plan as words of 64 bits, by which all who compute a query find it in shared memory. Version 2
--- has 32 words. Version 1 has the first 28 of them, and no filter.
+-- The plan descriptor: a plan as words of 64 bits, by which all participants of a query find it in shared memory.
+-- Version 2 has 32 words. Version 1 has the first 28 of them, and no filter.
 use Rattle.std.specs.Prelude.{◌≡◌, ◌==◌, ◌&&◌, ◌||◌, ◌+◌, ◌-◌, ◌*◌, ◌/◌, ◌%◌, ◌<◌, ◌≤◌, ◌^◌, ◌⊎◌, ℕ, Bool, All, List, Option, Some, None, FitsSigned, if◌then◌else◌, length, map, nat_le, nat_lt, not, slice_index, slice_index_or}
 use Rattle.std.specs.Int.{cast_unsigned, w64}
 use Rattle.std.specs.List.{position_from, range_with_len}
@@ -64,12 +64,12 @@ plan_word version plan k = if nat_lt k 4 then head_word version plan k else (if 
 unfoldable pub plan_words : ℕ → Plan → List ℕ
 plan_words version plan = map (plan_word version plan) (range_with_len 0 (size_of version))
 
--- words are the descriptor of a plan: in version 2, or in version 1 where the plan has no filter
+-- words are the descriptor of a plan: in version 2, or in version 1 if the plan has no filter
 abbrev pub IsDescriptor : List ℕ → Plan → Type 0
 IsDescriptor words plan = (words ≡ plan_words 2 plan) ⊎ ((words ≡ plan_words 1 plan) × (plan.filter ≡ None))
 
--- the plan's lists have room in its arrays: at most eight columns to group by, one to eight aggregates, and column 0
--- where an aggregate reads none
+-- the plan's lists have room in its arrays: at most eight columns to group by, one to eight aggregates, and column 0 if
+-- an aggregate reads none
 pub record HasRoom (plan : Plan) : Type 0 where
   pub groups : length plan.groups ≤ 8
   pub some_item : 1 ≤ length plan.items
@@ -85,7 +85,7 @@ pub record IsWritable (plan : Plan) : Type 0 where
 
 -- ---- which words are allowed
 
--- a column below 2 ^ 32 where one stands, and else zero
+-- a column below 2 ^ 32 if there is one, and else zero
 abbrev pub is_column : Bool → ℕ → Bool
 is_column stands word = if stands then nat_lt word (2 ^ 32) else word == 0
 
@@ -93,7 +93,7 @@ is_column stands word = if stands then nat_lt word (2 ^ 32) else word == 0
 abbrev pub is_head : ℕ → ℕ → Bool
 is_head k word = if k == 0 then word == 1 || word == 2 else (if k == 1 then nat_le word 8 else (if k == 2 then nat_le 1 word && nat_le word 8 else nat_le word 1))
 
--- the two words of the aggregate at place i: a kind, and a column where the kind reads one; zeros past the number of
+-- the two words of the aggregate at place i: a kind, and a column if the kind reads one; zeros past the number of
 -- aggregates
 abbrev pub is_item : List ℕ → ℕ → ℕ → ℕ → Bool
 is_item words i k word = if k == 0 then (if nat_lt i (slice_index words 2) then nat_le word 5 else word == 0)
@@ -113,8 +113,8 @@ is_allowed words k = if nat_lt k 4 then is_head k (slice_index words k) else (if
 abbrev pub bad_word : List ℕ → Option ℕ
 bad_word words = position_from (λ k. not (is_allowed words k)) 0 (range_with_len 0 (length words))
 
--- ---- where it stands
+-- ---- where it lies
 
--- the words of the descriptor from a place on, as many as the first of them says
+-- the words of the descriptor from a place on; the first of them says how many there are
 abbrev pub descriptor_in : WordMap → ℕ → List ℕ
 descriptor_in m place = values_from m place (size_of (word_of m place))

@@ -5,11 +5,11 @@ use Rattle.plan_descriptor.specs.Descriptor.{IsDescriptor, IsWritable, descripto
 use Rattle.shm_toc.specs.Table.{place_of, table_of, word_of}
 use Rattle.word_map.specs.WordMap.{WordMap, at}
 
--- the key beside which the place of the plan's descriptor stands
+-- the key whose entry has the place of the plan's descriptor
 abbrev pub plan_key : ℕ
 plan_key = 1
 
--- under the key stands the place of the plan's descriptor, whose words are there
+-- the key's entry has the place of the plan's descriptor, whose words are there
 pub record HasPlan (words : WordMap) (plan : Plan) : Type 0 where
   pub place : ℕ
   pub found : place_of (table_of words).entries plan_key ≡ Some place

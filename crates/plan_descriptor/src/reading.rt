@@ -1,4 +1,4 @@
-//! The plan of a descriptor's words, where each of them is allowed.
+//! The plan of a descriptor's words, if each of them is allowed.
 
 ghost use Rattle.std.specs.Prelude.{◌≡◌, ◌+◌, ◌*◌, ◌<◌, ◌≤◌, ◌^◌, ℕ, FitsSigned, IfErr, IfOk, None, OnOk, Some, length, slice_index, slice_index_or};
 ghost use Rattle.std.specs.Int.{w64};
@@ -37,7 +37,7 @@ fn first_bad(words: &[u64]) -> Option<u64>
     None
 }
 
-/// Whether the word at a place is allowed there, beside the words before it.
+/// Whether the word at a place is allowed there, given the words before it.
 fn is_allowed(words: &[u64], place: usize) -> bool
     requires size { 28 ≤ length words.now }
     requires inside { place < length words.now }
@@ -67,7 +67,7 @@ fn is_head(place: usize, word: u64) -> bool
     }
 }
 
-/// A column where one stands, and else zero.
+/// A column if there is one, and else zero.
 fn is_column(stands: bool, word: u64) -> bool
     ensures { result ≡ is_column stands word }
 {

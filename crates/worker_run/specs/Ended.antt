@@ -79,8 +79,8 @@ pub record IsStopped (s : Sends) : Type 0 where
   pub silent : s.errors ≡ []
   pub found : (s.errors_gone ≡ true) ⊎ (s.tuples_gone ≡ true)
 
--- one that met a refused row: it is one of its blocks', and it has named it alone, unless it found the receiver of its
--- notices gone
+-- one that met a refused row: it is a row of its blocks, and the worker has named this row and no other, unless it
+-- found the receiver of its notices gone
 pub record HasRefused (plan : Plan) (records : Table) (draws : List ℕ) (s : Sends) (row cause item : ℕ) : Type 0 where
   pub refused : IsRefused plan records row cause item
   pub own : IsOwnRow draws row

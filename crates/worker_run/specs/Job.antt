@@ -24,7 +24,7 @@ pub record IsJob {G : Type 0} (job : Job G) : Type 0 where
 abbrev pub DrawsNone : ℕ → List ℕ → List ℕ → Type 0
 DrawsNone blocks draws draws' = (draws' ≡ draws) ⊎ ((n : ℕ) × (blocks ≤ n) × (draws' ≡ draws ++ n ∷ []))
 
--- a participant's passes of the table of groups are there exactly where the table is, and are of it
+-- a participant has passes of the table of groups exactly if there is a table, and they are of it
 abbrev pub IsSeated : TableId → Option HashPart → Option HashSeat → Type 0
 IsSeated region None None = Unit {0}
 IsSeated region None (Some s) = ⊥

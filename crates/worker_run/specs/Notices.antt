@@ -21,14 +21,14 @@ use Rattle.worker_run.specs.declared.notices.Notice.TheVariants.{Read, Last}
 abbrev pub IsPublished : Sending → Type 0
 IsPublished s = s.published ≡ length s.put
 
--- a worker that ends in order says so; it was stopped where the receiver is gone
+-- a worker that ends in order says so; it was stopped if the receiver is gone
 abbrev pub EndsInOrder : Sending → Sending → WorkerEnd → Type 0
 EndsInOrder errors errors' Finished = HasSent errors errors' (encoding message.End ∷ [])
 EndsInOrder errors errors' Stopped = FoundGone errors errors' []
 EndsInOrder errors errors' (Refused row cause item) = ⊥
 EndsInOrder errors errors' NoMemory = ⊥
 
--- a worker that met a refused row names it, unless the receiver is gone; want of memory says nothing
+-- a worker that met a refused row names it, unless the receiver is gone; a lack of memory says nothing
 abbrev pub GivesUp : Sending → Sending → BlockAnswer → WorkerEnd → Type 0
 GivesUp errors errors' (answer.Row row cause item) end =
     (end ≡ Refused row cause item) × IsMessage (message.Row row cause item) × (HasSent errors errors' (encoding (message.Row row cause item) ∷ []) ⊎ FoundGone errors errors' [])
@@ -55,7 +55,7 @@ NewsIs q news.Nothing = Unit {0}
 NewsIs q news.Over = HasTakenAll q
 NewsIs q (news.Refused row cause item) = HasRead q row cause item
 
--- likewise after one look
+-- what one look at the notices says: one was read that names no row, or what the leader knows at last
 abbrev pub LookIs : Receiving → Notice → Type 0
 LookIs q Read = Unit {0}
 LookIs q (Last news) = NewsIs q news

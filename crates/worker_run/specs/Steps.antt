@@ -22,7 +22,7 @@ pub record HasFinished (slots : ℕ) (groups : GroupsByKey) (errors tuples error
   pub published : IsPublished tuples'
   pub said : HasSent errors errors' (encoding message.End ∷ [])
 
--- a worker that sends its last groups finishes; it stops where a receiver is gone
+-- a worker that sends its last groups finishes; it stops if a receiver is gone
 abbrev pub Finishes : ℕ → GroupsByKey → Sending → Sending → Sending → Sending → WorkerEnd → Type 0
 Finishes slots groups errors tuples errors' tuples' Finished = HasFinished slots groups errors tuples errors' tuples'
 Finishes slots groups errors tuples errors' tuples' Stopped = (StoppedSending slots tuples tuples' × (errors' ≡ errors)) ⊎ (HasSentAll slots groups tuples tuples' × FoundGone errors errors' [])

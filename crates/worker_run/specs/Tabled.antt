@@ -42,8 +42,8 @@ pub record GivesGroups (slots : ℕ) (groups : List Group) (u v : Use) (old new 
 
 -- ---- between two blocks
 
--- Of the groups of its blocks, whose rows are not refused, it has put each into the table, or has sent it as a tuple of
--- its own. It has sent no notice
+-- Of the groups of its blocks, whose rows are not refused, it has put each into the table, or has sent it as a separate
+-- tuple. It has sent no notice
 pub record IsTabling (plan : Plan) (records : Table) (draws : List ℕ) (u : Use) (errors tuples : Sending) : Type 0 where
   pub put : List Group
   pub left : List Group

@@ -1,5 +1,5 @@
 //! What a participant of a query works on, and how it draws its blocks. The leader and the workers draw alike, whatever
-//! they do with the rows of a block: here stands that each block is drawn once and the gate passed with it.
+//! they do with the rows of a block: here it is shown that each block is drawn once and the gate passed with it.
 
 ghost use Rattle.std.specs.Prelude.{◌≡◌, ◌≤◌, ◌<◌, ◌+◌, ◌*◌, ◌++◌, ◌⊎◌, ◌∷◌, [], ℕ, IfNone, IfSome, IsTrue, length};
 ghost use Rattle.scan_claim.specs.Drawing.{below, is_spent};
@@ -23,7 +23,7 @@ pub struct Job<'a, G> {
     pub plan: &'a BoundPlan,
     /// The counter that hands out the blocks of the rows.
     pub claims: &'a Claims,
-    /// The table of groups that all share, where there is one.
+    /// The table of groups that all share, if there is one.
     pub table: &'a Option<HashPart>,
     /// What it passes before each of its blocks.
     pub gate: &'a G,
@@ -46,7 +46,7 @@ impl<'a, G> Drop for Job<'a, G> {
 }
 
 impl<'a, G: Gate> Job<'a, G> {
-    /// Draws the next block, and passes the gate with it. There are no more where it answers None.
+    /// Draws the next block, and passes the gate with it. There are no more if it answers None.
     pub fn draw(&self, claim: &mut ClaimSeat) -> Option<u64>
         requires job { IsJob self.now }
         requires seat { Belongs self.now.claims.now claim.old }

@@ -1,11 +1,11 @@
-//! A worker of a query, beside the leader and the other workers.
+//! A worker of a query, next to the leader and the other workers.
 //!
 //! A worker draws blocks of rows until there are no more, adds the rows of each to a map of groups, and sends these as
-//! tuples on its tuple queue: all of them where they are many, and the rest at the end. On its error queue it sends a
-//! single notice: `X` as its last act, when all its tuples are sent, or `E` with the row that is refused. So whoever
-//! reads `X` knows that the tuples before it stand for all rows of the worker's blocks.
+//! tuples on its tuple queue: all of them if they are many, and the rest at the end. On its error queue it sends a
+//! single notice: `X` as its last act, when all its tuples are sent, or `E` with the row that is refused. So a leader
+//! that reads `X` knows that the tuples before it stand for all rows of the worker's blocks.
 //!
-//! What leaders and other workers share with it stands here too: what a participant works on and how it draws blocks
+//! What leaders and other workers share with it is here too: what a participant works on and how it draws blocks
 //! (`Job`), what is said and heard by notices, and what the workers' ends mean.
 
 #![tactic(auto)]
@@ -61,12 +61,12 @@ pub enum WorkerEnd {
     NoMemory,
 }
 
-/// Works by the plan that stands in the table of contents until there are no more blocks, and tells how it ended. It
-/// passes the gate before each block, as participant `number`. Where there is a table of groups, it puts the groups of
-/// each block there, and a group for which there is no room goes as a tuple. Tuples are sent without flush, the notice
-/// with it; both ends are detached afterwards, the tuple queue's first. It waits where a queue is full, until the
-/// receiver takes something or is gone. Time is that of `add_block` over its blocks and of `encode` over its groups;
-/// memory is that of a map of the groups of its rows, 1,048,831 at most.
+/// Works by the plan in the table of contents until there are no more blocks, and returns how it ended. It passes the
+/// gate before each block, as participant `number`. If there is a table of groups, it puts the groups of each block
+/// there, and a group for which there is no room goes as a tuple. Tuples are sent without flush, the notice with it;
+/// both ends are detached afterwards, the tuple queue's first. It waits while a queue is full, until the receiver takes
+/// something or is gone. Time is that of `add_block` over its blocks and of `encode` over its groups; memory is that of
+/// a map of the groups of its rows, 1,048,831 at most.
 pub fn work<G: Gate, R: Wait>(
     rt: &R,
     alloc: Global,

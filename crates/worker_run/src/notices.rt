@@ -1,8 +1,8 @@
 //! The notices of a worker: what it says on its error queue, and what the leader hears of it.
 //!
-//! A worker sends one notice at most. `X` says that all its tuples are sent, and goes out only where the other side can
-//! read them all (`IsPublished`): whoever reads `X` finds the tuples before it. `E` names the row that is refused. A
-//! worker that is stopped, or has no memory, says nothing and detaches.
+//! A worker sends one notice at most. `X` says that all its tuples are sent, and goes out only once the other side can
+//! read them all (`IsPublished`): a leader that reads `X` finds the tuples before it. `E` names the row that is
+//! refused. A worker that is stopped, or has no memory, says nothing and detaches.
 
 ghost use Rattle.std.specs.Prelude.{◌≡◌, ◌⊎◌, [], ◌∷◌, MatchBool, false};
 ghost use Rattle.error_queue.specs.Message.{encoding, IsMessage};
@@ -20,7 +20,7 @@ use partial_agg::BlockAnswer;
 use region_words::Region;
 use std::sync::Wait;
 
-/// Sends a notice on the error queue, with flush. Answers false where the receiver is gone.
+/// Sends a notice on the error queue, with flush. Answers false if the receiver is gone.
 fn send_notice<R: Wait>(rt: &R, r: &Region, errors: &mut Sender, notice: &ErrorMessage) -> bool
     requires here { errors.old.region ≡ r.now }
     requires ready { IsReady MESSAGE_BYTES errors.old.end }
@@ -71,8 +71,8 @@ pub fn give_up<R: Wait>(rt: &R, r: &Region, errors: &mut Sender, why: BlockAnswe
     }
 }
 
-/// Says by an `X` that all is sent. It takes the end of the tuple queue to see that all can be read. Answers false
-/// where the receiver is gone.
+/// Says by an `X` that all is sent. It takes the end of the tuple queue to see that all can be read. Answers false if
+/// the receiver is gone.
 fn say_end<R: Wait>(rt: &R, r: &Region, errors: &mut Sender, _tuples: &Sender) -> bool
     requires here { errors.old.region ≡ r.now }
     requires ready { IsReady MESSAGE_BYTES errors.old.end }
@@ -84,7 +84,7 @@ fn say_end<R: Wait>(rt: &R, r: &Region, errors: &mut Sender, _tuples: &Sender) -
 }
 
 /// Ends in order a worker that has sent all its tuples: lets them be read, and then says `X`. Gives the worker's end:
-/// `Stopped` where nobody hears it.
+/// `Stopped` if nobody hears it.
 pub fn end_in_order<R: Wait>(
     rt: &R,
     r: &Region,
@@ -115,7 +115,7 @@ pub enum News {
     Nothing,
     /// There is nothing more: the worker has detached, and all that it said is read.
     Over,
-    /// This row is refused, for this cause; `item` is the place of the aggregate where the cause is one's.
+    /// This row is refused, for this cause; `item` is the place of the aggregate if the cause is an aggregate's.
     Refused { row: u64, cause: u8, item: u32 },
 }
 
@@ -168,7 +168,7 @@ pub fn hear_notices<R: Wait>(rt: &R, r: &Region, errors: &mut Receiver) -> News
     unreachable!()
 }
 
-/// Hears a worker's notices to their end, or to one that names a refused row. It waits for them: call it where the
+/// Hears a worker's notices to their end, or to one that names a refused row. It waits for them: call it once the
 /// worker has detached its tuple queue, since its last notice is sent before that.
 pub fn hear_last<R: Wait>(rt: &R, r: &Region, errors: &mut Receiver) -> News
     requires here { errors.old.region ≡ r.now }

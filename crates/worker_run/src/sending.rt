@@ -22,7 +22,7 @@ use region_words::Region;
 use std::sync::Wait;
 use tuple_codec::{Tuple, encode_into};
 
-/// Sends a group as a tuple, without flush. The tuple is written into memory that is there. Answers false where the
+/// Sends a group as a tuple, without flush. The tuple is written into memory that is there. Answers false if the
 /// receiver is gone.
 pub(crate) fn send_group<R: Wait>(
     rt: &R,
@@ -50,7 +50,7 @@ pub(crate) fn send_group<R: Wait>(
     }
 }
 
-/// Sends groups where they lie, one after another, through one tuple and one state. Answers false where the receiver is
+/// Sends groups where they lie, one after another, through one tuple and one state. Answers false if the receiver is
 /// gone.
 fn send_lent<R: Wait>(
     rt: &R,
@@ -77,8 +77,8 @@ fn send_lent<R: Wait>(
     true
 }
 
-/// Sends all groups of the map, in the order in which they lie, and takes them out of it. Answers false where the
-/// receiver is gone.
+/// Sends all groups of the map, in the order in which they lie, and takes them out of it. Answers false if the receiver
+/// is gone.
 pub(crate) fn send_groups<R: Wait>(
     rt: &R,
     r: &Region,

@@ -18,7 +18,7 @@ use region_words::Region;
 use std::sync::Wait;
 use tuple_codec::Tuple;
 
-/// Puts a group into the table, or sends it where the table has no room. Answers false where the receiver is gone.
+/// Puts a group into the table, or sends it if the table has no room. Answers false if the receiver is gone.
 fn give_group<R: Wait>(
     rt: &R,
     r: &Region,
@@ -46,7 +46,7 @@ fn give_group<R: Wait>(
     send_group(rt, r, tuples, tuple, key.bytes(), state, slots)
 }
 
-/// Gives out all groups of the map, in the order of their keys. Answers false where the receiver is gone.
+/// Gives out all groups of the map, in the order of their keys. Answers false if the receiver is gone.
 pub(crate) fn give_groups<R: Wait>(
     rt: &R,
     r: &Region,

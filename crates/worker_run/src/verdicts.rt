@@ -1,5 +1,5 @@
 //! What the workers' ends mean for the answer of a query: a worker that ended early has left rows out. A row that is
-//! refused goes before want of memory, whichever worker met it.
+//! refused goes before a lack of memory, whichever worker met it.
 
 ghost use Rattle.std.specs.Prelude.{◌++◌, List, Option, [], ◌∷◌};
 ghost use Rattle.worker_run.specs.Verdicts.{AreVerdict};
@@ -8,8 +8,8 @@ ghost use Rattle.worker_run.specs.declared.WorkerEnd.{WorkerEnd};
 use crate::WorkerEnd;
 use partial_agg::BlockAnswer;
 
-/// What some ends mean, by what those before the last mean and by the last: why there is no answer, or `None` where
-/// none left rows out. Begin with `None` and go through all workers.
+/// What some ends mean, by what those before the last mean and by the last: why there is no answer, or `None` if none
+/// left rows out. Begin with `None` and go through all workers.
 pub fn verdict_with(so_far: Option<BlockAnswer>, end: &Option<WorkerEnd>) -> Option<BlockAnswer>
     ensures { (ends : List (Option WorkerEnd)) → AreVerdict ends so_far → AreVerdict (ends ++ end.now ∷ []) result }
 {

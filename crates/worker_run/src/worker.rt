@@ -40,7 +40,7 @@ fn slots_of(plan: &BoundPlan) -> u32
     plan.items[..plan.item_count as usize].len() as u32
 }
 
-/// Sends all groups where they are many. Answers false where the receiver is gone.
+/// Sends all groups if they are many. Answers false if the receiver is gone.
 fn send_many<R: Wait>(
     rt: &R,
     r: &Region,
@@ -61,8 +61,8 @@ fn send_many<R: Wait>(
     send_groups(rt, r, tuples, groups, slots)
 }
 
-/// Passes on the groups of a block: with a table it gives all of them out, and without one it sends them where they are
-/// many. Answers false where the receiver is gone.
+/// Passes on the groups of a block: with a table it gives all of them out, and without one it sends them if they are
+/// many. Answers false if the receiver is gone.
 fn pass_on<R: Wait>(
     rt: &R,
     r: &Region,
