@@ -8,7 +8,8 @@ use Rattle.worker_run.specs.Ended.{IsFirst, IsRefused}
 use Rattle.gather_merge.specs.declared.MergeAnswer.{MergeAnswer}
 use Rattle.gather_merge.specs.declared.MergeAnswer.TheVariants.{Row, Memory}
 
--- a plan that orders rows: it has columns to group by, counts rows alone, uses no hash table and keeps all rows
+-- a plan that orders rows: it has columns to group by, has no aggregate but the count of rows, uses no hash table and
+-- keeps all rows
 pub record OrdersRows (plan : Plan) : Type 0 where
   pub columns : 0 < length plan.groups
   pub item : Item
@@ -17,7 +18,7 @@ pub record OrdersRows (plan : Plan) : Type 0 where
   pub gather : plan.hash ≡ false
   pub whole : plan.filter ≡ None
 
--- an answer that names a row names a refused one, for its cause, which is no aggregate's; want of memory says nothing
+-- an answer that names a row names a refused one, for its cause, which is no aggregate's; a lack of memory says nothing
 abbrev pub IsCause : Plan → Table → MergeAnswer → Type 0
 IsCause plan records (Row row cause) = IsRefused plan records row cause 0
 IsCause plan records Memory = Unit {0}

@@ -29,12 +29,12 @@ pub record StopsAt (plan : Plan) (records : Table) (block row cause item : ℕ) 
   pub to : row ≤ 256 * block + 256
   pub before : All (IsAccepted plan (header_width records)) (take (row - (256 * block + 1)) (block_rows records block))
 
--- why a block was not taken: one of its rows is refused; want of memory says nothing
+-- why a block was not taken: one of its rows is refused; a lack of memory says nothing
 abbrev pub Stops : Plan → Table → ℕ → BlockAnswer → Type 0
 Stops plan records block (answer.Row row cause item) = StopsAt plan records block row cause item
 Stops plan records block answer.Memory = Unit {0}
 
--- a row of the blocks that a seat drew is refused, and where the seat is alone it is the first
+-- a row of the blocks that a seat drew is refused, and if the seat is alone it is the first
 pub record MetRow (plan : Plan) (records : Table) (claims : Claims) (claim : ClaimSeat) (row cause item : ℕ) : Type 0 where
   pub refused : IsRefused plan records row cause item
   pub own : IsOwnRow (draws_of claim) row

@@ -48,7 +48,7 @@ pub record HasFinished (rows : List ℕ) (errors tuples errors' tuples' : Sendin
   pub published : IsPublished tuples'
   pub said : HasSent errors errors' (encoding message.End ∷ [])
 
--- a worker that sends its rows finishes; it stops where a receiver is gone
+-- a worker that sends its rows finishes; it stops if a receiver is gone
 abbrev pub Finishes : List ℕ → Sending → Sending → Sending → Sending → WorkerEnd → Type 0
 Finishes rows errors tuples errors' tuples' Finished = HasFinished rows errors tuples errors' tuples'
 Finishes rows errors tuples errors' tuples' Stopped = (StoppedSending tuples tuples' × (errors' ≡ errors)) ⊎ (HasSentRows rows tuples tuples' × FoundGone errors errors' [])

@@ -1,4 +1,4 @@
--- Where a leader's rows come from beside its own: the workers' queues, and what was given of each.
+-- Where a leader's rows come from, besides its own: the workers' queues, and what was given of each.
 use Rattle.std.specs.Prelude.{◌≡◌, ◌&&◌, ◌++◌, ℕ, Bool, List, [], ◌∷◌, All, Any, Option, None, Some, false, map, true}
 use Rattle.std.specs.List.{flat_map}
 use Rattle.atomic_table.specs.Seated.{TableId}
@@ -38,7 +38,7 @@ HasGivenNoRow q = rows_given q ≡ []
 abbrev pub IsOver : LeaderEnds → Type 0
 IsOver q = (queue_source q).over ≡ true
 
--- the rows that were taken of a worker, by what a leader tells of its ends
+-- the rows of the messages that a leader took off a worker's tuple queue
 abbrev pub rows_heard : Heard → List ℕ
 rows_heard h = map row_of h.tuples
 
@@ -64,14 +64,14 @@ pub record NamedBy (queues : List (List (List ℕ))) (row cause : ℕ) : Type 0 
 abbrev pub notices_of : LeaderEnds → List (List ℕ)
 notices_of q = whole_of q.errors.end.taken
 
--- a notice that was taken of a worker names this refused row; want of memory names none
+-- a notice that was taken of a worker names this refused row; a lack of memory names none
 abbrev pub IsNamedIn : LeaderEnds → BlockAnswer → Type 0
 IsNamedIn q (answer.Row row cause item) = Any (ReadsRow row cause item) (notices_of q)
 IsNamedIn q answer.Memory = ⊥
 
 -- ---- one answer
 
--- the last notice is read; or one that names a refused row was taken, where the answer names one
+-- the last notice is read; or one that names a refused row was taken, if the answer names one
 abbrev pub HearsEnd : Receiving → Next → Type 0
 HearsEnd new (Row row) = ⊥
 HearsEnd new Over = is_over new ≡ true
@@ -92,13 +92,13 @@ pub record Hears (old new : LeaderEnds) (next : Next) : Type 0 where
 
 -- ---- all rows
 
--- all rows of a worker stand behind a list; or a notice of it names a refused row
+-- all rows of a worker come after a list; or a notice of it names a refused row
 abbrev pub HearsRows : List ℕ → List ℕ → LeaderEnds → Option MergeAnswer → Type 0
 HearsRows old new q None = (new ≡ old ++ rows_given q) × IsOver q
 HearsRows old new q (Some (merging.Row row cause)) = (item : ℕ) × Any (ReadsRow row cause item) (notices_of q)
 HearsRows old new q (Some merging.Memory) = Unit {0}
 
--- all rows of all workers stand behind a list, those of one worker after the other's; or a notice names a refused row
+-- all rows of all workers come after a list, those of one worker after the other's; or a notice names a refused row
 abbrev pub HearsAll : List ℕ → List ℕ → List LeaderEnds → Option MergeAnswer → Type 0
 HearsAll old new queues None = (new ≡ old ++ flat_map rows_given queues) × All IsOver queues
 HearsAll old new queues (Some (merging.Row row cause)) = NamedBy (map notices_of queues) row cause

@@ -1,4 +1,4 @@
--- Where the blocks were drawn, each once, the merge of the participants' streams is the one order of all rows.
+-- If the blocks were drawn, each once, the merge of the participants' streams is the one order of all rows.
 use Rattle.std.specs.Prelude.{◌≡◌, ◌≤◌, ◌+◌, ◌*◌, ℕ, List, All, drop, length}
 use Rattle.std.specs.List.{AllZip}
 use Rattle.scan_claim.specs.Drawing.{flat, once_below, times}
@@ -8,7 +8,8 @@ use Rattle.row_blocks.specs.Blocks.{Table}
 use Rattle.gather_merge.specs.Order.{IsOrder, row_cmp}
 use Rattle.gather_merge.specs.Streams.{IsMerge, IsStream}
 
--- with each block drawn once, no row is refused, and the merge is an order of all rows, whoever drew which block
+-- with each block drawn once, no row is refused, and the merge is an order of all rows, no matter which participant
+-- drew which block
 abbrev pub MergesAll : Type 0
 MergesAll = (plan : Plan) (width : ℕ) (records : Table) (draws streams : List (List ℕ)) (rows : List ℕ) (n : ℕ)
     → AllZip (IsStream plan width records) draws streams → IsMerge (row_cmp plan records) streams rows

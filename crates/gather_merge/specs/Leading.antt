@@ -45,7 +45,7 @@ pub record HasLed (plan : Plan) (records : Table) (blocks : ℕ) (draws : List �
   pub over : All (λ (h : Heard). h.tuples_over ≡ true) heard
   pub errors_over : All (λ (h : Heard). h.errors_over ≡ true) heard
 
--- it met a refused row, the first where it is alone
+-- it met a refused row, the first if it is alone
 pub record MetRow (plan : Plan) (records : Table) (alone : Type 0) (row cause : ℕ) : Type 0 where
   pub item : ℕ
   pub refused : IsRefused plan records row cause item

@@ -1,4 +1,4 @@
--- Rows beside their words, sorted level by level: a level is a column, and a byte of it.
+-- Rows paired with their words, sorted level by level: a level is a column, and a byte of it.
 use Rattle.std.specs.Prelude.{◌≡◌, ◌<◌, ◌+◌, ◌%◌, ℕ, List, All, MatchBool, length, map, nat_lt, slice_index_or}
 use Rattle.std.specs.Cmp.Lexicographic.{slice_cmp}
 use Rattle.std.specs.List.Sorted.{IsPermutation, IsSorted}
@@ -7,7 +7,7 @@ use Rattle.std.specs.declared.cmp.Ordering.{Ordering}
 use Rattle.gather_merge.specs.RowWords.{AreBytes, tail_cmp, text_at, word}
 use Rattle.gather_merge.specs.declared.sorting.Keyed.{Keyed}
 
--- how rows compare by what is left of a column from a byte on, by the columns behind it, and then by their numbers
+-- how rows compare by what is left of a column from a byte on, by the columns after it, and then by their numbers
 abbrev pub level_cmp : (ℕ → List (List ℕ)) → ℕ → ℕ → ℕ → ℕ → Ordering
 level_cmp columns column from a b = ordering_then (slice_cmp nat_cmp (text_at columns column from a) (text_at columns column from b)) (tail_cmp columns (column + 1) a b)
 
@@ -15,7 +15,7 @@ level_cmp columns column from a b = ordering_then (slice_cmp nat_cmp (text_at co
 abbrev pub AreTied : (ℕ → ℕ → Ordering) → (ℕ → List (List ℕ)) → ℕ → ℕ → List ℕ → Type 0
 AreTied cmp columns column from rows = All (λ a. All (λ b. cmp a b ≡ level_cmp columns column from a b) rows) rows
 
--- the level behind one whose word is given: the next column, where the word is whole, and else seven bytes on
+-- the level after one whose word is given: the next column, if the word is whole, and else seven bytes on
 abbrev pub Follows : ℕ → ℕ → ℕ → ℕ → ℕ → Type 0
 Follows word column from column' from' = MatchBool (nat_lt (word % 256) 8) ((column' ≡ column + 1) × (from' ≡ 0)) ((column' ≡ column) × (from' ≡ from + 7))
 
@@ -37,7 +37,7 @@ word_of_pair run k = (slice_index_or run k (record { word = 0; row = 0 })).word
 abbrev pub HaveOneWord : List Keyed → Type 0
 HaveOneWord ties = (k : ℕ) → k < length ties → word_of_pair ties k ≡ word_of_pair ties 0
 
--- a row stands beside its word of a level
+-- a row is paired with its word of a level
 pub record IsWorded (columns : ℕ → List (List ℕ)) (column from : ℕ) (k : Keyed) : Type 0 where
   pub is : k.word ≡ word (text_at columns column from k.row)
   pub bytes : AreBytes (text_at columns column from k.row)

@@ -1,4 +1,4 @@
--- The order of a table's rows: ORDER BY some columns, as bytes, and by the row's number where they are the same.
+-- The order of a table's rows: ORDER BY some columns, as bytes, and by the row's number if they are the same.
 use Rattle.std.specs.Prelude.{◌∷◌, ℕ, List, map}
 use Rattle.std.specs.List.Sorted.{IsPermutation, IsSorted}
 use Rattle.std.specs.Ordering.{nat_cmp, ordering_then}

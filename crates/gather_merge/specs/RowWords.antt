@@ -8,13 +8,13 @@ use Rattle.par_model.specs.Table.{columns_cmp}
 abbrev pub AreBytes : List ℕ → Type 0
 AreBytes text = (k : ℕ) → get_or text k 0 < 256
 
--- the number that the first n bytes of a text make, the highest first; behind a text's end stand zeros
+-- the number that the first n bytes of a text make, the highest first; zeros follow a text's end
 abbrev pub chunk : ℕ → List ℕ → ℕ
 chunk zero text = 0
 chunk (suc n) [] = 0
 chunk (suc n) (b ∷ text) = b * 256 ^ n + chunk n text
 
--- the word of a text: its first seven bytes, and then its length, where 8 stands for all lengths from 8 on
+-- the word of a text: its first seven bytes, and then its length, with 8 for all lengths from 8 on
 unfoldable pub word : List ℕ → ℕ
 word text = chunk 7 text * 256 + min (length text) 8
 

@@ -14,7 +14,7 @@ pub record IsStream (plan : Plan) (width : ℕ) (records : Table) (blocks rows :
   pub each : IsPermutation (numbers_of_blocks records blocks) rows
   pub rising : IsSorted (row_cmp plan records) rows
 
--- a list has the elements of all streams, and is in order where each of them is
+-- a list has the elements of all streams, and is in order if each of them is
 pub record IsMerge {X : Type 0} (cmp : X → X → Ordering) (streams : List (List X)) (merged : List X) : Type 0 where
   pub each : IsPermutation (flat_map (λ stream. stream) streams) merged
   pub rising : All (IsSorted cmp) streams → IsSorted cmp merged

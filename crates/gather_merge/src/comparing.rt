@@ -1,4 +1,4 @@
-//! How two rows compare, by their numbers. Their words decide first, which lie in one list; where these are the same, the
+//! How two rows compare, by their numbers. Their words decide first, which lie in one list; if these are the same, the
 //! rows are compared where they lie, so nothing of them is copied.
 
 ghost use Rattle.std.specs.Prelude.{◌≡◌, [], unwrap_or};
@@ -23,7 +23,7 @@ pub(crate) fn find_row(rows: &RowStore, row: u64) -> Option<Record<'_>>
     }
 }
 
-/// A field of a record, and nothing where it is not there.
+/// A field of a record, and nothing if it is not there.
 pub(crate) fn field_or_none<'a>(row: &Option<Record<'a>>, column: u32) -> &'a [u8]
     ensures { result.now ≡ field_of (unwrap_or row.entry.now []) column }
 {
@@ -33,8 +33,8 @@ pub(crate) fn field_or_none<'a>(row: &Option<Record<'a>>, column: u32) -> &'a [u
     }
 }
 
-/// How two rows compare by the plan's columns from this one on in turn, and then by their numbers. A number of no row is
-/// that of one with no fields. No memory is taken; each row is looked up once, and not at all where no column is left.
+/// How two rows compare by the plan's columns from this one on in turn, and then by their numbers. A number of no row
+/// is that of one with no fields. No memory is taken; each row is looked up once, and not at all if no column is left.
 fn compare_from(rows: &RowStore, plan: &BoundPlan, from: usize, a: u64, b: u64) -> Ordering
     ensures { result ≡ tail_cmp (columns_at plan.now rows.now) from a b }
 {
@@ -53,8 +53,8 @@ fn compare_from(rows: &RowStore, plan: &BoundPlan, from: usize, a: u64, b: u64) 
     a.cmp(&b)
 }
 
-/// How two rows compare: by the plan's columns in turn, and then by their numbers. The rows are looked up only where
-/// their words are the same and do not have the whole of the columns.
+/// How two rows compare: by the plan's columns in turn, and then by their numbers. The rows are looked up only if their
+/// words are the same and do not have the whole of the columns.
 pub(crate) fn compare(rows: &RowStore, plan: &BoundPlan, words: &[u64], a: u64, b: u64) -> Ordering
     requires words { AreWords (columns_at plan.now rows.now) words.now }
     ensures { result ≡ row_cmp plan.now rows.now a b }

@@ -22,7 +22,7 @@ use scan_claim::ClaimSeat;
 use std::sync::Wait;
 use worker_run::{Gate, Job};
 
-/// Puts the numbers of a block's rows behind the others. A refused row stops it, the first of the block.
+/// Puts the numbers of a block's rows after the others. A refused row stops it, the first of the block.
 fn take_block(
     rows: &RowStore,
     plan: &BoundPlan,

@@ -1,5 +1,5 @@
-//! Where the leader's rows come from beside its own: the workers' queues. Worker by worker it takes all rows of the tuple
-//! queue, and then the last notice. A worker whose turn has not come waits with a full queue.
+//! Where the leader's rows come from, besides its own: the workers' queues. Worker by worker it takes all rows of the
+//! tuple queue, and then the last notice. A worker whose turn has not come waits with a full queue.
 
 ghost use Rattle.std.specs.Prelude.{◌≡◌, All, Any, IfSome, false};
 ghost use Rattle.std.specs.List.{AllZip};
@@ -109,7 +109,7 @@ pub(crate) fn hear_early<R: Wait>(
     None
 }
 
-/// Puts the rows of a worker behind the list, up to its last, and waits for them. It says why there is no order, if it
+/// Puts the rows of a worker after the list, up to its last, and waits for them. It says why there is no order, if it
 /// learns that.
 fn hear_rows<R: Wait>(
     rt: &R,
@@ -142,7 +142,7 @@ fn hear_rows<R: Wait>(
     unreachable!()
 }
 
-/// Puts the rows of all workers behind the list, one worker after the other.
+/// Puts the rows of all workers after the list, one worker after the other.
 pub(crate) fn hear_all<R: Wait>(
     rt: &R,
     r: &Region,

@@ -2,8 +2,8 @@
 
 ghost use Rattle.gather_merge.specs.Law.{MergesAll, OneOrder};
 
-/// Where each block was drawn once, the merge of the participants' sorted streams is an order of all rows, whoever drew
-/// which block. A law: it does nothing when it runs.
+/// If each block was drawn once, the merge of the participants' sorted streams is an order of all rows, no matter which
+/// participant drew which block. A law: it does nothing when it runs.
 pub fn merges_all()
     ensures { MergesAll }
 {}

@@ -26,8 +26,8 @@ use std::alloc::Global;
 use std::sync::Wait;
 use worker_run::{Gate, Job};
 
-/// Puts the workers' rows behind the leader's own, which are in order, and merges them. It says why there is no order, if
-/// there is none.
+/// Puts the workers' rows after the leader's own, which are in order, and merges them. It says why there is no order,
+/// if there is none.
 fn merge_all<R: Wait>(
     rt: &R,
     alloc: Global,
@@ -54,7 +54,7 @@ fn merge_all<R: Wait>(
     }
 }
 
-/// Draws blocks until there are no more, and merges. Where there is no order it says why, at once.
+/// Draws blocks until there are no more, and merges. If there is no order it says why, at once.
 pub(crate) fn lead_all<G: Gate, R: Wait>(
     rt: &R,
     alloc: Global,

@@ -2,10 +2,11 @@
 //! of the blocks that it draws, and the leader merges the workers' streams with its own.
 //!
 //! Rows are known by their numbers, and compare by their columns and then by these numbers, so no two are alike and
-//! there is one order of all rows (`IsOrder`), whoever drew which block. Each row has a word of the first bytes of its
-//! first column, and where two words tell the rows apart nothing else is looked at. That a merge of sorted streams is
-//! this order is a fact about plain lists (`merges_all`); here it is shown that a run is one of those that the fact speaks
-//! of. A worker that ended early has left rows out, so the answer is then a refused row or want of memory, and no order.
+//! there is one order of all rows (`IsOrder`), no matter which participant drew which block. Each row has a word of the
+//! first bytes of its first column, and if two words tell the rows apart nothing else is looked at. That a merge of
+//! sorted streams is this order is a fact about plain lists (`merges_all`); here it is shown that a run is one of those
+//! that the fact speaks of. A worker that ended early has left rows out, so the answer is then a refused row or a lack
+//! of memory, and no order.
 
 #![tactic(auto)]
 
@@ -63,16 +64,17 @@ pub struct Merged {
 }
 
 /// Puts the rows in the order of the plan's columns, as bytes, and of their numbers. It runs in the caller's thread, as
-/// participant 0, with this many workers beside it; each participant passes the gate before each of its blocks. Of
+/// participant 0, with this many workers besides it; each participant passes the gate before each of its blocks. Of
 /// several refused rows any may be named, unless there are no workers. A refused row that the leader met or read goes
-/// before a worker's want of memory; on either, and on want of memory of its own, the leader leaves its queues at once,
+/// before a worker's lack of memory; on either, and if it has no memory itself, the leader leaves its queues at once,
 /// which stops the workers. Fewer workers than asked for may start, also none.
 ///
 /// The blocks of 256 rows and their sorting are shared out. Each row of a worker is one message. The leader takes the
-/// messages off, worker by worker, puts these streams behind its own rows, and merges all by a sort that keeps long runs:
-/// where the first words tell most rows apart that is a few comparisons of words for each row. A row is looked up once for
-/// each seven bytes of its columns by which it has to be told apart from others. Memory is 82 KB for each worker, 8 bytes a
-/// row for the words, 8 for the participants' lists, 8 for the order, and 32 more while all is merged.
+/// messages off, worker by worker, puts these streams after its own rows, and merges all by a sort that keeps long
+/// runs: if the first words tell most rows apart that is a few comparisons of words for each row. A row is looked up
+/// once for each seven bytes of its columns by which it has to be told apart from others. Memory is 82 KB for each
+/// worker, 8 bytes a row for the words, 8 for the participants' lists, 8 for the order, and 32 more while all is
+/// merged.
 pub fn merge<G: Gate + Sync, R: Threads + Wait + Sync>(
     rt: &R,
     alloc: Global,

@@ -88,7 +88,7 @@ pub(crate) struct Leader<'a, G: Gate> {
     pub(crate) words: &'a [u64],
     /// What it passes before each of its blocks.
     pub(crate) gate: &'a G,
-    /// The numbers of all rows in order, where there is no failure.
+    /// The numbers of all rows in order, if there is no failure.
     pub(crate) order: Vec<u64>,
     /// Why there is no order.
     pub(crate) failure: Option<MergeAnswer>,

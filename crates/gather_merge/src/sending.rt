@@ -9,7 +9,7 @@ use mq_handle::{SendDone, Sender};
 use region_words::Region;
 use std::sync::Wait;
 
-/// Sends the number of a row, without flush. Answers false where the receiver is gone.
+/// Sends the number of a row, without flush. Answers false if the receiver is gone.
 fn send_row<R: Wait>(rt: &R, r: &Region, tuples: &mut Sender, row: u64) -> bool
     requires here { tuples.old.region ≡ r.now }
     requires ready { IsReady 8 tuples.old.end }
@@ -23,7 +23,7 @@ fn send_row<R: Wait>(rt: &R, r: &Region, tuples: &mut Sender, row: u64) -> bool
     }
 }
 
-/// Sends the numbers of rows, in this order. Answers false where the receiver is gone.
+/// Sends the numbers of rows, in this order. Answers false if the receiver is gone.
 pub(crate) fn send_rows<R: Wait>(rt: &R, r: &Region, tuples: &mut Sender, list: &[u64]) -> bool
     requires here { tuples.old.region ≡ r.now }
     requires ready { IsReady 8 tuples.old.end }

@@ -1,6 +1,6 @@
-//! How a participant puts its rows in order. Each row stands beside a word of seven bytes of its columns, and such pairs
-//! are sorted as numbers. Rows that have the same word get their next one, and are sorted among themselves: so each level
-//! fetches a row once, and no comparison fetches anything. Below the last level whole rows are compared.
+//! How a participant puts its rows in order. Each row is paired with a word of seven bytes of its columns, and such
+//! pairs are sorted as numbers. Rows that have the same word get their next one, and are sorted among themselves: so
+//! each level fetches a row once, and no comparison fetches anything. Below the last level whole rows are compared.
 
 ghost use Rattle.std.specs.Prelude.{◌≡◌, ◌≢◌, ◌<◌, ◌≤◌, ◌+◌, ◌*◌, ℕ, IfOk, OnOk, All, length};
 ghost use Rattle.std.specs.List.Sorted.{IsPermutation, IsSorted};
@@ -50,8 +50,8 @@ fn load_words(rows: &RowStore, plan: &BoundPlan, run: &mut [Keyed], column: usiz
     }
 }
 
-/// Where rows that have the same word of a level differ first: in the next column, where the word is whole, and else
-/// seven bytes on.
+/// Where rows that have the same word of a level differ first: in the next column, if the word is whole, and else seven
+/// bytes on.
 fn next_level(word: u64, column: usize, offset: usize) -> (usize, usize)
     requires few { (column ≤ 8) × (offset ≤ 448) }
     ensures { Follows word column offset result.0 result.1 }
@@ -63,7 +63,7 @@ fn next_level(word: u64, column: usize, offset: usize) -> (usize, usize)
     }
 }
 
-/// Sorts rows that are the same up to this byte of this column, beside their words of there.
+/// Sorts rows that are the same up to this byte of this column, paired with their words from there on.
 #[cycle(levels)]
 fn sort_level(
     rows: &RowStore,
@@ -97,7 +97,7 @@ fn sort_level(
     }
 }
 
-/// Sorts rows that have the same word of this level, by their next words. They stand in order of their numbers.
+/// Sorts rows that have the same word of this level, by their next words. They are in order of their numbers.
 #[cycle(levels)]
 fn sort_ties(
     rows: &RowStore,
@@ -129,7 +129,7 @@ fn sort_ties(
     sort_level(rows, plan, words, ties, column, offset, levels - 1);
 }
 
-/// Rows beside their words of the first column.
+/// Rows paired with their words of the first column.
 fn with_words(
     alloc: Global,
     rows: &RowStore,
@@ -151,7 +151,7 @@ fn with_words(
     Ok(run)
 }
 
-/// Puts the rows of pairs in place of a list.
+/// Replaces a list by the rows of pairs.
 fn put_rows(run: &[Keyed], list: &mut Vec<u64>) -> Result<(), AllocError>
     ensures { OnOk result (list.new.items ≡ rows_of run.now) }
 {
@@ -162,7 +162,7 @@ fn put_rows(run: &[Keyed], list: &mut Vec<u64>) -> Result<(), AllocError>
     Ok(())
 }
 
-/// Sorts rows beside their words of the first column, and puts them in place of a list.
+/// Sorts rows, paired with their words of the first column, and replaces the list by them.
 fn sort_pairs(
     rows: &RowStore,
     plan: &BoundPlan,
@@ -195,8 +195,8 @@ pub(crate) fn sort_rows(
     sort_pairs(rows, plan, words, run, list)
 }
 
-/// Rows beside their words of the first column, in order of the pairs. A stable sort keeps long runs of its input and
-/// merges them.
+/// Rows paired with their words of the first column, in order of the pairs. A stable sort keeps long runs of its input
+/// and merges them.
 fn merge_runs(
     alloc: Global,
     rows: &RowStore,
@@ -213,7 +213,8 @@ fn merge_runs(
     Ok(run)
 }
 
-/// The same of lists that stand one behind the other, each in order. Takes 32 bytes for each number while it runs.
+/// Sorts the rows of a list that consists of lists in order, one after the other. Takes 32 bytes for each number while
+/// it runs.
 pub(crate) fn merge_rows(
     alloc: Global,
     rows: &RowStore,

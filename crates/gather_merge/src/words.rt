@@ -1,6 +1,6 @@
 //! The words by which rows are compared before anything of them is looked at: the first bytes of a text, the highest
-//! first, and then its length where it is short. So two words compare as their texts do, and texts of at most seven bytes
-//! that have the same word are the same. The words of the first column stand in one list for all participants, which
+//! first, and then its length if it is short. So two words compare as their texts do, and texts of at most seven bytes
+//! that have the same word are the same. The words of the first column are in one list for all participants, which
 //! nobody changes.
 
 ghost use Rattle.std.specs.Prelude.{◌≡◌, ◌<◌, ◌%◌, IfOk, get_or, nat_lt};
@@ -13,14 +13,14 @@ use par_model::BoundPlan;
 use std::alloc::{AllocError, Global};
 use std::thread::{Threads, for_each_mut};
 
-/// A byte of a text; zero behind its end.
+/// A byte of a text; zero after its end.
 fn byte_at(text: &[u8], at: usize) -> u64
     ensures { (result ≡ get_or text.now at 0) × (result < 256) }
 {
     if at < text.len() { text[at] as u64 } else { 0 }
 }
 
-/// The word of a text. Tells too that the text is of bytes.
+/// The word of a text. Proves too that the text consists of bytes.
 pub(crate) fn word_of(text: &[u8]) -> u64
     ensures is { result ≡ word text.now }
     ensures bytes { AreBytes text.now }
@@ -39,7 +39,7 @@ pub(crate) fn is_whole(word: u64) -> bool
     word % 256 < 8
 }
 
-/// What a row has in one of the plan's columns, from this byte on; nothing where that is not there.
+/// What a row has in one of the plan's columns, from this byte on; nothing if that is not there.
 pub(crate) fn text_from<'a>(
     rows: &'a RowStore,
     plan: &BoundPlan,
@@ -104,7 +104,7 @@ pub(crate) fn first_words<R: Threads + Sync>(
     Ok(words)
 }
 
-/// The word of a row; that of no text where there is no such row.
+/// The word of a row; that of no text if there is no such row.
 pub(crate) fn word_at(words: &[u64], row: u64) -> u64
     ensures { result ≡ get_or words.now row 0 }
 {

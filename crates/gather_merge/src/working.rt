@@ -1,6 +1,6 @@
 //! A worker of a merge: it draws blocks, puts their rows in order, and sends the rows' numbers. On its error queue it
-//! sends a single notice: `X` as its last act, when all its rows are sent, or `E` with the row that is refused. So
-//! whoever reads `X` knows that the messages before it are all rows of the worker's blocks, in order.
+//! sends a single notice: `X` as its last act, when all its rows are sent, or `E` with the row that is refused. So a
+//! leader that reads `X` knows that the messages before it are all rows of the worker's blocks, in order.
 
 ghost use Rattle.std.specs.Prelude.{◌≡◌, true};
 ghost use Rattle.scan_claim.specs.Shown.{Belongs, blocks_of, draws_of, number_of};
@@ -73,8 +73,8 @@ fn work_rows<G: Gate, R: Wait>(
 }
 
 /// Draws blocks until there are no more, puts their rows in order, and sends them. It passes the gate before each
-/// block. Both ends are detached afterwards, the tuple queue's first. It waits where a queue is full, until the receiver
-/// takes something or is gone.
+/// block. Both ends are detached afterwards, the tuple queue's first. It waits while a queue is full, until the
+/// receiver takes something or is gone.
 pub(crate) fn work<G: Gate, R: Wait>(
     rt: &R,
     alloc: Global,

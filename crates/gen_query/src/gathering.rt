@@ -18,7 +18,7 @@ use std::sync::Wait;
 use std::thread::Threads;
 use worker_run::Gate;
 
-/// How many workers there are beside the caller's thread.
+/// How many workers there are besides the caller's thread.
 const WORKERS: u32 = 2;
 
 /// How many pages a shared table of groups would have, for which the plan does not ask.

@@ -30,7 +30,7 @@ fn value_of(x: u64) -> i64
     ((x >> 32) % 2_001) as i64 - 1_000
 }
 
-/// Puts the row of a number behind a text.
+/// Appends the row of a number to a text.
 fn put_row(text: &mut Vec<u8>, x: u64) -> Result<(), AllocError>
     ensures { OnOk result (text.new.items ≡ text.old.items ++ row_text default_writer (record_of x)) }
 {

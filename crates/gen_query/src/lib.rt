@@ -1,7 +1,7 @@
-//! Generated rows and what is said of them: the words `gen SEED ROWS` make the text of as many rows by a generator of
-//! numbers, which is read as the bytes of a file are read, grouped with two workers beside the caller's thread by
-//! `--group g --agg count,sum:v`, and answered by the one line `rows R groups G sum S`: how many rows there are, how many
-//! groups, and the sum of all values.
+//! Generated rows and what is said of them: the words `gen SEED ROWS` make the text of that many rows by a generator of
+//! numbers, which is read as the bytes of a file are read, grouped with two workers besides the caller's thread by
+//! `--group g --agg count,sum:v`, and answered by the one line `rows R groups G sum S`: how many rows there are, how
+//! many groups, and the sum of all values.
 //!
 //! That line is put together from the groups. That it is the line of the numbers that were generated is what is proved
 //! of all the steps together: of the text, its records, their groups and the sums of these.
@@ -66,13 +66,13 @@ pub fn answer_generated<R: Threads + Wait + Sync, O: Sink, G: Gate + Sync>(
     out: &mut O,
     gate: &G,
 ) -> Result<Gathered, GenAnswer>
-    // It is Usage exactly where the words ask for no rows. Otherwise, without a fault, only memory can be missing.
+    // It is Usage exactly if the words ask for no rows. Otherwise, without a fault, only memory can be missing.
     ensures no_words { IsNone (gen_of (texts words.now)) → result ≡ Err answer.Usage }
     ensures usage { result ≡ Err answer.Usage → IsNone (gen_of (texts words.now)) }
     ensures complete { IsSome (gen_of (texts words.now)) → ¬ Rose (O.faults out.old) (O.faults out.new) → IfErr result (λ why. why ≡ answer.Memory) }
 
-    // `out` receives the line of the rows, or a prefix of it where a write failed, and else nothing. WriteFault comes only
-    // where a fault of `out` rose in this call.
+    // `out` receives the line of the rows, or a prefix of it if a write failed, and else nothing. WriteFault comes only
+    // if a fault of `out` rose in this call.
     ensures summary { OnOk result (IsAnswered (gen_of (texts words.now)) (O.taken out.old) (O.taken out.new)) }
     ensures part { result ≡ Err answer.WriteFault → IsBegun (gen_of (texts words.now)) (O.taken out.old) (O.taken out.new) }
     ensures nothing { IfErr result (λ why. (why ≢ answer.WriteFault) → out.new ≡ out.old) }

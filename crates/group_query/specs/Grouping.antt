@@ -16,7 +16,7 @@ use Rattle.table_query.specs.declared.input.Ready.{Ready}
 abbrev pub ListsGroups : Plan → List (List (List ℕ)) → List Group → Type 0
 ListsGroups plan records groups = (m : GroupsByKey) × AreGroups plan (drop 1 records) m × (groups ≡ listed m)
 
--- an answer that names a row names the first that is refused; want of memory says nothing
+-- an answer that names a row names the first that is refused; a lack of memory says nothing
 abbrev pub NamesRefused : Plan → List (List (List ℕ)) → BlockAnswer → Type 0
 NamesRefused plan records (answer.Row row cause item) = (rest : List (ℕ × Refusal)) × (refused_in plan records ≡ (row, record { cause = cause; item = item }) ∷ rest)
 NamesRefused plan records answer.Memory = ⊤

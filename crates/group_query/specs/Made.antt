@@ -8,7 +8,7 @@ use Rattle.result_text.specs.Text.{IsTextOf}
 use Rattle.table_query.specs.Answers.{bound_over}
 
 -- A query's participants made the groups of a text: as many workers as it asks for shared the blocks of the records
--- with the leader, by way of a shared table of groups where it asks for one, and the text is that of the groups gathered
+-- with the leader, by way of a shared table of groups if it asks for one, and the text is that of the groups gathered
 pub record IsMadeFor (query : Query) (bytes text : List ℕ) (g : Gathered) : Type 0 where
   pub used : IsUsed (bound_over query.plan bytes) (records_of bytes) query.workers query.area_pages g.finished
   pub text_is : IsTextOf query.plan (bound_over query.plan bytes) g.groups text

@@ -1,4 +1,5 @@
-//! The query in the caller's thread alone: its blocks go one after the other, so a refused row that it names is the first.
+//! The query in the caller's thread, with no workers: its blocks go one after the other, so a refused row that it names
+//! is the first.
 
 ghost use Rattle.std.specs.Prelude.{◌≡◌, ◌≢◌, ◌⊎◌, ℕ, List, Contains, IfErr, IfSome, IsNone, OnOk, Err, take};
 ghost use Rattle.std.specs.Io.KnownBytes.{Appends};
@@ -21,9 +22,9 @@ use par_io::{Sink, Source};
 use std::alloc::Global;
 use table_query::{Alone, Stop, Wanted, prepare};
 
-/// Answers the query that `words`, those after the program's name, name by options: writes the table to `out`, or a line
-/// to `err` that says why there is none, and returns the exit status. It does so in the caller's thread alone, with no
-/// wait, whatever number of workers the words give. Words that begin with `merge`, `join` or `gen` are no plan here.
+/// Answers the query that `words`, those after the program's name, name by options: writes the table to `out`, or a
+/// line to `err` that says why there is none, and returns the exit status. It does so only in the caller's thread, with
+/// no wait, whatever number of workers the words give. Words that begin with `merge`, `join` or `gen` are no plan here.
 ///
 /// Time is linear in the input, but for the look-up of each row's group and the order of the groups. Memory is the input,
 /// its records, the groups, and the text of the table.
@@ -34,19 +35,20 @@ pub fn aggregate_alone<S: Source, O: Sink, E: Sink>(
     out: &mut O,
     err: &mut E,
 ) -> u8
-    // There is no other status, and one that tells of no fault is that of the outcome.
+    // There is no other status, and one that reports no fault is that of the outcome.
     ensures statuses { Contains statuses result }
     ensures outcome { IfSome (S.left source.old) (λ bytes. (result ≢ READ_FAULT) → (result ≢ WRITE_FAULT) → (result ≢ NO_MEMORY)
         → result ≡ status_of (outcome_over (plan_of (texts words.now)) bytes)) }
 
-    // `out` receives the table, or a prefix of it where a write failed, and on every other status nothing.
+    // `out` receives the table, or a prefix of it if a write failed, and on every other status nothing.
     ensures table { result ≡ TABLE → IfSome (S.left source.old) (λ bytes.
         (text : List ℕ) × IsTableText (plan_of (texts words.now)) bytes text × Appends (O.taken out.old) (O.taken out.new) text) }
     ensures part { result ≡ WRITE_FAULT → IfSome (S.left source.old) (λ bytes.
         (text : List ℕ) × IsTableText (plan_of (texts words.now)) bytes text × (n : ℕ) × Appends (O.taken out.old) (O.taken out.new) (take n text)) }
     ensures nothing { (result ≢ TABLE) → (result ≢ WRITE_FAULT) → out.new ≡ out.old }
 
-    // A fault is answered only where it came in this call. Without one the status is the outcome's, or want of memory.
+    // A fault is answered only if it came in this call. Without one the status is the outcome's, or there was no
+    // memory.
     ensures read_fault { result ≡ READ_FAULT → Rose (S.faults source.old) (S.faults source.new) }
     ensures write_fault { result ≡ WRITE_FAULT → Rose (O.faults out.old) (O.faults out.new) }
     ensures complete { ¬ Rose (S.faults source.old) (S.faults source.new) → ¬ Rose (O.faults out.old) (O.faults out.new)
@@ -57,7 +59,7 @@ pub fn aggregate_alone<S: Source, O: Sink, E: Sink>(
     ensures unread { IsNone (plan_of (texts words.now)) → source.new ≡ source.old }
     ensures other_form { IsOtherForm (texts words.now) → IsNone (plan_of (texts words.now)) }
 
-    // `err` receives the line of the status, or a prefix of it where a write of it failed, and beside a table nothing.
+    // `err` receives the line of the status, or a prefix of it if a write of it failed, and with a table nothing.
     ensures line { (result ≢ TABLE) → (o : Outcome) × IsOutcome (plan_of (texts words.now)) (S.left source.old) o
         × (said : List ℕ) × IsLine usage_text (plan_of (texts words.now)) result o said × IsSaid (E.taken err.old) (E.taken err.new) (E.faults err.old) (E.faults err.new) said }
     ensures quiet { result ≡ TABLE → err.new ≡ err.old }

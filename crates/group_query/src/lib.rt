@@ -1,8 +1,8 @@
-//! The table of a plan, from the words that name it to what is written: by workers beside the caller's thread, or in the
-//! caller's thread alone.
+//! The table of a plan, from the words that name it to what is written: by workers besides the caller's thread, or only
+//! in the caller's thread.
 //!
 //! What comes before the rows is the crate `table_query`'s. Here the rows come to groups, the groups to a text, and the
-//! text is written when it is there as a whole, in one piece or in several: only a whole table, or where a write failed a
+//! text is written when it is there as a whole, in one piece or in several: only a whole table, or if a write failed a
 //! prefix of it, goes to `out`.
 
 #![tactic(auto)]
@@ -35,9 +35,10 @@ use std::thread::Threads;
 use table_query::{InThreads, Stop, Wanted, prepare};
 use worker_run::Gate;
 
-/// Answers the query that `words`, those after the program's name, name by options: reads the source and writes the table
-/// to `out`, with as many workers beside the caller's thread as the words ask for. The text is made by as many threads.
-/// Each participant passes the gate before each of its blocks. `Err` says why there is no table; its line is still to be written.
+/// Answers the query that `words`, those after the program's name, name by options: reads the source and writes the
+/// table to `out`, with as many workers besides the caller's thread as the words ask for. The text is made by as many
+/// threads. Each participant passes the gate before each of its blocks. `Err` says why there is no table; its line is
+/// still to be written.
 ///
 /// Time is linear in the input, but for the look-up of each row's group and the order of the groups. Memory is the input,
 /// its records, the groups, for each worker 82 KB and the groups of its own rows, the area of a shared table, and the text.
@@ -49,15 +50,15 @@ pub fn answer_plan<R: Threads + Wait + Sync, S: Source, O: Sink, G: Gate + Sync>
     out: &mut O,
     gate: &G,
 ) -> Result<Gathered, Stop>
-    // `out` receives the table, which is that of the groups that were gathered, or a prefix of it where a write failed, and
-    // on every other answer nothing. Beside a table what is returned says how its groups were made.
+    // `out` receives the table, which is that of the groups that were gathered, or a prefix of it if a write failed,
+    // and on every other answer nothing. With a table what is returned says how its groups were made.
     ensures table { IfOk result (λ gathered. IfSome (S.left source.old) (λ bytes. (text : List ℕ) × IsTableText (plan_of (texts words.now)) bytes text
         × IsMadeBy (query_of (texts words.now)) bytes text gathered × Appends (O.taken out.old) (O.taken out.new) text)) }
     ensures part { IfErr result (λ why. why ≡ stop.WriteFault → IfSome (S.left source.old) (λ bytes.
         (text : List ℕ) × IsTableText (plan_of (texts words.now)) bytes text × (n : ℕ) × Appends (O.taken out.old) (O.taken out.new) (take n text))) }
     ensures nothing { IfErr result (λ why. (why ≢ stop.WriteFault) → out.new ≡ out.old) }
 
-    // `Err` explains the outcome. A fault is answered only where it came in this call.
+    // `Err` explains the outcome. A fault is answered only if it came in this call.
     ensures why { IfErr result (λ why. IsExplained (plan_of (texts words.now)) (S.left source.old) why) }
     ensures read_fault { IfErr result (λ why. why ≡ stop.ReadFault → Rose (S.faults source.old) (S.faults source.new)) }
     ensures write_fault { IfErr result (λ why. why ≡ stop.WriteFault → Rose (O.faults out.old) (O.faults out.new)) }

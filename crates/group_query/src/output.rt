@@ -1,5 +1,5 @@
-//! The writing of a table: as a whole, or in pieces where several threads make its text. A piece is written as it was
-//! made, so the text never stands in one list, and nothing is written before all pieces are there.
+//! The writing of a table: as a whole, or in pieces if several threads make its text. A piece is written as it was
+//! made, so the text is never in one list, and nothing is written before all pieces are there.
 
 ghost use Rattle.std.specs.Prelude.{◌≡◌, ◌≢◌, ◌⊎◌, ℕ, List, IfErr, IfOk, OnOk, take};
 ghost use Rattle.std.specs.Io.KnownBytes.{Appends};
@@ -40,7 +40,7 @@ pub(crate) fn write_table<O: Sink>(
     }
 }
 
-/// The same, with a text that is made by at most this many threads, the caller's among them.
+/// Writes the table of groups, with a text that is made by at most this many threads, the caller's among them.
 pub(crate) fn write_table_in_threads<R: Threads + Sync, O: Sink>(
     rt: &R,
     alloc: Global,

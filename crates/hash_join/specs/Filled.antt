@@ -24,7 +24,7 @@ RowEntry = Entry (PartitionState ℕ) (PartitionCalls ℕ) (PartitionReplies ℕ
 abbrev pub made_call : List ℕ → ℕ → ℕ → List ℕ × Link
 made_call key row before = (key, record { row = row; before = before })
 
--- the call that an entry is, where it was made
+-- the call that an entry is, if it was made
 abbrev pub done_of : PartitionCalls ℕ → PartitionReplies ℕ ℕ → List (List ℕ × Link)
 done_of call reply = done.done_of made_call call reply
 

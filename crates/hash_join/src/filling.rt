@@ -1,8 +1,8 @@
 //! What each participant of the first round does: it draws blocks of the left table and puts their rows into the shared
 //! table, each under its key.
 //!
-//! One that lacks memory sets a flag, by which the others stop at their next block. No contract sees a plain atomic, and
-//! none needs to: whoever is told to stop lacks memory too, as far as anybody is told.
+//! One that lacks memory sets a flag, by which the others stop at their next block. No contract sees a plain atomic,
+//! and none needs to: a participant that is told to stop lacks memory too, as far as its answer says.
 
 ghost use Rattle.std.specs.Prelude.{◌≡◌, ◌<◌, ◌+◌, ◌*◌, ◌++◌, ◌∷◌, ℕ, [], List, OnOk, false, length};
 ghost use Rattle.scan_claim.specs.Shown.{Belongs, blocks_of, draws_of};
@@ -35,7 +35,7 @@ pub(crate) struct Filler {
     pub(crate) links: Vec<Link>,
     /// The rows for which the table found no space.
     pub(crate) spilled: Vec<u64>,
-    /// There was no memory for a row, of its own or of another participant that stopped before.
+    /// There was no memory for a row of this participant, or of another that stopped before.
     pub(crate) lacks_memory: bool,
 }
 

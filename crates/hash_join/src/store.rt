@@ -1,4 +1,4 @@
-//! The shared table of the left rows, in an area of its own.
+//! The shared table of the left rows, in its own area.
 
 ghost use Rattle.std.specs.Prelude.{◌≡◌, ◌≤◌, ◌^◌, ℕ, [], IfOk};
 ghost use mathlib.Core.Option.{some};
@@ -41,7 +41,7 @@ pub(crate) struct Passes {
     pub(crate) tables: Vec<DsPass<LastRow>>,
 }
 
-/// An area of its own region, and the passes of this many callers.
+/// An area in its own region, and the passes of this many callers.
 #[tactic(auto, using(word_map::proofs::Maps::answers, std::proofs::lemmas::Bool::Decides::nat_tests))]
 fn open_area(alloc: Global, callers: u32) -> Result<(Region, Area, Vec<AreaPass>), AllocError>
     requires callers { 1 ≤ callers }
@@ -56,8 +56,8 @@ fn open_area(alloc: Global, callers: u32) -> Result<(Region, Area, Vec<AreaPass>
     Ok((region, area, passes))
 }
 
-/// An empty table for this many callers. Its area was just opened and has room for its slices, so a refusal is want of
-/// memory.
+/// An empty table for this many callers. Its area was just opened and has room for its slices, so a refusal means that
+/// there is no memory.
 pub(crate) fn open_store<R: Wait>(
     rt: &R,
     alloc: Global,

@@ -4,12 +4,12 @@ use Rattle.std.specs.List.Sorted.{IsPermutation}
 use Rattle.std.specs.Str.{bytes_eq}
 use Rattle.csv_rows.specs.Records.{field_of}
 
--- the cell of a key: a call's row becomes the last one, and the reply is the row before, or 0 where there was none
+-- the cell of a key: a call's row becomes the last one, and the reply is the row before, or 0 if there was none
 abbrev pub last_step : Option ℕ → ℕ → Option ℕ × ℕ
 last_step None row = (Some row, 0)
 last_step (Some before) row = (Some row, before)
 
--- the number of a cell's row, and 0 where there is none
+-- the number of a cell's row, and 0 if there is none
 abbrev pub number_in : Option ℕ → ℕ
 number_in None = 0
 number_in (Some row) = row

@@ -25,7 +25,7 @@ module _ (left right : Table) (left_column right_column : ℕ) where
     pub same : IsPermutation (found_in (numbers_of_blocks right draws)) pairs
     pub spent : IsTrue (is_spent (blocks_of c) draws)
 
-  -- why a participant stopped early: the rows of its blocks have too many pairs; want of memory says nothing
+  -- why a participant stopped early: the rows of its blocks have too many pairs; a lack of memory says nothing
   abbrev pub Stops : List ℕ → NoPairs → Type 0
   Stops draws TooMany = most_pairs < length (found_in (numbers_of_blocks right draws))
   Stops draws Memory = Unit {0}

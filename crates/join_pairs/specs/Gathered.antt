@@ -26,7 +26,7 @@ abbrev pub HasLinks : List Link → List ℕ → List ℕ → Type 0
 HasLinks links befores befores' = befores' ≡ linked links befores
 
 -- A row of a key became the last one. The row before it is the one that was the last, if the key was there; a key that
--- was not there comes behind the others
+-- was not there comes after the others
 pub record Extends (key : List ℕ) (row place : ℕ) (c d : Chains) : Type 0 where
   pub is : slice_get c.keys place ≡ Some key
   pub keys : d.keys ≡ c.keys

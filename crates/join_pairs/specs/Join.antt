@@ -48,7 +48,7 @@ pub record IsFirstRefused (records : Table) (column row cause : ℕ) : Type 0 wh
 -- ---- pairs
 
 module _ (left right : Table) (left_column right_column : ℕ) where
-  -- the refused row that is named: the first of the left table, or where that has none the first of the right one
+  -- the refused row that is named: the first of the left table, or if that has none the first of the right one
   abbrev pub IsNamed : Bool → ℕ → ℕ → Type 0
   IsNamed false row cause = IsFirstRefused left left_column row cause
   IsNamed true row cause = AllAccepted left left_column × IsFirstRefused right right_column row cause

@@ -16,7 +16,7 @@ use Rattle.join_pairs.specs.declared.pairs.Pair.{Pair}
 abbrev pub pairs_with : ℕ → List ℕ → List Pair
 pairs_with right chain = map (λ l. record { left = l; right = right }) chain
 
--- this many pairs would be too many; want of memory says nothing
+-- this many pairs would be too many; a lack of memory says nothing
 abbrev pub StopsAdding : ℕ → NoPairs → Type 0
 StopsAdding count TooMany = most_pairs < count
 StopsAdding count Memory = Unit {0}

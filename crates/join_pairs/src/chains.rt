@@ -8,7 +8,7 @@ ghost use Rattle.join_pairs.specs.Gathered.{AddsRow, HasChains, HasLinks, HasPla
 use key_index::KeyTable;
 use std::alloc::{AllocError, Global};
 
-/// A row that came with its key, and the row of that key that came before it, or 0 where there was none.
+/// A row that came with its key, and the row of that key that came before it, or 0 if there was none.
 #[derive(Debug, Clone, Copy, PartialEq, Eq)]
 pub struct Link {
     pub row: u64,
@@ -84,7 +84,7 @@ impl Chains {
         }
     }
 
-    /// The last row of a key, or 0 where it has none.
+    /// The last row of a key, or 0 if it has none.
     pub(crate) fn last(&self, key: &[u8]) -> u64
         ensures { (records : Table) (column : ℕ) (rows : List ℕ) → HasChains records column rows self.now
             → HasChain (before_in self.now.befores.items) records column rows key.now result }

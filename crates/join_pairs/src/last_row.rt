@@ -3,7 +3,7 @@
 use dshash_core::CellObject;
 
 /// The last row that came with a key. A call has a row, which becomes the last one; its reply is the row before, or 0
-/// where there was none.
+/// if there was none.
 pub struct LastRow;
 
 impl CellObject for LastRow {

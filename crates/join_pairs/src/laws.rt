@@ -8,7 +8,7 @@ pub fn cells_are_chains()
     ensures { CellsAreChains }
 {}
 
-/// The pairs of all right rows, in whatever order these came, are in order the pairs of the two tables. A law: it does
+/// The pairs of all right rows, in whichever order these came, are in order the pairs of the two tables. A law: it does
 /// nothing when it runs.
 pub fn pairs_are_join()
     ensures { PairsAreJoin }

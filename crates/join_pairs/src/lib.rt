@@ -1,11 +1,12 @@
 //! What a join of two tables is, and the half of it that needs no shared table: which rows are refused, the chains of
 //! the left rows of each key, and the pairs of the right rows that follow these chains.
 //!
-//! A row is known by its number. A cell keeps the last row that came with its key (`LastRow`), and whoever puts a row
-//! in is told the row before, which is the row's link. So the links make a chain of all rows of a key, whoever put them
-//! in (`specs/Law.antt`). From the links, the last rows and the rows that no cell took, `chain_all` makes the chains of
-//! all left rows. Then nothing is written any more, and participants follow the chains of the right rows' keys
-//! (`find_pairs`). The pairs are sorted at last, so they are in order whoever found them.
+//! A row is known by its number. A cell keeps the last row that came with its key (`LastRow`), and a participant that
+//! puts a row in is given the row before, which is the row's link. So the links make a chain of all rows of a key, no
+//! matter which participant put them in (`specs/Law.antt`). From the links, the last rows and the rows that no cell
+//! took, `chain_all` makes the chains of all left rows. Then nothing is written any more, and participants follow the
+//! chains of the right rows' keys (`find_pairs`). The pairs are sorted at last, so they are in order no matter which
+//! participant found them.
 
 #![tactic(auto)]
 

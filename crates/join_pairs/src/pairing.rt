@@ -1,8 +1,8 @@
 //! The second round: the participants draw blocks of the right table, and follow the chain of each row's key.
 //!
 //! One that stops early sets a flag, by which the others stop at their next block. No contract sees a plain atomic, and
-//! none needs to: whoever is told to stop answers as for want of memory, which says nothing, and that there are too many
-//! pairs, of whichever participant, goes before it.
+//! none needs to: a participant that is told to stop answers as if there were no memory, which says nothing, and that
+//! there are too many pairs, of whichever participant, goes before it.
 
 ghost use Rattle.std.specs.Prelude.{◌≡◌, ◌<◌, ◌≤◌, ◌+◌, ◌*◌, ◌++◌, ℕ, List, [], All, Any, OnOk, IfErr, IfNone, IfOk, IfSome, None, Some, length, map, true};
 ghost use Rattle.std.specs.List.{flat_map};
@@ -323,7 +323,7 @@ fn first_stop(findings: &Vec<Finding>) -> Option<NoPairs>
     None
 }
 
-/// The second round, with this many participants: the pairs in order. That the seats come home tells that each block
+/// The second round, with this many participants: the pairs in order. That the seats come home proves that each block
 /// was drawn once.
 pub fn find_pairs<R: Threads + Wait + Sync>(
     rt: &R,

@@ -33,7 +33,7 @@ side_text true = codes "right"
 abbrev pub refusal_text : ℕ → List ℕ
 refusal_text why = if why == width_cause then codes "wrong number of fields" else codes "join key is longer than 248 bytes"
 
--- what the line of a cause says, where the column has this name
+-- what the line of a cause says, if the column has this name
 abbrev pub cause_text : List ℕ → Cause → List ℕ
 cause_text name cause.Usage = codes "usage: pargather join COLUMN N"
 cause_text name cause.TooManyBytes = codes "more than 67108864 bytes"
@@ -56,20 +56,20 @@ pub record IsStatus (asked : Option Asked) (bytes : List ℕ) (status : ℕ) : T
   pub status_is : status_of outcome ≡ status
   pub one : (o : Outcome) → IsOutcome asked bytes o → o ≡ outcome
 
--- a status that tells of no fault
+-- a status that reports no fault
 pub record IsNoFault (status : ℕ) : Type 0 where
   pub read : status ≢ READ_FAULT
   pub write : status ≢ WRITE_FAULT
   pub memory : status ≢ NO_MEMORY
 
--- a status and its line are those of a cause, which is the outcome over what a source had left, where that is told
+-- a status and its line are those of a cause, which is the outcome over what a source had left, if that is known
 pub record IsCauseLine (asked : Option Asked) (left : Option (List ℕ)) (status : ℕ) (said : List ℕ) : Type 0 where
   pub why : Cause
   pub is : IfSome left (λ bytes. IsOutcome asked bytes (Fails why))
   pub status_is : cause_status why ≡ status
   pub says : said ≡ line (cause_text (name_of asked) why)
 
--- the line of a status; that of words that are none is how the program is called, whatever a source tells
+-- the line of a status; that of words that are none is how the program is called, whatever a source says
 pub record IsLine (asked : Option Asked) (left : Option (List ℕ)) (status : ℕ) (said : List ℕ) : Type 0 where
   pub usage : IsNone asked → said ≡ line (cause_text [] cause.Usage)
   pub read_fault : status ≡ READ_FAULT → said ≡ line (codes "read fault")

@@ -35,7 +35,7 @@ module _ (left right : Table) where
     IsOfColumns (Some l) None o = o ≡ Fails (cause.NoColumn true)
     IsOfColumns (Some l) (Some r) o = IsOfRows l r o
 
-    -- either a table has too many rows beside its header, or neither has
+    -- either a table has too many rows besides its header, or neither has
     abbrev pub IsOfSizes : Outcome → Type 0
     IsOfSizes o =
         (((most_rows + 1 < length left) ⊎ (most_rows + 1 < length right)) × (o ≡ Fails cause.TooManyRows))
@@ -61,7 +61,7 @@ pub record IsSeparator (bytes : List ℕ) (place : ℕ) : Type 0 where
 abbrev pub IsCut : List ℕ → Option ℕ → Type 0
 IsCut bytes place = IsFirst (IsSeparator bytes) 0 (length bytes) place
 
--- the left table of bytes that are cut at a place stands before the line, and the right one after it
+-- the left table of bytes that are cut at a place is before the line, and the right one after it
 abbrev pub left_of : List ℕ → ℕ → Table
 left_of bytes place = records_of (take place bytes)
 

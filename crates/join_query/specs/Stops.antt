@@ -10,7 +10,7 @@ use Rattle.join_query.specs.declared.cause.Cause.TheVariants as cause
 use Rattle.join_query.specs.declared.stop.Stop.{Stop}
 use Rattle.join_query.specs.declared.stop.Stop.TheVariants as stop
 
--- a reason that is a cause is the outcome; a fault and want of memory say nothing of it
+-- a reason that is a cause is the outcome; a fault and a lack of memory say nothing of it
 abbrev pub Explains : (Outcome → Type 0) → Stop → Type 0
 Explains P (stop.Because why) = P (Fails why)
 Explains P stop.ReadFault = ⊤
@@ -28,7 +28,7 @@ stop_status stop.ReadFault = READ_FAULT
 stop_status stop.WriteFault = WRITE_FAULT
 stop_status stop.Memory = NO_MEMORY
 
--- what its line says, where the column has this name
+-- what its line says, if the column has this name
 abbrev pub stop_text : List ℕ → Stop → List ℕ
 stop_text name (stop.Because why) = cause_text name why
 stop_text name stop.ReadFault = codes "read fault"

@@ -1,4 +1,4 @@
--- Records that can be written one beside the other.
+-- Records that can be written next to each other.
 use Rattle.std.specs.Prelude.{◌<◌, ◌++◌, ℕ, All, List, length}
 use Rattle.csv_rows.specs.Records.{record_at}
 use Rattle.row_blocks.specs.Blocks.{Table}

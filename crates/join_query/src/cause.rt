@@ -1,4 +1,4 @@
-//! Why two tables have no join, but for faults and want of memory.
+//! Why two tables have no join, apart from faults and a lack of memory.
 
 ghost use Rattle.std.specs.Prelude.{◌≡◌, ◌++◌};
 ghost use Rattle.join_query.specs.Lines.{cause_status, cause_text, refusal_text, side_text};
@@ -6,7 +6,7 @@ ghost use Rattle.join_query.specs.Lines.{cause_status, cause_text, refusal_text,
 use answer_text::{MISUSED, REFUSED, TOO_LARGE};
 use par_model::WIDTH_CAUSE;
 
-/// Why there is no table. Where a cause speaks of one of the two tables, it tells whether that is the right one.
+/// Why there is no table. If a cause concerns one of the two tables, it says whether that is the right one.
 #[derive(Debug, Clone, Copy, PartialEq, Eq)]
 pub enum Cause {
     /// The words are not `join COLUMN N`.
@@ -40,7 +40,7 @@ impl Cause {
         }
     }
 
-    /// What the line says, in pieces, where the column has this name.
+    /// What the line says, in pieces, if the column has this name.
     pub(crate) fn pieces<'a>(
         &self,
         name: &'a str,

@@ -31,7 +31,7 @@ use std::thread::Threads;
 /// Joins the two tables in the bytes of `source` as `words`, those after the program's name, ask for: `join COLUMN N`.
 /// The tables are parted by the first line that is the one byte `%`. It writes the header and a record for each pair of
 /// rows whose fields in the column are the same and not empty, in order of the left row and then the right one. `Err`
-/// is the exit status, whose line was written to `err`; beside `Ok` the status is [`TABLE`].
+/// is the exit status, whose line was written to `err`; with `Ok` the status is [`TABLE`].
 ///
 /// Time is linear in the input and in the pairs, but for the order of the pairs. Memory is the input, its records, 8.6 MB
 /// for the shared table, 24 bytes a row of the left table with the bytes of its key, and 32 bytes a pair; with workers the
@@ -44,8 +44,8 @@ pub fn join_tables<R: Threads + Wait + Sync, S: Source, O: Sink, E: Sink>(
     out: &mut O,
     err: &mut E,
 ) -> Result<Joined, u8>
-    // There is no other status. On 1, 2, 3, 5 and 6 `out` receives nothing. A fault is answered only where it came in
-    // this call. Beside joined records `err` receives nothing.
+    // There is no other status. On 1, 2, 3, 5 and 6 `out` receives nothing. A fault is answered only if it came in this
+    // call. With joined records `err` receives nothing.
     ensures statuses { Contains statuses (status_in result) }
     ensures failed { IfErr result (λ status. status ≢ TABLE) }
     ensures nothing { (status_in result ≢ TABLE) → (status_in result ≢ WRITE_FAULT) → out.new ≡ out.old }
@@ -53,12 +53,12 @@ pub fn join_tables<R: Threads + Wait + Sync, S: Source, O: Sink, E: Sink>(
     ensures write_fault { status_in result ≡ WRITE_FAULT → Rose (O.faults out.old) (O.faults out.new) }
     ensures quiet { OnOk result (err.new ≡ err.old) }
 
-    // A status that tells of no fault is that of the outcome. Without a fault it is so, or there was no memory.
+    // A status that reports no fault is that of the outcome. Without a fault it is so, or there was no memory.
     ensures outcome { IsNoFault (status_in result) → IfSome (S.left source.old) (λ bytes. IsStatus (join_of (texts words.now)) bytes (status_in result)) }
     ensures complete { ¬ Rose (S.faults source.old) (S.faults source.new) → ¬ Rose (O.faults out.old) (O.faults out.new) → IfSome (S.left source.old) (λ bytes.
         (status_in result ≡ NO_MEMORY) ⊎ IsStatus (join_of (texts words.now)) bytes (status_in result)) }
 
-    // `out` receives the joined records, or a prefix of them where a write failed.
+    // `out` receives the joined records, or a prefix of them if a write failed.
     ensures records { OnOk result (IfSome (S.left source.old) (λ bytes. (records : Table) × IsOutcome (join_of (texts words.now)) bytes (Joins records)
         × Appends (O.taken out.old) (O.taken out.new) (table_text records))) }
     ensures part { status_in result ≡ WRITE_FAULT → IfSome (S.left source.old) (λ bytes. (records : Table) × IsOutcome (join_of (texts words.now)) bytes (Joins records)
@@ -68,7 +68,7 @@ pub fn join_tables<R: Threads + Wait + Sync, S: Source, O: Sink, E: Sink>(
     ensures no_words { IsNone (join_of (texts words.now)) → status_in result ≡ MISUSED }
     ensures unread { IsNone (join_of (texts words.now)) → source.new ≡ source.old }
 
-    // `err` receives the line of the status, or a prefix of it where a write of it failed.
+    // `err` receives the line of the status, or a prefix of it if a write of it failed.
     ensures line { IfErr result (λ status. (said : List ℕ) × IsLine (join_of (texts words.now)) (S.left source.old) status said
         × IsSaid (E.taken err.old) (E.taken err.new) (E.faults err.old) (E.faults err.new) said) }
 

@@ -1,6 +1,6 @@
-//! The join of two tables that stand one after the other in one input, from the words of a command line to an exit
-//! status: `join COLUMN N`, with N workers beside the caller's thread. In their order: the words, the line that parts the
-//! tables, their records and columns, the join of the crate `hash_join`, and the writing of the joined records.
+//! The join of two tables that come one after the other in one input, from the words of a command line to an exit
+//! status: `join COLUMN N`, with N workers besides the caller's thread. In their order: the words, the line that parts
+//! the tables, their records and columns, the join of the crate `hash_join`, and the writing of the joined records.
 //!
 //! The causes that there is no table come in one order: the words, the reading and its limit, a second table, the headers,
 //! the numbers of rows, the columns, the rows, the pairs, and the writing; the left table comes before the right one

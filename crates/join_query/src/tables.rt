@@ -44,7 +44,7 @@ pub(crate) fn read_tables<R: Threads + Sync>(
     }
 }
 
-/// The records of one of them; none where there are too many rows.
+/// The records of one of them; none if there are too many rows.
 fn read_table<R: Threads + Sync>(
     rt: &R,
     alloc: Global,

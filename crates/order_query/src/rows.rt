@@ -1,6 +1,6 @@
-//! The writing of rows in order: the header and then the rows. With one thread they go out one by one, so nothing of the
-//! table is copied but what waits for the next write. With more, the text of the next rows is made by all threads, each of
-//! a range of them, and then goes out, before that of the rows behind them is made.
+//! The writing of rows in order: the header and then the rows. With one thread they go out one by one, so nothing of
+//! the table is copied but what waits for the next write. With more, the text of the next rows is made by all threads,
+//! each of a range of them, and then goes out, before that of the rows after them is made.
 
 ghost use Rattle.std.specs.Prelude.{◌≡◌, ◌≢◌, ◌⊎◌, ◌<◌, ◌≤◌, [], ℕ, All, IfErr, OnOk, false, length, take};
 ghost use Rattle.std.specs.Io.KnownBytes.{Appends};

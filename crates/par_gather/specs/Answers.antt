@@ -47,9 +47,9 @@ IsText (OfTable Order query) bytes text = IsOrderText (plan_in query) bytes text
 IsText (OfJoin words) bytes text = IsJoinText words bytes text
 IsText (OfGen words) bytes text = IsSummaryBy words text
 
--- A call answers a query, over what its source had left, by a status, by what is told of its run, and by what its sink was
--- given up to then and now: a status that tells of no fault is that of the outcome; wrong words are misuse; on 0 the sink
--- was given the text, made as is told; and where a write failed a prefix of it
+-- A call answers a query, over what its source had left, by a status, by what is said of its run, and by what its sink
+-- was given up to then and now: a status that reports no fault is that of the outcome; wrong words are misuse; on 0 the
+-- sink was given the text, made as is said; and if a write failed a prefix of it
 pub record Answers (query : Query) (left : Option (List ℕ)) (status : ℕ) (ran : Option Ran) (old new : Option (List ℕ)) : Type 0 where
   pub outcome : IsNoFault status → IfSome (input_of query left) (λ bytes. IsStatus query bytes status)
   pub misuse : IsWrong query → IsMisuse query status
@@ -58,7 +58,7 @@ pub record Answers (query : Query) (left : Option (List ℕ)) (status : ℕ) (ra
 
 -- ---- the line
 
--- what the line of a status says where rows are made
+-- what the line of a status says if rows are made
 abbrev pub gen_text : ℕ → List ℕ
 gen_text status = if status == MISUSED then usage_text else (if status == WRITE_FAULT then codes "write fault" else codes "out of memory")
 
@@ -68,19 +68,19 @@ stop_of_gen generating.Usage = stop.Usage
 stop_of_gen generating.WriteFault = stop.WriteFault
 stop_of_gen generating.Memory = stop.Memory
 
--- a line is that of a status and of the outcome over what a source had left, where that is told
+-- a line is that of a status and of the outcome over what a source had left, if that is known
 abbrev pub IsOfStatus : Query → Option (List ℕ) → ℕ → List ℕ → Type 0
 IsOfStatus (OfTable wanted query) left status said = (o : Outcome) × IsOutcome (plan_in query) left o × table.IsLine (usage_in wanted) (plan_in query) status o said
 IsOfStatus (OfJoin words) left status said = joined.IsLine words left status said
 IsOfStatus (OfGen words) left status said = said ≡ line (gen_text status)
 
--- where no workers are asked for, a line names the first of the rows that are refused; that of a join always does
+-- if no workers are asked for, a line names the first of the rows that are refused; that of a join always does
 abbrev pub IsFirst : Query → Option (List ℕ) → List ℕ → Type 0
 IsFirst (OfTable wanted query) left said = workers_in query ≡ Some 0 → IfSome left (λ bytes. NamesFirst (plan_in query) (outcome_over (plan_in query) bytes) said)
 IsFirst (OfJoin words) left said = ⊤
 IsFirst (OfGen words) left said = ⊤
 
--- the line of a status; that of wrong words is how the program is called, whatever a source tells
+-- the line of a status; that of wrong words is how the program is called, whatever a source says
 pub record IsLine (query : Query) (left : Option (List ℕ)) (status : ℕ) (said : List ℕ) : Type 0 where
   pub of_status : IsOfStatus query left status said
   pub usage : IsWrong query → status ≡ MISUSED → said ≡ line (usage_of query)

@@ -16,7 +16,7 @@ use Rattle.table_query.specs.declared.wanted.Wanted.TheVariants.{Groups, Order}
 use Rattle.par_gather.specs.declared.form.Form.{Form}
 use Rattle.par_gather.specs.declared.form.Form.TheVariants.{Plan, Merge, Join, Gen}
 
--- a query over one table, a join of two, or generated rows; none where the words are not right
+-- a query over one table, a join of two, or generated rows; none if the words are not right
 pub data Query : Type 0 where
   OfTable : Wanted → Option plan.Query → Query
   OfJoin : Option join.Asked → Query
@@ -61,7 +61,7 @@ ReadsNothing (OfTable wanted query) = IsNone (plan_in query)
 ReadsNothing (OfJoin words) = IsNone words
 ReadsNothing (OfGen words) = ⊤
 
--- the bytes that the answer is over, where a source tells what it had left: generated rows need none
+-- the bytes that the answer is over, if a source says what it had left: generated rows need none
 abbrev pub input_of : Query → Option (List ℕ) → Option (List ℕ)
 input_of (OfTable wanted query) left = left
 input_of (OfJoin words) left = left

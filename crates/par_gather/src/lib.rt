@@ -1,6 +1,6 @@
-//! One query over comma-separated bytes, from the words of a command line to an exit status, in the caller's thread
-//! alone or with workers beside it: the table of groups that options name, with `merge` the rows in order, with `join`
-//! the join of two tables, or with `gen` what is said of generated rows.
+//! One query over comma-separated bytes, from the words of a command line to an exit status, only in the caller's
+//! thread or with workers besides it: the table of groups that options name, with `merge` the rows in order, with
+//! `join` the join of two tables, or with `gen` what is said of generated rows.
 //!
 //! The calls keep one order of faults: the words, then the reading, the header, the number of rows, the columns, the
 //! rows, and the writing. The first that holds ends it. Only a whole table is written to `out`, or all rows; one place
@@ -74,8 +74,8 @@ pub fn pargather<R: Threads + Wait + Sync, S: Source, O: Sink, E: Sink, G: Gate 
     gate: &G,
     ran: &mut Option<Ran>,
 ) -> u8
-    // There is no other status. On 1, 2, 3, 5 and 6 `out` receives nothing. A fault is answered only where it came in
-    // this call. On 0 `err` receives nothing; on every other status `ran` is None.
+    // There is no other status. On 1, 2, 3, 5 and 6 `out` receives nothing. A fault is answered only if it came in this
+    // call. On 0 `err` receives nothing; on every other status `ran` is None.
     ensures statuses { Contains statuses result }
     ensures nothing { (result ≢ TABLE) → (result ≢ WRITE_FAULT) → out.new ≡ out.old }
     ensures read_fault { result ≡ READ_FAULT → Rose (S.faults source.old) (S.faults source.new) }
@@ -87,7 +87,7 @@ pub fn pargather<R: Threads + Wait + Sync, S: Source, O: Sink, E: Sink, G: Gate 
     // `ran` says, and on 4 a prefix of it.
     ensures answers { Answers (query_of (texts words.now)) (S.left source.old) result ran.new (O.taken out.old) (O.taken out.new) }
 
-    // Where no fault came in this call, the status is that of the outcome, or there was no memory.
+    // If no fault came in this call, the status is that of the outcome, or there was no memory.
     ensures complete { ¬ Rose (S.faults source.old) (S.faults source.new) → ¬ Rose (O.faults out.old) (O.faults out.new)
         → IfSome (input_of (query_of (texts words.now)) (S.left source.old)) (λ bytes. (result ≡ NO_MEMORY) ⊎ IsStatus (query_of (texts words.now)) bytes result) }
 
@@ -95,7 +95,7 @@ pub fn pargather<R: Threads + Wait + Sync, S: Source, O: Sink, E: Sink, G: Gate 
     // fails either.
     ensures unread { ReadsNothing (query_of (texts words.now)) → (source.new ≡ source.old) × (result ≢ READ_FAULT) }
 
-    // On every other status than 0 `err` receives the line of the status, or a prefix of it where a write of it failed.
+    // On every other status than 0 `err` receives the line of the status, or a prefix of it if a write of it failed.
     ensures line { (result ≢ TABLE) → (said : List ℕ) × IsLine (query_of (texts words.now)) (S.left source.old) result said
         × IsSaid (E.taken err.old) (E.taken err.new) (E.faults err.old) (E.faults err.new) said }
 {
@@ -133,9 +133,9 @@ pub fn answer<R: Threads + Wait + Sync, S: Source, O: Sink, E: Sink>(
     pargather(rt, alloc, words, source, out, err, &OpenGate, &mut None)
 }
 
-/// Answers a command line that is not the text of words, as one of which a word is no UTF-8: by the line that says how the
-/// program is called in the form that `words` begin with, which are as many of its first words as are wanted for that.
-/// It returns the exit status [`MISUSED`]. It takes no memory.
+/// Answers a command line that is not the text of words, as one of which a word is no UTF-8: by the line that says how
+/// the program is called in the form that `words` begin with, which are those of its first words that are wanted for
+/// that. It returns the exit status [`MISUSED`]. It takes no memory.
 pub fn say_usage<E: Sink>(words: &[String], err: &mut E) -> u8
     ensures status { result ≡ MISUSED }
     ensures usage { IsSaid (E.taken err.old) (E.taken err.new) (E.faults err.old) (E.faults err.new) (line (usage_of (query_of (texts words.now)))) }

@@ -1,6 +1,6 @@
 //! `pargather [--group COLUMNS] --agg ITEMS ..` answers a query over the comma-separated bytes of the standard input.
 //!
-//! This file is the edge to the system alone: it hands the words, the standard streams and an open gate to the library
+//! This file is only the edge to the system: it hands the words, the standard streams and an open gate to the library
 //! `par_gather`, whose contract says what the answer is, and ends with the status that it gets.
 
 #![tactic(auto)]
@@ -15,7 +15,7 @@ use std::{env, io};
 /// The longest of the first words that name a form.
 const LONGEST_NAME: usize = 5;
 
-/// The words after the program's name; none of them where one is no UTF-8.
+/// The words after the program's name; none of them if one is no UTF-8.
 fn words(rt: &HostRuntime) -> io::Result<Option<Vec<String>>> {
     let mut words = Vec::new(rt.alloc());
     match env::args(rt) {
@@ -30,7 +30,7 @@ fn words(rt: &HostRuntime) -> io::Result<Option<Vec<String>>> {
     }
 }
 
-/// The first word alone, where it is as short as the name of a form.
+/// Only the first word, if it is as short as the name of a form.
 fn first_word(rt: &HostRuntime) -> io::Result<Vec<String>> {
     let mut bytes = [0; LONGEST_NAME];
     let mut words = Vec::new(rt.alloc());
