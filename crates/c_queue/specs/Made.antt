@@ -15,7 +15,7 @@ pub record IsQueue (words max : ℕ) (o : Outgoing) (q : Incoming) : Type 0 wher
   pub fresh : o.begun ≡ None
   pub unread : q.end ≡ first_receiving q.end.ring
 
--- the words are no power of two up to 2^20, or a message may be longer than 2^20 bytes. Want of memory has no cause
+-- the words are no power of two up to 2^20, or a message may be longer than 2^20 bytes. NoMemory has no stated cause
 abbrev pub IsRefused : ℕ → ℕ → Code → Type 0
 IsRefused words max BadSize = (2 ^ 20 < max) ⊎ ((e : ℕ) → e ≤ 20 → words ≢ 2 ^ e)
 IsRefused words max NoMemory = Unit {0}

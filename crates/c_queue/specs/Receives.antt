@@ -15,7 +15,7 @@ pub record Stays (old new : Incoming) : Type 0 where
   pub grows : (more : List ℕ) × (new.end.taken ≡ old.end.taken ++ more)
   pub flag : old.end.flag_value ≡ 1 → new.end.flag_value ≡ 1
 
--- the bytes begin with a message of that length, and are as they were behind it
+-- the bytes begin with a message of that length, and are as they were after it
 pub record Has (before after message : List ℕ) (n : ℕ) : Type 0 where
   pub front : take n after ≡ message
   pub counted : length message ≡ n

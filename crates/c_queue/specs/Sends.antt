@@ -12,7 +12,7 @@ pub record Stays (old new : SendingEnd) : Type 0 where
   pub rest : new ≡ record old { end = new.end }
   pub stays : StaysOpen old.end new.end
 
--- the message that is begun once so many words of this one's frame are on the ring: the one that was, or this one
+-- the message that is begun once this many words of this one's frame are on the ring: the one that was, or this one
 abbrev pub begun_after : ℕ → Option (List ℕ) → List ℕ → Option (List ℕ)
 begun_after stored (Some m) message = Some m
 begun_after stored None message = cond {A = Option (List ℕ)} (stored == 0) None (Some message)

@@ -34,7 +34,7 @@ abbrev pub begun_of : Option ℕ → List ℕ → Option (List ℕ)
 begun_of None bytes = None
 begun_of (Some n) bytes = Some (take n bytes)
 
--- what a sending side keeps: the region of its end, room for the greatest message, and, where words are left over behind
+-- what a sending side keeps: the region of its end, room for the greatest message, and, if words are left over after
 -- the whole messages on the ring, the message whose frame they begin
 pub record IsOutbox (region : TableId) (s : SendingEnd) (buffer : List ℕ) (begun : Option ℕ) (gone : Bool) : Type 0 where
   pub here : s.region ≡ region

@@ -19,8 +19,9 @@ use std::alloc::Global;
 use std::marker::Model;
 use std::ptr::null_mut;
 
-/// One side of a queue on the heap, or nothing. Two words of plain bytes, all zero where it has nothing; it has the side
-/// alone, so who copies the bytes has no second side. Where it is let go with a side in it, that is lost: `close` first.
+/// One side of a queue on the heap, or nothing. Two words of plain bytes, all zero if it has nothing; only this handle
+/// has the side, so a copy of the bytes is no second side. If it is let go with a side in it, that is lost: `close`
+/// first.
 #[repr(C)]
 #[derive(Drop)]
 pub struct Handle {

@@ -10,8 +10,8 @@ use region_words::Region;
 use std::marker::Model;
 use std::sync::Arc;
 
-/// The receiving side: contracts see its end of the queue. It owns room for the greatest message. Where it is dropped
-/// the sending side is told nothing: `leave` first.
+/// The receiving side: contracts see its end of the queue. It owns room for the greatest message. If it is dropped the
+/// sending side learns nothing: `leave` first.
 #[derive(Drop)]
 pub struct Inbox {
     pub(crate) region: Arc<Region>,
@@ -50,7 +50,7 @@ impl Inbox {
         }
     }
 
-    /// Writes the next message to the front of `out`, where a whole one is there, and answers its length. `out` has to
+    /// Writes the next message to the front of `out`, if a whole one is there, and answers its length. `out` has to
     /// have room for the greatest message of the queue; else the answer is that length, and nothing was done. The costs
     /// are those of `mq_handle::Receiver::try_receive`, and each byte is copied once more. It takes no memory.
     pub fn try_receive(&mut self, out: &mut [u8]) -> (Code, usize)

@@ -14,8 +14,7 @@ use std::marker::Model;
 use std::sync::Arc;
 
 /// The sending side: contracts see its end of the queue (`sender`), and the message of which a part may be on the ring
-/// (`begun`). It owns room for the greatest message. Where it is dropped the receiving side is told nothing: `leave`
-/// first.
+/// (`begun`). It owns room for the greatest message. If it is dropped the receiving side learns nothing: `leave` first.
 #[derive(Drop)]
 pub struct Outbox {
     pub(crate) region: Arc<Region>,
@@ -64,7 +63,7 @@ impl Outbox {
     }
 
     /// Puts the message on the ring as far as there is room. The costs are those of `mq_handle::Sender::try_send`, and
-    /// where the ring is full the message is copied once, to know it again. It takes no memory.
+    /// if the ring is full the message is copied once, to know it again. It takes no memory.
     pub fn try_send(&mut self, message: &[u8], flush: bool) -> Code
         ensures { Sends self.old self.new message.now flush result }
     {
@@ -131,7 +130,7 @@ fn is_other(buffer: &[u8], begun: Option<usize>, message: &[u8]) -> bool
     }
 }
 
-/// Keeps the message, of whose frame so many words are on the ring.
+/// Keeps the message, of whose frame this many words are on the ring.
 fn begin(buffer: &mut [u8], begun: Option<usize>, message: &[u8], stored: u64) -> Option<usize>
     requires fits { IfSome begun (λ n. n ≤ length buffer.old) }
     requires room { length message.now ≤ length buffer.old }

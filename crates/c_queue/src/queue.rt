@@ -70,7 +70,7 @@ fn share(
     Ok((outbox, Inbox::new(shared, receiver, max)))
 }
 
-/// Tells what holds of both sides of a queue, whatever they did since it was made: what was received is a beginning of
+/// Says what holds of both sides of a queue, whatever they did since it was made: what was received is a beginning of
 /// what was sent. Three loads; nothing that was sent, received or published changes.
 pub fn meet(tx: &mut Outbox, rx: &mut Inbox)
     requires one_queue { IsOneQueue tx.old rx.old }

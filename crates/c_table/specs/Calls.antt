@@ -7,7 +7,7 @@ use Rattle.c_table.specs.declared.code.Code.TheVariants.{Absent, Blank, Done, In
 use Rattle.c_table.specs.declared.shared.Share.{Share}
 use Rattle.c_table.specs.declared.word.WordCall.{WordCall}
 
--- what an answer says by a code and a word that is written: the word is the one that stood there
+-- what an answer says by a code and a word that is written: the word is the one that was there
 abbrev pub Answers : Result (Option ℕ) Code → ℕ → ℕ → Code → Type 0
 Answers (Ok (Some found)) before after code = (code ≡ Done) × (after ≡ found)
 Answers (Ok None) before after code = (code ≡ Absent) × (after ≡ before)
@@ -23,7 +23,7 @@ abbrev pub Closes : Option Share → Option Share → Code → Type 0
 Closes None new code = (new ≡ None) × (code ≡ Blank)
 Closes (Some s) new code = (new ≡ None) × (code ≡ Done)
 
--- a caller is put into a blank handle, where there is memory
+-- a caller is put into a blank handle, if there is memory
 abbrev pub Fills : Share → Option Share → Code → Type 0
 Fills s new Done = new ≡ Some s
 Fills s new NoMemory = new ≡ None

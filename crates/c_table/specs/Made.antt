@@ -9,7 +9,8 @@ use Rattle.c_table.specs.declared.code.Code.{Code}
 use Rattle.c_table.specs.declared.code.Code.TheVariants.{BadCallers, BadSize, NoMemory, NoSpace}
 use Rattle.c_table.specs.declared.shared.Share.{Share}
 
--- the one caller who has a share of a table for so many callers: the last by its number, has seen nothing, and has all words
+-- the one caller that has a share of a table for this many callers: the last by its number, has seen nothing, and has
+-- all words
 pub record IsFirst (callers words : ℕ) (s : Share) : Type 0 where
   pub callers_are : callers_of (arc_value s.shared).table ≡ callers
   pub others : length s.others.items + 1 ≡ callers
@@ -17,16 +18,16 @@ pub record IsFirst (callers words : ℕ) (s : Share) : Type 0 where
   pub number : number_of s.pass + 1 ≡ callers
   pub fresh : (i : ℕ) → (seen_of s.pass i ≡ []) × (mine_of s.pass i ≡ [])
 
--- there are no callers or more than 4,096; the words are too many for a region. Want of memory has no cause
+-- there are no callers or more than 4,096; the words are too many for a region. NoMemory has no stated cause
 abbrev pub IsRefused : ℕ → ℕ → Code → Type 0
 IsRefused callers words BadCallers = (callers ≡ 0) ⊎ (4096 < callers)
 IsRefused callers words BadSize = 67108735 < words
 IsRefused callers words NoMemory = Unit {0}
 IsRefused callers words code = ⊥
 
--- A caller whose share was s and is t was asked for a further one with so many words. That one has a share of the same
--- table with these words, which are no longer the first one's, has another number than the first one and than all that are to
--- come, and has seen and done nothing; or all callers have shares; or the first one has not so many
+-- A caller whose share was s and is t was asked for a further one with this many words. That one has a share of the
+-- same table with these words, which are no longer the first one's, has another number than the first one and than all
+-- that are to come, and has seen and done nothing; or all callers have shares; or the first one has not that many
 -- words; or there is no memory. The first one has seen nothing new
 abbrev pub IsFurther : ℕ → Share → Share → Result Share Code → Type 0
 IsFurther words s t (Ok u) = Stays s t × (t.pass ≡ s.pass) × (arc_value u.shared ≡ arc_value s.shared) × (u.reserve.left ≡ words) × (s.reserve.left ≡ t.reserve.left + words) × (words_of u ≡ words) × (words_of s ≡ words_of t + words) × (length s.others.items ≡ length t.others.items + 1) × (u.others.items ≡ []) × (number_of u.pass ≡ length t.others.items) × ((i : ℕ) → (seen_of u.pass i ≡ []) × (mine_of u.pass i ≡ []))

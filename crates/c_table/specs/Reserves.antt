@@ -7,7 +7,7 @@ use Rattle.region_words.specs.declared.chunk.Chunk.{Chunk}
 use Rattle.dsa_area.specs.Sizes.{chunk_size}
 use Rattle.c_table.specs.declared.reserve.Reserve.{Reserve}
 
--- words of this region in a row, behind its first
+-- words of this region in a row, after its first
 pub record IsReserve (region : TableId) (x : Reserve) : Type 0 where
   pub here : x.part.region ≡ region
   pub valid : 0 < x.next

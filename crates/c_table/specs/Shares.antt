@@ -26,7 +26,7 @@ pub record IsShare (s : Share) : Type 0 where
   pub items : All (IsItem (arc_value s.shared).region) s.items.items
   pub slices : All (λ c. c.part.region ≡ (arc_value s.shared).region) s.slices.items
 
--- the words that a caller has of its own: those that are not cut yet, four in each item that holds no key, and those of the
--- slices that no partition has
+-- a caller's own words: those that are not cut yet, four in each item that holds no key, and those of the slices that
+-- no partition has
 abbrev pub words_of : Share → ℕ
 words_of s = s.reserve.left + 4 * length s.items.items + chunk_words s.slices.items

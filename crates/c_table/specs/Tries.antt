@@ -25,7 +25,7 @@ pub record Stays (s t : Share) : Type 0 where
   pub caller : number_of t.pass ≡ number_of s.pass
 
 module _ (s t : Share) (key : ℕ) (call : WordCall) where
-  -- The call was made, with this reply: it is the last of its key's partition, and what it leaves stands there now. The
+  -- The call was made, with this reply: it is the last of its key's partition, and what it leaves is there now. The
   -- caller has four words fewer if its item went in with a new key, and four more if a key's item came out
   pub record IsMade (before : Option ℕ) : Type 0 where
     pub event : (spare unused freed : Bool) × Turned stepped s.pass t.pass (home_of key) (Call (key ∷ []) call spare) (Made before unused freed) × (words_of t + 4 * one_if (spare && not unused) ≡ words_of s + 4 * one_if freed)

@@ -57,7 +57,7 @@ fn make_places(items: &mut Vec<Chunk>, slices: &mut Vec<Chunk>) -> bool
     }
 }
 
-/// An item that holds no key, where the caller has one or the words for one.
+/// An item that holds no key, if the caller has one or the words for one.
 fn take_item(r: &Region, reserve: &mut Reserve, items: &mut Vec<Chunk>) -> Option<Chunk>
     requires reserve { IsReserve r.now reserve.old }
     requires items { All (IsItem r.now) items.old.items }
@@ -75,7 +75,7 @@ fn take_item(r: &Region, reserve: &mut Reserve, items: &mut Vec<Chunk>) -> Optio
     }
 }
 
-/// Keeps an item, where there is one. There is a place for it.
+/// Keeps an item, if there is one. There is a place for it.
 fn keep_item(r: &Region, items: &mut Vec<Chunk>, item: Option<Chunk>)
     requires items { All (IsItem r.now) items.old.items }
     requires item { IfSome item (IsItem r.now) }
@@ -132,7 +132,7 @@ impl Caller {
         }
     }
 
-    /// Changes the word under a key, and answers what stood there. One turn at the key's partition, and where that has to
+    /// Changes the word under a key, and answers what was there. One turn at the key's partition, and if that has to
     /// grow, one more, in which it does. A new key takes an item of four words, and a partition that grows a slice, of
     /// the caller's own words. It takes memory for the places of what is left over, before any turn.
     pub fn try_change(&mut self, key: u64, call: WordCall) -> Result<Option<u64>, Code>

@@ -17,8 +17,9 @@ use std::alloc::Global;
 use std::marker::Model;
 use std::ptr::null_mut;
 
-/// A caller of a table on the heap, or nothing. Two words of plain bytes, all zero where it has nothing; it has the caller
-/// alone, so who copies the bytes has no second one. Where it is let go with a caller in it, that is lost: `close` first.
+/// A caller of a table on the heap, or nothing. Two words of plain bytes, all zero if it has nothing; only this handle
+/// has the caller, so a copy of the bytes is no second one. If it is let go with a caller in it, that is lost: `close`
+/// first.
 #[repr(C)]
 #[derive(Drop)]
 pub struct Handle {
@@ -121,7 +122,7 @@ impl Handle {
         }
     }
 
-    /// As `Caller::try_get`: where the key is there, its word is written.
+    /// As `Caller::try_get`: if the key is there, its word is written.
     pub fn try_get(&mut self, alloc: Global, key: u64, word: &mut u64) -> Code
         ensures { Changes self.old.value self.new.value key Get word.old word.new result }
     {
@@ -133,7 +134,7 @@ impl Handle {
         told(answer, word)
     }
 
-    /// As `Caller::try_change`: where the key was there, the word before is written.
+    /// As `Caller::try_change`: if the key was there, the word before is written.
     pub fn try_change(&mut self, alloc: Global, key: u64, call: WordCall, word: &mut u64) -> Code
         ensures { Changes self.old.value self.new.value key call word.old word.new result }
     {
@@ -156,7 +157,7 @@ impl Handle {
     }
 }
 
-/// Writes the word of an answer, where it has one.
+/// Writes the word of an answer, if it has one.
 fn told(answer: Result<Option<u64>, Code>, word: &mut u64) -> Code
     ensures { Answers answer word.old word.new result }
 {
@@ -183,7 +184,7 @@ pub fn open(alloc: Global, callers: u32, words: u64, first: &mut Handle) -> Code
     }
 }
 
-/// Puts a further caller, with so many words of this one's, into a blank handle. Where there is no memory, the further
+/// Puts a further caller, with this many words of this one's, into a blank handle. If there is no memory, the further
 /// caller may be lost.
 pub fn share(alloc: Global, words: u64, from: &mut Handle, next: &mut Handle) -> Code
     ensures { Shares words from.old.value next.old.value from.new.value next.new.value result }

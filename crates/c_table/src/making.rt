@@ -18,7 +18,7 @@ use std::sync::Arc;
 /// The most callers of a table.
 const MOST_CALLERS: u32 = 4096;
 
-/// The words of a table beside its callers': one that is no place, and a slice of each partition.
+/// The words of a table besides its callers': one that is no place, and a slice of each partition.
 const OWN_WORDS: u64 = 129;
 
 /// The most words of a region.
@@ -43,7 +43,7 @@ fn new_slices(alloc: Global, r: &Region, reserve: &mut Reserve) -> Result<Vec<Ch
     Ok(slices)
 }
 
-/// An empty table for this many callers in a region of its own, with so many words for them.
+/// An empty table for this many callers in its own region, with this many words for them.
 #[tactic(auto, using(word_map::proofs::Maps::answers, std::proofs::lemmas::Bool::Decides::nat_tests))]
 fn assemble(alloc: Global, callers: u32, words: u64) -> Result<Caller, AllocError>
     requires callers { 1 ≤ callers }
@@ -90,7 +90,7 @@ pub fn new_table(alloc: Global, callers: u32, words: u64) -> Result<Caller, Code
 }
 
 impl Caller {
-    /// A further caller, who gets so many of this one's words.
+    /// A further caller, which gets this many of this one's words.
     pub fn share(&mut self, alloc: Global, words: u64) -> Result<Caller, Code>
         ensures { IsFurther words self.old self.new result }
     {

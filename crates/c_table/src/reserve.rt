@@ -43,7 +43,7 @@ impl Reserve {
         }
     }
 
-    /// A chunk of this many words, where as many are left.
+    /// A chunk of this many words, if that many are left.
     pub(crate) fn cut(&mut self, r: &Region, words: u64) -> Option<Chunk>
         requires reserve { IsReserve r.now self.old }
         ensures reserve { IsReserve r.now self.new }

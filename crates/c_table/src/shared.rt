@@ -1,4 +1,4 @@
-//! What the callers of a table share, and what each has of its own.
+//! What the callers of a table share, and what each owns.
 
 use crate::reserve::Reserve;
 use crate::word::Word;

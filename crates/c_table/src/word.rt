@@ -1,16 +1,16 @@
-//! A word as what stands under a key of the table.
+//! A word as what is under a key of the table.
 
 use dshash_core::CellObject;
 
 /// A 64-bit word under a key. It stands for no value; the states are `u64`.
 pub struct Word;
 
-/// What is asked of the word under a key. The reply is the word that stood there, if any.
+/// What is asked of the word under a key. The reply is the word that was there, if any.
 #[derive(Clone, Copy, Debug, PartialEq, Eq)]
 pub enum WordCall {
     /// This word is put there.
     Put(u64),
-    /// This is added to what is there, modulo 2^64; where nothing is there, it is put there.
+    /// This is added to what is there, modulo 2^64; if nothing is there, it is put there.
     Add(u64),
     /// Nothing changes.
     Get,

@@ -8,7 +8,7 @@
 //!
 //! A contract speaks of the side that a handle owns: the messages that it has sent or received, and what a call adds to
 //! them. It says nothing of the other handle. That what was received is a beginning of what was sent holds of every two
-//! sides of one queue at any time (`c_queue::meet`); an export can't say it, since nothing at run time tells which two
+//! sides of one queue at any time (`c_queue::meet`); an export can't say it, since nothing at run time says which two
 //! handles were made together.
 
 #![tactic(auto)]

@@ -6,8 +6,8 @@
 //! call left. The waiting calls are loops in C over these, in `bindings/proved/include/lembokuj_try.h`, which also
 //! tests pointers before it follows them.
 //!
-//! A contract speaks of the caller that a handle owns: the turns at the partitions that its pass shows. All handles of one
-//! table share its partitions, each behind a lock of its own, and a partition's turns are one legal history
+//! A contract speaks of the caller that a handle owns: the turns at the partitions that its pass shows. All handles of
+//! one table share its partitions, each behind its own lock, and a partition's turns are one legal history
 //! (`dshash_parts`), of which each pass has seen a beginning.
 
 #![tactic(auto)]
@@ -35,8 +35,8 @@ pub extern "C" fn lk_raw_table_new(
     open(alloc, callers, words, first).number()
 }
 
-/// A further caller in a blank handle, who gets so many words of the one that is asked. It takes memory for the handle's
-/// caller.
+/// A further caller in a blank handle, which gets this many words of the one that is asked. It takes memory for the
+/// handle's caller.
 #[unsafe(no_mangle)]
 pub extern "C" fn lk_raw_table_share(
     alloc: Global,
@@ -49,7 +49,7 @@ pub extern "C" fn lk_raw_table_share(
     share(alloc, words, from, next).number()
 }
 
-/// Tries to put a word under a key; where the key was there, its word is written to `old`. The costs are those of
+/// Tries to put a word under a key; if the key was there, its word is written to `old`. The costs are those of
 /// `c_table::Caller::try_change`.
 #[unsafe(no_mangle)]
 pub extern "C" fn lk_raw_table_put(
@@ -82,7 +82,7 @@ pub extern "C" fn lk_raw_table_add(
         .number()
 }
 
-/// Tries to read the word under a key, which is written to `word` where the key is there. One turn.
+/// Tries to read the word under a key, which is written to `word` if the key is there. One turn.
 #[unsafe(no_mangle)]
 pub extern "C" fn lk_raw_table_get(
     alloc: Global,
@@ -95,7 +95,7 @@ pub extern "C" fn lk_raw_table_get(
     table.try_get(alloc, key, word).number()
 }
 
-/// Tries to take a key out; where it was there, its word is written to `old`.
+/// Tries to take a key out; if it was there, its word is written to `old`.
 #[unsafe(no_mangle)]
 pub extern "C" fn lk_raw_table_delete(
     alloc: Global,

@@ -12,7 +12,7 @@ ghost use Rattle.std_alloc.specs.Box.Ownership.{box_owns};
 use std::alloc::Allocator;
 use std::marker::Model;
 
-/// The parts of a box: it owns the value at `at`, and the right to give its memory back to `alloc`. Where it is taken
+/// The parts of a box: it owns the value at `at`, and the right to give its memory back to `alloc`. If it is taken
 /// apart, the one who has the pointer owns them.
 pub struct Loose<T, A: Allocator> {
     /// Where the value lies.

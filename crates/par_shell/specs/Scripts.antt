@@ -8,7 +8,7 @@ use Rattle.shell_lines.specs.Words.{number_in}
 use Rattle.par_shell.specs.declared.shell.Shell.{Shell}
 use Rattle.par_shell.specs.declared.status.TheConstants.{ANSWERED, MISUSED, NO_MEMORY, READ_FAULT, TOO_LARGE, WRITE_FAULT}
 
--- pieces without the last where it is empty
+-- pieces without the last if it is empty
 abbrev pub without_empty_last : List (List ℕ) → List (List ℕ)
 without_empty_last [] = []
 without_empty_last ([] ∷ []) = []
@@ -80,6 +80,6 @@ status_text status =
 abbrev pub line_of : ℕ → List ℕ
 line_of status = codes "parsh: " ++ (status_text status ++ 10 ∷ [])
 
--- a sink was given a line, or a prefix of it where its faults rose
+-- a sink was given a line, or a prefix of it if its faults rose
 abbrev pub IsSaid : Option (List ℕ) → Option (List ℕ) → ℕ → ℕ → List ℕ → Type 0
 IsSaid old new before now said = Appends old new said ⊎ (Rose before now × (n : ℕ) × Appends old new (take n said))

@@ -3,9 +3,9 @@
 //!
 //! A `Shell` holds the tokens of all that its commands made, and is seen as what these tokens show: the words of each
 //! chunk, the two ends of each ring, the histories of the area, of the hash table and of each barrier, the words of the
-//! table of contents. So an answer cannot come from a copy that the shell keeps beside the region.
+//! table of contents. So an answer cannot come from a copy that the shell keeps outside the region.
 //!
-//! `shell_lines` tells which command a line is, and `shell` sends it to its family, of `shell_memory` or `shell_sync`;
+//! `shell_lines` says which command a line is, and `shell` sends it to its family, of `shell_memory` or `shell_sync`;
 //! `script`, `stop` and `run` are the top call over a whole script.
 
 #![tactic(auto)]

@@ -22,7 +22,7 @@ use shell_lines::{number, place_of};
 use std::alloc::{AllocError, Global};
 use std::sync::Wait;
 
-/// How many pages the area has where the words do not say.
+/// How many pages the area has if the words do not say.
 const USUAL_PAGES: u32 = 64;
 
 /// The most pages that the words may ask for.
@@ -64,7 +64,7 @@ pub fn parsh<R: Wait, S: Source, O: Sink, E: Sink>(
         (text : List ℕ) × IsPart pages script text × Appends (O.taken out.old) (O.taken out.new) text)) }
     ensures nothing { ((result ≡ MISUSED) ⊎ ((result ≡ READ_FAULT) ⊎ (result ≡ TOO_LARGE))) → out.new ≡ out.old }
 
-    // A fault is answered only where it came in this call, and 6 only where more than 1,048,576 bytes were read.
+    // A fault is answered only if it came in this call, and 6 only if more than 1,048,576 bytes were read.
     ensures read_fault { result ≡ READ_FAULT → Rose (S.faults source.old) (S.faults source.new) }
     ensures write_fault { result ≡ WRITE_FAULT → Rose (O.faults out.old) (O.faults out.new) }
     ensures too_large { result ≡ TOO_LARGE → ReadsCount (S.left source.old) (S.left source.new) 1048577 }
@@ -73,7 +73,7 @@ pub fn parsh<R: Wait, S: Source, O: Sink, E: Sink>(
     ensures complete { ¬ Rose (S.faults source.old) (S.faults source.new) → ¬ Rose (O.faults out.old) (O.faults out.new) → (pages_in (texts words.now) ≢ None)
         → IfSome (S.left source.old) (λ script. length script ≤ 1048576 → (result ≡ NO_MEMORY) ⊎ (result ≡ ANSWERED)) }
 
-    // `err` receives the line of the status, or a prefix of it where a write of it failed, and on 0 nothing.
+    // `err` receives the line of the status, or a prefix of it if a write of it failed, and on 0 nothing.
     ensures line { (result ≢ ANSWERED) → IsSaid (E.taken err.old) (E.taken err.new) (E.faults err.old) (E.faults err.new) (line_of result) }
     ensures quiet { result ≡ ANSWERED → err.new ≡ err.old }
 {
@@ -172,7 +172,7 @@ fn answer_lines<R: Wait, O: Sink>(
     write(out, gathered)
 }
 
-/// The first line of a script, and what stands behind it.
+/// The first line of a script, and what follows it.
 fn next_line(script: &[u8]) -> Option<(&[u8], &[u8])>
     ensures none { IfNone result (script.now ≡ []) }
     ensures line { IfSome result (λ r. lines_of script.now ≡ r.0.now ∷ lines_of r.1.now) }
@@ -187,7 +187,7 @@ fn next_line(script: &[u8]) -> Option<(&[u8], &[u8])>
     }
 }
 
-/// Puts an answer and a line feed behind the others.
+/// Appends an answer and a line feed to the others.
 fn push_line(answers: &mut Vec<u8>, answer: &[u8]) -> Result<(), AllocError>
     ensures { OnOk result (answers.new.items ≡ answers.old.items ++ (answer.now ++ 10 ∷ [])) }
 {
@@ -196,7 +196,7 @@ fn push_line(answers: &mut Vec<u8>, answer: &[u8]) -> Result<(), AllocError>
     Ok(())
 }
 
-/// Writes the answers that are gathered, where they fill a piece.
+/// Writes the answers that are gathered, if they fill a piece.
 fn write_full<O: Sink>(out: &mut O, answers: &mut Vec<u8>) -> Result<(), Stop>
     ensures whole { OnOk result (((answers.new.items ≡ answers.old.items) × (out.new ≡ out.old)) ⊎ ((answers.new.items ≡ []) × Appends (O.taken out.old) (O.taken out.new) answers.old.items)) }
     ensures prefix { OnErr result ((n : ℕ) × Appends (O.taken out.old) (O.taken out.new) (take n answers.old.items)) }

@@ -14,7 +14,7 @@ use std::sync::Wait;
 /// The answer to a line that is no command.
 const UNKNOWN: &str = "?";
 
-/// A region with a table of contents and an area behind it, and all that commands made in it.
+/// A region with a table of contents and an area after it, and all that commands made in it.
 #[derive(Drop)]
 pub struct Shell {
     region: Region,
@@ -52,7 +52,7 @@ impl Shell {
     }
 
     /// Answers one line, without its line feed. After an error the shell is only dropped. It costs what the one call
-    /// behind the command costs, the length of the line and of the answer, and a look-up of the name.
+    /// that the command makes costs, the length of the line and of the answer, and a look-up of the name.
     pub fn line<R: Wait>(
         &mut self,
         rt: &R,

@@ -1,6 +1,6 @@
 //! `parsh [--pages N]` answers each line of the script on the standard input.
 //!
-//! This file is the edge to the system alone: it hands the words and the standard streams to the library `par_shell`,
+//! This file is only the edge to the system: it hands the words and the standard streams to the library `par_shell`,
 //! whose contract says what the answers are, and ends with the status that it gets.
 
 #![tactic(auto)]
@@ -11,7 +11,8 @@ use std::io::ErrorKind;
 use std::process::ExitCode;
 use std::{env, io};
 
-/// The words after the program's name. Where one is no UTF-8 there is one empty word, which is none that the program takes.
+/// The words after the program's name. If one is no UTF-8 there is one empty word, which is none that the program
+/// takes.
 fn words(rt: &HostRuntime) -> io::Result<Vec<String>> {
     let mut words = Vec::new(rt.alloc());
     match env::args(rt) {

@@ -30,7 +30,7 @@ IsAllowed request = Unit {0}
 abbrev pub ring_size_in : List ℕ → Option ℕ
 ring_size_in word = option_and_then (λ n. if is_power_of_two n then Some n else None) (number_in 1 1048576 word)
 
--- the request with a text that stands behind `send` or `post`
+-- the request of what follows `send` or `post`, with its text
 abbrev pub send_behind : Bool → Option (List ℕ) → Option RingRequest
 send_behind flush rest = option_and_then (λ rest. option_map (λ name. Send name (unwrap_or (behind_word rest) []) flush) (name_in (first_word rest))) rest
 

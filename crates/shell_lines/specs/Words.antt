@@ -16,7 +16,7 @@ words_of line = slice_split is_space line
 abbrev pub first_word : List ℕ → List ℕ
 first_word text = before_first is_space text
 
--- what stands behind the first space of a text, if it has one
+-- what follows the first space of a text, if it has one
 abbrev pub behind_word : List ℕ → Option (List ℕ)
 behind_word text = if list_any is_space text then Some (after_first is_space text) else None
 

@@ -1,8 +1,8 @@
 //! The lines of a shell's script: which command each is, if it is one.
 //!
-//! `words` cuts a line at single spaces, and tells names and numbers. Each family of commands has a file of its own:
-//! `chunks`, `table`, `rings`, `contents` and `barriers`; `command` asks them in turn. A line is told by its bytes alone, so
-//! nothing here takes memory, and a command lends its names and texts from the line.
+//! `words` cuts a line at single spaces, and recognizes names and numbers. Each family of commands has its own file:
+//! `chunks`, `table`, `rings`, `contents` and `barriers`; `command` asks them in turn. A line is recognized by its
+//! bytes only, so nothing here takes memory, and a command lends its names and texts from the line.
 
 #![tactic(auto)]
 

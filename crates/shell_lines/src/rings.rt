@@ -1,5 +1,5 @@
 //! The commands over rings: `ring`, `send`, `post`, `recv` and `detach`. Of `send` and `post` the text is all that
-//! stands behind the ring's name, spaces too, so they are read off the line and not off its words.
+//! follows the ring's name, spaces too, so they are read off the line and not off its words.
 
 ghost use Rattle.std.specs.Prelude.{◌≡◌, ◌^◌, ◌≤◌, ℕ, [], ◌∷◌, IfSome, Some, map, option_map};
 ghost use Rattle.shell_lines.specs.RingRequests.{IsAllowed, request_in, request_of, ring_size_in, send_behind as send_by, send_in};
@@ -52,8 +52,7 @@ pub(crate) fn send_command<'a>(line: &'a [u8]) -> Option<RingCommand<'a>>
     }
 }
 
-/// The command whose ring and text stand behind `send` or `post`. The text is empty where no space stands behind the
-/// ring's name.
+/// The command whose ring and text follow `send` or `post`. The text is empty if no space follows the ring's name.
 fn send_behind<'a>(rest: &'a [u8], flush: bool) -> Option<RingCommand<'a>>
     ensures command { option_map request_of result ≡ send_by flush (Some rest.now) }
     ensures allowed { IfSome result (λ c. IsAllowed (request_of c)) }

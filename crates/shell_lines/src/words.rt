@@ -56,7 +56,7 @@ impl<'a> Words<'a> {
     }
 }
 
-/// What stands before the first space, and what stands behind it, if there is one.
+/// What comes before the first space, and what follows it, if there is one.
 pub(crate) fn cut(text: &[u8]) -> (&[u8], Option<&[u8]>)
     ensures first { result.0.now ≡ first_word text.now }
     ensures behind { option_map (λ rest. rest.now) result.1 ≡ behind_word text.now }

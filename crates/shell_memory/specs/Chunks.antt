@@ -1,4 +1,4 @@
--- The commands over chunks: what each is answered, and what it does. This page stands beside the table "Chunks" of
+-- The commands over chunks: what each is answered, and what it does. This page goes with the table "Chunks" of
 -- docs/SHELL.md.
 use Rattle.std.specs.Prelude.{◌≡◌, ◌≢◌, ◌⊎◌, ℕ, ◌+◌, ◌/◌, ◌<◌, ◌≤◌, ◌++◌, List, codes, decimal, Option, Some, None}
 use Rattle.std.specs.BTreeMap.{BTreeMap, get_by}
@@ -36,7 +36,7 @@ pub record IsHeap (region : TableId) (h : Heap) : Type 0 where
   pub own : Belongs h.area h.pass
   pub alone : callers_of h.area ≡ 1
 
--- the name that stands beside a place
+-- the name that is kept for a place
 abbrev pub name_beside : BTreeMap ℕ (Vec ℕ) → ℕ → Option (Vec ℕ)
 name_beside places place = get_by (nat_cmp place) places
 
@@ -44,8 +44,8 @@ name_beside places place = get_by (nat_cmp place) places
 abbrev pub chunk_of : Chunks → List ℕ → Option Chunk
 chunk_of c name = under c.named name
 
--- each chunk that has a name is one of the region's, and beside its place stands its name; and a name that stands beside
--- a place is that of a chunk that begins there
+-- each chunk that has a name is one of the region's, and its name is kept for its place; and a name that is kept for a
+-- place is that of a chunk that begins there
 pub record AreChunks (region : TableId) (c : Chunks) : Type 0 where
   pub here : (name : List ℕ) (chunk : Chunk) → chunk_of c name ≡ Some chunk → chunk.part.region ≡ region
   pub some : (name : List ℕ) (chunk : Chunk) → chunk_of c name ≡ Some chunk → 0 < chunk.bytes
@@ -64,7 +64,7 @@ module _ (h h' : Heap) (c c' : Chunks) where
     pub heap : h' ≡ h
     pub chunks : Stays c.named c'.named
 
-  -- the area is the same
+  -- the area is as before
   abbrev pub SameArea : Type 0
   SameArea = h'.area ≡ h.area
 
@@ -86,13 +86,13 @@ module _ (h h' : Heap) (c c' : Chunks) where
 abbrev pub IsSame : Chunk → Chunk → Type 0
 IsSame chunk new = (new.at ≡ chunk.at) × (new.bytes ≡ chunk.bytes) × (new.part ≡ chunk.part)
 
--- a chunk becomes `new`, where its n-th word gets a value; it may have no such word
+-- a chunk becomes `new`: its n-th word gets a value, or it has no such word and is as before
 abbrev pub StoresWord : Chunk → Chunk → ℕ → ℕ → ChunkAnswer → Type 0
 StoresWord chunk new n value Range = (chunk.bytes / 8 ≤ n) × IsSame chunk new
 StoresWord chunk new n value Done = (n < chunk.bytes / 8) × with_word chunk n value new
 StoresWord chunk new n value answer = ⊥
 
--- a chunk stays as it is, where its n-th word is read; it may have no such word
+-- a chunk stays as it is: its n-th word is read, or it has no such word
 abbrev pub LoadsWord : Chunk → Chunk → ℕ → ChunkAnswer → Type 0
 LoadsWord chunk new n Range = (chunk.bytes / 8 ≤ n) × IsSame chunk new
 LoadsWord chunk new n (Value value) = (n < chunk.bytes / 8) × (word_at chunk.part.words (chunk.at + n) ≡ Some value) × IsSame chunk new

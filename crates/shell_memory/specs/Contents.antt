@@ -1,4 +1,4 @@
--- The commands over the table of contents: what each is answered, and what it does. This page stands beside the table "The
+-- The commands over the table of contents: what each is answered, and what it does. This page goes with the table "The
 -- table of contents" of docs/SHELL.md.
 use Rattle.std.specs.Prelude.{◌≡◌, ◌≢◌, ◌⊎◌, ℕ, ◌++◌, Bool, true, false, List, codes, decimal, Option, Some, None, IfSome, IsSome}
 use Rattle.atomic_table.specs.Seated.{TableId}
@@ -59,7 +59,7 @@ abbrev pub refusal_of : TocAnswer → ContentsAnswer
 refusal_of (toc.TocFull wanted free) = answer.Full wanted free
 refusal_of (toc.KeyThere at) = answer.KeyThere
 
--- the line of a place that was found: with the name of the chunk that begins there, where one does
+-- the line of a place that was found: with the name of the chunk that begins there, if one does
 abbrev pub IsFound : Chunks → ℕ → List ℕ → Type 0
 IsFound c place line =
     ((name : List ℕ) × (chunk : Chunk) × (chunk_of c name ≡ Some chunk) × (chunk.at ≡ place) × (line ≡ codes "found " ++ name))

@@ -1,4 +1,4 @@
--- The commands over the hash table: what each is answered, and what it does. This page stands beside the table "The hash
+-- The commands over the hash table: what each is answered, and what it does. This page goes with the table "The hash
 -- table" of docs/SHELL.md.
 use Rattle.std.specs.Prelude.{◌≡◌, ℕ, zero, suc, ◌+◌, ◌<◌, ◌⊎◌, ◌++◌, List, codes, cond, decimal, is_some, Option, Some, None, IfSome, IsSome, replicate}
 use Rattle.atomic_table.specs.Seated.{TableId}
@@ -34,7 +34,7 @@ text_of (answer.Total count sum) = codes "total " ++ (decimal count ++ (codes " 
 abbrev pub table_of : Cells → Option NumberTable
 table_of c = c.table
 
--- the table, where there is one, is in the region
+-- the table, if there is one, is in the region
 abbrev pub IsCells : TableId → Cells → Type 0
 IsCells region c = IfSome c.table (IsNumberTable region)
 
@@ -67,7 +67,7 @@ module _ (a : Area) where
 
 -- a table n and the caller's pass u of the area a become n' and u'
 module _ (a : Area) (n n' : NumberTable) (u u' : AreaPass) where
-  -- one call of a key was made, with the number that stood there before
+  -- one call of a key was made, with the number that was there before
   abbrev pub Calls : List ℕ → NumberCall → Option ℕ → Type 0
   Calls key call before = IsMade a n n' u u' (packed_key key) call before
 

@@ -1,4 +1,4 @@
-//! The text of an answer: a word, and numbers behind it.
+//! The text of an answer: a word, and numbers after it.
 
 ghost use Rattle.std.specs.Prelude.{◌≡◌, ◌++◌, IfOk, codes, decimal};
 
@@ -11,7 +11,7 @@ pub fn plain(alloc: Global, text: &str) -> Result<Vec<u8>, AllocError>
     Vec::from_slice(alloc, text.as_bytes())
 }
 
-/// A text, and a number behind it.
+/// A text, and a number after it.
 pub fn with_number(alloc: Global, text: &str, n: u64) -> Result<Vec<u8>, AllocError>
     ensures { IfOk result (λ answer. answer.items ≡ text.now ++ decimal n) }
 {
@@ -35,7 +35,7 @@ pub fn with_numbers(
     Ok(answer)
 }
 
-/// A text, and bytes behind it.
+/// A text, and bytes after it.
 pub(crate) fn with_bytes(alloc: Global, text: &str, bytes: &[u8]) -> Result<Vec<u8>, AllocError>
     ensures { IfOk result (λ answer. answer.items ≡ text.now ++ bytes.now) }
 {

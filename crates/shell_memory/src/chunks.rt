@@ -1,7 +1,7 @@
 //! The commands over chunks: `alloc`, `free`, `store` and `load`.
 //!
-//! Each name stands for a chunk, which the shell owns from the `alloc` to the `free`. Beside the names stands where
-//! each chunk begins, so that a place is found without a walk over the names.
+//! Each name stands for a chunk, which the shell owns from the `alloc` to the `free`. Next to the names the shell keeps
+//! where each chunk begins, so that a place is found without a walk over the names.
 
 ghost use Rattle.std.specs.Prelude.{◌≡◌, ◌≢◌, ◌<◌, ◌≤◌, ◌^◌, ℕ, List, IfNone, IfOk, IfSome, OnOk, OnSome, Some, None, is_some, option_map};
 ghost use Rattle.atomic_table.specs.Seated.{TableId};
@@ -129,8 +129,8 @@ impl Chunks {
         }
     }
 
-    /// Hands a chunk back, and tells that no chunk with a name begins where it does: two chunks that are out at once have
-    /// no word in common. It only looks at the place.
+    /// Hands a chunk back, and proves that no chunk with a name begins where it does: two chunks that are out at once
+    /// have no word in common. It only looks at the place.
     fn at_a_new_place(&mut self, r: &Region, chunk: Chunk) -> Chunk
         requires chunks { AreChunks r.now self.old }
         requires here { chunk.part.region ≡ r.now }
@@ -252,7 +252,7 @@ impl Chunks {
         }
     }
 
-    /// Takes a chunk from under its name, with the key that it stood under.
+    /// Takes a chunk from under its name, with the key that it was under.
     fn take(&mut self, name: &[u8]) -> Option<(Vec<u8>, Chunk)>
         ensures none { IfNone result (IsFree self.old.named name.now × Stays self.old.named self.new.named) }
         ensures key { IfSome result (λ taken. taken.0.items ≡ name.now) }
@@ -288,7 +288,7 @@ impl Chunks {
     }
 }
 
-/// Changes the n-th word of a chunk, where it has that word.
+/// Changes the n-th word of a chunk, if it has that word.
 fn store_word(r: &Region, chunk: &mut Chunk, n: u64, value: u64) -> ChunkAnswer
     requires { chunk.old.part.region ≡ r.now }
     ensures { StoresWord chunk.old chunk.new n value result }
@@ -300,7 +300,7 @@ fn store_word(r: &Region, chunk: &mut Chunk, n: u64, value: u64) -> ChunkAnswer
     ChunkAnswer::Done
 }
 
-/// The value of the n-th word of a chunk, where it has that word.
+/// The value of the n-th word of a chunk, if it has that word.
 fn load_word(r: &Region, chunk: &mut Chunk, n: u64) -> ChunkAnswer
     requires { chunk.old.part.region ≡ r.now }
     ensures { LoadsWord chunk.old chunk.new n result }

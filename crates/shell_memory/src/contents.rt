@@ -1,7 +1,7 @@
 //! The commands over the table of contents: `toc alloc`, `insert`, `find`, `freeze` and `attach`.
 //!
-//! The table grows until it is frozen, and then it is only read. A chunk that it gave stands under its name beside those
-//! of the area, and the shell goes on to own it: what is frozen are the words of the table.
+//! The table grows until it is frozen, and then it is only read. A chunk that it gave is under its name, like those of
+//! the area, and the shell goes on to own it: what is frozen are the words of the table.
 
 ghost use Rattle.std.specs.Prelude.{◌≡◌, ◌≤◌, ℕ, IfOk, OnOk, Some};
 ghost use Rattle.atomic_table.specs.Seated.{TableId};
@@ -49,11 +49,11 @@ pub(crate) enum ContentsAnswer {
     Granted { bytes: u64 },
     /// The bytes that were wanted, and those that are left.
     Full { wanted: u64, free: u64 },
-    /// The key stands already.
+    /// The key is there already.
     KeyThere,
     /// No entry has the key.
     None,
-    /// The key stands beside this place.
+    /// The key has this place.
     Found { place: u64 },
     /// The table's magic number is this one.
     WrongMagic { found: u64 },
@@ -174,7 +174,7 @@ impl Contents {
         }
     }
 
-    /// The place beside the key.
+    /// The place of the key.
     fn find(&mut self, r: &Region, key: u64) -> ContentsAnswer
         requires contents { IsContents r.now self.old }
         ensures contents { IsContents r.now self.new }
@@ -258,7 +258,7 @@ fn insert(r: &Region, toc: &mut Toc, chunks: &Chunks, key: u64, name: &[u8]) -> 
     }
 }
 
-/// The place beside a key of a frozen table.
+/// The place of a key of a frozen table.
 fn find(r: &Region, toc: &mut FrozenToc, key: u64) -> ContentsAnswer
     requires here { toc.old.region ≡ r.now }
     ensures same { toc.new ≡ toc.old }

@@ -2,9 +2,10 @@
 //! contents.
 //!
 //! A `Heap` is the area with its one pass, from which chunks and the hash table take their words; the table of contents
-//! has words of its own. `chunks`, `table` and `contents` are the families of commands. Each holds tokens under names, makes
-//! the one call of the region that a command is, and answers a line that is made of what that call told. So an answer cannot
-//! come from a copy beside the region, and what a family's page of `specs/` says of it speaks of the tokens alone.
+//! has its own words. `chunks`, `table` and `contents` are the families of commands. Each holds tokens under names,
+//! makes the one call of the region that a command is, and answers a line that is made of what that call returned. So
+//! an answer cannot come from a copy outside the region, and what a family's page of `specs/` says of it speaks only of
+//! the tokens.
 
 #![tactic(auto)]
 

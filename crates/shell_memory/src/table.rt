@@ -39,13 +39,13 @@ pub(crate) enum TableAnswer {
     Done,
     /// The pages that were wanted, and those of the longest free run.
     NoSpace { pages: u32, largest: u32 },
-    /// Nothing stood under the key.
+    /// Nothing was under the key.
     New,
-    /// This number stood under the key.
+    /// This number was under the key.
     Old { value: u64 },
     /// The number under the key.
     Value { value: u64 },
-    /// Nothing stands under the key.
+    /// Nothing is under the key.
     None,
     /// All were put, and this many of the keys were new.
     Filled { new: u64 },
@@ -243,7 +243,7 @@ impl Cells {
     }
 }
 
-/// The answer to what stood under a key.
+/// The answer to what was under a key.
 fn found(value: Option<u64>) -> TableAnswer
     ensures none { IfNone value (result ≡ answer.None) }
     ensures some { IfSome value (λ n. result ≡ answer.Value n) }
@@ -285,7 +285,7 @@ fn fill<R: Wait>(
     Ok(TableAnswer::Filled { new })
 }
 
-/// Puts a number under a key. 1 where the key is new, and else 0.
+/// Puts a number under a key. 1 if the key is new, and else 0.
 fn put_one<R: Wait>(
     rt: &R,
     r: &Region,

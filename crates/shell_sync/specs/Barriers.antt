@@ -1,4 +1,4 @@
--- The commands over barriers: what each is answered, and what it does. This page stands beside the table "Barriers" of
+-- The commands over barriers: what each is answered, and what it does. This page goes with the table "Barriers" of
 -- docs/SHELL.md.
 use Rattle.std.specs.Prelude.{◌≡◌, ◌≢◌, ◌⊎◌, ℕ, ◌++◌, ◌<◌, ◌≤◌, true, false, List, codes, decimal, Option, Some, None}
 use mathlib.Core.Option.{some}

@@ -1,4 +1,4 @@
--- The commands over rings: what each is answered, and what it does. This page stands beside the table "Rings" of
+-- The commands over rings: what each is answered, and what it does. This page goes with the table "Rings" of
 -- docs/SHELL.md.
 use Rattle.std.specs.Prelude.{◌≡◌, ◌≢◌, ◌⊎◌, ℕ, ◌+◌, ◌*◌, ◌++◌, Bool, true, false, not, List, [], length, codes, decimal, option_map, Option, Some, None, if◌then◌else◌, ◌==◌}
 use Rattle.atomic_table.specs.Seated.{TableId}
@@ -48,12 +48,13 @@ pub record QueueState : Type 0 where
 abbrev pub state_of : Queue → QueueState
 state_of q = record { sender = q.sender.end; receiver = q.receiver.end; torn = option_map (λ text. text.items) q.torn }
 
--- a text is kept exactly where words of a frame are stored and not its whole: they are the first of that text's frame
+-- a text is kept exactly if words of a frame are stored, but not the whole: they are the first words of that text's
+-- frame
 abbrev pub IsTorn : Option (List ℕ) → List ℕ → Type 0
 IsTorn None put = left_of put ≡ []
 IsTorn (Some text) put = (left_of put ≢ []) × Continues put text
 
--- the text that is kept where this many words of its frame are stored
+-- the text that is kept if this many words of its frame are stored
 abbrev pub torn_by : ℕ → List ℕ → Option (List ℕ)
 torn_by words text = if words == 0 then None else Some text
 
@@ -88,7 +89,7 @@ module _ (s t : QueueState) where
     pub found : SendFound (Some s.receiver) s.sender t.sender answer
     pub other : t.receiver ≡ s.receiver
 
-  -- `send Q TEXT`, and `post Q TEXT` where `flush` is false
+  -- `send Q TEXT`, and `post Q TEXT` if `flush` is false
   abbrev pub Sends : List ℕ → Bool → RingAnswer → Type 0
   Sends text flush answer.Closed = (s.sender.gone ≡ true) × (t ≡ s)
   Sends text flush answer.Pending = (s.sender.gone ≡ false) × ((other : List ℕ) × (s.torn ≡ Some other) × (other ≢ text)) × (t ≡ s)
@@ -123,7 +124,7 @@ module _ (s t : QueueState) where
     pub first : s.receiver.gone ≡ false → t ≡ record s { receiver = receiver_leaves s.receiver }
     pub again : s.receiver.gone ≡ true → t ≡ s
 
--- what a try to send makes of a ring: the sender's end alone changes, and what holds of both ends is told
+-- what a try to send makes of a ring: only the sender's end changes, and it is known what holds of both ends
 pub record IsSendTry (region : TableId) (q q' : Queue) (text : List ℕ) (flush : Bool) (answer : SendAnswer) : Type 0 where
   pub here : (q'.sender.region ≡ region) × (q'.receiver.region ≡ region)
   pub other : q'.receiver.end ≡ q.receiver.end
@@ -134,7 +135,7 @@ pub record IsSendTry (region : TableId) (q q' : Queue) (text : List ℕ) (flush 
   pub found : SendFound (Some q.receiver.end) q.sender.end q'.sender.end answer
   pub ends : AreEnds q'.sender.end q'.receiver.end
 
--- what a try to receive makes of a ring: the receiver's end alone changes, and what holds of both ends is told
+-- what a try to receive makes of a ring: only the receiver's end changes, and it is known what holds of both ends
 pub record IsReceiveTry (region : TableId) (q q' : Queue) (answer : ReceiveAnswer) : Type 0 where
   pub here : (q'.sender.region ≡ region) × (q'.receiver.region ≡ region)
   pub other : q'.sender.end ≡ q.sender.end

@@ -1,8 +1,8 @@
 //! The commands over rings: `ring`, `send`, `post`, `recv` and `detach`.
 //!
 //! The shell holds both ends of each ring. They meet before and after each try, so that an end finds all that the other
-//! has published or set by then. Where a part of a frame is stored, its text is kept, since only that text may be
-//! sent next.
+//! has published or set by then. If a part of a frame is stored, its text is kept, since only that text may be sent
+//! next.
 
 ghost use Rattle.std.specs.Prelude.{◌≡◌, ◌≢◌, ◌⊎◌, ◌+◌, ◌*◌, ◌≤◌, ◌^◌, ℕ, List, IfOk, OnOk, Some, None, true, false};
 ghost use Rattle.atomic_table.specs.Seated.{TableId};
@@ -23,7 +23,7 @@ use std::alloc::{AllocError, Global};
 use std::collections::BTreeMap;
 use std::sync::Wait;
 
-/// The words of a ring's chunk beside its cells.
+/// The words of a ring's chunk besides its cells.
 const CONTROL_WORDS: u64 = 3;
 
 /// The two ends of a ring.
@@ -98,7 +98,7 @@ impl RingAnswer {
     }
 }
 
-/// The line of a message: its length, and the message behind it where it is not empty.
+/// The line of a message: its length, and then the message if it is not empty.
 fn got(alloc: Global, message: &[u8]) -> Result<Vec<u8>, AllocError>
     ensures { IfOk result (λ line. line.items ≡ text_of answer.Got message.now) }
 {
