@@ -1,5 +1,5 @@
--- Where the blocks were drawn, each once, and the leader has put its own blocks and all the tuples of the others into
--- its map, in any order, the map has the groups of one pass over all rows.
+-- The law of gathering: if the blocks were drawn, each once, and the leader has put its own blocks and all the tuples
+-- of the others into its map, in any order, the map has the groups of one pass over all rows.
 use Rattle.std.specs.Prelude.{◌≡◌, ◌≤◌, ◌<◌, ◌+◌, ◌*◌, ◌^◌, ℕ, List, ◌∷◌, All, drop, length, map as map_list}
 use Rattle.std.specs.FinMap as map
 use Rattle.std.specs.List.{AllByRecursion, AllZip, flat_map}
@@ -19,7 +19,7 @@ pub record AreSent (plan : Plan) (width : ℕ) (records : Table) (draws : List �
   pub sent : IsPermutation (flat_map (groups_of plan) batches) groups
   pub accepted : All (IsAccepted plan width) (rows_of_blocks records draws)
 
--- what a leader has done, with the draws of its own and of the others, and the groups that each of the others sent
+-- what a leader has done, given its own draws, those of the others, and the groups that each of the others sent
 pub record IsGathered (plan : Plan) (width : ℕ) (records : Table) (own : List ℕ) (draws : List (List ℕ)) (sent : List (List Group)) (parts : List Part) : Type 0 where
   pub own_blocks : rows_of_blocks records (blocks_in parts) ≡ rows_of_blocks records own
   pub own_accepted : All (IsAccepted plan width) (rows_of_blocks records own)
@@ -41,6 +41,6 @@ GathersAll = (plan : Plan) (width : ℕ) (records : Table) (own : List ℕ) (dra
     → ((x : ℕ) → times x (flat (own ∷ draws)) ≡ once_below x n) → length records ≤ 256 * n + 1 → length records < 2 ^ 63
     → All (IsAccepted plan width) (drop 1 records) × AreGroups plan (drop 1 records) (after plan records parts)
 
--- and the tuples of some rows combine to their groups
+-- the law: the tuples of some rows combine to their groups
 abbrev pub TuplesCombine : Type 0
 TuplesCombine = (plan : Plan) (width : ℕ) (rows : Table) (messages : List (List ℕ)) → All (IsAccepted plan width) rows → length rows < 2 ^ 63 → AreTuples plan rows messages → CombineTo plan rows messages

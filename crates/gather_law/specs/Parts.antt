@@ -6,7 +6,7 @@ use Rattle.partial_agg.specs.Groups.{GroupsByKey, added, with_rows}
 use Rattle.row_blocks.specs.Blocks.{Table, block_rows}
 use Rattle.gather_law.specs.Tuples.{Group}
 
--- one of them
+-- one of these parts
 pub data Part : Type 0 where
   Block : ℕ → Part
   Received : Group → Part

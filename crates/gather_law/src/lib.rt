@@ -1,6 +1,7 @@
-//! The law of gathering: what blocks and tuples come to, whoever drew a block and in whatever order the tuples came.
+//! The law of gathering: what blocks and tuples come to, no matter which participant drew a block and in which order
+//! the tuples came.
 //!
-//! It speaks of plain lists alone: the numbers that each participant drew, the groups that each worker sent, and the
+//! It is about plain lists only: the numbers that each participant drew, the groups that each worker sent, and the
 //! parts that the leader put into its map. A worker sends the groups of batches of its rows, in any order, so a group
 //! stands for those rows of a batch that have its key; put in another order, the parts stand for the same rows in
 //! another order, and aggregates do not depend on the order of rows.
@@ -9,14 +10,13 @@
 
 ghost use Rattle.gather_law.specs.Law.{GathersAll, TuplesCombine};
 
-/// Where each block was drawn once and the leader has put its own blocks and all the tuples of the others into its map,
-/// no row is refused and the map is that of one pass over all rows. A law: it does nothing when it runs.
+/// Tells that if each block was drawn once and the leader has put its own blocks and all the tuples of the others into
+/// its map, no row is refused and the map is that of one pass over all rows. It does nothing.
 pub fn gathers_all()
     ensures { GathersAll }
 {}
 
-/// The tuples that a worker sent for some rows combine to the groups of these rows. A law: it does nothing when it
-/// runs.
+/// Tells that the tuples that a worker sent for some rows combine to the groups of these rows. It does nothing.
 pub fn tuples_combine()
     ensures { TuplesCombine }
 {}

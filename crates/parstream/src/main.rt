@@ -1,7 +1,7 @@
 //! `parstream [--group COLUMNS] --agg ITEMS ..` answers a query over the comma-separated bytes of the standard input,
 //! whatever their length.
 //!
-//! This file is the edge to the system alone: it hands the words and the standard streams to the library `par_stream`,
+//! This file is only the edge to the system: it hands the words and the standard streams to the library `par_stream`,
 //! whose contract says what the answer is, and ends with the status that it gets.
 
 #![tactic(auto)]
@@ -16,7 +16,7 @@ use std::io::ErrorKind;
 use std::process::ExitCode;
 use std::{env, io};
 
-/// The words after the program's name; none of them where one is no UTF-8.
+/// The words after the program's name; none of them if one is not UTF-8.
 fn words(rt: &HostRuntime) -> io::Result<Option<Vec<String>>> {
     let mut words = Vec::new(rt.alloc());
     match env::args(rt) {

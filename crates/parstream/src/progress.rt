@@ -10,12 +10,12 @@ const PAUSE_SECONDS: u64 = 1;
 /// The bytes of a mebibyte.
 const MIB: u64 = 1_048_576;
 
-/// A line on a terminal, which is written over once a second. On anything but a terminal nothing is written.
+/// A line on a terminal, which is overwritten once a second. If the output is no terminal nothing is written.
 #[derive(Drop)]
 pub(crate) struct ProgressLine<'a, C, W> {
     clock: &'a C,
     terminal: Option<W>,
-    /// When the line was written, or when there was none yet.
+    /// When the line was last written; before the first line, when the wait for it began.
     last: Option<Instant>,
     is_shown: bool,
 }
@@ -32,7 +32,7 @@ impl<'a, C: Clock, W: Write + IsTerminal + Drop> ProgressLine<'a, C, W> {
         }
     }
 
-    /// Whether the last line is a second old. A clock that can't be read shows none.
+    /// Whether the last line is a second old. With a clock that can't be read no line is shown.
     fn is_due(&mut self) -> bool {
         let Ok(now) = Instant::now(self.clock) else {
             return false;
@@ -56,7 +56,7 @@ impl<'a, C: Clock, W: Write + IsTerminal + Drop> Progress for ProgressLine<'a, C
         let rows = so_far.rows;
         let groups = so_far.groups;
         if let Some(terminal) = &mut self.terminal {
-            // A line that can't be written is not missed.
+            // That a line can't be written changes nothing else.
             let _ = write!(
                 terminal,
                 "\rparstream: {mib} MiB, {rows} rows, {groups} groups or more"

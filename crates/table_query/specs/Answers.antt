@@ -24,6 +24,6 @@ outcome_over plan bytes = outcome plan (length bytes) (records_of bytes)
 abbrev pub bound_over : NamedPlan → List ℕ → Plan
 bound_over plan bytes = bound_plan (record_at (records_of bytes) 0) plan
 
--- the outcome of a plan over what a source had left, where that is told
+-- the outcome of a plan over what a source had left, if that is known
 abbrev pub IsOutcome : Option NamedPlan → Option (List ℕ) → Outcome → Type 0
 IsOutcome plan left o = IfSome left (λ bytes. o ≡ outcome_over plan bytes)

@@ -11,11 +11,11 @@ abbrev pub asked : Wanted → List (List ℕ) → Option Query
 asked Groups words = query_of words
 asked Order words = merge_of words
 
--- its plan
+-- the plan of a query
 abbrev pub plan_in : Option Query → Option NamedPlan
 plan_in query = option_map (λ query. query.plan) query
 
--- how many workers it asks for
+-- how many workers a query asks for
 abbrev pub workers_in : Option Query → Option ℕ
 workers_in query = option_map (λ query. query.workers) query
 

@@ -9,7 +9,8 @@ use Rattle.table_query.specs.Answers.{status_of}
 use Rattle.answer_text.specs.Lines.{line}
 use Rattle.answer_text.specs.declared.status.TheConstants.{MISUSED, NO_MEMORY, READ_FAULT, REFUSED, TOO_LARGE, WRITE_FAULT}
 
--- what a line says of an outcome that is neither a refusal of rows nor a table, where this is said of words that are none
+-- what a line says of an outcome that is neither a refusal of rows nor a table, given what it says of words that are no
+-- plan
 abbrev pub outcome_text : List ℕ → Outcome → List ℕ
 outcome_text usage Usage = usage
 outcome_text usage TooManyBytes = codes "more than 67108864 bytes"
@@ -53,11 +54,11 @@ refused_of Table = []
 abbrev pub NamesRow : Option NamedPlan → Outcome → List ℕ → Type 0
 NamesRow plan outcome said = IsSomeAnd plan (λ plan. (row : ℕ × Refusal) × Contains (refused_of outcome) row × (said ≡ line (row_text plan row)))
 
--- the line names the first of them
+-- the line names the first row that the outcome of a plan refuses, with its cause
 abbrev pub NamesFirst : Option NamedPlan → Outcome → List ℕ → Type 0
 NamesFirst plan outcome said = IsSomeAnd plan (λ plan. (row : ℕ × Refusal) × (slice_get (refused_of outcome) 0 ≡ Some row) × (said ≡ line (row_text plan row)))
 
--- the line of a status. Where that is an outcome's, the outcome has it, and the line is that outcome's
+-- the line of a status; if the status is one of an outcome, the outcome has it, and the line is that of the outcome
 pub record IsLine (usage : List ℕ) (plan : Option NamedPlan) (status : ℕ) (outcome : Outcome) (said : List ℕ) : Type 0 where
   pub refused : status ≡ REFUSED → NamesRow plan outcome said
   pub misused : status ≡ MISUSED → (status_of outcome ≡ MISUSED) × (said ≡ line (outcome_text usage outcome))

@@ -25,8 +25,8 @@ pub record IsBound (r : Ready) : Type 0 where
   pub some : 0 < length r.rows
   pub few : length r.rows ≤ MOST_RECORDS
 
--- it is the query that was asked for, over the records of what a source had left, where that is told; its outcome is
--- then that of its rows
+-- it is the query that was asked for; if it is known what the source had left, it is over the records of those bytes,
+-- and its outcome is that of its rows
 pub record IsReady (asked : Option Query) (left : Option (List ℕ)) (r : Ready) : Type 0 where
   pub query : asked ≡ Some r.plan
   pub bound : IsBound r

@@ -5,6 +5,6 @@ use Rattle.par_model.specs.Refuse.{refused_rows}
 use Rattle.par_model.specs.declared.refusal.Refusal.{Refusal}
 use Rattle.partial_agg.specs.Rows.{header_width}
 
--- each with its number and its cause, in the order of the rows
+-- the rows that are refused, each with its number and its cause, in the order of the rows
 abbrev pub refused_in : Plan → List (List (List ℕ)) → List (ℕ × Refusal)
 refused_in plan records = refused_rows plan (header_width records) (drop 1 records)

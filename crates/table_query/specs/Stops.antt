@@ -38,7 +38,7 @@ cause_text cause.LongKey = codes "group key is longer than 248 bytes"
 cause_text (cause.Item name) = codes "column " ++ (string_bytes name ++ codes " is not an integer")
 cause_text (cause.Filter name) = codes "filter column " ++ (string_bytes name ++ codes " is not an integer")
 
--- what its line says to one who wanted this, where it names a row what comes after the row's number
+-- what the line of a reason says, given what was wanted; if it names a row, only what comes after the row's number
 abbrev pub text_of : Wanted → Stop → List ℕ
 text_of wanted stop.Usage = usage_in wanted
 text_of wanted stop.ReadFault = codes "read fault"
@@ -50,7 +50,7 @@ text_of wanted (stop.Refused row why) = cause_text why
 text_of wanted stop.WriteFault = codes "write fault"
 text_of wanted stop.Memory = codes "out of memory"
 
--- what comes before that: the row that it names
+-- what the line says before that: the row that it names, if it names one
 abbrev pub front_of : Stop → List ℕ
 front_of stop.Usage = []
 front_of stop.ReadFault = []
@@ -62,7 +62,7 @@ front_of (stop.Refused row why) = codes "row " ++ (decimal row ++ codes ": ")
 front_of stop.WriteFault = []
 front_of stop.Memory = []
 
--- what its line says
+-- all that the line of a reason says
 abbrev pub stop_text : Wanted → Stop → List ℕ
 stop_text wanted why = front_of why ++ text_of wanted why
 
@@ -72,7 +72,7 @@ pub record RefusesRow (plan : NamedPlan) (row : ℕ) (why : Cause) (o : Outcome)
   pub has : Contains (refused_of o) (row, refusal)
   pub says : cause_text why ≡ refusal_text plan refusal
 
--- it refuses it first
+-- the outcome refuses this row first, and for this cause
 pub record RefusesFirst (plan : NamedPlan) (row : ℕ) (why : Cause) (o : Outcome) : Type 0 where
   pub refusal : Refusal
   pub first : slice_get (refused_of o) 0 ≡ Some (row, refusal)
@@ -90,7 +90,7 @@ Explains plan (stop.Refused row why) o = IsSomeAnd plan (λ plan. RefusesRow pla
 Explains plan stop.WriteFault o = o ≡ Table
 Explains plan stop.Memory o = ⊤
 
--- where a reason names a row, it is the first that the outcome refuses
+-- if a reason names a row, it is the first that the outcome refuses
 abbrev pub IsFirstStop : Option NamedPlan → Stop → Outcome → Type 0
 IsFirstStop plan stop.Usage o = ⊤
 IsFirstStop plan stop.ReadFault o = ⊤
@@ -102,7 +102,7 @@ IsFirstStop plan (stop.Refused row why) o = IsSomeAnd plan (λ plan. RefusesFirs
 IsFirstStop plan stop.WriteFault o = ⊤
 IsFirstStop plan stop.Memory o = ⊤
 
--- a reason that comes before the rows are read
+-- a reason that can hold before the rows are looked at
 abbrev pub IsEarly : Stop → Type 0
 IsEarly stop.Usage = ⊤
 IsEarly stop.ReadFault = ⊤
@@ -114,22 +114,22 @@ IsEarly (stop.Refused row why) = ⊥
 IsEarly stop.WriteFault = ⊥
 IsEarly stop.Memory = ⊤
 
--- it explains an outcome, which is that of the plan over what the source had left, where that is told
+-- a reason explains an outcome, which is that of the plan over what the source had left, if that is known
 abbrev pub IsExplained : Option NamedPlan → Option (List ℕ) → Stop → Type 0
 IsExplained plan left why = (o : Outcome) × IsOutcome plan left o × Explains plan why o
 
--- the reason that stands for an answer of `of_words`
+-- the reason that an answer of `of_words` gives
 abbrev pub stop_of_words : PlanAnswer → Stop
 stop_of_words words.Usage = stop.Usage
 stop_of_words words.Memory = stop.Memory
 
--- that for an answer of `read_all`
+-- the reason that an answer of `read_all` gives
 abbrev pub stop_of_reading : ReadAnswer → Stop
 stop_of_reading reading.ReadFault = stop.ReadFault
 stop_of_reading reading.TooManyBytes = stop.TooManyBytes
 stop_of_reading reading.Memory = stop.Memory
 
--- that for an answer of `rows`
+-- the reason that an answer of `rows` gives
 abbrev pub stop_of_parsing : RowsAnswer → Stop
 stop_of_parsing parsing.NoHeader = stop.NoHeader
 stop_of_parsing parsing.TooManyRows = stop.TooManyRows

@@ -35,7 +35,7 @@ pub struct Ready {
     pub bound: BoundPlan,
 }
 
-/// Reads the words, which are to have this wanted, and the source. Where they are no query the source is not read.
+/// Reads the words, which are to ask for what is wanted, and the source. If they are no query the source is not read.
 pub fn prepare<S: Source, W: Reading>(
     alloc: Global,
     wanted: Wanted,

@@ -2,8 +2,8 @@
 //! why such a query has no answer, with its status and its line.
 //!
 //! The causes come in one order: the words, the reading and its limit, the header, the number of rows, the columns, the
-//! rows, and the writing. The first that holds ends it. What is made of the rows, their groups or their order, is the
-//! business of the crates above, which name a refused row by [`stop_of_row`].
+//! rows, and the writing. The first that holds ends the query. What is made of the rows, their groups or their order,
+//! is the task of the crates above, which name a refused row by [`stop_of_row`].
 
 #![tactic(auto)]
 

@@ -1,7 +1,7 @@
-//! The names of columns that the line of a refused row speaks of.
+//! The names of columns that the line of a refused row mentions.
 //!
-//! A plan lends them: that of an aggregate by its place, and that of the filter. They are copied, since the line is
-//! written after the plan is gone.
+//! They are those of a plan: the name of an aggregate's column, by the aggregate's place, and that of the filter's
+//! column. They are copied, since the line is written after the plan is gone.
 
 ghost use Rattle.std.specs.Prelude.{◌≡◌, ◌⊎◌, IfOk};
 ghost use Rattle.table_query.specs.Lines.{refusal_text};
@@ -13,7 +13,7 @@ use par_model::{ITEM_CAUSE, KEY_CAUSE, Refusal, WIDTH_CAUSE};
 use plan_spec::Plan;
 use std::alloc::{AllocError, Global};
 
-/// The reason that this row is refused, or want of memory.
+/// The reason that this row is refused, or no memory.
 pub fn stop_of_row(alloc: Global, plan: &Plan, row: u64, why: Refusal) -> Stop
     ensures { IsRefusedRow plan.now.plan row why result ⊎ (result ≡ stop.Memory) }
 {
@@ -23,7 +23,7 @@ pub fn stop_of_row(alloc: Global, plan: &Plan, row: u64, why: Refusal) -> Stop
     }
 }
 
-/// The cause of a refusal with the name that its line speaks of.
+/// The cause of a refusal with the name that its line mentions.
 fn cause_of(alloc: Global, plan: &Plan, why: Refusal) -> Result<Cause, AllocError>
     ensures { IfOk result (λ cause. cause_text cause ≡ refusal_text plan.now.plan why) }
 {

@@ -12,10 +12,10 @@ use std::thread::Threads;
 
 /// Reads the records of bytes.
 pub trait Reading {
-    /// What it needs.
+    /// What a caller has to meet before it reads.
     ghost asks: { Type 0 };
 
-    /// The records of bytes, read beside at most this many workers.
+    /// The records of bytes, read by the caller's thread and at most this many others.
     fn rows(&self, alloc: Global, bytes: &[u8], workers: u32) -> Result<RowStore, RowsAnswer>
         requires { asks }
         ensures records { IfOk result (λ store. store ≡ records_of bytes.now) }
@@ -37,7 +37,7 @@ impl Reading for Alone {
     }
 }
 
-/// In the caller's thread and as many others as there are workers.
+/// In the caller's thread and one more for each worker.
 #[derive(Drop)]
 pub struct InThreads<'a, R: Threads + Sync> {
     pub rt: &'a R,

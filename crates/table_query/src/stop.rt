@@ -13,7 +13,7 @@ use par_io::Sink;
 use plan_spec::PlanAnswer;
 use std::alloc::AllocError;
 
-/// Why a row is refused, with the name of the column of which its line speaks.
+/// Why a row is refused, with the name of the column that its line mentions.
 #[derive(Debug, Drop)]
 pub enum Cause {
     Width,
@@ -80,7 +80,7 @@ impl From<RowsAnswer> for Stop {
 }
 
 impl Cause {
-    /// What the line says of it: a text, a name, and the text behind that.
+    /// What the line says of it: a text, a name, and the text after that.
     fn text(&self) -> (&str, &str, &str)
         ensures { result.0.now ++ (result.1.now ++ result.2.now) ≡ cause_text self.now }
     {
@@ -137,7 +137,7 @@ impl Stop {
         ["pargather: ", row, number, colon, text, name, rest, "\n"]
     }
 
-    /// Writes the line to one who gave words in this wanted, and gives the status.
+    /// Writes the line, for words that were to ask for what is wanted, and returns the status.
     pub fn end<E: Sink>(&self, wanted: Wanted, err: &mut E) -> u8
         ensures said { IsSaid (E.taken err.old) (E.taken err.new) (E.faults err.old) (E.faults err.new) (line (stop_text wanted self.now)) }
         ensures status { result ≡ stop_status self.now }

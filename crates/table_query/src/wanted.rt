@@ -13,7 +13,7 @@ pub enum Wanted {
 }
 
 impl Wanted {
-    /// What is said of words that do not ask for it.
+    /// What the line says of words that don't ask for it.
     pub fn usage(self) -> &'static str
         ensures { result.now ≡ usage_in self }
     {
