@@ -59,7 +59,7 @@ fn is_first(at: u32, begins: bool) -> bool
     at == 0 && begins
 }
 
-/// What stands before the field at a place.
+/// What comes before the field at a place.
 fn separator(at: u32) -> &'static [u8]
     ensures { result.now ≡ next_sep default_writer at }
 {

@@ -2,7 +2,7 @@
 //!
 //! A place is sorted together with 16 bytes of its key as one number: those after the front that all keys have in
 //! common. Unequal numbers decide the order of two keys (`AreNumbered`), so each key is read once for its number, and
-//! again only where two numbers are equal.
+//! again only if two numbers are equal.
 
 ghost use Rattle.std.specs.Prelude.{◌≡◌, IfOk, length, map};
 ghost use Rattle.std.specs.List.Sorted.{IsPermutation, IsSorted};

@@ -23,8 +23,8 @@ pub record IsSmallSlot (slot : SlotState) : Type 0 where
   pub count : slot.count ≤ 2 ^ 50
   pub sum : unsigned_abs slot.sum ≤ 2 ^ 63 * slot.count
 
--- no two groups have the same key, each key is the encoding of the plan's number of columns to group by, and the slots
--- are small
+-- no two groups have the same key, each key is the encoding of n columns if the plan groups by n, and the slots are
+-- small
 pub record ArePrintable (plan : Plan) (groups : List Group) : Type 0 where
   pub different : IsDistinct bytes_eq (map (λ group. group.key) groups)
   pub keys : All (λ group. IsKeyOf (length plan.groups) group.key) groups
