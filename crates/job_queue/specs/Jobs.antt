@@ -15,12 +15,12 @@ done_of n = record { number = n; result = result_of n }
 abbrev pub number_of : List ℕ → ℕ
 number_of message = packed message 0
 
--- how often a number stands in a list
+-- how often a number is in a list
 abbrev pub times : ℕ → List ℕ → ℕ
 times n ns = count_by (λ m. m == n) ns
 
--- The jobs below count were done, each once, and no other: the number of each stands once in the list, with the result
--- that the job's function gives
+-- The jobs below count were done, each once, and no other: the number of each is once in the list, with the result that
+-- the job's function gives
 pub record AreDone (count : ℕ) (done : List Done) : Type 0 where
   pub once : (n : ℕ) → n < count → times n (map (λ d. d.number) done) ≡ 1
   pub others : (n : ℕ) → count ≤ n → times n (map (λ d. d.number) done) ≡ 0

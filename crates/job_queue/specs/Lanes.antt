@@ -18,7 +18,7 @@ pub record IsLane (region : TableId) (lane : Lane) : Type 0 where
   pub here : lane.sender.region ≡ region
   pub jobs : (unsent : List ℕ) × (lane.jobs.items ≡ jobs_in lane.sender.end.put ++ unsent)
 
--- where the lane is open, all its jobs were sent, and the next one may be
+-- if the lane is open, all its jobs were sent, and the next one may be sent
 pub record IsReady (lane : Lane) : Type 0 where
   pub stays : lane.open ≡ true → lane.sender.end.gone ≡ false
   pub fresh : lane.open ≡ true → left_of lane.sender.end.put ≡ []

@@ -10,7 +10,7 @@ pub struct Done {
     pub result: u64,
 }
 
-/// Does the job of this number, whoever does it: its square, modulo 2^64.
+/// Does the job of this number, in whichever thread: its square, modulo 2^64.
 pub fn do_job(number: u64) -> Done
     ensures { result ≡ done_of number }
 {

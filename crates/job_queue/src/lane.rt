@@ -18,7 +18,7 @@ pub const RING_WORDS: u64 = 64;
 #[derive(Drop)]
 pub struct Lane {
     pub sender: Sender,
-    /// The numbers of the worker's jobs, in order. Where it was found gone, the last of them were not sent.
+    /// The numbers of the worker's jobs, in order. If it was found gone, the last of them were not sent.
     pub jobs: Vec<u64>,
     /// Whether the worker was not found gone.
     pub open: bool,
@@ -53,7 +53,7 @@ fn do_these(numbers: &[u64], done: &mut Vec<Done>) -> Result<(), AllocError>
 }
 
 impl Lane {
-    /// Makes a job one of the worker's. It is sent, for which it waits for room, but where the worker is gone.
+    /// Makes a job one of the worker's. It is sent, for which it waits for room, unless the worker is gone.
     pub fn hand<R: Wait>(&mut self, rt: &R, r: &Region, number: u64) -> Result<(), AllocError>
         requires { IsLane r.now self.old × IsReady self.old }
         ensures lane { IsLane r.now self.new × IsReady self.new }

@@ -21,7 +21,7 @@ pub struct Lanes {
     pub other: Lane,
 }
 
-/// A region, and behind its first word two queues: what the leader has of them, and the workers' ends.
+/// A region, and after its first word two queues: what the leader has of them, and the workers' ends.
 #[tactic(auto, using(word_map::proofs::Maps::answers, std::proofs::lemmas::Bool::Decides::nat_tests))]
 fn open(alloc: Global) -> Result<(Region, Lanes, (Receiver, Receiver)), AllocError>
     ensures one { IfOk result (λ made. IsNew made.0 made.1.one made.2.0) }
@@ -37,7 +37,7 @@ fn open(alloc: Global) -> Result<(Region, Lanes, (Receiver, Receiver)), AllocErr
 }
 
 impl Lanes {
-    /// Hands out the jobs below `count`, each to the worker whose turn it is, or to the other where that one is gone.
+    /// Hands out the jobs below `count`, each to the worker whose turn it is, or to the other if that one is gone.
     fn hand_out<R: Wait>(&mut self, rt: &R, r: &Region, count: u64) -> Result<(), AllocError>
         requires one { (q : _) × IsNew r.now self.old.one q }
         requires other { (q : _) × IsNew r.now self.old.other q }
@@ -55,7 +55,7 @@ impl Lanes {
     }
 }
 
-/// The leader. It tells both workers in any case that no more comes, since they would wait otherwise.
+/// The leader. It says to both workers in any case that no more comes, since they would wait otherwise.
 fn lead<R: Wait>(rt: &R, r: &Region, mut lanes: Lanes, count: u64) -> Result<Lanes, AllocError>
     requires { ((q : _) × IsNew r.now lanes.one q) × ((q : _) × IsNew r.now lanes.other q) }
     ensures { IfOk result (λ led. AreLanes r.now lanes led × AreDealt count led) }
@@ -67,7 +67,7 @@ fn lead<R: Wait>(rt: &R, r: &Region, mut lanes: Lanes, count: u64) -> Result<Lan
     Ok(lanes)
 }
 
-/// The leader and both workers, beside each other; then all that was done, in one list.
+/// The leader and both workers, side by side; then all that was done, in one list.
 fn run<R: Threads + Wait + Sync>(
     rt: &R,
     alloc: Global,
@@ -104,7 +104,8 @@ fn run<R: Threads + Wait + Sync>(
 
 /// Has the jobs below `count` done by two workers, each of which goes after `most` of them. The number of a job goes
 /// through a worker's queue, and what a worker has left when it goes the leader does, so each job is in the list that
-/// comes home, once. It starts up to two threads, and takes room for 32 bytes a job; an error is want of memory.
+/// comes home, once. It starts up to two threads, and takes room for 32 bytes a job; an error means that there was no
+/// memory.
 pub fn do_jobs<R: Threads + Wait + Sync>(
     rt: &R,
     alloc: Global,

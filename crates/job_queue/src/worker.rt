@@ -28,7 +28,7 @@ fn take_jobs<R: Wait>(rt: &R, r: &Region, q: &mut Receiver, done: &mut Vec<Done>
     }
 }
 
-/// A worker, from its start to its end. It goes after `most` jobs, where no more comes, or where it has no memory for a
+/// A worker, from its start to its end. It goes after `most` jobs, when no more comes, or when it has no memory for a
 /// result, and comes home with its end of the queue and what it did.
 pub fn work<R: Wait>(
     rt: &R,

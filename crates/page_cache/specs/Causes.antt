@@ -20,7 +20,7 @@ IsCause c before after name page (NoSpace pages largest) = CallRefusedWith stepp
 IsCause c before after name page NoneToEvict = (after.tickets ≡ 0) × ((k : ℕ) → k < 128 → fin.len (map_at (seen_of after.pass) k) ≡ 0)
 IsCause c before after name page Memory = after.tickets ≡ 0
 
--- between these two points of its life the caller took out as many entries as it made, or more
+-- between these two points of its life the caller took out at least as many entries as it made
 abbrev pub Evicts : CacheHistories → CacheHistories → Type 0
 Evicts before after = counted makes after + counted takes before ≤ counted makes before + counted takes after
 

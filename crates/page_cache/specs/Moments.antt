@@ -16,8 +16,8 @@ use Rattle.page_cache.specs.declared.page.PageCall.{PageCall}
 abbrev pub entries_of : CacheHistories → ℕ
 entries_of histories = sum_below 128 (λ i. fin.len (map_at histories i))
 
--- At a moment of a cache each partition has had a legal history. In it stand the calls that each caller has made till
--- then, for each of which it has paid, and no others
+-- At a moment of a cache each partition has had a legal history. It has the calls that each caller has made till then,
+-- for each of which it has paid, and no others
 pub record IsMoment (a : Area) (callers share : ℕ) (histories : CacheHistories) : Type 0 where
   pub lawful : (i : ℕ) → i < 128 → IsLegal (λ _. PartitionLegal stepped i) fresh (histories i)
   pub no_others : (i n : ℕ) → i < 128 → callers ≤ n → calls_by n (histories i) ≡ []

@@ -1,4 +1,4 @@
--- What stands under a name, as a caller has seen it, and what its owner put there.
+-- What is under a name, as a caller has seen it, and what its owner put there.
 use Rattle.std.specs.Prelude.{◌≡◌, ◌⊎◌, ℕ, Bool, List, [], ◌∷◌, Option, Some, None}
 use Rattle.std.specs.FinMap as fin
 use Rattle.dshash_core.specs.Key.{hash_of}
@@ -12,7 +12,7 @@ use Rattle.page_cache.specs.declared.page.Page.{Page}
 use Rattle.page_cache.specs.declared.page.PageCall.{PageCall}
 use Rattle.page_cache.specs.declared.page.PageCall.TheVariants.{Get, Put, Evict}
 
--- what stands under a name after all that was seen
+-- what is under a name after all that was seen
 abbrev pub under : CacheHistories → List ℕ → Option Page
 under seen name = fin.get (map_at seen (partition_of (hash_of name))) name
 
@@ -36,7 +36,7 @@ last_put page (made ∷ rest) = last_put (newer (put_by made.0 made.1) page) res
 abbrev pub own_page : CacheHistories → List ℕ → Option Page
 own_page mine name = last_put None (calls_of_key name (mine (partition_of (hash_of name))))
 
--- the entry is the eviction of the name's page, by whoever made it
+-- the entry is the eviction of the name's page, by any caller
 pub record IsEviction (name : List ℕ) (e : CacheEntry) : Type 0 where
   pub page : Page
   pub spare : Bool
@@ -55,6 +55,6 @@ abbrev pub WasEvicted : List ℕ → List CacheEntry → Type 0
 WasEvicted name [] = ⊥
 WasEvicted name (e ∷ es) = (IsEviction name e × NonePut name es) ⊎ WasEvicted name es
 
--- What stands under a name is what its owner's calls put there last; or nothing, since that was evicted
+-- What is under a name is what its owner's calls put there last; or nothing, since that was evicted
 abbrev pub IsKept : CacheHistories → CacheHistories → List ℕ → Option Page → Type 0
 IsKept seen mine name page = (page ≡ own_page mine name) ⊎ ((page ≡ None) × WasEvicted name (seen (partition_of (hash_of name))))

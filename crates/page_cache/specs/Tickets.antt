@@ -1,4 +1,4 @@
--- Tickets: whoever makes an entry pays one, and whoever takes an entry out gets one.
+-- Tickets: a caller that makes an entry pays one, and a caller that takes an entry out gets one.
 use Rattle.std.specs.Prelude.{◌≡◌, ℕ, zero, suc, ◌+◌, List, [], ◌∷◌, Option, Some, None}
 use Rattle.lock_book.specs.declared.view.Entry.{Entry}
 use Rattle.lock_book.specs.Folds.{folded}
@@ -32,7 +32,7 @@ CacheHistories = Histories (PartitionState Page) Asks Answers
 abbrev pub CacheEvent : Type 0
 CacheEvent = Event Page PageCall (Option Page)
 
--- a page was put where there was none: one entry was made
+-- a page was put under a name that had none: one entry was made
 abbrev pub makes : PageCall → Option Page → ℕ
 makes (Put page) None = 1
 makes (Put page) (Some old) = 0
@@ -56,8 +56,8 @@ abbrev pub of_event : (PageCall → Option Page → ℕ) → CacheEvent → ℕ
 of_event count (Turn number call reply) = of_turn count call reply
 of_event count (Asked request) = 0
 
--- A caller with so many tickets has so many after these events. Each entry that it makes is paid for, in turn: it never
--- has less than none
+-- A caller with `tickets` tickets has `left` after these events. Each entry that it makes is paid for, in turn: it
+-- never has less than none
 abbrev pub Pays : ℕ → List CacheEvent → ℕ → Type 0
 Pays tickets [] left = left ≡ tickets
 Pays tickets (e ∷ es) left = (now : ℕ) × (now + of_event makes e ≡ tickets + of_event takes e) × Pays now es left

@@ -1,7 +1,7 @@
 //! The cache that all threads share, and the seat that each of them owns: how they are made, and what is always true.
 //!
-//! There is a ticket for each entry that the cache may have. They are dealt to the seats in equal shares, and whoever
-//! makes an entry pays one.
+//! There is a ticket for each entry that the cache may have. They are dealt to the seats in equal shares, and a caller
+//! that makes an entry pays one.
 
 ghost use Rattle.std.specs.Prelude.{◌≡◌, ℕ, ◌≤◌, ◌<◌, [], length, IfOk, IfSome};
 ghost use mathlib.Core.Option.{some};
@@ -46,7 +46,7 @@ pub struct Seat {
     pub spare: Option<Chunk>,
 }
 
-/// A region with an area of this many pages behind its first word, and a pass for each caller.
+/// A region with an area of this many pages after its first word, and a pass for each caller.
 #[tactic(auto, using(word_map::proofs::Maps::answers, std::proofs::lemmas::Bool::Decides::nat_tests))]
 fn area_for(
     alloc: Global,
@@ -96,9 +96,9 @@ fn seats_for(
     Ok(seats)
 }
 
-/// A new cache, with no entry, of at most `share` entries for each of its callers, in an area of this many pages of 4 KiB, and a seat for
-/// each caller, in order of their numbers from 0. None where there is no memory, or the area is too small for the
-/// partitions of a table.
+/// A new cache, with no entry, of at most `share` entries for each of its callers, in an area of this many pages of 4
+/// KiB, and a seat for each caller, in order of their numbers from 0. None if there is no memory, or the area is too
+/// small for the partitions of a table.
 pub fn open<R: Wait>(
     rt: &R,
     alloc: Global,
@@ -140,7 +140,7 @@ pub fn open<R: Wait>(
     Some((cache, seats))
 }
 
-/// The law: whatever the callers do, and in whatever order, at no moment are there more entries than their shares.
+/// The law: whatever the callers do, and in any order, at no moment are there more entries than their shares.
 pub fn never_more()
     ensures { NeverMore }
 {}

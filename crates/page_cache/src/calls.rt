@@ -83,8 +83,8 @@ fn evict<R: Wait>(rt: &R, alloc: Global, cache: &Cache, seat: &mut Seat) -> Resu
     }
 }
 
-/// Sees that the caller has a ticket: where it has none it evicts an entry of the first partition that has one, from
-/// the hand on and round to it again.
+/// Sees that the caller has a ticket: if it has none it evicts an entry of the first partition that has one, from the
+/// hand on and round to it again.
 fn make_room<R: Wait>(rt: &R, alloc: Global, cache: &Cache, seat: &mut Seat) -> Result<(), NotPut>
     requires cache { IsCache cache.now }
     requires seat { IsSeat cache.now seat.old }
@@ -108,9 +108,9 @@ fn make_room<R: Wait>(rt: &R, alloc: Global, cache: &Cache, seat: &mut Seat) -> 
     Err(NotPut::NoneToEvict)
 }
 
-/// Puts a page under a name of the caller's own. Where none stood there, that costs a ticket; a caller with none left
-/// evicts an entry first, whosever it is, and brings its item: then the area is asked for nothing but slices for partitions
-/// that have to grow. What the caller put under its other names stays what it put there last.
+/// Puts a page under one of the caller's own names. If none was there, that costs a ticket; a caller with none left
+/// evicts an entry first, whichever caller's it is, and brings its item: then the area is asked for nothing but slices
+/// for partitions that have to grow. What the caller put under its other names stays what it put there last.
 pub fn put<R: Wait>(
     rt: &R,
     alloc: Global,

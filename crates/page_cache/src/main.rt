@@ -1,8 +1,8 @@
-//! A cache of pages in shared memory, which threads call at once. Each page stands under a name, and each name has an
-//! owner, who alone puts pages there: what it gets is what it put, or that was evicted. At no moment there are more
-//! entries than the cache may have.
+//! A cache of pages in shared memory, which threads call at once. Each page is under a name, and each name has an
+//! owner. Only the owner puts pages there: what it gets is what it put, or that was evicted. At no moment there are
+//! more entries than the cache may have.
 //!
-//! `page` is what stands under a name; `cache` is what the threads share and what each of them owns, and the laws of it;
+//! `page` is what is under a name; `cache` is what the threads share and what each of them owns, and the laws of it;
 //! `calls` are the calls; `threads` is a use.
 
 #![tactic(auto)]
@@ -33,7 +33,7 @@ const PAGES_EACH: u64 = 1000;
 const AREA_PAGES: u32 = 512;
 
 /// Has threads put and get pages in a cache: how many calls were answered, and how many entries it had at the end. None
-/// where there is no memory.
+/// if there is no memory.
 fn run<R: Threads + Wait + Sync>(
     rt: &R,
     alloc: Global,

@@ -1,4 +1,4 @@
-//! A page as what stands under a name of the cache.
+//! A page as what is under a name of the cache.
 
 ghost use Rattle.std.specs.Prelude.{◌≡◌, length};
 
@@ -13,12 +13,12 @@ pub struct Page {
     pub words: [u64; PAGE_WORDS],
 }
 
-/// What is asked of the page under a name. The reply is the page that stood there.
+/// What is asked of the page under a name. The reply is the page that was there.
 #[derive(Clone, Copy)]
 pub enum PageCall {
     /// Anybody may ask for the page.
     Get,
-    /// This page, whatever stands there. The name's owner may ask so.
+    /// This page, whatever is there. The name's owner may ask so.
     Put(Page),
     /// No page. Anybody may ask so.
     Evict,

@@ -1,4 +1,4 @@
-//! A use of the cache: threads put pages of their own and get them, each in a seat, and all seats come home.
+//! A use of the cache: threads put their own pages and get them, each in a seat, and all seats come home.
 
 ghost use Rattle.std.specs.Prelude.{◌≡◌, ◌⊎◌, ◌*◌, ℕ, ◌<◌, ◌≤◌, List, length, map, slice_index_or, Some, None, IfOk};
 ghost use Rattle.lock_book.specs.Shown.{number_of, seen_of};

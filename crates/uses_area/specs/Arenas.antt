@@ -43,7 +43,7 @@ pub record IsHeld (region : TableId) (c : Chunk) : Type 0 where
 abbrev pub HasNoRun : PagesState → ℕ → Type 0
 HasNoRun s n = (largest : ℕ) × (largest < n) × IsLargest s.pages s.granted largest
 
--- the pages that a request of this many bytes takes where no object serves it: those of a superblock, or whole pages
--- above 8,192 bytes
+-- the pages that a request of this many bytes takes if no object serves it: those of a superblock, or whole pages above
+-- 8,192 bytes
 abbrev pub pages_for : ℕ → ℕ
 pages_for bytes = cond {A = ℕ} (leb bytes largest_size) superblock_pages ((bytes + 4095) / 4096)

@@ -1,4 +1,4 @@
-//! Areas in regions of their own: a program of two threads, a lone caller's first request, a walk of 2,000 requests,
+//! Areas, each in its own region: a program of two threads, a lone caller's first request, a walk of 2,000 requests,
 //! and the answers to chunks that are none of the area's.
 
 ghost use Rattle.std.specs.Prelude.{◌≡◌, ℕ, ◌≤◌, IfOk};
@@ -15,7 +15,7 @@ mod lone;
 mod two;
 mod walk;
 
-/// A region with an area of this many pages behind its first word, and a pass for each caller.
+/// A region with an area of this many pages after its first word, and a pass for each caller.
 #[tactic(auto, using(word_map::proofs::Maps::answers, std::proofs::lemmas::Bool::Decides::nat_tests))]
 fn area_for(
     alloc: Global,
@@ -37,7 +37,7 @@ fn area_for(
     Ok((region, area, passes))
 }
 
-/// The same for one caller.
+/// A region with an area of this many pages, and the pass of its one caller.
 fn area_for_one(alloc: Global, pages: u32) -> Result<(Region, Area, AreaPass), AllocError>
     requires few { pages ≤ 65536 }
     ensures area { IfOk result (λ a. IsArea a.0 a.1) }

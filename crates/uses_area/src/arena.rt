@@ -76,8 +76,8 @@ impl Arena {
         Ok(Arena { pages, pools })
     }
 
-    /// An object of the least class that holds this many bytes, or whole pages where there is none. None only where
-    /// there are no pages for it in a row.
+    /// An object of the least class that holds this many bytes, or whole pages if there is none. None only if there are
+    /// no pages for it in a row.
     pub fn alloc(&mut self, r: &Region, bytes: u32) -> Option<Chunk>
         requires arena { IsArena r.now first_word page_count self.old.pages self.old.pools.items }
         requires some { (1 ≤ bytes) × (bytes ≤ 2 ^ 30) }

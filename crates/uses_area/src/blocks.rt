@@ -10,8 +10,8 @@ use free_pages::{Pages, SUPERBLOCK_PAGES};
 use region_words::{Chunk, Region, Run};
 use span_pools::Pool;
 
-/// An object of a pool, which gets a superblock of 16 pages where it has no free one. None where there are no such
-/// pages either.
+/// An object of a pool, which gets a superblock of 16 pages if it has no free one. None if there are no such pages
+/// either.
 pub(crate) fn take_object(r: &Region, pages: &mut Pages, pool: &mut Pool) -> Option<Chunk>
     requires here { (pages.old.region ≡ r.now) × (pool.old.region ≡ r.now) }
     requires over { IsOver pool.old.layout pages.old.first pages.old.state.pages }
@@ -45,7 +45,7 @@ pub(crate) fn give_object(r: &Region, pages: &mut Pages, pool: &mut Pool, chunk:
     }
 }
 
-/// The chunk of this many whole pages, where there are as many in a row.
+/// The chunk of this many whole pages, if there are that many in a row.
 pub(crate) fn take_pages(r: &Region, pages: &mut Pages, n: u32) -> Option<Chunk>
     requires here { pages.old.region ≡ r.now }
     requires some { 1 ≤ n }

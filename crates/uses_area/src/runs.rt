@@ -43,7 +43,7 @@ fn out_and_back(r: &Region, pages: &mut Pages, n: u32, control: bool) -> bool
     }
 }
 
-/// Pages that lie behind do not take a run that is none of theirs.
+/// Pages that come after in the region do not take a run that isn't theirs.
 fn no_run_of_others(
     r: &Region,
     pages: &mut Pages,

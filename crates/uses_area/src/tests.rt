@@ -25,7 +25,7 @@ fn write_number(r: &Region, chunk: &mut Chunk, number: u64)
     chunk.store(r, last, number);
 }
 
-/// Whether a number stands in the first and in the last word of a chunk.
+/// Whether a number is in the first and in the last word of a chunk.
 fn has_number(r: &Region, chunk: &mut Chunk, number: u64) -> bool
     requires held { IsHeld r.now chunk.old }
     ensures same { IsHeld r.now chunk.new }

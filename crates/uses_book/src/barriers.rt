@@ -158,7 +158,7 @@ fn go_through<R: Wait>(
     Ok(elected)
 }
 
-/// Two of the threads, beside each other: what each was elected in.
+/// Two of the threads, side by side: what each was elected in.
 fn two_threads<R: Threads + Wait + Sync>(
     rt: &R,
     alloc: Global,

@@ -77,7 +77,7 @@ pub fn close_both<O: Tag>(
     )
 }
 
-/// The same at one tag.
+/// A tag: the number 1.
 pub struct One;
 
 impl Tag for One {

@@ -7,8 +7,8 @@ ghost use Rattle.word_map.specs.WordMap.{at as word_at};
 use crate::asks::Answer;
 use region_words::{Part, Region};
 
-/// It may hold a part of the region of `base` that owns the word at `at`, where it has read `word`. It keeps `base` for
-/// good.
+/// It may hold a part of the region of `base` that owns the word at `at`, in which it has read `word`. It keeps `base`
+/// for good.
 #[derive(Drop)]
 pub struct Drawer {
     pub base: Part,

@@ -1,7 +1,7 @@
-//! An object of the user's behind a lock: a wrapper whose `apply` passes its bound on to a generic function.
+//! A user's object behind a lock: a wrapper whose `apply` passes its bound on to a generic function.
 //!
 //! The object's trait asks for no `Send`, and so does each function that `apply` calls. The wrapper is kept, is called
-//! and crosses threads where the object, its states and its calls are `Send`.
+//! and crosses threads if the object, its states and its calls are `Send`.
 
 ghost use Rattle.std.specs.Prelude.{◌≡◌, ◌<◌};
 ghost use Rattle.lock_book.specs.Shown.{Belongs, Called, count_of, number_of};
@@ -113,7 +113,7 @@ where
     shelf.call(rt, &(), pass, 0, call)
 }
 
-/// Makes the call, by whoever has the pass.
+/// Makes the call, by the caller that has the pass.
 fn with_call<R: Wait, O: Object + Send>(
     rt: &R,
     shelf: &Shelf<Guarded<O>>,

@@ -1,6 +1,6 @@
 //! Callers of `lock_book`, kept so that its surface is proved where it is used: a counter that two threads add to, a
-//! drawer that holds a part of a region, behind a generic wrapper, and an object of the user's behind another. Beside
-//! them the tests of `par_barrier`, and three threads at a `par_exchange`.
+//! drawer that holds a part of a region, in a generic wrapper, and a user's object in another. The crate also has the
+//! tests of `par_barrier`, and three threads at a `par_exchange`.
 
 #![tactic(auto)]
 

@@ -1,7 +1,7 @@
-//! A drawer as a kept value, behind a wrapper that is generic in what it tells with each part.
+//! A drawer as a kept value, in a wrapper that is generic in what it says with each part.
 //!
-//! A part goes in and comes out as a token, of which histories tell one word's value: the word at a place that the
-//! drawer's name says. The region is in the name too, so whoever takes a part out knows which region it is of.
+//! A part goes in and comes out as a token, of which histories say one word's value: the word at a place that the
+//! drawer's name says. The region is in the name too, so a caller that takes a part out knows which region it is of.
 
 ghost use Rattle.std.specs.Prelude.{◌≡◌, ℕ, None};
 ghost use Rattle.uses_book.specs.Drawers.{AnswerFits, AskFits, DrawerLegal, call_of, reply_of, state_of};

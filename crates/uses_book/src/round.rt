@@ -36,7 +36,7 @@ pub fn take_out<R: Wait, O: Tag>(
     }
 }
 
-/// Puts a part in. Where the drawer is full, it comes back, the same with all its words.
+/// Puts a part in. If the drawer is full, it comes back with all its words.
 pub fn put_in<R: Wait, O: Tag>(
     rt: &R,
     region: &Region,

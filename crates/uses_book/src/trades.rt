@@ -56,7 +56,7 @@ fn give_out<R: Wait>(
     };
 }
 
-/// Brings a part, and gives all parts out where the party is elected.
+/// Brings a part, and gives all parts out if the party is elected.
 fn bring<R: Wait>(
     rt: &R,
     region: &Region,
@@ -77,7 +77,7 @@ fn bring<R: Wait>(
     }
 }
 
-/// What a party has: its pass, and a part of its own.
+/// What a party has: its pass, and its own part.
 #[derive(Drop)]
 pub struct Hand {
     pub pass: ExchangePass<Parts>,
@@ -99,7 +99,7 @@ pub fn party<R: Wait>(rt: &R, region: &Region, exchange: &Exchange<Parts>, hand:
     got.load(region, after(n))
 }
 
-/// Two of the parties, beside each other.
+/// Two of the parties, side by side.
 fn two_parties<R: Threads + Wait + Sync>(
     rt: &R,
     region: &Region,

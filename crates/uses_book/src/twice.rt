@@ -24,7 +24,7 @@ fn for_two(alloc: Global) -> Result<(Shelf<Counter>, Pass<Counter>, Pass<Counter
     Ok((shelf, zero, one))
 }
 
-/// Adds 1 this many times, by whoever has the pass.
+/// Adds 1 this many times, by the caller that has the pass.
 fn add_times<R: Wait>(
     rt: &R,
     shelf: &Shelf<Counter>,

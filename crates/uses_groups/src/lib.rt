@@ -1,5 +1,5 @@
-//! Callers of the crates from rows to groups and their text: partial aggregates, tuples, and texts of tables. A module for
-//! each crate. Nothing stands on this crate.
+//! Callers of the crates from rows to groups and their text: partial aggregates, tuples, and texts of tables. A module
+//! for each crate. No other crate depends on it.
 
 #![tactic(auto)]
 

@@ -257,8 +257,8 @@ fn refusal_after(rt: &HostRuntime, letters: usize, rest: &[u8]) -> Result<Option
     Ok(refusal(&store, 1, &plan))
 }
 
-/// Letters and what follows them, and why that row is refused: the first cause that holds, and none where the filter leaves
-/// it out.
+/// Letters and what follows them, and why that row is refused: the first cause that holds, and none if the filter
+/// leaves it out.
 const REFUSALS: [(usize, &[u8], Option<(u8, u32)>); 19] = [
     (1, b",y,9223372036854775807,0\n", None),
     (1, b",y,-9223372036854775808,+0\n", None),

@@ -36,7 +36,7 @@ fn answer(
     text_of(alloc, plan, bound, &groups)
 }
 
-/// The same in pieces, by this many threads.
+/// The text of the answer in pieces, made by this many threads.
 fn answer_in_threads<R: Threads + Sync>(
     rt: &R,
     alloc: Global,
@@ -55,7 +55,7 @@ fn answer_in_threads<R: Threads + Sync>(
     text_in_threads(rt, alloc, plan, bound, &groups, threads)
 }
 
-/// Whether a plan without a filter reads columns below this width alone.
+/// Whether a plan without a filter reads only columns below this width.
 fn reads_below(bound: &BoundPlan, width: u32) -> bool
     ensures { OnTrue result (HasColumns bound.now width) }
 {

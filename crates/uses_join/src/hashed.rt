@@ -49,7 +49,7 @@ fn has_pairs(joined: &Joined, pairs: &[(u64, u64)]) -> bool {
     true
 }
 
-/// Checks the pairs of two texts with so many workers, and that each participant has its pass of the table's area.
+/// Checks the pairs of two texts with this many workers, and that each participant has its pass of the table's area.
 fn check_with<R: Threads + Wait + Sync>(
     rt: &R,
     alloc: Global,
@@ -134,8 +134,8 @@ fn as_many_pairs_as_there_may_be(rt: HostRuntime) -> Result<(), Fail> {
     Ok(())
 }
 
-/// The first block of right rows has too many pairs, and thousands of further rows have none: whoever draws those is told to
-/// stop, and the answer is that of the first.
+/// The first block of right rows has too many pairs, and thousands of further rows have none: a participant that draws
+/// those is told to stop, and the answer is that of the first.
 #[test]
 fn too_many_pairs_of_one_participant(rt: HostRuntime) -> Result<(), Fail> {
     let left = of_two_keys(rt.alloc(), 4200, 0)?;

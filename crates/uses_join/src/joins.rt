@@ -13,7 +13,7 @@ const TWO: &str = "id,a\n1,x\n2,y\n1,z\n,q\n%\nid,b\n1,p\n3,r\n,s\n1,t\n";
 
 const JOINED: &str = "id,a,id,b\n1,x,1,p\n1,x,1,t\n1,z,1,p\n1,z,1,t\n";
 
-/// Words that stand between spaces.
+/// Words that are separated by spaces.
 fn owned(alloc: Global, words: &str) -> Result<Vec<String>, AllocError> {
     let mut list = Vec::new(alloc);
     for word in words.split(' ') {
@@ -23,7 +23,7 @@ fn owned(alloc: Global, words: &str) -> Result<Vec<String>, AllocError> {
 }
 
 /// A run over a source that gives 7 bytes a call and sinks that take 5, with the numbers of the calls that fail. The
-/// words stand between spaces.
+/// words are separated by spaces.
 #[derive(Clone, Copy)]
 struct Run<'a> {
     words: &'a str,

@@ -1,4 +1,4 @@
-//! Callers of the joins, over sources and sinks in memory. A module for each crate. Nothing stands on this crate.
+//! Callers of the joins, over sources and sinks in memory. A module for each crate. No other crate depends on it.
 
 #![tactic(auto)]
 

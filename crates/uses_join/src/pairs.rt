@@ -136,7 +136,7 @@ fn a_few_rows(rt: HostRuntime) -> Result<(), Fail> {
     )
 }
 
-/// What a call is answered by the cell whose state stands in the words; the state that it leaves is written there.
+/// What a call is answered by the cell whose state is in the words; the state that it leaves is written there.
 fn answer<O: CellObject>(words: &mut [u64], call: &O::Call) -> O::Reply
     requires { length words.old ≡ O.VALUE_WORDS }
 {

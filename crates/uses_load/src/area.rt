@@ -14,10 +14,10 @@ use std::thread::{Threads, map_vec};
 /// The pages of the area whose chunks are timed: 16 MiB.
 const PAGES: u32 = 4096;
 
-/// How many chunks of a thread are live at once, where it gives each back that many calls after it was taken.
+/// How many chunks of a thread are live at once, if it gives each back that many calls after it was taken.
 const WINDOW: usize = 100;
 
-/// A region with an area of this many pages behind its first word, and a pass for each caller.
+/// A region with an area of this many pages after its first word, and a pass for each caller.
 #[tactic(auto, using(word_map::proofs::Maps::answers, std::proofs::lemmas::Bool::Decides::nat_tests))]
 pub fn area_for(
     alloc: Global,
@@ -59,7 +59,8 @@ fn take_and_give<R: Wait>(
     area.free(rt, r, pass, chunk).is_ok()
 }
 
-/// The same, this many times. Says how often the area gave the chunk and took it.
+/// Takes a chunk, writes its first word and gives it back, this many times. Says how often the area gave the chunk and
+/// took it.
 fn pairs<R: Wait>(
     rt: &R,
     area: &Area,
@@ -109,7 +110,7 @@ pub fn area_load<R: Threads + Wait + Sync>(
     Ok(sum_of(good.as_slice()))
 }
 
-/// Takes as many chunks as are live at once, or as the area has.
+/// Takes the chunks that are live at once, or those that the area has room for.
 fn first_chunks<R: Wait>(
     rt: &R,
     alloc: Global,
@@ -165,8 +166,8 @@ fn exchange<R: Wait>(
     area.free(rt, r, pass, old).is_ok()
 }
 
-/// The same, this many times, each time in the place of the chunk that was taken longest ago. Says how often the area
-/// gave the one and took the other, and 0 where it has no room for as many as are to be live at once.
+/// Takes a chunk, writes its first word and gives back the one that was taken longest ago, this many times. Says how
+/// often the area gave the one and took the other, and 0 if it has no room for the chunks that are to be live at once.
 fn exchanges<R: Wait>(
     rt: &R,
     alloc: Global,

@@ -11,7 +11,7 @@ use std::alloc::{AllocError, Global};
 use std::sync::Wait;
 use std::thread::{Threads, map_vec};
 
-/// Adds 1 this many times, by whoever has the pass.
+/// Adds 1 this many times, by the caller that has the pass.
 fn adds<R: Wait>(
     rt: &R,
     shelf: &Shelf<Counter>,

@@ -5,7 +5,7 @@
 //! what it was asked and how many of the calls went as they have to. Its stored run makes a small load of each kind.
 //!
 //! `words` reads what is asked; `lock`, `area`, `queue`, `table` (new keys) and `present` (keys that are there) are the
-//! loads; `counter` is what stands behind the lock, and `counts` adds up what the threads counted.
+//! loads; `counter` is what is behind the lock, and `counts` adds up what the threads counted.
 
 #![tactic(auto)]
 
@@ -40,7 +40,7 @@ const USAGE: &str =
 without words it reads such words from each line of its standard input; each of 1 to 64 THREADS makes CALLS calls, up to 2^32; SIZE is 8 to 1000000: the bytes of a chunk (area, window) or of a
 message (queue, flushed, which take 2 threads), or the keys of the table (puts, gets, sets)";
 
-/// The words after the program's name, or none where one is no UTF-8.
+/// The words after the program's name, or none if one is no UTF-8.
 fn given_words(rt: &HostRuntime) -> io::Result<Option<Vec<String>>> {
     let mut words = Vec::new(rt.alloc());
     match env::args(rt) {
@@ -55,7 +55,7 @@ fn given_words(rt: &HostRuntime) -> io::Result<Option<Vec<String>>> {
     Ok(Some(words))
 }
 
-/// Makes the object, has it called, and tells what came of it.
+/// Makes the object, has it called, and says what came of it.
 fn line<R: Threads + Wait + Sync>(rt: &R, alloc: Global, load: Load) -> Result<String, AllocError> {
     let Load {
         kind,
@@ -113,7 +113,7 @@ fn words_of(alloc: Global, text: &str) -> Result<Vec<String>, AllocError> {
     Ok(words)
 }
 
-/// Makes the load that a line of words asks for, and tells what came of it.
+/// Makes the load that a line of words asks for, and says what came of it.
 fn answer<R: Threads + Wait + Sync>(
     rt: &R,
     alloc: Global,

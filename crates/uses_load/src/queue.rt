@@ -13,13 +13,13 @@ use std::thread::{Threads, join};
 /// The words of the queue's ring: 64 KiB.
 const RING_WORDS: u64 = 8192;
 
-/// The words of a ring beside its cells: two counts and a flag.
+/// The words of a ring besides its cells: two counts and a flag.
 const RING_HEAD: u64 = 3;
 
 /// The bytes of a message's number.
 const NUMBER_BYTES: usize = 8;
 
-/// A new region, and in its words behind word 0 a queue of messages of up to this many bytes.
+/// A new region, and in its words after word 0 a queue of messages of up to this many bytes.
 fn new_queue(alloc: Global, most: u32) -> Result<(Region, Sender, Receiver), AllocError>
     requires few { most ≤ 1000000 }
     ensures here { IfOk result (λ made. (made.1.region ≡ made.0) × (made.2.region ≡ made.0)) }
@@ -85,7 +85,7 @@ fn receive_all<R: Wait>(rt: &R, r: &Region, mut q: Receiver, bytes: usize, calls
     came
 }
 
-/// The two ends, each in a thread of its own. Says how many messages came.
+/// The two ends, each in its own thread. Says how many messages came.
 fn stream<R: Threads + Wait + Sync>(
     rt: &R,
     r: &Region,

@@ -1,4 +1,4 @@
-//! A hash table of `dshash_parts`, in an area of its own, into which all threads put new keys.
+//! A hash table of `dshash_parts`, in its own area, into which all threads put new keys.
 
 ghost use Rattle.std.specs.Prelude.{◌≡◌, ℕ, ◌+◌, ◌^◌, ◌<◌, ◌≤◌, length, IfOk};
 ghost use mathlib.Core.Option.{some};
@@ -24,7 +24,7 @@ pub struct Passes {
     pub(crate) area: AreaPass,
 }
 
-/// How many keys are a caller's own: those from its number times as many on.
+/// How many keys are a caller's own: those from its number times this many on.
 const KEYS_EACH: u64 = 4_294_967_296;
 
 /// The pages of a table with few keys.
@@ -33,7 +33,7 @@ const LEAST_PAGES: u32 = 1024;
 /// How many keys more a page more is for.
 const PAGE_KEYS: u64 = 64;
 
-/// Pages enough for this many items, for the bucket slices, and for the old ones beside the new while the table grows.
+/// Pages enough for this many items, for the bucket slices, and for the old ones next to the new while the table grows.
 fn pages_for(keys: u64) -> u32
     requires { keys ≤ 1000000 }
     ensures { result ≤ 65536 }
@@ -141,7 +141,7 @@ fn replies<R: Wait>(
     }
 }
 
-/// Puts the caller's next key, its `at`-th. Where `most` of its keys stand before that one, the first of them goes. Says
+/// Puts the caller's next key, its `at`-th. If `most` of its keys come before that one, the first of them goes. Says
 /// whether the one was there and the other was not.
 fn put_next<R: Wait>(
     rt: &R,

@@ -11,7 +11,7 @@ const QUEUE_THREADS: u32 = 2;
 /// The most calls of a thread.
 const MOST_CALLS: u64 = 1 << 32;
 
-/// The least size of a load, which is the one where the words say none.
+/// The least size of a load, which is the one if the words say none.
 const LEAST_SIZE: u64 = 8;
 
 /// The greatest size of a load.
@@ -31,7 +31,7 @@ pub enum Kind {
     Window,
     /// Each call sends a message, or receives it. The receiver may see it later.
     Queue,
-    /// The same, and the receiver is shown each message at once.
+    /// Each call sends a message, or receives it. The receiver is shown each message at once.
     Flushed,
     /// Each call puts a new key; with more keys than the table is to have, the thread's oldest goes first.
     Puts,
@@ -87,7 +87,7 @@ fn number(word: &str, least: u64, most: u64) -> Option<u64>
     Some(n)
 }
 
-/// What the words ask for, `None` where they ask for nothing that there is. Without a size it is the least one.
+/// What the words ask for, `None` if they ask for nothing that there is. Without a size it is the least one.
 pub fn load_of(words: &[String]) -> Option<Load> {
     if words.len() < FEWEST_WORDS || FEWEST_WORDS + 1 < words.len() {
         return None;

@@ -1,4 +1,5 @@
-//! Callers of the libraries of `pargather` and `parstream`, over sources and sinks in memory. Nothing stands on them.
+//! Callers of the libraries of `pargather` and `parstream`, over sources and sinks in memory. No other crate depends on
+//! it.
 
 #![tactic(auto)]
 

@@ -1,5 +1,5 @@
 //! The libraries `par_gather` and `par_stream` as the programs `pargather` and `parstream` call them, over sources and
-//! sinks in memory: worked rows, and what no clause says. Rows stand in tables, each gone through by one test.
+//! sinks in memory: worked rows, and what no clause says. Rows are in tables, each gone through by one test.
 
 mod forms;
 mod plans;
@@ -16,7 +16,7 @@ use std::sync::Wait;
 use std::test::Fail;
 use std::thread::Threads;
 
-/// Texts that stand one after the other, each this many times.
+/// Texts one after the other, each this many times.
 type Pieces<'a> = &'a [(&'a str, u32)];
 
 const USAGE: &str =
@@ -172,7 +172,7 @@ fn bytes_of(alloc: Global, pieces: Pieces<'_>) -> Result<Vec<u8>, AllocError> {
     Ok(bytes)
 }
 
-/// The words of a text, which stand between spaces. No text is no words.
+/// The words of a text, which are separated by spaces. No text is no words.
 fn words_of(alloc: Global, text: &str) -> Result<Vec<String>, AllocError> {
     let mut words = Vec::new(alloc);
     if text.is_empty() {
@@ -184,7 +184,7 @@ fn words_of(alloc: Global, text: &str) -> Result<Vec<String>, AllocError> {
     Ok(words)
 }
 
-/// What `pargather` answers. What the run brings home is looked at here alone.
+/// What `pargather` answers. Only here is what the run brings home looked at.
 fn ask<G: Gate + Sync, R: Threads + Wait + Sync>(
     rt: &R,
     alloc: Global,

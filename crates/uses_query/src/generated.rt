@@ -8,7 +8,7 @@ use std::test::Fail;
 use std::thread::Threads;
 use worker_run::OpenGate;
 
-/// Words that stand between spaces.
+/// Words that are separated by spaces.
 fn owned(alloc: Global, words: &str) -> Result<Vec<String>, AllocError> {
     let mut list = Vec::new(alloc);
     for word in words.split(' ') {
@@ -36,7 +36,7 @@ fn ask<R: Threads + Wait + Sync>(
     }
 }
 
-/// Whether words say this line, or are none where it is empty.
+/// Whether words say this line, or are none if it is empty.
 fn says<R: Threads + Wait + Sync>(
     rt: &R,
     alloc: Global,

@@ -1,5 +1,5 @@
-//! Callers of the queries in parallel: gathers, merges, and generated rows. A module for each crate. Nothing stands on this
-//! crate.
+//! Callers of the queries in parallel: gathers, merges, and generated rows. A module for each crate. No other crate
+//! depends on it.
 
 #![tactic(auto)]
 

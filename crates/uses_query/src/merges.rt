@@ -19,7 +19,7 @@ use std::thread::Threads;
 use worker_run::{Gate, OpenGate, WorkerEnd};
 
 /// The rows of a text whose header has two columns, and the plan that orders them by these: by the second and then the
-/// first, or by the first alone.
+/// first, or only by the first.
 fn ordered_by(
     alloc: Global,
     text: &[u8],

@@ -60,7 +60,7 @@ fn filled(r: &Region, part: Part) -> Result<Toc, TocAnswer>
     Ok(toc)
 }
 
-/// Makes a table of the estimated size and fills it: a chunk of each size, and behind it the chunk's place under the
+/// Makes a table of the estimated size and fills it: a chunk of each size, and after it the chunk's place under the
 /// size's number. No call refuses, since the table provides for all that is still to come.
 fn table_of_chunks(r: &Region, part: Part, sizes: &[u64], magic: u64) -> Toc
     requires here { part.region ≡ r.now }

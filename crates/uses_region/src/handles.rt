@@ -13,7 +13,7 @@ use std::alloc::Global;
 use std::sync::Wait;
 use std::thread::{Threads, join};
 
-/// A new region, and in its words behind word 0 a queue.
+/// A new region, and in its words after word 0 a queue.
 fn new_queue(alloc: Global, words: u64, from: u64, max: u32) -> Option<(Region, Sender, Receiver)>
     requires max { max ≤ 1048576 }
     ensures here { IfSome result (λ made. (made.1.region ≡ made.0) × (made.2.region ≡ made.0)) }
@@ -313,7 +313,7 @@ fn listen<R: Wait>(rt: &R, r: &Region, mut q: Receiver) -> (Receiver, bool)
     (q, heard)
 }
 
-/// The two ends of a queue, each in a thread of its own; then they come home, and give their chunk back.
+/// The two ends of a queue, each in its own thread; then they come home, and give their chunk back.
 fn conversation<R: Threads + Wait + Sync>(
     rt: &R,
     r: &Region,

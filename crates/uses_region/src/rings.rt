@@ -55,8 +55,8 @@ pub fn try_take(r: &Region, rx: &mut RingRx) -> Option<u64>
     }
 }
 
-/// Both ends at work at once, each in a thread of its own: the sender puts a word and publishes it, and the receiver
-/// takes it, if it looks late enough.
+/// Both ends at work at once, each in its own thread: the sender puts a word and publishes it, and the receiver takes
+/// it, if it looks late enough.
 pub fn at_once<R: Threads + Sync>(
     rt: &R,
     r: &Region,

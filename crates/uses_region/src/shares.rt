@@ -1,4 +1,4 @@
-//! Words and tables that no longer change are read by two threads at once, each with a share of its own.
+//! Words and tables that no longer change are read by two threads at once, each with its own share.
 
 ghost use Rattle.std.specs.Prelude.{◌≡◌, ℕ, IsSome, Some, Option};
 ghost use Rattle.word_map.specs.WordMap.{at as word_at};
@@ -53,7 +53,7 @@ pub fn look_up(r: &Region, share: Frozen, magic: u64, key: u64) -> Option<RelPtr
     toc.lookup(r, key)
 }
 
-/// Two threads look a key up, each through a share of its own.
+/// Two threads look a key up, each through its own share.
 pub fn look_up_twice<R: Threads + Sync>(
     rt: &R,
     r: &Region,

@@ -27,7 +27,7 @@ fn stored(alloc: Global, text: &[u8]) -> Result<RowStore, Fail> {
     }
 }
 
-/// Records as they may stand in an input, and as they are written.
+/// Records as they may come in an input, and as they are written.
 #[test]
 fn records(rt: HostRuntime) -> Result<(), Fail> {
     let table: [(&[u8], &[u8]); 5] = [

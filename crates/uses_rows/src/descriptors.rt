@@ -16,7 +16,7 @@ const UNUSED: Item = Item {
     column: 0,
 };
 
-/// Writes a plan behind a table of contents, freezes it, and reads the plan that stands beside the key: the caller of
+/// Writes a plan after a table of contents, freezes it, and reads the plan that the key names: the caller of
 /// CALLING.md.
 fn through_a_table(r: &Region, part: Part, plan: &BoundPlan) -> Option<BoundPlan>
     requires here { part.region ≡ r.now }

@@ -7,7 +7,7 @@ use key_index::KeyTable;
 use std::alloc::{AllocError, Global};
 use std::test::Fail;
 
-/// The place of a key, which is put behind the others if it is not there: the caller of CALLING.md.
+/// The place of a key, which is put after the others if it is not there: the caller of CALLING.md.
 fn place_of(keys: &mut KeyTable, alloc: Global, key: &[u8]) -> Result<usize, AllocError>
     ensures place { IfOk result (λ place. slice_get keys.new place ≡ Some key.now) }
 {

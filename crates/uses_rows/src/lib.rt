@@ -1,5 +1,5 @@
-//! Callers of the crates from bytes to rows and back: records, windows, keys, plans and their descriptors, the slow model,
-//! and the lines on the error stream. A module for each crate. Nothing stands on this crate.
+//! Callers of the crates from bytes to rows and back: records, windows, keys, plans and their descriptors, the slow
+//! model, and the lines on the error stream. A module for each crate. No other crate depends on it.
 
 #![tactic(auto)]
 

@@ -114,7 +114,7 @@ fn merges(rt: HostRuntime) -> Result<(), Fail> {
     Ok(())
 }
 
-/// A header in which one name stands twice.
+/// A header that has one name twice.
 fn header(alloc: Global) -> Result<RowStore, Fail> {
     match rows(alloc, b"g,v,g\n") {
         Ok(store) => Ok(store),

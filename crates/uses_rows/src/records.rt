@@ -54,7 +54,7 @@ fn shown_text(alloc: Global, text: &[u8]) -> Result<Vec<u8>, Fail> {
     }
 }
 
-/// Whether two stores have as many records, and the same ones near the middle of [`LINES`] lines.
+/// Whether two stores have equally many records, and the same ones near the middle of [`LINES`] lines.
 fn agree(one: &RowStore, other: &RowStore) -> bool {
     let last = one.count();
     if other.count() != last {
@@ -129,7 +129,7 @@ fn odd_text(rt: HostRuntime) -> Result<(), Fail> {
     Ok(())
 }
 
-/// Whether a text is read by two threads as by one where it stands in the middle of [`LINES`] lines, of which this is one
+/// Whether a text is read by two threads as by one if it is in the middle of [`LINES`] lines, of which this is one
 /// half.
 fn reads_alike<R: Threads + Sync>(
     rt: &R,
@@ -150,7 +150,7 @@ fn reads_alike<R: Threads + Sync>(
     }
 }
 
-/// Texts that stand where two threads' parts meet: empty lines, carriage returns, byte order marks, and quotes in odd
+/// Texts that lie where two threads' parts meet: empty lines, carriage returns, byte order marks, and quotes in odd
 /// places, open, doubled and with line feeds between them.
 const ODD_CUTS: [&[u8]; 15] = [
     b"a,b\n1,2\n3,4\n5,6\n",

@@ -10,7 +10,7 @@ use row_windows::{Window, WindowAnswer};
 use std::alloc::Global;
 use std::test::Fail;
 
-/// Fills a window behind another: the caller of CALLING.md. Says whether its lines are the source's last.
+/// Fills a window after another: the caller of CALLING.md. Says whether its lines are the source's last.
 fn next_window<S: Source>(
     before: &Window,
     next: &mut Window,
@@ -28,7 +28,7 @@ fn next_window<S: Source>(
     }
 }
 
-/// The lines of each window of a source, with a bar behind them. Ten windows at most.
+/// The lines of each window of a source, with a bar after them. Ten windows at most.
 fn windows_of(alloc: Global, source: &mut MemSource, size: usize) -> Result<Vec<u8>, WindowAnswer> {
     let mut text = Vec::new(alloc);
     let mut before = Window::new(alloc);

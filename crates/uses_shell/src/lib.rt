@@ -1,4 +1,4 @@
-//! Callers of the shell `parsh`: scripts, and what is answered to each line. Nothing stands on this crate.
+//! Callers of the shell `parsh`: scripts, and what is answered to each line. No other crate depends on it.
 
 #![tactic(auto)]
 

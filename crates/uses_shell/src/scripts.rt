@@ -47,8 +47,8 @@ fn sink(alloc: Global, room: usize, failing: &[u64]) -> Result<MemSink, AllocErr
     MemSink::new(alloc, 5, room, Vec::from_slice(alloc, failing)?)
 }
 
-/// A run over such a source and such sinks, with the numbers of the calls that fail. The words stand between spaces, and
-/// there are none in an empty text.
+/// A run over such a source and such sinks, with the numbers of the calls that fail. The words are separated by spaces,
+/// and there are none in an empty text.
 fn run<R: Wait>(
     rt: &R,
     alloc: Global,
@@ -457,7 +457,7 @@ fn the_table_keeps_numbers(rt: HostRuntime) -> Result<(), Fail> {
     Ok(())
 }
 
-/// What the table of numbers gives where these calls fail.
+/// What the table of numbers gives if these calls fail.
 fn run_numbers<R: Wait>(
     rt: &R,
     alloc: Global,

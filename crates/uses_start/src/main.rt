@@ -1,7 +1,7 @@
 //! A program to begin with: two threads share a region with an area, a hash table and a queue in it.
 //!
 //! One thread puts the square of each number into the table, under the number, and sends the number to the other, which
-//! gets the square that stands there. `shared` has what both share and what each owns, `threads` what each does.
+//! gets the square that is there. `shared` has what both share and what each owns, `threads` what each does.
 
 #![tactic(auto)]
 
@@ -21,7 +21,7 @@ use std::thread::Threads;
 const NUMBERS: u64 = 100;
 
 /// Has two threads work on this many numbers: how many were sent, and how many of them had their square in the table.
-/// None where there is no memory, or no room in the area. At the end the queue's chunk goes back to the area.
+/// None if there is no memory, or no room in the area. At the end the queue's chunk goes back to the area.
 fn run<R: Threads + Wait + Sync>(rt: &R, alloc: Global, count: u64) -> Option<(u64, u64)>
     ensures { IfSome result (λ n. (n.0 ≤ count) × (n.1 ≤ count)) }
 {

@@ -39,7 +39,7 @@ pub struct Passes {
     pub area: AreaPass,
 }
 
-/// A region with an area behind its first word, and the passes of two callers.
+/// A region with an area after its first word, and the passes of two callers.
 #[tactic(auto, using(word_map::proofs::Maps::answers, std::proofs::lemmas::Bool::Decides::nat_tests))]
 fn area_for_two(alloc: Global) -> Result<(Region, Area, AreaPass, AreaPass), AllocError>
     ensures area { IfOk result (λ a. IsArea a.0 a.1) }

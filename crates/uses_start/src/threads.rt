@@ -11,7 +11,7 @@ use region_words::Chunk;
 use std::sync::Wait;
 use std::thread::{Threads, join};
 
-/// What stands under a number: its square, modulo 2^64.
+/// What the table has under a number: its square, modulo 2^64.
 fn square_of(number: u64) -> u64 {
     number.wrapping_mul(number)
 }
@@ -24,8 +24,8 @@ fn number_in(message: &[u8]) -> Option<u64> {
     }
 }
 
-/// Puts the square of each number below `count` under it, and then sends the number. Says how many were sent: fewer than
-/// all where the area has no room, or nobody receives.
+/// Puts the square of each number below `count` under it, and then sends the number. Says how many were sent: fewer
+/// than all if the area has no room, or nobody receives.
 fn put_and_send<R: Wait>(
     rt: &R,
     shared: &Shared,
@@ -63,7 +63,7 @@ fn put_and_send<R: Wait>(
     count
 }
 
-/// Receives up to this many numbers and gets what stands under each. Says under how many their square stood.
+/// Receives up to this many numbers and gets what the table has under each. Says how many had their square there.
 fn receive_and_get<R: Wait>(
     rt: &R,
     shared: &Shared,

@@ -7,11 +7,11 @@ use std::sync::Wait;
 use std::test::Fail;
 use std::thread::Threads;
 
-/// The status, and what was written: the table, and the line behind the program's name.
+/// The status, and what was written: the table, and the line after the program's name.
 type Wanted<'a> = (u8, &'a [u8], &'a [u8]);
 
-/// Whether the answer is this one, where the read or the write with one of these numbers fails and any of so many workers
-/// share the rows.
+/// Whether the answer is this one if the read or the write with one of these numbers fails, for each of several numbers
+/// of workers.
 fn is_answered<R: Threads + Wait + Sync>(
     rt: &R,
     alloc: Global,
@@ -49,7 +49,7 @@ fn reads_that_fail(rt: HostRuntime) -> Result<(), Fail> {
             "read {read}"
         );
     }
-    // The row stands in the second window, which the third read fills.
+    // The row is in the second window, which the third read fills.
     let input = "g,v\na,x\nb,2\na,3\n";
     for read in 4..=9u64 {
         let line = b": row 1: column v is not an integer\n";

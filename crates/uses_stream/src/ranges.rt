@@ -19,7 +19,7 @@ use std::sync::Wait;
 use std::test::Fail;
 use std::thread::Threads;
 
-/// The text of the table of all rows, by so many participants, and in ranges from so many groups on.
+/// The text of the table of all rows, by this many participants; from `fewest` groups on it is made in ranges.
 fn shared_text<R: Threads + Wait + Sync>(
     rt: &R,
     alloc: Global,
@@ -48,7 +48,7 @@ fn shared_text<R: Threads + Wait + Sync>(
     }
 }
 
-/// The pieces of the text of a table of two columns, as so many participants make it.
+/// The pieces of the text of a table of two columns, as this many participants make it.
 fn given<R: Threads + Wait + Sync>(
     rt: &R,
     alloc: Global,
@@ -77,7 +77,7 @@ fn given<R: Threads + Wait + Sync>(
     }
 }
 
-/// So many rows that have so many keys, of unequal lengths and with quotes among them.
+/// This many rows that have this many keys, of unequal lengths and with quotes among them.
 fn table(alloc: Global, rows: u32, keys: u32) -> Result<Vec<u8>, AllocError> {
     let mut text = Vec::from_slice(alloc, b"g,h,v\n")?;
     for row in 0..rows {
@@ -88,7 +88,7 @@ fn table(alloc: Global, rows: u32, keys: u32) -> Result<Vec<u8>, AllocError> {
     Ok(text)
 }
 
-/// The pieces, one behind the other.
+/// The pieces, one after the other.
 fn joined(alloc: Global, pieces: &[Vec<u8>]) -> Result<Vec<u8>, AllocError> {
     let mut text = Vec::new(alloc);
     for piece in pieces {

@@ -16,7 +16,7 @@ use std::sync::Wait;
 use std::test::Fail;
 use std::thread::Threads;
 
-/// The groups of all rows, by so many participants, the caller's thread among them.
+/// The groups of all rows, by this many participants, the caller's thread among them.
 fn shared_groups<R: Threads + Wait + Sync>(
     rt: &R,
     alloc: Global,
@@ -42,7 +42,7 @@ fn shared_groups<R: Threads + Wait + Sync>(
     }
 }
 
-/// How many groups a table has by the column `g`, and which row is refused, as so many participants find it.
+/// How many groups a table has by the column `g`, and which row is refused, as this many participants find it.
 fn counted<R: Threads + Wait + Sync>(
     rt: &R,
     alloc: Global,

@@ -1,4 +1,4 @@
-//! Windows of a few bytes, so that each end of a line comes to stand at a seam, and so do quotes, breaks and marks.
+//! Windows of a few bytes, so that each end of a line falls on a seam, and so do quotes, breaks and marks.
 
 use group_query::aggregate_alone;
 use par_io::{MemSink, MemSource};
@@ -16,7 +16,7 @@ pub(crate) struct Answer {
     pub(crate) err: Vec<u8>,
 }
 
-/// The words of a text, which stand between spaces.
+/// The words of a text, which are separated by spaces.
 fn words_of(alloc: Global, text: &str) -> Result<Vec<String>, AllocError> {
     let mut words = Vec::new(alloc);
     for word in text.split(' ') {
@@ -35,7 +35,7 @@ fn sink(alloc: Global) -> Result<MemSink, AllocError> {
     MemSink::new(alloc, 5, 10_000, Vec::new(alloc))
 }
 
-/// What the caller's thread alone answers, but for the program's name in the line.
+/// What the caller's thread answers without workers, but for the program's name in the line.
 fn wanted(alloc: Global, words: &str, input: &[u8]) -> Result<Answer, AllocError> {
     let words = words_of(alloc, words)?;
     let mut source = source_of(alloc, input)?;

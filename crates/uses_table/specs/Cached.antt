@@ -1,4 +1,4 @@
--- What stands under a name, as a pass of the table has seen it.
+-- What is under a name, as a pass of the table has seen it.
 use Rattle.std.specs.Prelude.{ℕ, List, Option, None}
 use Rattle.std.specs.FinMap as fin
 use Rattle.lock_book.specs.Told.{Histories}
@@ -13,7 +13,7 @@ use Rattle.uses_table.specs.Texts.{left_by}
 use Rattle.uses_table.specs.declared.text.Text.{Text}
 use Rattle.uses_table.specs.declared.text.TextCall.{TextCall}
 
--- what stands under a key after all that was seen
+-- what is under a key after all that was seen
 abbrev pub under : {S C R : Type 0} → Histories (PartitionState S) (PartitionCalls C) (PartitionReplies S R) → List ℕ → Option S
 under seen key = fin.get (map_at seen (partition_of (hash_of key))) key
 

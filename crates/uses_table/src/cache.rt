@@ -18,7 +18,7 @@ use dshash_parts::{DsPass, Dshash};
 use region_words::Region;
 use std::sync::Wait;
 
-/// A call of a name of the caller's own. The text that stood under it, where the call was made.
+/// A call of one of the caller's own names. The text that was under it, if the call was made.
 fn ask<R: Wait>(
     rt: &R,
     cache: &Dshash<Text>,
@@ -68,8 +68,8 @@ pub fn recall<R: Wait>(
     cache.find(rt, r, pass, name, &TextCall::Get)
 }
 
-/// Puts a text under a name of the caller's own. The text that stood there, if any. It is refused only where the area has no room for a new
-/// name or for a larger partition.
+/// Puts a text under one of the caller's own names. The text that was there, if any. It is refused only if the area has
+/// no room for a new name or for a larger partition.
 pub fn remember<R: Wait>(
     rt: &R,
     cache: &Dshash<Text>,
@@ -98,7 +98,8 @@ pub fn remember<R: Wait>(
     ask(rt, cache, r, area, pass, apass, name, TextCall::Set(text))
 }
 
-/// Takes a name of the caller's own out. The text that stood there, if any. It takes nothing from the area, so it is never refused.
+/// Takes one of the caller's own names out. The text that was there, if any. It takes nothing from the area, so it is
+/// never refused.
 pub fn forget<R: Wait>(
     rt: &R,
     cache: &Dshash<Text>,

@@ -43,7 +43,7 @@ fn is_answered(numbers: &mut Growing, key: u64, turn: Turn) -> bool {
     }
 }
 
-/// The same of each of these keys.
+/// Whether the calls of a turn are answered as they have to be, for each of these keys.
 fn are_answered(numbers: &mut Growing, keys: &[u64], turn: Turn) -> bool {
     for key in keys {
         if !is_answered(numbers, *key, turn) {

@@ -1,6 +1,6 @@
 //! Callers of `dshash_parts` and `dshash_scan`: a cache of texts under names in the shared hash table, and two threads
-//! that share it. Beside it the tests of the crates of the table and of what stands in its cells. Nothing stands on this
-//! crate.
+//! that share it. The crate also has the tests of the crates of the table and of what is in its cells. No other crate
+//! depends on it.
 
 #![tactic(auto)]
 

@@ -12,7 +12,7 @@ use std::alloc::{AllocError, Global};
 use std::sync::Wait;
 use std::test::Fail;
 
-/// A region with an area of this many pages behind its first word, and the pass of its one caller.
+/// A region with an area of this many pages after its first word, and the pass of its one caller.
 #[tactic(auto, using(word_map::proofs::Maps::answers, std::proofs::lemmas::Bool::Decides::nat_tests))]
 fn area_for(alloc: Global, pages: u32) -> Result<(Region, Area, AreaPass), AllocError>
     requires few { pages ≤ 65536 }

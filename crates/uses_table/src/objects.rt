@@ -10,8 +10,8 @@ use dshash_core::{
 use region_words::{Chunk, Region};
 use std::test::Fail;
 
-/// Makes a call with an item at hand, which is dropped where the call does not take it. None where the partition has to
-/// grow first.
+/// Makes a call with an item at hand, which is dropped if the call does not take it. None if the partition has to grow
+/// first.
 fn call_with<O: CellObject>(
     p: &mut Partition<O>,
     r: &Region,

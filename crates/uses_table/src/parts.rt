@@ -73,7 +73,7 @@ impl CellObject for Number {
     }
 }
 
-/// A region with an area of this many pages behind its first word, and a pass for each caller.
+/// A region with an area of this many pages after its first word, and a pass for each caller.
 #[tactic(auto, using(word_map::proofs::Maps::answers, std::proofs::lemmas::Bool::Decides::nat_tests))]
 fn area_for(
     alloc: Global,
@@ -127,7 +127,7 @@ fn does<R: Wait>(
     }
 }
 
-/// The same with this many keys from one on. Says how often the answer was such.
+/// Does so with this many keys, from one on. Says how often the answer was such.
 fn does_all<R: Wait>(
     rt: &R,
     table: &Dshash<Number>,
@@ -204,7 +204,7 @@ fn drain<R: Wait>(
     unreachable!()
 }
 
-/// The same with each partition.
+/// Empties each partition in the same way.
 fn drain_all<R: Wait>(
     rt: &R,
     alloc: Global,

@@ -1,4 +1,4 @@
-//! Two threads share a cache of texts: each remembers texts under names of its own and recalls them, while the table
+//! Two threads share a cache of texts: each remembers texts under its own names and recalls them, while the table
 //! doubles; then all entries are listed, and some names are forgotten.
 
 ghost use Rattle.std.specs.Prelude.{◌≡◌, ◌≤◌, IfOk};
@@ -17,7 +17,7 @@ use std::sync::Wait;
 use std::test::Fail;
 use std::thread::{Threads, join};
 
-/// A region with an area of this many pages behind its first word, and a pass for each caller.
+/// A region with an area of this many pages after its first word, and a pass for each caller.
 #[tactic(auto, using(word_map::proofs::Maps::answers, std::proofs::lemmas::Bool::Decides::nat_tests))]
 fn area_for(
     alloc: Global,
@@ -44,7 +44,7 @@ struct Passes {
     area: AreaPass,
 }
 
-/// A cache for two callers, in an area of its own, and the passes of the two.
+/// A cache for two callers, in its own area, and the passes of the two.
 fn cache_for_two<R: Wait>(
     rt: &R,
     alloc: Global,
@@ -112,7 +112,7 @@ fn keeps_all<R: Wait>(
     (passes, good)
 }
 
-/// Two threads do so, each with names of its own. The first one's passes, and how often it was for each.
+/// Two threads do so, each with its own names. The first one's passes, and how often it was for each.
 fn two_callers<R: Threads + Wait + Sync>(
     rt: &R,
     cache: &Dshash<Text>,

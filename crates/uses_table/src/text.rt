@@ -1,4 +1,4 @@
-//! A text as what stands under a key of the table.
+//! A text as what is under a key of the table.
 
 ghost use Rattle.std.specs.Prelude.{◌≡◌, ◌<◌, ◌↔◌, length, IsNone, IfSome};
 ghost use Rattle.dshash_core.specs.Key.{packed_key};
@@ -17,7 +17,7 @@ pub struct Text {
 impl Text {
     ghost use Rattle.uses_table.specs.Texts.{words_of};
 
-    /// The text of these bytes, where there are at most 248.
+    /// The text of these bytes, if there are at most 248.
     pub fn of(bytes: &[u8]) -> Option<Text>
         ensures long { IsNone result ↔ (248 < length bytes.now) }
         ensures words { IfSome result (λ text. words_of text ≡ packed_key bytes.now) }
@@ -28,8 +28,8 @@ impl Text {
     }
 }
 
-/// What is asked of the text under a name. The reply is the text that stood there. Every caller may get it; to set or
-/// remove it is left to the one to whom the name belongs.
+/// What is asked of the text under a name. The reply is the text that was there. Every caller may get it; only the
+/// caller that owns the name may set or remove it.
 #[derive(Clone, Copy)]
 pub enum TextCall {
     Get,
