@@ -15,8 +15,8 @@ use Rattle.rel_pointer.specs.Bytes.{AllBytes}
 use Rattle.agg_table.specs.Calls.{Group, IsKeyed, called, calls_at, done_in}
 
 -- A table with these histories of its partitions has just what the participants put in, `puts` by their numbers. Each
--- history is legal; the calls that a participant made at a partition are those of its groups there, in order; and nobody
--- else has an entry
+-- history is legal; the calls that a participant made at a partition are those of its groups there, in order; and
+-- nobody else has an entry
 pub record HoldsAll (history : Seen) (puts : List (List Group)) : Type 0 where
   pub lawful : (i : ℕ) → i < 128 → IsLegal (λ _. PartitionLegal stepped i) fresh (history i)
   pub keyed : (k : ℕ) (put : List Group) → slice_get puts k ≡ Some put → All IsKeyed put

@@ -172,8 +172,8 @@ impl Handle {
         code
     }
 
-    /// Gives back the memory of a side that has left, so none goes before the other side was told. The ring's memory goes
-    /// with the second side.
+    /// Gives back the memory of a side that has left, so none goes before the other side was told. The ring's memory
+    /// goes with the second side.
     pub fn close(&mut self, alloc: Global) -> Code
         ensures { Closes self.old.value self.new.value result }
     {

@@ -21,7 +21,7 @@ use std::sync::Arc;
 const MOST_BYTES: u32 = 1048576;
 
 /// Both sides of a queue over a ring of `words` words, for messages of at most `max` bytes. It takes memory for the
-/// ring, twice for the greatest message, and for the count of who shares the ring.
+/// ring, twice for the greatest message, and for the count of those that share the ring.
 pub fn new_queue(alloc: Global, words: u64, max: u32) -> Result<(Outbox, Inbox), Code>
     ensures made { IfOk result (λ sides. IsQueue words max sides.0 sides.1) }
     ensures refused { IfErr result (λ code. IsRefused words max code) }

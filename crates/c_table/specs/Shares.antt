@@ -16,8 +16,8 @@ pub record IsShared (x : Shared) : Type 0 where
   pub keys : key_words_of x.table ≡ 1
   pub items : item_of x.table ≡ 32
 
--- The pass is one of the table; those of callers that have no share yet are too, have the numbers from 0 on, and have seen and
--- done nothing; and all chunks are of the table's region
+-- The pass is one of the table; those of callers that have no share yet are too, have the numbers from 0 on, and have
+-- seen and done nothing; and all chunks are of the table's region
 pub record IsShare (s : Share) : Type 0 where
   pub shared : IsShared (arc_value s.shared)
   pub own : Belongs (arc_value s.shared).table s.pass

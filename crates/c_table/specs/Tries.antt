@@ -40,18 +40,18 @@ module _ (s t : Share) (key : ℕ) (call : WordCall) where
   abbrev pub LacksAnItem : Type 0
   LacksAnItem = Turned stepped s.pass t.pass (home_of key) (Call (key ∷ []) call false) LacksItem
 
--- The partition of a key was to grow to this size: another caller had it; it has grown, or had that size already, and the
--- caller has the words of the slice that is left over for those of the one that it brought; or the words that it has not cut
--- yet are too few for a slice
+-- The partition of a key was to grow to this size: another caller had it; it has grown, or had that size already, and
+-- the caller has the words of the slice that is left over for those of the one that it brought; or the words that it
+-- has not cut yet are too few for a slice
 abbrev pub Grows : Share → Share → ℕ → ℕ → Code → Type 0
 Grows s t key size WouldBlock = Missed s.pass t.pass × (words_of t ≡ words_of s)
 Grows s t key size Grown = (left slice : ℕ) × Turned stepped s.pass t.pass (home_of key) (Moves size) (Moved left) × (buckets_of size ≤ slice) × (words_of t + slice ≡ words_of s + left / 8)
 Grows s t key size NoSpace = (t.pass ≡ s.pass) × (words_of t ≡ words_of s) × (s.reserve.left < buckets_of size)
 Grows s t key size code = ⊥
 
--- What a try of a call of a key came to. It was made; or another caller had the partition; or there is no memory for the
--- places of what the caller keeps; or the caller has no item, and the words that it has not cut yet are too few for one; or the
--- call found the partition full and it was to grow. No words are lost
+-- What a try of a call of a key came to. It was made; or another caller had the partition; or there is no memory for
+-- the places of what the caller keeps; or the caller has no item, and the words that it has not cut yet are too few for
+-- one; or the call found the partition full and it was to grow. No words are lost
 abbrev pub Tries : Share → Share → ℕ → WordCall → Result (Option ℕ) Code → Type 0
 Tries s t key call (Ok before) = Stays s t × IsMade s t key call before
 Tries s t key call (Err code) = Stays s t × (

@@ -6,7 +6,7 @@ ghost use Rattle.c_table.specs.Numbers.{number_of};
 /// What became of a call. Which of them a call may answer, and when, its contract says.
 #[derive(Clone, Copy, Debug, PartialEq, Eq)]
 pub enum Code {
-    /// It is done; of a key, that was there.
+    /// It is done; if it is a call of a key, the key was there.
     Done,
     /// Another caller has the key's partition.
     WouldBlock,

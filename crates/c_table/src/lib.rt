@@ -1,4 +1,4 @@
-//! A table as a caller keeps it that is no Rattle program: handles of plain bytes, calls that try once, and a code for
+//! A table as a caller that is no Rattle program keeps it: handles of plain bytes, calls that try once, and a code for
 //! each answer.
 //!
 //! A program in C can keep its part of a table between calls only as bytes that lend nothing, and nothing holds it to

@@ -70,9 +70,9 @@ fn assemble(alloc: Global, callers: u32, words: u64) -> Result<Caller, AllocErro
     })
 }
 
-/// An empty table of words under keys of one word, for this many callers, and the first of them, who has all words that
-/// are brought: each new key takes four, and a partition that grows to `n` buckets `n`. It takes memory for the words,
-/// the locks and the passes.
+/// An empty table of words under keys of one word, for this many callers, and the first of them, which has all words
+/// that are brought: each new key takes four, and a partition that grows to `n` buckets `n`. It takes memory for the
+/// words, the locks and the passes.
 pub fn new_table(alloc: Global, callers: u32, words: u64) -> Result<Caller, Code>
     ensures made { IfOk result (λ c. IsFirst callers words c) }
     ensures refused { IfErr result (λ code. IsRefused callers words code) }

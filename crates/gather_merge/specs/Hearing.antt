@@ -51,7 +51,7 @@ pub record IsOpen (region : TableId) (q : LeaderEnds) : Type 0 where
   pub tuples_here : q.tuples.region ≡ region
   pub tuples_stays : q.tuples.end.gone ≡ false
 
--- so are those of all workers
+-- the leader's ends of the queues of all workers are of this region, and open
 abbrev pub AreOpen : TableId → List LeaderEnds → Type 0
 AreOpen region queues = All (IsOpen region) queues
 

@@ -16,6 +16,6 @@ MergesAll = (plan : Plan) (width : ℕ) (records : Table) (draws streams : List 
     → ((x : ℕ) → times x (flat draws) ≡ once_below x n) → length records ≤ 256 * n + 1
     → All (IsAccepted plan width) (drop 1 records) × IsOrder plan records rows
 
--- and there is one order of the rows only
+-- and there is only one order of the rows
 abbrev pub OneOrder : Type 0
 OneOrder = (plan : Plan) (records : Table) (xs ys : List ℕ) → IsOrder plan records xs → IsOrder plan records ys → xs ≡ ys

@@ -33,8 +33,9 @@ pub(crate) fn field_or_none<'a>(row: &Option<Record<'a>>, column: u32) -> &'a [u
     }
 }
 
-/// How two rows compare by the plan's columns from this one on in turn, and then by their numbers. A number of no row
-/// is that of one with no fields. No memory is taken; each row is looked up once, and not at all if no column is left.
+/// How two rows compare by the plan's columns from this one on in turn, and then by their numbers. A number that no row
+/// has counts as that of a row with no fields. No memory is taken; each row is looked up once, and not at all if no
+/// column is left.
 fn compare_from(rows: &RowStore, plan: &BoundPlan, from: usize, a: u64, b: u64) -> Ordering
     ensures { result ≡ tail_cmp (columns_at plan.now rows.now) from a b }
 {

@@ -8,7 +8,7 @@ pub fn merges_all()
     ensures { MergesAll }
 {}
 
-/// There is one order of the rows only. A law: it does nothing when it runs.
+/// There is only one order of the rows. A law: it does nothing when it runs.
 pub fn one_order()
     ensures { OneOrder }
 {}

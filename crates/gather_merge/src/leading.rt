@@ -1,5 +1,5 @@
-//! The leader of a merge: it draws blocks as the workers do and sorts their rows, takes the workers' rows, and merges all
-//! of these lists, each of which is in order.
+//! The leader of a merge: it draws blocks as the workers do and sorts their rows, takes the workers' rows, and merges
+//! all of these lists, each of which is in order.
 
 ghost use Rattle.std.specs.Prelude.{◌≡◌, [], suc, All, length, map};
 ghost use Rattle.std.specs.List.{AllZip};

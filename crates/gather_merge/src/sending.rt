@@ -1,5 +1,5 @@
-//! What a worker sends on its tuple queue: its rows' numbers, one message each. A send that finds the receiver gone ends
-//! the work.
+//! What a worker sends on its tuple queue: its rows' numbers, one message each. A send that finds the receiver gone
+//! ends the work.
 
 ghost use Rattle.std.specs.Prelude.{◌≡◌, [], ◌∷◌, MatchBool};
 ghost use Rattle.worker_run.specs.Sent.{FoundGone, HasSent, IsReady};

@@ -32,7 +32,7 @@ pub(crate) fn word_of(text: &[u8]) -> u64
     bytes * 256 + text.len().min(8) as u64
 }
 
-/// Whether a word is that of one text only, which has at most seven bytes.
+/// Whether a word is that of only one text, which has at most seven bytes.
 pub(crate) fn is_whole(word: u64) -> bool
     ensures { result ≡ nat_lt (word % 256) 8 }
 {

@@ -62,10 +62,10 @@ pub record ArePasses (participants : ℕ) (passes : List AreaPass) : Type 0 wher
 
 -- What the participants brought home if there is an answer: there is one entry for each worker asked for, in order of
 -- their numbers, and each that started has finished, its notices read; each block with a row was drawn once, by the
--- leader or by one of the workers; there is a table exactly if the plan asks for it and its area has room for it. With a
--- table the leader and each worker have shared out the groups of their blocks; without one the tuples received of each
--- worker combine to the groups of the rows of its blocks. The table's histories are legal, with no entries of others,
--- and the passes of its area are one for each participant
+-- leader or by one of the workers; there is a table exactly if the plan asks for it and its area has room for it. With
+-- a table the leader and each worker have shared out the groups of their blocks; without one the tuples received of
+-- each worker combine to the groups of the rows of its blocks. The table's histories are legal, with no entries of
+-- others, and the passes of its area are one for each participant
 pub record IsUsed (plan : Plan) (records : Table) (workers pages : ℕ) (f : Finished WorkerEnd) : Type 0 where
   pub asked : length f.workers.items ≡ workers
   pub numbers : AreNumbered 1 (map_list (λ (w : Returned WorkerEnd). w.number) f.workers.items)

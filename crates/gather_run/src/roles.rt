@@ -1,4 +1,4 @@
-//! Who takes part in a query: the workers, who run `work`, and the leader, who runs `lead_all`.
+//! Who takes part in a query: the workers, which run `work`, and the leader, which runs `lead_all`.
 
 ghost use Rattle.std.specs.Prelude.{◌≡◌};
 

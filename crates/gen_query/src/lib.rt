@@ -58,7 +58,8 @@ impl From<AllocError> for GenAnswer {
 /// 4,194,304.
 ///
 /// Time is linear in the rows. Memory is 11 bytes a row for the text, as much again for the fields with 8 bytes a row
-/// for their places, 700 bytes for each of at most 1,000 groups, and 82 KB for each worker with the groups that it keeps.
+/// for their places, 700 bytes for each of at most 1,000 groups, and 82 KB for each worker with the groups that it
+/// keeps.
 pub fn answer_generated<R: Threads + Wait + Sync, O: Sink, G: Gate + Sync>(
     rt: &R,
     alloc: Global,

@@ -9,7 +9,7 @@ use Rattle.table_query.specs.Stops.{IsRefusedRow}
 use Rattle.table_query.specs.declared.stop.Stop.{Stop}
 use Rattle.table_query.specs.declared.stop.Stop.TheVariants as stop
 
--- the reason says of an answer of a block what the answer says, or is a lack of memory
+-- the reason says of an answer of a block what the answer says, or is out of memory
 abbrev pub Restates : NamedPlan → BlockAnswer → Stop → Type 0
 Restates plan (answer.Row row cause item) why = IsRefusedRow plan row (record { cause = cause; item = item }) why ⊎ (why ≡ stop.Memory)
 Restates plan answer.Memory why = why ≡ stop.Memory

@@ -26,8 +26,8 @@ use table_query::{Alone, Stop, Wanted, prepare};
 /// line to `err` that says why there is none, and returns the exit status. It does so only in the caller's thread, with
 /// no wait, whatever number of workers the words give. Words that begin with `merge`, `join` or `gen` are no plan here.
 ///
-/// Time is linear in the input, but for the look-up of each row's group and the order of the groups. Memory is the input,
-/// its records, the groups, and the text of the table.
+/// Time is linear in the input, but for the look-up of each row's group and the order of the groups. Memory is the
+/// input, its records, the groups, and the text of the table.
 pub fn aggregate_alone<S: Source, O: Sink, E: Sink>(
     alloc: Global,
     words: &[String],

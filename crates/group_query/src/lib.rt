@@ -40,8 +40,9 @@ use worker_run::Gate;
 /// threads. Each participant passes the gate before each of its blocks. `Err` says why there is no table; its line is
 /// still to be written.
 ///
-/// Time is linear in the input, but for the look-up of each row's group and the order of the groups. Memory is the input,
-/// its records, the groups, for each worker 82 KB and the groups of its own rows, the area of a shared table, and the text.
+/// Time is linear in the input, but for the look-up of each row's group and the order of the groups. Memory is the
+/// input, its records, the groups, for each worker 82 KB and the groups of its own rows, the area of a shared table,
+/// and the text.
 pub fn answer_plan<R: Threads + Wait + Sync, S: Source, O: Sink, G: Gate + Sync>(
     rt: &R,
     alloc: Global,
@@ -63,8 +64,8 @@ pub fn answer_plan<R: Threads + Wait + Sync, S: Source, O: Sink, G: Gate + Sync>
     ensures read_fault { IfErr result (λ why. why ≡ stop.ReadFault → Rose (S.faults source.old) (S.faults source.new)) }
     ensures write_fault { IfErr result (λ why. why ≡ stop.WriteFault → Rose (O.faults out.old) (O.faults out.new)) }
 
-    // Words that are no plan are answered before anything is read. Without workers the row that is named is the first that
-    // is refused.
+    // Words that are no plan are answered before anything is read. Without workers the row that is named is the first
+    // that is refused.
     ensures no_plan { IsNone (plan_of (texts words.now)) → (result ≡ Err stop.Usage) ⊎ (result ≡ Err stop.Memory) }
     ensures unread { IsNone (plan_of (texts words.now)) → source.new ≡ source.old }
     ensures first { workers_of (texts words.now) ≡ Some 0 → IfErr result (λ why. IfSome (S.left source.old) (λ bytes.

@@ -1,4 +1,5 @@
--- What a participant made of the rows of its blocks: the calls of the table that it made, and those that found no space.
+-- What a participant made of the rows of its blocks: the calls of the table that it made, and those that found no
+-- space.
 use Rattle.std.specs.Prelude.{◌≡◌, ◌<◌, ◌≤◌, ◌==◌, ◌++◌, ℕ, List, All, Any, filter, length, map}
 use Rattle.std.specs.List.Sorted.{IsPermutation}
 use Rattle.csv_rows.specs.Records.{field_of}

@@ -207,7 +207,7 @@ fn meet_others(store: &Store, leader: &mut DsPass<LastRow>, others: &mut [DsPass
     }
 }
 
-/// Ends the table, after all its entries were listed by one who had seen all of it.
+/// Ends the table, after all its entries were listed by one that had seen all of it.
 fn close_table<R: Wait>(
     rt: &R,
     alloc: Global,

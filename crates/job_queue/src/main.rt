@@ -1,7 +1,7 @@
-//! A job queue: the squares of the numbers below JOBS, worked out by two workers who go early.
+//! A job queue: the squares of the numbers below JOBS, worked out by two workers that go early.
 //!
-//! A leader sends the number of each job through a queue to one of the workers, and does what they leave. `job` says what
-//! a job is, `lane` what the leader knows of a worker, `worker` does what comes, and `queue` runs them all.
+//! A leader sends the number of each job through a queue to one of the workers, and does what they leave. `job` says
+//! what a job is, `lane` what the leader knows of a worker, `worker` does what comes, and `queue` runs them all.
 
 #![tactic(auto)]
 

@@ -59,9 +59,9 @@ pub record AreChains (records : Table) (column : ℕ) (rows : List ℕ) (keys : 
 abbrev pub HasChains : Table → ℕ → List ℕ → Chains → Type 0
 HasChains records column rows c = AreChains records column rows c.keys c.lasts.items c.befores.items
 
--- What the leader knows of the rows when it makes the chains. Each row whose field is not empty is linked or was spilled.
--- Each entry has the last of the linked rows that have its key; no two entries have one key, and each linked row's key
--- is that of an entry
+-- What the leader knows of the rows when it makes the chains. Each row whose field is not empty is linked or was
+-- spilled. Each entry has the last of the linked rows that have its key; no two entries have one key, and each linked
+-- row's key is that of an entry
 pub record IsCovered (records : Table) (column : ℕ) (entries : List (List ℕ × ℕ)) (links : List Link) (spilled : List ℕ) : Type 0 where
   pub all : IsPermutation (keyed records column (numbers_of records)) (map (λ (l : Link). l.row) links ++ spilled)
   pub lasts : (k : ℕ) (e : List ℕ × ℕ) → slice_get entries k ≡ Some e → IsRow records e.1

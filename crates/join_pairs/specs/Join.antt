@@ -1,5 +1,5 @@
--- The join of two tables on a column of each, over two lists of records: which rows are refused, which rows make a pair,
--- the list of pairs, and the records of the result.
+-- The join of two tables on a column of each, over two lists of records: which rows are refused, which rows make a
+-- pair, the list of pairs, and the records of the result.
 use Rattle.std.specs.Prelude.{◌≡◌, ◌≢◌, ◌<◌, ◌≤◌, ◌⊎◌, ◌&&◌, ◌++◌, ◌∷◌, ℕ, Bool, true, false, List, filter, length, map, not}
 use Rattle.std.specs.List.{flat_map}
 use Rattle.std.specs.Str.{bytes_eq}

@@ -15,7 +15,7 @@ pub struct Refused {
     pub cause: u8,
 }
 
-/// Why a row of a table is refused whose header has this many fields, if it is.
+/// Why a row is refused of a table whose header has this many fields, if it is.
 fn cause_of(rows: &RowStore, width: u32, column: u32, row: u64) -> Option<u8>
     requires row { IsRow rows.now row }
     requires width { width ≡ width_of rows.now }

@@ -17,7 +17,7 @@ Explains P stop.ReadFault = ⊤
 Explains P stop.WriteFault = ⊤
 Explains P stop.Memory = ⊤
 
--- a reason explains the outcome over what a source had left, if that is told
+-- a reason explains the outcome over what a source had left, if that is known
 abbrev pub IsExplained : Option Asked → Option (List ℕ) → Stop → Type 0
 IsExplained asked left why = IfSome left (λ bytes. Explains (IsOutcome asked bytes) why)
 

@@ -9,9 +9,8 @@ use Rattle.par_model.specs.Named.{column_of}
 use Rattle.join_query.specs.Outcome.{IsCut, left_of, right_of}
 use Rattle.join_query.specs.Words.{Asked}
 
--- Two tables were joined on these columns of them by this many workers, and as is told: no row is refused, the pairs
--- are all of them and not too many, and the left rows were shared out among the participants and went into the shared
--- table
+-- Two tables were joined on these columns of them by this many workers, in this way: no row is refused, the pairs are
+-- all of them and not too many, and the left rows were shared out among the participants and went into the shared table
 pub record IsJoinOn (left right : Table) (l r workers : ℕ) (j : Joined) : Type 0 where
   pub left_rows : AllAccepted left l
   pub right_rows : AllAccepted right r

@@ -1,4 +1,4 @@
-//! The whole of it: the words and the source, the join, and what is written.
+//! The whole call: the words and the source, the join, and what is written.
 
 ghost use Rattle.std.specs.Prelude.{◌≡◌, ◌≢◌, ◌⊎◌, ◌<◌, ◌≤◌, ℕ, List, IfErr, IfOk, IfSome, IsNone, OnOk, Contains, Some, Err, take};
 ghost use Rattle.std.specs.Io.KnownBytes.{Appends};
@@ -33,9 +33,9 @@ use std::thread::Threads;
 /// rows whose fields in the column are the same and not empty, in order of the left row and then the right one. `Err`
 /// is the exit status, whose line was written to `err`; with `Ok` the status is [`TABLE`].
 ///
-/// Time is linear in the input and in the pairs, but for the order of the pairs. Memory is the input, its records, 8.6 MB
-/// for the shared table, 24 bytes a row of the left table with the bytes of its key, and 32 bytes a pair; with workers the
-/// text of 16,384 records for each thread besides.
+/// Time is linear in the input and in the pairs, but for the order of the pairs. Memory is the input, its records, 8.6
+/// MB for the shared table, 24 bytes a row of the left table with the bytes of its key, and 32 bytes a pair; with
+/// workers the text of 16,384 records for each thread besides.
 pub fn join_tables<R: Threads + Wait + Sync, S: Source, O: Sink, E: Sink>(
     rt: &R,
     alloc: Global,

@@ -2,10 +2,10 @@
 //! status: `join COLUMN N`, with N workers besides the caller's thread. In their order: the words, the line that parts
 //! the tables, their records and columns, the join of the crate `hash_join`, and the writing of the joined records.
 //!
-//! The causes that there is no table come in one order: the words, the reading and its limit, a second table, the headers,
-//! the numbers of rows, the columns, the rows, the pairs, and the writing; the left table comes before the right one
-//! (`specs/Outcome.antt`). The first that holds ends it. Only joined records are written to `out`; one place writes the
-//! line on `err`, and what becomes of that line changes no status.
+//! The causes that there is no table come in one order: the words, the reading and its limit, a second table, the
+//! headers, the numbers of rows, the columns, the rows, the pairs, and the writing; the left table comes before the
+//! right one (`specs/Outcome.antt`). The first that holds ends it. Only joined records are written to `out`; one place
+//! writes the line on `err`, and what becomes of that line changes no status.
 
 #![tactic(auto)]
 

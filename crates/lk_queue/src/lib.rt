@@ -1,9 +1,9 @@
 //! The queue's calls for a program in C.
 //!
-//! A handle is 16 bytes of C's, all zero before its first call, which belong to one call at a time. Each call here tries
-//! once, looks itself whether it may be made, and answers a code (`c_queue`'s `Code`, by its number); so none asks
-//! anything of C but what C's types say: that a pointer is good, and that the bytes of a handle are those that the last
-//! call left. The waiting calls are loops in C over these, in `bindings/proved/include/lembokuj_try.h`, which also
+//! A handle is 16 bytes of C's, all zero before its first call, which belong to one call at a time. Each call here
+//! tries once, looks itself whether it may be made, and answers a code (`c_queue`'s `Code`, by its number); so none
+//! asks anything of C but what C's types say: that a pointer is good, and that the bytes of a handle are those that the
+//! last call left. The waiting calls are loops in C over these, in `bindings/proved/include/lembokuj_try.h`, which also
 //! tests pointers before it follows them.
 //!
 //! A contract speaks of the side that a handle owns: the messages that it has sent or received, and what a call adds to
@@ -82,7 +82,8 @@ pub extern "C" fn lk_raw_queue_leave(alloc: Global, handle: &mut Handle) -> i32
     handle.leave(alloc).number()
 }
 
-/// Gives back the memory of a side that has left; the handle is blank then. The ring's memory goes with the second side.
+/// Gives back the memory of a side that has left; the handle is blank then. The ring's memory goes with the second
+/// side.
 #[unsafe(no_mangle)]
 pub extern "C" fn lk_raw_queue_close(alloc: Global, handle: &mut Handle) -> i32
     ensures { (code : TheCode) × (result ≡ number_of code) × Closes handle.old.value handle.new.value code }

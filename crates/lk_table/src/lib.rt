@@ -1,9 +1,9 @@
 //! The table's calls for a program in C.
 //!
-//! A handle is 16 bytes of C's, all zero before its first call, which belong to one call at a time. Each call here tries
-//! once, looks itself whether it may be made, and answers a code (`c_table`'s `Code`, by its number); so none asks
-//! anything of C but what C's types say: that a pointer is good, and that the bytes of a handle are those that the last
-//! call left. The waiting calls are loops in C over these, in `bindings/proved/include/lembokuj_try.h`, which also
+//! A handle is 16 bytes of C's, all zero before its first call, which belong to one call at a time. Each call here
+//! tries once, looks itself whether it may be made, and answers a code (`c_table`'s `Code`, by its number); so none
+//! asks anything of C but what C's types say: that a pointer is good, and that the bytes of a handle are those that the
+//! last call left. The waiting calls are loops in C over these, in `bindings/proved/include/lembokuj_try.h`, which also
 //! tests pointers before it follows them.
 //!
 //! A contract speaks of the caller that a handle owns: the turns at the partitions that its pass shows. All handles of
@@ -21,8 +21,8 @@ ghost use Rattle.c_table.specs.declared.word.WordCall.TheVariants as verb;
 use c_table::{Handle, WordCall, open, share};
 use std::alloc::Global;
 
-/// Makes a table for this many callers, and its first caller, with all words that are brought, in a blank handle. It takes
-/// memory for the words, the locks and the passes.
+/// Makes a table for this many callers, and its first caller, with all words that are brought, in a blank handle. It
+/// takes memory for the words, the locks and the passes.
 #[unsafe(no_mangle)]
 pub extern "C" fn lk_raw_table_new(
     alloc: Global,

@@ -1,8 +1,8 @@
 //! A box as its pointer.
 //!
 //! A `Box` lends what it has to readers of a `&`, so no struct that C sees may have one inside. A `Loose` owns the same
-//! memory and lends nothing: it is a box taken apart, for a struct that keeps the bare pointer between calls, and can be
-//! made a box again.
+//! memory and lends nothing: it is a box taken apart, for a struct that keeps the bare pointer between calls, and can
+//! be made a box again.
 
 #![tactic(auto)]
 
@@ -13,7 +13,7 @@ use std::alloc::Allocator;
 use std::marker::Model;
 
 /// The parts of a box: it owns the value at `at`, and the right to give its memory back to `alloc`. If it is taken
-/// apart, the one who has the pointer owns them.
+/// apart, the holder of the pointer owns them.
 pub struct Loose<T, A: Allocator> {
     /// Where the value lies.
     pub at: *mut T,

@@ -36,8 +36,9 @@ use worker_run::Gate;
 /// Each participant passes the gate before each of its blocks. `Err` says why there are none; its line is still to be
 /// written.
 ///
-/// Time is linear in the input, but for the order of the rows. Memory is the input, its records, 16 bytes a row, 82 KB for
-/// each worker, and 64 KiB of bytes that wait to be written; with workers, the text of 16,384 rows for each thread besides.
+/// Time is linear in the input, but for the order of the rows. Memory is the input, its records, 16 bytes a row, 82 KB
+/// for each worker, and 64 KiB of bytes that wait to be written; with workers, the text of 16,384 rows for each thread
+/// besides.
 pub fn answer_merge<R: Threads + Wait + Sync, S: Source, O: Sink, G: Gate + Sync>(
     rt: &R,
     alloc: Global,
@@ -59,8 +60,8 @@ pub fn answer_merge<R: Threads + Wait + Sync, S: Source, O: Sink, G: Gate + Sync
     ensures read_fault { IfErr result (λ why. why ≡ stop.ReadFault → Rose (S.faults source.old) (S.faults source.new)) }
     ensures write_fault { IfErr result (λ why. why ≡ stop.WriteFault → Rose (O.faults out.old) (O.faults out.new)) }
 
-    // Words that are not `merge COLUMNS N` are answered before anything is read. Without workers the row that is named is
-    // the first that is refused.
+    // Words that are not `merge COLUMNS N` are answered before anything is read. Without workers the row that is named
+    // is the first that is refused.
     ensures no_plan { IsNone (merge_plan_of (texts words.now)) → (result ≡ Err stop.Usage) ⊎ (result ≡ Err stop.Memory) }
     ensures unread { IsNone (merge_plan_of (texts words.now)) → source.new ≡ source.old }
     ensures first { merge_workers_of (texts words.now) ≡ Some 0 → IfErr result (λ why. IfSome (S.left source.old) (λ bytes.

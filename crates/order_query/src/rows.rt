@@ -98,8 +98,8 @@ fn put_all<R: Threads + Sync, O: Sink>(
     held.pass_on(out);
 }
 
-/// The rows, up to a write that fails. Rows in order lie all over the memory, so several at a time are looked up before the
-/// first of them is put.
+/// The rows, up to a write that fails. Rows in order lie all over the memory, so several at a time are looked up before
+/// the first of them is put.
 fn put_rows<O: Sink>(held: &mut Held, out: &mut O, rows: &RowStore, numbers: &[u64])
     requires { All (λ row. row < length rows.now) numbers.now }
     ensures { Puts O.taken O.faults out.old out.new held.old held.new (rows_text rows.now numbers.now) }

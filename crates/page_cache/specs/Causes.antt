@@ -24,8 +24,8 @@ IsCause c before after name page Memory = after.tickets ≡ 0
 abbrev pub Evicts : CacheHistories → CacheHistories → Type 0
 Evicts before after = counted makes after + counted takes before ≤ counted makes before + counted takes after
 
--- a caller that evicted an entry brings its item: so if the area refused it, that was for the slice of a partition that has to
--- grow
+-- a caller that evicted an entry brings its item: so if the area refused it, that was for the slice of a partition that
+-- has to grow
 abbrev pub BringsItem : Seat → NotPut → Type 0
 BringsItem before (NoSpace pages largest) = is_some before.spare ≡ true
 BringsItem before why = Unit {0}

@@ -1,4 +1,4 @@
-//! The calls of the cache: a page is got, or put. Who puts one and has no ticket left evicts an entry first.
+//! The calls of the cache: a page is got, or put. A caller that puts one and has no ticket left evicts an entry first.
 
 ghost use Rattle.std.specs.Prelude.{◌≡◌, ◌≢◌, ℕ, ◌+◌, ◌%◌, ◌<◌, List, true, false, cond, is_some, Some, IfOk, IfErr, OnErr, OnOk};
 ghost use Rattle.std.specs.FinMap as fin;
@@ -29,8 +29,8 @@ pub enum NotPut {
     Memory,
 }
 
-/// The page under a name, if there is one. Of a name of the caller's own it is what the caller put there last, or it
-/// was evicted since.
+/// The page under a name, if there is one. Under one of the caller's own names it is what the caller put there last, or
+/// it was evicted since.
 pub fn get<R: Wait>(rt: &R, cache: &Cache, seat: &mut Seat, name: &[u64; 2]) -> Option<Page>
     requires cache { IsCache cache.now }
     requires seat { IsSeat cache.now seat.old }
@@ -44,9 +44,9 @@ pub fn get<R: Wait>(rt: &R, cache: &Cache, seat: &mut Seat, name: &[u64; 2]) -> 
         .find(rt, &cache.region, &mut seat.pass, name, &PageCall::Get)
 }
 
-/// Takes an entry out of the partition at the hand, whosever it is, by a caller with no ticket, and moves the hand on.
-/// Its item is the caller's spare one then, for the entry that it makes next. Says whether there was one, and then the
-/// caller has a ticket.
+/// Takes an entry out of the partition at the hand, whichever caller's it is, by a caller with no ticket, and moves the
+/// hand on. Its item is the caller's spare one then, for the entry that it makes next. Says whether there was one, and
+/// then the caller has a ticket.
 fn evict<R: Wait>(rt: &R, alloc: Global, cache: &Cache, seat: &mut Seat) -> Result<bool, AllocError>
     requires cache { IsCache cache.now }
     requires seat { IsSeat cache.now seat.old }

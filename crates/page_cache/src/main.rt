@@ -1,5 +1,5 @@
 //! A cache of pages in shared memory, which threads call at once. Each page is under a name, and each name has an
-//! owner. Only the owner puts pages there: what it gets is what it put, or that was evicted. At no moment there are
+//! owner. Only the owner puts pages there: what it gets is what it put, or that was evicted. At no moment are there
 //! more entries than the cache may have.
 //!
 //! `page` is what is under a name; `cache` is what the threads share and what each of them owns, and the laws of it;

@@ -19,7 +19,7 @@ use std::alloc::{AllocError, Global};
 use std::sync::Wait;
 use std::thread::{Threads, map_vec};
 
-/// Puts a page under a name of the caller's own and gets it: what was put, or nothing, since that was evicted.
+/// Puts a page under one of the caller's own names and gets it: what was put, or nothing, since that was evicted.
 fn put_and_get<R: Wait>(
     rt: &R,
     alloc: Global,

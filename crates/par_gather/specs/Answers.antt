@@ -1,4 +1,4 @@
--- What it is to answer a query: the status, what `out` and `err` receive, and what is told of the run.
+-- What it is to answer a query: the status, what `out` and `err` receive, and what is said of the run.
 use Rattle.std.specs.Prelude.{◌≡◌, ◌==◌, ℕ, List, Option, None, Some, IfSome, codes, if◌then◌else◌, take, ⊤}
 use Rattle.std.specs.Io.KnownBytes.{Appends}
 use Rattle.gen_query.specs.Summary.{IsSummaryBy}

@@ -9,8 +9,8 @@ use Rattle.par_gather.specs.Query.{Query, OfTable, OfJoin, OfGen}
 use Rattle.par_gather.specs.declared.Ran.{Ran}
 use Rattle.par_gather.specs.declared.Ran.TheVariants.{Gather, Merge, Join}
 
--- the text that answers a query over bytes was made by what is told: groups that workers gathered, rows that they put in
--- order, or pairs that they joined
+-- the text that answers a query over bytes was made by what is said of the run: groups that workers gathered, rows that
+-- they put in order, or pairs that they joined
 abbrev pub IsRun : Query → List ℕ → List ℕ → Option Ran → Type 0
 IsRun (OfTable Groups query) bytes text (Some (Gather g)) = IsMadeBy query bytes text g
 IsRun (OfTable Order query) bytes text (Some (Merge m)) = IsMergedBy query bytes text m

@@ -55,14 +55,14 @@ pub enum Ran {
 ///
 /// The bytes are cut into records by the caller's thread and as many workers as the words ask for, each a part of them.
 /// The rows are shared out, by blocks of 256, among the same number; each participant passes the gate before each of
-/// its blocks, the caller's thread as participant 0. In the plan `hash`, with `--area-pages` of 16 or more, they share a
-/// table of groups in an area of this many pages of 4 KiB; a group that finds no room there, and each group in the plan
-/// `gather`, comes to the caller's thread. What is written is the same. Of several refused rows the line may name any one,
-/// unless no workers are asked for.
+/// its blocks, the caller's thread as participant 0. In the plan `hash`, with `--area-pages` of 16 or more, they share
+/// a table of groups in an area of this many pages of 4 KiB; a group that finds no room there, and each group in the
+/// plan `gather`, comes to the caller's thread. What is written is the same. Of several refused rows the line may name
+/// any one, unless no workers are asked for.
 ///
 /// Time is linear in the input, but for the look-up of each row's group and the order of the groups, or of the rows.
-/// Memory is the input, its records, the groups, for each worker 82 KB and the groups of its own rows, and the area of a
-/// shared table; for rows in order it is the input, its records, 16 bytes a row, 82 KB for each worker, and 64 KiB of
+/// Memory is the input, its records, the groups, for each worker 82 KB and the groups of its own rows, and the area of
+/// a shared table; for rows in order it is the input, its records, 16 bytes a row, 82 KB for each worker, and 64 KiB of
 /// bytes that wait to be written.
 pub fn pargather<R: Threads + Wait + Sync, S: Source, O: Sink, E: Sink, G: Gate + Sync>(
     rt: &R,
@@ -108,8 +108,8 @@ pub fn pargather<R: Threads + Wait + Sync, S: Source, O: Sink, E: Sink, G: Gate 
     }
 }
 
-/// Answers the query as [`pargather`] does, with a gate that is open, and keeps nothing of how it was made: the program's
-/// own call.
+/// Answers the query as [`pargather`] does, with a gate that is open, and keeps nothing of how it was made: the
+/// program's own call.
 pub fn answer<R: Threads + Wait + Sync, S: Source, O: Sink, E: Sink>(
     rt: &R,
     alloc: Global,
@@ -133,9 +133,9 @@ pub fn answer<R: Threads + Wait + Sync, S: Source, O: Sink, E: Sink>(
     pargather(rt, alloc, words, source, out, err, &OpenGate, &mut None)
 }
 
-/// Answers a command line that is not the text of words, as one of which a word is no UTF-8: by the line that says how
-/// the program is called in the form that `words` begin with, which are those of its first words that are wanted for
-/// that. It returns the exit status [`MISUSED`]. It takes no memory.
+/// Answers a command line that is not the text of words, such as one with a word that is not UTF-8: by the line that
+/// says how the program is called in the form that `words` begin with, which are those of its first words that are
+/// wanted for that. It returns the exit status [`MISUSED`]. It takes no memory.
 pub fn say_usage<E: Sink>(words: &[String], err: &mut E) -> u8
     ensures status { result ≡ MISUSED }
     ensures usage { IsSaid (E.taken err.old) (E.taken err.new) (E.faults err.old) (E.faults err.new) (line (usage_of (query_of (texts words.now)))) }

@@ -1,7 +1,7 @@
 //! A whole script, from the words of a command line to an exit status.
 //!
-//! The words come first, then the reading, and then each line in turn. Answers are gathered and written by the piece; so
-//! `out` has received a prefix of them at any moment, and all of them at the end.
+//! The words come first, then the reading, and then each line in turn. Answers are gathered and written by the piece;
+//! so `out` has received a prefix of them at any moment, and all of them at the end.
 
 ghost use Rattle.std.specs.Prelude.{◌≡◌, ◌≢◌, ◌⊎◌, ◌<◌, ◌≤◌, ◌++◌, ◌∷◌, [], ℕ, List, Contains, Err, IfErr, IfNone, IfOk, IfSome, IsNone, None, OnErr, OnOk, Some, length, take};
 ghost use Rattle.std.specs.Io.KnownBytes.{Appends};
@@ -48,7 +48,7 @@ pub fn parsh<R: Wait, S: Source, O: Sink, E: Sink>(
     err: &mut E,
     left: &mut Option<Shell>,
 ) -> u8
-    // There is no other status, and 2 is answered just for words that the program does not take, unread.
+    // There is no other status, and 2 is answered only for words that the program does not take, unread.
     ensures statuses { Contains statuses result }
     ensures misused { result ≡ MISUSED → IsNone (pages_in (texts words.now)) }
     ensures no_pages { IsNone (pages_in (texts words.now)) → (result ≡ MISUSED) × (source.new ≡ source.old) }

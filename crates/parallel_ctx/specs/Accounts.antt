@@ -29,8 +29,8 @@ pages_by (p ∷ ps) (suc n) = pages_by ps n
 abbrev pub use_by : {E : Type 0} → Finished E → ℕ → Option Use
 use_by f n = option_map (λ c. record { turns = λ i. calls_by n (history_of c i); pages = pages_by f.areas.items n }) f.table
 
--- the numbers that a worker drew, what it did with the table of groups, the messages that it sent on its two queues, and
--- whether a send on each found that its receiver is gone
+-- the numbers that a worker drew, what it did with the table of groups, the messages that it sent on its two queues,
+-- and whether a send on each found that its receiver is gone
 pub record Account : Type 0 where
   pub draws : List ℕ
   pub used : Option Use

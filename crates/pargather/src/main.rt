@@ -15,7 +15,7 @@ use std::{env, io};
 /// The longest of the first words that name a form.
 const LONGEST_NAME: usize = 5;
 
-/// The words after the program's name; none of them if one is no UTF-8.
+/// The words after the program's name; none of them if one is not UTF-8.
 fn words(rt: &HostRuntime) -> io::Result<Option<Vec<String>>> {
     let mut words = Vec::new(rt.alloc());
     match env::args(rt) {

@@ -11,7 +11,7 @@ use std::io::ErrorKind;
 use std::process::ExitCode;
 use std::{env, io};
 
-/// The words after the program's name. If one is no UTF-8 there is one empty word, which is none that the program
+/// The words after the program's name. If one is not UTF-8 there is one empty word, which is none that the program
 /// takes.
 fn words(rt: &HostRuntime) -> io::Result<Vec<String>> {
     let mut words = Vec::new(rt.alloc());

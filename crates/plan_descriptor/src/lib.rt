@@ -72,8 +72,8 @@ pub fn read_plan(toc: &mut FrozenToc, r: &Region, at: RelPtr) -> Result<BoundPla
 }
 
 /// The plan that lies in the table of contents, under [`PLAN_KEY`]. It is the one that was written there, and so the
-/// same for all who read it. It takes no memory; it walks the table's entries up to that key and loads each word of the
-/// descriptor.
+/// same for all that read it. It takes no memory; it walks the table's entries up to that key and loads each word of
+/// the descriptor.
 pub fn plan_in(toc: &mut FrozenToc, r: &Region) -> BoundPlan
     requires here { toc.old.region ≡ r.now }
     requires plan { (plan : Plan) × HasPlan toc.old.words plan }

@@ -146,7 +146,8 @@ pub record IsReceiveTry (region : TableId) (q q' : Queue) (answer : ReceiveAnswe
   pub found : ReceiveFound (Some q.sender.end) q.receiver.end q'.receiver.end answer
   pub ends : AreEnds q'.sender.end q'.receiver.end
 
--- a new ring in a chunk at this word: both ends are as they begin, whatever the cells hold, and both counts begin at `from`
+-- a new ring in a chunk at this word: both ends are as they begin, whatever the cells hold, and both counts begin at
+-- `from`
 pub record IsNew (at words from max : ℕ) (q : Queue) : Type 0 where
   pub sender : q.sender.end ≡ first_sending (ring_of at words from max) q.sender.end.cells
   pub receiver : q.receiver.end ≡ first_receiving (ring_of at words from max)

@@ -39,8 +39,8 @@ abbrev pub AskFits : DrawerName → Ask → Type 0
 AskFits n (PutIn p) = (p.region ≡ n.region) × IsSome (word_at p.words n.at)
 AskFits n TakeOut = Unit {0}
 
--- what is told of the tokens: the word stored is the part's, a part that found the drawer full is the one that went in,
--- and a part that comes out is of the drawer's region and has the word told
+-- what is said of the tokens: the word stored is the part's, a part that found the drawer full is the one that went in,
+-- and a part that comes out is of the drawer's region and has the word that is said
 abbrev pub AnswerFits : DrawerName → Ask → Answer → Type 0
 AnswerFits n (PutIn p) (Stored w) = word_at p.words n.at ≡ Some w
 AnswerFits n (PutIn p) (Full q) = q ≡ p

@@ -111,7 +111,7 @@ fn each_answer(rt: HostRuntime) -> Result<(), Fail> {
     Ok(())
 }
 
-/// A barrier for three callers, who all take part, and their passes.
+/// A barrier for three callers, which all take part, and their passes.
 fn for_three<R: Wait>(
     rt: &R,
     alloc: Global,

@@ -12,7 +12,7 @@ use lock_book::Kept;
 use region_words::{Part, Region};
 use std::marker::PhantomData;
 
-/// A number that is told with each part that comes out.
+/// A number that is given with each part that comes out.
 pub trait Tag: Send {
     ghost tag: { ℕ };
 

@@ -1,5 +1,5 @@
-//! `uses_load KIND THREADS CALLS [SIZE]` makes one shared object and has threads call it at once; without words it does so
-//! for each line of its standard input, which has such words.
+//! `uses_load KIND THREADS CALLS [SIZE]` makes one shared object and has threads call it at once; without words it does
+//! so for each line of its standard input, which has such words.
 //!
 //! It is what `bench/objects.py` times: it takes no time itself, and prints one line that no schedule changes, with
 //! what it was asked and how many of the calls went as they have to. Its stored run makes a small load of each kind.
@@ -40,7 +40,7 @@ const USAGE: &str =
 without words it reads such words from each line of its standard input; each of 1 to 64 THREADS makes CALLS calls, up to 2^32; SIZE is 8 to 1000000: the bytes of a chunk (area, window) or of a
 message (queue, flushed, which take 2 threads), or the keys of the table (puts, gets, sets)";
 
-/// The words after the program's name, or none if one is no UTF-8.
+/// The words after the program's name, or none if one is not UTF-8.
 fn given_words(rt: &HostRuntime) -> io::Result<Option<Vec<String>>> {
     let mut words = Vec::new(rt.alloc());
     match env::args(rt) {
@@ -104,7 +104,7 @@ fn line<R: Threads + Wait + Sync>(rt: &R, alloc: Global, load: Load) -> Result<S
     }
 }
 
-/// The words of a line, parted by spaces.
+/// The words of a line, separated by spaces.
 fn words_of(alloc: Global, text: &str) -> Result<Vec<String>, AllocError> {
     let mut words = Vec::new(alloc);
     for word in text.split(' ') {

@@ -80,7 +80,7 @@ fn fill<R: Wait>(
     }
 }
 
-/// Gets this many of the keys from 0 on, in an order of the caller's own. Says how many were found.
+/// Gets this many of the keys from 0 on, in the caller's own order. Says how many were found.
 fn gets<R: Wait>(
     rt: &R,
     table: &Dshash<Number>,
@@ -109,7 +109,7 @@ fn gets<R: Wait>(
     found
 }
 
-/// Puts other numbers under this many of the keys from 0 on, in an order of the caller's own. Says how many were there.
+/// Puts other numbers under this many of the keys from 0 on, in the caller's own order. Says how many were there.
 fn sets<R: Wait>(
     rt: &R,
     table: &Dshash<Number>,

@@ -39,8 +39,8 @@ fn new_queue(alloc: Global, most: u32) -> Result<(Region, Sender, Receiver), All
     }
 }
 
-/// Sends this many messages, each with its number in front, and goes. With `flush` each is shown to the receiver at once.
-/// Says how many were sent.
+/// Sends this many messages, each with its number in front, and goes. With `flush` each is shown to the receiver at
+/// once. Says how many were sent.
 fn send_all<R: Wait>(
     rt: &R,
     r: &Region,

@@ -183,8 +183,8 @@ fn put_next<R: Wait>(
     replies(rt, table, r, area, passes, spare, key, call, None)
 }
 
-/// Puts this many keys of the caller's own, of which `most` at most are there at once. The item of a key that goes is kept
-/// for the next one. Says how many were new.
+/// Puts this many of the caller's own keys, of which `most` at most are there at once. The item of a key that goes is
+/// kept for the next one. Says how many were new.
 fn puts<R: Wait>(
     rt: &R,
     table: &Dshash<Number>,

@@ -1,4 +1,4 @@
-//! What a run is asked for, read of its words.
+//! What a run is asked for, read from its words.
 
 ghost use Rattle.std.specs.Prelude.{◌≡◌, ◌≤◌, ◌^◌, IsTrue, IfSome};
 

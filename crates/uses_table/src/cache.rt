@@ -1,5 +1,5 @@
 //! A cache of texts under names: a table whose keys are names of 32 words. The first word of a name says to which
-//! caller it belongs; who else calls it may only read, so what its owner put there is what it gets.
+//! caller it belongs; any other caller may only read it, so what its owner put there is what it gets.
 
 ghost use Rattle.std.specs.Prelude.{◌≡◌, Some, None, IsSome, IfOk, IfErr, OnOk};
 ghost use Rattle.dshash_core.specs.Key.{hash_of};
@@ -49,7 +49,8 @@ fn ask<R: Wait>(
     cache.call(rt, r, area, pass, apass, name, &call)
 }
 
-/// The text under a name, if there is one, whosever it is. It takes nothing from the area, so it is never refused.
+/// The text under a name, if there is one, whichever caller's it is. It takes nothing from the area, so it is never
+/// refused.
 pub fn recall<R: Wait>(
     rt: &R,
     cache: &Dshash<Text>,
@@ -129,7 +130,7 @@ pub fn forget<R: Wait>(
     }
 }
 
-/// A name of a caller's own, by a number.
+/// One of a caller's own names, by a number.
 pub fn own_name(caller: u32, number: u64) -> [u64; TEXT_WORDS]
     ensures { owner_of result ≡ caller }
 {
@@ -139,7 +140,7 @@ pub fn own_name(caller: u32, number: u64) -> [u64; TEXT_WORDS]
     name
 }
 
-/// Puts a text under a name of the caller's own and gets it: whatever others do meanwhile, what was put is there.
+/// Puts a text under one of the caller's own names and gets it: whatever others do meanwhile, what was put is there.
 pub fn keep<R: Wait>(
     rt: &R,
     cache: &Dshash<Text>,

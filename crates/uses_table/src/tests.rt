@@ -74,8 +74,8 @@ fn cache_for_two<R: Wait>(
     Ok((region, area, table, zero, one))
 }
 
-/// Keeps this many texts, each under a name of the caller's own. Says for how many there was room, and hands the passes
-/// back.
+/// Keeps this many texts, each under one of the caller's own names. Says for how many there was room, and hands the
+/// passes back.
 fn keeps_all<R: Wait>(
     rt: &R,
     cache: &Dshash<Text>,

@@ -74,8 +74,8 @@ PassesOn slots (Some u) None groups left old new = ⊥
 
 -- ---- the ends
 
--- A worker that finished: there are no more blocks, none of its rows is refused, each group of each of its blocks is one
--- call of the table or one tuple, and it said that it has finished
+-- A worker that finished: there are no more blocks, none of its rows is refused, each group of each of its blocks is
+-- one call of the table or one tuple, and it said that it has finished
 pub record IsFinishedBy (plan : Plan) (records : Table) (blocks : ℕ) (draws : List ℕ) (u : Use) (s : Sends) : Type 0 where
   pub spent : IsTrue (is_spent blocks draws)
   pub accepted : All (IsAccepted plan (header_width records)) (rows_of_blocks records draws)

@@ -1,4 +1,5 @@
-//! What a worker sends on its tuple queue: its groups, one tuple each. A send that finds the receiver gone ends the work.
+//! What a worker sends on its tuple queue: its groups, one tuple each. A send that finds the receiver gone ends the
+//! work.
 //!
 //! The groups are read where they lie in the map, in the order in which they do, and each is written into the same
 //! tuple; then the map is emptied, and its memory stays for the groups of the next blocks.

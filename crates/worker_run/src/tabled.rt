@@ -1,5 +1,5 @@
-//! A worker with a table of groups: it puts the groups of each block into the table, one call each, and sends as a tuple
-//! only a group for which the table has no room.
+//! A worker with a table of groups: it puts the groups of each block into the table, one call each, and sends as a
+//! tuple only a group for which the table has no room.
 
 ghost use Rattle.std.specs.Prelude.{◌≡◌, ◌≤◌, MatchBool};
 ghost use Rattle.std.specs.FinMap as map;

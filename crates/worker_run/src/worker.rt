@@ -1,6 +1,6 @@
 //! A worker's loop: it draws blocks until there are no more, and passes on the groups of each. Between two blocks one
-//! thing holds (`IsAtWork`): without a table of groups, that the rows of its blocks are those of the batches that it has
-//! sent and of the map that it keeps; with one, that each group of its blocks is in the table or was sent.
+//! thing holds (`IsAtWork`): without a table of groups, that the rows of its blocks are those of the batches that it
+//! has sent and of the map that it keeps; with one, that each group of its blocks is in the table or was sent.
 
 ghost use Rattle.std.specs.Prelude.{◌≡◌, ◌<◌, ◌≤◌, ◌⊎◌, true, IfNone, IfSome, MatchBool, length};
 ghost use Rattle.std.specs.FinMap as map;
