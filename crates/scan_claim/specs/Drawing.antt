@@ -5,7 +5,7 @@ use lib.ListN.{get_elem?}
 use Rattle.atomic_table.specs.Table.{State, Me, Step}
 use Rattle.scan_claim.specs.declared.view.Draws.{Draws}
 
--- how often x stands in the list
+-- how often x comes in the list
 abbrev pub times : ℕ → List ℕ → ℕ
 times x [] = 0
 times x (y ∷ ys) = (if y == x then 1 else 0) + times x ys
@@ -25,7 +25,7 @@ abbrev pub below : ℕ → List ℕ
 below zero = []
 below (suc n) = below n ++ n ∷ []
 
--- 1 where x is below n, and else 0
+-- 1 if x is below n, and else 0
 abbrev pub once_below : ℕ → ℕ → ℕ
 once_below x n = if ltb x n then 1 else 0
 
@@ -39,7 +39,7 @@ abbrev pub EndsOnce : ℕ → List (List ℕ) → Type 0
 EndsOnce blocks [] = Unit {0}
 EndsOnce blocks (l ∷ ls) = (late blocks l ≤ 1) × EndsOnce blocks ls
 
--- one list alone has the numbers below n, in order
+-- if there is only one list, it has the numbers below n, in order
 abbrev pub InOrder : ℕ → List (List ℕ) → Type 0
 InOrder n [] = Unit {0}
 InOrder n (l ∷ []) = l ≡ below n
@@ -49,7 +49,7 @@ InOrder n (l ∷ k ∷ ls) = Unit {0}
 abbrev pub all_of : Draws → List ℕ
 all_of v = flat v.lists
 
--- how many callers a seat stands for
+-- how many callers a seat represents
 abbrev pub seats_of : Draws → ℕ
 seats_of v = length v.lists
 
@@ -61,12 +61,12 @@ drawn blocks callers from lists = record { blocks = blocks; callers = callers; f
 abbrev pub with_lists : Draws → List (List ℕ) → Draws
 with_lists v ls = drawn v.blocks v.callers v.from ls
 
--- what is known of the view of a seat that stands for a caller or more
+-- what is known of the view of a seat that represents a caller or more
 abbrev pub Knows : ℕ → ℕ → ℕ → Draws → Type 0
 Knows blocks callers n v = 0 < length v.lists → (v.blocks ≡ blocks) × (v.callers ≡ callers) × EndsOnce blocks v.lists × (callers ≡ 1 → InOrder n v.lists)
 
--- The rule of the counter. The word is the number of draws made; each number below it stands in the lists once, and no
--- other does; there are as many lists as callers, and each has at most one number that is not below the blocks
+-- The rule of the counter. The word is the number of draws made; each number below it is in the lists once, and no
+-- other is; there is one list for each caller, and each has at most one number that is not below the blocks
 pub record Counts (blocks callers : ℕ) (s : State (Unit {0}) Draws) : Type 0 where
   pub wide : length s.words ≡ 1
   pub small : (blocks ≤ 2 ^ 32) × (callers < 2 ^ 32)
@@ -84,13 +84,13 @@ Sat = Me (Unit {0}) Draws
 abbrev pub one_more : Draws → ℕ → Draws
 one_more v r = with_lists v ((flat v.lists ++ r ∷ []) ∷ [])
 
--- a seat of one caller drew the number r that it found. With one caller in all it had the numbers below
+-- a seat of one caller drew the number r that it found. If there is one caller in all, it had the numbers below
 pub record Drew (v : Draws) (r : ℕ) (w : Draws) : Type 0 where
   pub more : w ≡ one_more v r
   pub few : length (flat v.lists) + 1 ≤ v.blocks + v.callers
   pub order : v.callers ≡ 1 → flat v.lists ≡ below r
 
--- what a draw tells
+-- what is learnt by a draw
 abbrev pub drew : Step (Unit {0}) → Sat → ℕ → Sat → Type 0
 drew st m r m' = (m'.1 ≡ m.1) × Drew m.0 r m'.0
 
@@ -103,7 +103,7 @@ pub record IsDrawn (blocks : ℕ) (lists : List (List ℕ)) (n : ℕ) : Type 0 w
   pub ends : EndsOnce blocks lists
   pub few : n ≤ blocks + length lists
 
--- what a load tells the seat that stands for all callers
+-- what the seat that represents all callers learns by a load
 abbrev pub counted : Step (Unit {0}) → Sat → ℕ → Sat → Type 0
 counted st m r m' = (m'.1 ≡ m.1) × (m'.0 ≡ m.0) × (0 < length m.0.lists → length m.0.lists ≡ m.0.callers → IsDrawn m.0.blocks m.0.lists r)
 
@@ -132,7 +132,7 @@ together v w = with_lists v (v.lists ++ w.lists)
 abbrev pub nobody : Draws
 nobody = drawn 0 0 0 []
 
--- the first seat, which stands for all callers and has drawn nothing
+-- the first seat, which represents all callers and has drawn nothing
 abbrev pub newcomers : ℕ × ℕ → Draws
 newcomers k = drawn k.0 k.1 0 (replicate k.1 [])
 

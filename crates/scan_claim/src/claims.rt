@@ -80,7 +80,7 @@ pub struct Drawn {
     seat: Seat<(), Draws>,
 }
 
-/// One draw of a seat that has drawn no number too many.
+/// One draw of a seat that has not yet drawn a number past the blocks.
 fn draw_one(table: &Counter, seat: &mut Seat<(), Draws>) -> u64
     requires own { (seat.old.table_id ≡ table.now.shared.table_id) × (table.now.shared.table_id.words ≡ 1) }
     requires early { (length seat.old.me.0.lists ≡ 1) × (late seat.old.me.0.blocks (flat seat.old.me.0.lists) ≡ 0) }
