@@ -14,7 +14,7 @@ pub record PartiesView : Type 0 where
 abbrev pub parties_code : Coded PartiesView
 parties_code = code_by (ℕ × (ℕ × (List ℕ × (List ℕ × Option ℕ)))) (coded× coded_ℕ (coded× coded_ℕ (coded× (coded_list coded_ℕ) (coded× (coded_list coded_ℕ) (coded_option coded_ℕ))))) (λ p. (p.callers, (p.state.phase, (p.state.attached, (p.state.arrived, p.state.elected))))) (λ p. record { callers = p.0; state = record { phase = p.1.0; attached = p.1.1.0; arrived = p.1.1.1.0; elected = p.1.1.1.1 } }) (λ _. refl)
 
--- nobody stands in a list twice, everyone is one of the callers, and whoever has arrived takes part
+-- nobody comes twice in a list, everyone is one of the callers, and a caller that has arrived takes part
 pub record AreParties (callers : ℕ) (attached arrived : List ℕ) : Type 0 where
   pub attached_once : IsDistinct nat_eq attached
   pub arrived_once : IsDistinct nat_eq arrived

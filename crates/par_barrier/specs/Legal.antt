@@ -14,7 +14,7 @@ module _ (n : ℕ) (s : BarrierState) (r : BarrierReply) (t : BarrierState) wher
     pub told : r ≡ NotIn s.phase
     pub same : t ≡ s
 
-  -- BarrierAttach: whoever takes part already is refused, everyone else takes part from then on
+  -- BarrierAttach: a caller that takes part already is refused, any other takes part from then on
   pub record Attaches : Type 0 where
     pub refused : is_among n s.attached ≡ true → (r ≡ AlreadyIn s.phase) × (t ≡ s)
     pub attached : is_among n s.attached ≡ false → (r ≡ Attached s.phase) × (t ≡ joined n s)
@@ -26,15 +26,14 @@ module _ (n : ℕ) (s : BarrierState) (r : BarrierReply) (t : BarrierState) wher
     pub waits : is_among n s.attached ≡ true → is_among n s.arrived ≡ false → are_among s.attached (s.arrived ++ n ∷ []) ≡ false → (r ≡ Waiting) × (t ≡ with_arrival n s)
     pub ends : is_among n s.attached ≡ true → is_among n s.arrived ≡ false → are_among s.attached (s.arrived ++ n ∷ []) ≡ true → (r ≡ Released (next_phase s.phase) true) × (t ≡ ended n s)
 
-  -- one look of its wait: whoever has arrived waits until the phase ends, everyone else is told the phase
+  -- one look of its wait: a caller that has arrived waits until the phase ends, any other is answered the phase
   pub record Looks : Type 0 where
     pub same : t ≡ s
     pub absent : is_among n s.attached ≡ false → r ≡ NotIn s.phase
     pub waits : is_among n s.attached ≡ true → is_among n s.arrived ≡ true → r ≡ Waiting
     pub released : is_among n s.attached ≡ true → is_among n s.arrived ≡ false → r ≡ Released s.phase (is_elected n s.elected)
 
-  -- BarrierDetach: the caller leaves, and where all who stay have arrived the phase ends and the first of them is
-  -- elected
+  -- BarrierDetach: the caller leaves, and if all that stay have arrived the phase ends and the first of them is elected
   pub record Detaches : Type 0 where
     pub absent : is_among n s.attached ≡ false → IsAbsent
     pub last : is_among n s.attached ≡ true → without n s.attached ≡ [] → (r ≡ Left s.phase true) × (t ≡ parted n s)

@@ -1,5 +1,5 @@
--- Who takes part in a barrier, and what the end of a phase is (barrier.c of PostgreSQL, with parties that attach and
--- detach at will).
+-- Which callers take part in a barrier, and what the end of a phase is (barrier.c of PostgreSQL, with parties that
+-- attach and detach at will).
 use Rattle.std.specs.Prelude.{ℕ, Bool, false, not, ◌==◌, ◌+◌, ◌%◌, ◌^◌, List, [], ◌∷◌, ◌++◌, Option, Some, None}
 use Rattle.std.specs.List.{filter, list_all, list_any}
 use Rattle.par_barrier.specs.declared.history.BarrierState.{BarrierState}
@@ -40,7 +40,7 @@ parted n s = record s { attached = without n s.attached; arrived = without n s.a
 abbrev pub ended : ℕ → BarrierState → BarrierState
 ended n s = record s { phase = next_phase s.phase; arrived = []; elected = Some n }
 
--- whether n is who was elected last
+-- whether n is the caller that was elected last
 abbrev pub is_elected : ℕ → Option ℕ → Bool
 is_elected n None = false
 is_elected n (Some m) = m == n

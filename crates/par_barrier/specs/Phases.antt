@@ -28,12 +28,12 @@ abbrev pub ends_in : BarrierState → List Step → ℕ
 ends_in s [] = 0
 ends_in s (e ∷ es) = cond (is_end s e) 1 0 + ends_in e.after es
 
--- the calls behind the last end of a phase, where those of the first list came before in the same phase
+-- the calls after the last end of a phase, if those of the first list came before in the same phase
 abbrev pub this_phase : BarrierState → List Step → List Step → List Step
 this_phase s before [] = before
 this_phase s before (e ∷ es) = this_phase e.after (cond (is_end s e) [] (before ++ e ∷ [])) es
 
--- the phase that a reply tells
+-- the phase that a reply has
 abbrev pub phase_told : BarrierReply → Option ℕ
 phase_told (Attached p) = Some p
 phase_told Waiting = None
@@ -67,19 +67,19 @@ pub record HasArrived (n : ℕ) (phase : List Step) : Type 0 where
   pub arrives : ArrivesBy n arrival
   pub stays : list_any (leaves_by n) since ≡ false
 
--- The phase that a call is told is the number of ends up to it: no call of a later phase stands before the end of the
--- one before
+-- The phase in a call's reply is the number of ends up to it: no call of a later phase comes before the end of the one
+-- before
 abbrev pub TellsPhases : Type 0
 TellsPhases = (front : List Step) (e : Step) (p : ℕ) → IsHistory (front ++ e ∷ []) → phase_told e.reply ≡ Some p → p ≡ ends_in nobody (front ++ e ∷ []) % 2 ^ 64
 
--- Each end of a phase elects one caller, who takes part at that moment and has arrived in that phase
+-- Each end of a phase elects one caller, which takes part at that moment and has arrived in that phase
 abbrev pub ElectsOne : Type 0
 ElectsOne = (front : List Step) (e : Step) → IsHistory (front ++ e ∷ []) → is_end (last_of nobody front) e ≡ true → (m : ℕ) × (e.after.elected ≡ Some m) × (is_among m e.after.attached ≡ true) × HasArrived m (this_phase nobody [] front ++ e ∷ [])
 
--- Until the next end nobody else is told to be elected
+-- Until the next end no other caller gets the reply that it is elected
 abbrev pub TellsElected : Type 0
 TellsElected = (front mid : List Step) (e x : Step) (p : ℕ) → IsHistory (front ++ e ∷ (mid ++ x ∷ [])) → ends_in e.after (mid ++ x ∷ []) ≡ 0 → x.reply ≡ Released p true → e.after.elected ≡ Some x.by
 
--- Whoever has arrived, and has not left since, cannot arrive again before the phase ends
+-- A caller that has arrived, and has not left since, cannot arrive again before the phase ends
 abbrev pub ArrivesOnce : Type 0
 ArrivesOnce = (front mid : List Step) (x y : Step) → IsHistory (front ++ x ∷ (mid ++ y ∷ [])) → x.call ≡ Arrive → x.reply ≡ Waiting → ends_in x.after mid ≡ 0 → list_any (leaves_by x.by) mid ≡ false → y.by ≡ x.by → y.call ≡ Arrive → y.reply ≡ Twice x.after.phase

@@ -54,7 +54,7 @@ pub record AreAll (b : Barrier) (passes : List BarrierPass) : Type 0 where
   pub each : (k : ℕ) (p : BarrierPass) → get_elem? passes k ≡ some p → Belongs b p × (number_of p ≡ k)
 
 -- what one call c with the reply r made of the pass: the history seen then begins with what was seen before and ends
--- with this call, legal where it stands, and the pass's own calls have this one more
+-- with this call, legal at its place, and the pass's own calls have this one more
 abbrev pub Called : BarrierPass → BarrierPass → BarrierCall → BarrierReply → Type 0
 Called old new c r = Makes BarrierLegal nobody (number_of old) (history_of old) (own_of old) (history_of new) (own_of new) c r
 
@@ -68,7 +68,7 @@ refusal_reply (refused.AlreadyIn p) = reply.AlreadyIn p
 refusal_reply (refused.NotIn p) = reply.NotIn p
 refusal_reply (refused.Twice p) = reply.Twice p
 
--- the reply that an answer of `attach` stands for
+-- the reply that an answer of `attach` represents
 abbrev pub attach_reply : Result ℕ BarrierAnswer → BarrierReply
 attach_reply (Ok p) = reply.Attached p
 attach_reply (Err why) = refusal_reply why
@@ -81,18 +81,18 @@ HasAttached old new = (answer : Result ℕ BarrierAnswer) × Called old new Atta
 abbrev pub TakesPart : BarrierPass → Type 0
 TakesPart p = is_among (number_of p) (last_of nobody (history_of p)).attached ≡ true
 
--- of `arrive` and `look`
+-- the reply that an answer of `arrive` or `look` represents
 abbrev pub arrival_reply : Result Arrival BarrierAnswer → BarrierReply
 arrival_reply (Ok arrival.Waiting) = reply.Waiting
 arrival_reply (Ok (arrival.Released p e)) = reply.Released p e
 arrival_reply (Err why) = refusal_reply why
 
--- of `detach`
+-- the reply that an answer of `detach` represents
 abbrev pub detach_reply : Result Left BarrierAnswer → BarrierReply
 detach_reply (Ok left) = reply.Left left.phase left.last
 detach_reply (Err why) = refusal_reply why
 
--- of the last call of `arrive_and_wait`
+-- the reply that an answer of `arrive_and_wait` represents: that of its last call
 abbrev pub arrived_reply : Result Arrived BarrierAnswer → BarrierReply
 arrived_reply (Ok arrived) = reply.Released arrived.phase arrived.elected
 arrived_reply (Err why) = refusal_reply why

@@ -1,22 +1,22 @@
 //! What the calls of a barrier answer.
 
-/// What a party that arrives, or looks, is told.
+/// The answer to a party that arrives, or looks.
 #[derive(Clone, Copy, Debug, PartialEq, Eq)]
 pub enum Arrival {
-    /// It has arrived, and somebody has still to.
+    /// It has arrived, and another has yet to arrive.
     Waiting,
     /// The phase that is on now, and whether the end of the one before elected this party.
     Released { phase: u64, elected: bool },
 }
 
-/// What a party that waited for the end of its phase is told: the phase that is on now, and whether it was elected.
+/// The answer to a party that waited for the end of its phase: the phase that is on now, and whether it was elected.
 #[derive(Clone, Copy, Debug, PartialEq, Eq)]
 pub struct Arrived {
     pub phase: u64,
     pub elected: bool,
 }
 
-/// What a party that leaves is told: the phase that is on now, and whether nobody takes part any more.
+/// The answer to a party that leaves: the phase that is on now, and whether nobody takes part any more.
 #[derive(Clone, Copy, Debug, PartialEq, Eq)]
 pub struct Left {
     pub phase: u64,

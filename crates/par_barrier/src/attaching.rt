@@ -10,9 +10,9 @@ use std::sync::Wait;
 impl Barrier {
     ghost use Rattle.par_barrier.specs.Shown.{AreAll, HasAttached, TakesPart};
 
-    /// All callers take part from now on; who does already stays. It takes the passes of all, so call it in the thread
-    /// that made the barrier, before the threads start: then nobody arrives before everyone takes part. It may wait for
-    /// its turns, one for each pass, and takes no memory.
+    /// All callers take part from now on; one that does already stays. It takes the passes of all, so call it in the
+    /// thread that made the barrier, before the threads start: then nobody arrives before everyone takes part. It may
+    /// wait for its turns, one for each pass, and takes no memory.
     pub fn attach_all<R: Wait>(&self, rt: &R, passes: &mut [BarrierPass])
         requires all { AreAll self.now passes.old }
         ensures all { AreAll self.now passes.new }

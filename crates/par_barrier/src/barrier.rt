@@ -73,7 +73,7 @@ impl Barrier {
             .call(rt, &(), &mut pass.pass, 0, Ask { by, call })
     }
 
-    /// Tells those who wait, if such a reply may have come with the end of a phase.
+    /// Announces it to the callers that wait, if such a reply may have come with the end of a phase.
     fn announce_end(&self, pass: &mut BarrierPass, reply: BarrierReply)
         requires own { Belongs self.now pass.old }
         ensures own { Belongs self.now pass.new × (number_of pass.new ≡ number_of pass.old) }
@@ -104,8 +104,8 @@ impl Barrier {
         reply
     }
 
-    /// The caller takes part from now on, and gets the phase that is on. AlreadyIn exactly where it takes part already.
-    /// It may wait for its turn.
+    /// The caller takes part from now on, and gets the phase that is on. AlreadyIn exactly if it takes part already. It
+    /// may wait for its turn.
     pub fn attach<R: Wait>(&self, rt: &R, pass: &mut BarrierPass) -> Result<u64, BarrierAnswer>
         requires own { Belongs self.now pass.old }
         ensures own { Belongs self.now pass.new × (number_of pass.new ≡ number_of pass.old) }
@@ -118,7 +118,7 @@ impl Barrier {
         }
     }
 
-    /// The caller has arrived. Where everyone who takes part has, the phase ends and the caller is elected; else it has
+    /// The caller has arrived. If everyone that takes part has, the phase ends and the caller is elected; else it has
     /// to wait, as by `look`, or to `detach`. It may wait for its turn, and not for the others.
     pub fn arrive<R: Wait>(&self, rt: &R, pass: &mut BarrierPass) -> Result<Arrival, BarrierAnswer>
         requires own { Belongs self.now pass.old }
@@ -148,8 +148,8 @@ impl Barrier {
         }
     }
 
-    /// The caller takes part no more. Where all who stay have arrived, the phase ends, and the first of them is
-    /// elected. It may wait for its turn.
+    /// The caller takes part no more. If all that stay have arrived, the phase ends, and the first of them is elected.
+    /// It may wait for its turn.
     pub fn detach<R: Wait>(&self, rt: &R, pass: &mut BarrierPass) -> Result<Left, BarrierAnswer>
         requires own { Belongs self.now pass.old }
         ensures own { Belongs self.now pass.new × (number_of pass.new ≡ number_of pass.old) }

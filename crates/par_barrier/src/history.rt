@@ -3,8 +3,9 @@
 
 use std::collections::LinkedList;
 
-/// The state of a barrier between two calls: the phase, modulo 2^64; who is attached, in the order in which they came;
-/// who of them has arrived in this phase, in order; and who was elected when the last phase ended, if one has ended.
+/// The state of a barrier between two calls: the phase, modulo 2^64; the callers that are attached, in the order in
+/// which they came; those of them that have arrived in this phase, in order; and which one was elected when the last
+/// phase ended, if one has ended.
 pub struct BarrierState {
     pub phase: u64,
     pub attached: LinkedList<u32>,
@@ -21,7 +22,7 @@ pub enum BarrierCall {
     Detach,
 }
 
-/// What a call is answered. Each but `Waiting` has the phase after the call.
+/// What a call is answered. Each except `Waiting` has the phase after the call.
 #[derive(Clone, Copy, Debug, PartialEq, Eq)]
 pub enum BarrierReply {
     /// The caller takes part from this phase on.

@@ -1,7 +1,7 @@
-//! The kept value of a barrier: the phase, who takes part, and who has arrived.
+//! The kept value of a barrier: the phase, the callers that take part, and those that have arrived.
 //!
-//! Whoever arrived takes part, and nobody stands in a list twice (`AreParties`). So all have arrived exactly where the
-//! two lists are equally long, and neither outgrows the room that it has for all callers: no call takes memory.
+//! A caller that has arrived takes part, and nobody comes twice in a list (`AreParties`). So all have arrived exactly
+//! if the two lists are equally long, and neither outgrows the room that it has for all callers: no call takes memory.
 
 ghost use Rattle.std.specs.Prelude.{◌≡◌, ◌≢◌, ◌<◌, ℕ, List, true, false, IfOk, IfSome, IsNone, [], ◌∷◌};
 ghost use Rattle.par_barrier.specs.declared.history.BarrierCall.TheVariants.{Arrive, Attach, Detach, Look};
@@ -79,7 +79,7 @@ impl Parties {
         self.arrived.contains(&n)
     }
 
-    /// Whether everyone who takes part has arrived.
+    /// Whether everyone that takes part has arrived.
     fn all_arrived(&self) -> bool
         ensures { result ≡ are_among self.now.state.attached self.now.state.arrived }
     {
@@ -95,7 +95,7 @@ impl Parties {
         self.attached.push_reserved(n);
     }
 
-    /// The caller `n`, who takes part, has arrived.
+    /// The caller `n`, which takes part, has arrived.
     fn note_arrival(&mut self, n: u32)
         requires here { is_among n self.old.state.attached ≡ true }
         requires out { is_among n self.old.state.arrived ≡ false }
@@ -135,7 +135,7 @@ impl Parties {
         BarrierReply::Attached(self.phase())
     }
 
-    /// The caller `n` arrives, and ends the phase where it is the last.
+    /// The caller `n` arrives, and ends the phase if it is the last.
     fn arrive(&mut self, n: u32) -> BarrierReply
         ensures callers { self.new.callers ≡ self.old.callers }
         ensures legal { Arrives n self.old.state result self.new.state }
@@ -179,7 +179,7 @@ impl Parties {
         }
     }
 
-    /// The caller `n` leaves. Where all who stay have arrived, the phase ends, and the first of them is elected.
+    /// The caller `n` leaves. If all that stay have arrived, the phase ends, and the first of them is elected.
     fn detach(&mut self, n: u32) -> BarrierReply
         ensures callers { self.new.callers ≡ self.old.callers }
         ensures legal { Detaches n self.old.state result self.new.state }
@@ -202,7 +202,7 @@ impl Parties {
         BarrierReply::Left(self.phase(), false)
     }
 
-    /// Who of those that have arrived came first.
+    /// The first caller to arrive, of those that have arrived.
     fn first_arrived(&self) -> Option<u32>
         ensures some { IfSome result (λ n. (others : List ℕ) × (self.now.state.arrived ≡ n ∷ others)) }
         ensures none { IsNone result → self.now.state.arrived ≡ [] }

@@ -11,9 +11,9 @@ use std::sync::Wait;
 impl Barrier {
     ghost use Rattle.par_barrier.specs.Shown.{Belongs, CalledAll, arrived_reply, number_of, waited};
 
-    /// The caller arrives, and waits until the phase has ended: it looks each time that the end of a phase may have come,
-    /// and sleeps in between. It answers as its last call did, so NotIn or Twice if it could not arrive. It may wait for
-    /// ever, if somebody who takes part neither arrives nor detaches.
+    /// The caller arrives, and waits until the phase has ended: it looks each time that the end of a phase may have
+    /// come, and sleeps in between. It answers as its last call did, so NotIn or Twice if it could not arrive. It may
+    /// wait forever, if a caller that takes part neither arrives nor detaches.
     pub fn arrive_and_wait<R: Wait>(
         &self,
         rt: &R,
