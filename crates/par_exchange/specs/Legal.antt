@@ -39,8 +39,8 @@ ExchangeLegal n s Take r t = Takes n s r t
 abbrev pub Each : {T : Type 0} → (ℕ → T → Type 0) → List T → Type 0
 Each P xs = (k : ℕ) (x : _) → get_elem? xs k ≡ some x → P k x
 
--- What a party asks fits an exchange of so many parties: it may bring the token that it brings, and it gives each party
--- one that may be given to it
+-- What a party asks fits an exchange of the given number of parties: it may bring the token that it brings, and it
+-- gives each party one that may be given to it
 abbrev pub CallFits : {T : Type 0} → (ℕ → T → Type 0) → (ℕ → T → Type 0) → ℕ → ℕ → ExchangeCall T → Type 0
 CallFits brings gives parties n (Bring x) = brings n x
 CallFits brings gives parties n (Give xs) = (length xs ≡ parties) × Each gives xs

@@ -1,4 +1,4 @@
--- The phases of an exchange's history. A phase ends where a party gets what all have brought.
+-- The phases of an exchange's history. A phase ends when a party gets what all have brought.
 use Rattle.std.specs.Prelude.{◌≡◌, ℕ, ◌==◌, Bool, true, false, cond, List, [], ◌∷◌, ◌++◌, length}
 use mathlib.Core.Option.{some}
 use lib.ListN.{get_elem?}
@@ -19,7 +19,7 @@ abbrev pub Step : Type 0 → Type 0
 Step T = Entry (ExchangeState T) (ExchangeCall T) (ExchangeReply T)
 
 module _ {T : Type 0} where
-  -- the history is one of an exchange of so many parties, to which nothing was brought when it was made
+  -- the history is one of an exchange of the given number of parties, to which nothing was brought when it was made
   abbrev pub IsHistory : ℕ → List (Step T) → Type 0
   IsHistory parties es = IsLegal ExchangeLegal (fresh parties) es
 
@@ -32,7 +32,7 @@ module _ {T : Type 0} where
   is_end Nothing = false
   is_end Refused = false
 
-  -- the calls behind the last end of a phase, where those of the first list came before in the same phase
+  -- the calls after the last end of a phase, if those of the first list came before in the same phase
   abbrev pub this_phase : List (Step T) → List (Step T) → List (Step T)
   this_phase before [] = before
   this_phase before (e ∷ es) = this_phase (cond (is_end e.reply) [] (before ++ e ∷ [])) es
@@ -113,7 +113,7 @@ HasCollected parties es tokens = (front : List (Step _)) (e : Step _) → es ≡
 abbrev pub HasTaken : {T : Type 0} → ℕ → List (Step T) → T → Type 0
 HasTaken n es x = (front : List (Step _)) (e : Step _) → es ≡ front ++ e ∷ [] → IsHandedOut n (this_phase [] front) x
 
--- where a party stands after a call with this reply
+-- the stage of a party after a call with this reply
 abbrev pub stage_after : {T : Type 0} → PartyStage → ExchangeReply T → PartyStage
 stage_after s Waiting = stage.Waits
 stage_after s (Collected xs) = stage.Elected
@@ -122,7 +122,7 @@ stage_after s (Taken x) = stage.Free
 stage_after s Nothing = s
 stage_after s Refused = s
 
--- where a party stands after these calls of its own, where it stood there before
+-- the stage of a party after these of its own calls, if it was at this stage before
 abbrev pub stage_from : {T : Type 0} → PartyStage → List (Step T) → PartyStage
 stage_from s [] = s
 stage_from s (e ∷ es) = stage_from (stage_after s e.reply) es

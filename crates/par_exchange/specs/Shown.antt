@@ -42,7 +42,7 @@ module _ {X T S : Type 0} {g : Ghosts (Desk X T S) (Unit {0}) (Ask T) (Answer T)
   abbrev pub own_of : Pass (Desk X T S) (Unit {0}) (Ask T) (Answer T) (ExchangeName S) (ExchangeState T) (ExchangeCall T) (ExchangeReply T) g → List (Step T)
   own_of p = shelf.mine_of p 0
 
-  -- where the party stands by its own calls
+  -- the stage of the party, by its own calls
   abbrev pub stage_of : Pass (Desk X T S) (Unit {0}) (Ask T) (Answer T) (ExchangeName S) (ExchangeState T) (ExchangeCall T) (ExchangeReply T) g → PartyStage
   stage_of p = stage_from Free (own_of p)
 
@@ -55,23 +55,23 @@ module _ {X T S : Type 0} {g : Ghosts (Desk X T S) (Unit {0}) (Ask T) (Answer T)
   AreAll x passes = shelf.AreAll x.shelf passes
 
   -- what one call c with the reply r made of the pass: the history seen then begins with what was seen before and ends
-  -- with this call, legal where it stands, and the pass's own calls have this one more
+  -- with this call, legal at its place, and the pass's own calls have this one more
   abbrev pub Called : Exchange X T S → Pass (Desk X T S) (Unit {0}) (Ask T) (Answer T) (ExchangeName S) (ExchangeState T) (ExchangeCall T) (ExchangeReply T) g → Pass (Desk X T S) (Unit {0}) (Ask T) (Answer T) (ExchangeName S) (ExchangeState T) (ExchangeCall T) (ExchangeReply T) g → ExchangeCall T → ExchangeReply T → Type 0
   Called x p q c r = Makes ExchangeLegal (fresh (parties_of x)) (shelf.number_of p) (history_of p) (own_of p) (history_of q) (own_of q) c r
 
 module _ {T : Type 0} where
-  -- the reply that an answer of `gather` stands for
+  -- the reply that an answer of `gather` represents
   abbrev pub gather_reply : Result (Gathered T) T → ExchangeReply T
   gather_reply (Ok gathered.Waiting) = reply.Waiting
   gather_reply (Ok (gathered.Elected v)) = reply.Collected v.items
   gather_reply (Err x) = reply.Refused
 
-  -- of `scatter`
+  -- the reply that an answer of `scatter` represents
   abbrev pub scatter_reply : Result (Unit {0}) (Vec T) → ExchangeReply T
   scatter_reply (Ok u) = reply.Given
   scatter_reply (Err v) = reply.Refused
 
-  -- of `take`
+  -- the reply that an answer of `take` represents
   abbrev pub take_reply : Option T → ExchangeReply T
   take_reply None = reply.Nothing
   take_reply (Some x) = reply.Taken x

@@ -3,7 +3,7 @@ use Rattle.std.specs.Prelude.{ℕ, Bool, false, ◌==◌, ◌||◌, List, [], �
 use Rattle.std.specs.Coded.{Coded, code_by, coded×, coded_ℕ, coded_list, coded_option}
 use Rattle.par_exchange.specs.declared.history.ExchangeState.{ExchangeState}
 
--- whether n is who was elected
+-- whether n is the party that was elected
 abbrev pub is_elected : ℕ → Option ℕ → Bool
 is_elected n None = false
 is_elected n (Some m) = m == n
@@ -20,22 +20,22 @@ tokens_code {T} c =
     (λ d. (d.parties, (d.state.brought, (d.state.given, d.state.elected)))) (λ q. record { parties = q.0; state = record { brought = q.1.0; given = q.1.1.0; elected = q.1.1.1 } }) (λ _. refl)
 
 module _ {T : Type 0} where
-  -- what stands at a place, if anything does
+  -- the token at a place, if there is one
   abbrev pub at : List (Option T) → ℕ → Option T
   at places n = slice_index_or places n None
 
-  -- the first and the others, where there are both
+  -- the first and the others, if there are both
   abbrev pub with_first : Option T → Option (List T) → Option (List T)
   with_first None others = None
   with_first (Some x) None = None
   with_first (Some x) (Some xs) = Some (x ∷ xs)
 
-  -- the tokens of all places, in order, where each has one
+  -- the tokens of all places, in order, if each has one
   abbrev pub all_of : List (Option T) → Option (List T)
   all_of [] = Some []
   all_of (p ∷ ps) = with_first p (all_of ps)
 
-  -- as many places with nothing in them
+  -- an equally long list of places with nothing in them
   abbrev pub cleared : List (Option T) → List (Option T)
   cleared places = map (λ _. None) places
 

@@ -27,10 +27,10 @@ pub enum Answer<T> {
     AllBack(Vec<T>),
 }
 
-/// What a party that brings a token is told.
+/// The answer to a party that brings a token.
 #[derive(Drop)]
 pub enum Gathered<T> {
-    /// Somebody has still to bring one, or the elected to give: `receive` waits for it.
+    /// Another party has yet to bring one, or the elected to give: `receive` waits for it.
     Waiting,
     /// All have brought one, and the caller is elected: what each party brought, in order of the parties.
     Elected(Vec<T>),

@@ -1,7 +1,7 @@
 //! The exchange, its passes, and its calls.
 //!
-//! An exchange is a shelf of one desk, and each call is one turn at it: what a call did is the last entry of the history
-//! that its pass has seen then (`Called`). All callers are parties.
+//! An exchange is a shelf of one desk, and each call is one turn at it: what a call did is the last entry of the
+//! history that its pass has seen then (`Called`). All callers are parties.
 
 ghost use Rattle.std.specs.Prelude.{◌≡◌, ◌<◌, ℕ, [], length, IfOk, IfErr, IsOk, IfSome};
 ghost use mathlib.Core.Option.{some};
@@ -42,8 +42,8 @@ where
     X::Token: Send,
     X::Sign: Send,
 {
-    /// An exchange for so many parties, and a pass for each, numbered from 0. It takes room for three tokens of each
-    /// party; no other call takes memory.
+    /// An exchange for the given number of parties, and a pass for each, numbered from 0. It takes room for three
+    /// tokens of each party; no other call takes memory.
     pub fn new(
         alloc: Global,
         parties: u32,
@@ -100,7 +100,7 @@ where
     }
 
     /// Brings a token. The party that is the last to do so is elected, and gets what all have brought, in order of the
-    /// parties; the others wait for what it gives them, as by `receive`. The token comes back where the party has brought
+    /// parties; the others wait for what it gives them, as by `receive`. The token comes back if the party has brought
     /// one already, or has one to take or to give. It may wait for its turn, and not for the others.
     pub fn gather<R: Wait>(
         &self,
@@ -128,7 +128,7 @@ where
         }
     }
 
-    /// The elected gives each party a token, in order of the parties, itself too. The tokens come back where the party is
+    /// The elected gives each party a token, in order of the parties, itself too. The tokens come back if the party is
     /// not elected. It may wait for its turn.
     pub fn scatter<R: Wait>(
         &self,
@@ -153,7 +153,7 @@ where
         }
     }
 
-    /// Takes the token that was given to the party, and None where there is none yet. It may wait for its turn.
+    /// Takes the token that was given to the party, and returns None if there is none yet. It may wait for its turn.
     pub fn take<R: Wait>(&self, rt: &R, pass: &mut ExchangePass<X>) -> Option<X::Token>
         requires exchange { (sign : _) × IsExchange sign self.now }
         requires own { Belongs self.now pass.old }

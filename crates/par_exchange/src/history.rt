@@ -10,7 +10,7 @@ pub struct ExchangeName<S> {
 }
 
 /// The state of an exchange between two calls: of each party, the token that it brought in this phase and the token
-/// that was given to it and that it has not taken; and who was elected and has the tokens of all, if somebody has.
+/// that was given to it and that it has not taken; and which party is elected and has the tokens of all, if one is.
 pub struct ExchangeState<T> {
     pub brought: LinkedList<Option<T>>,
     pub given: LinkedList<Option<T>>,
@@ -29,7 +29,7 @@ pub enum ExchangeCall<T> {
 
 /// What a call is answered.
 pub enum ExchangeReply<T> {
-    /// Somebody has still to bring a token.
+    /// Another party has yet to bring a token.
     Waiting,
     /// The phase has ended. The caller is elected, and has what each party brought, in order.
     Collected(LinkedList<T>),
@@ -43,7 +43,7 @@ pub enum ExchangeReply<T> {
     Refused,
 }
 
-/// Where a party stands by its own calls.
+/// The stage of a party, by its own calls.
 pub enum PartyStage {
     /// It may bring a token.
     Free,

@@ -1,9 +1,9 @@
 //! An exchange: parties bring a token each, one of them gets the tokens of all, and gives each party one again.
 //!
-//! `trade` says what goes round. `tokens` has them, with a function for each call over the `places` in which they stand;
-//! `desk` is the value behind the lock, and `asks` what it is asked and answers. `history` says what its history is made
-//! of. `exchange` has the calls, `waiting` the one that waits for a token, `close` how an exchange ends, and `laws` what
-//! is true of every history. It is one shelf of `lock_book` with one value, as a barrier is.
+//! `trade` says what is exchanged. `tokens` has the tokens, with a function for each call over the `places` in which
+//! they lie; `desk` is the locked value, and `asks` what it is asked and answers. `history` says what its history is
+//! made of. `exchange` has the calls, `waiting` the one that waits for a token, `close` how an exchange ends, and
+//! `laws` what is true of every history. It is one shelf of `lock_book` with one value, as a barrier is.
 
 #![tactic(auto)]
 

@@ -6,7 +6,7 @@ ghost use Rattle.par_exchange.specs.States.{all_of, cleared};
 
 use std::alloc::{AllocError, Global};
 
-/// So many places, with nothing in them.
+/// The given number of places, with nothing in them.
 pub(crate) fn empty_places<T: Drop>(alloc: Global, count: u32) -> Result<Vec<Option<T>>, AllocError>
     ensures { IfOk result (λ v. v.items ≡ replicate count None) }
 {

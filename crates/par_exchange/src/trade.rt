@@ -1,11 +1,11 @@
-//! What goes round in an exchange.
+//! What is exchanged.
 
 ghost use Rattle.std.specs.Prelude.{ℕ};
 
-/// What goes round, and what is always true of it.
+/// What is exchanged, and what is always true of it.
 ///
-/// An exchange crosses threads where `X: Trade + Send`, `X::Token: Send` and `X::Sign: Send`: who calls it asks for
-/// these three.
+/// An exchange crosses threads if `X: Trade + Send`, `X::Token: Send` and `X::Sign: Send`: a caller that shares it asks
+/// for these three.
 pub trait Trade {
     /// What a party brings, and gets.
     type Token: Drop;

@@ -16,7 +16,7 @@ where
     X::Sign: Send,
 {
     /// Takes the token that was given to the party, and waits until there is one: it tries each time that tokens were
-    /// given, and sleeps in between. It may wait for ever, if somebody brings no token or the elected gives none.
+    /// given, and sleeps in between. It may wait forever, if a party brings no token or the elected gives none.
     pub fn receive<R: Wait>(&self, rt: &R, pass: &mut ExchangePass<X>) -> X::Token
         requires exchange { (sign : _) × IsExchange sign self.now }
         requires own { Belongs self.now pass.old }
