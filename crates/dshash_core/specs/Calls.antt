@@ -1,4 +1,4 @@
--- A call that was made, on the chains and on the map for which they stand.
+-- A call that was made, on the chains and on the map that they represent.
 use Rattle.std.specs.Prelude.{◌≡◌, ℕ, Bool, List, Option, is_some}
 use Rattle.dshash_core.specs.Hung.{Hung}
 use Rattle.dshash_core.specs.Cells.{AreCells, cells_of}

@@ -1,4 +1,4 @@
--- A partition as contracts see it, and how the chains of its buckets stand for it.
+-- A partition as contracts see it, and how the chains of its buckets represent it.
 use Rattle.std.specs.Prelude.{◌≡◌, ◌≢◌, ℕ, ◌+◌, ◌-◌, ◌/◌, ◌%◌, ◌^◌, ◌<◌, ◌≤◌, List, [], ◌∷◌, ◌++◌, map, length, refl}
 use Rattle.std.specs.Coded.{Coded, code_by, coded×, coded_ℕ, coded_list}
 use Rattle.std.specs.Ordering.{nat_cmp}
@@ -65,11 +65,11 @@ abbrev pub all_items : List (List Item) → List Item
 all_items [] = []
 all_items (items ∷ chains) = items ++ all_items chains
 
--- the key of an item and the state that its value stands for
+-- the key of an item and the state that its value represents
 abbrev pub entry_of : {S : Type 0} → (List ℕ → S) → Item → List ℕ × S
 entry_of decoded it = (it.key, decoded it.value)
 
--- the map for which chains of items stand
+-- the map that chains of items represent
 abbrev pub cells_of : {S : Type 0} → (List ℕ → S) → List (List Item) → KeyMap S
 cells_of decoded chains = fin.from_entries (map (entry_of decoded) (all_items chains))
 

@@ -1,4 +1,4 @@
--- The buckets of a slice, as contracts see them, and how the words stand for them (dshash.c: an array of pointers to
+-- The buckets of a slice, as contracts see them, and how the words represent them (dshash.c: an array of pointers to
 -- items, and the items' links).
 use Rattle.std.specs.Prelude.{◌≡◌, ◌≢◌, ℕ, ◌+◌, ◌/◌, ◌%◌, ◌<◌, ◌≤◌, List, [], ◌∷◌, ◌++◌, map, length, refl, IsSome, slice_set, slice_index_or}
 use Rattle.std.specs.Coded.{Coded, code_by, coded×, coded_ℕ, coded_list}
@@ -46,7 +46,7 @@ pub record IsItem (m : WordMap) (slice words key_words item_bytes a : ℕ) : Typ
   pub hashed : word m (a + 1) ≡ hash_of (words_at (word m) (a + 2) key_words)
   pub whole : item_bytes % 8 ≡ 0
 
--- the words stand for chains of items at these places, one chain a bucket
+-- the words represent chains of items at these places, one chain a bucket
 pub record AreHung (slice words buckets key_words value_words item_bytes : ℕ) (m : WordMap) (chain : ℕ → List ℕ) : Type 0 where
   pub low : 0 < slice
   pub room : buckets ≤ words
@@ -67,7 +67,7 @@ chain_places m slice i = places (word m) most_words (word m (slice + i))
 abbrev pub chain_items : WordMap → ℕ → ℕ → ℕ → ℕ → List Item
 chain_items m slice key_words value_words i = map (item_at (word m) key_words value_words) (chain_places m slice i)
 
--- what the words of a slice stand for
+-- what the words of a slice represent
 abbrev pub hung : Owned → ℕ → ℕ → ℕ → ℕ → ℕ → ℕ → Hung
 hung part slice words buckets key_words value_words item_bytes = record {
   region = part.region;
@@ -81,7 +81,7 @@ hung part slice words buckets key_words value_words item_bytes = record {
 abbrev pub chain_of : Hung → ℕ → List Item
 chain_of h i = slice_index_or h.chains i []
 
--- the item stands in the chain of bucket i, behind the link at word `link`
+-- the item is in the chain of bucket i, linked from the word `link`
 pub record IsSpot (h : Hung) (i link : ℕ) (it : Item) : Type 0 where
   pub before : List Item
   pub after : List Item
@@ -100,7 +100,7 @@ Holds h it = (i : ℕ) × (i < length h.chains) × Among it (chain_of h i)
 abbrev pub HasNoItem : Hung → ℕ → List ℕ → Type 0
 HasNoItem h i key = (it : Item) → Among it (chain_of h i) → it.key ≢ key
 
--- an item of bucket i has the key: it stands at `at`, behind the link at word `link`
+-- an item of bucket i has the key: it lies at `at`, linked from the word `link`
 abbrev pub HasItem : Hung → ℕ → ℕ → ℕ → List ℕ → Type 0
 HasItem h i link place key = (it : Item) × IsSpot h i link it × (it.at ≡ place) × (it.key ≡ key)
 
@@ -109,7 +109,7 @@ pub record IsItemChunk (place : ℕ) (words : WordMap) (layout : Layout) (it : I
   pub reads : item_at (word words) layout.key_words layout.value_words place ≡ it
   pub hashed : word words (place + 1) ≡ hash_of it.key
 
--- the place of the first item, and 0 where there is none
+-- the place of the first item, and 0 if there is none
 abbrev pub first_place : List Item → ℕ
 first_place [] = 0
 first_place (it ∷ items) = it.at

@@ -11,7 +11,7 @@ fnv_step h byte = bit_xor h byte * 0x0100_0193 % 2 ^ 32
 abbrev pub fnv_word : ℕ → ℕ → ℕ
 fnv_word h word = fold fnv_step h (to_le_bytes w64 word)
 
--- the first product and the shifts round it of the finalizer of MurmurHash3 (fmix32)
+-- the first product of the finalizer of MurmurHash3 (fmix32), and the shifts before and after it
 abbrev pub finalized : ℕ → ℕ
 finalized h =
     let high = bit_xor h (h / 2 ^ 16) in
@@ -23,7 +23,7 @@ unfoldable pub hash_of : List ℕ → ℕ
 hash_of key = finalized (fold fnv_word 0x811c_9dc5 key)
 
 -- a byte string of at most 248 bytes as a key: its length, then its bytes in 31 words, the lowest first, with zeros
--- behind them
+-- after them
 unfoldable pub packed_key : List ℕ → List ℕ
 packed_key bytes = length bytes ∷ packed_words 31 bytes
 

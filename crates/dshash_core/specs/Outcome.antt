@@ -22,7 +22,7 @@ would_insert m key next = not (fin.contains_key m key) && is_some next
 abbrev pub removes : {S : Type 0} → KeyMap S → List ℕ → Option S → Bool
 removes m key next = fin.contains_key m key && is_none next
 
--- the call takes out whatever stands under a key
+-- the call takes out whatever is under a key
 abbrev pub AlwaysRemoves : {S C R : Type 0} → (Option S → C → Option S × R) → C → Type 0
 AlwaysRemoves {S} step call = (s : S) → (step (Some s) call).0 ≡ None
 
@@ -66,8 +66,7 @@ module _ {S C R : Type 0} (step : Option S → C → Option S × R) (size : ℕ)
   IsOutcome NeedItem after = IsNeedItem after
   IsOutcome (TooFull told back) after = IsTooFull told (is_some back) after
 
--- what is handed out: the spare item itself, where it was not taken, and a whole item of the region, where one was
--- freed
+-- what is handed out: the spare item itself, if it was not taken, and a whole item of the region, if one was freed
 abbrev pub HandsOut : {O S C R : Type 0} → TableId → ℕ → Option Chunk → CoreOut O S C R → Type 0
 HandsOut region item_bytes spare (Done reply unused freed) = IfSome unused (λ c. spare ≡ Some c) × IfSome freed (λ c. (c.part.region ≡ region) × (c.bytes ≡ item_bytes))
 HandsOut region item_bytes spare NeedItem = Unit {0}
@@ -79,7 +78,7 @@ pub record ListsAll {S : Type 0} (m : KeyMap S) (entries : List (List ℕ × S))
   pub once : length entries ≡ fin.len m
 
 -- a move to a size above the partition's, up to 20, sets that size and keeps the map; any other move changes nothing
--- (dshash.c, resize: where another process has done it already there is nothing to do)
+-- (dshash.c, resize: if another process has done it already there is nothing to do)
 pub record IsMoved {S : Type 0} (size : ℕ) (before : KeyMap S) (to after_size : ℕ) (after : KeyMap S) : Type 0 where
   pub same : after ≡ before
   pub size_is : size < to → to ≤ 20 → after_size ≡ to

@@ -13,7 +13,7 @@ pub record IsReadable (m : WordMap) (key_words a : ℕ) : Type 0 where
 abbrev pub chain_from : WordMap → ℕ → List ℕ
 chain_from m link = places (word m) most_words (word m link)
 
--- the key stands at item, the first on the chain from `link` that has it, behind the link at word `behind`
+-- the key is at item, the first on the chain from `link` that has it, linked from the word `behind`
 pub record IsPlaced (w : ℕ → ℕ) (chain : List ℕ) (link behind item key_words : ℕ) (key : List ℕ) : Type 0 where
   pub before : List ℕ
   pub after : List ℕ
@@ -25,7 +25,7 @@ pub record IsPlaced (w : ℕ → ℕ) (chain : List ℕ) (link behind item key_w
 abbrev pub IsNowhere : (ℕ → ℕ) → List ℕ → ℕ → List ℕ → Type 0
 IsNowhere w chain key_words key = (a : ℕ) → Among a chain → words_at w (a + 2) key_words ≢ key
 
--- old and the words of an item at a, which is hung in behind the word `link`
+-- old and the words of an item at a, which is hung in and linked from the word `link`
 pub record IsHungIn (old item new : WordMap) (link a : ℕ) : Type 0 where
   pub keeps : (k : ℕ) → IsSome (at old k) → IsSome (at new k)
   pub gains : (k : ℕ) → IsSome (at item k) → IsSome (at new k)
@@ -36,7 +36,7 @@ pub record IsHungIn (old item new : WordMap) (link a : ℕ) : Type 0 where
   pub others : (k : ℕ) → IsSome (at old k) → k ≢ link → word new k ≡ word old k
   pub body : (k : ℕ) → IsSome (at item k) → k ≢ a → word new k ≡ word item k
 
--- old without the n words of the item at a, which stood behind the word `link`
+-- old without the n words of the item at a, which was linked from the word `link`
 pub record IsTakenOut (old new item : WordMap) (link a n : ℕ) : Type 0 where
   pub keeps : (k : ℕ) → IsSome (at old k) → (a ≤ k → k < a + n → ⊥) → IsSome (at new k)
   pub below : (k : ℕ) → IsSome (at new k) → k < most_words

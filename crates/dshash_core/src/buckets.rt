@@ -1,9 +1,9 @@
 //! A bucket slice and its chains: a word for each bucket, which links to the first item of its chain, and each item's
 //! first word, which links to the next one. A link of 0 ends the chain.
 //!
-//! Whoever holds the `Buckets` owns the words of the slice and of all items, and alone changes them, at any time: a
+//! The holder of the `Buckets` owns the words of the slice and of all items, and only it changes them, at any time: a
 //! link when an item is hung in or taken out, an item's value when it is written. An item's hash and key never change
-//! while it hangs. `AreHung` says how the words stand for the chains; no two items have a word in common, and no item
+//! while it hangs. `AreHung` says how the words represent the chains; no two items have a word in common, and no item
 //! hangs twice.
 
 ghost use Rattle.std.specs.Prelude.{◌≡◌, ◌≢◌, ℕ, ◌+◌, ◌*◌, ◌/◌, ◌<◌, ◌≤◌, List, [], ◌∷◌, ◌++◌, ◌^◌, length, replicate, MatchOption, IfSome, IfNone};
@@ -102,8 +102,8 @@ impl Buckets {
         self.item_bytes
     }
 
-    /// Tells that an item has room for its key and its value, that the slice has a word for each bucket, and that the
-    /// items are at most as many as a region has words. It does nothing.
+    /// Tells that an item has room for its key and its value, that the slice has a word for each bucket, and that there
+    /// are no more items than the largest region has words. It does nothing.
     pub(crate) fn is_sound(&self)
         ensures room { length self.now.chains ≤ self.now.words }
         ensures fits { 2 + self.now.layout.key_words + self.now.layout.value_words ≤ self.now.layout.item_bytes / 8 }
@@ -193,7 +193,7 @@ impl Buckets {
         }
     }
 
-    /// The place of the first item of a bucket, and 0 where there is none.
+    /// The place of the first item of a bucket, and 0 if there is none.
     pub(crate) fn first(&mut self, r: &Region, bucket: u64) -> u64
         requires here { self.old.region ≡ r.now }
         requires bucket { bucket < length self.old.chains }
@@ -204,7 +204,7 @@ impl Buckets {
         self.part.load(r, self.slice + bucket)
     }
 
-    /// The place of the item behind another one in its chain, and 0 where that is the last.
+    /// The place of the item after another one in its chain, and 0 if that is the last.
     pub(crate) fn next(&mut self, r: &Region, bucket: u64, item: u64) -> u64
         requires here { self.old.region ≡ r.now }
         requires bucket { bucket < length self.old.chains }
@@ -217,7 +217,7 @@ impl Buckets {
         self.part.load(r, item)
     }
 
-    /// Where the first item of a bucket stands, where it has one.
+    /// The place of the first item of a bucket, if it has one.
     pub(crate) fn first_spot(&mut self, r: &Region, bucket: u64) -> Option<Spot>
         requires here { self.old.region ≡ r.now }
         requires bucket { bucket < length self.old.chains }

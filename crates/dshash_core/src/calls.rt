@@ -88,7 +88,7 @@ fn insert<O: CellObject>(
     buckets.push(r, bucket, item);
 }
 
-/// What the call makes where there is no state yet.
+/// What the call makes if there is no state yet.
 fn first_step<O: CellObject>(call: &O::Call) -> (Option<O::State>, O::Reply)
     ensures { result ≡ O.stepped None call.now }
 {
@@ -96,8 +96,8 @@ fn first_step<O: CellObject>(call: &O::Call) -> (Option<O::State>, O::Reply)
     O::step(nothing.as_ref(), call)
 }
 
-/// Makes the call of a key that is not there: where it makes a state, and the partition is not full, the spare item
-/// takes it in.
+/// Makes the call of a key that is not there: if it makes a state, and the partition is not full, the spare item takes
+/// it in.
 #[inline(always)]
 fn put_in<O: CellObject>(
     buckets: &mut Buckets,
@@ -237,7 +237,7 @@ fn answer_long<O: CellObject>(
     answer_on::<O, MOST_VALUE_WORDS>(buckets, r, count, size, hash, key, call, spare)
 }
 
-/// The same with as much memory as a value of the object needs, so that a call of a number clears four words.
+/// The same with the memory that a value of the object needs, so that a call of a number clears four words.
 #[inline(always)]
 pub(crate) fn answer<O: CellObject>(
     buckets: &mut Buckets,

@@ -35,8 +35,8 @@ const PRIME_POWERS: [u32; 9] = [
     0x5d61_5f21,
 ];
 
-/// The hash goes on over a word's eight bytes, the lowest first: over each one up to the highest that isn't 0, and over the
-/// others at once.
+/// The hash goes on over a word's eight bytes, the lowest first: over each one up to the highest that isn't 0, and over
+/// the others at once.
 fn hash_word(hash: u32, word: u64) -> u32
     ensures { result ≡ fnv_word hash word }
 {
@@ -69,7 +69,7 @@ pub fn hash_key(key: &[u64]) -> u32
     finalize(hash)
 }
 
-/// A byte string as a key of 32 words, where it has at most 248 bytes.
+/// A byte string as a key of 32 words, if it has at most 248 bytes.
 pub fn pack_key(bytes: &[u8]) -> Option<[u64; PACKED_WORDS]>
     ensures long { IsNone result ↔ (248 < length bytes.now) }
     ensures key { IfSome result (λ key. key ≡ packed_key bytes.now) }

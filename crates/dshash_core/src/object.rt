@@ -1,21 +1,21 @@
-//! What the cells of a table hold: states that calls change, and how a state stands in words.
+//! What the cells of a table hold: states that calls change, and how a state is stored in words.
 
 ghost use Rattle.std.specs.Prelude.{◌≡◌, ℕ, List, Option, IsTrue, length};
 ghost use Rattle.std.specs.Option.{option_copied};
 
-/// The most words of a state, 512 KiB: a call has them on its stack, as it has the state itself, so that a partition has no
-/// memory besides its words of the region.
+/// The most words of a state, 512 KiB: a call has them on its stack, as it has the state itself, so that a partition
+/// has no memory besides its words of the region.
 pub const MOST_VALUE_WORDS: usize = 65_536;
 
 /// The object of which a table has one under each key. A call may make it, change it or remove it.
 ///
-/// A partition crosses threads, and may stand behind a lock, where `O: CellObject + Send`, `O::State: Send`, `O::Call:
-/// Send` and `O::Reply: Send`: whoever keeps it there asks for these four.
+/// A partition crosses threads, and may be under a lock, if `O: CellObject + Send`, `O::State: Send`, `O::Call: Send`
+/// and `O::Reply: Send`: a caller that keeps it there asks for these four.
 pub trait CellObject {
     /// The words that a state takes, at most `MOST_VALUE_WORDS`.
     const VALUE_WORDS: usize;
 
-    /// What stands under a key.
+    /// The state under a key.
     type State: Copy;
 
     /// What a caller asks of a key.
@@ -29,7 +29,7 @@ pub trait CellObject {
     // the state that a call leaves, if any, and its reply
     ghost stepped: { Option Self.State → Self.Call → Option Self.State × Self.Reply };
 
-    // which call of which key the caller of a number may make: keys may be left to callers of their own
+    // which call of which key the caller of a number may make: keys may be left to callers as their own
     ghost may: { ℕ → List ℕ → Self.Call → Type 0 } = { λ caller key call. Unit {0} };
 
     // the states that the program's values are: their numbers are in range
@@ -39,11 +39,11 @@ pub trait CellObject {
 
     ghost decoded: { List ℕ → Self.State };
 
-    /// What the call makes of the state, where there is one, and its reply.
+    /// What the call makes of the state, if there is one, and its reply.
     fn step(state: Option<&Self::State>, call: &Self::Call) -> (Option<Self::State>, Self::Reply)
         ensures { result ≡ stepped (option_copied state.entry) call.now };
 
-    /// Whether the call only reads: then it leaves whatever stands there, and a cell's words are neither read again nor
+    /// Whether the call only reads: then it leaves whatever is there, and a cell's words are neither read again nor
     /// written. An object may answer false for each call.
     fn reads(call: &Self::Call) -> bool
         ensures { IsTrue result → (s : Option Self.State) → (stepped s call.now).0 ≡ s };

@@ -6,7 +6,7 @@ use region_words::Chunk;
 /// What became of a call.
 #[derive(Drop)]
 pub enum CoreOut<O: CellObject> {
-    /// The call was made. `unused` is the spare item, where the call did not take it, `freed` the item of a key that it
+    /// The call was made. `unused` is the spare item, if the call did not take it, `freed` the item of a key that it
     /// removed.
     Done {
         reply: O::Reply,

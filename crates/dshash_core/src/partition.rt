@@ -1,11 +1,11 @@
-//! A partition: what stands behind one lock of the shared hash table. It is a finite map from keys to states, kept in
-//! chains of items in the region, one chain a bucket, and it has a size of its own, from 7 to 20, which says how many
-//! buckets it has.
+//! A partition: what is under one lock of the shared hash table. It is a finite map from keys to states, kept in chains
+//! of items in the region, one chain a bucket, and it has its own size, from 7 to 20, which says how many buckets it
+//! has.
 //!
-//! Whoever holds the partition owns the words of its bucket slice and of its items, so a call is one step of one
-//! thread: behind a lock it is one event of the table. `IsPartition` says what is always so: each item hangs in the
-//! bucket of its key's hash, each key once, the count is the number of keys, and there are at most three quarters as
-//! many keys as buckets and one more, or the size is 20.
+//! The holder of the partition owns the words of its bucket slice and of its items, so a call is one step of one
+//! thread: under a lock it is one event of the table. `IsPartition` says what is always so: each item hangs in the
+//! bucket of its key's hash, each key once, the count is the number of keys, and the number of keys is at most three
+//! quarters of that of the buckets and one more, or the size is 20.
 
 ghost use Rattle.std.specs.Prelude.{◌≡◌, true, false, ◌+◌, ◌*◌, ◌/◌, ◌<◌, ◌≤◌, length, is_some, IfOk, IfNone, IfSome, MatchOption};
 ghost use Rattle.std.specs.FinMap as fin;
@@ -153,7 +153,7 @@ impl<O: CellObject> Partition<O> {
         )
     }
 
-    /// Takes an entry out, whichever comes next, by a call of its key; None where there is no key. `words` is memory for
+    /// Takes an entry out, whichever comes next, by a call of its key; None if there is no key. `words` is memory for
     /// the key. It goes round the buckets, each time on from the one where it was last, over those that are empty: to
     /// take one key after another until none is left takes some steps for each key and for each bucket. It takes no
     /// memory.
@@ -196,8 +196,8 @@ impl<O: CellObject> Partition<O> {
         list_all::<O>(&mut self.buckets, alloc, r, self.count)
     }
 
-    /// Begins a move: the partition is empty, on a new slice and with the size that it is to have. Its chains of before
-    /// are handed out; whoever moves gives their items back by `take_in`. One store for each new bucket.
+    /// Begins a move: the partition is empty, on a new slice and with the size that it is to have. Its former chains
+    /// are handed out; the caller that moves gives their items back by `take_in`. One store for each new bucket.
     pub fn start_over(&mut self, r: &Region, size: u32, slice: Chunk) -> Buckets
         requires here { (self.old.region ≡ r.now) × (slice.part.region ≡ r.now) }
         requires size { (7 ≤ size) × (size ≤ 20) }

@@ -1,5 +1,5 @@
-//! Taking entries out, whichever comes next: the partition chooses the key, and a call that removes whatever stands
-//! there is made of it, as of any other key.
+//! Taking entries out, whichever comes next: the partition chooses the key, and makes a call of it that removes
+//! whatever is there, as of any other key.
 
 ghost use Rattle.std.specs.Prelude.{◌≡◌, ℕ, ◌<◌, ◌≤◌, List, [], true, false, length, IfNone, IfSome};
 ghost use Rattle.dshash_core.specs.Chains.{Item};
@@ -55,8 +55,7 @@ pub(crate) fn spot_at_hand(buckets: &mut Buckets, r: &Region, hand: u64) -> Opti
     }
 }
 
-/// Takes the item at a spot out, by a call of its key. `words` is memory for the key,
-/// and `buffer` for the value.
+/// Takes the item at a spot out, by a call of its key. `words` is memory for the key, and `buffer` for the value.
 fn take_in<O: CellObject>(
     buckets: &mut Buckets,
     r: &Region,
@@ -142,7 +141,7 @@ fn take_long<O: CellObject>(
     take_on::<O, MOST_VALUE_WORDS>(buckets, r, count, bucket, spot, call, words)
 }
 
-/// The same with as much memory as a value of the object needs.
+/// The same with the memory that a value of the object needs.
 pub(crate) fn take_at<O: CellObject>(
     buckets: &mut Buckets,
     r: &Region,

@@ -10,7 +10,7 @@ ghost use Rattle.dshash_core.specs.Walk.{IsReadable, chain_from, IsPlaced, IsNow
 
 use region_words::{Chunk, Part, Region};
 
-/// Where an item stands, and which word links to it.
+/// Where an item lies, and which word links to it.
 #[derive(Clone, Copy)]
 pub struct Spot {
     /// The word that has the item's place: its bucket's, or the first word of the item before it.
@@ -50,7 +50,7 @@ pub(crate) fn load_words(part: &mut Part, r: &Region, at: u64, out: &mut [u64])
     }
 }
 
-/// Stores a word where another one stands there.
+/// Stores a word, unless it is there already.
 #[inline(always)]
 fn put_word(part: &mut Part, r: &Region, at: u64, value: u64)
     requires here { part.old.region ≡ r.now }
@@ -62,7 +62,7 @@ fn put_word(part: &mut Part, r: &Region, at: u64, value: u64)
     }
 }
 
-/// Stores these words from `at` on, as far as others stand there.
+/// Stores these words from `at` on, except those that are there already.
 #[inline(always)]
 pub(crate) fn store_words(part: &mut Part, r: &Region, at: u64, words: &[u64])
     requires here { part.old.region ≡ r.now }
@@ -118,7 +118,7 @@ pub(crate) fn seek(part: &mut Part, r: &Region, link: u64, hash: u64, key: &[u64
     None
 }
 
-/// Hangs the words of an item in, which stands at `at`, behind the word `link`.
+/// Hangs the words of an item in: it lies at `at`, and is linked from the word `link`.
 #[inline(always)]
 pub(crate) fn hang_in(part: &mut Part, r: &Region, link: u64, at: u64, item: Part)
     requires here { (part.old.region ≡ r.now) × (item.region ≡ r.now) }
@@ -134,7 +134,7 @@ pub(crate) fn hang_in(part: &mut Part, r: &Region, link: u64, at: u64, item: Par
     part.is_small();
 }
 
-/// Takes the `len` words of the item at `at` out, which stands behind the word `link`.
+/// Takes the `len` words of the item at `at` out, which was linked from the word `link`.
 #[inline(always)]
 pub(crate) fn take_out(part: &mut Part, r: &Region, link: u64, at: u64, len: u64) -> Part
     requires here { part.old.region ≡ r.now }
