@@ -1,4 +1,4 @@
--- What a count of a whole table is: of each partition the number of its keys, at a moment of its own.
+-- What a count of a whole table is: of each partition the number of its keys, at its own moment.
 use Rattle.std.specs.Prelude.{◌≡◌, ℕ, List, [], ◌∷◌, length, Option}
 use Rattle.std.specs.FinMap as fin
 use Rattle.std.specs.List.{sum_by}

@@ -1,4 +1,4 @@
--- What a listing of a whole table is: of each partition one listing, at a moment of its own.
+-- What a listing of a whole table is: of each partition one listing, at its own moment.
 use Rattle.std.specs.Prelude.{◌≡◌, ℕ, ◌⊎◌, List, [], ◌∷◌, ◌++◌, length, Option, Some}
 use mathlib.Core.Option.{some}
 use lib.ListN.{get_elem?}

@@ -10,8 +10,8 @@ use dshash_parts::{DsPass, Dshash};
 use region_words::Region;
 use std::sync::Wait;
 
-/// The number of the keys of all partitions, from the first to the last, each at a moment of its own. It waits for the
-/// lock of each partition, one after another, reads one number there and takes no memory.
+/// The number of the keys of all partitions, from the first to the last, each at its own moment. It waits for the lock
+/// of each partition, one after another, reads one number there and takes no memory.
 pub fn count_all<R: Wait, O: CellObject + Send>(
     rt: &R,
     table: &Dshash<O>,

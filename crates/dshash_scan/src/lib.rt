@@ -19,7 +19,7 @@ use std::alloc::{AllocError, Global};
 use std::sync::Wait;
 
 /// The entries of all partitions, from the first to the last, in no stated order within one. It waits for the lock of
-/// each partition, one after another, and takes memory for the entries and their keys. Where there is none, some of the
+/// each partition, one after another, and takes memory for the entries and their keys. If there is none, some of the
 /// partitions were listed.
 pub fn list_all<R: Wait, O: CellObject + Send>(
     rt: &R,
