@@ -1,5 +1,5 @@
--- A table of numbers of one caller as a map, and what calls make of it. The map is read off the table's pass: of each of
--- the 128 partitions it is the one after all turns that the pass has seen.
+-- A table of numbers of one caller as a map, and what calls make of it. The map is read off the table's pass: each of
+-- the 128 partitions has the map after all turns that the pass has seen.
 use Rattle.std.specs.Prelude.{◌≡◌, ◌≢◌, ℕ, ◌<◌, List, [], length, Option}
 use Rattle.std.specs.List.{sum_by}
 use Rattle.std.specs.FinMap as fin

@@ -1,8 +1,8 @@
 //! A table of 64-bit numbers under byte strings, for one caller: a shared hash table (`dshash_parts`) whose keys are
 //! packed strings and whose cells are numbers.
 //!
-//! Since there is no other caller, what the pass has seen are its own calls alone. So the table is a map, and each call
-//! is a step of it (`specs/Maps.antt`): nobody's turn stands between.
+//! Since there is no other caller, what the pass has seen is only its own calls. So the table is a map, and each call
+//! is a step of it (`specs/Maps.antt`): nobody's turn comes between.
 
 #![tactic(auto)]
 

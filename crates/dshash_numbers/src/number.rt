@@ -1,11 +1,11 @@
-//! A number as what stands under a key of the table.
+//! A number as the value under a key of the table.
 
 use dshash_core::CellObject;
 
-/// A 64-bit number under a key. It stands for no value; the states are `u64`.
+/// A 64-bit number under a key. The type has no fields; the states are `u64`.
 pub struct Number;
 
-/// What is asked of the number under a key. The reply is the number that stood there, if any.
+/// What is asked of the number under a key. The reply is the number that was there, if any.
 #[derive(Clone, Copy, Debug, PartialEq, Eq)]
 pub enum NumberCall {
     /// This number is put there.

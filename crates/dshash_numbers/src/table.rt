@@ -41,7 +41,7 @@ pub struct Total {
 }
 
 impl NumberTable {
-    /// An empty table. It takes 128 slices of 8 bytes from the area, and memory for the partitions and their locks. Where
+    /// An empty table. It takes 128 slices of 8 bytes from the area, and memory for the partitions and their locks. If
     /// the area has no room, the slices that it gave go back.
     pub fn new<R: Wait>(
         rt: &R,
@@ -66,8 +66,8 @@ impl NumberTable {
         Ok(NumberTable { table, pass })
     }
 
-    /// Puts a number under a key of at most [`MOST_KEY_BYTES`] bytes. The number that stood there, if any. It takes an
-    /// item from the area where the key is new, and where a partition is full, slices for all of them.
+    /// Puts a number under a key of at most [`MOST_KEY_BYTES`] bytes. Returns the number that was there, if any. It
+    /// takes an item from the area if the key is new, and if a partition is full, slices for all of them.
     pub fn put<R: Wait>(
         &mut self,
         rt: &R,
@@ -104,8 +104,8 @@ impl NumberTable {
             .find(rt, r, &mut self.pass, &key, &NumberCall::Get)
     }
 
-    /// Takes a key out. The number that stood there, if any. Its item goes back to the area; it asks for none, so it is
-    /// never refused.
+    /// Takes a key out. Returns the number that was there, if any. Its item goes back to the area; it asks for none, so
+    /// it is never refused.
     pub fn take<R: Wait>(
         &mut self,
         rt: &R,
