@@ -56,8 +56,8 @@ impl<O: CellObject> Model for Partition<O> {
 }
 
 impl<O: CellObject> Partition<O> {
-    /// The empty partition of size 7, on a slice of a word or more. Its items are to be chunks of `item_chunk` bytes. One
-    /// store.
+    /// The empty partition of size 7, on a slice of a word or more. Its items are to be chunks of `item_chunk` bytes.
+    /// One store.
     pub fn new(r: &Region, slice: Chunk, key_words: u32, item_chunk: u64) -> Partition<O>
         requires here { slice.part.region ≡ r.now }
         requires room { 8 ≤ slice.bytes }
