@@ -48,8 +48,8 @@ MapsStay t t' = (number : ℕ) → number < 128 → map_of t' number ≡ map_of 
 
 -- a table t and its caller's pass u of the area a become t' and u'
 module _ (a : Area) (t t' : NumberTable) (u u' : AreaPass) where
-  -- A call of a key was made, with this reply: the number before. The key's partition has the map that the call makes of
-  -- it, and no other changes; and the events are those of one call of the table
+  -- A call of a key was made, with this reply: the number before. The key's partition has the map that the call makes
+  -- of it, and no other changes; and the events are those of one call of the table
   pub record IsMade (key : List ℕ) (call : NumberCall) (before : Option ℕ) : Type 0 where
     pub same : t'.table ≡ t.table
     pub was : before ≡ under t key

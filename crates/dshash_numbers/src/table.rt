@@ -90,7 +90,8 @@ impl NumberTable {
         self.call(rt, r, area, apass, key, NumberCall::Put(number))
     }
 
-    /// The number under a key, if any. It is one turn, which reads: it asks nothing of any area, so it is never refused.
+    /// The number under a key, if any. It is one turn, which reads: it asks nothing of any area, so it is never
+    /// refused.
     pub fn get<R: Wait>(&mut self, rt: &R, r: &Region, key: &[u8]) -> Option<u64>
         requires table { IsNumberTable r.now self.old }
         requires short { length key.now ≤ MOST_KEY_BYTES }
