@@ -1,4 +1,4 @@
--- A locked partition: which call an ask and its answer stand for, which reply an answer stands for, and the chunks that
+-- A locked partition: which call an ask and its answer represent, which reply an answer represents, and the chunks that
 -- go in and come out.
 use Rattle.std.specs.Prelude.{◌≡◌, ℕ, ◌/◌, ◌≤◌, true, false, List, length, Option, Some, None, Result, Ok, Err, is_some, IfSome}
 use Rattle.dshash_core.specs.Key.{hash_of}
@@ -26,14 +26,14 @@ name_of number p = record { region = p.region; number = number; key_words = p.ke
 abbrev pub state_of : {S : Type 0} → PartitionView S → PartitionState S
 state_of p = record { size = p.size; cells = p.cells }
 
--- the reply of a listing: the entries, if they were told
+-- the reply of a listing: the entries, if the answer has them
 abbrev pub listed_of : {S R V E : Type 0} → (V → List (List ℕ × S)) → Result V E → PartitionReplies S R
 listed_of pairs (Ok entries) = Listed (Some (pairs entries))
 listed_of pairs (Err e) = Listed None
 
 -- S, C and R are the states, calls and replies of the object O
 module _ {O S C R : Type 0} where
-  -- the call of an ask. Where a key is to come and none does, it was a look
+  -- the call of an ask. If a key is to come and none does, it was a look
   abbrev pub call_of : TableAsk O S C R → PartitionCalls C
   call_of (Make hash key call spare) = Call key call (is_some spare)
   call_of Look = Looks
@@ -61,8 +61,8 @@ module _ {O S C R : Type 0} where
   reply_of (Took taken) = Made taken.reply false true
 
   -- a key has the table's length, comes with its hash and belongs to the partition of this number, and a spare item has
-  -- the items' bytes; a move is to a size from 8 to 20, on a slice with as many words as that has buckets; for a key that is
-  -- to come there is a word for each of its words
+  -- the items' bytes; a move is to a size from 8 to 20, on a slice with a word for each bucket of that size; for a key
+  -- that is to come there is a word for each of its words
   abbrev pub AskFits : PartitionName → TableAsk O S C R → Type 0
   AskFits n (Make hash key call spare) = (length key ≡ n.key_words) × (hash ≡ hash_of key) × (partition_of (hash_of key) ≡ n.number) × IfSome spare (λ c. (c.part.region ≡ n.region) × (c.bytes ≡ n.item_bytes))
   AskFits n Look = Unit {0}
@@ -70,8 +70,8 @@ module _ {O S C R : Type 0} where
   AskFits n (ListAll alloc) = Unit {0}
   AskFits n (Take call words) = length words.items ≡ n.key_words
 
-  -- what is handed out are the spare itself or an item; a slice that is left over is of this region; a size is from 7
-  -- to 20. Where no key came there are none
+  -- what is handed out is the spare itself or an item; a slice that is left over is of this region; a size is from 7 to
+  -- 20. If no key came there are none
   abbrev pub AnswerFits : PartitionName → TableAsk O S C R → TableAnswer O S C R → Type 0
   AnswerFits n (Make hash key call spare) (Came out) = HandsOut n.region n.item_bytes spare out
   AnswerFits n Look (Size size keys) = (7 ≤ size) × (size ≤ 20)
@@ -81,10 +81,10 @@ module _ {O S C R : Type 0} where
   AnswerFits n (Take call words) (Size size keys) = keys ≡ 0
   AnswerFits n ask answer = ⊥
 
--- step is what calls do, and may tells which call of which key the caller of a number may make
+-- step is what calls do, and may says which call of which key the caller of a number may make
 module _ {O S C R : Type 0} (step : Option S → C → Option S × R) (may : ℕ → List ℕ → C → Type 0) where
   -- The caller may ask so at the partition of this number: a call of a key is one that it may make; a call of whichever
-  -- key comes removes whatever stands there, and is one that it may make of each key of the partition
+  -- key comes removes whatever is there, and is one that it may make of each key of the partition
   abbrev pub MayAsk : ℕ → ℕ → TableAsk O S C R → Type 0
   MayAsk number caller (Make hash key call spare) = may caller key call
   MayAsk number caller Look = Unit {0}

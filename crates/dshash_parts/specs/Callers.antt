@@ -11,7 +11,7 @@ use Rattle.dshash_parts.specs.Replays.{calls_of_key, made_of}
 use Rattle.dshash_parts.specs.declared.histories.PartitionCalls.{PartitionCalls}
 use Rattle.dshash_parts.specs.declared.histories.PartitionReplies.{PartitionReplies}
 
--- the calls of a key that the callers below a number made: each caller's in order, one caller behind the other
+-- the calls of a key that the callers below a number made: each caller's in order, one caller after the other
 abbrev pub called_below : {S C R : Type 0} → ℕ → List ℕ → List (Entry (PartitionState S) (PartitionCalls C) (PartitionReplies S R)) → List (C × R)
 called_below zero key es = []
 called_below (suc n) key es = called_below n key es ++ calls_of_key key (calls_by n es)
@@ -27,7 +27,7 @@ together op unit adds [] = unit
 together op unit adds (m ∷ ms) = op (adds m.0) (together op unit adds ms)
 
 -- A cell's value grows by what each call adds, by the operation of a commutative monoid. Then in each legal history of
--- a partition what stands under a key at last has the value of what all callers added, one caller after another
+-- a partition the last state under a key has the value of what all callers added, one caller after another
 abbrev pub CellsFold : Type 0 → Type 0 → Type 0 → Type 0 → Type 0
 CellsFold S C R M = (op : M → M → M) (unit : M) → IsCommutativeMonoid op unit → (step : Option S → C → Option S × R) (value : Option S → M) (adds : C → M)
     → value None ≡ unit → ((s : Option S) (call : C) → value (step s call).0 ≡ op (value s) (adds call))

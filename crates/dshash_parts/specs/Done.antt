@@ -1,5 +1,5 @@
--- What a caller did with a table, as its entries tell: the calls that were made, those that were not, and the requests for
--- pages that were refused.
+-- What a caller did with a table, read off entries of histories: the calls that were made, those that were not, and the
+-- requests for pages that were refused.
 use Rattle.std.specs.Prelude.{◌≡◌, ℕ, Bool, true, false, List, [], ◌∷◌, count_by}
 use Rattle.std.specs.List.{flat_map}
 use Rattle.free_pages.specs.Legal.{PagesCall, PagesReply, PagesState}
@@ -14,7 +14,7 @@ use Rattle.dshash_parts.specs.declared.histories.PartitionReplies.TheVariants.{M
 -- ---- at a partition
 
 module _ {S C R X : Type 0} (of : List ℕ → C → R → X) where
-  -- the call that an entry is, where it was made: what there is of its key, of what was called and of what was replied
+  -- the call that an entry is, if it was made: what there is of its key, of what was called and of what was replied
   abbrev pub done_of : PartitionCalls C → PartitionReplies S R → List X
   done_of (Call key call spare) (Made reply unused freed) = of key call reply ∷ []
   done_of other reply = []

@@ -11,8 +11,8 @@ use Rattle.dshash_parts.specs.declared.histories.PartitionCalls.TheVariants.{Cal
 use Rattle.dshash_parts.specs.declared.histories.PartitionReplies.{PartitionReplies}
 use Rattle.dshash_parts.specs.declared.histories.PartitionReplies.TheVariants.{Made, LacksItem, HasToGrow, HasSize, Moved, Listed}
 
--- what a move from a size leaves over is a slice with a word for each bucket of that size, or of the one that was wanted,
--- where that is smaller
+-- what a move from a size leaves over is a slice with a word for each bucket of that size, or of the one that was
+-- wanted, if that is smaller
 abbrev pub LeavesOver : ℕ → ℕ → ℕ → Type 0
 LeavesOver before to left = (size : ℕ) → size ≤ before → size ≤ to → 8 * buckets_of size ≤ left
 
@@ -45,9 +45,9 @@ module _ {S C R : Type 0} (step : Option S → C → Option S × R) where
 abbrev pub AreOurs : {S : Type 0} → ℕ → KeyMap S → Type 0
 AreOurs number m = (key : List ℕ) → fin.contains_key m key ≡ true → partition_of (hash_of key) ≡ number
 
--- may tells which call of which key the caller of a number may make
+-- may says which call of which key the caller of a number may make
 module _ {C : Type 0} (may : ℕ → List ℕ → C → Type 0) where
-  -- the caller may take the turn: where it is a call of a key, this caller may make it. All other turns are anybody's
+  -- the caller may take the turn: if it is a call of a key, this caller may make it. All other turns are anybody's
   abbrev pub MayTurn : ℕ → PartitionCalls C → Type 0
   MayTurn caller (Call key call spare) = may caller key call
   MayTurn caller Looks = Unit {0}

@@ -12,12 +12,12 @@ use Rattle.dshash_parts.specs.declared.histories.PartitionCalls.{PartitionCalls}
 use Rattle.dshash_parts.specs.declared.histories.PartitionReplies.{PartitionReplies}
 
 module _ {S C R : Type 0} (step : Option S → C → Option S × R) where
-  -- the call leaves a state where there is one, and none where there is none
+  -- the call leaves a state if there is one, and none if there is none
   abbrev pub KeepsCells : C → Type 0
   KeepsCells call = (s : Option S) → is_some (step s call).0 ≡ is_some s
 
-  -- The call was made, with this reply, at the last turn that was seen of the key's partition: from the state that was under
-  -- the key before it; what it leaves stands there now
+  -- The call was made, with this reply, at the last turn that was seen of the key's partition: from the state that was
+  -- under the key before it; what it leaves is there now
   pub record IsFound (seen : Histories (PartitionState S) (PartitionCalls C) (PartitionReplies S R)) (key : List ℕ) (call : C) (reply : R) : Type 0 where
     pub before : List (Entry (PartitionState S) (PartitionCalls C) (PartitionReplies S R))
     pub last : Entry (PartitionState S) (PartitionCalls C) (PartitionReplies S R)

@@ -1,4 +1,4 @@
--- Keys that belong to a caller: who else may call them only reads.
+-- Keys that belong to a caller: any other caller that calls them only reads.
 use Rattle.std.specs.Prelude.{◌≡◌, ◌≢◌, ℕ, List, Option, None}
 use Rattle.std.specs.FinMap as fin
 use Rattle.lock_book.specs.declared.view.Entry.{Entry}
@@ -14,7 +14,7 @@ use Rattle.dshash_parts.specs.declared.histories.PartitionCalls.{PartitionCalls}
 use Rattle.dshash_parts.specs.declared.histories.PartitionReplies.{PartitionReplies}
 
 module _ {S C R : Type 0} (step : Option S → C → Option S × R) where
-  -- the key belongs to the caller n: a call of it that any other may make leaves whatever stands there
+  -- the key belongs to the caller n: a call of it that any other may make leaves whatever is there
   abbrev pub IsOwner : (ℕ → List ℕ → C → Type 0) → ℕ → List ℕ → Type 0
   IsOwner may n key = (other : ℕ) (call : C) → other ≢ n → may other key call → (s : Option S) → (step s call).0 ≡ s
 

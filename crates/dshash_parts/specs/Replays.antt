@@ -17,7 +17,7 @@ use Rattle.dshash_parts.specs.declared.histories.PartitionReplies.{PartitionRepl
 use Rattle.dshash_parts.specs.declared.histories.PartitionReplies.TheVariants.{Made}
 
 module _ {S C R : Type 0} where
-  -- the call of an entry with its reply, where it was made, and of this key
+  -- the call of an entry with its reply, if it was made, and of this key
   abbrev pub made_of : List ℕ → PartitionCalls C → PartitionReplies S R → List (C × R)
   made_of key (Call k call spare) (Made reply unused freed) = cond (eq_by_cmp (slice_cmp nat_cmp) key k) ((call, reply) ∷ []) []
   made_of key call reply = []
@@ -41,7 +41,7 @@ module _ {S C R : Type 0} (step : Option S → C → Option S × R) where
       IsRun None (calls_of_key key (seen number)) (fin.get (map_at seen number) key)
 
 -- In each legal history of a partition, the calls of each key are those of one cell, whatever looks, moves, listings
--- and refusals stand between
+-- and refusals come between
 abbrev pub KeysAreCells : Type 0 → Type 0 → Type 0 → Type 0
 KeysAreCells S C R = (step : Option S → C → Option S × R) (number : ℕ) (key : List ℕ) (es : List (Entry (PartitionState S) (PartitionCalls C) (PartitionReplies S R)))
     → IsLegal (λ _. PartitionLegal step number) fresh es → IsRun step None (calls_of_key key es) (fin.get (last_of fresh es).cells key)

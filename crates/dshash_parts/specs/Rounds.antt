@@ -16,7 +16,7 @@ module _ {S C R : Type 0} (number item : ℕ) (key : List ℕ) (call : C) where
     pub grants : (bytes : ℕ) → Among (Asked (Got bytes)) fs → ((bytes ≡ item) × LackedItem number item key call es) ⊎ ((size : ℕ) × HadToGrow number item key call es size × (bytes ≡ slice_size (size + 1)))
     pub gifts : (bytes : ℕ) → Among (Asked (Gave bytes)) fs → (bytes ≡ chunk_size item) ⊎ IsLeftOver es bytes
 
-  -- the call was not made yet, and of what the caller held first or was granted the spare item alone is left, where there
+  -- the call was not made yet, and of what the caller held first or was granted only the spare item is left, if there
   -- is one
   pub record IsUnderway (held spare : Bool) (es : List (Event S C R)) : Type 0 where
     pub none : NoneMade es

@@ -34,7 +34,7 @@ item_of t = t.item_bytes
 abbrev pub callers_of : {O S C R : Type 0} → Dshash O S C R → ℕ
 callers_of t = shelf.callers_of t.shelf
 
--- a spare item for a table in this region, or none: a chunk of as many bytes as the area grants for an item
+-- a spare item for a table in this region, or none: a chunk with the number of bytes that the area grants for an item
 abbrev pub IsSpare : {O S C R : Type 0} → TableId → Dshash O S C R → Option Chunk → Type 0
 IsSpare region t spare = IfSome spare (λ c. (c.part.region ≡ region) × (c.bytes ≡ chunk_size (item_of t)))
 
@@ -72,7 +72,7 @@ size_at seen number = (state_at seen number).size
 abbrev pub map_at : {S C R : Type 0} → Histories (PartitionState S) (PartitionCalls C) (PartitionReplies S R) → ℕ → KeyMap S
 map_at seen number = (state_at seen number).cells
 
--- n is the number of a pass, and `seen`, `mine` and the same with a stroke what it shows before and after
+-- n is the number of a pass; `seen` and `mine` are what it shows before, and the same with a prime what it shows after
 module _ {S C R : Type 0} (step : Option S → C → Option S × R) (n : ℕ) (seen mine seen' mine' : Histories (PartitionState S) (PartitionCalls C) (PartitionReplies S R)) where
   -- at a partition just these events
   abbrev pub Did : ℕ → List (PartitionCalls C × PartitionReplies S R) → Type 0

@@ -9,8 +9,8 @@ use Rattle.dshash_parts.specs.declared.histories.PartitionCalls.TheVariants.{Cal
 use Rattle.dshash_parts.specs.declared.histories.PartitionReplies.{PartitionReplies}
 use Rattle.dshash_parts.specs.declared.histories.PartitionReplies.TheVariants.{Made}
 
--- The history of a partition ends with this call by the caller n: it was made of a key that had a state, which told the
--- reply, and took it out
+-- The history of a partition ends with this call by the caller n: it was made of a key that had a state, which decided
+-- the reply, and took it out
 pub record IsTakenOut {S C R : Type 0} (step : Option S → C → Option S × R) (n : ℕ) (call : C) (key : List ℕ) (reply : R) (seen : List (Entry (PartitionState S) (PartitionCalls C) (PartitionReplies S R))) : Type 0 where
   pub before : List (Entry (PartitionState S) (PartitionCalls C) (PartitionReplies S R))
   pub after : PartitionState S

@@ -37,7 +37,7 @@ pub data Event (S C R : Type 0) : Type 0 where
   Turn : ℕ → PartitionCalls C → PartitionReplies S R → Event S C R
   Asked : Request → Event S C R
 
--- what a pass of a table shows, and the pass of the area beside it
+-- what a pass of a table shows, together with the pass of the area
 pub record Sight (S C R : Type 0) : Type 0 where
   pub seen : Histories (PartitionState S) (PartitionCalls C) (PartitionReplies S R)
   pub mine : Histories (PartitionState S) (PartitionCalls C) (PartitionReplies S R)

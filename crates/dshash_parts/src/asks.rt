@@ -16,7 +16,7 @@ pub enum TableAsk<O: CellObject> {
     Grow(u32, Chunk),
     /// A listing, with memory for the entries.
     List(Global),
-    /// A call that removes whatever stands there, of whichever key comes next, with memory for the key's words.
+    /// A call that removes whatever is there, of whichever key comes next, with memory for the key's words.
     Take(O::Call, Vec<u64>),
 }
 
@@ -27,10 +27,10 @@ pub enum TableAnswer<O: CellObject> {
     Came(CoreOut<O>),
     /// The size, and the number of keys.
     Size(u32, u64),
-    /// The slice that is left over: the former one, or the new one where the partition has that size already.
+    /// The slice that is left over: the former one, or the new one if the partition has that size already.
     LeftOver(Chunk),
     /// The entries.
     Entries(Result<Vec<Entry<O>>, AllocError>),
-    /// The key that was taken out, and what the call replied. Where there is no key, the size and the number come.
+    /// The key that was taken out, and what the call replied. If there is no key, the size and the number come.
     Took(Taken<O>),
 }

@@ -1,11 +1,11 @@
 //! A call of a key: turns at its partition, and between them what it lacks.
 //!
-//! A caller may keep a spare item between its calls: the item of a key that one of them took out is the one that the next
-//! insertion takes. So a key that comes for one that goes costs two turns, one each, and asks nothing of the area.
+//! A caller may keep a spare item between its calls: the item of a key that one of them took out is the one that the
+//! next insertion takes. So a key that comes for one that goes costs two turns, one each, and asks nothing of the area.
 //!
-//! Where a turn says that the call lacks an item, one is got from the area, and the call is tried again with it. Where
-//! the partition has to grow first, all partitions of its size or less do, and the call is tried again. No lock is held
-//! in between, so others' turns may come there; the call itself is one turn, the last.
+//! If a turn says that the call lacks an item, one is got from the area, and the call is tried again with it. If the
+//! partition has to grow first, all partitions of its size or less do, and the call is tried again. No lock is held in
+//! between, so others' turns may come there; the call itself is one turn, the last.
 
 ghost use Rattle.std.specs.Prelude.{◌≡◌, ℕ, ◌<◌, ◌≤◌, ◌&&◌, ◌||◌, List, length, is_some, None, IfSome, IfOk, IfErr, OnErr};
 ghost use Rattle.std.specs.FinMap as fin;
@@ -31,7 +31,7 @@ use dshash_core::{CellObject, CoreOut, hash_key, partition_of_hash};
 use region_words::{Chunk, Region};
 use std::sync::Wait;
 
-/// Gives a chunk to the area, where there is one.
+/// Gives a chunk to the area, if there is one.
 fn give_back<R: Wait>(rt: &R, area: &Area, r: &Region, apass: &mut AreaPass, chunk: Option<Chunk>)
     requires area { IsArea r.now area.now }
     requires own { AreaBelongs area.now apass.old }
@@ -45,8 +45,8 @@ fn give_back<R: Wait>(rt: &R, area: &Area, r: &Region, apass: &mut AreaPass, chu
     }
 }
 
-/// Of the item that a call did not use and the one that it freed one is kept. The other, where there are both, goes to the
-/// area.
+/// Of the item that a call did not use and the one that it freed, one is kept. The other, if there are both, goes to
+/// the area.
 pub(crate) fn keep_one<R: Wait, O: CellObject + Send>(
     rt: &R,
     table: &Dshash<O>,
@@ -80,7 +80,7 @@ where
     }
 }
 
-/// All partitions of a smaller size move to this one. Where there is no slice for one of them, the spare goes back.
+/// All partitions of a smaller size move to this one. If there is no slice for one of them, the spare goes back.
 fn double<R: Wait, O: CellObject + Send>(
     rt: &R,
     table: &Dshash<O>,
@@ -127,11 +127,11 @@ where
     O::Call: Send,
     O::Reply: Send,
 {
-    /// Makes a call of a key. The area is always the same one: a table does not know its area, and another one would refuse
-    /// what it did not grant, which is lost then. It takes no memory. It may wait for the lock of the key's partition and, where that has
-    /// to grow, of each partition, one after another; and for those of the area, with none of the table's in hand. A
-    /// call of a key that is there costs one hash, one walk along a chain and one turn; a new key a second turn and a
-    /// chunk of the area; and doubling comes at most 13 times in the life of a table.
+    /// Makes a call of a key. The area is always the same one: a table does not know its area, and another one would
+    /// refuse what it did not grant, which is lost then. It takes no memory. It may wait for the lock of the key's
+    /// partition and, if that has to grow, of each partition, one after another; and for those of the area, with none
+    /// of the table's in hand. A call of a key that is there costs one hash, one walk along a chain and one turn; a new
+    /// key costs a second turn and a chunk of the area; and doubling comes at most 13 times in the life of a table.
     pub fn call<R: Wait>(
         &self,
         rt: &R,
@@ -170,10 +170,10 @@ where
         }
     }
 
-    /// As `call`, by a caller that keeps a spare item from one call to the next, or has none: a chunk of as many bytes as
-    /// the area grants for an item of this table. An insertion takes it, and asks the area for none then. The item of a
-    /// key that is taken out is kept as the spare one; where the caller has one already, it goes to the area. A refused
-    /// call keeps none.
+    /// As `call`, by a caller that keeps a spare item from one call to the next, or has none: a chunk with the number
+    /// of bytes that the area grants for an item of this table. An insertion takes it, and asks the area for none then.
+    /// The item of a key that is taken out is kept as the spare one; if the caller has one already, it goes to the
+    /// area. A refused call keeps none.
     ///
     /// A key that is taken out and a new key that is put in are one turn each. The spare item is live in the area until
     /// an insertion takes it or `give_spare` gives it back.
@@ -237,7 +237,7 @@ where
         }
     }
 
-    /// Gives the spare item of a caller back to the area, where it has one. One that the area refuses is dropped.
+    /// Gives the spare item of a caller back to the area, if it has one. One that the area refuses is dropped.
     pub fn give_spare<R: Wait>(
         &self,
         rt: &R,

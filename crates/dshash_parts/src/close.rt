@@ -72,7 +72,7 @@ where
     O::Call: Send,
     O::Reply: Send,
 {
-    /// The last partition that is left, with the words of its slice and items. None where none is left.
+    /// The last partition that is left, with the words of its slice and items. None if none is left.
     pub fn take_last(&mut self) -> Option<Partition<O>>
         ensures none { IsNone result ↔ (left_of self.old ≡ 0) }
         ensures some { IfSome result (λ _. left_of self.old ≡ left_of self.new + 1) }

@@ -26,9 +26,9 @@ where
     O::Call: Send,
     O::Reply: Send,
 {
-    /// Makes a call of a key that makes no cell and removes none, as a get or a change of what is there. It may wait for
-    /// the lock of the key's partition, and costs one hash, one walk along a chain and one turn. It takes no memory and
-    /// asks nothing of the area.
+    /// Makes a call of a key that makes no cell and removes none, such as a get or a change of what is there. It may
+    /// wait for the lock of the key's partition, and costs one hash, one walk along a chain and one turn. It takes no
+    /// memory and asks nothing of the area.
     pub fn find<R: Wait>(
         &self,
         rt: &R,

@@ -16,7 +16,7 @@ use dshash_core::{CellObject, PARTITIONS, bucket_count};
 use region_words::Region;
 use std::sync::Wait;
 
-/// The partition of this number moves to this size, where it has a smaller one.
+/// The partition of this number moves to this size, if it has a smaller one.
 pub(crate) fn grow_one<R: Wait, O: CellObject + Send>(
     rt: &R,
     table: &Dshash<O>,

@@ -1,4 +1,4 @@
-//! What the history of a partition is made of. These types stand in the proofs alone: no value of them is made.
+//! What the history of a partition is made of. These types appear only in the proofs: no value of them is made.
 
 use dshash_core::CellObject;
 use region_words::Region;
@@ -55,6 +55,6 @@ pub enum PartitionReplies<S, R> {
     HasSize(u32, u64),
     /// The move was made, or was not needed any more; the bytes of the slice that was left over.
     Moved(u64),
-    /// The entries, where there was memory for them.
+    /// The entries, if there was memory for them.
     Listed(Option<LinkedList<(LinkedList<u64>, S)>>),
 }

@@ -1,5 +1,5 @@
 //! A key that goes with a call to a lock. What goes in there has no lifetime, so the key's words are copied, and no
-//! memory is taken for them: few where the key is short, so that few are written at each turn.
+//! memory is taken for them. A short key has room for few, so that few are written at each turn.
 
 ghost use Rattle.std.specs.Prelude.{◌≡◌, ◌≤◌, length};
 

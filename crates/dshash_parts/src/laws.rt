@@ -21,7 +21,7 @@ pub fn sizes_grow<S, C, R>()
     ensures { SizesGrow S C R }
 {}
 
-/// The calls of a key that belongs to a caller are, where others only read, those of that caller's cell: what it put is
+/// The calls of a key that belongs to a caller are, if others only read, those of that caller's cell: what it put is
 /// what it gets.
 pub fn owners_have_cells<O: CellObject>()
     ensures { OwnersHaveCells O.stepped O.may }
@@ -32,7 +32,7 @@ pub fn callers_make_all<S, C, R>()
     ensures { CallersMakeAll S C R }
 {}
 
-/// Where steps add up by a commutative monoid, as counters, sums, sets and greatest values do, the order of the callers
+/// If steps add up by a commutative monoid, as counters, sums, sets and greatest values do, the order of the callers
 /// doesn't matter: a cell's last value is what all of them added.
 pub fn cells_fold<S, C, R, M>()
     ensures { CellsFold S C R M }

@@ -1,14 +1,14 @@
-//! The shared hash table (dshash.c): 128 partitions, each behind a lock of its own, with items and bucket slices from a
-//! shared area.
+//! The shared hash table (dshash.c): 128 partitions, each with its own lock, with items and bucket slices from a shared
+//! area.
 //!
-//! A key belongs to the partition of its hash's top 7 bits. A call is made under that partition's lock. Where it lacks
-//! an item, or the partition has to grow first, it gives up the lock, gets what is lacking from the area, and begins
-//! again; each turn at a lock is an event of its own in the history of that partition (`specs/Legal.antt`). So the
-//! calls of a key are, in one history, those of one cell, while partitions move between any two of them (`laws`).
+//! A key belongs to the partition of its hash's top 7 bits. A call is made under that partition's lock. If it lacks an
+//! item, or the partition has to grow first, it gives up the lock, gets what is lacking from the area, and begins
+//! again; each turn at a lock is a separate event in the history of that partition (`specs/Legal.antt`). So the calls
+//! of a key are, in one history, those of one cell, while partitions move between any two of them (`laws`).
 //!
 //! `numbered` is the locked value, `turns` one event at it, `requests` one request to the area; `growing`, `calls`,
-//! `finding` and `taking` put these together. `trying` has the turns that will not wait. `open`, `close` and `listing` are
-//! how a table begins and ends, and how its entries are told.
+//! `finding` and `taking` put these together. `trying` has the turns that will not wait. `open` and `close` are how a
+//! table begins and ends, and `listing` lists its entries.
 
 #![tactic(auto)]
 

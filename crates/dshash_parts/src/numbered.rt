@@ -1,4 +1,4 @@
-//! A partition behind a lock.
+//! A partition under a lock.
 
 ghost use Rattle.std.specs.Prelude.{◌≡◌, ◌/◌, ◌≤◌};
 ghost use Rattle.std.specs.FinMap as fin;
@@ -57,7 +57,7 @@ where
 
     ghost out_fits = { AnswerFits };
 
-    // a partition can't tell whose keys it has: that they are its own follows from its history
+    // a partition doesn't know whose keys it has: that they are its own follows from its history
     ghost legal = { λ n caller before call reply after. AreOurs n.number before.cells → PartitionLegal O.stepped n.number before call reply after × MayTurn O.may caller call };
 
     #[inline(always)]
@@ -78,7 +78,7 @@ where
     }
 }
 
-/// Moves a partition to a size, where it has a smaller one. The slice that is left over.
+/// Moves a partition to a size, if it has a smaller one. Returns the slice that is left over.
 fn grow<O: CellObject>(partition: &mut Partition<O>, r: &Region, size: u32, slice: Chunk) -> Chunk
     requires here { (partition.old.region ≡ r.now) × (slice.part.region ≡ r.now) }
     requires size { size ≤ 20 }

@@ -55,7 +55,7 @@ fn give_slices<R: Wait>(
     }
 }
 
-/// 128 slices of one word. Where the area has too few, those that it gave go back.
+/// 128 slices of one word. If the area has too few, those that it gave go back.
 fn take_slices<R: Wait>(
     rt: &R,
     alloc: Global,
@@ -154,7 +154,7 @@ where
     }
 
     /// The same on 128 slices that the caller brings, of a word each at least, which are the table's from then on. It
-    /// waits for nobody and asks nothing of any area. Where there is no memory, the slices are dropped.
+    /// waits for nobody and asks nothing of any area. If there is no memory, the slices are dropped.
     pub fn on_slices(
         alloc: Global,
         r: &Region,

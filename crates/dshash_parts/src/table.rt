@@ -1,7 +1,7 @@
 //! The table and its passes.
 //!
-//! The words of a table change hands by tokens: those of a partition's slice and items are the partition's, which
-//! stands behind a lock, and a chunk that is on its way between a partition and the area is its caller's. `IsTable` of
+//! The words of a table change hands by tokens: those of a partition's slice and items are the partition's, which is
+//! under a lock, and a chunk that is on its way between a partition and the area is its caller's. `IsTable` of
 //! `specs/Tables.antt` says how the shelf of the partitions opened.
 
 use crate::numbered::Numbered;

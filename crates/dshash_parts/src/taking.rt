@@ -2,7 +2,7 @@
 //! list of keys.
 //!
 //! An entry is taken by a call of the object's, made of a key that the partition chooses. In the history that is a call
-//! of that key as any other, so the key's calls are those of one cell, whoever made them.
+//! of that key as any other, so the key's calls are those of one cell, whichever callers made them.
 
 ghost use Rattle.std.specs.Prelude.{◌≡◌, ℕ, ◌<◌, true, false, List, length, is_some, Some, IfOk, OnErr, IfNone, IfSome};
 ghost use Rattle.std.specs.FinMap as fin;
@@ -36,13 +36,13 @@ where
     O::Call: Send,
     O::Reply: Send,
 {
-    /// Takes an entry out of a partition, whichever comes next, by a call that removes whatever stands there: its key
-    /// and what the call replied. None where the partition has no key. Who takes so may make the call of each key of the
-    /// partition, so none of them is another caller's own.
+    /// Takes an entry out of a partition, whichever comes next, by a call that removes whatever is there: its key and
+    /// what the call replied. None if the partition has no key. A caller that takes so may make the call of each key of
+    /// the partition, so none of them is another caller's own.
     ///
     /// It may wait for the partition's lock, and for those of the area, with none of the table's in hand. It takes
-    /// memory for the key alone, and where there is none for it, nothing has happened. It goes on from the bucket where
-    /// the last entry was taken, over empty ones: draining a partition costs some steps for each entry and each bucket.
+    /// memory only for the key, and if there is none for it, nothing has happened. It goes on from the bucket where the
+    /// last entry was taken, over empty ones: draining a partition costs some steps for each entry and each bucket.
     pub fn take_any<R: Wait>(
         &self,
         rt: &R,
@@ -86,8 +86,8 @@ where
         }
     }
 
-    /// As `take_any`, and hands the entry's item out with it, where that gives it to the area: the caller may keep it as
-    /// its spare one (`call_with_spare`). It asks nothing of the area.
+    /// As `take_any`, but hands the entry's item out with it, which `take_any` gives to the area: the caller may keep
+    /// it as its spare one (`call_with_spare`). It asks nothing of the area.
     pub fn take_out<R: Wait>(
         &self,
         rt: &R,

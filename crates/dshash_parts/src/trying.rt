@@ -1,8 +1,8 @@
 //! Calls that will not wait: each is one turn at its partition, made at once or not at all.
 //!
-//! Who tries brings what the turn may lack, an item for a new key or a slice for a move, so a try asks nothing of any
-//! area. Where another caller has the partition, what was brought comes back, nothing was done, and the pass counts a miss
-//! (`lock_book`'s `misses_of`): a call that gives up of itself has counted none.
+//! A caller that tries brings what the turn may lack, an item for a new key or a slice for a move, so a try asks
+//! nothing of any area. If another caller has the partition, what was brought comes back, nothing was done, and the
+//! pass counts a miss (`lock_book`'s `misses_of`): a call that gives up by itself has counted none.
 
 ghost use Rattle.std.specs.Prelude.{◌≡◌, ℕ, ◌/◌, ◌<◌, ◌≤◌, false, List, length, is_some, None, IfSome, IfOk, IfErr, OnOk, OnErr};
 ghost use Rattle.lock_book.specs.Shown.{Missed, misses_of, number_of, seen_of, mine_of};
@@ -61,9 +61,9 @@ where
     O::Call: Send,
     O::Reply: Send,
 {
-    /// Makes a call of a key at once, with a spare item or without: a chunk of as many bytes as the area grants for an
-    /// item of this table. What became of it is told as a partition tells it: it was made; or it lacks an item, or the
-    /// partition has to grow first (`try_grow`), and then the table is as it was. Where another caller has the key's
+    /// Makes a call of a key at once, with a spare item or without: a chunk with the number of bytes that the area
+    /// grants for an item of this table. It answers as a partition does: the call was made; or it lacks an item, or the
+    /// partition has to grow first (`try_grow`), and then the table is as it was. If another caller has the key's
     /// partition, the spare comes back. It costs one hash, one walk along a chain and one turn, and takes no memory.
     pub fn try_call(
         &self,
@@ -99,7 +99,7 @@ where
         }
     }
 
-    /// As `find` at once, or not where another caller has the key's partition.
+    /// As `find` at once, or not if another caller has the key's partition.
     pub fn try_find(
         &self,
         r: &Region,
@@ -130,9 +130,9 @@ where
         }
     }
 
-    /// Moves the partition of this number to a larger slice at once. The slice that is left over: the former one, or the
-    /// one that was brought where the partition has that size already. Where another caller has the partition, the slice
-    /// comes back. It costs a step for each key of the partition, and takes no memory.
+    /// Moves the partition of this number to a larger slice at once. Returns the slice that is left over: the former
+    /// one, or the one that was brought if the partition has that size already. If another caller has the partition,
+    /// the slice comes back. It costs a step for each key of the partition, and takes no memory.
     pub fn try_grow(
         &self,
         r: &Region,

@@ -88,7 +88,7 @@ where
     }
 }
 
-/// A partition moves to a larger slice. The slice that is left over.
+/// A partition moves to a larger slice. Returns the slice that is left over.
 pub(crate) fn grow_at<R: Wait, O: CellObject + Send>(
     rt: &R,
     table: &Dshash<O>,
@@ -121,7 +121,7 @@ where
     }
 }
 
-/// An entry is taken out of a partition, whichever comes next. Where there is none, the turn was a look.
+/// An entry is taken out of a partition, whichever comes next. If there is none, the turn was a look.
 pub(crate) fn take_turn<R: Wait, O: CellObject + Send>(
     rt: &R,
     table: &Dshash<O>,
