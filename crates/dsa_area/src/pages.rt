@@ -34,7 +34,7 @@ pub(crate) enum PagesAsk {
 pub(crate) enum PagesAnswer {
     /// The run.
     Granted(Run),
-    /// There are not as many pages in a row.
+    /// There are fewer free pages in a row.
     Refused(NoRun),
     /// The run was taken back.
     Returned,

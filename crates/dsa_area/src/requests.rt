@@ -16,7 +16,7 @@ use region_words::{Chunk, Region};
 use size_classes::{class_of, class_with};
 use std::sync::Wait;
 
-/// There are not as many pages in a row that are not granted.
+/// There are fewer free pages in a row than are needed.
 #[derive(Drop)]
 pub struct NoSpace {
     /// The pages that were wanted: 16 for an object, else those of the request.

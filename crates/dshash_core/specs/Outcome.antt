@@ -1,6 +1,5 @@
 -- What calls of a partition answer, and what they make of its map: the steps of dshash.c's find, find_or_insert and
--- delete in one. Each relation is over plain data, so that a history of a partition behind a lock can be stated by
--- them.
+-- delete in one. Each relation is over plain data, so that a history of a partition under a lock can be stated by them.
 use Rattle.std.specs.Prelude.{◌≡◌, ℕ, ◌<◌, ◌≤◌, Bool, true, false, not, ◌&&◌, nat_lt, List, length, Option, Some, None, is_some, is_none, IfSome}
 use Rattle.std.specs.FinMap as fin
 use Rattle.atomic_table.specs.Seated.{TableId}

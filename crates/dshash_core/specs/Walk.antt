@@ -4,7 +4,8 @@ use Rattle.word_map.specs.WordMap.{WordMap, at}
 use Rattle.dshash_core.specs.Key.{hash_of}
 use Rattle.dshash_core.specs.Chains.{word, words_at, most_words, places, Among, link_behind}
 
--- a walk can compare the item at a with keys of that many words: the map has its words, and its hash is that of its key
+-- a walk can compare the item at a with keys of `key_words` words: the map has its words, and its hash is that of its
+-- key
 pub record IsReadable (m : WordMap) (key_words a : ℕ) : Type 0 where
   pub owned : (k : ℕ) → a ≤ k → k < a + (2 + key_words) → IsSome (at m k)
   pub hashed : word m (a + 1) ≡ hash_of (words_at (word m) (a + 2) key_words)

@@ -19,8 +19,8 @@ use region_words::{Part, Region, Run};
 use rel_pointer::RelPtr;
 use std::marker::Model;
 
-/// There are not as many pages in a row that are not granted: the pages that were wanted, and those of the longest run
-/// that is free.
+/// There are fewer free pages in a row than were wanted: the pages that were wanted, and those of the longest run that
+/// is free.
 #[derive(Drop)]
 pub struct NoRun {
     /// The pages that were wanted.

@@ -104,7 +104,7 @@ impl Run {
     }
 }
 
-/// Tells that words of a part that lie in a row are at most 2^26. It does nothing.
+/// Tells that a part whose words lie in a row has at most 2^26 of them. It does nothing.
 fn few_words(part: &Part, at: u64, words: u64)
     requires { HasJust part.now.words at words }
     ensures { words ≤ 2 ^ 26 }
