@@ -44,7 +44,7 @@ pub(crate) enum PoolAnswer {
     FreedMany(Vec<Chunk>),
     /// The same, and the superblock of the last of them goes out.
     EmptiedMany(Vec<Chunk>, Run),
-    /// The same, but that the last of them is none of the pool's.
+    /// The same, except that the last of them is none of the pool's.
     NotAllOurs(Vec<Chunk>, Chunk),
 }
 

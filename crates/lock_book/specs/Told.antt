@@ -12,7 +12,7 @@ Histories S C R = ℕ → List (Entry S C R)
 
 module _ {N S C R : Type 0} (legal : N → ℕ → S → C → R → S → Type 0) (opens : List (N × S)) where
   -- What is always true of a pass with the number n: what it has seen is legal, its own calls are there in order, each
-  -- once, and no caller but those of the shelf has a call there
+  -- once, and no caller that is not one of the shelf's has a call there
   pub record IsPass (callers n : ℕ) (seen mine : Histories S C R) : Type 0 where
     pub below : n < callers
     pub lawful : (i : ℕ) (o : N × S) → get_elem? opens i ≡ some o → IsLegal (legal o.0) o.1 (seen i)

@@ -95,7 +95,7 @@ pub fn home(s: Sender, q: Receiver, r: &Region) -> MqDone
 
 impl MqDone {
     /// Tells that what was received is a beginning of what was sent, and all of it if the receiver was answered
-    /// Detached, as holds of the ends of a queue that came home. It does nothing.
+    /// Detached. It does nothing.
     pub fn is_sound(&self)
         ensures sound { AreEnds self.now.sender self.now.receiver }
         ensures beginning { (rest : List (List ℕ)) × (whole_of self.now.sender.put ≡ whole_of self.now.receiver.taken ++ rest) }

@@ -83,7 +83,7 @@ impl RingRx {
         word
     }
 
-    /// Stores the read count: the cells of all that was taken may be stored anew.
+    /// Stores the read count: the cells of all that was taken may be used again.
     pub fn publish_read(&mut self, r: &Region)
         requires here { self.old.region ≡ r.now }
         requires stays { self.old.end.gone ≡ false }

@@ -27,7 +27,7 @@ pub enum BarrierCall {
 pub enum BarrierReply {
     /// The caller takes part from this phase on.
     Attached(u64),
-    /// Somebody has still to arrive.
+    /// Another caller has yet to arrive.
     Waiting,
     /// A phase ended since the caller arrived; whether the caller was elected.
     Released(u64, bool),

@@ -165,12 +165,12 @@ abbrev pub AreFreed : Layout → PoolState → List ℕ → PoolState → Type 0
 AreFreed l before [] after = after ≡ before
 AreFreed l before (at ∷ ats) after = (mid : PoolState) × AreFreed l before ats mid × IsFreed l mid at (8 * l.size) after
 
--- the same, but that a superblock goes out with the first of the list, which comes back after all others
+-- the same, except that a superblock goes out with the first of the list, which comes back after all others
 abbrev pub EndsEmptied : Layout → PoolState → List ℕ → ℕ → PoolState → Type 0
 EndsEmptied l before [] run after = ⊥
 EndsEmptied l before (at ∷ ats) run after = (mid : PoolState) × AreFreed l before ats mid × IsEmptied l mid at (8 * l.size) run after
 
--- the same, but that the first of the list is handed back
+-- the same, except that the first of the list is handed back
 abbrev pub EndsStrange : Layout → PoolState → List ℕ → PoolState → Type 0
 EndsStrange l before [] after = ⊥
 EndsStrange l before (at ∷ ats) after = (mid : PoolState) × AreFreed l before ats mid × IsStranger l mid at (8 * l.size) after
