@@ -4,7 +4,8 @@
 //! longer than the ring: a try that finds the ring full has stored a part, and the caller repeats the call with the
 //! same message. `try_send_whole` stores a message whole or not at all. The sender publishes what it put in three
 //! cases: at the end of a message, if that is asked for or more than a quarter of the ring is unpublished; before it
-//! answers that it would block; and before it sets the flag. The receiver gives room back by the same rule. Each call
+//! answers that it would block; and before it sets the flag. The receiver gives room back in two: at the end of a
+//! message, if more than a quarter of the ring was not given back; and before it answers that it would block. Each call
 //! is a row of steps on the ring's words, and `mq_ring` says who may make them: only the sender stores the cells and
 //! the written count, only the receiver stores the read count, and each sets the flag as its last step. The ring's ends
 //! hold no list of messages; `specs/Messages.antt` reads it off the words (`whole_of`).

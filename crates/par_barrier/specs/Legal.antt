@@ -26,7 +26,7 @@ module _ (n : ℕ) (s : BarrierState) (r : BarrierReply) (t : BarrierState) wher
     pub waits : is_among n s.attached ≡ true → is_among n s.arrived ≡ false → are_among s.attached (s.arrived ++ n ∷ []) ≡ false → (r ≡ Waiting) × (t ≡ with_arrival n s)
     pub ends : is_among n s.attached ≡ true → is_among n s.arrived ≡ false → are_among s.attached (s.arrived ++ n ∷ []) ≡ true → (r ≡ Released (next_phase s.phase) true) × (t ≡ ended n s)
 
-  -- one look of its wait: a caller that has arrived waits until the phase ends, any other is answered the phase
+  -- one look of its wait: a caller that has arrived waits until the phase ends; any other gets the phase as its answer
   pub record Looks : Type 0 where
     pub same : t ≡ s
     pub absent : is_among n s.attached ≡ false → r ≡ NotIn s.phase
