@@ -5,15 +5,14 @@ use Rattle.std.proofs.lemmas.Option.{IfSome_then}
 use Rattle.answer_text.specs.declared.status.TheConstants.{NO_MEMORY, READ_FAULT, WRITE_FAULT}
 use Rattle.par_gather.specs.Answers.{Answers, IsStatus}
 use Rattle.par_gather.specs.Query.{Query, OfTable, OfJoin, OfGen, IsMisuse, input_of}
-use Rattle.par_gather.specs.declared.Ran.{Ran}
 
 always : (left : Option (List ℕ)) (P : List ℕ → Type 0) → ((bytes : List ℕ) → P bytes) → IfSome left P
 always None P is = tt
 always (Some bytes) P is = is bytes
 
-pub complete : (query : Query) (left : Option (List ℕ)) (status : ℕ) (ran : Option Ran) (old new : Option (List ℕ)) → Answers query left status ran old new → (status ≢ READ_FAULT) → (status ≢ WRITE_FAULT)
+pub complete : (query : Query) (left : Option (List ℕ)) (status : ℕ) (old new : Option (List ℕ)) → Answers query left status old new → (status ≢ READ_FAULT) → (status ≢ WRITE_FAULT)
     → IfSome (input_of query left) (λ bytes. (status ≡ NO_MEMORY) ⊎ IsStatus query bytes status)
-complete query left status ran old new answers read write =
+complete query left status old new answers read write =
     let P : List ℕ → Type 0 = λ bytes. (status ≡ NO_MEMORY) ⊎ IsStatus query bytes status in
     elim (eqb_tells status 5) [
       | inl memory ↦ always (input_of query left) P (λ bytes. inl memory.1)

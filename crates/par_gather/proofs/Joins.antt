@@ -12,9 +12,9 @@ use Rattle.join_query.specs.Used.{IsJoinBy}
 use Rattle.join_query.specs.Words.{Asked}
 use Rattle.par_model.specs.Table.{table_text}
 use Rattle.answer_text.specs.declared.status.TheConstants.{MISUSED, TABLE, WRITE_FAULT}
-use Rattle.par_gather.specs.Answers.{Answers, IsLine, IsText}
+use Rattle.par_gather.specs.Answers.{IsLine, IsText}
 use Rattle.par_gather.specs.Query.{OfJoin}
-use Rattle.par_gather.specs.Runs.{IsRun}
+use Rattle.par_gather.specs.Runs.{AnswersBy, IsRun}
 use Rattle.par_gather.specs.declared.Ran.{Ran}
 use Rattle.par_gather.specs.declared.Ran.TheVariants as ran
 
@@ -27,23 +27,29 @@ module _ (asked : Option Asked) (left old new : Option (List ℕ)) where
 
   pub answered : (j : Joined) → (IsNoFault TABLE → IfSome left (λ bytes. IsStatus asked bytes TABLE)) → (IsNone asked → TABLE ≡ MISUSED)
       → IfSome left (λ bytes. (records : Table) × IsOutcome asked bytes (Joins records) × Appends old new (table_text records)) → IfSome left (λ bytes. IsJoinBy asked bytes j)
-      → Answers (OfJoin asked) left TABLE (Some (ran.Join j)) old new
+      → AnswersBy (OfJoin asked) left TABLE (Some (ran.Join j)) old new
   answered j outcome misuse records by = record {
-    outcome = outcome;
-    misuse = misuse;
-    whole = λ _. whole left j records by;
-    part = λ e. cc e;
+    answers = record {
+      outcome = outcome;
+      misuse = misuse;
+      whole = λ _. IfSome_then left (whole left j records by) (λ bytes t. (t.0, t.1, t.3));
+      part = λ e. cc e;
+    };
+    made = λ _. whole left j records by;
   }
 
   -- an end with another status
   pub stopped : (status : ℕ) (told : Option Ran) → status ≢ TABLE → (IsNoFault status → IfSome left (λ bytes. IsStatus asked bytes status)) → (IsNone asked → status ≡ MISUSED)
       → (status ≡ WRITE_FAULT → IfSome left (λ bytes. (records : Table) × IsOutcome asked bytes (Joins records) × (n : ℕ) × Appends old new (take n (table_text records))))
-      → Answers (OfJoin asked) left status told old new
+      → AnswersBy (OfJoin asked) left status told old new
   stopped status told failed outcome misuse part = record {
-    outcome = outcome;
-    misuse = misuse;
-    whole = λ is. absurd (failed is);
-    part = λ is. IfSome_then left (part is) (λ bytes records. (table_text records.0, (records.0, records.1, refl), records.2, records.3));
+    answers = record {
+      outcome = outcome;
+      misuse = misuse;
+      whole = λ is. absurd (failed is);
+      part = λ is. IfSome_then left (part is) (λ bytes records. (table_text records.0, (records.0, records.1, refl), records.2, records.3));
+    };
+    made = λ is. absurd (failed is);
   }
 
 -- a line

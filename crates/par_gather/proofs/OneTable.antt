@@ -16,9 +16,9 @@ use Rattle.table_query.specs.declared.stop.Stop.TheVariants as stop
 use Rattle.table_query.specs.declared.wanted.Wanted.{Wanted}
 use Rattle.table_query.specs.declared.wanted.Wanted.TheVariants.{Groups, Order}
 use Rattle.table_query.proofs.Statuses.{is_write_fault, line_first, line_outcome, never_table, outcome_told}
-use Rattle.par_gather.specs.Answers.{Answers, IsLine, IsText}
+use Rattle.par_gather.specs.Answers.{IsLine, IsText}
 use Rattle.par_gather.specs.Query.{OfTable}
-use Rattle.par_gather.specs.Runs.{IsRun}
+use Rattle.par_gather.specs.Runs.{AnswersBy, IsRun}
 use Rattle.par_gather.specs.declared.Ran.{Ran}
 
 -- where there is a text, the outcome is a table
@@ -33,12 +33,15 @@ module _ (wanted : Wanted) (query : Option Query) (left : Option (List ℕ)) (ra
 
   -- an end with a text
   pub answered : (IsNone (plan_in query) → ⊥) → IfSome left (λ bytes. (text : List ℕ) × IsText (OfTable wanted query) bytes text × IsRun (OfTable wanted query) bytes text ran × Appends old new text)
-      → Answers (OfTable wanted query) left TABLE ran old new
+      → AnswersBy (OfTable wanted query) left TABLE ran old new
   answered right is = record {
-    outcome = λ _. told is;
-    misuse = λ none. absurd (right none);
-    whole = λ _. is;
-    part = λ e. cc e;
+    answers = record {
+      outcome = λ _. told is;
+      misuse = λ none. absurd (right none);
+      whole = λ _. IfSome_then left is (λ bytes t. (t.0, t.1, t.3));
+      part = λ e. cc e;
+    };
+    made = λ _. is;
   }
 
 module _ (wanted : Wanted) (query : Option Query) (left : Option (List ℕ)) (why : Stop) (explained : IsExplained (plan_in query) left why)
@@ -46,12 +49,15 @@ module _ (wanted : Wanted) (query : Option Query) (left : Option (List ℕ)) (wh
   -- an end for a reason
   pub stopped : (ran : Option Ran) (old new : Option (List ℕ))
       → (why ≡ stop.WriteFault → IfSome left (λ bytes. (text : List ℕ) × IsText (OfTable wanted query) bytes text × (n : ℕ) × Appends old new (take n text)))
-      → Answers (OfTable wanted query) left (stop_status why) ran old new
+      → AnswersBy (OfTable wanted query) left (stop_status why) ran old new
   stopped ran old new part = record {
-    outcome = λ (fine : IsNoFault (stop_status why)). IfSome_then left (outcome_told (plan_in query) left why (stop_status why) explained refl) (λ bytes is. is fine.read fine.write fine.memory);
-    misuse = λ none. elim (no_plan none) [ inl usage ↦ inl (ap stop_status usage) | inr memory ↦ inr (ap stop_status memory) ];
-    whole = λ is. absurd (never_table why is);
-    part = λ is. part (is_write_fault why is);
+    answers = record {
+      outcome = λ (fine : IsNoFault (stop_status why)). IfSome_then left (outcome_told (plan_in query) left why (stop_status why) explained refl) (λ bytes is. is fine.read fine.write fine.memory);
+      misuse = λ none. elim (no_plan none) [ inl usage ↦ inl (ap stop_status usage) | inr memory ↦ inr (ap stop_status memory) ];
+      whole = λ is. absurd (never_table why is);
+      part = λ is. part (is_write_fault why is);
+    };
+    made = λ is. absurd (never_table why is);
   }
 
   wrong_words : IsNone (plan_in query) → stop_status why ≡ MISUSED → line (stop_text wanted why) ≡ line (stop_text wanted stop.Usage)

@@ -13,7 +13,8 @@ use Rattle.answer_text.specs.declared.status.TheConstants.{MISUSED, READ_FAULT, 
 use Rattle.table_query.specs.Asked.{usage_text}
 use Rattle.table_query.specs.Stops.{stop_status, stop_text}
 use Rattle.table_query.specs.declared.wanted.Wanted.TheVariants.{Groups}
-use Rattle.par_gather.specs.Answers.{Answers, IsLine, IsStatus, gen_text, stop_of_gen}
+use Rattle.par_gather.specs.Answers.{IsLine, IsStatus, gen_text, stop_of_gen}
+use Rattle.par_gather.specs.Runs.{AnswersBy}
 use Rattle.par_gather.specs.Query.{OfGen}
 use Rattle.par_gather.specs.declared.Ran.{Ran}
 use Rattle.par_gather.specs.declared.Ran.TheVariants as ran
@@ -41,12 +42,15 @@ failed why is e = ap Err e
 
 module _ (asked : Option Asked) (left old new : Option (List ℕ)) where
   -- an end with a text
-  pub answered : (g : Gathered) → (IsNone asked → ⊥) → IsAnswered asked old new → IsGatheredBy asked g → Answers (OfGen asked) left TABLE (Some (ran.Gather g)) old new
+  pub answered : (g : Gathered) → (IsNone asked → ⊥) → IsAnswered asked old new → IsGatheredBy asked g → AnswersBy (OfGen asked) left TABLE (Some (ran.Gather g)) old new
   answered g some text by = record {
-    outcome = λ _. right asked [] some;
-    misuse = λ none. absurd (some none);
-    whole = λ _. (text.0, text.1, by, text.2);
-    part = λ e. cc e;
+    answers = record {
+      outcome = λ _. right asked [] some;
+      misuse = λ none. absurd (some none);
+      whole = λ _. (text.0, text.1, text.2);
+      part = λ e. cc e;
+    };
+    made = λ _. (text.0, text.1, by, text.2);
   }
 
   outcome : (why : GenAnswer) → (why ≡ generating.Usage → IsNone asked) → IsNoFault (stop_status (stop_of_gen why)) → IsStatus (OfGen asked) [] (stop_status (stop_of_gen why))
@@ -61,12 +65,15 @@ module _ (asked : Option Asked) (left old new : Option (List ℕ)) where
 
   -- an end for a reason
   pub stopped : (why : GenAnswer) (told : Option Ran) → (why ≡ generating.Usage → IsNone asked) → (IsNone asked → why ≡ generating.Usage) → (why ≡ generating.WriteFault → IsBegun asked old new)
-      → Answers (OfGen asked) left (stop_status (stop_of_gen why)) told old new
+      → AnswersBy (OfGen asked) left (stop_status (stop_of_gen why)) told old new
   stopped why told none usage part = record {
-    outcome = outcome why none;
-    misuse = λ n. ap (λ (w : GenAnswer). stop_status (stop_of_gen w)) (usage n);
-    whole = λ is. absurd (never_table why is);
-    part = λ is. part (is_write_fault why is);
+    answers = record {
+      outcome = outcome why none;
+      misuse = λ n. ap (λ (w : GenAnswer). stop_status (stop_of_gen w)) (usage n);
+      whole = λ is. absurd (never_table why is);
+      part = λ is. part (is_write_fault why is);
+    };
+    made = λ is. absurd (never_table why is);
   }
 
 pub never_read : (why : GenAnswer) → stop_status (stop_of_gen why) ≢ READ_FAULT

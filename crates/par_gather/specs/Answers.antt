@@ -1,4 +1,4 @@
--- What it is to answer a query: the status, what `out` and `err` receive, and what is said of the run.
+-- What it is to answer a query: the status, and what `out` and `err` receive.
 use Rattle.std.specs.Prelude.{◌≡◌, ◌==◌, ℕ, List, Option, None, Some, IfSome, codes, if◌then◌else◌, take, ⊤}
 use Rattle.std.specs.Io.KnownBytes.{Appends}
 use Rattle.gen_query.specs.Summary.{IsSummaryBy}
@@ -23,8 +23,6 @@ use Rattle.table_query.specs.declared.stop.Stop.{Stop}
 use Rattle.table_query.specs.declared.stop.Stop.TheVariants as stop
 use Rattle.table_query.specs.declared.wanted.Wanted.TheVariants.{Groups, Order}
 use Rattle.par_gather.specs.Query.{Query, OfTable, OfJoin, OfGen, IsMisuse, IsWrong, input_of, usage_of}
-use Rattle.par_gather.specs.Runs.{IsRun}
-use Rattle.par_gather.specs.declared.Ran.{Ran}
 
 -- ---- the status and the text
 
@@ -47,13 +45,13 @@ IsText (OfTable Order query) bytes text = IsOrderText (plan_in query) bytes text
 IsText (OfJoin words) bytes text = IsJoinText words bytes text
 IsText (OfGen words) bytes text = IsSummaryBy words text
 
--- A call answers a query, over what its source had left, by a status, by what is said of its run, and by what its sink
--- was given up to then and now: a status that reports no fault is that of the outcome; wrong words are misuse; on 0 the
--- sink was given the text, made as is said; and if a write failed a prefix of it
-pub record Answers (query : Query) (left : Option (List ℕ)) (status : ℕ) (ran : Option Ran) (old new : Option (List ℕ)) : Type 0 where
+-- A call answers a query, over what its source had left, by a status and by what its sink was given up to then and now:
+-- a status that reports no fault is that of the outcome; wrong words are misuse; on 0 the sink was given the text; and if
+-- a write failed a prefix of it
+pub record Answers (query : Query) (left : Option (List ℕ)) (status : ℕ) (old new : Option (List ℕ)) : Type 0 where
   pub outcome : IsNoFault status → IfSome (input_of query left) (λ bytes. IsStatus query bytes status)
   pub misuse : IsWrong query → IsMisuse query status
-  pub whole : status ≡ TABLE → IfSome (input_of query left) (λ bytes. (text : List ℕ) × IsText query bytes text × IsRun query bytes text ran × Appends old new text)
+  pub whole : status ≡ TABLE → IfSome (input_of query left) (λ bytes. (text : List ℕ) × IsText query bytes text × Appends old new text)
   pub part : status ≡ WRITE_FAULT → IfSome (input_of query left) (λ bytes. (text : List ℕ) × IsText query bytes text × (n : ℕ) × Appends old new (take n text))
 
 -- ---- the line

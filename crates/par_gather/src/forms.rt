@@ -11,7 +11,8 @@ ghost use Rattle.plan_spec.specs.Query.{query_of};
 ghost use Rattle.answer_text.specs.Lines.{IsSaid, statuses};
 ghost use Rattle.answer_text.specs.Words.{texts};
 ghost use Rattle.table_query.specs.declared.wanted.Wanted.TheVariants.{Groups, Order};
-ghost use Rattle.par_gather.specs.Answers.{Answers, IsLine, stop_of_gen};
+ghost use Rattle.par_gather.specs.Answers.{IsLine, stop_of_gen};
+ghost use Rattle.par_gather.specs.Runs.{AnswersBy};
 ghost use Rattle.par_gather.specs.Query.{OfTable, OfJoin, OfGen};
 
 use crate::Ran;
@@ -44,7 +45,7 @@ pub(crate) fn in_plan<R: Threads + Wait + Sync, S: Source, O: Sink, E: Sink, G: 
     ensures write_fault { result ≡ WRITE_FAULT → Rose (O.faults out.old) (O.faults out.new) }
     ensures quiet { result ≡ TABLE → err.new ≡ err.old }
     ensures none { (result ≢ TABLE) → ran.new ≡ ran.old }
-    ensures answers { Answers (OfTable Groups (query_of (texts words.now))) (S.left source.old) result ran.new (O.taken out.old) (O.taken out.new) }
+    ensures answers { AnswersBy (OfTable Groups (query_of (texts words.now))) (S.left source.old) result ran.new (O.taken out.old) (O.taken out.new) }
     ensures unread { IsNone (plan_of (texts words.now)) → source.new ≡ source.old }
     ensures line { (result ≢ TABLE) → (said : List ℕ) × IsLine (OfTable Groups (query_of (texts words.now))) (S.left source.old) result said
         × IsSaid (E.taken err.old) (E.taken err.new) (E.faults err.old) (E.faults err.new) said }
@@ -75,7 +76,7 @@ pub(crate) fn in_merge<R: Threads + Wait + Sync, S: Source, O: Sink, E: Sink, G:
     ensures write_fault { result ≡ WRITE_FAULT → Rose (O.faults out.old) (O.faults out.new) }
     ensures quiet { result ≡ TABLE → err.new ≡ err.old }
     ensures none { (result ≢ TABLE) → ran.new ≡ ran.old }
-    ensures answers { Answers (OfTable Order (merge_of (texts words.now))) (S.left source.old) result ran.new (O.taken out.old) (O.taken out.new) }
+    ensures answers { AnswersBy (OfTable Order (merge_of (texts words.now))) (S.left source.old) result ran.new (O.taken out.old) (O.taken out.new) }
     ensures unread { IsNone (merge_plan_of (texts words.now)) → source.new ≡ source.old }
     ensures line { (result ≢ TABLE) → (said : List ℕ) × IsLine (OfTable Order (merge_of (texts words.now))) (S.left source.old) result said
         × IsSaid (E.taken err.old) (E.taken err.new) (E.faults err.old) (E.faults err.new) said }
@@ -105,7 +106,7 @@ pub(crate) fn in_join<R: Threads + Wait + Sync, S: Source, O: Sink, E: Sink>(
     ensures write_fault { result ≡ WRITE_FAULT → Rose (O.faults out.old) (O.faults out.new) }
     ensures quiet { result ≡ TABLE → err.new ≡ err.old }
     ensures none { (result ≢ TABLE) → ran.new ≡ ran.old }
-    ensures answers { Answers (OfJoin (join_of (texts words.now))) (S.left source.old) result ran.new (O.taken out.old) (O.taken out.new) }
+    ensures answers { AnswersBy (OfJoin (join_of (texts words.now))) (S.left source.old) result ran.new (O.taken out.old) (O.taken out.new) }
     ensures unread { IsNone (join_of (texts words.now)) → source.new ≡ source.old }
     ensures line { (result ≢ TABLE) → (said : List ℕ) × IsLine (OfJoin (join_of (texts words.now))) (S.left source.old) result said
         × IsSaid (E.taken err.old) (E.taken err.new) (E.faults err.old) (E.faults err.new) said }
@@ -135,7 +136,7 @@ pub(crate) fn in_gen<R: Threads + Wait + Sync, O: Sink, E: Sink, G: Gate + Sync>
     ensures write_fault { result ≡ WRITE_FAULT → Rose (O.faults out.old) (O.faults out.new) }
     ensures quiet { result ≡ TABLE → err.new ≡ err.old }
     ensures none { (result ≢ TABLE) → ran.new ≡ ran.old }
-    ensures answers { (left : Option (List ℕ)) → Answers (OfGen (gen_of (texts words.now))) left result ran.new (O.taken out.old) (O.taken out.new) }
+    ensures answers { (left : Option (List ℕ)) → AnswersBy (OfGen (gen_of (texts words.now))) left result ran.new (O.taken out.old) (O.taken out.new) }
     ensures line { (result ≢ TABLE) → (left : Option (List ℕ)) → (said : List ℕ) × IsLine (OfGen (gen_of (texts words.now))) left result said
         × IsSaid (E.taken err.old) (E.taken err.new) (E.faults err.old) (E.faults err.new) said }
 {

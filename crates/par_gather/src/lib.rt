@@ -6,7 +6,7 @@
 //! rows, and the writing. The first that holds ends it. Only a whole table is written to `out`, or all rows; one place
 //! writes the line on `err`, and what becomes of that line changes no status. What a form of the words comes to is the
 //! business of the crates below; here the first word chooses one (`query_of`), and each is shown to answer its query
-//! (`Answers`).
+//! (`AnswersBy`).
 
 #![tactic(auto)]
 
@@ -16,7 +16,7 @@ ghost use Rattle.answer_text.specs.Lines.{IsSaid, line, statuses};
 ghost use Rattle.answer_text.specs.Words.{texts};
 ghost use Rattle.par_gather.specs.Answers.{Answers, IsLine, IsStatus};
 ghost use Rattle.par_gather.specs.Query.{ReadsNothing, input_of, query_of, usage_of};
-ghost use Rattle.par_gather.specs.declared.Ran.{Ran};
+ghost use Rattle.par_gather.specs.Runs.{IsMade};
 
 mod form;
 mod forms;
@@ -83,9 +83,12 @@ pub fn pargather<R: Threads + Wait + Sync, S: Source, O: Sink, E: Sink, G: Gate 
     ensures quiet { result ≡ TABLE → err.new ≡ err.old }
     ensures none { (result ≢ TABLE) → ran.new ≡ None }
 
-    // The call answers what the words ask for: its status is that of the outcome, on 0 `out` receives the text, made as
-    // `ran` says, and on 4 a prefix of it.
-    ensures answers { Answers (query_of (texts words.now)) (S.left source.old) result ran.new (O.taken out.old) (O.taken out.new) }
+    // The call answers what the words ask for: its status is that of the outcome, on 0 `out` receives the text, and on 4
+    // a prefix of it.
+    ensures answers { Answers (query_of (texts words.now)) (S.left source.old) result (O.taken out.old) (O.taken out.new) }
+
+    // On 0 `ran` says how that text was made.
+    ensures made { result ≡ TABLE → IsMade (query_of (texts words.now)) (S.left source.old) ran.new (O.taken out.old) (O.taken out.new) }
 
     // If no fault came in this call, the status is that of the outcome, or there was no memory.
     ensures complete { ¬ Rose (S.faults source.old) (S.faults source.new) → ¬ Rose (O.faults out.old) (O.faults out.new)
@@ -123,7 +126,7 @@ pub fn answer<R: Threads + Wait + Sync, S: Source, O: Sink, E: Sink>(
     ensures read_fault { result ≡ READ_FAULT → Rose (S.faults source.old) (S.faults source.new) }
     ensures write_fault { result ≡ WRITE_FAULT → Rose (O.faults out.old) (O.faults out.new) }
     ensures quiet { result ≡ TABLE → err.new ≡ err.old }
-    ensures answers { (ran : Option Ran) × Answers (query_of (texts words.now)) (S.left source.old) result ran (O.taken out.old) (O.taken out.new) }
+    ensures answers { Answers (query_of (texts words.now)) (S.left source.old) result (O.taken out.old) (O.taken out.new) }
     ensures complete { ¬ Rose (S.faults source.old) (S.faults source.new) → ¬ Rose (O.faults out.old) (O.faults out.new)
         → IfSome (input_of (query_of (texts words.now)) (S.left source.old)) (λ bytes. (result ≡ NO_MEMORY) ⊎ IsStatus (query_of (texts words.now)) bytes result) }
     ensures unread { ReadsNothing (query_of (texts words.now)) → (source.new ≡ source.old) × (result ≢ READ_FAULT) }

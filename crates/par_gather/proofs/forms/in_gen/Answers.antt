@@ -8,8 +8,9 @@ use Rattle.table_query.specs.Stops.{stop_status, stop_text}
 use Rattle.table_query.specs.declared.stop.Stop.{Stop}
 use Rattle.table_query.specs.declared.wanted.Wanted.TheVariants.{Groups}
 use Rattle.table_query.proofs.Statuses.{is_status}
-use Rattle.par_gather.specs.Answers.{Answers, IsLine, stop_of_gen}
+use Rattle.par_gather.specs.Answers.{IsLine, stop_of_gen}
 use Rattle.par_gather.specs.Query.{OfGen}
+use Rattle.par_gather.specs.Runs.{AnswersBy}
 use Rattle.par_gather.proofs.Rows.{answered, failed, is_write_fault, never_read, said, stopped}
 use Rattle.par_gather.proofs.forms.in_gen.Goals as goal
 
@@ -44,7 +45,7 @@ returns-in-Err-clause-answers g c = λ left.
     let new = g.O.Sink.taken c.answer_generated.new.out in
     let why = c.in-Err.why in
     let status : c.end.result ≡ stop_status (stop_of_gen why) = c.end.ensures.status ∙ ap stop_status c.stop_of.ensures in
-    let P : ℕ → Type 0 = λ n. Answers (OfGen asked) left n c.args.ran.now old new in
+    let P : ℕ → Type 0 = λ n. AnswersBy (OfGen asked) left n c.args.ran.now old new in
     subst P (sym status)
     (stopped asked left old new why c.args.ran.now (λ is. c.in-Err.ensures.usage (failed why generating.Usage is)) (λ none. let e = c.in-Err.ensures.no_words none in cc e) (λ is. c.in-Err.ensures.part (failed why generating.WriteFault is)))
 

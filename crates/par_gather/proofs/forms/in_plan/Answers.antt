@@ -5,9 +5,10 @@ use Rattle.answer_text.specs.Words.{texts}
 use Rattle.table_query.specs.Stops.{stop_status, stop_text}
 use Rattle.table_query.specs.declared.wanted.Wanted.TheVariants.{Groups}
 use Rattle.table_query.proofs.Statuses.{is_read_fault, is_status, is_write_fault, never_table}
-use Rattle.par_gather.specs.Answers.{Answers, IsLine}
+use Rattle.par_gather.specs.Answers.{IsLine}
 use Rattle.par_gather.specs.Query.{OfTable}
 use Rattle.par_gather.specs.declared.Ran.TheVariants as ran
+use Rattle.par_gather.specs.Runs.{AnswersBy}
 use Rattle.par_gather.proofs.OneTable.{answered, said, stopped}
 use Rattle.par_gather.proofs.forms.in_plan.Goals as goal
 
@@ -38,7 +39,7 @@ returns-in-Err-clause-answers g c =
     let old = g.O.Sink.taken c.args.out.now in
     let new = g.O.Sink.taken c.answer_plan.new.out in
     let why = c.in-Err.stop in
-    let P : ℕ → Type 0 = λ status. Answers (OfTable Groups query) left status c.args.ran.now old new in
+    let P : ℕ → Type 0 = λ status. AnswersBy (OfTable Groups query) left status c.args.ran.now old new in
     subst P (sym c.end.ensures.status)
     (stopped Groups query left why c.in-Err.ensures.why (λ none. elim (c.in-Err.ensures.no_plan none) [ inl e ↦ inl (cc e) | inr e ↦ inr (cc e) ]) c.args.ran.now old new c.in-Err.ensures.part)
 
