@@ -1,5 +1,5 @@
 -- A call that was made, on the chains and on the map that they represent.
-use Rattle.std.specs.Prelude.{◌≡◌, ℕ, Bool, List, Option, is_some}
+use Rattle.std.specs.Prelude.{◌≡◌, ℕ, Bool, true, false, List, Option, is_some}
 use Rattle.dshash_core.specs.Hung.{Hung}
 use Rattle.dshash_core.specs.Cells.{AreCells, cells_of}
 use Rattle.dshash_core.specs.Outcome.{IsDone, IsNeedItem, IsTooFull}
@@ -11,6 +11,12 @@ pub record IsCalled {S C R : Type 0} (step : Option S → C → Option S × R) (
   pub same : new ≡ record old { chains = new.chains }
   pub cells : AreCells size after value_words new
   pub done : IsDone step size (cells_of decoded old.chains) key call spare reply unused freed (cells_of decoded new.chains)
+
+-- the call took an entry out of the chains `old` with `count` items, whatever their size: it was made of the entry's key
+-- without a spare item, and left `new` with `after` items
+abbrev pub IsTakenBy : {S C R : Type 0} → (Option S → C → Option S × R) → (List ℕ → S) → ℕ → Hung → ℕ → Hung → ℕ → List ℕ → C → R → Type 0
+IsTakenBy step decoded value_words old count new after key call reply =
+    (size : ℕ) → AreCells size count value_words old → IsCalled step decoded size after value_words old new key call false reply false true
 
 -- the call of a partition of a size with `count` keys was answered: made, or refused and nothing has changed
 abbrev pub IsAnswered : {O D S C R : Type 0} → (Option S → C → Option S × R) → (List ℕ → S) → ℕ → ℕ → ℕ → ℕ → Hung → Hung → List ℕ → C → Bool → CoreOut O S D R → Type 0

@@ -5,9 +5,10 @@ use Rattle.std.specs.Ordering.{nat_cmp}
 use Rattle.std.specs.Cmp.Lexicographic.{slice_cmp}
 use Rattle.std.specs.FinMap as fin
 use Rattle.atomic_table.specs.Seated.{TableId, table_id_coded}
+use Rattle.word_map.specs.WordMap.{WordMap}
 use Rattle.dshash_core.specs.Key.{hash_of}
 use Rattle.dshash_core.specs.Chains.{Among, Item}
-use Rattle.dshash_core.specs.Hung.{Hung, Layout, chain_of}
+use Rattle.dshash_core.specs.Hung.{Hung, IsItemChunk, Layout, chain_of}
 
 -- a finite map from keys, which are lists of words
 abbrev pub KeyMap : Type 0 → Type 0
@@ -27,6 +28,11 @@ pub record PartitionView (S : Type 0) : Type 0 where
 -- the shape of a partition's items, with values of this many words
 abbrev pub layout_of : {S : Type 0} → PartitionView S → ℕ → Layout
 layout_of p value_words = record { key_words = p.key_words; value_words = value_words; item_bytes = p.item_bytes }
+
+-- the partition has taken in the item that the words at a place are: its key has its state, and all else is as before
+abbrev pub TakesIn : {S : Type 0} → (List ℕ → S) → ℕ → PartitionView S → PartitionView S → ℕ → WordMap → Type 0
+TakesIn decoded value_words old new place words =
+    (it : Item) → IsItemChunk place words (layout_of old value_words) it → new ≡ record old { cells = fin.insert old.cells it.key (decoded it.value) }
 
 -- the code by which proofs distinguish such values
 abbrev pub partition_code : {S : Type 0} → Coded S → Coded (PartitionView S)

@@ -1,6 +1,6 @@
 -- The buckets of a slice, as contracts see them, and how the words represent them (dshash.c: an array of pointers to
 -- items, and the items' links).
-use Rattle.std.specs.Prelude.{◌≡◌, ◌≢◌, ℕ, ◌+◌, ◌/◌, ◌%◌, ◌<◌, ◌≤◌, List, [], ◌∷◌, ◌++◌, map, length, refl, IsSome, slice_set, slice_index_or}
+use Rattle.std.specs.Prelude.{◌≡◌, ◌≢◌, ℕ, ◌+◌, ◌/◌, ◌%◌, ◌<◌, ◌≤◌, List, [], ◌∷◌, ◌++◌, map, length, replicate, refl, IsSome, slice_set, slice_index_or}
 use Rattle.std.specs.Coded.{Coded, code_by, coded×, coded_ℕ, coded_list}
 use Rattle.atomic_table.specs.Seated.{TableId, table_id_coded}
 use Rattle.word_map.specs.WordMap.{WordMap, at}
@@ -75,6 +75,16 @@ hung part slice words buckets key_words value_words item_bytes = record {
   words = words;
   layout = record { key_words = key_words; value_words = value_words; item_bytes = item_bytes };
   chains = each_below (chain_items part.words slice key_words value_words) buckets;
+}
+
+-- what a slice of this many buckets stands for that has no items
+abbrev pub empty_hung : TableId → ℕ → ℕ → ℕ → ℕ → ℕ → ℕ → Hung
+empty_hung region slice words buckets key_words value_words item_bytes = record {
+  region = region;
+  slice = slice;
+  words = words;
+  layout = record { key_words = key_words; value_words = value_words; item_bytes = item_bytes };
+  chains = replicate buckets [];
 }
 
 -- the items of bucket i

@@ -1,5 +1,5 @@
 -- What a walk along a chain finds.
-use Rattle.std.specs.Prelude.{◌≡◌, ◌≢◌, ℕ, ◌+◌, ◌<◌, ◌≤◌, List, ◌∷◌, ◌++◌, IsSome}
+use Rattle.std.specs.Prelude.{◌≡◌, ◌≢◌, ℕ, ◌+◌, ◌<◌, ◌≤◌, List, ◌∷◌, ◌++◌, length, IsSome}
 use Rattle.word_map.specs.WordMap.{WordMap, at}
 use Rattle.dshash_core.specs.Key.{hash_of}
 use Rattle.dshash_core.specs.Chains.{word, words_at, most_words, places, Among, link_behind}
@@ -25,6 +25,14 @@ pub record IsPlaced (w : ℕ → ℕ) (chain : List ℕ) (link behind item key_w
 -- no item on the chain has the key
 abbrev pub IsNowhere : (ℕ → ℕ) → List ℕ → ℕ → List ℕ → Type 0
 IsNowhere w chain key_words key = (a : ℕ) → Among a chain → words_at w (a + 2) key_words ≢ key
+
+-- an item on the chain from `link` in this map has the key, and word `behind` links to it
+abbrev pub IsPlacedFrom : WordMap → ℕ → ℕ → ℕ → List ℕ → Type 0
+IsPlacedFrom m link behind item key = IsPlaced (word m) (chain_from m link) link behind item (length key) key
+
+-- no item on the chain from `link` in this map has the key
+abbrev pub IsNowhereFrom : WordMap → ℕ → List ℕ → Type 0
+IsNowhereFrom m link key = IsNowhere (word m) (chain_from m link) (length key) key
 
 -- old and the words of an item at a, which is hung in and linked from the word `link`
 pub record IsHungIn (old item new : WordMap) (link a : ℕ) : Type 0 where

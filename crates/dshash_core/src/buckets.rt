@@ -6,11 +6,11 @@
 //! while it hangs. `AreHung` says how the words represent the chains; no two items have a word in common, and no item
 //! hangs twice.
 
-ghost use Rattle.std.specs.Prelude.{◌≡◌, ◌≢◌, ℕ, ◌+◌, ◌*◌, ◌/◌, ◌<◌, ◌≤◌, List, [], ◌∷◌, ◌++◌, ◌^◌, length, replicate, MatchOption, IfSome, IfNone};
+ghost use Rattle.std.specs.Prelude.{◌≡◌, ◌≢◌, ℕ, ◌+◌, ◌*◌, ◌/◌, ◌<◌, ◌≤◌, List, [], ◌∷◌, ◌++◌, ◌^◌, length, MatchOption, IfSome, IfNone};
 ghost use Rattle.dshash_core.specs.Key.{hash_of};
 ghost use Rattle.dshash_core.specs.Chains.{word, words_at, Item, item_at};
 ghost use Rattle.dshash_core.specs.Cells.{all_items};
-ghost use Rattle.dshash_core.specs.Hung.{Hung, Layout, chain_of, with_chain, IsSpot, Holds, HasItem, HasNoItem, IsItemChunk, IsFirst, first_place};
+ghost use Rattle.dshash_core.specs.Hung.{Hung, Layout, empty_hung, chain_of, with_chain, IsSpot, Holds, HasItem, HasNoItem, IsItemChunk, IsFirst, first_place};
 
 use crate::words::{Spot, blank, hang_in, load_words, seek, store_words, take_out};
 use region_words::{Chunk, Part, Region};
@@ -61,7 +61,7 @@ impl Buckets {
         requires here { slice.part.region ≡ r.now }
         requires room { buckets ≤ slice.bytes / 8 }
         requires fits { 2 + key_words + value_words ≤ item_bytes / 8 }
-        ensures { result ≡ record { region = r.now; slice = slice.at; words = slice.bytes / 8; layout = record { key_words = key_words; value_words = value_words; item_bytes = item_bytes }; chains = replicate buckets [] } }
+        ensures { result ≡ empty_hung r.now slice.at (slice.bytes / 8) buckets key_words value_words item_bytes }
     {
         let Chunk {
             at,

@@ -10,7 +10,7 @@
 ghost use Rattle.std.specs.Prelude.{◌≡◌, true, false, ◌+◌, ◌*◌, ◌/◌, ◌<◌, ◌≤◌, length, is_some, IfOk, IfNone, IfSome, MatchOption};
 ghost use Rattle.std.specs.FinMap as fin;
 ghost use Rattle.dshash_core.specs.Key.{hash_of, item_size};
-ghost use Rattle.dshash_core.specs.Cells.{IsRoomy, AreCells, buckets_of, cells_of, layout_of};
+ghost use Rattle.dshash_core.specs.Cells.{IsRoomy, AreCells, TakesIn, buckets_of, cells_of, layout_of};
 ghost use Rattle.dshash_core.specs.Outcome.{AlwaysRemoves, IsDone, IsOutcome, HandsOut, ListsAll};
 ghost use Rattle.dshash_core.specs.Listing.{pairs_of};
 ghost use Rattle.dshash_core.specs.Chains.{Item};
@@ -227,7 +227,7 @@ impl<O: CellObject> Partition<O> {
         requires size { item.bytes ≡ self.old.item_bytes }
         requires item { (it : Item) × IsItemChunk item.at item.part.words (layout_of self.old O.VALUE_WORDS) it × (fin.contains_key self.old.cells it.key ≡ false) }
         requires room { IsRoomy self.old.size (fin.len self.old.cells + 1) }
-        ensures { (it : Item) → IsItemChunk item.at item.part.words (layout_of self.old O.VALUE_WORDS) it → self.new ≡ record self.old { cells = fin.insert self.old.cells it.key (O.decoded it.value) } }
+        ensures { TakesIn O.decoded O.VALUE_WORDS self.old self.new item.at item.part.words }
     {
         let mut item = item;
         self.buckets.is_sound();

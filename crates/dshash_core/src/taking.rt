@@ -6,7 +6,7 @@ ghost use Rattle.dshash_core.specs.Chains.{Item};
 ghost use Rattle.dshash_core.specs.Hung.{IsSpot, chain_of};
 ghost use Rattle.dshash_core.specs.Cells.{AreCells};
 ghost use Rattle.dshash_core.specs.Outcome.{AlwaysRemoves};
-ghost use Rattle.dshash_core.specs.Calls.{IsCalled};
+ghost use Rattle.dshash_core.specs.Calls.{IsTakenBy};
 
 use crate::buckets::Buckets;
 use crate::calls::{SOME_WORDS, change};
@@ -75,7 +75,7 @@ fn take_in<O: CellObject>(
     requires removes { AlwaysRemoves O.stepped call.now }
     ensures buffer { length buffer.new ≡ length buffer.old }
     ensures key { length result.key ≡ buckets.old.layout.key_words }
-    ensures called { (size : ℕ) → AreCells size count.old O.VALUE_WORDS buckets.old → IsCalled O.stepped O.decoded size count.new O.VALUE_WORDS buckets.old buckets.new result.key call.now false result.reply false true }
+    ensures called { IsTakenBy O.stepped O.decoded O.VALUE_WORDS buckets.old count.old buckets.new count.new result.key call.now result.reply }
     ensures item { (result.item.part.region ≡ buckets.old.region) × (result.item.bytes ≡ buckets.old.layout.item_bytes) }
 {
     let mut words = words;
@@ -107,7 +107,7 @@ fn take_on<O: CellObject, const ROOM: usize>(
     requires cells { (size : ℕ) × AreCells size count.old O.VALUE_WORDS buckets.old }
     requires removes { AlwaysRemoves O.stepped call.now }
     ensures key { length result.key ≡ buckets.old.layout.key_words }
-    ensures called { (size : ℕ) → AreCells size count.old O.VALUE_WORDS buckets.old → IsCalled O.stepped O.decoded size count.new O.VALUE_WORDS buckets.old buckets.new result.key call.now false result.reply false true }
+    ensures called { IsTakenBy O.stepped O.decoded O.VALUE_WORDS buckets.old count.old buckets.new count.new result.key call.now result.reply }
     ensures item { (result.item.part.region ≡ buckets.old.region) × (result.item.bytes ≡ buckets.old.layout.item_bytes) }
 {
     let mut value = [0; ROOM];
@@ -135,7 +135,7 @@ fn take_long<O: CellObject>(
     requires cells { (size : ℕ) × AreCells size count.old O.VALUE_WORDS buckets.old }
     requires removes { AlwaysRemoves O.stepped call.now }
     ensures key { length result.key ≡ buckets.old.layout.key_words }
-    ensures called { (size : ℕ) → AreCells size count.old O.VALUE_WORDS buckets.old → IsCalled O.stepped O.decoded size count.new O.VALUE_WORDS buckets.old buckets.new result.key call.now false result.reply false true }
+    ensures called { IsTakenBy O.stepped O.decoded O.VALUE_WORDS buckets.old count.old buckets.new count.new result.key call.now result.reply }
     ensures item { (result.item.part.region ≡ buckets.old.region) × (result.item.bytes ≡ buckets.old.layout.item_bytes) }
 {
     take_on::<O, MOST_VALUE_WORDS>(buckets, r, count, bucket, spot, call, words)
@@ -159,7 +159,7 @@ pub(crate) fn take_at<O: CellObject>(
     requires cells { (size : ℕ) × AreCells size count.old O.VALUE_WORDS buckets.old }
     requires removes { AlwaysRemoves O.stepped call.now }
     ensures key { length result.key ≡ buckets.old.layout.key_words }
-    ensures called { (size : ℕ) → AreCells size count.old O.VALUE_WORDS buckets.old → IsCalled O.stepped O.decoded size count.new O.VALUE_WORDS buckets.old buckets.new result.key call.now false result.reply false true }
+    ensures called { IsTakenBy O.stepped O.decoded O.VALUE_WORDS buckets.old count.old buckets.new count.new result.key call.now result.reply }
     ensures item { (result.item.part.region ≡ buckets.old.region) × (result.item.bytes ≡ buckets.old.layout.item_bytes) }
 {
     if O::VALUE_WORDS <= SOME_WORDS {

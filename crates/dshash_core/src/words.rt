@@ -6,7 +6,7 @@ ghost use Rattle.word_map.specs.WordMap.{at as word_at, HasJust};
 ghost use Rattle.region_words.specs.Parts.{owned};
 ghost use Rattle.dshash_core.specs.Key.{hash_of};
 ghost use Rattle.dshash_core.specs.Chains.{word, words_at, IsChain, Among, Item, item_at};
-ghost use Rattle.dshash_core.specs.Walk.{IsReadable, chain_from, IsPlaced, IsNowhere, IsHungIn, IsTakenOut};
+ghost use Rattle.dshash_core.specs.Walk.{IsReadable, chain_from, IsPlacedFrom, IsNowhereFrom, IsHungIn, IsTakenOut};
 
 use region_words::{Chunk, Part, Region};
 
@@ -104,7 +104,7 @@ pub(crate) fn seek(part: &mut Part, r: &Region, link: u64, hash: u64, key: &[u64
     requires chain { IsChain (word part.old.words) (word part.old.words link) (chain_from part.old.words link) }
     requires items { (a : ℕ) → Among a (chain_from part.old.words link) → IsReadable part.old.words (length key.now) a }
     ensures same { part.new ≡ part.old }
-    ensures found { MatchOption result (IsNowhere (word part.old.words) (chain_from part.old.words link) (length key.now) key.now) (λ s. IsPlaced (word part.old.words) (chain_from part.old.words link) link s.link s.item (length key.now) key.now) }
+    ensures found { MatchOption result (IsNowhereFrom part.old.words link key.now) (λ s. IsPlacedFrom part.old.words link s.link s.item key.now) }
 {
     let mut behind = link;
     let mut item = part.load(r, link);
