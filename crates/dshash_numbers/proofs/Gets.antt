@@ -38,7 +38,7 @@ module _ {S C R : Type 0} (number item : ℕ) (key : List ℕ) (call : C) (reply
     is = refl;
     none_before = tt;
     gifts_after = tt;
-    balance = refl;
+    balance = λ bytes. refl;
     uses = λ held. let e : false ≡ true = held in absurd (cc);
     frugal = record {
       moves = λ k to left h. absurd (let e = only _ h in cc);

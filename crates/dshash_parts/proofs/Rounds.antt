@@ -12,11 +12,11 @@ use Rattle.dshash_parts.specs.declared.histories.PartitionCalls.{PartitionCalls}
 use Rattle.dshash_parts.specs.declared.histories.PartitionCalls.TheVariants.{Call, Looks, Moves, Lists}
 use Rattle.dshash_parts.specs.declared.histories.PartitionReplies.{PartitionReplies}
 use Rattle.dshash_parts.specs.declared.histories.PartitionReplies.TheVariants.{Made, LacksItem, HasToGrow, HasSize, Moved, Listed}
-use Rattle.dshash_parts.specs.Traces.{Event, Turn, Asked, Requested, Got, Missed, Gave, Sight, sight, Trace, granted, given, asked, fulls, NoneMade, AreGifts}
-use Rattle.dshash_parts.specs.Promises.{AllGrew, HadToGrow, IsFrugal, IsLeftOver, LackedItem, IsMadeWith, IsRefusedWith, one_if, slice_size}
-use Rattle.dshash_parts.specs.Sweeps.{IsSweep, AreSweeps, GivesLeftOvers, Swept, GaveBack}
+use Rattle.dshash_parts.specs.Traces.{Event, Turn, Asked, Requested, Got, Missed, Gave, Sight, sight, Trace, asked, fulls, NoneMade, AreGifts}
+use Rattle.dshash_parts.specs.Promises.{AllGrew, HadToGrow, IsFrugal, IsLeftOver, LackedItem, IsMadeWith, IsRefusedWith, all_brought, all_took, count_if, one_if, slice_size}
+use Rattle.dshash_parts.specs.Sweeps.{IsSweep, AreSweeps, GivesLeftOvers, SlicesBalance, Swept, GaveBack}
 use Rattle.dshash_parts.specs.Rounds.{AreCaused, IsUnderway, Underway}
-use Rattle.dshash_parts.proofs.Sweeps.{among_back, among_front, among_parts, trace_append, granted_append, given_append, asked_append}
+use Rattle.dshash_parts.proofs.Sweeps.{among_back, among_front, among_parts, trace_append, brought_append, took_append, asked_append}
 
 module _ {S C R : Type 0} where
   fulls_cons : (e : Event S C R) (es : List (Event S C R)) → fulls (e ∷ es) ≡ fulls (e ∷ []) + fulls es
@@ -110,12 +110,12 @@ module _ {S C R : Type 0} (number item : ℕ) (key : List ℕ) (call : C) where
   item_round = Turn number (Call key call false) LacksItem ∷ Asked (Got item) ∷ []
 
   pub underway_none : (held : Bool) → IsUnderway {S = S} {C = C} {R = R} number item key call held held []
-  underway_none held = record { none = tt; balance = omega arith; caused = record { moves = λ k to left h. absurd h; grants = λ bytes h. absurd h; gifts = λ bytes h. absurd h }; asks = omega arith; uses = λ h. (h, λ l. l) }
+  underway_none held = record { none = tt; balance = λ bytes. omega arith; caused = record { moves = λ k to left h. absurd h; grants = λ bytes h. absurd h; gifts = λ bytes h. absurd h }; asks = omega arith; uses = λ h. (h, λ l. l) }
 
   pub underway_item : {held : Bool} (es : List (Event S C R)) → IsUnderway number item key call held false es → IsUnderway number item key call held true (es ++ item_round)
   underway_item es x = record {
     none = none_append es item_round x.none tt;
-    balance = let p = granted_append es item_round in let q = given_append es item_round in let b = x.balance in omega arith;
+    balance = λ bytes. let p = brought_append (chunk_size item) bytes es item_round in let q = took_append (chunk_size item) bytes es item_round in let b = x.balance bytes in omega arith;
     caused = caused_both es item_round x.caused (record {
       moves = λ k to left h. ⊎_elim (λ e. absurd (cc)) (λ r. ⊎_elim (λ e. absurd (cc)) (λ z. absurd z) r) h;
       grants = λ bytes h. inl (⊎_elim (λ e. absurd (cc)) (λ r. ⊎_elim (λ (e : Asked (Got bytes) ≡ Asked (Got item)). cc) (λ z. absurd z) r) h, among_back (Turn number (Call key call false) LacksItem) es item_round (inl refl));
@@ -138,12 +138,12 @@ module _ {S C R : Type 0} (number item : ℕ) (key : List ℕ) (call : C) where
             (λ (r : Among (Asked (Gave bytes)) sweep). let l = gave bytes r in (l.0, l.1, among_back (Turn l.0 (Moves l.1) (Moved bytes)) es (growth spare size sweep) (inr l.2))) x);
       }
 
-  pub underway_growth : {held : Bool} (es : List (Event S C R)) (spare : Bool) (size : ℕ) (sweep : List (Event S C R)) → IsUnderway number item key call held spare es → AreSweeps (size + 1) sweep → GivesLeftOvers sweep → granted sweep ≡ given sweep → asked sweep ≤ 128
+  pub underway_growth : {held : Bool} (es : List (Event S C R)) (spare : Bool) (size : ℕ) (sweep : List (Event S C R)) → IsUnderway number item key call held spare es → AreSweeps (size + 1) sweep → GivesLeftOvers sweep → SlicesBalance sweep → asked sweep ≤ 128
       → IsUnderway number item key call held spare (es ++ growth spare size sweep)
   underway_growth es spare size sweep x h gave even few =
       let quiet = sweeps_quiet (size + 1) sweep h in record {
         none = none_append es (growth spare size sweep) x.none quiet.0;
-        balance = let p = granted_append es (growth spare size sweep) in let q = given_append es (growth spare size sweep) in let b = x.balance in omega arith;
+        balance = λ bytes. let p = brought_append (chunk_size item) bytes es (growth spare size sweep) in let q = took_append (chunk_size item) bytes es (growth spare size sweep) in let b = x.balance bytes in let s = even (chunk_size item) bytes in omega arith;
         caused = caused_both es (growth spare size sweep) x.caused (growth_caused es spare size sweep h gave);
         asks = let p = asked_append es (growth spare size sweep) in let q = fulls_append es (growth spare size sweep) in let b = x.asks in let z = quiet.1 in omega arith;
         uses = λ is. let lack : Event S C R = Turn number (Call key call false) LacksItem in ((x.uses is).0, λ l. ⊎_elim (λ (a : Among lack es). (x.uses is).1 a) (λ (b : Among lack (growth spare size sweep)). ⊎_elim (λ e. absurd (cc)) (λ (r : Among lack sweep). sweep_among (size + 1) lack sweep h r) b) (among_parts lack es (growth spare size sweep) l));
@@ -154,18 +154,18 @@ one_at_most true = omega arith
 one_at_most false = omega arith
 
 -- an unused spare is one that came
-taken : (spare unused : Bool) → (unused ≡ true → spare ≡ true) → one_if (spare && not unused) + one_if unused ≡ one_if spare
-taken true true h = refl
-taken true false h = refl
-taken false true h = absurd (let e : false ≡ true = h refl in cc)
-taken false false h = refl
+taken : (size bytes : ℕ) (spare unused : Bool) → (unused ≡ true → spare ≡ true) → count_if (spare && not unused) size bytes + count_if unused size bytes ≡ count_if spare size bytes
+taken size bytes true true h = omega arith
+taken size bytes true false h = omega arith
+taken size bytes false true h = absurd (let e : false ≡ true = h refl in cc)
+taken size bytes false false h = refl
 
 -- of two items one is kept, and where there are both the other is not
-both_or_one : (a b : Bool) → one_if a + one_if b ≡ one_if (a && b) + one_if (a || b)
-both_or_one true true = refl
-both_or_one true false = refl
-both_or_one false true = refl
-both_or_one false false = refl
+both_or_one : (size bytes : ℕ) (a b : Bool) → count_if a size bytes + count_if b size bytes ≡ count_if (a && b) size bytes + count_if (a || b) size bytes
+both_or_one size bytes true true = refl
+both_or_one size bytes true false = omega arith
+both_or_one size bytes false true = refl
+both_or_one size bytes false false = refl
 
 module _ {S C R : Type 0} where
   gifts_append : (es fs : List (Event S C R)) → AreGifts es → AreGifts fs → AreGifts (es ++ fs)
@@ -183,15 +183,15 @@ module _ {S C R : Type 0} where
 -- what a gift is, or none
 record OnlyGift (S C R : Type 0) (bytes : ℕ) (spare : Bool) : Type 0 where
   are : AreGifts {S = S} {C = C} {R = R} (gift bytes spare)
-  given_are : given {S = S} {C = C} {R = R} (gift bytes spare) ≡ one_if spare
-  granted_none : granted {S = S} {C = C} {R = R} (gift bytes spare) ≡ 0
+  took_is : (item counted : ℕ) → all_took {S = S} {C = C} {R = R} item counted (gift bytes spare) ≡ count_if spare bytes counted
+  brought_none : (item counted : ℕ) → all_brought {S = S} {C = C} {R = R} item counted (gift bytes spare) ≡ 0
   asked_none : asked {S = S} {C = C} {R = R} (gift bytes spare) ≡ 0
   fulls_none : fulls {S = S} {C = C} {R = R} (gift bytes spare) ≡ 0
   none : NoneMade {S = S} {C = C} {R = R} (gift bytes spare)
 
 only_gift : (S C R : Type 0) (bytes : ℕ) (spare : Bool) → OnlyGift S C R bytes spare
-only_gift S C R bytes true = record { are = tt; given_are = refl; granted_none = refl; asked_none = refl; fulls_none = refl; none = tt }
-only_gift S C R bytes false = record { are = tt; given_are = refl; granted_none = refl; asked_none = refl; fulls_none = refl; none = tt }
+only_gift S C R bytes true = record { are = tt; took_is = λ item counted. omega arith; brought_none = λ item counted. refl; asked_none = refl; fulls_none = refl; none = tt }
+only_gift S C R bytes false = record { are = tt; took_is = λ item counted. refl; brought_none = λ item counted. refl; asked_none = refl; fulls_none = refl; none = tt }
 
 module _ {S C R : Type 0} (number item : ℕ) (key : List ℕ) (call : C) where
   -- the end of a call that was made: of the item that it did not use and the one that it freed, where there are both, one
@@ -227,7 +227,7 @@ module _ {S C R : Type 0} (number item : ℕ) (key : List ℕ) (call : C) where
         is = refl;
         none_before = x.none;
         gifts_after = g.are;
-        balance = let p = granted_append es tail in let q = given_append es tail in let b = x.balance in let t = taken spare unused h in let o = both_or_one unused freed in let u = g.given_are in let v = g.granted_none in omega arith;
+        balance = λ bytes. let p = brought_append (chunk_size item) bytes es tail in let q = took_append (chunk_size item) bytes es tail in let b = x.balance bytes in let t = taken (chunk_size item) bytes spare unused h in let o = both_or_one (chunk_size item) bytes unused freed in let u = g.took_is (chunk_size item) bytes in let v = g.brought_none (chunk_size item) bytes in omega arith;
         uses = λ is l. let lack : Event S C R = Turn number (Call key call false) LacksItem in ⊎_elim (λ (a : Among lack es). (x.uses is).1 a) (λ (b : Among lack tail). ⊎_elim (λ e. absurd (cc)) (λ (r : Among lack (gift (chunk_size item) (unused && freed))). let e = gift_among (chunk_size item) (unused && freed) lack r in absurd (cc)) b) (among_parts lack es tail l);
         frugal = record {
           moves = caused.moves;
@@ -256,7 +256,7 @@ module _ {S C R : Type 0} (number item : ℕ) (key : List ℕ) (call : C) where
         none_before = x.none_before;
         gifts_after = gifts_append x.after tail x.gifts_after g.are;
         uses = λ is l. let lack : Event S C R = Turn number (Call key call false) LacksItem in ⊎_elim (λ (a : Among lack es). x.uses is a) (λ (r : Among lack tail). let e = gift_among (chunk_size item) kept lack r in absurd (cc)) (among_parts lack es tail l);
-        balance = let p = granted_append es tail in let q = given_append es tail in let b = x.balance in let u = g.given_are in let v = g.granted_none in omega arith;
+        balance = λ bytes. let p = brought_append (chunk_size item) bytes es tail in let q = took_append (chunk_size item) bytes es tail in let b = x.balance bytes in let u = g.took_is (chunk_size item) bytes in let v = g.brought_none (chunk_size item) bytes in omega arith;
         frugal = record {
           moves = caused.moves;
           grants = caused.grants;
@@ -288,7 +288,7 @@ module _ {S C R : Type 0} (number item : ℕ) (key : List ℕ) (call : C) where
         cause = inl (refl, among_back (Turn number (Call key call false) LacksItem) es lacks (inl refl));
         uses = λ is l. let e : false ≡ true = (x.uses is).0 in absurd (cc);
         gifts_after = tt;
-        balance = let p = granted_append es tail in let q = given_append es tail in let b = x.balance in omega arith;
+        balance = λ bytes. let p = brought_append (chunk_size item) bytes es tail in let q = took_append (chunk_size item) bytes es tail in let b = x.balance bytes in omega arith;
         frugal = record {
           moves = caused.moves;
           grants = caused.grants;
@@ -334,7 +334,7 @@ module _ {S C R : Type 0} (number item : ℕ) (key : List ℕ) (call : C) where
             (among_parts (Asked (Gave bytes)) sweep (stuck size k found keys wanted largest spare) r)) x;
       }
 
-  pub slice_refused : {held : Bool} (es : List (Event S C R)) (spare : Bool) (size : ℕ) (sweep : List (Event S C R)) (k found keys wanted largest : ℕ) → IsUnderway number item key call held spare es → fulls es + 1 ≤ 13 → AreSweeps (size + 1) sweep → GivesLeftOvers sweep → granted sweep ≡ given sweep → asked sweep ≤ 127 → found < size + 1
+  pub slice_refused : {held : Bool} (es : List (Event S C R)) (spare : Bool) (size : ℕ) (sweep : List (Event S C R)) (k found keys wanted largest : ℕ) → IsUnderway number item key call held spare es → fulls es + 1 ≤ 13 → AreSweeps (size + 1) sweep → GivesLeftOvers sweep → SlicesBalance sweep → asked sweep ≤ 127 → found < size + 1
       → IsRefusedWith number item key call held wanted largest (es ++ slice_end spare size sweep k found keys wanted largest)
   slice_refused es spare size sweep k found keys wanted largest x few h gave even asks small =
       let rest : List (Event S C R) = stuck size k found keys wanted largest spare in
@@ -346,12 +346,8 @@ module _ {S C R : Type 0} (number item : ℕ) (key : List ℕ) (call : C) where
       let quiet = sweeps_quiet (size + 1) sweep h in
       let g : OnlyGift S C R (chunk_size item) spare = only_gift S C R (chunk_size item) spare in
       let caused = caused_both number item key call es tail x.caused (slice_caused es spare size sweep k found keys wanted largest h gave) in
-      let p = granted_append es tail in
-      let q = given_append es tail in
       let u = asked_append es tail in
       let w = fulls_append es tail in
-      let p' = granted_append sweep rest in
-      let q' = given_append sweep rest in
       let u' = asked_append sweep rest in
       let w' = fulls_append sweep rest in
       record {
@@ -362,7 +358,16 @@ module _ {S C R : Type 0} (number item : ℕ) (key : List ℕ) (call : C) where
         none = none_append es tail x.none (none_append sweep rest quiet.0 g.none);
         cause = inr (size, k, found, (spare, among_back told es front (inl refl)), refl, (keys, among_back look es front (inr (among_back look sweep (look ∷ []) (inl refl)))), omega arith);
         gifts_after = g.are;
-        balance = let b = x.balance in let v = g.given_are in let t = g.granted_none in omega arith;
+        balance = λ bytes.
+            let p = brought_append (chunk_size item) bytes es tail in
+            let q = took_append (chunk_size item) bytes es tail in
+            let p' = brought_append (chunk_size item) bytes sweep rest in
+            let q' = took_append (chunk_size item) bytes sweep rest in
+            let b = x.balance bytes in
+            let s = even (chunk_size item) bytes in
+            let v = g.took_is (chunk_size item) bytes in
+            let t = g.brought_none (chunk_size item) bytes in
+            omega arith;
         uses = λ is l. let lack : Event S C R = Turn number (Call key call false) LacksItem in ⊎_elim (λ (a : Among lack es). (x.uses is).1 a) (λ (b : Among lack tail). ⊎_elim (λ e. absurd (cc)) (λ (r : Among lack (sweep ++ rest)). ⊎_elim (λ (s : Among lack sweep). sweep_among (size + 1) lack sweep h s) (λ (t : Among lack rest). ⊎_elim (λ e. absurd (cc)) (λ c. ⊎_elim (λ e. absurd (cc)) (λ (d : Among lack (gift (chunk_size item) spare)). let e = gift_among (chunk_size item) spare lack d in absurd (cc)) c) t) (among_parts lack sweep rest r)) b) (among_parts lack es tail l);
         frugal = record {
           moves = caused.moves;

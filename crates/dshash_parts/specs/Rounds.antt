@@ -6,8 +6,8 @@ use Rattle.dshash_core.specs.Chains.{Among}
 use Rattle.dshash_parts.specs.Tables.{size_at}
 use Rattle.dshash_parts.specs.declared.histories.PartitionCalls.TheVariants.{Moves}
 use Rattle.dshash_parts.specs.declared.histories.PartitionReplies.TheVariants.{Moved}
-use Rattle.dshash_parts.specs.Traces.{Event, Turn, Asked, Got, Gave, Sight, Trace, granted, given, asked, fulls, NoneMade}
-use Rattle.dshash_parts.specs.Promises.{AllGrew, HadToGrow, IsLeftOver, LackedItem, one_if, slice_size}
+use Rattle.dshash_parts.specs.Traces.{Event, Turn, Asked, Got, Gave, Sight, Trace, asked, fulls, NoneMade}
+use Rattle.dshash_parts.specs.Promises.{AllGrew, Balances, HadToGrow, IsLeftOver, LackedItem, one_if, slice_size}
 
 module _ {S C R : Type 0} (number item : ℕ) (key : List ℕ) (call : C) where
   -- each move, each grant and each gift among the events fs has its cause among the events es
@@ -20,7 +20,7 @@ module _ {S C R : Type 0} (number item : ℕ) (key : List ℕ) (call : C) where
   -- is one
   pub record IsUnderway (held spare : Bool) (es : List (Event S C R)) : Type 0 where
     pub none : NoneMade es
-    pub balance : one_if held + granted es ≡ given es + one_if spare
+    pub balance : Balances (chunk_size item) held spare es
     pub caused : AreCaused es es
     pub asks : asked es ≤ one_if spare + 128 * fulls es
     pub uses : held ≡ true → (spare ≡ true) × (LackedItem number item key call es → ⊥)

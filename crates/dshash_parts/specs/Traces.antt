@@ -62,18 +62,7 @@ module _ {S C R : Type 0} (step : Option S → C → Option S × R) (a : Area) (
   Trace v w [] = w ≡ v
   Trace v w (e ∷ es) = (u : Sight S C R) × Makes v u e × Trace u w es
 
--- how many chunks the area granted in these events, and how many were given to it
 module _ {S C R : Type 0} where
-  abbrev pub granted : List (Event S C R) → ℕ
-  granted [] = 0
-  granted (Asked (Got bytes) ∷ es) = 1 + granted es
-  granted (e ∷ es) = granted es
-
-  abbrev pub given : List (Event S C R) → ℕ
-  given [] = 0
-  given (Asked (Gave bytes) ∷ es) = 1 + given es
-  given (e ∷ es) = given es
-
   -- how many chunks the area was asked for
   abbrev pub asked : List (Event S C R) → ℕ
   asked [] = 0

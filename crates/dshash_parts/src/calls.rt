@@ -20,7 +20,7 @@ ghost use Rattle.dshash_parts.specs.Traces.{sight_of};
 ghost use Rattle.dshash_parts.specs.Owners.{IsOwner, IsOwnCell};
 ghost use Rattle.dshash_parts.specs.Replays.{IsOneCell};
 ghost use Rattle.dshash_parts.specs.Promises.{CallMade, CallMadeWith, CallRefused, CallRefusedWith, IsLastCall, KeepsItem};
-ghost use Rattle.dshash_parts.specs.Sweeps.{Swept, SweptAndGave, GaveBack};
+ghost use Rattle.dshash_parts.specs.Sweeps.{Swept, SweptAndGaveAll, GaveBack};
 
 use crate::growing::grow_all;
 use crate::requests::{ask, give};
@@ -109,8 +109,7 @@ where
     ensures large { IfOk result (λ _. (k : ℕ) → k < 128 → size ≤ size_at (seen_of pass.new) k) }
     ensures spare { IfOk result (λ kept. kept ≡ spare) }
     ensures swept { IfOk result (λ _. Swept O.stepped area.now (number_of pass.old) size 128 (sight_of pass.old apass.old) (sight_of pass.new apass.new)) }
-    ensures refused { IfErr result (λ lack.
-        (bytes : ℕ) → IfSome spare (λ c. c.bytes ≡ bytes) → SweptAndGave O.stepped area.now (number_of pass.old) size lack.pages lack.largest bytes (is_some spare) (sight_of pass.old apass.old) (sight_of pass.new apass.new)) }
+    ensures refused { IfErr result (λ lack. SweptAndGaveAll O.stepped area.now (number_of pass.old) size lack.pages lack.largest spare (sight_of pass.old apass.old) (sight_of pass.new apass.new)) }
 {
     match grow_all(rt, table, r, area, pass, apass, size) {
         Ok(()) => Ok(spare),
