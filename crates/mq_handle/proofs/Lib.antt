@@ -7,3 +7,4 @@ pub mod Receipts
 pub mod Uses
 pub mod Told
 pub mod Wholes
+pub mod Gathered

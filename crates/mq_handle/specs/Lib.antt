@@ -12,3 +12,5 @@ pub mod Told
 pub mod Home
 pub mod SendSteps
 pub mod Wholes
+pub mod Parts
+pub mod Bodies

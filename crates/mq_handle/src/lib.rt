@@ -17,6 +17,7 @@
 #![tactic(auto)]
 
 mod answers;
+mod body;
 mod laws;
 mod looking;
 mod queue;

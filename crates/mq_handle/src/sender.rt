@@ -1,6 +1,6 @@
 //! The sending end of a queue.
 
-ghost use Rattle.std.specs.Prelude.{◌≡◌, ◌<◌, ◌≤◌, ◌+◌, false, true, length};
+ghost use Rattle.std.specs.Prelude.{◌≡◌, ◌<◌, ◌≤◌, ◌+◌, ◌^◌, false, true, length};
 ghost use Rattle.ring_rule.specs.Ring.{Sending};
 ghost use Rattle.ring_rule.specs.Ends.{publishes, sender_leaves};
 ghost use Rattle.mq_handle.specs.Sends.{Continues, StaysOpen};
@@ -9,8 +9,10 @@ ghost use Rattle.mq_handle.specs.SendSteps.{StepsAre};
 ghost use Rattle.mq_handle.specs.Wholes.{AnswersWhole};
 ghost use Rattle.mq_handle.specs.Told.{SendFound};
 ghost use Rattle.mq_handle.specs.Held.{IsUnsent};
+ghost use Rattle.mq_handle.specs.Parts.{joined};
 
 use crate::answers::SendAnswer;
+use crate::body::Body;
 use crate::sending::send_frame;
 use crate::sending_whole::send_whole;
 use crate::storing::Stored;
@@ -77,7 +79,8 @@ impl Sender {
         ensures steps { StepsAre self.old.end self.new.end message.now flush result }
         ensures told { SendFound self.old.told self.old.end self.new.end result }
     {
-        let (counts, answer) = send_frame(&mut self.tx, r, message, self.counts, flush);
+        let message = Body::of_slice(message);
+        let (counts, answer) = send_frame(&mut self.tx, r, &message, self.counts, flush);
         self.counts = counts;
         answer
     }
@@ -98,7 +101,47 @@ impl Sender {
         ensures answer { AnswersWhole self.old.end self.new.end message.now flush result }
         ensures told { SendFound self.old.told self.old.end self.new.end result }
     {
-        let (counts, answer) = send_whole(&mut self.tx, r, message, self.counts, flush);
+        let message = Body::of_slice(message);
+        let (counts, answer) = send_whole(&mut self.tx, r, &message, self.counts, flush);
+        self.counts = counts;
+        answer
+    }
+
+    /// `try_send` of the parts as one message, which is their bytes one after another: the receiver can't tell it from
+    /// a message that came in one slice. The parts may be cut otherwise in a repeated call; only their bytes have to be
+    /// the same. Costs as much as `try_send`, and a copy of the bytes by way of 512 bytes of the stack, for each of which
+    /// the parts are gone over; it takes no memory.
+    pub fn try_send_parts(&mut self, r: &Region, parts: &[&[u8]], flush: bool) -> SendAnswer
+        requires here { self.old.region ≡ r.now }
+        requires stays { self.old.end.gone ≡ false }
+        requires few { length (joined parts.now) < 2 ^ 64 }
+        requires continues { Continues self.old.end.put (joined parts.now) }
+        ensures kept { self.new ≡ record self.old { end = self.new.end } }
+        ensures stays { StaysOpen self.old.end self.new.end }
+        ensures answer { Answers self.old.end self.new.end (joined parts.now) flush result }
+        ensures steps { StepsAre self.old.end self.new.end (joined parts.now) flush result }
+        ensures told { SendFound self.old.told self.old.end self.new.end result }
+    {
+        let message = Body::of_parts(parts);
+        let (counts, answer) = send_frame(&mut self.tx, r, &message, self.counts, flush);
+        self.counts = counts;
+        answer
+    }
+
+    /// `try_send_whole` of the parts as one message, which is their bytes one after another. Costs as much as
+    /// `try_send_parts`.
+    pub fn try_send_parts_whole(&mut self, r: &Region, parts: &[&[u8]], flush: bool) -> SendAnswer
+        requires here { self.old.region ≡ r.now }
+        requires stays { self.old.end.gone ≡ false }
+        requires few { length (joined parts.now) < 2 ^ 64 }
+        requires continues { Continues self.old.end.put (joined parts.now) }
+        ensures kept { self.new ≡ record self.old { end = self.new.end } }
+        ensures stays { StaysOpen self.old.end self.new.end }
+        ensures answer { AnswersWhole self.old.end self.new.end (joined parts.now) flush result }
+        ensures told { SendFound self.old.told self.old.end self.new.end result }
+    {
+        let message = Body::of_parts(parts);
+        let (counts, answer) = send_whole(&mut self.tx, r, &message, self.counts, flush);
         self.counts = counts;
         answer
     }

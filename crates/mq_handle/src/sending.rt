@@ -9,6 +9,7 @@ ghost use Rattle.mq_handle.specs.Told.{SendFound};
 ghost use Rattle.mq_handle.specs.Held.{Counted, InFrames};
 
 use crate::answers::SendAnswer;
+use crate::body::Body;
 use crate::storing::{Stored, finish_storing, store_words};
 use mq_ring::RingTx;
 use region_words::Region;
@@ -17,7 +18,7 @@ use region_words::Region;
 pub(crate) fn send_frame(
     tx: &mut RingTx,
     r: &Region,
-    message: &[u8],
+    message: &Body<'_>,
     counts: Stored,
     flush: bool,
 ) -> (Stored, SendAnswer)
@@ -34,7 +35,7 @@ pub(crate) fn send_frame(
     ensures counted { Counted tx.new.end result.0.free result.0.unpublished }
     ensures framed { InFrames tx.new.end.ring.max tx.new.end.put result.0.words }
 {
-    let length = message.len() as u64;
+    let length = message.len();
     if length > u64::from(tx.max()) {
         return (counts, SendAnswer::TooLong { length });
     }

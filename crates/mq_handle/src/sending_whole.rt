@@ -8,6 +8,7 @@ ghost use Rattle.mq_handle.specs.Told.{SendFound};
 ghost use Rattle.mq_handle.specs.Held.{Counted, InFrames};
 
 use crate::answers::SendAnswer;
+use crate::body::Body;
 use crate::looking::look_for_room;
 use crate::storing::{Stored, finish_storing, store_run};
 use mq_ring::RingTx;
@@ -15,11 +16,11 @@ use region_words::Region;
 use rel_pointer::words_of;
 
 /// Whether the message is short enough for the queue, and its frame for an empty ring.
-fn fits_ring(tx: &RingTx, message: &[u8]) -> bool
+fn fits_ring(tx: &RingTx, message: &Body<'_>) -> bool
     ensures yes { IsTrue result → FitsRing tx.now.end.ring message.now }
     ensures no { result ≡ false → FitsRing tx.now.end.ring message.now → ⊥ }
 {
-    let length = message.len() as u64;
+    let length = message.len();
     length <= u64::from(tx.max()) && 1 + words_of(length) <= tx.words()
 }
 
@@ -27,7 +28,7 @@ fn fits_ring(tx: &RingTx, message: &[u8]) -> bool
 pub(crate) fn send_whole(
     tx: &mut RingTx,
     r: &Region,
-    message: &[u8],
+    message: &Body<'_>,
     counts: Stored,
     flush: bool,
 ) -> (Stored, SendAnswer)
@@ -43,7 +44,7 @@ pub(crate) fn send_whole(
     ensures counted { Counted tx.new.end result.0.free result.0.unpublished }
     ensures framed { InFrames tx.new.end.ring.max tx.new.end.put result.0.words }
 {
-    let length = message.len() as u64;
+    let length = message.len();
     if !fits_ring(tx, message) {
         return (counts, SendAnswer::TooLong { length });
     }

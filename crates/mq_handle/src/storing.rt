@@ -9,6 +9,7 @@ ghost use Rattle.mq_handle.specs.Held.{Counted};
 ghost use Rattle.mq_handle.specs.Told.{SawRoom, RoomFound};
 ghost use Rattle.mq_handle.specs.Filling.{FillsTo, base_of, finishes};
 
+use crate::body::Body;
 use crate::looking::look_for_room;
 use mq_ring::RingTx;
 use region_words::Region;
@@ -26,7 +27,7 @@ pub(crate) struct Stored {
 }
 
 /// Stores the given number of words of the message's frame, from word `at` on.
-fn put_frame_words(tx: &mut RingTx, r: &Region, message: &[u8], at: u64, run: u64)
+fn put_frame_words(tx: &mut RingTx, r: &Region, message: &Body<'_>, at: u64, run: u64)
     requires here { tx.old.region ≡ r.now }
     requires stays { tx.old.end.gone ≡ false }
     requires some { 0 < run }
@@ -36,15 +37,15 @@ fn put_frame_words(tx: &mut RingTx, r: &Region, message: &[u8], at: u64, run: u6
     ensures { tx.new ≡ record tx.old { end = fold puts tx.old.end (take run (drop at (frame message.now))) } }
 {
     if at > 0 {
-        tx.put_words(r, message, at - 1, run);
+        message.put_words(tx, r, at - 1, run);
         return;
     }
-    tx.put(r, message.len() as u64);
-    tx.put_words(r, message, 0, run - 1);
+    tx.put(r, message.len());
+    message.put_words(tx, r, 0, run - 1);
 }
 
 /// Stores the next words of the frame, as many as are known to fit.
-pub(crate) fn store_run(tx: &mut RingTx, r: &Region, message: &[u8], counts: Stored) -> Stored
+pub(crate) fn store_run(tx: &mut RingTx, r: &Region, message: &Body<'_>, counts: Stored) -> Stored
     requires here { tx.old.region ≡ r.now }
     requires stays { tx.old.end.gone ≡ false }
     requires counted { Counted tx.old.end counts.free counts.unpublished }
@@ -55,7 +56,7 @@ pub(crate) fn store_run(tx: &mut RingTx, r: &Region, message: &[u8], counts: Sto
     ensures counted { Counted tx.new.end result.free result.unpublished }
     ensures words { result.words ≡ counts.words + min counts.free (length (frame message.now) - counts.words) }
 {
-    let total = 1 + words_of(message.len() as u64);
+    let total = 1 + words_of(message.len());
     let run = counts.free.min(total - counts.words);
     put_frame_words(tx, r, message, counts.words, run);
     Stored {
@@ -69,7 +70,7 @@ pub(crate) fn store_run(tx: &mut RingTx, r: &Region, message: &[u8], counts: Sto
 pub(crate) fn store_words(
     tx: &mut RingTx,
     r: &Region,
-    message: &[u8],
+    message: &Body<'_>,
     counts: Stored,
 ) -> (Stored, bool)
     requires here { tx.old.region ≡ r.now }
@@ -86,7 +87,7 @@ pub(crate) fn store_words(
     ensures found { RoomFound tx.old.told tx.old.end tx.new.end }
     ensures all { MatchBool result.1 (result.0.words ≡ length (frame message.now)) (result.0.words < length (frame message.now)) }
 {
-    let total = 1 + words_of(message.len() as u64);
+    let total = 1 + words_of(message.len());
     let mut counts = counts;
     while counts.words < total {
         counts = look_for_room(tx, r, counts, 1);

@@ -1,10 +1,11 @@
 //! The calls that wait for the other end.
 
-ghost use Rattle.std.specs.Prelude.{◌≡◌, ◌≤◌, ◌++◌, List, ℕ, false};
+ghost use Rattle.std.specs.Prelude.{◌≡◌, ◌<◌, ◌≤◌, ◌++◌, ◌^◌, List, ℕ, false, length};
 ghost use Rattle.mq_handle.specs.Sends.{Continues, StaysOpen};
 ghost use Rattle.mq_handle.specs.Receives.{incoming};
 ghost use Rattle.mq_handle.specs.Waiting.{EndsSend, EndsReceive};
 ghost use Rattle.mq_handle.specs.Told.{SendEndFound, ReceiveEndFound};
+ghost use Rattle.mq_handle.specs.Parts.{joined};
 
 use crate::answers::{ReceiveAnswer, ReceiveDone, SendAnswer, SendDone};
 use crate::receiver::Receiver;
@@ -29,6 +30,37 @@ impl Sender {
         let backoff = Backoff::new();
         for _ in rt.forever() {
             match self.try_send(r, message, flush) {
+                SendAnswer::WouldBlock { stored: _ } => backoff.snooze(),
+                SendAnswer::Sent => return SendDone::Sent,
+                SendAnswer::Detached => return SendDone::Detached,
+                SendAnswer::TooLong { length } => return SendDone::TooLong { length },
+            }
+        }
+        unreachable!()
+    }
+
+    /// `send` of the parts as one message, which is their bytes one after another: the receiver can't tell it from a
+    /// message that came in one slice. Each try costs as much as `try_send_parts`. It may wait forever, if the receiver
+    /// neither takes words nor detaches.
+    pub fn send_parts<R: Wait>(
+        &mut self,
+        rt: &R,
+        r: &Region,
+        parts: &[&[u8]],
+        flush: bool,
+    ) -> SendDone
+        requires here { self.old.region ≡ r.now }
+        requires stays { self.old.end.gone ≡ false }
+        requires few { length (joined parts.now) < 2 ^ 64 }
+        requires continues { Continues self.old.end.put (joined parts.now) }
+        ensures kept { self.new ≡ record self.old { end = self.new.end } }
+        ensures stays { StaysOpen self.old.end self.new.end }
+        ensures answer { EndsSend self.old.end self.new.end (joined parts.now) flush result }
+        ensures told { SendEndFound self.old.told self.old.end self.new.end result }
+    {
+        let backoff = Backoff::new();
+        for _ in rt.forever() {
+            match self.try_send_parts(r, parts, flush) {
                 SendAnswer::WouldBlock { stored: _ } => backoff.snooze(),
                 SendAnswer::Sent => return SendDone::Sent,
                 SendAnswer::Detached => return SendDone::Detached,

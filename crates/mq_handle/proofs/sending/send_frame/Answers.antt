@@ -16,24 +16,24 @@ unset e = cc
 
 pub store_words-done-requires-clause-stored : goal.store_words-done-requires-clause-stored
 store_words-done-requires-clause-stored c =
-    let mine : IsMessage c.args.tx.now.end.ring.max c.args.message.now = record { bytes = all_bytes c.args.message.now (λ i. (c.type_inv.message i).fits); short = omega (arith, c.if-length-from.false, c.from.ensures, c.max.ensures) } in
+    let mine : IsMessage c.args.tx.now.end.ring.max c.args.message.now = record { bytes = c.len-length.ensures.bytes; short = omega (arith, c.if-length-from.false, c.from.ensures, c.max.ensures, c.len-length.ensures.count) } in
     (begun c.args.tx.now.end c.args.counts.words c.args.message.now c.requires.framed c.requires.continues mine).low
 
 pub store_words-done-requires-clause-begins : goal.store_words-done-requires-clause-begins
 store_words-done-requires-clause-begins c =
-    let mine : IsMessage c.args.tx.now.end.ring.max c.args.message.now = record { bytes = all_bytes c.args.message.now (λ i. (c.type_inv.message i).fits); short = omega (arith, c.if-length-from.false, c.from.ensures, c.max.ensures) } in
+    let mine : IsMessage c.args.tx.now.end.ring.max c.args.message.now = record { bytes = c.len-length.ensures.bytes; short = omega (arith, c.if-length-from.false, c.from.ensures, c.max.ensures, c.len-length.ensures.count) } in
     let b = begun c.args.tx.now.end c.args.counts.words c.args.message.now c.requires.framed c.requires.continues mine in
     subst (λ (o : SendingEnd). o.end.put ≡ base_of o.end c.args.counts.words ++ take c.args.counts.words (frame c.args.message.now)) (sym c.if-look_flag.ensures.end) b.begins
 
 pub store_words-done-requires-clause-framed : goal.store_words-done-requires-clause-framed
 store_words-done-requires-clause-framed c =
-    let mine : IsMessage c.args.tx.now.end.ring.max c.args.message.now = record { bytes = all_bytes c.args.message.now (λ i. (c.type_inv.message i).fits); short = omega (arith, c.if-length-from.false, c.from.ensures, c.max.ensures) } in
+    let mine : IsMessage c.args.tx.now.end.ring.max c.args.message.now = record { bytes = c.len-length.ensures.bytes; short = omega (arith, c.if-length-from.false, c.from.ensures, c.max.ensures, c.len-length.ensures.count) } in
     let b = begun c.args.tx.now.end c.args.counts.words c.args.message.now c.requires.framed c.requires.continues mine in
     subst (λ (o : SendingEnd). IsFramed o.end.ring.max (base_of o.end c.args.counts.words ++ frame c.args.message.now)) (sym c.if-look_flag.ensures.end) b.framed
 
 pub returns-then-not-done-clause-answer : goal.returns-then-not-done-clause-answer
 returns-then-not-done-clause-answer c =
-    let mine : IsMessage c.args.tx.now.end.ring.max c.args.message.now = record { bytes = all_bytes c.args.message.now (λ i. (c.type_inv.message i).fits); short = omega (arith, c.if-length-from.false, c.from.ensures, c.max.ensures) } in
+    let mine : IsMessage c.args.tx.now.end.ring.max c.args.message.now = record { bytes = c.len-length.ensures.bytes; short = omega (arith, c.if-length-from.false, c.from.ensures, c.max.ensures, c.len-length.ensures.count) } in
     let b = begun c.args.tx.now.end c.args.counts.words c.args.message.now c.requires.framed c.requires.continues mine in
     let end : c.look_flag.new.self.end ≡ sender_sees_flag c.args.tx.now.end 0 = ap (λ (o : SendingEnd). o.end) c.if-look_flag.ensures.end in
     let all = chosen_false _ _ c.store_words-done.result.1 c.if-not-done.true c.store_words-done.ensures.all in
@@ -44,7 +44,7 @@ returns-then-not-done-clause-answer c =
 
 pub returns-then-not-done-clause-steps : goal.returns-then-not-done-clause-steps
 returns-then-not-done-clause-steps c =
-    let mine : IsMessage c.args.tx.now.end.ring.max c.args.message.now = record { bytes = all_bytes c.args.message.now (λ i. (c.type_inv.message i).fits); short = omega (arith, c.if-length-from.false, c.from.ensures, c.max.ensures) } in
+    let mine : IsMessage c.args.tx.now.end.ring.max c.args.message.now = record { bytes = c.len-length.ensures.bytes; short = omega (arith, c.if-length-from.false, c.from.ensures, c.max.ensures, c.len-length.ensures.count) } in
     let b = begun c.args.tx.now.end c.args.counts.words c.args.message.now c.requires.framed c.requires.continues mine in
     let end : c.look_flag.new.self.end ≡ sender_sees_flag c.args.tx.now.end 0 = ap (λ (o : SendingEnd). o.end) c.if-look_flag.ensures.end in
     let all = chosen_false _ _ c.store_words-done.result.1 c.if-not-done.true c.store_words-done.ensures.all in
@@ -55,7 +55,7 @@ returns-then-not-done-clause-steps c =
 
 pub returns-then-not-done-clause-stays : goal.returns-then-not-done-clause-stays
 returns-then-not-done-clause-stays c =
-    let mine : IsMessage c.args.tx.now.end.ring.max c.args.message.now = record { bytes = all_bytes c.args.message.now (λ i. (c.type_inv.message i).fits); short = omega (arith, c.if-length-from.false, c.from.ensures, c.max.ensures) } in
+    let mine : IsMessage c.args.tx.now.end.ring.max c.args.message.now = record { bytes = c.len-length.ensures.bytes; short = omega (arith, c.if-length-from.false, c.from.ensures, c.max.ensures, c.len-length.ensures.count) } in
     let b = begun c.args.tx.now.end c.args.counts.words c.args.message.now c.requires.framed c.requires.continues mine in
     let end : c.look_flag.new.self.end ≡ sender_sees_flag c.args.tx.now.end 0 = ap (λ (o : SendingEnd). o.end) c.if-look_flag.ensures.end in
     let all = chosen_false _ _ c.store_words-done.result.1 c.if-not-done.true c.store_words-done.ensures.all in
@@ -66,7 +66,7 @@ returns-then-not-done-clause-stays c =
 
 pub returns-then-not-done-clause-framed : goal.returns-then-not-done-clause-framed
 returns-then-not-done-clause-framed c =
-    let mine : IsMessage c.args.tx.now.end.ring.max c.args.message.now = record { bytes = all_bytes c.args.message.now (λ i. (c.type_inv.message i).fits); short = omega (arith, c.if-length-from.false, c.from.ensures, c.max.ensures) } in
+    let mine : IsMessage c.args.tx.now.end.ring.max c.args.message.now = record { bytes = c.len-length.ensures.bytes; short = omega (arith, c.if-length-from.false, c.from.ensures, c.max.ensures, c.len-length.ensures.count) } in
     let b = begun c.args.tx.now.end c.args.counts.words c.args.message.now c.requires.framed c.requires.continues mine in
     let end : c.look_flag.new.self.end ≡ sender_sees_flag c.args.tx.now.end 0 = ap (λ (o : SendingEnd). o.end) c.if-look_flag.ensures.end in
     let all = chosen_false _ _ c.store_words-done.result.1 c.if-not-done.true c.store_words-done.ensures.all in
@@ -84,7 +84,7 @@ finish_storing-counts-requires-clause-stays c =
 
 pub returns-clause-answer : goal.returns-clause-answer
 returns-clause-answer c =
-    let mine : IsMessage c.args.tx.now.end.ring.max c.args.message.now = record { bytes = all_bytes c.args.message.now (λ i. (c.type_inv.message i).fits); short = omega (arith, c.if-length-from.false, c.from.ensures, c.max.ensures) } in
+    let mine : IsMessage c.args.tx.now.end.ring.max c.args.message.now = record { bytes = c.len-length.ensures.bytes; short = omega (arith, c.if-length-from.false, c.from.ensures, c.max.ensures, c.len-length.ensures.count) } in
     let b = begun c.args.tx.now.end c.args.counts.words c.args.message.now c.requires.framed c.requires.continues mine in
     let end : c.look_flag.new.self.end ≡ sender_sees_flag c.args.tx.now.end 0 = ap (λ (o : SendingEnd). o.end) c.if-look_flag.ensures.end in
     let all = chosen_true _ _ c.store_words-done.result.1 c.if-not-done.false c.store_words-done.ensures.all in
@@ -97,7 +97,7 @@ returns-clause-answer c =
 
 pub returns-clause-steps : goal.returns-clause-steps
 returns-clause-steps c =
-    let mine : IsMessage c.args.tx.now.end.ring.max c.args.message.now = record { bytes = all_bytes c.args.message.now (λ i. (c.type_inv.message i).fits); short = omega (arith, c.if-length-from.false, c.from.ensures, c.max.ensures) } in
+    let mine : IsMessage c.args.tx.now.end.ring.max c.args.message.now = record { bytes = c.len-length.ensures.bytes; short = omega (arith, c.if-length-from.false, c.from.ensures, c.max.ensures, c.len-length.ensures.count) } in
     let b = begun c.args.tx.now.end c.args.counts.words c.args.message.now c.requires.framed c.requires.continues mine in
     let end : c.look_flag.new.self.end ≡ sender_sees_flag c.args.tx.now.end 0 = ap (λ (o : SendingEnd). o.end) c.if-look_flag.ensures.end in
     let all = chosen_true _ _ c.store_words-done.result.1 c.if-not-done.false c.store_words-done.ensures.all in
@@ -109,7 +109,7 @@ returns-clause-steps c =
 
 pub returns-clause-stays : goal.returns-clause-stays
 returns-clause-stays c =
-    let mine : IsMessage c.args.tx.now.end.ring.max c.args.message.now = record { bytes = all_bytes c.args.message.now (λ i. (c.type_inv.message i).fits); short = omega (arith, c.if-length-from.false, c.from.ensures, c.max.ensures) } in
+    let mine : IsMessage c.args.tx.now.end.ring.max c.args.message.now = record { bytes = c.len-length.ensures.bytes; short = omega (arith, c.if-length-from.false, c.from.ensures, c.max.ensures, c.len-length.ensures.count) } in
     let b = begun c.args.tx.now.end c.args.counts.words c.args.message.now c.requires.framed c.requires.continues mine in
     let end : c.look_flag.new.self.end ≡ sender_sees_flag c.args.tx.now.end 0 = ap (λ (o : SendingEnd). o.end) c.if-look_flag.ensures.end in
     let all = chosen_true _ _ c.store_words-done.result.1 c.if-not-done.false c.store_words-done.ensures.all in
@@ -122,7 +122,7 @@ returns-clause-stays c =
 
 pub returns-clause-framed : goal.returns-clause-framed
 returns-clause-framed c =
-    let mine : IsMessage c.args.tx.now.end.ring.max c.args.message.now = record { bytes = all_bytes c.args.message.now (λ i. (c.type_inv.message i).fits); short = omega (arith, c.if-length-from.false, c.from.ensures, c.max.ensures) } in
+    let mine : IsMessage c.args.tx.now.end.ring.max c.args.message.now = record { bytes = c.len-length.ensures.bytes; short = omega (arith, c.if-length-from.false, c.from.ensures, c.max.ensures, c.len-length.ensures.count) } in
     let b = begun c.args.tx.now.end c.args.counts.words c.args.message.now c.requires.framed c.requires.continues mine in
     let end : c.look_flag.new.self.end ≡ sender_sees_flag c.args.tx.now.end 0 = ap (λ (o : SendingEnd). o.end) c.if-look_flag.ensures.end in
     let all = chosen_true _ _ c.store_words-done.result.1 c.if-not-done.false c.store_words-done.ensures.all in

@@ -23,8 +23,8 @@ unset e = cc
 pub overflow_sub-wanted : goal.overflow_sub-wanted
 overflow_sub-wanted c =
     let m = c.args.message.now in
-    let low = unfinished _ _ c.args.counts.words m c.requires.framed c.requires.continues (all_bytes m (λ i. (c.type_inv.message i).fits)) in
-    omega (arith, low, length-frame m, c.words_of.ensures)
+    let low = unfinished _ _ c.args.counts.words m c.requires.framed c.requires.continues c.len-length.ensures.bytes in
+    omega (arith, low, length-frame m, c.words_of.ensures, c.len-length.ensures.count)
 
 pub returns-then-counts-wanted-clause-answer : goal.returns-then-counts-wanted-clause-answer
 returns-then-counts-wanted-clause-answer c =
@@ -34,7 +34,7 @@ returns-then-counts-wanted-clause-answer c =
     let end : c.look_flag.new.self.end ≡ sender_sees_flag old 0 = ap (λ (o : SendingEnd). o.end) c.if-look_flag.ensures.end in
     let counted = counted_seen old _ _ 0 c.requires.counted in
     let looks = subst (λ (s : Sending). LooksForRoom s c.look_for_room-counts.new.tx.end (1 + c.words_of.result - c.args.counts.words) c.args.counts.free c.look_for_room-counts.result.unpublished) end c.look_for_room-counts.ensures.looks in
-    let want : 1 + c.words_of.result - c.args.counts.words ≡ length (frame m) - c.args.counts.words = omega (arith, length-frame m, c.words_of.ensures) in
+    let want : 1 + c.words_of.result - c.args.counts.words ≡ length (frame m) - c.args.counts.words = omega (arith, length-frame m, c.words_of.ensures, c.len-length.ensures.count) in
     let out = left_out old c.look_for_room-counts.new.tx.end c.args.counts.words _ _ _ _ _ m fits c.requires.framed want c.requires.stays (λ e. unset (c.if-look_flag.ensures.stays_set e)) counted c.look_for_room-counts.ensures.counted looks c.if-counts-wanted.true in
     subst (IsLeftOut old c.look_for_room-counts.new.tx.end m) (sym c.look_for_room-counts.ensures.stored) out.answer
 
@@ -46,7 +46,7 @@ returns-then-counts-wanted-clause-stays c =
     let end : c.look_flag.new.self.end ≡ sender_sees_flag old 0 = ap (λ (o : SendingEnd). o.end) c.if-look_flag.ensures.end in
     let counted = counted_seen old _ _ 0 c.requires.counted in
     let looks = subst (λ (s : Sending). LooksForRoom s c.look_for_room-counts.new.tx.end (1 + c.words_of.result - c.args.counts.words) c.args.counts.free c.look_for_room-counts.result.unpublished) end c.look_for_room-counts.ensures.looks in
-    let want : 1 + c.words_of.result - c.args.counts.words ≡ length (frame m) - c.args.counts.words = omega (arith, length-frame m, c.words_of.ensures) in
+    let want : 1 + c.words_of.result - c.args.counts.words ≡ length (frame m) - c.args.counts.words = omega (arith, length-frame m, c.words_of.ensures, c.len-length.ensures.count) in
     let out = left_out old c.look_for_room-counts.new.tx.end c.args.counts.words _ _ _ _ _ m fits c.requires.framed want c.requires.stays (λ e. unset (c.if-look_flag.ensures.stays_set e)) counted c.look_for_room-counts.ensures.counted looks c.if-counts-wanted.true in
     out.stays
 
@@ -58,7 +58,7 @@ returns-then-counts-wanted-clause-framed c =
     let end : c.look_flag.new.self.end ≡ sender_sees_flag old 0 = ap (λ (o : SendingEnd). o.end) c.if-look_flag.ensures.end in
     let counted = counted_seen old _ _ 0 c.requires.counted in
     let looks = subst (λ (s : Sending). LooksForRoom s c.look_for_room-counts.new.tx.end (1 + c.words_of.result - c.args.counts.words) c.args.counts.free c.look_for_room-counts.result.unpublished) end c.look_for_room-counts.ensures.looks in
-    let want : 1 + c.words_of.result - c.args.counts.words ≡ length (frame m) - c.args.counts.words = omega (arith, length-frame m, c.words_of.ensures) in
+    let want : 1 + c.words_of.result - c.args.counts.words ≡ length (frame m) - c.args.counts.words = omega (arith, length-frame m, c.words_of.ensures, c.len-length.ensures.count) in
     let out = left_out old c.look_for_room-counts.new.tx.end c.args.counts.words _ _ _ _ _ m fits c.requires.framed want c.requires.stays (λ e. unset (c.if-look_flag.ensures.stays_set e)) counted c.look_for_room-counts.ensures.counted looks c.if-counts-wanted.true in
     subst (InFrames c.look_for_room-counts.new.tx.end.ring.max c.look_for_room-counts.new.tx.end.put) (sym c.look_for_room-counts.ensures.stored) out.framed
 
@@ -70,19 +70,19 @@ store_run-counts-requires-clause-stays c =
     let end : c.look_flag.new.self.end ≡ sender_sees_flag old 0 = ap (λ (o : SendingEnd). o.end) c.if-look_flag.ensures.end in
     let counted = counted_seen old _ _ 0 c.requires.counted in
     let looks = subst (λ (s : Sending). LooksForRoom s c.look_for_room-counts.new.tx.end (1 + c.words_of.result - c.args.counts.words) c.args.counts.free c.look_for_room-counts.result.unpublished) end c.look_for_room-counts.ensures.looks in
-    let want : 1 + c.words_of.result - c.args.counts.words ≡ length (frame m) - c.args.counts.words = omega (arith, length-frame m, c.words_of.ensures) in
+    let want : 1 + c.words_of.result - c.args.counts.words ≡ length (frame m) - c.args.counts.words = omega (arith, length-frame m, c.words_of.ensures, c.len-length.ensures.count) in
     looked_open old c.look_for_room-counts.new.tx.end _ _ _ _ c.requires.stays counted looks
 
 pub store_run-counts-requires-clause-some : goal.store_run-counts-requires-clause-some
 store_run-counts-requires-clause-some c =
     let m = c.args.message.now in
-    let low = unfinished _ _ c.args.counts.words m c.requires.framed c.requires.continues (all_bytes m (λ i. (c.type_inv.message i).fits)) in
-    omega (arith, low, length-frame m, c.words_of.ensures, c.if-counts-wanted.false)
+    let low = unfinished _ _ c.args.counts.words m c.requires.framed c.requires.continues c.len-length.ensures.bytes in
+    omega (arith, low, length-frame m, c.words_of.ensures, c.len-length.ensures.count, c.if-counts-wanted.false)
 
 pub store_run-counts-requires-clause-more : goal.store_run-counts-requires-clause-more
 store_run-counts-requires-clause-more c =
     let m = c.args.message.now in
-    let low = unfinished _ _ c.args.counts.words m c.requires.framed c.requires.continues (all_bytes m (λ i. (c.type_inv.message i).fits)) in
+    let low = unfinished _ _ c.args.counts.words m c.requires.framed c.requires.continues c.len-length.ensures.bytes in
     omega (arith, low, c.look_for_room-counts.ensures.stored)
 
 pub store_run-counts-requires-clause-framed : goal.store_run-counts-requires-clause-framed
@@ -93,8 +93,8 @@ store_run-counts-requires-clause-framed c =
     let end : c.look_flag.new.self.end ≡ sender_sees_flag old 0 = ap (λ (o : SendingEnd). o.end) c.if-look_flag.ensures.end in
     let counted = counted_seen old _ _ 0 c.requires.counted in
     let looks = subst (λ (s : Sending). LooksForRoom s c.look_for_room-counts.new.tx.end (1 + c.words_of.result - c.args.counts.words) c.args.counts.free c.look_for_room-counts.result.unpublished) end c.look_for_room-counts.ensures.looks in
-    let want : 1 + c.words_of.result - c.args.counts.words ≡ length (frame m) - c.args.counts.words = omega (arith, length-frame m, c.words_of.ensures) in
-    let mine : IsMessage old.ring.max m = record { bytes = all_bytes m (λ i. (c.type_inv.message i).fits); short = fits.0 } in
+    let want : 1 + c.words_of.result - c.args.counts.words ≡ length (frame m) - c.args.counts.words = omega (arith, length-frame m, c.words_of.ensures, c.len-length.ensures.count) in
+    let mine : IsMessage old.ring.max m = record { bytes = c.len-length.ensures.bytes; short = fits.0 } in
     let g = begun old c.args.counts.words m c.requires.framed c.requires.continues mine in
     looked_framed old c.look_for_room-counts.new.tx.end c.args.counts.words _ _ _ _ _ m g c.look_for_room-counts.ensures.stored counted looks
 
@@ -106,8 +106,8 @@ finish_storing-counts-requires-clause-stays c =
     let end : c.look_flag.new.self.end ≡ sender_sees_flag old 0 = ap (λ (o : SendingEnd). o.end) c.if-look_flag.ensures.end in
     let counted = counted_seen old _ _ 0 c.requires.counted in
     let looks = subst (λ (s : Sending). LooksForRoom s c.look_for_room-counts.new.tx.end (1 + c.words_of.result - c.args.counts.words) c.args.counts.free c.look_for_room-counts.result.unpublished) end c.look_for_room-counts.ensures.looks in
-    let want : 1 + c.words_of.result - c.args.counts.words ≡ length (frame m) - c.args.counts.words = omega (arith, length-frame m, c.words_of.ensures) in
-    let mine : IsMessage old.ring.max m = record { bytes = all_bytes m (λ i. (c.type_inv.message i).fits); short = fits.0 } in
+    let want : 1 + c.words_of.result - c.args.counts.words ≡ length (frame m) - c.args.counts.words = omega (arith, length-frame m, c.words_of.ensures, c.len-length.ensures.count) in
+    let mine : IsMessage old.ring.max m = record { bytes = c.len-length.ensures.bytes; short = fits.0 } in
     let g = begun old c.args.counts.words m c.requires.framed c.requires.continues mine in
     let run = ap (λ (o : SendingEnd). o.end) c.store_run-counts.ensures.end in
     ap (λ (s : Sending). s.gone) run ∙ (has_put c.look_for_room-counts.new.tx.end (take c.look_for_room-counts.result.free (drop c.look_for_room-counts.result.words (frame m)))).gone ∙ looked_open old c.look_for_room-counts.new.tx.end _ _ _ _ c.requires.stays counted looks
@@ -120,8 +120,8 @@ returns-clause-answer c =
     let end : c.look_flag.new.self.end ≡ sender_sees_flag old 0 = ap (λ (o : SendingEnd). o.end) c.if-look_flag.ensures.end in
     let counted = counted_seen old _ _ 0 c.requires.counted in
     let looks = subst (λ (s : Sending). LooksForRoom s c.look_for_room-counts.new.tx.end (1 + c.words_of.result - c.args.counts.words) c.args.counts.free c.look_for_room-counts.result.unpublished) end c.look_for_room-counts.ensures.looks in
-    let want : 1 + c.words_of.result - c.args.counts.words ≡ length (frame m) - c.args.counts.words = omega (arith, length-frame m, c.words_of.ensures) in
-    let mine : IsMessage old.ring.max m = record { bytes = all_bytes m (λ i. (c.type_inv.message i).fits); short = fits.0 } in
+    let want : 1 + c.words_of.result - c.args.counts.words ≡ length (frame m) - c.args.counts.words = omega (arith, length-frame m, c.words_of.ensures, c.len-length.ensures.count) in
+    let mine : IsMessage old.ring.max m = record { bytes = c.len-length.ensures.bytes; short = fits.0 } in
     let g = begun old c.args.counts.words m c.requires.framed c.requires.continues mine in
     let w = sent_whole old c.look_for_room-counts.new.tx.end c.args.counts.words _ _ c.look_for_room-counts.result.free _ _ m c.args.flush g fits c.requires.framed want c.requires.stays (λ e. unset (c.if-look_flag.ensures.stays_set e)) counted c.look_for_room-counts.ensures.counted looks (omega (arith, c.if-counts-wanted.false)) in
     let run : c.store_run-counts.new.tx.end ≡ fold puts c.look_for_room-counts.new.tx.end (take c.look_for_room-counts.result.free (drop c.args.counts.words (frame m))) =
@@ -138,8 +138,8 @@ returns-clause-stays c =
     let end : c.look_flag.new.self.end ≡ sender_sees_flag old 0 = ap (λ (o : SendingEnd). o.end) c.if-look_flag.ensures.end in
     let counted = counted_seen old _ _ 0 c.requires.counted in
     let looks = subst (λ (s : Sending). LooksForRoom s c.look_for_room-counts.new.tx.end (1 + c.words_of.result - c.args.counts.words) c.args.counts.free c.look_for_room-counts.result.unpublished) end c.look_for_room-counts.ensures.looks in
-    let want : 1 + c.words_of.result - c.args.counts.words ≡ length (frame m) - c.args.counts.words = omega (arith, length-frame m, c.words_of.ensures) in
-    let mine : IsMessage old.ring.max m = record { bytes = all_bytes m (λ i. (c.type_inv.message i).fits); short = fits.0 } in
+    let want : 1 + c.words_of.result - c.args.counts.words ≡ length (frame m) - c.args.counts.words = omega (arith, length-frame m, c.words_of.ensures, c.len-length.ensures.count) in
+    let mine : IsMessage old.ring.max m = record { bytes = c.len-length.ensures.bytes; short = fits.0 } in
     let g = begun old c.args.counts.words m c.requires.framed c.requires.continues mine in
     let w = sent_whole old c.look_for_room-counts.new.tx.end c.args.counts.words _ _ c.look_for_room-counts.result.free _ _ m c.args.flush g fits c.requires.framed want c.requires.stays (λ e. unset (c.if-look_flag.ensures.stays_set e)) counted c.look_for_room-counts.ensures.counted looks (omega (arith, c.if-counts-wanted.false)) in
     let run : c.store_run-counts.new.tx.end ≡ fold puts c.look_for_room-counts.new.tx.end (take c.look_for_room-counts.result.free (drop c.args.counts.words (frame m))) =
@@ -156,8 +156,8 @@ returns-clause-framed c =
     let end : c.look_flag.new.self.end ≡ sender_sees_flag old 0 = ap (λ (o : SendingEnd). o.end) c.if-look_flag.ensures.end in
     let counted = counted_seen old _ _ 0 c.requires.counted in
     let looks = subst (λ (s : Sending). LooksForRoom s c.look_for_room-counts.new.tx.end (1 + c.words_of.result - c.args.counts.words) c.args.counts.free c.look_for_room-counts.result.unpublished) end c.look_for_room-counts.ensures.looks in
-    let want : 1 + c.words_of.result - c.args.counts.words ≡ length (frame m) - c.args.counts.words = omega (arith, length-frame m, c.words_of.ensures) in
-    let mine : IsMessage old.ring.max m = record { bytes = all_bytes m (λ i. (c.type_inv.message i).fits); short = fits.0 } in
+    let want : 1 + c.words_of.result - c.args.counts.words ≡ length (frame m) - c.args.counts.words = omega (arith, length-frame m, c.words_of.ensures, c.len-length.ensures.count) in
+    let mine : IsMessage old.ring.max m = record { bytes = c.len-length.ensures.bytes; short = fits.0 } in
     let g = begun old c.args.counts.words m c.requires.framed c.requires.continues mine in
     let w = sent_whole old c.look_for_room-counts.new.tx.end c.args.counts.words _ _ c.look_for_room-counts.result.free _ _ m c.args.flush g fits c.requires.framed want c.requires.stays (λ e. unset (c.if-look_flag.ensures.stays_set e)) counted c.look_for_room-counts.ensures.counted looks (omega (arith, c.if-counts-wanted.false)) in
     let run : c.store_run-counts.new.tx.end ≡ fold puts c.look_for_room-counts.new.tx.end (take c.look_for_room-counts.result.free (drop c.args.counts.words (frame m))) =

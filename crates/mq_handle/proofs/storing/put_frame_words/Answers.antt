@@ -27,8 +27,9 @@ put-requires-clause-framed c =
     let m = c.args.message.now in
     let ws = words_from 0 (c.args.run - 1) m in
     let run = first_run m c.args.at c.args.run (omega (arith, c.if-at-gt0.false)) c.requires.some in
-    framed_front c.args.tx.now.end.ring.max (put ++ take c.args.run (drop c.args.at (frame m))) (put ++ (length m ∷ [])) ws c.requires.framed
-    (ap (λ (xs : List ℕ). put ++ xs) run ∙ sym (append_assoc put (length m ∷ []) ws))
+    subst (λ (n : ℕ). IsFramed c.args.tx.now.end.ring.max (put ++ (n ∷ []))) (sym c.len.ensures.count)
+    (framed_front c.args.tx.now.end.ring.max (put ++ take c.args.run (drop c.args.at (frame m))) (put ++ (length m ∷ [])) ws c.requires.framed
+    (ap (λ (xs : List ℕ). put ++ xs) run ∙ sym (append_assoc put (length m ∷ []) ws)))
 
 pub put_words-requires-2-clause-framed : goal.put_words-requires-2-clause-framed
 put_words-requires-2-clause-framed c =
@@ -36,13 +37,13 @@ put_words-requires-2-clause-framed c =
     let m = c.args.message.now in
     let ws = words_from 0 (c.args.run - 1) m in
     let run = first_run m c.args.at c.args.run (omega (arith, c.if-at-gt0.false)) c.requires.some in
-    let end : c.put.new.self.end ≡ puts c.args.tx.now.end (length m) = ap (λ (o : SendingEnd). o.end) c.put.ensures in
+    let end : c.put.new.self.end ≡ puts c.args.tx.now.end (length m) = ap (λ (o : SendingEnd). o.end) c.put.ensures ∙ ap (puts c.args.tx.now.end) c.len.ensures.count in
     subst (λ (s : Sending). IsFramed s.ring.max (s.put ++ ws)) (sym end)
     (subst (IsFramed c.args.tx.now.end.ring.max) (ap (λ (xs : List ℕ). put ++ xs) run ∙ sym (append_assoc put (length m ∷ []) ws)) c.requires.framed)
 
 pub put_words-requires-2-clause-room : goal.put_words-requires-2-clause-room
 put_words-requires-2-clause-room c =
-    let end : c.put.new.self.end ≡ puts c.args.tx.now.end (length c.args.message.now) = ap (λ (o : SendingEnd). o.end) c.put.ensures in
+    let end : c.put.new.self.end ≡ puts c.args.tx.now.end (length c.args.message.now) = ap (λ (o : SendingEnd). o.end) c.put.ensures ∙ ap (puts c.args.tx.now.end) c.len.ensures.count in
     subst (λ (s : Sending). length s.put + (c.args.run - 1) ≤ s.room + s.ring.size) (sym end) (omega (arith, c.requires.room, c.requires.some, length-append c.args.tx.now.end.put (length c.args.message.now ∷ [])))
 
 pub returns : goal.returns
@@ -51,4 +52,5 @@ returns c =
     let ws = words_from 0 (c.args.run - 1) m in
     c.put_words-2.ensures
     ∙ ap (λ (o : SendingEnd). record o { end = fold puts o.end ws }) c.put.ensures
+    ∙ ap (λ (n : ℕ). record c.args.tx.now { end = fold puts (puts c.args.tx.now.end n) ws }) c.len.ensures.count
     ∙ ap (λ (xs : List ℕ). record c.args.tx.now { end = fold puts c.args.tx.now.end xs }) (sym (first_run m c.args.at c.args.run (omega (arith, c.if-at-gt0.false)) c.requires.some))

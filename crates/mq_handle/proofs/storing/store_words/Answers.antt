@@ -14,13 +14,13 @@ use Rattle.mq_handle.proofs.storing.store_words.Goals as goal
 pub returns-then-counts-eq0-clause-steps : goal.returns-then-counts-eq0-clause-steps
 returns-then-counts-eq0-clause-steps c =
     let total = length-frame c.args.message.now in
-    let less = less_put _ _ _ c.loop-counts.counts.words c.loop-counts.invariant.put (omega (arith, c.loop-counts-test.true, c.words_of-total.ensures)) in
+    let less = less_put _ _ _ c.loop-counts.counts.words c.loop-counts.invariant.put (omega (arith, c.loop-counts-test.true, c.words_of-total.ensures, c.len.ensures.count)) in
     looked_full _ _ _ _ _ _ _ _ c.loop-counts.invariant.steps c.loop-counts.invariant.counted c.look_for_room-counts.ensures.counted less c.if-counts-eq0.true c.look_for_room-counts.ensures.looks
 
 pub returns-then-counts-eq0-clause-all : goal.returns-then-counts-eq0-clause-all
 returns-then-counts-eq0-clause-all c =
     let total = length-frame c.args.message.now in
-    omega (arith, c.loop-counts-test.true, c.words_of-total.ensures, c.look_for_room-counts.ensures.stored)
+    omega (arith, c.loop-counts-test.true, c.words_of-total.ensures, c.len.ensures.count, c.look_for_room-counts.ensures.stored)
 
 -- the words that are there before the next ones are stored
 abbrev Here : List ℕ → List ℕ → List ℕ → ℕ → Type 0
@@ -29,12 +29,12 @@ Here base all put k = put ≡ base ++ take k all
 pub store_run-counts-requires-clause-more : goal.store_run-counts-requires-clause-more
 store_run-counts-requires-clause-more c =
     let total = length-frame c.args.message.now in
-    omega (arith, c.loop-counts-test.true, c.words_of-total.ensures, c.look_for_room-counts.ensures.stored)
+    omega (arith, c.loop-counts-test.true, c.words_of-total.ensures, c.len.ensures.count, c.look_for_room-counts.ensures.stored)
 
 pub store_run-counts-requires-clause-framed : goal.store_run-counts-requires-clause-framed
 store_run-counts-requires-clause-framed c =
     let total = length-frame c.args.message.now in
-    let less = less_put _ _ _ c.loop-counts.counts.words c.loop-counts.invariant.put (omega (arith, c.loop-counts-test.true, c.words_of-total.ensures)) in
+    let less = less_put _ _ _ c.loop-counts.counts.words c.loop-counts.invariant.put (omega (arith, c.loop-counts-test.true, c.words_of-total.ensures, c.len.ensures.count)) in
     let put_same = looked_put _ _ _ _ _ c.look_for_room-counts.ensures.looks in
     let steps = looked _ _ _ _ _ _ _ _ c.loop-counts.invariant.steps c.loop-counts.invariant.counted c.look_for_room-counts.ensures.counted less (omega (arith, c.if-counts-eq0.false)) c.look_for_room-counts.ensures.looks in
     let ring = (changed _ _ _ steps).ring in
@@ -46,7 +46,7 @@ store_run-counts-requires-clause-framed c =
 pub store_run-counts-requires-clause-stays : goal.store_run-counts-requires-clause-stays
 store_run-counts-requires-clause-stays c =
     let total = length-frame c.args.message.now in
-    let less = less_put _ _ _ c.loop-counts.counts.words c.loop-counts.invariant.put (omega (arith, c.loop-counts-test.true, c.words_of-total.ensures)) in
+    let less = less_put _ _ _ c.loop-counts.counts.words c.loop-counts.invariant.put (omega (arith, c.loop-counts-test.true, c.words_of-total.ensures, c.len.ensures.count)) in
     let steps = looked _ _ _ _ _ _ _ _ c.loop-counts.invariant.steps c.loop-counts.invariant.counted c.look_for_room-counts.ensures.counted less (omega (arith, c.if-counts-eq0.false)) c.look_for_room-counts.ensures.looks in
     (changed _ _ _ steps).gone ∙ c.requires.stays
 
@@ -54,8 +54,8 @@ pub loop-counts-preserved : goal.loop-counts-preserved
 loop-counts-preserved c =
     let total = length-frame c.args.message.now in
     let all = frame c.args.message.now in
-    let low : c.look_for_room-counts.result.words < length all = omega (arith, c.loop-counts-test.true, c.words_of-total.ensures, c.look_for_room-counts.ensures.stored) in
-    let less = less_put _ _ _ c.loop-counts.counts.words c.loop-counts.invariant.put (omega (arith, c.loop-counts-test.true, c.words_of-total.ensures)) in
+    let low : c.look_for_room-counts.result.words < length all = omega (arith, c.loop-counts-test.true, c.words_of-total.ensures, c.len.ensures.count, c.look_for_room-counts.ensures.stored) in
+    let less = less_put _ _ _ c.loop-counts.counts.words c.loop-counts.invariant.put (omega (arith, c.loop-counts-test.true, c.words_of-total.ensures, c.len.ensures.count)) in
     let put_same = looked_put _ _ _ _ _ c.look_for_room-counts.ensures.looks in
     let steps = looked _ _ _ _ _ _ _ _ c.loop-counts.invariant.steps c.loop-counts.invariant.counted c.look_for_room-counts.ensures.counted less (omega (arith, c.if-counts-eq0.false)) c.look_for_room-counts.ensures.looks in
     let here : Here (base_of c.args.tx.now.end c.args.counts.words) all c.look_for_room-counts.new.tx.end.put c.look_for_room-counts.result.words =
@@ -80,12 +80,12 @@ loop-counts-preserved c =
 pub loop-counts-smaller : goal.loop-counts-smaller
 loop-counts-smaller c =
     let total = length-frame c.args.message.now in
-    omega (arith, c.loop-counts-test.true, c.words_of-total.ensures, c.look_for_room-counts.ensures.stored, c.if-counts-eq0.false, c.store_run-counts.ensures.words)
+    omega (arith, c.loop-counts-test.true, c.words_of-total.ensures, c.len.ensures.count, c.look_for_room-counts.ensures.stored, c.if-counts-eq0.false, c.store_run-counts.ensures.words)
 
 pub returns-clause-all : goal.returns-clause-all
 returns-clause-all c =
     let total = length-frame c.args.message.now in
-    omega (arith, c.loop-counts-test.false, c.words_of-total.ensures, c.loop-counts.invariant.stored)
+    omega (arith, c.loop-counts-test.false, c.words_of-total.ensures, c.len.ensures.count, c.loop-counts.invariant.stored)
 
 pub loop-counts-init : goal.loop-counts-init
 loop-counts-init c = record { kept = refl; steps = enters; counted = c.requires.counted; stored = c.requires.stored; found = inl (refl, refl); put = c.requires.begins }
