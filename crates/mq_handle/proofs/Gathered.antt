@@ -44,9 +44,9 @@ burst_words m from words start count inside start_is count_is =
     let all = word_count (length m) in
     let tail : drop from (packed_words all m) ≡ packed_words (all - from) rest = words_back from all (all - from) m (omega arith) ∙ ap (λ (k : ℕ). packed_words (all - from) (drop k m)) (sym start_is) in
     let same : packed_words words (take count rest) ≡ packed_words words rest = ⊎_elim
-        (λ (part : length rest < 8 * words). ap (λ (k : ℕ). packed_words words (take k rest)) (let e : count ≡ length rest = omega (arith, size) in e) ∙ ap (packed_words words) (take-length rest))
-        (λ (whole : 8 * words ≤ length rest). words_few words count rest (omega (arith, size)))
-        (cases_lt (length rest) (8 * words)) in
+    (λ (part : length rest < 8 * words). ap (λ (k : ℕ). packed_words words (take k rest)) (let e : count ≡ length rest = omega (arith, size) in e) ∙ ap (packed_words words) (take-length rest))
+    (λ (whole : 8 * words ≤ length rest). words_few words count rest (omega (arith, size)))
+    (cases_lt (length rest) (8 * words)) in
     words_front words (word_count (length (take count rest))) (take count rest) few
     ∙ same
     ∙ sym (words_front words (all - from) rest (omega arith))

@@ -124,14 +124,7 @@ fn put_parts(tx: &mut RingTx, r: &Region, parts: &[&[u8]], len: u64, from: u64, 
 }
 
 /// Stores that many words of the parts' bytes, from word `from` on, whose bytes the buffer has just room for.
-fn put_burst(
-    tx: &mut RingTx,
-    r: &Region,
-    parts: &[&[u8]],
-    from: u64,
-    words: u64,
-    buffer: &mut [u8],
-)
+fn put_burst(tx: &mut RingTx, r: &Region, parts: &[&[u8]], from: u64, words: u64, buffer: &mut [u8])
     requires here { tx.old.region ≡ r.now }
     requires stays { tx.old.end.gone ≡ false }
     requires small { length (joined parts.now) < 2 ^ 64 }
