@@ -4,6 +4,7 @@
 //! pass by one call at a time, and a size is from 1 to 2^30 bytes.
 
 use crate::errors;
+use crate::rows::chunk_calls;
 use crate::shared::{reserved, shared};
 use dsa_area::{AreaPass, area_words};
 use rattle_std::alloc::Global;
@@ -213,9 +214,7 @@ impl Area {
     /// As [`Area::alloc`].
     pub fn alloc_zeroed(&mut self, bytes: u64) -> Result<Chunk, NoSpace> {
         let mut chunk = self.alloc(bytes)?;
-        for at in 0..chunk.words() {
-            let _ = chunk.store(at, 0);
-        }
+        chunk.as_words_mut().fill(0);
         Ok(chunk)
     }
 
@@ -227,11 +226,9 @@ impl Area {
     /// As [`Area::alloc`].
     pub fn alloc_bytes(&mut self, bytes: &[u8]) -> Result<Chunk, NoSpace> {
         let mut chunk = self.alloc(bytes.len() as u64)?;
-        for (at, part) in (0..).zip(bytes.chunks(8)) {
-            let mut word = [0; 8];
-            word[..part.len()].copy_from_slice(part);
-            let _ = chunk.store(at, u64::from_le_bytes(word));
-        }
+        let (front, rest) = chunk.as_bytes_mut().split_at_mut(bytes.len());
+        front.copy_from_slice(bytes);
+        rest[..bytes.len().next_multiple_of(8) - bytes.len()].fill(0);
         Ok(chunk)
     }
 
@@ -265,20 +262,23 @@ fn pages_of(bytes: u64) -> u32 {
     u32::try_from(bytes.div_ceil(4096)).unwrap_or(u32::MAX)
 }
 
-/// The chunk has no such word or byte; nothing was done.
-#[derive(Clone, Copy, Debug, PartialEq, Eq)]
-pub struct NoWord;
-
-impl fmt::Display for NoWord {
-    fn fmt(&self, f: &mut fmt::Formatter<'_>) -> fmt::Result {
-        f.write_str("the chunk has no such word")
-    }
-}
-
-impl std::error::Error for NoWord {}
-
-/// A chunk of an area. Its words are only its holder's; if it is dropped they go back. Words count from 0, and the bytes of a word
-/// are its eight from the lowest on.
+/// A chunk of an area. Its words are only its holder's; if it is dropped they go back. Words count from 0, and its bytes are those of
+/// its words as the machine lays them out.
+///
+/// They are plain memory, so a chunk is a slice of words or bytes too:
+///
+/// ```
+/// use lembokuj::Area;
+///
+/// let mut area = Area::open(64, 1)?;
+/// let mut chunk = area.alloc_zeroed(100)?;
+/// chunk.as_words_mut()[..3].copy_from_slice(&[3, 1, 2]);
+/// chunk.as_words_mut()[..3].sort_unstable();
+/// assert_eq!(chunk.as_words()[..4], [1, 2, 3, 0]);
+/// chunk.as_bytes_mut()[40..45].copy_from_slice(b"bytes");
+/// assert!(chunk.as_bytes().len() >= 100 && chunk.as_bytes()[40..].starts_with(b"bytes"));
+/// # Ok::<(), Box<dyn std::error::Error>>(())
+/// ```
 pub struct Chunk {
     /// Some up to the drop.
     chunk: Option<region_words::Chunk>,
@@ -300,102 +300,31 @@ impl Chunk {
         self.words
     }
 
-    /// Whether it has `count` places from one on.
-    fn has(&self, at: u64, count: usize, each: u64) -> Result<(), NoWord> {
-        let end = at.checked_add(count as u64).ok_or(NoWord)?;
-        if end <= self.words * each { Ok(()) } else { Err(NoWord) }
-    }
-
-    /// The word at a place, if it has one there. One load.
-    #[inline]
+    /// Its words, in place.
     #[must_use]
-    pub fn load(&mut self, at: u64) -> Option<u64> {
-        match &mut self.chunk {
-            Some(chunk) if at < self.words => Some(chunk.load(&self.shared.region, at)),
-            _ => None,
-        }
+    pub fn as_words(&self) -> &[u64] {
+        self.chunk.as_ref().map_or(&[], |chunk| chunk.as_words(&self.shared.region))
     }
 
-    /// Changes the word at a place. One store.
-    ///
-    /// # Errors
-    ///
-    /// [`NoWord`].
-    #[inline]
-    pub fn store(&mut self, at: u64, value: u64) -> Result<(), NoWord> {
-        match &mut self.chunk {
-            Some(chunk) if at < self.words => {
-                chunk.store(&self.shared.region, at, value);
-                Ok(())
-            }
-            _ => Err(NoWord),
-        }
+    /// Its words in place, to be changed.
+    #[must_use]
+    pub fn as_words_mut(&mut self) -> &mut [u64] {
+        self.chunk.as_mut().map_or(&mut [], |chunk| chunk.as_words_mut(&self.shared.region))
     }
 
-    /// Copies its words from a place on, until the slice is full.
-    ///
-    /// # Errors
-    ///
-    /// [`NoWord`] if it has fewer.
-    pub fn read(&mut self, at: u64, words: &mut [u64]) -> Result<(), NoWord> {
-        self.has(at, words.len(), 1)?;
-        for (at, word) in (at..).zip(words) {
-            *word = self.load(at).ok_or(NoWord)?;
-        }
-        Ok(())
+    /// Its bytes, in place: eight for each word.
+    #[must_use]
+    pub fn as_bytes(&self) -> &[u8] {
+        self.chunk.as_ref().map_or(&[], |chunk| chunk.as_bytes(&self.shared.region))
     }
 
-    /// Changes its words from a place on to those of the slice.
-    ///
-    /// # Errors
-    ///
-    /// [`NoWord`] if it has fewer; nothing was changed.
-    pub fn write(&mut self, at: u64, words: &[u64]) -> Result<(), NoWord> {
-        self.has(at, words.len(), 1)?;
-        (at..).zip(words).try_for_each(|(at, word)| self.store(at, *word))
+    /// Its bytes in place, to be changed.
+    #[must_use]
+    pub fn as_bytes_mut(&mut self) -> &mut [u8] {
+        self.chunk.as_mut().map_or(&mut [], |chunk| chunk.as_bytes_mut(&self.shared.region))
     }
 
-    /// Copies its bytes from a place on, until the slice is full.
-    ///
-    /// # Errors
-    ///
-    /// [`NoWord`] if it has fewer.
-    pub fn read_bytes(&mut self, at: u64, bytes: &mut [u8]) -> Result<(), NoWord> {
-        self.has(at, bytes.len(), 8)?;
-        for (at, part, into) in pieces(at, bytes.len()) {
-            let word = self.load(at).ok_or(NoWord)?.to_le_bytes();
-            bytes[into..into + part.len()].copy_from_slice(&word[part]);
-        }
-        Ok(())
-    }
-
-    /// Changes its bytes from a place on to those of the slice.
-    ///
-    /// # Errors
-    ///
-    /// [`NoWord`] if it has fewer; nothing was changed.
-    pub fn write_bytes(&mut self, at: u64, bytes: &[u8]) -> Result<(), NoWord> {
-        self.has(at, bytes.len(), 8)?;
-        for (at, part, from) in pieces(at, bytes.len()) {
-            let mut word = self.load(at).ok_or(NoWord)?.to_le_bytes();
-            word[part.clone()].copy_from_slice(&bytes[from..from + part.len()]);
-            self.store(at, u64::from_le_bytes(word))?;
-        }
-        Ok(())
-    }
-}
-
-/// `count` bytes from a place on, cut at the ends of words: the word, its bytes, and how many bytes came before.
-fn pieces(at: u64, count: usize) -> impl Iterator<Item = (u64, std::ops::Range<usize>, usize)> {
-    let mut done = 0;
-    std::iter::from_fn(move || {
-        let place = at + done as u64;
-        let from = (place % 8) as usize;
-        let size = (8 - from).min(count - done);
-        let before = done;
-        done += size;
-        (size > 0).then_some((place / 8, from..from + size, before))
-    })
+    chunk_calls!();
 }
 
 impl Drop for Chunk {

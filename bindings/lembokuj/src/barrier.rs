@@ -1,8 +1,9 @@
 //! A barrier with phases.
 
 use crate::area::MOST_CALLERS;
-use crate::bell::{Limit, Over, awake};
+use crate::bell::awake;
 use crate::errors;
+use crate::limit::{Limit, Over};
 use crate::shared::{reserved, shared};
 use par_barrier::{BarrierAnswer, BarrierPass};
 use rattle_std::alloc::Global;

@@ -4,6 +4,7 @@
 //! each of its calls. The counts of a ring and the flag here are sequentially consistent: so either that look finds that somebody
 //! sleeps, or the last try saw what the call did, and no ring of the bell is missed.
 
+use crate::limit::{Limit, Over};
 use crate::shared::shared;
 use rattle_std::alloc::AllocError;
 use std::hint::spin_loop;
@@ -13,47 +14,12 @@ use std::sync::{Arc, Condvar, Mutex, PoisonError};
 #[cfg(feature = "async")]
 use std::task::Waker;
 use std::thread;
-use std::time::{Duration, Instant};
+use std::time::Duration;
 
 /// How many tries are made awake before the first sleep: those that spin, each twice as long as the one before, and then those that
 /// yield the processor.
 const SPINS: u32 = 7;
 const YIELDS: u32 = 24;
-
-/// How often a wait asks its caller whether it is to go on.
-pub(crate) const ASKED_EVERY: Duration = Duration::from_millis(10);
-
-/// How long a wait may last.
-pub(crate) enum Limit<'a> {
-    /// Until there is something.
-    Forever,
-    /// Or until this time.
-    Until(Instant),
-    /// Or as long as the function says so, which is asked about every 10 ms.
-    While(&'a mut dyn FnMut() -> bool),
-}
-
-impl Limit<'_> {
-    /// A limit at this time from now on. A time beyond all clocks is none.
-    pub(crate) fn after(time: Duration) -> Limit<'static> {
-        Instant::now().checked_add(time).map_or(Limit::Forever, Limit::Until)
-    }
-
-    /// How long to sleep before the next try, None for as long as it takes; or the wait is over.
-    pub(crate) fn next_sleep(&mut self) -> Result<Option<Duration>, Over> {
-        match self {
-            Limit::Forever => Ok(None),
-            Limit::Until(end) => match end.saturating_duration_since(Instant::now()) {
-                Duration::ZERO => Err(Over),
-                left => Ok(Some(left)),
-            },
-            Limit::While(asks) => asks().then_some(Some(ASKED_EVERY)).ok_or(Over),
-        }
-    }
-}
-
-/// The limit of a wait is reached.
-pub(crate) struct Over;
 
 /// What a thread parks at. Each end of a queue has one, made with the queue: so a wait takes no memory, and a wake-up that comes
 /// late disturbs nobody else's parking.

@@ -54,9 +54,12 @@
 mod area;
 mod barrier;
 mod bell;
+mod causes;
+mod limit;
 mod owned;
 mod queue;
 mod region;
+mod rows;
 mod select;
 mod shared;
 mod table;
@@ -67,11 +70,12 @@ mod words;
 
 pub use rattle_std::alloc::AllocError;
 
-pub use area::{Area, AreaError, Chunk, NoSpace, NoWord};
+pub use area::{Area, AreaError, Chunk, NoSpace};
 pub use barrier::{Arrival, Barrier, BarrierError};
 pub use owned::{ChunkTable, OwnedError, OwnedTable};
 pub use queue::{QueueError, ReceiveError, Rx, SendError, Tx, queue};
 pub use region::{Frozen, Part, PartError, RegionError};
+pub use rows::NoWord;
 pub use select::{select, select_timeout, select_while};
 pub use table::{Busy, Table, TableError, table_pages};
 pub use text::{Bytes, Text};
@@ -79,25 +83,10 @@ pub use toc::{Toc, TocBuilder, TocChunk, TocError};
 pub use word_table::{Swapped, WordTable};
 pub use words::{RawWords, Words};
 
+use causes::errors;
+
 /// The leave to wait, which the calls beneath ask for.
 const HOST: rattle_std::HostRuntime = rattle_std::HostRuntime::new();
 
-/// No word of its objects is at a place above this one: a region has at most 2^26 words, half a gigabyte.
+/// No word of its objects is at a place above this one: a region has at most 2^26 words, a gigabyte.
 const MOST_WORDS: u64 = 1 << 26;
-
-/// Gives an enum of causes a text for each, and makes it an error.
-macro_rules! errors {
-    ($name:ident { $($cause:ident => $text:literal,)* }) => {
-        impl std::fmt::Display for $name {
-            fn fmt(&self, f: &mut std::fmt::Formatter<'_>) -> std::fmt::Result {
-                f.write_str(match self {
-                    $($name::$cause => $text,)*
-                })
-            }
-        }
-
-        impl std::error::Error for $name {}
-    };
-}
-
-use errors;

@@ -100,7 +100,7 @@ impl<T> Slots<T> {
 /// let mut other = pages.handle().ok_or("no handle")?;
 /// std::thread::spawn(move || other.with(&name, |chunk| chunk.write_bytes(0, b"olds"))).join().unwrap().ok_or("not there")??;
 /// // Its owner gets it back.
-/// let mut chunk = pages.remove(&name).ok_or("not there")?;
+/// let chunk = pages.remove(&name).ok_or("not there")?;
 /// let mut bytes = [0; 4];
 /// chunk.read_bytes(0, &mut bytes)?;
 /// assert_eq!(&bytes, b"olds");

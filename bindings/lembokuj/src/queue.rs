@@ -3,8 +3,9 @@
 //! Messages lie on a ring of words. What the calls beneath ask of a caller is kept here: an end is used only before its
 //! detach, with the region of its queue; and while a part of a message is on the ring, only that message is sent.
 
-use crate::bell::{Bell, Limit};
+use crate::bell::Bell;
 use crate::errors;
+use crate::limit::Limit;
 use crate::shared::{Opaque, reserved, shared};
 use mq_handle::{ReceiveAnswer, Receiver, SendAnswer, Sender, attach};
 use mq_ring::{Ring, is_ring_size};

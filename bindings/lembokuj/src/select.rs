@@ -1,7 +1,8 @@
 //! A wait for any of several receivers.
 
 use crate::Rx;
-use crate::bell::{Limit, Parker, asleep, awake};
+use crate::bell::{Parker, asleep, awake};
+use crate::limit::Limit;
 use std::sync::Arc;
 use std::time::Duration;
 

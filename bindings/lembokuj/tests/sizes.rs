@@ -58,12 +58,22 @@ fn chunks_are_read_and_written_as_slices() {
     assert_eq!(chunk.write_bytes(8 * words - 1, &[1, 2]), Err(NoWord));
     assert_eq!(chunk.read_bytes(u64::MAX - 1, &mut bytes), Err(NoWord));
     assert!(chunk.write_bytes(8 * words, &[]).is_ok() && chunk.store(words, 1) == Err(NoWord));
+    // As slices: all of its words, where the calls above find them, and nothing else.
+    let last = words as usize - 1;
+    chunk.as_words_mut()[last] = 42;
+    chunk.as_bytes_mut()[..2].copy_from_slice(&[254, 253]);
+    assert_eq!((chunk.as_words().len() as u64, chunk.as_bytes().len() as u64), (words, 8 * words));
+    assert_eq!((chunk.load(words - 1), chunk.as_words()[1]), (Some(42), few[0]));
+    chunk.read_bytes(0, &mut bytes[..2]).unwrap();
+    assert_eq!(bytes[..2], [254, 253]);
+    // Several threads may read one at once.
+    std::thread::scope(|scope| (0..2).for_each(|_| drop(scope.spawn(|| assert_eq!(chunk.load(words - 1), Some(42))))));
     drop(chunk);
     // The words are whatever lay there, unless they are asked for as 0.
     assert_eq!(area.alloc(40).unwrap().load(1), Some(few[0]));
-    let mut cleared = area.alloc_zeroed(40).unwrap();
+    let cleared = area.alloc_zeroed(40).unwrap();
     assert!((0..cleared.words()).all(|at| cleared.load(at) == Some(0)));
-    let mut text = area.alloc_bytes(b"nine bytes").unwrap();
+    let text = area.alloc_bytes(b"nine bytes").unwrap();
     let mut back = [0; 10];
     text.read_bytes(0, &mut back).unwrap();
     assert_eq!(&back, b"nine bytes");

@@ -111,7 +111,7 @@ fn chunks_do_not_overlap() {
                     }
                     held.push_back((n, chunk));
                     if held.len() > 20 {
-                        let (old, mut chunk) = held.pop_front().unwrap();
+                        let (old, chunk) = held.pop_front().unwrap();
                         assert!((0..chunk.words()).all(|at| chunk.load(at) == Some(old << 8 | id)));
                     }
                 }

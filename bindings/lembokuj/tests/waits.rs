@@ -226,12 +226,12 @@ fn chunks_lie_under_keys() {
                         let key = (n * 7 + id) % 16;
                         let mut chunk = area.alloc(64).unwrap();
                         chunk.write(0, &[key; 8]).unwrap();
-                        if let Some(mut old) = pages.insert(&key, chunk).unwrap() {
+                        if let Some(old) = pages.insert(&key, chunk).unwrap() {
                             assert!((0..8).all(|at| old.load(at) == Some(key)));
                         }
                         pages.with(&(n % 16), |chunk| assert!((0..8).all(|at| chunk.load(at) == Some(n % 16))));
                         if n % 3 == 0
-                            && let Some(mut old) = pages.remove(&(n / 3 % 16))
+                            && let Some(old) = pages.remove(&(n / 3 % 16))
                         {
                             assert_eq!(old.load(7), Some(n / 3 % 16));
                         }

@@ -124,6 +124,8 @@ static void areas(void) {
     uint64_t words[3] = {1, 2, 3};
     char text[6];
     lk_chunk *chunk, *copy, *more;
+    void *memory;
+    size_t bytes;
     uint64_t value;
     WANT(lk_area_new(65537, 1, one), LK_BAD_SIZE);
     WANT(lk_area_new(4, 0, one), LK_BAD_CALLERS);
@@ -155,6 +157,15 @@ static void areas(void) {
     WANT(lk_chunk_read_bytes(chunk, 0, NULL, 6), LK_NULL);
     WANT(lk_chunk_read_bytes(NULL, 0, text, 6), LK_NULL);
     WANT(lk_area_handle(one[0], &third), LK_NO_HANDLE);
+    WANT(lk_chunk_memory(chunk, &memory, &bytes), LK_OK);
+    HOLDS(bytes == 16384 && strcmp((char *)memory + 13, "bytes") == 0);
+    ((uint64_t *)memory)[2046] = 77;
+    WANT(lk_chunk_load(chunk, 2046, &value), LK_OK);
+    HOLDS(value == 77);
+    WANT(lk_chunk_memory(chunk, NULL, &bytes), LK_NULL);
+    WANT(lk_chunk_memory(chunk, &memory, NULL), LK_NULL);
+    WANT(lk_chunk_memory(NULL, &memory, &bytes), LK_NULL);
+    WANT(lk_chunk_memory((lk_chunk *)one[0], &memory, &bytes), LK_KIND);
     copy = chunk;
     WANT(lk_area_free(other[0], &chunk), LK_OTHER_AREA);
     WANT(lk_chunk_load(chunk, 2047, &value), LK_OK);
@@ -164,6 +175,7 @@ static void areas(void) {
     WANT(lk_chunk_load(chunk, 0, &value), LK_NULL);
     WANT(lk_chunk_load(copy, 0, &value), LK_FREED);
     WANT(lk_chunk_store(copy, 0, 1), LK_FREED);
+    WANT(lk_chunk_memory(copy, &memory, &bytes), LK_FREED);
     WANT(lk_area_free(one[0], &copy), LK_FREED);
     WANT(lk_chunk_close(&copy), LK_FREED);
     WANT(lk_area_alloc_zeroed(one[0], 16384, &chunk), LK_OK);

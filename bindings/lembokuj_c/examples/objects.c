@@ -31,16 +31,29 @@ static void next_phase(struct worker *me) {
     me->elected += elected;
 }
 
+/* What lies in a large chunk, which is plain memory. */
+struct record {
+    uint64_t id;
+    char text[64];
+};
+
 static void use_chunks(struct worker *me, uint64_t n) {
     lk_chunk *small, *large;
+    struct record *record;
+    void *memory;
+    size_t bytes;
     uint64_t seen, also;
     must(lk_area_alloc(me->area, 24, &small), "alloc");
     must(lk_area_alloc(me->area, 200, &large), "alloc");
     must(lk_chunk_store(small, 2, n ^ me->id), "store");
-    must(lk_chunk_store(large, 24, me->id), "store");
+    must(lk_chunk_memory(large, &memory, &bytes), "memory");
+    if (bytes < 200 || (uintptr_t)memory % 8 != 0) exit(2);
+    record = memory;
+    record->id = me->id;
+    snprintf(record->text, sizeof record->text, "%llu", (unsigned long long)n);
     must(lk_chunk_load(small, 2, &seen), "load");
-    must(lk_chunk_load(large, 24, &also), "load");
-    if (seen != (n ^ me->id) || also != me->id) exit(2);
+    must(lk_chunk_load(large, 0, &also), "load");
+    if (seen != (n ^ me->id) || also != me->id || strtoull(record->text, NULL, 10) != n) exit(2);
     must(lk_area_free(me->area, &small), "free");
     must(lk_area_free(me->area, &large), "free");
 }

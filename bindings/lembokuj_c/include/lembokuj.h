@@ -168,6 +168,11 @@ LK_TELLS int lk_chunk_words(const lk_chunk *chunk, uint64_t *out);
 LK_TELLS int lk_chunk_load(lk_chunk *chunk, uint64_t at, uint64_t *out);
 LK_TELLS int lk_chunk_store(lk_chunk *chunk, uint64_t at, uint64_t value);
 
+/* The address of its words, which 8 divides, and how many bytes they have: plain memory that the chunk's holder may read and
+ * change as any other, until the chunk is freed or closed. Nothing looks whether a store stays within these bytes: past them
+ * lie other chunks, and the records of the area. If the chunk goes to another thread, its memory goes with it. */
+LK_TELLS int lk_chunk_memory(lk_chunk *chunk, void **memory, size_t *bytes);
+
 /* Copies count of its words, or bytes, from the place at on: out of it and into it. LK_NO_WORD: it has fewer, and nothing
  * was changed. */
 LK_TELLS int lk_chunk_read(lk_chunk *chunk, uint64_t at, uint64_t *words, size_t count);

@@ -247,6 +247,27 @@ pub unsafe extern "C" fn lk_chunk_load(chunk: *mut ChunkHandle, at: u64, out: *m
     })
 }
 
+/// See the header.
+///
+/// # Safety
+///
+/// `chunk` is a handle that only this call uses; `memory` and `bytes` are null or may be written.
+#[unsafe(no_mangle)]
+pub unsafe extern "C" fn lk_chunk_memory(chunk: *mut ChunkHandle, memory: *mut *mut c_void, bytes: *mut usize) -> c_int {
+    if memory.is_null() || bytes.is_null() {
+        return LK_NULL;
+    }
+    // SAFETY: the caller's duty. The bytes are the chunk's until it is given back, and no call keeps a reference to them.
+    code(unsafe {
+        open(chunk, CHUNK).and_then(|chunk| chunk.as_mut().ok_or(LK_FREED)).map(|chunk| {
+            let all = chunk.as_bytes_mut();
+            bytes.write(all.len());
+            memory.write(all.as_mut_ptr().cast());
+            LK_OK
+        })
+    })
+}
+
 /// Makes a call of a chunk.
 ///
 /// # Safety

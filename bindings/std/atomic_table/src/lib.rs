@@ -5,16 +5,42 @@
 //! atomic `u64`; a slot is read and written by plain reads and writes, through the seat that holds it; a seat, a badge and
 //! a view have no bytes. Who may take which step, and that no slot is held by two seats, is the rule that each crate above
 //! proves; in Rust the rules are empty traits. So a caller that follows no such rule can reach one slot from two threads:
-//! this crate and those of the runtime over it are for the crate `lembokuj` alone, and are not published.
+//! this crate and those of the runtime over it are only for the crates `lembokuj` and `lembokuj_processes`, and are not
+//! published.
 //!
-//! There are two places of `unsafe`, `impl Sync for Shared` and `Seat::slot_mut`.
+//! Words and slots lie on the heap, or, with the feature `mapping`, in a file that several processes map, each at another
+//! address. Then a process is to the others as a thread: what one stores in the mapping the others load, and nothing in it
+//! is an address. A value in a slot may then have no pointer, which no type says: it is the duty of the crates that make
+//! tables, and of `Table::attach`'s callers.
+//!
+//! The places of `unsafe` are `impl Sync for Shared`, `Seat::slot_mut` and the two calls for slots in a row; with the
+//! feature besides `impl Send` for what lies in the mapping, the places and first values of tables (`placed`), and the
+//! calls of the system (`mapping`, `futex`).
 
 #![expect(clippy::type_complexity, reason = "a marker names all that it stands for")]
 
+#[cfg(feature = "mapping")]
+mod futex;
+#[cfg(not(feature = "mapping"))]
+mod heap;
 mod home;
-mod sleep;
+#[cfg(feature = "mapping")]
+mod mapping;
+#[cfg(feature = "mapping")]
+mod placed;
 
-use home::Homes;
+#[cfg(feature = "mapping")]
+pub use futex::{sleep_on, wake};
+#[cfg(feature = "mapping")]
+pub use mapping::{Mapping, Room};
+#[cfg(feature = "mapping")]
+pub use placed::{Site, placed_in};
+
+#[cfg(not(feature = "mapping"))]
+use heap::Place;
+#[cfg(feature = "mapping")]
+use placed::Place;
+use home::is_word;
 use rattle_std::alloc::{AllocError, Global};
 use rattle_std::vec::Vec;
 use std::marker::PhantomData;
@@ -59,7 +85,30 @@ impl<S, V> Seat<S, V> {
         //   loaded that count, and comes back in the same way by the read count, all of them sequentially consistent.
         // The loads by which an owner takes a slot out and gives it back order nothing: they are there for the proof.
         // The borrow of the seat ends before the seat can take another step.
-        unsafe { &mut *table.slots.get(slot) }
+        unsafe { &mut *table.place.slot(slot) }
+    }
+
+    /// The values of some slots in a row, all of which this seat holds. They are words, which lie side by side. The
+    /// toolchain's table has no such call: it is for the words of a chunk as a slice.
+    #[inline]
+    pub fn slots<'a, K, P: TableRule<S, V, K>>(&'a self, table: &'a Shared<S, V, K, P>, first: usize, count: usize) -> &'a [S] {
+        const { assert!(is_word::<S>(), "only words lie side by side") };
+        // SAFETY: as in `slot_mut`, for each slot of the row: the seat's holder is the only one who reaches them, and lends
+        // out nothing else of them while the seat is borrowed.
+        unsafe { std::slice::from_raw_parts(table.place.row(first, count), count) }
+    }
+
+    /// The same, to be changed.
+    #[inline]
+    pub fn slots_mut<'a, K, P: TableRule<S, V, K>>(
+        &'a mut self,
+        table: &'a Shared<S, V, K, P>,
+        first: usize,
+        count: usize,
+    ) -> &'a mut [S] {
+        const { assert!(is_word::<S>(), "only words lie side by side") };
+        // SAFETY: as above, and the seat is borrowed for this slice only.
+        unsafe { std::slice::from_raw_parts_mut(table.place.row(first, count), count) }
     }
 }
 
@@ -80,8 +129,7 @@ impl<V> Badge<V> {
 
 /// The words and slots, as threads see them.
 pub struct Shared<S, V, K, P: TableRule<S, V, K>> {
-    words: Box<[AtomicU64]>,
-    slots: Homes<S>,
+    place: Place<S>,
     marker: PhantomData<fn() -> (V, K, P)>,
 }
 
@@ -90,41 +138,47 @@ pub struct Shared<S, V, K, P: TableRule<S, V, K>> {
 unsafe impl<S: Send, V, K, P: TableRule<S, V, K>> Sync for Shared<S, V, K, P> {}
 
 impl<S, V, K, P: TableRule<S, V, K>> Shared<S, V, K, P> {
+    /// A word.
+    #[inline]
+    pub fn word(&self, at: usize) -> &AtomicU64 {
+        self.place.word(at)
+    }
+
     /// A load with no seat.
     #[inline]
     pub fn peek(&self, word: usize) -> u64 {
-        self.words[word].load(SeqCst)
+        self.word(word).load(SeqCst)
     }
 
     #[inline]
     pub fn load<M: Play<S, V>>(&self, _seat: &mut Seat<S, V>, word: usize) -> u64 {
-        self.words[word].load(SeqCst)
+        self.word(word).load(SeqCst)
     }
 
     #[inline]
     pub fn store<M: Play<S, V>>(&self, _seat: &mut Seat<S, V>, word: usize, new: u64) {
-        self.words[word].store(new, SeqCst);
+        self.word(word).store(new, SeqCst);
     }
 
     #[inline]
     pub fn swap<M: Play<S, V>>(&self, _seat: &mut Seat<S, V>, word: usize, new: u64) -> u64 {
-        self.words[word].swap(new, SeqCst)
+        self.word(word).swap(new, SeqCst)
     }
 
     #[inline]
     pub fn fetch_add<M: Play<S, V>>(&self, _seat: &mut Seat<S, V>, word: usize, more: u64) -> u64 {
-        self.words[word].fetch_add(more, SeqCst)
+        self.word(word).fetch_add(more, SeqCst)
     }
 
     #[inline]
     pub fn fetch_sub<M: Play<S, V>>(&self, _seat: &mut Seat<S, V>, word: usize, less: u64) -> u64 {
-        self.words[word].fetch_sub(less, SeqCst)
+        self.word(word).fetch_sub(less, SeqCst)
     }
 
     /// The word as it was, which has become `new` if it was `old`.
     #[inline]
     pub fn compare_exchange<M: Play<S, V>>(&self, _seat: &mut Seat<S, V>, word: usize, old: u64, new: u64) -> u64 {
-        match self.words[word].compare_exchange(old, new, SeqCst, SeqCst) {
+        match self.word(word).compare_exchange(old, new, SeqCst, SeqCst) {
             Ok(found) | Err(found) => found,
         }
     }
@@ -162,18 +216,18 @@ impl<S, V, K, P: TableRule<S, V, K>> Table<S, V, K, P, Global> {
     /// A table of these words and slots, with its first seat. `about` is for the proof alone.
     pub fn new(_alloc: Global, words: &[u64], slots: Vec<S>, about: &K) -> Result<(Self, Seat<S, V>), Refused<S>> {
         let _ = about;
-        let Ok(words) = atomic(words) else {
-            return Err(Refused { slots });
-        };
-        let table = Table {
+        Ok((Table::at(Place::new(words, slots)?), Seat::NEW))
+    }
+
+    /// The table at a place.
+    fn at(place: Place<S>) -> Self {
+        Table {
             shared: Shared {
-                words,
-                slots: Homes::new(slots.into_iter()),
+                place,
                 marker: PhantomData,
             },
             alloc: PhantomData,
-        };
-        Ok((table, Seat::NEW))
+        }
     }
 
     /// A table of words alone.
@@ -184,18 +238,10 @@ impl<S, V, K, P: TableRule<S, V, K>> Table<S, V, K, P, Global> {
     /// Ends the table. The values come back, each in its slot.
     pub fn close_with(self, _seat: Seat<S, V>) -> Closed<S, Global> {
         Closed {
-            slots: self.shared.slots.into_values().map(Some).collect(),
+            slots: self.shared.place.into_values().map(Some).collect(),
             alloc: PhantomData,
         }
     }
-}
-
-/// The words as atomics.
-fn atomic(words: &[u64]) -> Result<Box<[AtomicU64]>, AllocError> {
-    let mut atomics = std::vec::Vec::new();
-    atomics.try_reserve_exact(words.len())?;
-    atomics.extend(words.iter().map(|word| AtomicU64::new(*word)));
-    Ok(atomics.into_boxed_slice())
 }
 
 /// The slots of a table that was ended. What is not taken is dropped with it.

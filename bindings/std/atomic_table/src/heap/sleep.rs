@@ -73,7 +73,7 @@ impl<S, V, K, P: TableRule<S, V, K>> Shared<S, V, K, P> {
     /// Sleeps if the low 32 bits of the word are `expected`, until a wake. It may also return for no reason.
     #[cold]
     pub fn park<R: Wait>(&self, _rt: &R, word: usize, expected: u32) {
-        let word = &self.words[word];
+        let word = self.word(word);
         if begins_sleep(word, expected) {
             thread::park();
             ends_sleep(word);
@@ -83,7 +83,7 @@ impl<S, V, K, P: TableRule<S, V, K>> Shared<S, V, K, P> {
     /// The same, for no longer than `dur`.
     #[cold]
     pub fn park_timeout<R: Wait>(&self, _rt: &R, word: usize, expected: u32, dur: Duration) {
-        let word = &self.words[word];
+        let word = self.word(word);
         if begins_sleep(word, expected) {
             thread::park_timeout(dur);
             ends_sleep(word);
@@ -93,7 +93,7 @@ impl<S, V, K, P: TableRule<S, V, K>> Shared<S, V, K, P> {
     /// Wakes one thread that sleeps on the word, if there is one.
     #[cold]
     pub fn wake_one(&self, word: usize) {
-        if let Some(thread) = first_sleeper(address_of(&self.words[word])) {
+        if let Some(thread) = first_sleeper(address_of(self.word(word))) {
             thread.unpark();
         }
     }
@@ -101,7 +101,7 @@ impl<S, V, K, P: TableRule<S, V, K>> Shared<S, V, K, P> {
     /// Wakes every thread that sleeps on the word.
     #[cold]
     pub fn wake_all(&self, word: usize) {
-        while let Some(thread) = first_sleeper(address_of(&self.words[word])) {
+        while let Some(thread) = first_sleeper(address_of(self.word(word))) {
             thread.unpark();
         }
     }
