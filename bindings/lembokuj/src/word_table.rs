@@ -10,7 +10,7 @@ const MOST_VALUE_WORDS: usize = 256;
 
 /// The calls of a table whose values take some number of words, by the words.
 trait Calls: Send {
-    fn handle(&self) -> Option<Box<dyn Calls>>;
+    fn handle(&self) -> Result<Option<Box<dyn Calls>>, AllocError>;
     fn get(&mut self, key: &[u64], value: &mut [u64]) -> bool;
     fn put(&mut self, key: &[u64], value: &[u64], old: &mut [u64]) -> Result<bool, NoSpace>;
     fn remove(&mut self, key: &[u64], old: &mut [u64]) -> bool;
@@ -51,10 +51,11 @@ fn told<const N: usize>(value: Option<[u64; N]>, out: &mut [u64]) -> bool {
 }
 
 impl<const N: usize> Calls for Sized<N> {
-    fn handle(&self) -> Option<Box<dyn Calls>> {
+    fn handle(&self) -> Result<Option<Box<dyn Calls>>, AllocError> {
         // A box ends the process if there is no memory, so as much is asked for and given back first.
-        drop(reserved::<u8>(size_of::<Self>()).ok()?);
-        Some(Box::new(Table::handle(self)?))
+        drop(reserved::<u8>(size_of::<Self>())?);
+        let Some(handle) = Table::handle(self) else { return Ok(None) };
+        Ok(Some(Box::new(handle)))
     }
 
     fn get(&mut self, key: &[u64], value: &mut [u64]) -> bool {
@@ -156,13 +157,14 @@ impl WordTable {
         })
     }
 
-    /// One more handle, unless all that the table was made for are out, or there is no memory.
-    #[must_use]
-    pub fn handle(&self) -> Option<WordTable> {
-        Some(WordTable {
-            calls: self.calls.handle()?,
-            ..*self
-        })
+    /// One more handle, unless all that the table was made for are out. It takes a little memory.
+    ///
+    /// # Errors
+    ///
+    /// [`AllocError`].
+    pub fn handle(&self) -> Result<Option<WordTable>, AllocError> {
+        let Some(calls) = self.calls.handle()? else { return Ok(None) };
+        Ok(Some(WordTable { calls, ..*self }))
     }
 
     /// How many words a key has, and a value.

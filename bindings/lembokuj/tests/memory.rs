@@ -115,7 +115,7 @@ fn what_makes_something_answers_an_error() {
     each_refused("TocBuilder::new", || TocBuilder::new(1000));
     each_refused("Part::of_new_region", || Part::of_new_region(1000));
     let words = WordTable::open(WordTable::pages(1, 2, 5), 3, 2, 5).unwrap();
-    each_refused("WordTable::handle", || words.handle().ok_or(()));
+    each_refused("WordTable::handle", || words.handle());
 }
 
 #[test]

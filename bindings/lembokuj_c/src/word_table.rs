@@ -46,7 +46,7 @@ pub unsafe extern "C" fn lk_words_handle(table: *const Handle<WordTable>, out: *
     // SAFETY: the caller's duty; nothing of the handle is changed.
     code(unsafe {
         open(table.cast_mut(), WORD_TABLE)
-            .and_then(|table| table.handle().ok_or(LK_NO_HANDLE))
+            .and_then(|table| table.handle().map_err(|_| LK_NO_MEMORY)?.ok_or(LK_NO_HANDLE))
             .and_then(|table| put_handle(out, WORD_TABLE, table))
             .map(|()| LK_OK)
     })
