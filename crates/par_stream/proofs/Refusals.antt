@@ -1,5 +1,5 @@
 -- A row that is refused in a window, among all rows of a source.
-use Rattle.std.proofs.Common.{◌≡◌, ◌<◌, ◌≤◌, ◌+◌, ◌-◌, ◌^◌, ◌++◌, ◌⊎◌, ◌∙◌, inl, inr, ℕ, zero, suc, Bool, true, false, List, [], ◌∷◌, Option, None, Some, IfSome, All, Contains, length, take, refl, ap, sym, subst, arith, append-nil, length-append}
+use Rattle.std.proofs.Common.{◌≡◌, ◌<◌, ◌≤◌, ◌+◌, ◌-◌, ◌^◌, ◌++◌, ◌⊎◌, ◌∙◌, inl, inr, ℕ, zero, suc, Bool, true, false, List, [], ◌∷◌, Option, None, Some, IfSome, All, length, take, refl, ap, sym, subst, arith, append-nil, length-append}
 use Rattle.std.specs.Prelude.{slice_get, string_bytes}
 use Rattle.std.proofs.lemmas.List.{get_or-append-add, get_or_append_left}
 use Rattle.std.proofs.lemmas.Grind.{get_or_after_one}
@@ -15,10 +15,10 @@ use Rattle.partial_agg.specs.declared.map.BlockAnswer.{BlockAnswer}
 use Rattle.partial_agg.specs.declared.map.BlockAnswer.TheVariants as answer
 use Rattle.plan_spec.specs.Query.{Query}
 use Rattle.row_blocks.specs.Blocks.{Table}
-use Rattle.split_run.specs.Causes.{IsCauseBy}
+use Rattle.split_run.specs.Causes.{IsFirstCause}
 use Rattle.table_query.specs.Lines.{refused_of}
 use Rattle.table_query.specs.Refused.{refused_in}
-use Rattle.table_query.proofs.RefusedRows.{refused_first, refused_in-has, refused_in-none}
+use Rattle.table_query.proofs.RefusedRows.{refused_first, refused_in-none}
 use Rattle.par_stream.specs.Outcome.{outcome, outcome_over}
 use Rattle.par_stream.specs.Reading.{Begins, HasAll, IsBound, Reaches}
 use Rattle.par_stream.specs.Stops.{IsRefusedRow, Restates, Tells}
@@ -99,9 +99,6 @@ module _ (query : Query) (header : List (List ℕ)) (bound : Plan) (is : IsBound
     is_refused : refusal bound (length header) (record_at all number) ≡ Some why
     is_refused = ap (refusal bound (length header)) there ∙ cause
 
-    pub has_row : Contains (refused_in bound all) (number, why)
-    has_row = refused_in-has bound all number why (omega (arith, some)) low is_refused
-
     -- where no row of the window before it is refused, nor one before the window
     pub first_is : All (IsAccepted bound (length header)) rows → All (IsAccepted bound (length header)) (take (row - 1) wrows) → (rest : List (ℕ × Refusal)) × (refused_in bound all ≡ (number, why) ∷ rest)
     first_is before here =
@@ -116,29 +113,26 @@ module _ (query : Query) (header : List (List ℕ)) (bound : Plan) (is : IsBound
         (found.0, subst (λ m. refused_in bound all ≡ (m, why) ∷ found.0) place found.1)
 
   -- an answer on a window tells of the outcome
-  pub refused_tells : (from : Option (List ℕ)) (participants before : ℕ) (rows wrows : Table) (why : BlockAnswer) (said : Stop) → (query.workers ≡ 0 → participants ≡ 1) → before ≡ length rows → before + length (header ∷ wrows) < 2 ^ 64
-      → Begins from (header ∷ (rows ++ wrows)) → All (IsAccepted bound (length header)) rows → IsCauseBy bound (header ∷ wrows) participants why → Restates query.plan before why said → Tells query from said
-  refused_tells from participants before rows wrows answer.Memory said alone is_before few b accepted c restated = subst (Tells query from) (sym restated) tt
-  refused_tells from participants before rows wrows (answer.Row row cause item) said alone is_before few b accepted c restated = by (restated (omega (arith, few, c.cause.within)))
+  pub refused_tells : (from : Option (List ℕ)) (before : ℕ) (rows wrows : Table) (why : BlockAnswer) (said : Stop) → before ≡ length rows → before + length (header ∷ wrows) < 2 ^ 64
+      → Begins from (header ∷ (rows ++ wrows)) → All (IsAccepted bound (length header)) rows → IsFirstCause bound (header ∷ wrows) why → Restates query.plan before why said → Tells query from said
+  refused_tells from before rows wrows answer.Memory said is_before few b accepted c restated = subst (Tells query from) (sym restated) tt
+  refused_tells from before rows wrows (answer.Row row cause item) said is_before few b accepted c restated = by (restated (omega (arith, few, c.refused.within)))
     where
+      why : Refusal
+      why = record { cause = cause; item = item }
+
       whole : (bytes : List ℕ) (more : Table) → records_of bytes ≡ header ∷ ((rows ++ wrows) ++ more) → refused_of (outcome_over (Some query.plan) bytes) ≡ refused_in bound (header ∷ ((rows ++ wrows) ++ more))
       whole bytes more e = ap refused_of (ap (outcome (Some query.plan)) e ∙ outcome_rows ((rows ++ wrows) ++ more)) ∙ refused_by (refused_in bound (header ∷ ((rows ++ wrows) ++ more)))
 
       number : length rows + row ≡ before + row
       number = ap (λ n. n + row) (sym is_before)
 
-      has_told : (from : Option (List ℕ)) → Begins from (header ∷ (rows ++ wrows)) → IfSome from (λ bytes. Contains (refused_of (outcome_over (Some query.plan) bytes)) (before + row, record { cause = cause; item = item }))
-      has_told None b = tt
-      has_told (Some bytes) b =
-          let has = has_row rows wrows b.0 row (record { cause = cause; item = item }) c.cause.first c.cause.within c.cause.cause_is in
-          subst (λ (l : List (ℕ × Refusal)). Contains l (before + row, record { cause = cause; item = item })) (sym (whole bytes b.0 b.1)) (subst (λ n. Contains (refused_in bound (header ∷ ((rows ++ wrows) ++ b.0))) (n, record { cause = cause; item = item })) number has)
+      first_told : (from : Option (List ℕ)) → Begins from (header ∷ (rows ++ wrows)) → IfSome from (λ bytes. slice_get (refused_of (outcome_over (Some query.plan) bytes)) 0 ≡ Some (before + row, why))
+      first_told None b = tt
+      first_told (Some bytes) b =
+          let f = first_is rows wrows b.0 row why c.refused.first c.refused.within c.refused.cause_is accepted c.before in
+          ap (λ (l : List (ℕ × Refusal)). slice_get l 0) (whole bytes b.0 b.1 ∙ subst (λ n. refused_in bound (header ∷ ((rows ++ wrows) ++ b.0)) ≡ (n, why) ∷ f.0) number f.1)
 
-      first_told : (from : Option (List ℕ)) → Begins from (header ∷ (rows ++ wrows)) → query.workers ≡ 0 → IfSome from (λ bytes. slice_get (refused_of (outcome_over (Some query.plan) bytes)) 0 ≡ Some (before + row, record { cause = cause; item = item }))
-      first_told None b none = tt
-      first_told (Some bytes) b none =
-          let f = first_is rows wrows b.0 row (record { cause = cause; item = item }) c.cause.first c.cause.within c.cause.cause_is accepted (c.first (alone none)) in
-          ap (λ (l : List (ℕ × Refusal)). slice_get l 0) (whole bytes b.0 b.1 ∙ subst (λ n. refused_in bound (header ∷ ((rows ++ wrows) ++ b.0)) ≡ (n, record { cause = cause; item = item }) ∷ f.0) number f.1)
-
-      by : IsRefusedRow query.plan (before + row) (record { cause = cause; item = item }) said ⊎ (said ≡ stop.Memory) → Tells query from said
+      by : IsRefusedRow query.plan (before + row) why said ⊎ (said ≡ stop.Memory) → Tells query from said
       by (inr e) = subst (Tells query from) (sym e) tt
-      by (inl r) = subst (Tells query from) (sym r.1) (record { refusal = record { cause = cause; item = item }; says = r.2; has = has_told from b; first = first_told from b })
+      by (inl r) = subst (Tells query from) (sym r.1) (record { refusal = why; says = r.2; first = first_told from b })

@@ -1,5 +1,5 @@
 -- What a reason to have no table says of the outcome.
-use Rattle.std.specs.Prelude.{[], ◌∷◌, ◌≡◌, ◌<◌, ◌+◌, ◌^◌, ◌⊎◌, ◌++◌, ⊤, ℕ, List, None, Option, Some, Contains, IfSome, codes, decimal, slice_get, string_bytes}
+use Rattle.std.specs.Prelude.{[], ◌∷◌, ◌≡◌, ◌<◌, ◌+◌, ◌^◌, ◌⊎◌, ◌++◌, ⊤, ℕ, List, None, Option, Some, IfSome, codes, decimal, slice_get, string_bytes}
 use Rattle.csv_rows.specs.Records.{record_at}
 use Rattle.par_model.specs.Named.{NamedPlan}
 use Rattle.par_model.specs.Outcome.{NoColumn, NoHeader, Table}
@@ -78,13 +78,12 @@ text_of stop.Memory = codes "out of memory"
 abbrev pub stop_text : Stop → List ℕ
 stop_text why = front_of why ++ text_of why
 
--- A row that is named, with what is said of its cause: that is the text of a refusal, and where a source tells what it had
--- left, the outcome of the query refuses this row for it, and without workers first
-pub record NamesRefusal (query : Query) (left : Option (List ℕ)) (row : ℕ) (why : Cause) : Type 0 where
+-- A row that is named, with what is said of its cause: that is the text of a refusal, and if a source tells what it had
+-- left, the outcome of the query refuses this row for it, first of all
+pub record NamesFirstRow (query : Query) (left : Option (List ℕ)) (row : ℕ) (why : Cause) : Type 0 where
   pub refusal : Refusal
   pub says : cause_text why ≡ refusal_text query.plan refusal
-  pub has : IfSome left (λ bytes. Contains (refused_of (outcome_over (Some query.plan) bytes)) (row, refusal))
-  pub first : query.workers ≡ 0 → IfSome left (λ bytes. slice_get (refused_of (outcome_over (Some query.plan) bytes)) 0 ≡ Some (row, refusal))
+  pub first : IfSome left (λ bytes. slice_get (refused_of (outcome_over (Some query.plan) bytes)) 0 ≡ Some (row, refusal))
 
 -- what a reason says of what a query is over, where a source tells what it had left
 abbrev pub Tells : Query → Option (List ℕ) → Stop → Type 0
@@ -93,7 +92,7 @@ Tells query left stop.ReadFault = ⊤
 Tells query left stop.NoHeader = IfSome left (λ bytes. outcome_over (Some query.plan) bytes ≡ NoHeader)
 Tells query left (stop.NoColumn name) = IfSome left (λ bytes. outcome_over (Some query.plan) bytes ≡ NoColumn (string_bytes name))
 Tells query left (stop.LongRecord row) = IfSome left (λ bytes. HasLong (Some query.plan) bytes row)
-Tells query left (stop.Refused row why) = NamesRefusal query left row why
+Tells query left (stop.Refused row why) = NamesFirstRow query left row why
 Tells query left stop.WriteFault = IfSome left (λ bytes. outcome_over (Some query.plan) bytes ≡ Table)
 Tells query left stop.Memory = ⊤
 

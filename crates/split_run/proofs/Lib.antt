@@ -1,4 +1,5 @@
 mod Blocks
+mod FirstRow
 mod Joining
 mod Rising
 mod Parting

@@ -4,7 +4,7 @@ use Rattle.std.specs.List.{AllByRecursion, AllZip}
 use Rattle.std.specs.List.Sorted.{IsPermutation}
 use Rattle.std.proofs.lemmas.List.Elements.{All-cons, All-nil, recursion_from_All}
 use Rattle.scan_claim.specs.Drawing.{IsDrawn, flat, late}
-use Rattle.scan_claim.specs.Shown.{blocks_of, callers_of, draws_of}
+use Rattle.scan_claim.specs.Shown.{blocks_of, draws_of}
 use Rattle.scan_claim.specs.declared.claims.ClaimSeat.{ClaimSeat}
 use Rattle.scan_claim.specs.declared.claims.Claims.{Claims}
 use Rattle.scan_claim.proofs.Totals.{late-append}
@@ -14,7 +14,7 @@ use Rattle.partial_agg.specs.Rows.{IsAccepted, header_width}
 use Rattle.row_blocks.specs.Blocks.{AreBlocks, Table, rows_of_blocks}
 use Rattle.split_law.specs.Shares.{Add, AreShared, together}
 use Rattle.split_law.proofs.RowShares.{blocks_cover, shares_grow}
-use Rattle.split_run.specs.Causes.{IsCauseBy}
+use Rattle.split_run.specs.Causes.{IsCause}
 use Rattle.split_run.specs.Hands.{AreDone, HasAdded, HasDone}
 use Rattle.split_run.specs.declared.hands.Hand.{Hand}
 use Rattle.split_run.proofs.SeatedMaps.{map_of, seat_of}
@@ -109,5 +109,5 @@ module _ (plan : Plan) (records : Table) (c : Claims) where
       (subst (λ (l : List GroupsByKey). AreShared plan (header_width records) before l) (sym old) shared) all.adds all.accepted all.same (omega (arith, few, length-drop 1 records)))
 
   -- each that stopped named a cause
-  pub all_causes : (fs gs : List Hand) → AreDone plan records c fs gs → All (λ (h : Hand). IfSome h.stopped (IsCauseBy plan records (callers_of c))) gs
+  pub all_causes : (fs gs : List Hand) → AreDone plan records c fs gs → All (λ (h : Hand). IfSome h.stopped (IsCause plan records)) gs
   all_causes fs gs done = λ k d low. (done.each k d (omega (arith, low, done.count))).stopped

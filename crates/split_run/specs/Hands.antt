@@ -1,13 +1,13 @@
 -- What the participants do with a window.
 use Rattle.std.specs.Prelude.{◌≡◌, ◌<◌, [], ℕ, List, All, IfSome, IsTrue, None, length, slice_index_or}
 use Rattle.scan_claim.specs.Drawing.{is_spent}
-use Rattle.scan_claim.specs.Shown.{Belongs, blocks_of, callers_of, draws_of, number_of}
+use Rattle.scan_claim.specs.Shown.{Belongs, blocks_of, draws_of, number_of}
 use Rattle.scan_claim.specs.declared.claims.Claims.{Claims}
 use Rattle.row_blocks.specs.Blocks.{Table, rows_of_blocks}
 use Rattle.par_model.specs.Plan.{Plan}
 use Rattle.partial_agg.specs.Groups.{with_rows}
 use Rattle.partial_agg.specs.Rows.{IsAccepted, header_width}
-use Rattle.split_run.specs.Causes.{IsCauseBy}
+use Rattle.split_run.specs.Causes.{IsCause}
 use Rattle.split_run.specs.declared.hands.Hand.{Hand}
 
 -- a participant that found no more blocks: its map has the rows of those that it drew, and none of these is refused
@@ -21,7 +21,7 @@ pub record HasDone (plan : Plan) (records : Table) (c : Claims) (f g : Hand) : T
   pub seat : Belongs c g.claim
   pub number : number_of g.claim ≡ number_of f.claim
   pub added : g.stopped ≡ None → HasAdded plan records c f g
-  pub stopped : IfSome g.stopped (IsCauseBy plan records (callers_of c))
+  pub stopped : IfSome g.stopped (IsCause plan records)
 
 -- participants with seats that have drawn nothing
 pub record IsNew (c : Claims) (h : Hand) : Type 0 where

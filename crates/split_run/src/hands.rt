@@ -2,12 +2,12 @@
 
 ghost use Rattle.std.specs.Prelude.{◌≡◌, All, IfErr, IsTrue, OnOk, [], length};
 ghost use Rattle.scan_claim.specs.Drawing.{is_spent};
-ghost use Rattle.scan_claim.specs.Shown.{Belongs, blocks_of, callers_of, draws_of, number_of};
+ghost use Rattle.scan_claim.specs.Shown.{Belongs, blocks_of, draws_of, number_of};
 ghost use Rattle.row_blocks.specs.Blocks.{AreBlocks, rows_of_blocks};
 ghost use Rattle.par_model.specs.Columns.{HasColumns};
 ghost use Rattle.partial_agg.specs.Groups.{with_rows};
 ghost use Rattle.partial_agg.specs.Rows.{IsAccepted, header_width};
-ghost use Rattle.split_run.specs.Causes.{IsCauseBy};
+ghost use Rattle.split_run.specs.Causes.{IsCause};
 ghost use Rattle.split_run.specs.Hands.{HasDone};
 
 use csv_rows::RowStore;
@@ -42,7 +42,7 @@ fn add_drawn<R: Wait>(
     ensures spent { OnOk result (IsTrue (is_spent (blocks_of claims.now) (draws_of claim.new))) }
     ensures added { OnOk result (groups.new ≡ with_rows plan.now groups.old (rows_of_blocks rows.now (draws_of claim.new))) }
     ensures accepted { OnOk result (All (IsAccepted plan.now (header_width rows.now)) (rows_of_blocks rows.now (draws_of claim.new))) }
-    ensures stopped { IfErr result (IsCauseBy plan.now rows.now (callers_of claims.now)) }
+    ensures stopped { IfErr result (IsCause plan.now rows.now) }
 {
     for _ in rt.forever() {
         let Some(block) = claim.claim(claims) else {

@@ -1,9 +1,9 @@
 //! The groups of a table of any length, window by window, by participants that share each window's rows.
 //!
-//! Each participant keeps a map of its own over all windows. The rows of a window are shared out by blocks that the
+//! Each participant keeps its own map over all windows. The rows of a window are shared out by blocks that the
 //! participants draw, each block once; each adds the rows of its blocks to its map ([`add_rows`]). So the maps are always
-//! those of shares of all rows so far, whoever drew a block (`AreShared` of `split_law`), and no group goes from one
-//! participant to another before the last row. Then the maps are put together, by halves in threads of their own
+//! those of shares of all rows so far, no matter who drew a block (`AreShared` of `split_law`), and no group goes from one
+//! participant to another before the last row. Then the maps are put together, by halves in separate threads
 //! ([`put_together`]).
 
 #![tactic(auto)]
@@ -11,6 +11,7 @@
 mod hands;
 mod parted;
 mod ranges;
+mod refused;
 mod texts;
 mod together;
 mod window;

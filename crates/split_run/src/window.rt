@@ -1,4 +1,4 @@
-//! A window: its rows are shared out to all participants, which come home before the next.
+//! A window: its rows are shared out to all participants, and each has come home before the next window.
 
 ghost use Rattle.std.specs.Prelude.{◌≡◌, ◌<◌, ◌≤◌, ◌+◌, ◌^◌, ◌++◌, ◌∷◌, [], All, IfErr, IfOk, None, OnOk, drop, length, map as map_list, replicate};
 ghost use Rattle.std.specs.FinMap as map;
@@ -7,11 +7,12 @@ ghost use Rattle.row_blocks.specs.Blocks.{AreBlocks, Table};
 ghost use Rattle.par_model.specs.Columns.{HasColumns};
 ghost use Rattle.partial_agg.specs.Rows.{IsAccepted, header_width};
 ghost use Rattle.split_law.specs.Shares.{AreShared};
-ghost use Rattle.split_run.specs.Causes.{IsCauseBy, IsCauseOfAll};
+ghost use Rattle.split_run.specs.Causes.{IsCauseOfAll, IsFirstCause};
 ghost use Rattle.split_run.specs.Hands.{AreDone, AreNew};
 ghost use Rattle.split_run.specs.declared.hands.Hand.{Hand};
 
 use crate::hands::{Hand, work};
+use crate::refused::first_cause;
 use csv_rows::RowStore;
 use par_model::BoundPlan;
 use partial_agg::{BlockAnswer, GroupMap};
@@ -28,7 +29,7 @@ struct Home {
     maps: Vec<GroupMap>,
 }
 
-/// The maps of so many participants, before any row. Takes memory for the list alone.
+/// The maps of the given number of participants, before any row. Takes memory only for the list.
 pub fn begin(alloc: Global, participants: u32) -> Result<Vec<GroupMap>, AllocError>
     ensures { IfOk result (λ maps. maps.items ≡ replicate participants map.empty) }
 {
@@ -39,9 +40,9 @@ pub fn begin(alloc: Global, participants: u32) -> Result<Vec<GroupMap>, AllocErr
     Ok(maps)
 }
 
-/// Adds the rows of a window, which stand behind the table's header, to the maps of the participants: one for each map,
-/// the caller's thread among them, each in a thread of its own where one can be made. With one map all is done in the
-/// caller's thread. The first participant that stopped names why; the maps are then lost.
+/// Adds the rows of a window, which follow the table's header, to the maps of the participants: one for each map, the
+/// caller's thread among them, each in a separate thread if one can be made. With one map all is done in the caller's
+/// thread. If a row is refused the maps are lost, and the rows are read once more, up to the first that is refused.
 pub fn add_rows<R: Threads + Wait + Sync>(
     rt: &R,
     alloc: Global,
@@ -57,8 +58,8 @@ pub fn add_rows<R: Threads + Wait + Sync>(
         → AreShared plan.now (header_width rows.now) (before ++ drop 1 rows.now) news.items) }
     ensures many { IfOk result (λ news. length news.items ≡ length maps.items) }
 
-    // It names a refused row, and where there is one map the first of the window.
-    ensures cause { IfErr result (IsCauseBy plan.now rows.now (length maps.items)) }
+    // A row that it names is the first refused one of the window, for any number of participants.
+    ensures cause { IfErr result (IsFirstCause plan.now rows.now) }
 {
     let Ok((claims, seats)) = Claims::new(alloc, count_blocks(rows), maps.len() as u32) else {
         return Err(BlockAnswer::Memory);
@@ -69,7 +70,7 @@ pub fn add_rows<R: Threads + Wait + Sync>(
     work_all(rt, rows, plan, &claims, &mut hands);
     let home = match bring_home(alloc, hands) {
         Ok(home) => home,
-        Err(why) => return Err(why),
+        Err(why) => return Err(first_cause(rows, plan, why)),
     };
     let _drawn = claims.close(home.seats);
     Ok(home.maps)

@@ -83,8 +83,14 @@ fn groups_are_shared(rt: HostRuntime) -> Result<(), Fail> {
         let found = counted(&rt, alloc, text.as_slice(), participants)?;
         assert!(rt; found == Ok(700), "by {participants}");
     }
-    text.extend_from_slice(b"a,x\nb,y\n")?;
-    let found = counted(&rt, alloc, text.as_slice(), 1)?;
-    assert!(rt; found == Err(2_001));
+    // From here on each row is refused, so a participant that draws a later block meets one too.
+    for row in 0..2_000u32 {
+        let line = format!(in alloc; "{row},x\n")?;
+        text.extend_from_slice(line.as_bytes())?;
+    }
+    for participants in [1, 2, 5u32] {
+        let found = counted(&rt, alloc, text.as_slice(), participants)?;
+        assert!(rt; found == Err(2_001), "by {participants}");
+    }
     Ok(())
 }

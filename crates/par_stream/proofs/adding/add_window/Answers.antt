@@ -6,7 +6,7 @@ use Rattle.partial_agg.specs.Groups.{GroupsByKey}
 use Rattle.partial_agg.specs.Rows.{header_width}
 use Rattle.row_blocks.specs.Blocks.{Table}
 use Rattle.split_law.specs.Shares.{AreShared}
-use Rattle.split_run.specs.Causes.{IsCauseBy}
+use Rattle.split_run.specs.Causes.{IsFirstCause}
 use Rattle.table_query.proofs.Outcomes.{header_first}
 use Rattle.par_stream.specs.Reading.{window_records, window_rows}
 use Rattle.par_stream.proofs.Refusals.{refused_tells}
@@ -20,8 +20,6 @@ returns-in-Err-clause-why g c =
     let w = c.args.window.now in
     let query = c.args.plan.now in
     let bound = c.args.bound.now in
-    let maps = c.replace-olds.result.items in
-    let size : length maps ≡ length c.args.added.now.maps.items = ap (λ (v : Vec GroupsByKey). length v.items) c.replace-olds.ensures.value in
     let count = c.args.added.now.count in
     let header = record_at (window_records w) 0 in
     let wrows = window_rows w in
@@ -29,10 +27,9 @@ returns-in-Err-clause-why g c =
     let some : 0 < length (window_records w) = subst (λ (text : List ℕ). 0 < length (records_of text)) c.table.ensures c.in-Ok.ensures.some in
     let store : c.in-Ok.store ≡ header ∷ wrows = same ∙ sym (header_first (window_records w) some) in
     let few : count + length (header ∷ wrows) < 2 ^ 64 = omega (arith, ap length store, c.count-more.ensures.rows, c.count-more.ensures.few, c.requires.few) in
-    let cause : IsCauseBy bound (header ∷ wrows) (length maps) c.in-Err.why = subst (λ (l : Table). IsCauseBy bound l (length maps) c.in-Err.why) store c.in-Err.ensures.cause in
+    let cause : IsFirstCause bound (header ∷ wrows) c.in-Err.why = subst (λ (l : Table). IsFirstCause bound l c.in-Err.why) store c.in-Err.ensures.cause in
     λ from rows has begins.
-    refused_tells query header bound c.requires.bound from (length maps) count rows wrows c.in-Err.why c.stop_of_block.result (λ none. omega (arith, size, c.requires.maps, none)) has.count few
-    begins has.shared.accepted cause c.stop_of_block.ensures
+    refused_tells query header bound c.requires.bound from count rows wrows c.in-Err.why c.stop_of_block.result has.count few begins has.shared.accepted cause c.stop_of_block.ensures
 
 pub returns-clause-added : goal.returns-clause-added
 returns-clause-added g c =

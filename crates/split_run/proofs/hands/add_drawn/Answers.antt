@@ -1,5 +1,5 @@
 use Rattle.std.proofs.Common.{◌∙◌}
-use Rattle.scan_claim.specs.Shown.{callers_of, draws_of}
+use Rattle.scan_claim.specs.Shown.{draws_of}
 use Rattle.split_run.proofs.Blocks.{accepted_more, added_more, stopped_cause}
 use Rattle.split_run.proofs.hands.add_drawn.Goals as goal
 
@@ -18,10 +18,7 @@ loop-preserved g c =
       number = c.claim.ensures.same.1 ∙ c.loop.invariant.number;
       added = added_more plan rows was now block c.args.groups.now c.loop.groups c.add_block.new.self more c.loop.invariant.added c.in-Ok.ensures.added;
       accepted = accepted_more plan rows was now block more c.loop.invariant.accepted c.in-Ok.ensures.accepted;
-      in_order = c.claim.ensures.in_order;
     }
 
 pub returns-in-Err-clause-stopped : goal.returns-in-Err-clause-stopped
-returns-in-Err-clause-stopped g c =
-    stopped_cause c.args.plan.now c.args.rows.now (callers_of c.args.claims.now) (draws_of c.loop.claim) (draws_of c.claim.new.self) c.in-Some-claim.block c.loop.groups c.add_block.new.self c.in-Err.why c.loop.invariant.in_order
-    c.claim.ensures.in_order c.in-Some-claim.ensures.drawn.1 c.loop.invariant.accepted c.in-Err.ensures.stopped
+returns-in-Err-clause-stopped g c = stopped_cause c.args.plan.now c.args.rows.now c.in-Some-claim.block c.loop.groups c.add_block.new.self c.in-Err.why c.in-Err.ensures.stopped

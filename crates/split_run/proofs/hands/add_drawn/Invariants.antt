@@ -1,6 +1,5 @@
-use Rattle.std.proofs.Common.{◌≡◌, All, length}
-use Rattle.scan_claim.specs.Drawing.{below}
-use Rattle.scan_claim.specs.Shown.{Belongs, callers_of, draws_of, number_of}
+use Rattle.std.proofs.Common.{◌≡◌, All}
+use Rattle.scan_claim.specs.Shown.{Belongs, draws_of, number_of}
 use Rattle.row_blocks.specs.Blocks.{rows_of_blocks}
 use Rattle.partial_agg.specs.Groups.{with_rows}
 use Rattle.partial_agg.specs.Rows.{IsAccepted, header_width}
@@ -15,5 +14,4 @@ invariant-loop g l = record {
   number : number_of l.claim ≡ number_of l.initial.claim;
   added : l.groups ≡ with_rows l.plan l.initial.groups (rows_of_blocks l.rows (draws_of l.claim));
   accepted : All (IsAccepted l.plan (header_width l.rows)) (rows_of_blocks l.rows (draws_of l.claim));
-  in_order : callers_of l.claims ≡ 1 → draws_of l.claim ≡ below (length (draws_of l.claim));
 }

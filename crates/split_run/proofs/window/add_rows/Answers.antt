@@ -1,8 +1,7 @@
 use Rattle.std.proofs.Common.{◌≡◌, ◌<◌, ◌∙◌, List, length, arith, subst, sym}
-use Rattle.scan_claim.specs.Shown.{AreSeats, blocks_of, callers_of, lists_of}
+use Rattle.scan_claim.specs.Shown.{AreSeats, blocks_of, lists_of}
 use Rattle.scan_claim.specs.declared.claims.ClaimSeat.{ClaimSeat}
 use Rattle.row_blocks.specs.Blocks.{AreBlocks}
-use Rattle.split_run.specs.Causes.{IsCauseBy}
 use Rattle.split_run.proofs.SeatedMaps.{all_new, hands_many, kept_seats}
 use Rattle.split_run.proofs.Shared.{all_causes, all_rows, shares_on}
 use Rattle.split_run.proofs.window.add_rows.Goals as goal
@@ -10,14 +9,11 @@ use Rattle.split_run.proofs.window.add_rows.Goals as goal
 pub work_all-requires-clause-new : goal.work_all-requires-clause-new
 work_all-requires-clause-new g c κs within = all_new c.in-Ok.claims c.in-Ok.seats.items c.in-Ok-hands.hands.items c.in-Ok-hands.ensures.seats c.in-Ok.ensures.seats c.in-Ok.ensures.draws
 
-pub returns-in-Err-clause-cause : goal.returns-in-Err-clause-cause
-returns-in-Err-clause-cause g c =
+pub first_cause-requires-clause-cause : goal.first_cause-requires-clause-cause
+first_cause-requires-clause-cause g c =
     let plan = c.args.plan.now in
     let rows = c.args.rows.now in
-    let claims = c.in-Ok.claims in
-    let callers : callers_of claims ≡ length c.args.maps.items = omega (arith, c.in-Ok.ensures.counts.1, c.len.ensures, c.args.maps.ok.0, c.requires.few) in
-    subst (λ n. IsCauseBy plan rows n c.in-Err.why) callers
-    (c.in-Err.ensures.cause plan rows (callers_of claims) (all_causes plan rows claims c.in-Ok-hands.hands.items c.work_all.new.hands.items c.work_all.ensures))
+    c.in-Err.ensures.cause plan rows (all_causes plan rows c.in-Ok.claims c.in-Ok-hands.hands.items c.work_all.new.hands.items c.work_all.ensures)
 
 pub close-drawn-requires : goal.close-drawn-requires
 close-drawn-requires g c =
