@@ -88,7 +88,7 @@ fn play(role: &str, name: &str, count: u64) {
             let region = Region::attach_named(name).unwrap();
             let (mut table, mut barrier) = (region.table(TABLE).unwrap(), region.barrier(BARRIER).unwrap());
             barrier.wait().unwrap();
-            (0..count).for_each(|n| drop(table.add(n % KEYS, 1).unwrap()));
+            (0..count).for_each(|n| assert!(table.add(n % KEYS, 1).is_ok()));
             barrier.wait().unwrap();
         }
         other => panic!("no role {other}"),
@@ -200,7 +200,7 @@ fn calls(count: u64) {
         thread::scope(|scope| {
             for _ in 0..callers {
                 let mut table = made.table(TABLE).unwrap();
-                scope.spawn(move || (0..count).for_each(|n| drop(table.add(n % KEYS, 1).unwrap())));
+                scope.spawn(move || (0..count).for_each(|n| assert!(table.add(n % KEYS, 1).is_ok())));
             }
         });
         told(&format!("the same, {callers} threads"), callers * count, begun);

@@ -79,10 +79,18 @@ static void queues(const lk_region *region) {
     IS(lk_shared_send(tx, bytes, 5), LK_OK);
     IS(lk_shared_send(tx, bytes, 100), LK_OK);
     IS(lk_shared_receive(rx, bytes, sizeof bytes, NULL), LK_NULL);
+    IS(lk_shared_receive_within(rx, 5, bytes, sizeof bytes, NULL), LK_NULL);
     IS(lk_shared_receive(rx, NULL, 0, &len), LK_OK);
     IS(lk_shared_receive(rx, bytes, sizeof bytes, &len), LK_OK);
     IS(len == 5 && !memcmp(bytes, "hello", 5) ? LK_OK : LK_DAMAGED, LK_OK);
     IS(lk_shared_receive(rx, bytes, 99, &len), LK_TOO_LONG);
+    IS(lk_shared_receive_within(rx, 5, bytes, sizeof bytes, &len), LK_WOULD_BLOCK);
+    IS(lk_shared_send_within(rx, bytes, 1, 5), LK_KIND);
+    int sent = 0;
+    while (lk_shared_send_within(tx, bytes, 100, 5) == LK_OK) sent++;
+    IS(sent > 0 ? LK_OK : LK_DAMAGED, LK_OK);
+    IS(lk_shared_send_within(tx, bytes, 100, 5), LK_WOULD_BLOCK);
+    for (; sent > 0; sent--) IS(lk_shared_receive_within(rx, 5, bytes, sizeof bytes, &len), LK_OK);
     IS(lk_shared_close(&tx), LK_OK);
     IS(lk_shared_receive(rx, bytes, sizeof bytes, &len), LK_DETACHED);
     IS(lk_shared_close(&rx), LK_OK);
@@ -93,6 +101,8 @@ static void the_others(const lk_region *region) {
     lk_shared *table = NULL, *area = NULL, *small = NULL, *barrier = NULL, *chunk = NULL;
     lk_ticket ticket;
     uint64_t word = 0;
+    void *memory;
+    size_t len;
     int elected = 0;
     IS(lk_shared_table(region, 2, &table), LK_OK);
     IS(lk_shared_get(table, 7, &word), LK_ABSENT);
@@ -107,6 +117,10 @@ static void the_others(const lk_region *region) {
     IS(lk_shared_alloc(area, 80, &chunk), LK_OK);
     IS(lk_shared_store(chunk, 9, 99), LK_OK);
     IS(lk_shared_store(chunk, 1000, 99), LK_NO_WORD);
+    IS(lk_shared_memory(chunk, &memory, &len), LK_OK);
+    IS(len >= 80 && ((uint64_t *)memory)[9] == 99 ? LK_OK : LK_DAMAGED, LK_OK);
+    IS(lk_shared_memory(chunk, NULL, &len), LK_NULL);
+    IS(lk_shared_memory(area, &memory, &len), LK_KIND);
     IS(lk_shared_load(area, 9, &word), LK_KIND);
     IS(lk_shared_post(&area, &ticket), LK_KIND);
     IS(lk_shared_post(&chunk, &ticket), LK_OK);
@@ -122,6 +136,8 @@ static void the_others(const lk_region *region) {
     IS(lk_shared_wait(barrier, &word, &elected), LK_OK);
     IS(word == 1 && elected == 1 ? LK_OK : LK_DAMAGED, LK_OK);
     IS(lk_shared_wait(table, NULL, NULL), LK_KIND);
+    IS(lk_shared_wait_within(barrier, 5, &word, NULL), LK_OK);
+    IS(lk_shared_look(barrier, &word, NULL), LK_OK);
     lk_shared_close(&barrier);
     lk_shared_close(&small);
     lk_shared_close(&area);

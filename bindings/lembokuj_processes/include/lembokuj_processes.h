@@ -71,7 +71,7 @@ typedef struct lk_ticket {
 
 /* What lk_region_reap found. */
 typedef struct lk_reaped {
-    uint64_t freed, detached, lost;
+    uint64_t freed, detached, lost, chunks;
 } lk_reaped;
 
 /* The text of a code, which lives forever. */
@@ -104,12 +104,14 @@ int lk_shared_area(const lk_region *region, uint64_t key, lk_shared **area);
 int lk_shared_barrier(const lk_region *region, uint64_t key, lk_shared **barrier);
 int lk_shared_close(lk_shared **handle);
 
-/* ---- Queues ---- A receive gives the message's length, and its bytes if there is room for them; else LK_TOO_LONG, and the
+/* ---- Queues ---- A call within a time answers LK_WOULD_BLOCK once that is over. A receive gives the message's length, and its bytes if there is room for them; else LK_TOO_LONG, and the
  * message is lost. */
 int lk_shared_try_send(lk_shared *tx, const void *bytes, size_t len);
 int lk_shared_send(lk_shared *tx, const void *bytes, size_t len);
+int lk_shared_send_within(lk_shared *tx, const void *bytes, size_t len, uint64_t milliseconds);
 int lk_shared_try_receive(lk_shared *rx, void *out, size_t room, size_t *len);
 int lk_shared_receive(lk_shared *rx, void *out, size_t room, size_t *len);
+int lk_shared_receive_within(lk_shared *rx, uint64_t milliseconds, void *out, size_t room, size_t *len);
 
 /* ---- Tables of numbers ---- LK_ABSENT: it is done, and the key was not there. `old` may be null. */
 int lk_shared_get(lk_shared *table, uint64_t key, uint64_t *value);
@@ -117,17 +119,22 @@ int lk_shared_put(lk_shared *table, uint64_t key, uint64_t value, uint64_t *old)
 int lk_shared_add(lk_shared *table, uint64_t key, uint64_t more, uint64_t *old);
 int lk_shared_delete(lk_shared *table, uint64_t key, uint64_t *old);
 
-/* ---- Areas and chunks ---- lk_shared_post and lk_shared_free make the pointer null, whatever they answer, unless that is LK_NULL
+/* ---- Areas and chunks ---- A chunk's memory is this process's and plain, until the chunk is posted, freed or closed; nothing looks
+ * whether a store stays within it. lk_shared_post and lk_shared_free make the pointer null, whatever they answer, unless that is LK_NULL
  * or LK_KIND. */
 int lk_shared_alloc(lk_shared *area, uint64_t bytes, lk_shared **chunk);
+int lk_shared_memory(lk_shared *chunk, void **memory, size_t *bytes);
 int lk_shared_load(lk_shared *chunk, uint64_t at, uint64_t *word);
 int lk_shared_store(lk_shared *chunk, uint64_t at, uint64_t word);
 int lk_shared_post(lk_shared **chunk, lk_ticket *ticket);
 int lk_shared_fetch(lk_shared *area, const lk_ticket *ticket, lk_shared **chunk);
 int lk_shared_free(lk_shared *area, lk_shared **chunk);
 
-/* ---- Barriers ---- `phase` and `elected` may be null. */
+/* ---- Barriers ---- `phase` and `elected` may be null. A wait within a time that is over answers LK_WOULD_BLOCK: the caller has arrived
+ * all the same, and looks. */
 int lk_shared_wait(lk_shared *barrier, uint64_t *phase, int *elected);
+int lk_shared_wait_within(lk_shared *barrier, uint64_t milliseconds, uint64_t *phase, int *elected);
+int lk_shared_look(lk_shared *barrier, uint64_t *phase, int *elected);
 
 #ifdef __cplusplus
 }

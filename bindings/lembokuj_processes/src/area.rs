@@ -1,13 +1,20 @@
 //! Chunks of words that processes hand to one another.
+//!
+//! A chunk's words are the slots of its numbers in the region. The two first of these numbers have words besides, which nothing else
+//! uses: the first one says who has the chunk, the second one how long it is. They are 0 as long as nobody has it.
 
-use crate::directory::Object;
+use crate::directory::{Entry, Object};
 use crate::errors;
 use crate::map::{Damage, Map};
-use crate::region::{FREE, Handle, Region, TakeError};
+use crate::rows::chunk_calls;
+use crate::region::{FREE, Handle, Region, TakeError, has_ended};
+use crate::sys::PROCESS_BITS;
 use dsa_area::AreaPass;
 use region_words::Part;
 use rel_pointer::RelPtr;
+use std::collections::HashMap;
 use std::fmt;
+use std::os::unix::fs::FileExt;
 use std::sync::Arc;
 use std::sync::atomic::Ordering::SeqCst;
 
@@ -37,22 +44,15 @@ impl From<Damage> for AreaError {
     }
 }
 
-/// The chunk has no such word.
-#[derive(Clone, Copy, Debug, PartialEq, Eq)]
-pub struct NoWord;
-
-impl fmt::Display for NoWord {
-    fn fmt(&self, f: &mut fmt::Formatter<'_>) -> fmt::Result {
-        f.write_str("the chunk has no such word")
-    }
-}
-
-impl std::error::Error for NoWord {}
-
-/// The mark of a chunk's first word, with a ticket's number, while nobody has the chunk.
+/// The mark of the word that says who has a chunk, with a ticket's number, while nobody has it.
 const POSTED: u64 = 1 << 63;
+/// The mark of the word that says how long a chunk is, with its bytes.
+const LENGTH: u64 = 1 << 62;
 
+/// A chunk has the two words.
+const LEAST_BYTES: u64 = 16;
 const MOST_BYTES: u64 = 1 << 28;
+const PAGE_WORDS: u64 = 512;
 
 /// One caller's handle. If it is dropped, another process may take it.
 pub struct Area {
@@ -75,7 +75,7 @@ pub struct Chunk {
 pub struct Ticket {
     /// The region's number of the chunk's first word.
     pub place: u64,
-    /// All bytes of the chunk, with the word that says who has it.
+    /// All bytes of the chunk.
     pub bytes: u64,
     /// The number that no other ticket of the region has.
     pub number: u64,
@@ -138,17 +138,19 @@ impl Region {
 }
 
 impl Area {
-    /// A chunk of this many bytes or more. Its first word, which is not the caller's, names its process.
+    /// A chunk of this many bytes or more.
     pub fn alloc(&mut self, bytes: u64) -> Result<Chunk, AreaError> {
         if !(1..=MOST_BYTES).contains(&bytes) {
             return Err(AreaError::NoSpace);
         }
         let Area { handle, area, pass } = self;
         let map = Arc::clone(&handle.map);
-        let asked = map.guard(|| area.alloc_while(&map.region, pass, bytes + 8, &|n| handle.lives(n)))?;
+        let asked = map.guard(|| area.alloc_while(&map.region, pass, bytes.max(LEAST_BYTES), &|n| handle.lives(n)))?;
         match asked {
             Ok(Ok(inner)) => {
-                map.region.word(inner.at.word()).store(map.me.number(), SeqCst);
+                let at = inner.at.word();
+                map.region.word(at + 1).store(LENGTH | inner.bytes, SeqCst);
+                map.region.word(at).store(map.me.number(), SeqCst);
                 Ok(Chunk {
                     area_key: handle.entry.key,
                     map,
@@ -162,13 +164,21 @@ impl Area {
 
     /// Gives a chunk back; anybody may have asked for it. If it is refused, it stays live, and nobody has it.
     pub fn free(&mut self, chunk: Chunk) -> Result<(), AreaError> {
-        let Area { handle, area, pass } = self;
-        if chunk.area_key != handle.entry.key || !Arc::ptr_eq(&chunk.map, &handle.map) {
+        if chunk.area_key != self.handle.entry.key || !Arc::ptr_eq(&chunk.map, &self.handle.map) {
             return Err(AreaError::Stranger);
         }
+        self.take_back(chunk.inner)
+    }
+
+    /// Gives back a chunk that this process has. Its words say first that nobody has it: a process that ends in between leaves
+    /// a chunk that stays live, and never one that is given back twice.
+    fn take_back(&mut self, chunk: region_words::Chunk) -> Result<(), AreaError> {
+        let Area { handle, area, pass } = self;
         let map = Arc::clone(&handle.map);
-        map.region.word(chunk.inner.at.word()).store(0, SeqCst);
-        let freed = map.guard(|| area.free_while(&map.region, pass, chunk.inner, &|n| handle.lives(n)))?;
+        let at = chunk.at.word();
+        map.region.word(at).store(0, SeqCst);
+        map.region.word(at + 1).store(0, SeqCst);
+        let freed = map.guard(|| area.free_while(&map.region, pass, chunk, &|n| handle.lives(n)))?;
         match freed {
             Ok(Ok(())) => Ok(()),
             Ok(Err(_)) => Err(AreaError::Stranger),
@@ -181,26 +191,88 @@ impl Area {
         let Object::Area(site) = &self.handle.entry.object else {
             return Err(AreaError::Stranger);
         };
-        let end = site.first + 512 * u64::from(site.pages);
-        let fits = ticket.bytes % 8 == 0 && ticket.bytes > 8 && ticket.place >= site.first && ticket.number < POSTED;
-        if !fits || ticket.place.checked_add(ticket.bytes / 8).is_none_or(|last| last > end) {
+        let end = end_of(site);
+        let fits = ticket.place >= site.first && ticket.number < LENGTH;
+        if !fits || !is_chunk(ticket.place, ticket.bytes, end) {
             return Err(AreaError::Stranger);
         }
         let map = &self.handle.map;
+        if map.region.word(ticket.place + 1).load(SeqCst) != LENGTH | ticket.bytes {
+            return Err(AreaError::Stranger);
+        }
         let word = map.region.word(ticket.place);
         let won = word.compare_exchange(POSTED | ticket.number, map.me.number(), SeqCst, SeqCst);
         won.map_err(|_| AreaError::Stranger)?;
-        let inner = region_words::Chunk {
-            at: RelPtr::of(ticket.place),
-            bytes: ticket.bytes,
-            part: Part::of_seat(atomic_table::Badge::blank().into_seat()),
-        };
         Ok(Chunk {
             map: Arc::clone(map),
             area_key: self.handle.entry.key,
-            inner,
+            inner: taken(ticket.place, ticket.bytes),
         })
     }
+
+    /// Gives back the chunks that processes had which have ended, and says how many went. It reads a word for each word of the
+    /// area.
+    pub(crate) fn sweep(&mut self) -> u64 {
+        let Object::Area(site) = self.handle.entry.object.clone() else { return 0 };
+        let map = Arc::clone(&self.handle.map);
+        let mut swept = 0;
+        // Whether a process has ended, of those that have chunks.
+        let mut ended = HashMap::new();
+        for page in 0..u64::from(site.pages) {
+            let first = site.first + PAGE_WORDS * page;
+            // By a call of the system, since a page that nobody has stored to would take memory if it were loaded.
+            let mut bytes = [0; 8 * PAGE_WORDS as usize];
+            if map.file.read_exact_at(&mut bytes, map.place_of(first)).is_err() {
+                break;
+            }
+            let words = bytes.chunks_exact(8).map(|word| u64::from_le_bytes(std::array::from_fn(|i| word[i])));
+            for (at, owner) in (first..).zip(words) {
+                let is_claim = owner != 0 && owner >> PROCESS_BITS == 0;
+                if is_claim && *ended.entry(owner).or_insert_with(|| has_ended(&map, owner)) {
+                    swept += u64::from(self.sweep_one(at, owner, end_of(&site)));
+                }
+            }
+        }
+        swept
+    }
+
+    /// Gives back the chunk at a place, if the process that had it, which has ended, is still the one that its word names.
+    fn sweep_one(&mut self, at: u64, owner: u64, end: u64) -> bool {
+        let map = Arc::clone(&self.handle.map);
+        let length = map.region.word((at + 1).min(end - 1)).load(SeqCst);
+        let bytes = length ^ LENGTH;
+        if !is_chunk(at, bytes, end) || map.region.word(at).compare_exchange(owner, map.me.number(), SeqCst, SeqCst).is_err() {
+            return false;
+        }
+        self.take_back(taken(at, bytes)).is_ok()
+    }
+}
+
+/// The number after the last word of an area's pages.
+fn end_of(site: &dsa_area::AreaSite) -> u64 {
+    site.first + PAGE_WORDS * u64::from(site.pages)
+}
+
+/// Whether a chunk of this length may lie at a place.
+fn is_chunk(place: u64, bytes: u64, end: u64) -> bool {
+    bytes.is_multiple_of(8) && bytes >= LEAST_BYTES && place.checked_add(bytes / 8).is_some_and(|last| last <= end)
+}
+
+/// The chunk at a place, which this process has.
+fn taken(place: u64, bytes: u64) -> region_words::Chunk {
+    region_words::Chunk {
+        at: RelPtr::of(place),
+        bytes,
+        part: Part::of_seat(atomic_table::Badge::blank().into_seat()),
+    }
+}
+
+/// Gives back the chunks of an area that ended processes had, through a handle that nobody has. None if there is none.
+pub(crate) fn sweep(map: &Arc<Map>, entry: &Entry) -> Option<u64> {
+    let area = attached(map, &entry.object, entry.handles)?;
+    let handle = Handle::take_any(map, entry).ok()?;
+    let pass = AreaPass::taken(handle.number);
+    Some(Area { handle, area, pass }.sweep())
 }
 
 impl Drop for Area {
@@ -214,22 +286,30 @@ impl Drop for Area {
 impl Chunk {
     /// How many words it has.
     pub fn words(&self) -> u64 {
-        self.inner.bytes / 8 - 1
+        self.inner.bytes / 8
     }
 
-    /// The word at this place, from 0; None past its end.
-    pub fn load(&mut self, at: u64) -> Option<u64> {
-        (at < self.words()).then(|| self.inner.load(&self.map.region, at + 1))
+    /// Its words, in place.
+    pub fn as_words(&self) -> &[u64] {
+        self.inner.as_words(&self.map.region)
     }
 
-    /// Changes it.
-    pub fn store(&mut self, at: u64, value: u64) -> Result<(), NoWord> {
-        if at >= self.words() {
-            return Err(NoWord);
-        }
-        self.inner.store(&self.map.region, at + 1, value);
-        Ok(())
+    /// The same, to be changed.
+    pub fn as_words_mut(&mut self) -> &mut [u64] {
+        self.inner.as_words_mut(&self.map.region)
     }
+
+    /// Its bytes, in place: eight for each word.
+    pub fn as_bytes(&self) -> &[u8] {
+        self.inner.as_bytes(&self.map.region)
+    }
+
+    /// The same, to be changed.
+    pub fn as_bytes_mut(&mut self) -> &mut [u8] {
+        self.inner.as_bytes_mut(&self.map.region)
+    }
+
+    chunk_calls!();
 
     /// Posts the chunk: nobody has it until a process fetches it by the ticket.
     pub fn post(self) -> Ticket {

@@ -2,6 +2,7 @@
 
 use crate::directory::{Entry, Object};
 use crate::errors;
+use crate::limit::Limit;
 use crate::map::{Damage, Map};
 use crate::region::{DETACHING, Handle, LOST, Region, SPENT, TakeError, claim_of, has_ended, lives};
 use atomic_table::{sleep_on, wake};
@@ -144,22 +145,39 @@ impl Barrier {
     /// Arrives, and sleeps until the phase has ended. Callers whose processes end meanwhile are detached; a caller that
     /// nobody has taken yet is waited for.
     pub fn wait(&mut self) -> Result<Arrival, BarrierError> {
-        if let Some(arrival) = self.arrive()? {
-            return Ok(arrival);
-        }
-        for round in 0u32.. {
-            let turn = self.handle.advice(0).load(SeqCst);
-            if let Some(arrival) = self.look()? {
+        loop {
+            if let Some(arrival) = self.wait_by(&mut Limit::Forever)? {
                 return Ok(arrival);
             }
-            if round < TRIES {
-                std::thread::yield_now();
-                continue;
-            }
-            sleep_on(self.handle.advice(0), turn as u32, NAP);
-            self.detach_ended()?;
         }
-        unreachable!("a wait ends by its answer")
+    }
+
+    /// As [`Barrier::wait`], but None if the phase has not ended within the time: the caller has arrived all the same, and may look.
+    pub fn wait_timeout(&mut self, time: Duration) -> Result<Option<Arrival>, BarrierError> {
+        self.wait_by(&mut Limit::after(time))
+    }
+
+    /// As [`Barrier::wait_timeout`], as long as the function says so, which is asked about every 10 ms.
+    pub fn wait_while(&mut self, mut go_on: impl FnMut() -> bool) -> Result<Option<Arrival>, BarrierError> {
+        self.wait_by(&mut Limit::While(&mut go_on))
+    }
+
+    fn wait_by(&mut self, limit: &mut Limit<'_>) -> Result<Option<Arrival>, BarrierError> {
+        let mut arrival = self.arrive()?;
+        let mut round = 0;
+        while arrival.is_none() {
+            let turn = self.handle.advice(0).load(SeqCst);
+            arrival = self.look()?;
+            if arrival.is_none() && round < TRIES {
+                std::thread::yield_now();
+            } else if arrival.is_none() {
+                let Ok(time) = limit.next_sleep() else { break };
+                sleep_on(self.handle.advice(0), turn as u32, time.map_or(NAP, |time| time.min(NAP)));
+                self.detach_ended()?;
+            }
+            round += 1;
+        }
+        Ok(arrival)
     }
 
     /// Detaches those whose processes have ended.

@@ -5,11 +5,12 @@
 //! panic that would leave Rust does; none is known to.
 
 use crate::{
-    Area, AreaError, AttachError, Barrier, BarrierError, BuildError, Builder, Chunk, NoWord, ReceiveError, Region, Rx, SendError, Table,
+    Area, AreaError, Arrival, AttachError, Barrier, BarrierError, BuildError, Builder, Chunk, NoWord, ReceiveError, Region, Rx, SendError, Table,
     TableError, TakeError, Ticket, Tx,
 };
 use std::ffi::{CStr, c_char, c_int, c_void};
 use std::os::fd::BorrowedFd;
+use std::time::Duration;
 
 macro_rules! codes {
     ($($name:ident = $number:literal => $text:literal,)*) => {
@@ -137,6 +138,7 @@ pub struct CReaped {
     freed: u64,
     detached: u64,
     lost: u64,
+    chunks: u64,
 }
 
 fn done<E: Code>(answer: Result<(), E>) -> c_int {
@@ -338,7 +340,7 @@ exports! {
     fn lk_region_reap(region: *const CRegion, reaped: *mut CReaped) {
         let found = open_region!(region).reap();
         if let Some(reaped) = unsafe { at(reaped) } {
-            *reaped = CReaped { freed: found.freed, detached: found.detached, lost: found.lost };
+            *reaped = CReaped { freed: found.freed, detached: found.detached, lost: found.lost, chunks: found.chunks };
         }
         LK_OK
     }
@@ -396,6 +398,11 @@ exports! {
         done(tx.send(some!(unsafe { slice(bytes.cast(), len) })))
     }
 
+    fn lk_shared_send_within(tx: *mut CHandle, bytes: *const c_void, len: usize, milliseconds: u64) {
+        let tx = handle!(tx, Tx);
+        done(tx.send_timeout(some!(unsafe { slice(bytes.cast(), len) }), Duration::from_millis(milliseconds)))
+    }
+
     fn lk_shared_try_receive(rx: *mut CHandle, out: *mut c_void, room: usize, len: *mut usize) {
         let rx = handle!(rx, Rx);
         unsafe { received(rx.try_receive(), out, room, len) }
@@ -407,6 +414,14 @@ exports! {
             return LK_NULL;
         }
         unsafe { received(rx.receive(), out, room, len) }
+    }
+
+    fn lk_shared_receive_within(rx: *mut CHandle, milliseconds: u64, out: *mut c_void, room: usize, len: *mut usize) {
+        let rx = handle!(rx, Rx);
+        if out.is_null() && room > 0 || len.is_null() {
+            return LK_NULL;
+        }
+        unsafe { received(rx.receive_timeout(Duration::from_millis(milliseconds)), out, room, len) }
     }
 
     fn lk_shared_get(table: *mut CHandle, key: u64, value: *mut u64) {
@@ -428,6 +443,14 @@ exports! {
     fn lk_shared_alloc(area: *mut CHandle, bytes: u64, chunk: *mut *mut CHandle) {
         let (area, chunk) = (handle!(area, Area), some!(unsafe { at(chunk) }));
         given(area.alloc(bytes).map(CHandle::Chunk), Some(chunk))
+    }
+
+    fn lk_shared_memory(chunk: *mut CHandle, memory: *mut *mut c_void, bytes: *mut usize) {
+        let chunk = handle!(chunk, Chunk);
+        let (memory, bytes) = (some!(unsafe { at(memory) }), some!(unsafe { at(bytes) }));
+        let all = chunk.as_bytes_mut();
+        (*memory, *bytes) = (all.as_mut_ptr().cast(), all.len());
+        LK_OK
     }
 
     fn lk_shared_load(chunk: *mut CHandle, at_word: u64, word: *mut u64) {
@@ -471,18 +494,41 @@ exports! {
     }
 
     fn lk_shared_wait(barrier: *mut CHandle, phase: *mut u64, elected: *mut c_int) {
-        match handle!(barrier, Barrier).wait() {
-            Ok(arrival) => {
-                if let Some(phase) = unsafe { at(phase) } {
-                    *phase = arrival.phase;
-                }
-                if let Some(elected) = unsafe { at(elected) } {
-                    *elected = c_int::from(arrival.is_elected);
-                }
-                LK_OK
+        let arrival = handle!(barrier, Barrier).wait();
+        unsafe { arrived(arrival.map(Some), phase, elected) }
+    }
+
+    fn lk_shared_wait_within(barrier: *mut CHandle, milliseconds: u64, phase: *mut u64, elected: *mut c_int) {
+        let arrival = handle!(barrier, Barrier).wait_timeout(Duration::from_millis(milliseconds));
+        unsafe { arrived(arrival, phase, elected) }
+    }
+
+    fn lk_shared_look(barrier: *mut CHandle, phase: *mut u64, elected: *mut c_int) {
+        let arrival = handle!(barrier, Barrier).look();
+        unsafe { arrived(arrival, phase, elected) }
+    }
+}
+
+/// The end of a phase for C.
+///
+/// # Safety
+///
+/// The pointers are null or good.
+unsafe fn arrived(arrival: Result<Option<Arrival>, BarrierError>, phase: *mut u64, elected: *mut c_int) -> c_int {
+    match arrival {
+        Ok(Some(arrival)) => {
+            // SAFETY: as the caller says.
+            if let Some(phase) = unsafe { at(phase) } {
+                *phase = arrival.phase;
             }
-            Err(why) => why.code(),
+            // SAFETY: as the caller says.
+            if let Some(elected) = unsafe { at(elected) } {
+                *elected = c_int::from(arrival.is_elected);
+            }
+            LK_OK
         }
+        Ok(None) => LK_WOULD_BLOCK,
+        Err(why) => why.code(),
     }
 }
 

@@ -6,7 +6,7 @@
 //! An object's entry is a chunk of `ENTRY_WORDS` words: its kind, how many handles it has, the number of its first claim, that
 //! of its first word of advice, and then the numbers of its kind.
 
-use crate::map::HEAD_WORDS;
+use crate::map::region_end;
 use crate::sys::Sum;
 use crate::table::Numbers;
 use atomic_table::Site;
@@ -183,7 +183,7 @@ impl Entry {
     fn of(key: u64, words: &[u64], region: u64, file: u64) -> Option<Entry> {
         let [kind, handles, claims, advice] = *words.first_chunk()?;
         let object = Object::of(kind, &words[4..])?;
-        let side = HEAD_WORDS + region;
+        let side = region_end(region);
         let beside = |first: u64, count: u64| first >= side && first.checked_add(count).is_some_and(|end| end <= file);
         let fits = handles <= MOST_HANDLES && beside(claims, handles) && beside(advice, ADVICE_WORDS * handles.max(1));
         if !fits || !object.fits(region, file) {

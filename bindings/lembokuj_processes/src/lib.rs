@@ -39,6 +39,14 @@
 
 #![warn(missing_docs)]
 
+// What does not depend on who shares an object is one text for threads and for processes.
+#[path = "../../lembokuj/src/causes.rs"]
+mod causes;
+#[path = "../../lembokuj/src/limit.rs"]
+mod limit;
+#[path = "../../lembokuj/src/rows.rs"]
+mod rows;
+
 mod area;
 mod barrier;
 mod c;
@@ -50,29 +58,16 @@ mod region;
 mod sys;
 mod table;
 
-pub use area::{Area, AreaError, Chunk, NoWord, Ticket};
+pub use area::{Area, AreaError, Chunk, Ticket};
 pub use barrier::{Arrival, Barrier, BarrierError};
 pub use map::AttachError;
 pub use queue::{ReceiveError, Rx, SendError, Tx};
 pub use reap::Reaped;
+pub use rows::NoWord;
 pub use region::{BuildError, Builder, Region, TakeError};
 pub use table::{Table, TableError};
 
+use causes::errors;
+
 /// The leave to wait, which the calls beneath ask for.
 const HOST: rattle_std::HostRuntime = rattle_std::HostRuntime::new();
-
-/// Gives an enum of causes a text for each, and makes it an error.
-macro_rules! errors {
-    ($name:ident { $($cause:ident => $text:literal,)* }) => {
-        impl std::fmt::Display for $name {
-            fn fmt(&self, f: &mut std::fmt::Formatter<'_>) -> std::fmt::Result {
-                f.write_str(match self {
-                    $($name::$cause => $text,)*
-                })
-            }
-        }
-
-        impl std::error::Error for $name {}
-    };
-}
-use errors;

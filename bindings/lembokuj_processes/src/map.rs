@@ -1,9 +1,12 @@
 //! The mapping of a region, as a process has it: its head, and what is looked at before it is used.
 //!
 //! ```text
-//! word 0      512                        512 + W                              end
-//! | head       | W words of the region    | locks with their values, claims, .. |
+//! word 0   512                                                                          end
+//! | head    | W words of the region | its W slots | locks with their values, claims, advice |
 //! ```
+//!
+//! Each number of the region has a word and a slot. A word that one process owns lies in its slot, which is plain memory; the word is
+//! for what several load: the counts and flag of a ring, the directory, and of a chunk of an area who has it (`area`).
 //!
 //! Words of the head, with who stores them:
 //!
@@ -40,7 +43,7 @@ pub(crate) const MOST_WORDS: u64 = 1 << 26;
 pub(crate) const SIDE_WORDS: u64 = 1 << 20;
 
 const MAGIC: u64 = u64::from_le_bytes(*b"LKREGION");
-const VERSION: u64 = 1;
+const VERSION: u64 = 2;
 
 /// The words of the head.
 #[derive(Clone, Copy)]
@@ -128,19 +131,20 @@ fn head(mapping: &Mapping, word: Head) -> &AtomicU64 {
     mapping.word(word as u64)
 }
 
-/// Where the words of a region of this size lie.
+/// The place of a region of this size: its words, and its slots.
 pub(crate) fn region_site(words: u64) -> Site {
-    Site {
-        words: HEAD_WORDS,
-        word_count: words,
-        slots: 0,
-        slot_count: 0,
-    }
+    Site::of_words(HEAD_WORDS, words)
+}
+
+/// The number of the first word after those of a region of this size, and its slots.
+pub(crate) fn region_end(words: u64) -> u64 {
+    let site = region_site(words);
+    site.slots + site.slot_count
 }
 
 /// The words of the file of a region of this size: whole pages.
 pub(crate) fn file_words(words: u64) -> u64 {
-    (HEAD_WORDS + words + SIDE_WORDS).next_multiple_of(HEAD_WORDS)
+    (region_end(words) + SIDE_WORDS).next_multiple_of(HEAD_WORDS)
 }
 
 /// The sum of what the maker wrote and nobody changes.
@@ -239,6 +243,11 @@ impl Map {
     /// Whether a process found it damaged.
     pub(crate) fn is_damaged(&self) -> bool {
         head(&self.mapping, Head::State).load(SeqCst) == DAMAGED
+    }
+
+    /// The place of a word of the region in the file, in bytes.
+    pub(crate) fn place_of(&self, at: u64) -> u64 {
+        8 * (HEAD_WORDS + at)
     }
 
     /// A number that no other ticket of the region has.

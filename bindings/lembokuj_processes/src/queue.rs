@@ -2,6 +2,7 @@
 
 use crate::directory::Object;
 use crate::errors;
+use crate::limit::{Limit, Over};
 use crate::map::Damage;
 use crate::region::{Handle, LOST, Region, SPENT, TakeError, claim_of, has_ended};
 use atomic_table::{sleep_on, wake};
@@ -158,10 +159,12 @@ impl End {
         self.handle.advice(self.handle.number).store(AWAKE, SeqCst);
     }
 
-    /// Sleeps until the other side wakes this one, no longer than a nap; and looks whether it lives.
-    fn nap(&self) {
-        sleep_on(self.handle.advice(self.handle.number), ASLEEP as u32, NAP);
+    /// Sleeps until the other side wakes this one, no longer than a nap; and looks whether it lives. Or the wait is over.
+    fn nap(&self, limit: &mut Limit<'_>) -> Result<(), Over> {
+        let time = limit.next_sleep()?.map_or(NAP, |time| time.min(NAP));
+        sleep_on(self.handle.advice(self.handle.number), ASLEEP as u32, time);
         self.look_at_peer();
+        Ok(())
     }
 
     /// If the process of the other side has ended, detaches it.
@@ -258,18 +261,36 @@ impl Tx {
     /// Sends a message of any length up to the queue's greatest, and sleeps while the ring has no room. It returns once the
     /// message is on the ring, or the receiver has left or ended.
     pub fn send(&mut self, message: &[u8]) -> Result<(), SendError> {
-        let mut step = match self.try_send(message) {
+        let step = match self.try_send(message) {
             Err(SendError::LongerThanRing) => Tx::try_part as fn(&mut Tx, &[u8]) -> Result<(), SendError>,
             Err(SendError::WouldBlock) => Tx::try_send,
             done => return done,
         };
+        self.send_by(step, message, &mut Limit::Forever)
+    }
+
+    /// As [`Tx::send`], but `WouldBlock` if there is no room within the time; nothing was sent then. A message that is longer than the
+    /// ring is refused.
+    pub fn send_timeout(&mut self, message: &[u8], time: Duration) -> Result<(), SendError> {
+        self.send_by(Tx::try_send, message, &mut Limit::after(time))
+    }
+
+    /// As [`Tx::send_timeout`], as long as the function says so, which is asked about every 10 ms.
+    pub fn send_while(&mut self, message: &[u8], mut go_on: impl FnMut() -> bool) -> Result<(), SendError> {
+        self.send_by(Tx::try_send, message, &mut Limit::While(&mut go_on))
+    }
+
+    fn send_by(
+        &mut self,
+        mut step: impl FnMut(&mut Tx, &[u8]) -> Result<(), SendError>,
+        message: &[u8],
+        limit: &mut Limit<'_>,
+    ) -> Result<(), SendError> {
         loop {
-            match self.tries(&mut step, message) {
-                Err(SendError::WouldBlock) => self.end.nap(),
-                done => {
-                    self.end.says_awake();
-                    return done;
-                }
+            let done = self.tries(&mut step, message);
+            if done != Err(SendError::WouldBlock) || self.end.nap(limit).is_err() {
+                self.end.says_awake();
+                return done;
             }
         }
     }
@@ -328,14 +349,26 @@ impl Rx {
 
     /// The next message; it sleeps while there is none, and returns if the sender has left or ended.
     pub fn receive(&mut self) -> Result<&[u8], ReceiveError> {
+        self.receive_by(&mut Limit::Forever)
+    }
+
+    /// As [`Rx::receive`], but `WouldBlock` if no whole message is there within the time.
+    pub fn receive_timeout(&mut self, time: Duration) -> Result<&[u8], ReceiveError> {
+        self.receive_by(&mut Limit::after(time))
+    }
+
+    /// As [`Rx::receive_timeout`], as long as the function says so, which is asked about every 10 ms.
+    pub fn receive_while(&mut self, mut go_on: impl FnMut() -> bool) -> Result<&[u8], ReceiveError> {
+        self.receive_by(&mut Limit::While(&mut go_on))
+    }
+
+    fn receive_by(&mut self, limit: &mut Limit<'_>) -> Result<&[u8], ReceiveError> {
         loop {
-            match self.tries() {
-                Err(ReceiveError::WouldBlock) => self.end.nap(),
-                done => {
-                    self.end.says_awake();
-                    done?;
-                    return Ok(self.receiver.message());
-                }
+            let done = self.tries();
+            if done != Err(ReceiveError::WouldBlock) || self.end.nap(limit).is_err() {
+                self.end.says_awake();
+                done?;
+                return Ok(self.receiver.message());
             }
         }
     }

@@ -17,13 +17,17 @@ pub struct Reaped {
     /// Handles that are lost for good, since their process ended with one of the object's locks: what that guards is lost too. Of
     /// a barrier that is lost, all whose processes have ended.
     pub lost: u64,
+    /// Chunks of areas that were given back.
+    pub chunks: u64,
 }
 
 impl Region {
-    /// Looks for handles of processes that have ended: those of tables and areas may be taken again, ends of queues and callers
-    /// of barriers are detached. A caller that waits for such a process notices by itself; this is for a supervisor, or for a
-    /// process that wants another handle. It costs a question to the system for each handle that is taken. Chunks that the dead had stay
-    /// live.
+    /// Looks for what processes had that have ended. Their handles of tables and areas may be taken again, ends of queues and
+    /// callers of barriers are detached, and their chunks go back to their area, unless a lock of its is lost or all of its handles
+    /// are taken. A caller that waits for such a process notices by itself; this is for a supervisor, or for a process that wants
+    /// another handle or more space. It costs a question to the system for each handle that is taken and each process that
+    /// has chunks, and it reads a word for each word of an area. A chunk that was posted and not fetched is nobody's, and stays; so does one that
+    /// the dead were asking for or giving back.
     pub fn reap(&self) -> Reaped {
         let mut reaped = Reaped::default();
         for entry in &self.map.directory.entries {
@@ -33,6 +37,7 @@ impl Region {
                     reap_one(&self.map, entry, number, found, &mut reaped);
                 }
             }
+            reaped.chunks += area::sweep(&self.map, entry).unwrap_or(0);
         }
         reaped
     }

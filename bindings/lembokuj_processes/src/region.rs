@@ -70,6 +70,8 @@ errors!(TakeError {
     Memory => "out of memory",
 });
 
+/// Chunks of the directory's table have a multiple of this number of bytes.
+const CHUNK_ALIGN: u64 = 32;
 const MOST_PAGES: u32 = 1 << 16;
 const LEAST_WORDS: u64 = 64;
 
@@ -189,12 +191,12 @@ impl Builder {
         let file = file(8 * all).map_err(|_| BuildError::System)?;
         let mapping = Mapping::of_file(&file, all).map_err(|_| BuildError::System)?;
         map::begin(&mapping, words);
-        // The region's words come first, so that they lie just after the head.
-        let first = Room::new(&mapping, HEAD_WORDS, HEAD_WORDS + words);
+        // The region's words come first, so that they lie just after the head, and then its slots.
+        let first = Room::new(&mapping, HEAD_WORDS, map::region_end(words));
         let made = placed_in(&first, || region_words::Region::new(Global, words as usize));
         let (region, part) = made.map_err(|_| BuildError::Full)?;
         let toc = Toc::create(&region, part, words, TOC_MAGIC);
-        let room = Room::new(&mapping, HEAD_WORDS + words, all);
+        let room = Room::new(&mapping, map::region_end(words), all);
         Ok(Builder {
             mapping,
             region,
@@ -325,7 +327,10 @@ impl Builder {
     }
 
     /// Opens the region: the directory is frozen, and others may attach.
-    pub fn open(self) -> Region {
+    pub fn open(mut self) -> Region {
+        // What nothing was given of is nobody's, so that freezing stores nothing there, and it takes no memory.
+        let rest = self.toc.free_bytes() / CHUNK_ALIGN * CHUNK_ALIGN;
+        let _nobodys = self.toc.allocate(&self.region, rest);
         let _frozen: FrozenToc = self.toc.freeze(&self.region);
         let map = Map {
             mapping: self.mapping,

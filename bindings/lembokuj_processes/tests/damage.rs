@@ -107,7 +107,7 @@ fn damaged_files_are_refused_by_name_and_hurt_nobody() {
     let file = made(&name);
     let length = file.metadata().unwrap().len();
     // All that was stored to, and as much again.
-    let used = 8 * (REGION + WORDS + 16_384);
+    let used = 8 * (REGION + 2 * WORDS + 16_384);
     let mut whole = vec![0; used as usize];
     file.read_exact_at(&mut whole, 0).unwrap();
     let directory = directory_words(&file);
@@ -159,7 +159,7 @@ fn damaged_files_are_refused_by_name_and_hurt_nobody() {
             _ => {
                 for _ in 0..1 + chance.below(64) {
                     // Not words of locks: whether their holders live is asked of the processes that they name.
-                    set(&file, REGION + chance.below(WORDS), chance.word());
+                    set(&file, REGION + chance.below(2 * WORDS), chance.word());
                 }
                 false
             }

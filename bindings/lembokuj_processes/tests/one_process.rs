@@ -73,6 +73,7 @@ fn a_handle_is_taken_once() {
     let (mut one, two) = (region.barrier(3).unwrap(), other.barrier(3).unwrap());
     assert_eq!(one.arrive(), Ok(None));
     assert_eq!(one.arrive(), Err(BarrierError::Twice));
+    assert_eq!(one.look(), Ok(None));
     drop(two);
     assert_eq!(one.look().unwrap().map(|arrival| arrival.phase), Some(1));
     assert_eq!(region.barrier(3).err(), Some(TakeError::Taken));
@@ -86,6 +87,7 @@ fn tables_and_areas_keep_what_they_are_given() {
     builder.area(2, 100, 2).unwrap();
     builder.area(3, 40, 1).unwrap();
     builder.queue(4, 16, 4000).unwrap();
+    builder.barrier(5, 2).unwrap();
     let region = builder.open();
     let (mut table, mut other) = (region.table(1).unwrap(), region.table(1).unwrap());
     for key in 0..5000 {
@@ -112,7 +114,7 @@ fn tables_and_areas_keep_what_they_are_given() {
         assert_eq!(stranger.fetch(ticket).err(), Some(AreaError::Stranger));
         assert_eq!(area.fetch(Ticket { bytes: 1 << 40, ..ticket }).err(), Some(AreaError::Stranger));
         assert_eq!(area.fetch(Ticket { number: ticket.number + 1, ..ticket }).err(), Some(AreaError::Stranger));
-        let mut chunk = area.fetch(Ticket::from_bytes(&ticket.to_bytes()).unwrap()).unwrap();
+        let chunk = area.fetch(Ticket::from_bytes(&ticket.to_bytes()).unwrap()).unwrap();
         assert_eq!(area.fetch(ticket).err(), Some(AreaError::Stranger));
         assert_eq!(chunk.load(last), Some(bytes));
         area.free(chunk).unwrap();
@@ -121,9 +123,22 @@ fn tables_and_areas_keep_what_they_are_given() {
     assert_eq!(area.alloc(0).err(), Some(AreaError::NoSpace));
     let chunk = stranger.alloc(8).unwrap();
     assert_eq!(area.free(chunk), Err(AreaError::Stranger));
+    // A wait has an end.
+    let soon = std::time::Duration::from_millis(5);
+    let mut barrier = region.barrier(5).unwrap();
+    assert_eq!(barrier.wait_timeout(soon), Ok(None));
+    assert_eq!(region.barrier(5).unwrap().arrive().map(|arrival| arrival.map(|it| it.phase)), Ok(Some(1)));
+    assert_eq!(barrier.look().unwrap().map(|arrival| arrival.phase), Some(1));
     // A message longer than the ring goes by parts.
     let (mut tx, mut rx) = (region.sender(4).unwrap(), region.receiver(4).unwrap());
     assert_eq!(tx.try_send(&[1; 4000]), Err(SendError::LongerThanRing));
+    assert_eq!(tx.send_timeout(&[1; 4000], soon), Err(SendError::LongerThanRing));
+    assert_eq!(rx.receive_timeout(soon), Err(ReceiveError::WouldBlock));
+    assert_eq!(tx.send_timeout(&[1; 100], soon), Ok(()));
+    assert_eq!(tx.send_timeout(&[1; 100], soon), Err(SendError::WouldBlock));
+    let mut asked = 0;
+    assert_eq!(tx.send_while(&[1; 100], || { asked += 1; asked < 3 }), Err(SendError::WouldBlock));
+    assert_eq!((asked, rx.receive_while(|| false)), (3, Ok(&[1; 100][..])));
     let sender = std::thread::spawn(move || tx.send(&[9; 4000]));
     assert_eq!(rx.receive(), Ok(&[9; 4000][..]));
     assert_eq!(sender.join().unwrap(), Ok(()));

@@ -1,7 +1,7 @@
 //! Processes at the objects of one region, each a program of its own that attached by name; and what is left when one of them
 //! is killed, at a moment of its full work or while it has a lock. `KILLS=n` kills n processes at each object, else 9.
 
-use lembokuj_processes::{BarrierError, ReceiveError, Region, SendError, TableError, Ticket};
+use lembokuj_processes::{AreaError, BarrierError, ReceiveError, Region, SendError, TableError, Ticket};
 use std::collections::BTreeMap;
 use std::process::{Child, Command, exit};
 use std::sync::Arc;
@@ -41,9 +41,11 @@ fn main() {
     kill_at_table(kills, false);
     kill_at_table(kills, true);
     kill_at_queue(kills);
-    kill_at_barrier(kills);
-    // Two at the table, the two ends of the queue, and the barrier.
-    println!("processes: {} kills in {:.1} s", 5 * kills, begun.elapsed().as_secs_f32());
+    kill_at_barrier(kills, false);
+    kill_at_barrier(kills, true);
+    kill_with_chunks(kills);
+    // Two at the table, the two ends of the queue, two at the barrier, and one with chunks.
+    println!("processes: {} kills in {:.1} s", 7 * kills, begun.elapsed().as_secs_f32());
 }
 
 /// A region under a name that goes when this is dropped.
@@ -108,12 +110,26 @@ fn play(role: &str, name: &str, number: u64) {
             let mut sum = 0;
             while let Ok(bytes) = rx.receive() {
                 let ticket = Ticket::from_bytes(bytes).unwrap();
-                let mut chunk = area.fetch(ticket).unwrap();
+                let chunk = area.fetch(ticket).unwrap();
                 assert!(area.fetch(ticket).is_err());
                 sum += chunk.load(0).unwrap();
                 area.free(chunk).unwrap();
             }
             assert_eq!(sum, CHUNKS * (CHUNKS - 1) / 2);
+        }
+        "role-hold" => hold(&region, number),
+        "role-wait-on" => {
+            let mut barrier = region.barrier(BARRIER).unwrap();
+            let mut tx = region.sender(REPORTS + number).unwrap();
+            for phase in 1u64.. {
+                match barrier.wait() {
+                    Err(BarrierError::OwnerDied) => exit(LOST_CODE),
+                    arrival => assert_eq!(arrival.unwrap().phase, phase),
+                }
+                if phase == 1 {
+                    tx.send(&[0; 16]).unwrap();
+                }
+            }
         }
         "role-wait" => {
             let mut barrier = region.barrier(BARRIER).unwrap();
@@ -148,6 +164,34 @@ fn add(region: &Region, number: u64, on: bool) {
             Err(why) => panic!("{why}"),
         };
         tx.send(&told.concat()).unwrap();
+    }
+}
+
+/// Fills the area with chunks, reports how many they are, and then gives one back and asks for as much, on and on.
+fn hold(region: &Region, number: u64) {
+    const SIZES: [u64; 4] = [24, 600, 5000, 20_000];
+    let mut area = region.area(AREA).unwrap();
+    let mut tx = region.sender(REPORTS + number).unwrap();
+    let mut chunks = Vec::new();
+    for size in SIZES.into_iter().cycle() {
+        match area.alloc(size) {
+            Ok(mut chunk) => {
+                chunk.as_words_mut().fill(size);
+                chunks.push((size, chunk));
+            }
+            Err(AreaError::NoSpace) => break,
+            Err(why) => panic!("{why}"),
+        }
+    }
+    tx.send(&(chunks.len() as u64).to_le_bytes()).unwrap();
+    loop {
+        let at = random(chunks.len() as u64) as usize;
+        let (size, chunk) = chunks.swap_remove(at);
+        assert!(chunk.as_words().iter().all(|word| *word == size));
+        area.free(chunk).unwrap();
+        let mut chunk = area.alloc(size).unwrap();
+        chunk.as_words_mut().fill(size);
+        chunks.push((size, chunk));
     }
 }
 
@@ -265,11 +309,15 @@ fn together() {
 unsafe extern "C" {
     fn fork() -> i32;
     fn kill(pid: i32, signal: i32) -> i32;
+    fn ptrace(request: u32, ...) -> std::ffi::c_long;
+    fn waitpid(pid: i32, status: *mut i32, options: i32) -> i32;
     fn _exit(code: i32) -> !;
 }
 
-const SIGSTOP: i32 = 19;
-const SIGCONT: i32 = 18;
+const PTRACE_SINGLESTEP: u32 = 9;
+const PTRACE_SEIZE: u32 = 0x4206;
+const PTRACE_INTERRUPT: u32 = 0x4207;
+const __WALL: i32 = 0x4000_0000;
 
 /// A child by fork drops its copies of its parent's handles: the parent's work as before.
 fn forked_copies_do_nothing() {
@@ -303,20 +351,27 @@ fn nap() {
     thread::sleep(Duration::from_micros(10_000 + random(20_000)));
 }
 
-/// Stops a process again and again until it stands where it has a lock of the table; false if it has ended before.
-fn stop_with_lock(region: &Region, child: &mut Child) -> bool {
-    let pid = child.id();
-    while child.try_wait().unwrap().is_none() {
-        // SAFETY: numbers only, here and below.
-        unsafe { kill(pid as i32, SIGSTOP) };
-        while std::fs::read_to_string(format!("/proc/{pid}/stat")).is_ok_and(|stat| !stat.contains(") T ") && !stat.contains(") Z ")) {
-            thread::yield_now();
-        }
-        if region.lock_holders(TABLE).unwrap().contains(&pid) {
+/// Lets a process go on instruction by instruction, as a debugger does, until it has a lock of the object, and then some more,
+/// within the lock. False if it has ended before.
+fn stop_with_lock(region: &Region, object: u64, child: &Child) -> bool {
+    let pid = child.id() as i32;
+    let has_lock = || region.lock_holders(object).unwrap().contains(&child.id());
+    // SAFETY: numbers only, here and below, but for the place of the status.
+    assert_eq!(unsafe { ptrace(PTRACE_SEIZE, pid, 0usize, 0usize) }, 0, "the system lets a process trace its child");
+    assert_eq!(unsafe { ptrace(PTRACE_INTERRUPT, pid, 0usize, 0usize) }, 0);
+    let is_stopped = || {
+        let mut status = 0;
+        assert_eq!(unsafe { waitpid(pid, &raw mut status, __WALL) }, pid);
+        status & 0xff == 0x7f
+    };
+    let mut inside = 0;
+    let wanted = 1 + random(40);
+    while is_stopped() {
+        inside = if has_lock() { inside + 1 } else { 0 };
+        if inside == wanted || inside > 0 && random(64) == 0 {
             return true;
         }
-        unsafe { kill(pid as i32, SIGCONT) };
-        thread::sleep(Duration::from_micros(50 + random(300)));
+        unsafe { ptrace(PTRACE_SINGLESTEP, pid, 0usize, 0usize) };
     }
     false
 }
@@ -324,7 +379,7 @@ fn stop_with_lock(region: &Region, child: &mut Child) -> bool {
 /// Four processes add, and one is killed. Each key has what they reported, and the victim's last call perhaps; the keys of a
 /// partition that is lost answer that, to everybody.
 fn kill_at_table(kills: u32, with_lock: bool) {
-    let mut lost = 0;
+    let (mut lost, mut silent) = (0, 0);
     for _ in 0..kills {
         let made = Named::new();
         let region = &made.region;
@@ -332,9 +387,10 @@ fn kill_at_table(kills: u32, with_lock: bool) {
         let role = if with_lock { "role-add-on" } else { "role-add" };
         region.table(TABLE).unwrap().insert(STOP, 0).unwrap();
         let mut children: Vec<Child> = (0..WORKERS).map(|number| made.start(role, number)).collect();
+        let children_ids: Vec<u32> = children.iter().map(Child::id).collect();
         let victim = random(WORKERS) as usize;
         reports[victim].await_first();
-        let held = with_lock && stop_with_lock(region, &mut children[victim]);
+        let held = with_lock && stop_with_lock(region, TABLE, &children[victim]);
         if !with_lock {
             nap();
         }
@@ -352,14 +408,19 @@ fn kill_at_table(kills: u32, with_lock: bool) {
             assert!(if number == victim { has_ended || report.end == ReceiveError::PeerDied } else { report.end == ReceiveError::Detached });
         }
         let refused = sums_are_right(region, &reports);
+        // Nobody takes the lock from the dead, until its handle is found lost.
+        let has_lock = region.lock_holders(TABLE).unwrap().contains(&children_ids[victim]);
         let reaped = region.reap();
-        assert!(!with_lock || held && reaped.lost == 1, "a process that had a lock was killed");
-        // The lock that is lost is a partition's, or one of the table's pages: then new keys are refused.
-        assert_eq!(reaped.lost > 0, refused || new_keys_are_refused(region), "{reaped:?}");
-        lost += u32::from(reaped.lost > 0);
+        assert!(!with_lock || held && has_lock, "a process that had a lock was killed");
+        assert_eq!(reaped.lost, u64::from(has_lock), "{reaped:?}");
+        // The lock is a partition's, or one of the table's pages: then new keys are refused, unless they need none of that size.
+        let refused = refused || new_keys_are_refused(region);
+        assert!(has_lock || !refused);
+        lost += u32::from(has_lock);
+        silent += u32::from(has_lock && !refused);
     }
     let which = if with_lock { "that had a lock" } else { "at any moment" };
-    println!("table    {kills} processes {which} were killed: {lost} left a partition locked, every other key was as it had to be");
+    println!("table    {kills} processes {which} were killed: {lost} left something locked, of which no call needed {silent}; every key had its sum");
 }
 
 /// Whether each key has as much as was reported, or is refused; whether some are.
@@ -441,15 +502,20 @@ fn kill_at_queue(kills: u32) {
     println!("queue    {kills} senders were killed: {came} messages came, in order; {kills} receivers: each sender was told");
 }
 
-/// One of four is killed: the others go on, and each phase elects one.
-fn kill_at_barrier(kills: u32) {
+/// One of four is killed: the others go on, and each phase elects one; or, if it had the barrier's lock, all are told that.
+fn kill_at_barrier(kills: u32, with_lock: bool) {
     let (mut slowest, mut lost) = (Duration::ZERO, 0);
     for _ in 0..kills {
         let made = Named::new();
         let reports = collect(&made.region);
-        let mut children: Vec<Child> = (0..WORKERS).map(|number| made.start("role-wait", number)).collect();
+        let role = if with_lock { "role-wait-on" } else { "role-wait" };
+        let mut children: Vec<Child> = (0..WORKERS).map(|number| made.start(role, number)).collect();
         reports[0].await_first();
-        thread::sleep(Duration::from_micros(random(20_000)));
+        if with_lock {
+            assert!(stop_with_lock(&made.region, BARRIER, &children[0]), "it waits until it is told");
+        } else {
+            thread::sleep(Duration::from_micros(random(20_000)));
+        }
         children[0].kill().unwrap();
         children[0].wait().unwrap();
         let begun = Instant::now();
@@ -458,11 +524,49 @@ fn kill_at_barrier(kills: u32) {
         let told: Vec<u64> = reports.into_iter().skip(1).map(|report| report.join().told.len() as u64).collect();
         if codes.iter().all(|code| *code == Some(LOST_CODE)) {
             lost += 1;
-            assert!(made.region.reap().lost >= WORKERS - 1, "a barrier that is lost is lost to all");
+            // Those that had ended before another one looked are marked already.
+            let reaped = made.region.reap();
+            assert!(reaped.lost <= WORKERS && reaped.detached == 0, "a barrier that is lost is lost to all: {reaped:?}");
+            assert_eq!(made.region.reap().lost, 0);
         } else {
-            assert!(codes.iter().all(|code| *code == Some(0)), "{codes:?}");
+            assert!(!with_lock && codes.iter().all(|code| *code == Some(0)), "{codes:?}");
             assert!(told.iter().all(|count| *count == PHASES), "{told:?}");
         }
     }
-    println!("barrier  {kills} processes of four were killed: {lost} had the lock, else the others went on, within {} ms", slowest.as_millis());
+    let which = if with_lock { "that had the lock" } else { "of four at any moment" };
+    println!("barrier  {kills} processes {which} were killed: {lost} lost it to all, else the others went on, within {} ms", slowest.as_millis());
+}
+
+/// A process that has the whole area in chunks is killed, and then three others after it: all but the chunk that each was
+/// asking for or giving back go back to the area, so that the next one gets as much. If one had a lock, that region is over.
+fn kill_with_chunks(kills: u32) {
+    let (mut swept, mut stay, mut locked, mut done) = (0, 0, 0, 0);
+    while done < kills {
+        let made = Named::new();
+        let (mut first, mut lost) = (0, 0);
+        for number in 0..WORKERS.min(u64::from(kills - done)) {
+            let mut rx = made.region.receiver(REPORTS + number).unwrap();
+            let mut child = made.start("role-hold", number);
+            let filled = u64::from_le_bytes(rx.receive().unwrap().try_into().unwrap());
+            first = first.max(filled);
+            // A chunk that stays may take the room of five pages of small ones.
+            assert!(filled + 300 * lost >= first, "{filled} chunks, and {first} at first");
+            nap();
+            child.kill().unwrap();
+            child.wait().unwrap();
+            done += 1;
+            let reaped = made.region.reap();
+            swept += reaped.chunks;
+            if reaped.lost > 0 {
+                locked += 1;
+                break;
+            }
+            let stays = filled - reaped.chunks;
+            assert!(stays <= 1, "{stays} of {filled} chunks stay");
+            lost += stays;
+            assert_eq!(made.region.reap().chunks, 0, "each goes back once");
+        }
+        stay += lost;
+    }
+    println!("area     {kills} processes with chunks were killed: {swept} went back, {stay} stay, {locked} processes had a lock");
 }
