@@ -1,5 +1,6 @@
 //! What single calls of this library cost, next to what std has for the same: `cargo bench -p lembokuj --bench calls`. Prints
-//! nanoseconds a call, the least of some rounds that are made in turns; all in one thread but the barrier and the busy queues.
+//! nanoseconds a call, the least of some rounds that are made in turns; all in one thread but the barrier and the busy queues,
+//! which `-- one` leaves out.
 
 use lembokuj::{Area, Barrier, Table, queue};
 use mq_handle::{ReceiveAnswer, ReceiveDone, Receiver, SendAnswer, SendDone, Sender, attach};
@@ -10,10 +11,14 @@ use region_words::Region;
 use std::collections::HashMap;
 use std::hint::black_box;
 use std::sync::Mutex;
+use std::sync::atomic::{AtomicU64, Ordering::Relaxed};
 use std::sync::mpsc::sync_channel;
 use std::thread;
 use std::time::Instant;
 
+/// Rounds of one thread are short, so that on a busy machine many are made without a break; those of several threads are not.
+const SHORT_ROUNDS: usize = 1000;
+const SHORT_CALLS: u64 = 500;
 const ROUNDS: usize = 25;
 const CALLS: u64 = 20_000;
 const PHASES: u64 = 2_000;
@@ -23,18 +28,26 @@ type Way<'a> = (&'a str, Box<dyn FnMut() -> f64 + 'a>);
 
 /// A round of many calls of this kind.
 fn calls<'a>(name: &'a str, mut call: impl FnMut(u64) + 'a) -> Way<'a> {
+    // No way finds what another one has just brought into the caches.
+    static FIRST: AtomicU64 = AtomicU64::new(0);
+    let mut done = FIRST.fetch_add(1 << 32, Relaxed);
     let round = move || {
         let start = Instant::now();
-        (0..CALLS).for_each(&mut call);
-        start.elapsed().as_secs_f64() * 1e9 / CALLS as f64
+        (done..done + SHORT_CALLS).for_each(&mut call);
+        done += SHORT_CALLS;
+        start.elapsed().as_secs_f64() * 1e9 / SHORT_CALLS as f64
     };
     (name, Box::new(round))
 }
 
-/// Makes the rounds of all ways in turns, and prints the least of each.
-fn compare(what: &str, mut ways: Vec<Way<'_>>) {
+/// Makes rounds of all ways in turns, and prints the least of each.
+fn compare(what: &str, ways: Vec<Way<'_>>) {
+    least_of(what, SHORT_ROUNDS, ways);
+}
+
+fn least_of(what: &str, rounds: usize, mut ways: Vec<Way<'_>>) {
     let mut least = vec![f64::INFINITY; ways.len()];
-    for _ in 0..ROUNDS {
+    for _ in 0..rounds {
         for ((_, round), least) in ways.iter_mut().zip(&mut least) {
             *least = least.min(round());
         }
@@ -158,7 +171,7 @@ fn barriers(threads: usize) {
             barrier.wait();
         })
     };
-    compare(&format!("a phase of {threads} threads"), vec![("Barrier", Box::new(ours)), ("std's Barrier", Box::new(std))]);
+    least_of(&format!("a phase of {threads} threads"), ROUNDS, vec![("Barrier", Box::new(ours)), ("std's Barrier", Box::new(std))]);
 }
 
 /// Nanoseconds a message, from one thread that sends to one that receives.
@@ -200,8 +213,9 @@ fn streams() {
         let (tx, rx) = sync_channel::<[u8; 8]>(1024);
         stream(move |n| tx.send(n.to_le_bytes()).unwrap(), move |n| assert_eq!(rx.recv(), Ok(n.to_le_bytes())))
     };
-    compare(
+    least_of(
         "a message of 8 bytes from thread to thread",
+        ROUNDS,
         vec![
             ("queue", Box::new(ours)),
             ("shown later", Box::new(later)),
@@ -213,8 +227,11 @@ fn streams() {
 
 fn main() {
     [8, 1000].into_iter().for_each(messages);
-    streams();
     [1000, 1_000_000].into_iter().for_each(tables);
     [24, 600].into_iter().for_each(chunks);
-    [2, 4].into_iter().for_each(barriers);
+    // Those of one thread only, for a machine that has other work.
+    if std::env::args().all(|word| word != "one") {
+        streams();
+        [2, 4].into_iter().for_each(barriers);
+    }
 }

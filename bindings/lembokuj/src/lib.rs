@@ -27,18 +27,19 @@
 //! that is asked. A call of a table or an area may meet a lock that another call holds for a short while: it spins, yields the
 //! processor, and then sleeps until the lock is given back.
 //!
-//! **Cost**, by the figures in `docs/PERFORMANCE.md` of the repository, in nanoseconds a call of this crate in one thread:
+//! **Cost**, by the figures in `docs/PERFORMANCE.md` of the repository, in nanoseconds a call of this crate in one thread on a busy
+//! machine:
 //!
 //! | | here | std | |
 //! |---|--:|---|--:|
-//! | a message of 8 bytes, sent and received, shown at once / later | 28 / 22 | `sync_channel` of vectors | 29 |
-//! | a message of 1,000 bytes, likewise | 1,029 / 1,015 | `sync_channel` of vectors | 38 |
-//! | `get`, 1,000 / 1,000,000 keys | 15 / 172 | `Mutex<HashMap>` | 13 / 105 |
-//! | `insert` under a key that is there | 29 / 212 | `Mutex<HashMap>` | 14 / 113 |
-//! | `update` | 45 / 197 | `Mutex<HashMap>` | 14 / 132 |
-//! | `update_with` | 30 / 115 | `Mutex<HashMap>` | 14 / 132 |
-//! | a chunk of 24 / 600 bytes, made and given back | 94 / 93 | `Box` | 27 / 47 |
-//! | a phase of a barrier, 2 / 4 threads | 1,111 / 6,163 | `Barrier` | 2,788 / 7,662 |
+//! | a message of 8 bytes, sent and received, shown at once / later | 41 / 36 | `sync_channel` of vectors | 45 |
+//! | a message of 1,000 bytes, likewise | 703 / 706 | `sync_channel` of vectors | 59 |
+//! | `get`, 1,000 / 1,000,000 keys | 33 / 275 | `Mutex<HashMap>` | 30 / 201 |
+//! | `insert` under a key that is there | 49 / 370 | `Mutex<HashMap>` | 30 / 335 |
+//! | `update` | 82 / 391 | `Mutex<HashMap>` | 31 / 368 |
+//! | `update_with` | 51 / 362 | `Mutex<HashMap>` | 31 / 368 |
+//! | a chunk of 24 / 600 bytes, made and given back | 104 / 105 | `Box` | 25 / 61 |
+//! | a phase of a barrier, 2 / 4 threads | 1,412 / 4,648 | `Barrier` | 1,666 / 15,442 |
 //!
 //! **Memory.** Calls that make something take some, and so do those that list entries, take any of them, or split, join and freeze
 //! parts; their answer is an error (of `handle`, None) if there is none. The others ask for none, with these exceptions: a call that
