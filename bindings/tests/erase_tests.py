@@ -262,6 +262,16 @@ class Workspaces(unittest.TestCase):
             files = tool.erase_crate("low", folder)
             self.assertEqual(sorted(files), ["lib.rs", "part.rs", "part/deep.rs"])
 
+    def test_modules_of_the_binding_are_added_where_they_are_to_be(self):
+        with tempfile.TemporaryDirectory() as folder:
+            self.workspace(folder, {"crates/region_words/src/lib.rt": "mod region;", "crates/region_words/src/region.rt": "fn f() {}\n"})
+            files = tool.erase_crate("region_words", folder)
+            self.assertEqual(sorted(files), ["lib.rs", "region.rs", "region/slices.rs"])
+            self.assertTrue(files["region.rs"].endswith("fn f() {}\n\nmod slices;\n"))
+            self.workspace(folder, {"crates/region_words/src/lib.rt": "fn f() {}"})
+            with self.assertRaises(tool.Refused):
+                tool.erase_crate("region_words", folder)
+
     def test_where_one_is_refused_nothing_is_written(self):
         with tempfile.TemporaryDirectory() as folder:
             files = {"crates.txt": "".join(f"{root}:\n" for root in tool.ROOTS)}
