@@ -18,7 +18,7 @@ use shm_toc::FrozenToc;
 use std::hash::Hasher;
 
 /// The magic number of the directory's table of contents.
-pub(crate) const TOC_MAGIC: u64 = 0x4c4b_544f_43;
+pub(crate) const TOC_MAGIC: u64 = 0x4c_4b54_4f43;
 
 /// The words of an entry.
 pub(crate) const ENTRY_WORDS: u64 = 24;

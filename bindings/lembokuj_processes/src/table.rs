@@ -148,6 +148,7 @@ impl At {
         }
     }
 
+    #[expect(clippy::result_large_err, reason = "the ask comes back as it came")]
     fn turn(&mut self, handle: &Handle, partition: u32, ask: TableAsk<Numbers>) -> Result<TableAnswer<Numbers>, TableAsk<Numbers>> {
         self.table.turn_while(&handle.map.region, &mut self.pass, partition, ask, &|n| handle.lives(n))
     }

@@ -28,10 +28,10 @@ const LOST_CODE: i32 = 4;
 
 fn main() {
     let words: Vec<String> = std::env::args().collect();
-    if let [_, role, name, number] = &words[..] {
-        if role.starts_with("role-") {
-            return play(role, name, number.parse().unwrap());
-        }
+    if let [_, role, name, number] = &words[..]
+        && role.starts_with("role-")
+    {
+        return play(role, name, number.parse().unwrap());
     }
     // The names of tests that cargo may pass are not for here: all run.
     together();
