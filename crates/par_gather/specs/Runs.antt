@@ -1,5 +1,5 @@
 -- How what was written was made.
-use Rattle.std.specs.Prelude.{◌≡◌, ℕ, List, Option, Some, IfSome, ⊥}
+use Rattle.std.specs.Prelude.{◌≡◌, ℕ, List, Option, Some, IfSome}
 use Rattle.std.specs.Io.KnownBytes.{Appends}
 use Rattle.gen_query.specs.Used.{IsGatheredBy}
 use Rattle.join_query.specs.Used.{IsJoinBy}
