@@ -6,9 +6,9 @@ mod checksum;
 mod front;
 mod number;
 mod section;
-mod text;
 #[cfg(test)]
 mod tests;
+mod text;
 
 pub use checksum::crc32c;
 pub use front::{read_bytes, read_u32};

@@ -2,8 +2,8 @@
 //! one is refused.
 
 use crate::{
-    SectionRead, crc32c, push_number, push_section, push_signed, push_text, read_count, read_number,
-    read_section, read_signed, read_text,
+    SectionRead, crc32c, push_number, push_section, push_signed, push_text, read_count,
+    read_number, read_section, read_signed, read_text,
 };
 use std::test::Fail;
 

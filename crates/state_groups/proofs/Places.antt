@@ -60,9 +60,9 @@ written_to kinds slots at start now h room e =
     let within : at < length slots = omega arith in
     ap (λ (bs : List ℕ). bs ++ one) e ∙ append_assoc start front one
     ∙ ap (λ (bs : List ℕ). start ++ bs) (sym (
-      ap (λ (ks : List Bool). slots_bytes ks (take (at + 1) slots)) (take_more kinds at false h)
-      ∙ ap (λ (ss : List SlotState). slots_bytes (take at kinds ++ get_or kinds at false ∷ []) ss) (take_more slots at no_values within)
-      ∙ slots_bytes-push (take at kinds) (take at slots) (get_or kinds at false) (get_or slots at no_values) (as_long kinds slots at h within)
+    ap (λ (ks : List Bool). slots_bytes ks (take (at + 1) slots)) (take_more kinds at false h)
+    ∙ ap (λ (ss : List SlotState). slots_bytes (take at kinds ++ get_or kinds at false ∷ []) ss) (take_more slots at no_values within)
+    ∙ slots_bytes-push (take at kinds) (take at slots) (get_or kinds at false) (get_or slots at no_values) (as_long kinds slots at h within)
     ))
   where
     as_long : (kinds : List Bool) (slots : List SlotState) (at : ℕ) → at < length kinds → at < length slots → length (take at kinds) ≡ length (take at slots)
@@ -97,9 +97,9 @@ one_more bytes kinds rows slots rest at slot after h few so_far e is same =
       read = so_far.read ∙ ap (λ (bs : List ℕ). slots_bytes (take at kinds) (take at slots) ++ bs) e
           ∙ sym (append_assoc (slots_bytes (take at kinds) (take at slots)) (slot_bytes kind slot) after)
           ∙ ap (λ (bs : List ℕ). bs ++ after) (sym (
-            ap (λ (ks : List Bool). slots_bytes ks (take (at + 1) (set slots at slot))) more_kinds
-            ∙ ap (λ (ss : List SlotState). slots_bytes (take at kinds ++ kind ∷ []) ss) more_slots
-            ∙ slots_bytes-push (take at kinds) (take at slots) kind slot as_long
+          ap (λ (ks : List Bool). slots_bytes ks (take (at + 1) (set slots at slot))) more_kinds
+          ∙ ap (λ (ss : List SlotState). slots_bytes (take at kinds ++ kind ∷ []) ss) more_slots
+          ∙ slots_bytes-push (take at kinds) (take at slots) kind slot as_long
           ));
       are = subst (λ (ks : List Bool). AreSlots ks rows (take (at + 1) (set slots at slot))) (sym more_kinds)
           (subst (λ (ss : List SlotState). AreSlots (take at kinds ++ kind ∷ []) rows ss) (sym more_slots) (slots-push (take at kinds) rows (take at slots) kind slot so_far.are is));
@@ -116,8 +116,7 @@ one_more bytes kinds rows slots rest at slot after h few so_far e is same =
         let left = slots_bytes (drop (at + 1) kinds) (drop (at + 1) found) in
         let one = get_or found at no_values in
         let m = same one (left ++ more) (slots-at kinds rows found at h are)
-            (g.1 ∙ ap (λ (bs : List ℕ). bs ++ more) (slots_bytes-at kinds found at h inside) ∙ append_assoc (slot_bytes (get_or kinds at false) one) left more) in
-        (
+        (g.1 ∙ ap (λ (bs : List ℕ). bs ++ more) (slots_bytes-at kinds found at h inside) ∙ append_assoc (slot_bytes (get_or kinds at false) one) left more) in (
           take_more_set slots at slot within ∙ ap (λ (ss : List SlotState). ss ++ slot ∷ []) g.0 ∙ ap (λ (s : SlotState). take at found ++ s ∷ []) m.0 ∙ sym (take_more found at no_values inside),
           m.1,
         )
@@ -138,8 +137,7 @@ no_more bytes kinds rows slots rest at h so_far none found more are e =
 pub whole : (bytes : List ℕ) (kinds : List Bool) (rows : ℕ) (slots : List SlotState) (rest : List ℕ) (at : ℕ) → at ≡ length kinds → IsReadTo bytes kinds rows slots rest at
     → (bytes ≡ slots_bytes kinds (take (length kinds) slots) ++ rest) × AreSlots kinds rows (take (length kinds) slots)
 whole bytes kinds rows slots rest at end so_far =
-    let all : take at kinds ≡ kinds = ap (λ (n : ℕ). take n kinds) end ∙ take-length kinds in
-    (
+    let all : take at kinds ≡ kinds = ap (λ (n : ℕ). take n kinds) end ∙ take-length kinds in (
       so_far.read ∙ ap (λ (ks : List Bool). slots_bytes ks (take at slots) ++ rest) all ∙ ap (λ (n : ℕ). slots_bytes kinds (take n slots) ++ rest) end,
       subst (λ (n : ℕ). AreSlots kinds rows (take n slots)) end (subst (λ (ks : List Bool). AreSlots ks rows (take at slots)) all so_far.are),
     )
@@ -150,8 +148,7 @@ unfolding slots_bytes
 whole_written bytes kinds rows slots rest at end so_far found more are e =
     let g = so_far.left found more are e in
     let many = slots-many kinds rows found are in
-    let none : drop at kinds ≡ [] = ap (λ (n : ℕ). drop n kinds) end ∙ drop-length kinds in
-    (
+    let none : drop at kinds ≡ [] = ap (λ (n : ℕ). drop n kinds) end ∙ drop-length kinds in (
       g.1 ∙ ap (λ (ks : List Bool). slots_bytes ks (drop at found) ++ more) none,
       ap (λ (n : ℕ). take n slots) (sym end) ∙ g.0 ∙ ap (λ (n : ℕ). take n found) (end ∙ sym many) ∙ take-length found,
     )

@@ -50,10 +50,9 @@ none_are_integers count = record { sum = omega arith; least = fits_signed_from_a
 pub read_with : (integers : Bool) (bytes after rest : List ℕ) (count rows : ℕ) (slot : SlotState) → has_integers integers count ≡ true → bytes ≡ number_bytes count ++ after → after ≡ integers_bytes slot ++ rest → slot.count ≡ count
     → count ≤ rows → IsOfIntegers slot → (bytes ≡ slot_bytes integers slot ++ rest) × IsSlot integers rows slot
 read_with integers bytes after rest count rows slot has e f same few numbers =
-    let here : has_integers integers slot.count ≡ true = ap (has_integers integers) same ∙ has in
-    (
+    let here : has_integers integers slot.count ≡ true = ap (has_integers integers) same ∙ has in (
       e ∙ ap (λ (n : ℕ). number_bytes n ++ after) (sym same) ∙ ap (λ (bs : List ℕ). number_bytes slot.count ++ bs) (f ∙ ap (λ (bs : List ℕ). bs ++ rest) (sym (with_integers integers slot here)))
-      ∙ sym (append_assoc (number_bytes slot.count) (after_count integers slot) rest) ∙ ap (λ (bs : List ℕ). bs ++ rest) (sym (is_count_first integers slot)),
+          ∙ sym (append_assoc (number_bytes slot.count) (after_count integers slot) rest) ∙ ap (λ (bs : List ℕ). bs ++ rest) (sym (is_count_first integers slot)),
       record { count = omega arith; numbers = numbers; plain = λ no. absurd (both here no) },
     )
   where
@@ -64,10 +63,9 @@ pub read_without : (integers : Bool) (bytes after : List ℕ) (count rows : ℕ)
     → (bytes ≡ slot_bytes integers slot ++ after) × IsSlot integers rows slot
 read_without integers bytes after count rows slot has e is few =
     let same : slot.count ≡ count = ap (λ (s : SlotState). s.count) is in
-    let here : has_integers integers slot.count ≡ false = ap (has_integers integers) same ∙ has in
-    (
+    let here : has_integers integers slot.count ≡ false = ap (has_integers integers) same ∙ has in (
       e ∙ ap (λ (n : ℕ). number_bytes n ++ after) (sym same) ∙ ap (λ (bs : List ℕ). number_bytes slot.count ++ bs) (ap (λ (bs : List ℕ). bs ++ after) (sym (without_integers integers slot here)))
-      ∙ sym (append_assoc (number_bytes slot.count) (after_count integers slot) after) ∙ ap (λ (bs : List ℕ). bs ++ after) (sym (is_count_first integers slot)),
+          ∙ sym (append_assoc (number_bytes slot.count) (after_count integers slot) after) ∙ ap (λ (bs : List ℕ). bs ++ after) (sym (is_count_first integers slot)),
       record { count = omega arith; numbers = subst IsOfIntegers (sym is) (none_are_integers count); plain = λ no. is ∙ ap only (sym same) },
     )
 

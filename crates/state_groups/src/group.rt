@@ -114,13 +114,7 @@ fn read_rows(bytes: &[u8]) -> Option<(u64, &[u8])>
     ensures written { (n : ℕ) (rest : List ℕ) → 0 < n → n ≤ 2 ^ 50 → bytes.now ≡ number_bytes n ++ rest → MatchOption result ⊥ (λ found. (found.0 ≡ n) × (found.1.now ≡ rest)) }
 {
     match read_count(bytes, MOST_ROWS) {
-        Some((n, rest)) => {
-            if n > 0 {
-                Some((n, rest))
-            } else {
-                None
-            }
-        }
+        Some((n, rest)) => { if n > 0 { Some((n, rest)) } else { None } }
         None => None,
     }
 }

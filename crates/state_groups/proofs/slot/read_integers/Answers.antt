@@ -10,10 +10,9 @@ pub returns-in-Some-slot_of-clause-read : goal.returns-in-Some-slot_of-clause-re
 returns-in-Some-slot_of-clause-read c =
     let is = c.in-Some-slot_of.ensures.is in
     let sum : FitsSigned w128 c.in-Some.sum = search rules in
-    let least : FitsSigned w128 c.in-Some-read_signed.least = search rules in
-    (
+    let least : FitsSigned w128 c.in-Some-read_signed.least = search rules in (
       integers_read c.args.bytes.now c.in-Some.after.now c.in-Some-read_signed.after.now c.in-Some-read_number.rest.now c.in-Some.sum c.in-Some-read_signed.least c.in-Some-read_number.above c.in-Some-slot_of.slot
-      c.in-Some.ensures.read c.in-Some-read_signed.ensures.read c.in-Some-read_number.ensures.read (is.2 ∙ to_z-of_z w128 c.in-Some.sum sum) (is.3 ∙ to_z-of_z w128 c.in-Some-read_signed.least least) is.4,
+          c.in-Some.ensures.read c.in-Some-read_signed.ensures.read c.in-Some-read_number.ensures.read (is.2 ∙ to_z-of_z w128 c.in-Some.sum sum) (is.3 ∙ to_z-of_z w128 c.in-Some-read_signed.least least) is.4,
       is.0,
       is.1,
     )
