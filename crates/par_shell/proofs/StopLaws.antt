@@ -1,5 +1,8 @@
--- Every reason to stop has one of the statuses that there are.
-use Rattle.std.proofs.Common.{◌≡◌, ℕ, Option, None, Some, IfSome, Contains, refl, sym, subst, arith}
+-- Every reason to stop has one of the statuses that there are, and what is left of the reasons without a fault.
+use Rattle.std.proofs.Common.{◌≡◌, ◌≢◌, ◌≤◌, ◌+◌, ◌⊎◌, inl, ℕ, List, length, Option, None, Some, IfSome, IsNone, Contains, refl, sym, subst, ap, ◌∙◌, arith}
+use Rattle.std.proofs.lemmas.List.{length-append}
+use Rattle.par_io.specs.Reads.{ReadsCount}
+use Rattle.par_shell.specs.declared.status.TheConstants.{ANSWERED, NO_MEMORY}
 use Rattle.par_shell.specs.Scripts.{statuses}
 use Rattle.par_shell.specs.Stops.{status_of}
 use Rattle.par_shell.specs.declared.stop.Stop.{Stop}
@@ -19,3 +22,22 @@ is-status w n e = subst (Contains statuses) (sym e) (has-status w)
 pub if-some : {A : Type 0} (o : Option A) (P Q : A → Type 0) → ((x : A) → P x → Q x) → IfSome o P → IfSome o Q
 if-some None P Q f h = tt
 if-some (Some x) P Q f h = f x h
+
+pub none-is : {A : Type 0} (o : Option A) → IsNone o → o ≡ None
+none-is None is = refl
+none-is (Some x) is = cc is
+
+-- what was read is no longer than what was left
+no-longer : (script : List ℕ) (new : Option (List ℕ)) (n : ℕ) → ReadsCount (Some script) new n → n ≤ length script
+no-longer script None n reads = absurd reads.1
+no-longer script (Some rest) n reads = let e : length script ≡ length reads.0 + length rest = ap length reads.1 ∙ length-append reads.0 rest in let c = reads.2 in omega arith
+
+-- A reason that is no wrong word, no fault and no script above the limit is that memory ran out
+pub is-memory : (w : Stop) (left new : Option (List ℕ)) → w ≢ Usage → w ≢ ReadFault → w ≢ WriteFault → (w ≡ TooLong → ReadsCount left new 1048577) → (n : ℕ) → n ≡ status_of w
+    → IfSome left (λ script. length script ≤ 1048576 → (n ≡ NO_MEMORY) ⊎ (n ≡ ANSWERED))
+is-memory w None new usage read write long n e = tt
+is-memory Usage (Some script) new usage read write long n e = absurd (usage refl)
+is-memory ReadFault (Some script) new usage read write long n e = absurd (read refl)
+is-memory WriteFault (Some script) new usage read write long n e = absurd (write refl)
+is-memory Memory (Some script) new usage read write long n e = λ short. inl e
+is-memory TooLong (Some script) new usage read write long n e = λ short. let x = no-longer script new 1048577 (long refl) in absurd (omega (arith, short, x))

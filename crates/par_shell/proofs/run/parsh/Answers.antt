@@ -1,6 +1,6 @@
 use Rattle.std.proofs.Common.{refl}
 use Rattle.par_shell.specs.Scripts.{pages_in, texts}
-use Rattle.par_shell.proofs.StopLaws.{if-some, is-status}
+use Rattle.par_shell.proofs.StopLaws.{if-some, is-memory, is-status, none-is}
 use Rattle.par_shell.proofs.run.parsh.Goals as goal
 
 pub returns-in-Ok-clause-answered : goal.returns-in-Ok-clause-answered
@@ -9,3 +9,13 @@ returns-in-Ok-clause-answered g c = λ _.
 
 pub returns-in-Err-clause-statuses : goal.returns-in-Err-clause-statuses
 returns-in-Err-clause-statuses g c = is-status c.in-Err.stop c.end.result c.end.ensures.status
+
+pub returns-in-Err-clause-complete : goal.returns-in-Err-clause-complete
+returns-in-Err-clause-complete g c = λ read write pages.
+    is-memory c.in-Err.stop (g.S.Source.left c.args.source.now) (g.S.Source.left c.answer_script.new.source)
+    (λ e. pages (none-is (pages_in (texts c.args.words.now)) (c.in-Err.ensures.usage (cc e))))
+    (λ e. read (c.in-Err.ensures.read_fault (cc e)))
+    (λ e. write (c.in-Err.ensures.write_fault (cc e)))
+    (λ e. c.in-Err.ensures.too_long (cc e))
+    c.end.result
+    c.end.ensures.status
