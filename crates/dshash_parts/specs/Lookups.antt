@@ -1,5 +1,5 @@
--- Calls that neither make a cell nor remove one.
-use Rattle.std.specs.Prelude.{◌≡◌, ℕ, List, [], ◌∷◌, ◌++◌, Option, is_some}
+-- Calls that make no cell, and calls that neither make a cell nor remove one.
+use Rattle.std.specs.Prelude.{◌≡◌, ℕ, List, [], ◌∷◌, ◌++◌, Option, None, is_some}
 use Rattle.std.specs.FinMap as fin
 use Rattle.lock_book.specs.declared.view.Entry.{Entry}
 use Rattle.lock_book.specs.History.{last_of}
@@ -15,6 +15,10 @@ module _ {S C R : Type 0} (step : Option S → C → Option S × R) where
   -- the call leaves a state if there is one, and none if there is none
   abbrev pub KeepsCells : C → Type 0
   KeepsCells call = (s : Option S) → is_some (step s call).0 ≡ is_some s
+
+  -- the call leaves no state where there is none
+  abbrev pub MakesNoCell : C → Type 0
+  MakesNoCell call = (step None call).0 ≡ None
 
   -- The call was made, with this reply, at the last turn that was seen of the key's partition: from the state that was
   -- under the key before it; what it leaves is there now

@@ -21,6 +21,8 @@ mod states;
 #[cfg(test)]
 mod tests;
 mod text;
+#[cfg(test)]
+mod visits;
 
 #[cfg(test)]
 pub use cache::{forget, keep, own_name, recall, remember};
