@@ -24,6 +24,7 @@ ghost use Rattle.par_stream.specs.declared.stop.Stop.{Stop};
 ghost use Rattle.par_stream.specs.declared.stop.Stop.TheVariants as stop;
 
 mod adding;
+mod batch;
 mod filling;
 mod output;
 mod progress;
