@@ -1,0 +1,5 @@
+mod Division
+mod Folding
+mod Parts
+mod Sections
+mod Sevens
