@@ -1,3 +1,4 @@
 pub mod Checksum
 pub mod Number
 pub mod Section
+pub mod Text

@@ -7,7 +7,7 @@ ghost use Rattle.std.specs.Prelude.{◌≡◌, ◌<◌, ◌^◌, ◌++◌, ℕ, 
 ghost use Rattle.std.specs.Int.{to_le_bytes, w32};
 
 /// The first `count` bytes, and those after them.
-pub(crate) fn read_bytes(bytes: &[u8], count: usize) -> Option<(&[u8], &[u8])>
+pub fn read_bytes(bytes: &[u8], count: usize) -> Option<(&[u8], &[u8])>
     ensures read { IfSome result (λ found. (bytes.now ≡ found.0.now ++ found.1.now) × (length found.0.now ≡ count)) }
     ensures written { (part rest : List ℕ) → length part ≡ count → bytes.now ≡ part ++ rest → MatchOption result ⊥ (λ found. (found.0.now ≡ part) × (found.1.now ≡ rest)) }
     ensures short { IfNone result (length bytes.now < count) }
@@ -19,7 +19,7 @@ pub(crate) fn read_bytes(bytes: &[u8], count: usize) -> Option<(&[u8], &[u8])>
 }
 
 /// A number in four bytes, and the bytes after it.
-pub(crate) fn read_u32(bytes: &[u8]) -> Option<(u32, &[u8])>
+pub fn read_u32(bytes: &[u8]) -> Option<(u32, &[u8])>
     ensures read { IfSome result (λ found. bytes.now ≡ to_le_bytes w32 found.0 ++ found.1.now) }
     ensures written { (n : ℕ) (rest : List ℕ) → n < 2 ^ 32 → bytes.now ≡ to_le_bytes w32 n ++ rest → MatchOption result ⊥ (λ found. (found.0 ≡ n) × (found.1.now ≡ rest)) }
     ensures short { IfNone result (length bytes.now < 4) }

@@ -6,9 +6,12 @@ mod checksum;
 mod front;
 mod number;
 mod section;
+mod text;
 #[cfg(test)]
 mod tests;
 
 pub use checksum::crc32c;
+pub use front::{read_bytes, read_u32};
 pub use number::{push_number, push_signed, read_number, read_signed};
 pub use section::{SectionRead, push_section, read_section};
+pub use text::{push_text, read_count, read_text};

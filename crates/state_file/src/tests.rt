@@ -1,9 +1,9 @@
-//! Worked bytes, which no clause says: numbers in each length, checksums from public documents, a section, and what of one is
-//! refused.
+//! Worked bytes, which no clause says: numbers in each length, texts, checksums from public documents, a section, and what of
+//! one is refused.
 
 use crate::{
-    SectionRead, crc32c, push_number, push_section, push_signed, read_number, read_section,
-    read_signed,
+    SectionRead, crc32c, push_number, push_section, push_signed, push_text, read_count, read_number,
+    read_section, read_signed, read_text,
 };
 use std::test::Fail;
 
@@ -68,6 +68,20 @@ fn numbers(rt: HostRuntime) -> Result<(), Fail> {
         assert!(rt; out.as_slice() == bytes, "{n}");
         assert!(rt; read_signed(bytes).map(|found| found.0) == Some(n), "{n}");
     }
+    Ok(())
+}
+
+#[test]
+fn texts(rt: HostRuntime) -> Result<(), Fail> {
+    let mut out = Vec::new(rt.alloc());
+    push_text(&mut out, b"abc")?;
+    push_text(&mut out, b"")?;
+    assert!(rt; out.as_slice() == b"\x03abc\0".as_slice());
+    assert!(rt; read_text(out.as_slice(), 3).map(|found| found.0.len()) == Some(3));
+    assert!(rt; read_text(out.as_slice(), 2).is_none());
+    assert!(rt; read_text(&out.as_slice()[..3], 3).is_none());
+    assert!(rt; read_count(b"\x07", 7).map(|found| found.0) == Some(7));
+    assert!(rt; read_count(b"\x08", 7).is_none());
     Ok(())
 }
 
