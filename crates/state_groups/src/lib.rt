@@ -1,0 +1,11 @@
+//! Groups in a file of partial states: keys with what some rows came to, as bytes and back.
+
+#![tactic(auto)]
+
+mod group;
+mod slot;
+#[cfg(test)]
+mod tests;
+
+pub use group::{push_group, read_group};
+pub use slot::{push_slot, read_slot};
