@@ -1,13 +1,14 @@
 //! `parstream [--group COLUMNS] --agg ITEMS ..` answers a query over the comma-separated bytes of the standard input,
-//! whatever their length.
+//! whatever their length; `--help`, `-h` and `--version` are answered on the standard output.
 //!
-//! This file is only the edge to the system: it hands the words and the standard streams to the library `par_stream`,
-//! whose contract says what the answer is, and ends with the status that it gets.
+//! This file is only the edge to the system: it hands the words and the standard streams to the libraries `input_hints`
+//! and `par_stream`, whose contracts say what the answer is, and ends with the status that it gets.
 
 #![tactic(auto)]
 
 mod progress;
 
+use input_hints::{asked_of, tell};
 use par_io::{StdSink, StdSource};
 use par_stream::{NO_MEMORY, WINDOW_BYTES, say_usage, stream_table};
 use progress::ProgressLine;
@@ -40,12 +41,16 @@ fn main(rt: HostRuntime) -> ExitCode {
     let Some(words) = words else {
         return ExitCode::from(say_usage(&mut err));
     };
+    let mut out = StdSink::new(rt.stdout());
+    if let Some(asked) = asked_of(words.as_slice()) {
+        return ExitCode::from(tell(asked, &mut out, &mut err));
+    }
     let status = stream_table(
         &rt,
         rt.alloc(),
         words.as_slice(),
         &mut StdSource::new(rt.stdin()),
-        &mut StdSink::new(rt.stdout()),
+        &mut out,
         &mut err,
         WINDOW_BYTES,
         &mut ProgressLine::new(&rt, rt.stderr()),

@@ -1,0 +1,64 @@
+-- Files that are no comma-separated text, by the bytes that they begin with.
+use Rattle.std.specs.Prelude.{[], ◌==◌, ◌&&◌, ◌||◌, ◌∷◌, ◌++◌, ℕ, Bool, not, List, Option, None, Some, codes, if◌then◌else◌, length, nat_le, slice_index}
+use Rattle.std.specs.List.{starts_with}
+use Rattle.input_hints.specs.declared.kind.Kind.{Kind}
+use Rattle.input_hints.specs.declared.kind.Kind.TheVariants as kind
+
+-- bytes begin with these
+abbrev pub begins : List ℕ → List ℕ → Bool
+begins bytes front = starts_with (λ a b. a == b) bytes front
+
+-- gzip (RFC 1952): its magic number and the one method of compression there is
+abbrev pub is_gzip : List ℕ → Bool
+is_gzip bytes = begins bytes (0x1f ∷ 0x8b ∷ 0x08 ∷ [])
+
+-- the magic number of a stream of xz
+abbrev pub is_xz : List ℕ → Bool
+is_xz bytes = begins bytes (0xfd ∷ 0x37 ∷ 0x7a ∷ 0x58 ∷ 0x5a ∷ 0x00 ∷ [])
+
+-- zstd (RFC 8878): the magic number of a frame
+abbrev pub is_zstd : List ℕ → Bool
+is_zstd bytes = begins bytes (0x28 ∷ 0xb5 ∷ 0x2f ∷ 0xfd ∷ [])
+
+-- a zip archive, as an .xlsx file is: the signature of a file's header, or of an archive with no files
+abbrev pub is_zip : List ℕ → Bool
+is_zip bytes = begins bytes (0x50 ∷ 0x4b ∷ 0x03 ∷ 0x04 ∷ []) || begins bytes (0x50 ∷ 0x4b ∷ 0x05 ∷ 0x06 ∷ [])
+
+-- Parquet: its magic number, and the first byte of the header of a page. A column may be named PAR1
+abbrev pub is_parquet : List ℕ → Bool
+is_parquet bytes = begins bytes (0x50 ∷ 0x41 ∷ 0x52 ∷ 0x31 ∷ 0x15 ∷ [])
+
+-- a byte-order mark of UTF-16, in either order
+abbrev pub has_mark : List ℕ → Bool
+has_mark bytes = begins bytes (0xff ∷ 0xfe ∷ []) || begins bytes (0xfe ∷ 0xff ∷ [])
+
+-- two characters of UTF-16 below 256, the lower byte of each first: each has a zero and a byte that is none
+abbrev pub is_low_first : List ℕ → Bool
+is_low_first bytes = nat_le 4 (length bytes) && ((not (slice_index bytes 0 == 0) && (slice_index bytes 1 == 0)) && (not (slice_index bytes 2 == 0) && (slice_index bytes 3 == 0)))
+
+-- two characters of UTF-16 below 256, the higher byte of each first
+abbrev pub is_high_first : List ℕ → Bool
+is_high_first bytes = nat_le 4 (length bytes) && (((slice_index bytes 0 == 0) && not (slice_index bytes 1 == 0)) && ((slice_index bytes 2 == 0) && not (slice_index bytes 3 == 0)))
+
+-- what a file is by the bytes that it begins with, if it is one of these
+abbrev pub kind_in : List ℕ → Option Kind
+kind_in bytes =
+    if is_gzip bytes then Some kind.Gzip
+    else (if is_xz bytes then Some kind.Xz
+    else (if is_zstd bytes then Some kind.Zstd
+    else (if is_zip bytes then Some kind.Zip
+    else (if is_parquet bytes then Some kind.Parquet
+    else (if has_mark bytes then Some kind.Utf16
+    else (if is_low_first bytes then Some kind.Utf16Low
+    else (if is_high_first bytes then Some kind.Utf16High else None)))))))
+
+-- what is said of it, with a command that makes text of it
+abbrev pub kind_text : Kind → List ℕ
+kind_text kind.Gzip = codes "the input is compressed by gzip: zcat FILE | parstream .."
+kind_text kind.Xz = codes "the input is compressed by xz: xzcat FILE | parstream .."
+kind_text kind.Zstd = codes "the input is compressed by zstd: zstdcat FILE | parstream .."
+kind_text kind.Zip = codes "the input is a zip archive: unzip -p FILE | parstream .., or save a spreadsheet as CSV"
+kind_text kind.Parquet = codes "the input is Parquet: duckdb -csv -c \"FROM 'FILE'\" | parstream .."
+kind_text kind.Utf16 = codes "the input is UTF-16: iconv -f UTF-16 -t UTF-8 FILE | parstream .."
+kind_text kind.Utf16Low = codes "the input is UTF-16: iconv -f UTF-16LE -t UTF-8 FILE | parstream .."
+kind_text kind.Utf16High = codes "the input is UTF-16: iconv -f UTF-16BE -t UTF-8 FILE | parstream .."

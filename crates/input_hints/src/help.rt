@@ -1,0 +1,129 @@
+//! What a command line asks to be told about the program: how it is called, or its version.
+
+ghost use Rattle.std.specs.Prelude.{◌≡◌, ◌⊎◌, ℕ, codes, take};
+ghost use Rattle.std.specs.Io.KnownBytes.{Appends};
+ghost use Rattle.par_io.specs.Faults.{Rose};
+ghost use Rattle.answer_text.specs.Lines.{IsSaid};
+ghost use Rattle.input_hints.specs.Help.{asked_in, asked_text, asks_help, asks_version, wants_help, wants_version};
+
+use answer_text::{TABLE, WRITE_FAULT, write_pieces};
+use par_io::{Sink, write_whole};
+
+/// What `--help` and `-h` are answered.
+pub const HELP: &str = "\
+usage: parstream [--group COLUMNS] --agg ITEMS [--where FILTER] [--workers N]
+
+Reads comma-separated records from the standard input, of which the first is the
+header, and writes a table with a row for each group.
+
+  --group COLUMNS  one to eight names between commas; without it all rows are
+                   one group
+  --agg ITEMS      one to eight items between commas: count, the number of rows;
+                   count:C, that of the fields of column C that are not empty;
+                   sum:C, min:C, max:C and avg:C of the integers of column C
+  --where FILTER   only rows for which it holds: a column, one of = != < <= >
+                   >=, and an integer; quote it for the shell
+  --workers N      0 to 64 threads besides the first; 2 if it is not given
+  -h, --help       this text
+  --version        the program's version
+
+An integer has 64 bits, and no point, comma or unit. An empty field is left out
+of sums, minima, maxima and averages. The input may have any length, a record at
+most 67108864 bytes, and the columns of a group 248, four of them for each
+column.
+
+Examples:
+  parstream --agg count < orders.csv
+  parstream --group region,year --agg count,sum:qty,avg:qty < orders.csv
+  parstream --group region --agg max:qty --where 'qty>=10' < orders.csv
+  zcat orders.csv.gz | parstream --group region --agg count --workers 4
+
+Status: 0 the table was written, 1 a row is refused, 2 no such query, header or
+column, 3 a read failed, 4 a write failed, 5 out of memory, 7 a record is too
+long.
+";
+
+/// What `--version` is answered.
+pub const VERSION: &str = "parstream 0.2.0\n";
+
+/// What a command line asks to be told.
+#[derive(Clone, Copy, Debug, PartialEq, Eq)]
+pub enum Asked {
+    Help,
+    Version,
+}
+
+/// What the words after the program's name ask to be told: help if `--help` or `-h` is one of them, otherwise the version
+/// if `--version` is. It takes no memory.
+pub fn asked_of(words: &[String]) -> Option<Asked>
+    ensures { result ≡ asked_in words.now }
+{
+    if wants_help(words) {
+        Some(Asked::Help)
+    } else if wants_version(words) {
+        Some(Asked::Version)
+    } else {
+        None
+    }
+}
+
+/// Whether one of the words asks how the program is called.
+fn wants_help(words: &[String]) -> bool
+    ensures { result ≡ wants_help words.now }
+{
+    words.iter().any(|word| asks_help(word.as_str()))
+}
+
+/// Whether one of the words asks for the program's version.
+fn wants_version(words: &[String]) -> bool
+    ensures { result ≡ wants_version words.now }
+{
+    words.iter().any(|word| asks_version(word.as_str()))
+}
+
+/// Whether a word asks how the program is called.
+fn asks_help(word: &str) -> bool
+    ensures { result ≡ asks_help word.now }
+{
+    word == "--help" || word == "-h"
+}
+
+/// Whether a word asks for the program's version.
+fn asks_version(word: &str) -> bool
+    ensures { result ≡ asks_version word.now }
+{
+    word == "--version"
+}
+
+/// Writes what is asked for to `out`, or a line to `err` that says that a write failed, and returns the exit status. It
+/// takes no memory.
+pub fn tell<O: Sink, E: Sink>(asked: Asked, out: &mut O, err: &mut E) -> u8
+    ensures statuses { (result ≡ TABLE) ⊎ (result ≡ WRITE_FAULT) }
+
+    // On `TABLE` `out` received the text and `err` nothing.
+    ensures text { result ≡ TABLE → Appends (O.taken out.old) (O.taken out.new) (asked_text asked) }
+    ensures quiet { result ≡ TABLE → err.new ≡ err.old }
+
+    // Otherwise a write of it failed: `out` received a prefix, and `err` a line.
+    ensures part { result ≡ WRITE_FAULT → (n : ℕ) × Appends (O.taken out.old) (O.taken out.new) (take n (asked_text asked)) }
+    ensures write_fault { result ≡ WRITE_FAULT → Rose (O.faults out.old) (O.faults out.new) }
+    ensures line { result ≡ WRITE_FAULT → IsSaid (E.taken err.old) (E.taken err.new) (E.faults err.old) (E.faults err.new) (codes "parstream: write fault\n") }
+{
+    match write_whole(out, text_of(asked).as_bytes()) {
+        Ok(()) => TABLE,
+        Err(_) => {
+            let _ = write_pieces(err, &["parstream: write fault\n"]);
+            WRITE_FAULT
+        }
+    }
+}
+
+/// The text that is asked for.
+fn text_of(asked: Asked) -> &'static str
+    ensures { result.now ≡ asked_text asked }
+{
+    match asked {
+        Asked::Help => HELP,
+        Asked::Version => VERSION,
+    }
+}

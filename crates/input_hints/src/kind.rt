@@ -1,0 +1,125 @@
+//! Files that are no comma-separated text, by their first bytes.
+
+ghost use Rattle.std.specs.Prelude.{◌≡◌};
+ghost use Rattle.input_hints.specs.Kinds.{has_mark, is_gzip, is_high_first, is_low_first, is_parquet, is_xz, is_zip, is_zstd, kind_in, kind_text};
+
+/// What a file is.
+#[derive(Clone, Copy, Debug, PartialEq, Eq)]
+pub enum Kind {
+    Gzip,
+    Xz,
+    Zstd,
+    /// An archive, which an `.xlsx` file is too.
+    Zip,
+    Parquet,
+    /// With a byte-order mark.
+    Utf16,
+    /// With no mark, the lower byte of each unit first.
+    Utf16Low,
+    /// With no mark, the higher byte of each unit first.
+    Utf16High,
+}
+
+impl Kind {
+    /// What is said of it, with a command that makes text of it.
+    pub fn text(self) -> &'static str
+        ensures { result.now ≡ kind_text self }
+    {
+        match self {
+            Kind::Gzip => "the input is compressed by gzip: zcat FILE | parstream ..",
+            Kind::Xz => "the input is compressed by xz: xzcat FILE | parstream ..",
+            Kind::Zstd => "the input is compressed by zstd: zstdcat FILE | parstream ..",
+            Kind::Zip => {
+                "the input is a zip archive: unzip -p FILE | parstream .., or save a spreadsheet as CSV"
+            }
+            Kind::Parquet => {
+                "the input is Parquet: duckdb -csv -c \"FROM 'FILE'\" | parstream .."
+            }
+            Kind::Utf16 => "the input is UTF-16: iconv -f UTF-16 -t UTF-8 FILE | parstream ..",
+            Kind::Utf16Low => {
+                "the input is UTF-16: iconv -f UTF-16LE -t UTF-8 FILE | parstream .."
+            }
+            Kind::Utf16High => {
+                "the input is UTF-16: iconv -f UTF-16BE -t UTF-8 FILE | parstream .."
+            }
+        }
+    }
+}
+
+/// What a file is by the bytes that it begins with, of which six are enough; none if it may be text. In constant time.
+pub fn kind_of(bytes: &[u8]) -> Option<Kind>
+    ensures { result ≡ kind_in bytes.now }
+{
+    if is_gzip(bytes) {
+        Some(Kind::Gzip)
+    } else if is_xz(bytes) {
+        Some(Kind::Xz)
+    } else if is_zstd(bytes) {
+        Some(Kind::Zstd)
+    } else if is_zip(bytes) {
+        Some(Kind::Zip)
+    } else if is_parquet(bytes) {
+        Some(Kind::Parquet)
+    } else if has_mark(bytes) {
+        Some(Kind::Utf16)
+    } else if is_low_first(bytes) {
+        Some(Kind::Utf16Low)
+    } else if is_high_first(bytes) {
+        Some(Kind::Utf16High)
+    } else {
+        None
+    }
+}
+
+fn is_gzip(bytes: &[u8]) -> bool
+    ensures { result ≡ is_gzip bytes.now }
+{
+    bytes.starts_with(&[0x1f, 0x8b, 0x08])
+}
+
+fn is_xz(bytes: &[u8]) -> bool
+    ensures { result ≡ is_xz bytes.now }
+{
+    bytes.starts_with(&[0xfd, 0x37, 0x7a, 0x58, 0x5a, 0x00])
+}
+
+fn is_zstd(bytes: &[u8]) -> bool
+    ensures { result ≡ is_zstd bytes.now }
+{
+    bytes.starts_with(&[0x28, 0xb5, 0x2f, 0xfd])
+}
+
+/// Whether it is an archive, which may have no files in it.
+fn is_zip(bytes: &[u8]) -> bool
+    ensures { result ≡ is_zip bytes.now }
+{
+    bytes.starts_with(&[0x50, 0x4b, 0x03, 0x04]) || bytes.starts_with(&[0x50, 0x4b, 0x05, 0x06])
+}
+
+/// Whether it is Parquet: a column may be named `PAR1`, but then the next byte is another.
+fn is_parquet(bytes: &[u8]) -> bool
+    ensures { result ≡ is_parquet bytes.now }
+{
+    bytes.starts_with(&[0x50, 0x41, 0x52, 0x31, 0x15])
+}
+
+/// Whether it begins with a byte-order mark of UTF-16.
+fn has_mark(bytes: &[u8]) -> bool
+    ensures { result ≡ has_mark bytes.now }
+{
+    bytes.starts_with(&[0xff, 0xfe]) || bytes.starts_with(&[0xfe, 0xff])
+}
+
+/// Whether it begins with two characters of UTF-16 below 256, the lower byte of each first.
+fn is_low_first(bytes: &[u8]) -> bool
+    ensures { result ≡ is_low_first bytes.now }
+{
+    bytes.len() >= 4 && (bytes[0] != 0 && bytes[1] == 0) && (bytes[2] != 0 && bytes[3] == 0)
+}
+
+/// Whether it begins with two characters of UTF-16 below 256, the higher byte of each first.
+fn is_high_first(bytes: &[u8]) -> bool
+    ensures { result ≡ is_high_first bytes.now }
+{
+    bytes.len() >= 4 && (bytes[0] == 0 && bytes[1] != 0) && (bytes[2] == 0 && bytes[3] != 0)
+}
