@@ -1,6 +1,6 @@
 //! What no clause says: that the calls succeed, and how their texts read.
 
-use input_hints::{Asked, Kind, asked_of, kind_of, tell};
+use input_hints::{Asked, Expected, Kind, Name, Wrong, asked_of, kind_of, tell, wrong_word};
 use par_io::MemSink;
 use std::alloc::{AllocError, Global};
 use std::test::Fail;
@@ -82,4 +82,60 @@ fn kinds(rt: HostRuntime) {
     for (bytes, wanted) in KINDS {
         assert!(rt; kind_of(bytes) == wanted, "{bytes:?}");
     }
+}
+
+/// Words, and which of them is not understood, by its place, and what may come there.
+const WRONG: [(&str, Option<(usize, Expected)>); 20] = [
+    ("--agg count", None),
+    ("--group g --agg count --where v>1 --workers 1 --", None),
+    ("", Some((0, Expected::Name))),
+    ("orders.csv", Some((0, Expected::Name))),
+    ("--agg count orders.csv", Some((2, Expected::Name))),
+    ("--group g", Some((2, Expected::Items))),
+    ("--agg", Some((1, Expected::Value(Name::Agg)))),
+    ("--agg mean:v", Some((1, Expected::Value(Name::Agg)))),
+    ("--agg=mean:v", Some((0, Expected::Value(Name::Agg)))),
+    (
+        "--group g --agg sum(v) --workers 2",
+        Some((3, Expected::Value(Name::Agg))),
+    ),
+    (
+        "--agg count --where g=a",
+        Some((3, Expected::Value(Name::Where))),
+    ),
+    (
+        "--agg count --where v==1 --workers 128",
+        Some((3, Expected::Value(Name::Where))),
+    ),
+    (
+        "--agg count --workers auto",
+        Some((3, Expected::Value(Name::Workers))),
+    ),
+    (
+        "--workers 128 --agg count",
+        Some((1, Expected::Value(Name::Workers))),
+    ),
+    (
+        "--group g,,h --agg count",
+        Some((1, Expected::Value(Name::Group))),
+    ),
+    ("--agg count --agg sum:v", Some((2, Expected::Other))),
+    ("--agg count --plan gather", Some((2, Expected::Name))),
+    ("-g g --agg count", Some((0, Expected::Name))),
+    ("--agg count, sum:v", Some((1, Expected::Value(Name::Agg)))),
+    (
+        "--where v>1 --group",
+        Some((3, Expected::Value(Name::Group))),
+    ),
+];
+
+#[test]
+fn wrong_words(rt: HostRuntime) -> Result<(), Fail> {
+    for (words, wanted) in WRONG {
+        let list = owned(rt.alloc(), words)?;
+        let found = wrong_word(rt.alloc(), list.as_slice())?;
+        let wanted = wanted.map(|(at, expected)| Wrong { at, expected });
+        assert!(rt; found == wanted, "{words}: {found:?}");
+    }
+    Ok(())
 }
