@@ -1,8 +1,10 @@
 -- What the words of a slice tell of the chains that contracts see.
-use Rattle.std.proofs.Common.{◌≡◌, ◌≢◌, ℕ, ◌+◌, ◌/◌, ◌<◌, ◌≤◌, ◌⊎◌, inl, inr, List, [], ◌∷◌, ◌++◌, suc, map, length, get_or, Option, Some, None, MatchOption, IsSome, refl, sym, ap, subst, ◌∙◌, arith, ⊎_elim, Fits, w64}
+use Rattle.std.proofs.Common.{◌≡◌, ◌≢◌, ℕ, ◌+◌, ◌/◌, ◌<◌, ◌≤◌, ◌⊎◌, inl, inr, List, [], ◌∷◌, ◌++◌, zero, suc, map, length, get_or, Option, Some, None, MatchOption, IsSome, refl, sym, ap, subst, ◌∙◌, arith, ⊎_elim, Fits, w64}
+use Rattle.std.specs.List.{All}
 use Rattle.std.proofs.lemmas.List.{map-append, length-map}
+use Rattle.std.proofs.lemmas.List.Elements.{All-append, All-cons, All-nil}
 use Rattle.word_map.specs.WordMap.{at}
-use Rattle.dshash_core.specs.Chains.{word, most_words, IsChain, Among, AreDistinct, Item, item_at, link_behind, ats}
+use Rattle.dshash_core.specs.Chains.{word, most_words, IsChain, Among, AreDistinct, Item, item_at, each_below, link_behind, ats}
 use Rattle.dshash_core.specs.Hung.{Hung, hung, IsItem, AreHung, chain_places, chain_items, chain_of, IsSpot, Holds, HasItem, HasNoItem, first_place}
 use Rattle.dshash_core.specs.declared.buckets.Buckets.TheInside.{Inside}
 use Rattle.dshash_core.specs.declared.words.Spot.{Spot}
@@ -13,7 +15,7 @@ use Rattle.std.proofs.lemmas.Map.Steps.{length-le_from_distinct_below}
 use Rattle.dshash_core.specs.Cells.{all_items}
 use Rattle.dshash_core.proofs.Hangs.{any_among, are_distinct}
 use Rattle.dshash_core.proofs.Hooks.{most_is}
-use Rattle.dshash_core.proofs.Chains.{word_is}
+use Rattle.dshash_core.proofs.Chains.{word_is, length-words_at}
 
 pub either_option : {A : Type 0} (o : Option A) (P Q : Type 0) (R S : A → Type 0) → (P → Q) → ((x : A) → R x → S x) → MatchOption o P R → MatchOption o Q S
 either_option (Some x) P Q R S f g m = g x m
@@ -95,6 +97,18 @@ all_distinct (c ∷ cs) d once = subst (λ (l : List ℕ). AreDistinct l) (sym (
     (all_distinct cs (λ i l. d (suc i) (omega arith)) (λ i j a l k m n. let e : suc i ≡ suc j = once (suc i) (suc j) a (omega arith) (omega arith) m n in omega arith))
     (λ a m n. let r = place_in cs a n in let b : r.0 < length cs = r.1 in let e : 0 ≡ suc r.0 = once 0 (suc r.0) a (omega arith) (omega arith) m r.2 in let z : ⊥ = omega arith in z))
 
+-- an item's key has the words of a key
+abbrev AreLong : ℕ → List Item → Type 0
+AreLong key_words items = All (λ (it : Item). length it.key ≡ key_words) items
+
+long_chain : (w : ℕ → ℕ) (key_words value_words : ℕ) (ps : List ℕ) → AreLong key_words (map (item_at w key_words value_words) ps)
+long_chain w key_words value_words [] = All-nil (λ (it : Item). length it.key ≡ key_words)
+long_chain w key_words value_words (p ∷ ps) = All-cons (λ (it : Item). length it.key ≡ key_words) (item_at w key_words value_words p) (map (item_at w key_words value_words) ps) (length-words_at w (p + 2) key_words) (long_chain w key_words value_words ps)
+
+long_chains : (key_words n : ℕ) (chain : ℕ → List Item) → ((i : ℕ) → AreLong key_words (chain i)) → AreLong key_words (all_items (each_below chain n))
+long_chains key_words zero chain h = All-nil (λ (it : Item). length it.key ≡ key_words)
+long_chains key_words (suc n) chain h = All-append (λ (it : Item). length it.key ≡ key_words) (chain 0) (all_items (each_below (λ i. chain (suc i)) n)) (h 0) (long_chains key_words n (λ i. chain (suc i)) (λ i. h (suc i)))
+
 module _ (b : Inside) (h : Stands b) where
   abbrev value : Hung
   value = seen b
@@ -169,6 +183,10 @@ module _ (b : Inside) (h : Stands b) where
       let l : r.0 < b.buckets = omega (arith, r.1, len_is) in
       h.below q ((h.items r.0 q l (subst (λ (c : List ℕ). Among q c) (of_chain r.0 r.1) r.2)).owned q (omega arith) (omega arith))) in
       omega (arith, few, most_is, length-map (all_items value.chains) (λ (it : Item). it.at))
+
+  -- all keys have the words of a key
+  pub keys_long : AreLong b.key_words (all_items value.chains)
+  keys_long = long_chains b.key_words b.buckets (chain_items b.part.words b.slice b.key_words b.value_words) (λ i. long_chain (word b.part.words) b.key_words b.value_words (chain_places b.part.words b.slice i))
 
   -- where a spot is
   pub spot_in : (i link : ℕ) (it : Item) (s : IsSpot value i link it) → Among it (chain_of value i)

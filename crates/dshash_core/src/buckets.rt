@@ -7,6 +7,7 @@
 //! hangs twice.
 
 ghost use Rattle.std.specs.Prelude.{◌≡◌, ◌≢◌, ℕ, ◌+◌, ◌*◌, ◌/◌, ◌<◌, ◌≤◌, List, [], ◌∷◌, ◌++◌, ◌^◌, length, MatchOption, IfSome, IfNone};
+ghost use Rattle.std.specs.List.{All};
 ghost use Rattle.dshash_core.specs.Key.{hash_of};
 ghost use Rattle.dshash_core.specs.Chains.{word, words_at, Item, item_at};
 ghost use Rattle.dshash_core.specs.Cells.{all_items};
@@ -102,12 +103,13 @@ impl Buckets {
         self.item_bytes
     }
 
-    /// Tells that an item has room for its key and its value, that the slice has a word for each bucket, and that there
-    /// are no more items than the largest region has words. It does nothing.
+    /// Tells that an item has room for its key and its value, that the slice has a word for each bucket, that there are
+    /// no more items than the largest region has words, and how many words a key has. It does nothing.
     pub(crate) fn is_sound(&self)
         ensures room { length self.now.chains ≤ self.now.words }
         ensures fits { 2 + self.now.layout.key_words + self.now.layout.value_words ≤ self.now.layout.item_bytes / 8 }
         ensures few { length (all_items self.now.chains) ≤ 2 ^ 26 }
+        ensures keys { All (λ it. length it.key ≡ self.now.layout.key_words) (all_items self.now.chains) }
     {
         let _ = &self.buckets;
     }

@@ -12,7 +12,7 @@ ghost use Rattle.std.specs.FinMap as fin;
 ghost use Rattle.dshash_core.specs.Key.{hash_of, item_size};
 ghost use Rattle.dshash_core.specs.Cells.{IsRoomy, AreCells, TakesIn, buckets_of, cells_of, layout_of};
 ghost use Rattle.dshash_core.specs.Outcome.{AlwaysRemoves, IsDone, IsOutcome, HandsOut, ListsAll};
-ghost use Rattle.dshash_core.specs.Listing.{pairs_of};
+ghost use Rattle.dshash_core.specs.Listing.{HaveWords, pairs_of};
 ghost use Rattle.dshash_core.specs.Chains.{Item};
 ghost use Rattle.dshash_core.specs.Hung.{IsItemChunk};
 
@@ -192,7 +192,9 @@ impl<O: CellObject> Partition<O> {
         ensures same { self.new ≡ self.old }
         ensures roomy { IsRoomy self.old.size (fin.len self.old.cells) }
         ensures all { IfOk result (λ v. ListsAll self.old.cells (pairs_of v.items)) }
+        ensures keys { IfOk result (λ v. HaveWords self.old.key_words (pairs_of v.items)) }
     {
+        self.buckets.is_sound();
         list_all::<O>(&mut self.buckets, alloc, r, self.count)
     }
 

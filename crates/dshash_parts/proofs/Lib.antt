@@ -15,3 +15,4 @@ pub mod Lookups
 pub mod Done
 pub mod Takings
 pub mod Tries
+pub mod Visits

@@ -76,6 +76,10 @@ module _ {S C R : Type 0} (step : Option S → C → Option S × R) (may : ℕ �
   pub allowed : (es : List (Entry (PartitionState S) (PartitionCalls C) (PartitionReplies S R))) → IsLegal Taken fresh es → AreAllowed may es
   allowed es h = allowed_from fresh es (fresh_ours step number) h
 
+  -- and the keys of the map after it are the partition's own
+  pub ours : (es : List (Entry (PartitionState S) (PartitionCalls C) (PartitionReplies S R))) → IsLegal Taken fresh es → AreOurs number (last_of fresh es).cells
+  ours es h = ours_from fresh es (fresh_ours step number) h
+
   pub one_lawful : (n : ℕ) (s m s' m' : List (Entry (PartitionState S) (PartitionCalls C) (PartitionReplies S R))) (c : PartitionCalls C) (r : PartitionReplies S R) → IsLegal Taken fresh s' → MakesAll Taken fresh n s m s' m' ((c, r) ∷ [])
       → MakesAll (λ _. PartitionLegal step number) fresh n s m s' m' ((c, r) ∷ [])
   one_lawful n s m s' m' c r legal x =

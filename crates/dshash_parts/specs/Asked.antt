@@ -1,10 +1,10 @@
 -- A locked partition: which call an ask and its answer represent, which reply an answer represents, and the chunks that
 -- go in and come out.
-use Rattle.std.specs.Prelude.{◌≡◌, ℕ, ◌/◌, ◌≤◌, true, false, List, length, Option, Some, None, Result, Ok, Err, is_some, IfSome}
+use Rattle.std.specs.Prelude.{◌≡◌, ℕ, ◌/◌, ◌≤◌, true, false, List, length, Option, Some, None, Result, Ok, Err, is_some, IfOk, IfSome}
 use Rattle.dshash_core.specs.Key.{hash_of}
 use Rattle.dshash_core.specs.Cells.{PartitionView, buckets_of, partition_of}
 use Rattle.dshash_core.specs.Outcome.{AlwaysRemoves, HandsOut}
-use Rattle.dshash_core.specs.Listing.{pairs_of}
+use Rattle.dshash_core.specs.Listing.{HaveWords, pairs_of}
 use Rattle.dshash_core.specs.declared.outcome.CoreOut.{CoreOut}
 use Rattle.dshash_core.specs.declared.outcome.CoreOut.TheVariants.{Done, NeedItem, TooFull}
 use Rattle.dshash_parts.specs.States.{PartitionState}
@@ -71,12 +71,12 @@ module _ {O S C R : Type 0} where
   AskFits n (Take call words) = length words.items ≡ n.key_words
 
   -- what is handed out is the spare itself or an item; a slice that is left over is of this region; a size is from 7 to
-  -- 20. If no key came there are none
+  -- 20; keys that are listed have the table's length. If no key came there are none
   abbrev pub AnswerFits : PartitionName → TableAsk O S C R → TableAnswer O S C R → Type 0
   AnswerFits n (Make hash key call spare) (Came out) = HandsOut n.region n.item_bytes spare out
   AnswerFits n Look (Size size keys) = (7 ≤ size) × (size ≤ 20)
   AnswerFits n (Grow size slice) (LeftOver left) = left.part.region ≡ n.region
-  AnswerFits n (ListAll alloc) (Entries entries) = Unit {0}
+  AnswerFits n (ListAll alloc) (Entries entries) = IfOk entries (λ v. HaveWords n.key_words (pairs_of v.items))
   AnswerFits n (Take call words) (Took taken) = (length taken.key ≡ n.key_words) × (taken.item.part.region ≡ n.region) × (taken.item.bytes ≡ n.item_bytes)
   AnswerFits n (Take call words) (Size size keys) = keys ≡ 0
   AnswerFits n ask answer = ⊥

@@ -1,5 +1,6 @@
 -- What a contract sees of a table, and one event of it.
-use Rattle.std.specs.Prelude.{◌≡◌, ◌≢◌, ℕ, ◌^◌, ◌<◌, ◌≤◌, List, [], ◌∷◌, Option, IfSome}
+use Rattle.std.specs.Prelude.{◌≡◌, ◌≢◌, ℕ, ◌^◌, ◌<◌, ◌≤◌, List, [], ◌∷◌, length, Option, IfSome}
+use Rattle.std.specs.List.{All}
 use mathlib.Core.Option.{some}
 use lib.ListN.{get_elem?}
 use Rattle.atomic_table.specs.Seated.{TableId}
@@ -11,7 +12,8 @@ use Rattle.lock_book.specs.Shown.{count_of, opens_of}
 use Rattle.lock_book.specs.Told.{Histories, MakesAll}
 use Rattle.region_words.specs.declared.chunk.Chunk.{Chunk}
 use Rattle.dsa_area.specs.Sizes.{chunk_size}
-use Rattle.dshash_core.specs.Cells.{KeyMap}
+use Rattle.dshash_core.specs.Key.{hash_of}
+use Rattle.dshash_core.specs.Cells.{KeyMap, partition_of}
 use Rattle.dshash_parts.specs.States.{PartitionState, fresh}
 use Rattle.dshash_parts.specs.Legal.{PartitionLegal}
 use Rattle.dshash_parts.specs.declared.histories.PartitionName.{PartitionName}
@@ -59,6 +61,10 @@ pub record IsTable {O S C R : Type 0} (region : TableId) (t : Dshash O S C R) : 
   pub parts : (i : ℕ) → i < 128 → get_elem? (opens_of t.shelf) i ≡ some (name_in region t i, fresh)
   pub keys : (1 ≤ t.key_words) × (t.key_words ≤ 64)
   pub items : (1 ≤ t.item_bytes) × (t.item_bytes ≤ 2 ^ 30)
+
+-- the keys of the pairs have the words of a table's keys, and belong to the partition of this number
+abbrev pub AreKeysOf : {O S C R : Type 0} → Dshash O S C R → ℕ → List (List ℕ × S) → Type 0
+AreKeysOf t number pairs = All (λ p. (length p.0 ≡ t.key_words) × (partition_of (hash_of p.0) ≡ number)) pairs
 
 -- the state of a partition after all that was seen of it
 abbrev pub state_at : {S C R : Type 0} → Histories (PartitionState S) (PartitionCalls C) (PartitionReplies S R) → ℕ → PartitionState S

@@ -28,6 +28,7 @@ mod table;
 mod taking;
 mod trying;
 mod turns;
+mod visiting;
 
 pub use asks::{TableAnswer, TableAsk};
 pub use close::ClosedTable;

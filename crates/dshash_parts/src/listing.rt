@@ -6,7 +6,7 @@ ghost use Rattle.lock_book.specs.Shown.{number_of, seen_of, mine_of};
 ghost use Rattle.dshash_core.specs.Listing.{pairs_of};
 ghost use Rattle.dshash_core.specs.Outcome.{ListsAll};
 ghost use Rattle.dshash_parts.specs.Asked.{listed_of};
-ghost use Rattle.dshash_parts.specs.Tables.{IsTable, Turned, map_at, Belongs};
+ghost use Rattle.dshash_parts.specs.Tables.{AreKeysOf, IsTable, Turned, map_at, Belongs};
 ghost use Rattle.dshash_parts.specs.declared.histories.PartitionCalls.TheVariants.{Lists, Looks};
 ghost use Rattle.dshash_parts.specs.declared.histories.PartitionReplies.TheVariants.{HasSize};
 
@@ -41,6 +41,7 @@ where
         ensures caller { number_of pass.new ≡ number_of pass.old }
         ensures event { Turned O.stepped pass.old pass.new partition Lists (listed_of (λ v. pairs_of v.items) result) }
         ensures all { IfOk result (λ v. ListsAll (map_at (seen_of pass.new) partition) (pairs_of v.items)) }
+        ensures keys { IfOk result (λ v. AreKeysOf self.now partition (pairs_of v.items)) }
     {
         match self
             .shelf

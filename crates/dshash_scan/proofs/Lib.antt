@@ -1,2 +1,3 @@
 pub mod Scans
 pub mod Tallies
+pub mod Visits

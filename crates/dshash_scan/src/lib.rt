@@ -1,9 +1,11 @@
 //! All entries of a shared hash table, partition after partition (dshash.c, dshash_seq_next): one lock at a time, so
-//! each partition's entries are those of one moment, and nothing is said of one moment for all.
+//! each partition's entries are those of one moment, and nothing is said of one moment for all. A scan of a partition may
+//! change or take out each entry that it visits.
 
 #![tactic(auto)]
 
 mod counting;
+mod visiting;
 
 ghost use Rattle.std.specs.Prelude.{◌≡◌, ℕ, ◌<◌, IfOk};
 ghost use Rattle.lock_book.specs.Shown.{number_of};
@@ -17,6 +19,7 @@ use dshash_parts::{DsPass, Dshash};
 use region_words::Region;
 use std::alloc::{AllocError, Global};
 use std::sync::Wait;
+pub use visiting::{Scan, Visited, scan_one, visit_one};
 
 /// The entries of all partitions, from the first to the last, in no stated order within one. It waits for the lock of
 /// each partition, one after another, and takes memory for the entries and their keys. If there is none, some of the

@@ -8,9 +8,10 @@ use Rattle.dshash_parts.specs.declared.histories.PartitionCalls.{PartitionCalls}
 use Rattle.dshash_parts.specs.declared.histories.PartitionCalls.TheVariants.{Lists}
 use Rattle.dshash_parts.specs.declared.histories.PartitionReplies.{PartitionReplies}
 use Rattle.dshash_parts.proofs.Sizes.{listing_tells}
-use Rattle.lock_book.specs.Shown.{opens_of}
+use Rattle.lock_book.specs.Shown.{opens_of, seen_of}
 use Rattle.dshash_parts.specs.Tables.{name_in, AtPartition, map_at}
 use Rattle.dshash_parts.proofs.Events.{turn}
+use Rattle.dshash_parts.proofs.Visits.{listed_keys}
 use Rattle.dshash_parts.proofs.table.Dshash.list_one.Goals as goal
 
 pub returns-clause-event : goal.returns-clause-event
@@ -23,3 +24,9 @@ all_listed step pairs n seen mine seen' mine' number (Err e) a = tt
 
 pub returns-clause-all : goal.returns-clause-all
 returns-clause-all g c = all_listed g.O.CellObject.stepped (λ v. pairs_of v.items) _ _ _ _ _ c.args.partition _ (returns-clause-event g c)
+
+pub returns-clause-keys : goal.returns-clause-keys
+returns-clause-keys g c =
+    let at = c.requires.table.parts c.args.partition c.requires.number in
+    listed_keys g.O.CellObject.stepped g.O.CellObject.may c.args.self.now c.args.partition (λ v. pairs_of v.items) (seen_of c.call.new.pass c.args.partition) c.in-Entries.entries
+    (c.in-Entries.ensures.own.0.stands.lawful c.args.partition _ at) (c.in-Entries.ensures.output _ at) (returns-clause-all g c)
