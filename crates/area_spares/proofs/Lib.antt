@@ -1,2 +1,4 @@
+pub mod Each
+pub mod Outcomes
 pub mod Sizes
 pub mod Lists

@@ -6,6 +6,7 @@
 
 use crate::pages::LockedPages;
 use crate::pools::LockedPool;
+use crate::sizes::PAGE_BYTES;
 use lock_book::{Pass, Shelf};
 
 /// An area that many callers use at once. Threads share it by reference.
@@ -27,6 +28,20 @@ pub struct Area {
 pub struct AreaPass {
     pub(crate) pages: Pass<LockedPages>,
     pub(crate) pools: Pass<LockedPool>,
+}
+
+impl Area {
+    ghost use Rattle.std.specs.Prelude.{◌≡◌, ◌*◌};
+    ghost use Rattle.dsa_area.specs.Shown.{pages_of};
+    ghost use Rattle.dsa_area.specs.Sizes.{page_bytes};
+
+    /// The bytes of all its pages, granted or not: what was asked for when it was made, for its size never changes. No
+    /// step on the region.
+    pub fn size(&self) -> u64
+        ensures { result ≡ page_bytes * pages_of self.now }
+    {
+        PAGE_BYTES * u64::from(self.count)
+    }
 }
 
 impl AreaPass {

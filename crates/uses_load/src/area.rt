@@ -12,7 +12,7 @@ use std::sync::Wait;
 use std::thread::{Threads, map_vec};
 
 /// The pages of the area whose chunks are timed: 16 MiB.
-const PAGES: u32 = 4096;
+pub const PAGES: u32 = 4096;
 
 /// How many chunks of a thread are live at once, if it gives each back that many calls after it was taken.
 const WINDOW: usize = 100;

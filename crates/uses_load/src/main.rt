@@ -4,8 +4,8 @@
 //! It is what `bench/objects.py` times: it takes no time itself, and prints one line that no schedule changes, with
 //! what it was asked and how many of the calls went as they have to. Its stored run makes a small load of each kind.
 //!
-//! `words` reads what is asked; `lock`, `area`, `queue`, `table` (new keys) and `present` (keys that are there) are the
-//! loads; `counter` is what is behind the lock, and `counts` adds up what the threads counted.
+//! `words` reads what is asked; `lock`, `area`, `spares`, `queue`, `table` (new keys) and `present` (keys that are
+//! there) are the loads; `counter` is what is behind the lock, and `counts` adds up what the threads counted.
 
 #![tactic(auto)]
 
@@ -15,6 +15,7 @@ mod counts;
 mod lock;
 mod present;
 mod queue;
+mod spares;
 mod table;
 mod words;
 
@@ -22,6 +23,7 @@ use crate::area::{area_load, window_load};
 use crate::lock::lock_load;
 use crate::present::{gets_load, sets_load};
 use crate::queue::queue_load;
+use crate::spares::spares_load;
 use crate::table::puts_load;
 use crate::words::{Kind, Load, load_of};
 use std::alloc::{AllocError, Global};
@@ -36,8 +38,8 @@ const WRONG_WORDS: u8 = 2;
 
 /// How the program is called.
 const USAGE: &str =
-    "usage: uses_load lock|area|window|queue|flushed|puts|gets|sets THREADS CALLS [SIZE]
-without words it reads such words from each line of its standard input; each of 1 to 64 THREADS makes CALLS calls, up to 2^32; SIZE is 8 to 1000000: the bytes of a chunk (area, window) or of a
+    "usage: uses_load lock|area|spares|window|queue|flushed|puts|gets|sets THREADS CALLS [SIZE]
+without words it reads such words from each line of its standard input; each of 1 to 64 THREADS makes CALLS calls, up to 2^32; SIZE is 8 to 1000000: the bytes of a chunk (area, spares, window) or of a
 message (queue, flushed, which take 2 threads), or the keys of the table (puts, gets, sets)";
 
 /// The words after the program's name, or none if one is not UTF-8.
@@ -72,6 +74,10 @@ fn line<R: Threads + Wait + Sync>(rt: &R, alloc: Global, load: Load) -> Result<S
         Kind::Area => {
             let good = area_load(rt, alloc, threads, calls, size)?;
             format!(in alloc; "area: {threads} threads, {all} pairs of {size} bytes, {good} good")
+        }
+        Kind::Spares => {
+            let good = spares_load(rt, alloc, threads, calls, size)?;
+            format!(in alloc; "spares: {threads} threads, {all} pairs of {size} bytes, {good} good")
         }
         Kind::Window => {
             let good = window_load(rt, alloc, threads, calls, size)?;

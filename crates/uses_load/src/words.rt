@@ -27,6 +27,8 @@ pub enum Kind {
     Lock,
     /// Each call allocates a chunk, writes a word of it and frees it.
     Area,
+    /// The same, by way of spares that each thread keeps.
+    Spares,
     /// Each call allocates a chunk, writes a word of it and frees the one that was allocated a hundred calls before.
     Window,
     /// Each call sends a message, or receives it. The receiver may see it later.
@@ -60,6 +62,7 @@ fn kind_of(word: &str) -> Option<Kind> {
     match word {
         "lock" => Some(Kind::Lock),
         "area" => Some(Kind::Area),
+        "spares" => Some(Kind::Spares),
         "window" => Some(Kind::Window),
         "queue" => Some(Kind::Queue),
         "flushed" => Some(Kind::Flushed),

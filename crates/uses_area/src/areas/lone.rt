@@ -33,5 +33,6 @@ fn the_first_object_is_granted(rt: HostRuntime) -> Result<(), Fail> {
     let (region, area, mut pass) = area_for_one(rt.alloc(), 16)?;
     let chunk = first_object(&rt, &area, &region, &mut pass, 100);
     assert_eq!(rt; chunk.bytes, 112);
+    assert_eq!(rt; area.size(), 65_536);
     Ok(())
 }
