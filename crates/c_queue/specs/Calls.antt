@@ -3,7 +3,7 @@ use Rattle.std.specs.Prelude.{◌≡◌, ℕ, ◌⊎◌, Bool, true, false, List
 use Rattle.mq_handle.specs.Receives.{Incoming}
 use Rattle.c_queue.specs.Sides.{Outgoing}
 use Rattle.c_queue.specs.Receives.{HasNothing}
-use Rattle.c_queue.specs.Ends.{EndSends, EndFlushes, EndReceives, EndLeaves, has_left}
+use Rattle.c_queue.specs.Ends.{EndSends, EndSendsWhole, EndFlushes, EndReceives, EndLeaves, has_left}
 use Rattle.c_queue.specs.Made.{IsQueue, IsRefused}
 use Rattle.c_queue.specs.declared.code.Code.{Code}
 use Rattle.c_queue.specs.declared.code.Code.TheVariants.{Done, Blank, InUse, StillIn}
@@ -14,6 +14,11 @@ use Rattle.c_queue.specs.declared.end.End.TheVariants.{Sends as Out, Receives as
 abbrev pub Sends : Option End → Option End → List ℕ → Bool → Code → Type 0
 Sends None new message flush code = (new ≡ None) × (code ≡ Blank)
 Sends (Some old) new message flush code = (e : End) × (new ≡ Some e) × EndSends old e message flush code
+
+-- a try to send whole
+abbrev pub SendsWhole : Option End → Option End → List ℕ → Bool → Code → Type 0
+SendsWhole None new message flush code = (new ≡ None) × (code ≡ Blank)
+SendsWhole (Some old) new message flush code = (e : End) × (new ≡ Some e) × EndSendsWhole old e message flush code
 
 -- a flush
 abbrev pub Flushes : Option End → Option End → Code → Type 0

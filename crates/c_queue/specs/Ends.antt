@@ -2,7 +2,7 @@
 use Rattle.std.specs.Prelude.{◌≡◌, ℕ, Bool, List}
 use Rattle.mq_handle.specs.Receives.{Incoming}
 use Rattle.c_queue.specs.Sides.{Outgoing}
-use Rattle.c_queue.specs.Sends.{Sends, Flushes, Leaves}
+use Rattle.c_queue.specs.Sends.{Sends, SendsWhole, Flushes, Leaves}
 use Rattle.c_queue.specs.Receives.{Receives, HasNothing, StopsReceiving}
 use Rattle.c_queue.specs.declared.code.Code.{Code}
 use Rattle.c_queue.specs.declared.code.Code.TheVariants.{OtherKind}
@@ -13,6 +13,11 @@ use Rattle.c_queue.specs.declared.end.End.TheVariants.{Sends as Out, Receives as
 abbrev pub EndSends : End → End → List ℕ → Bool → Code → Type 0
 EndSends (Out old) new message flush code = (o : Outgoing) × (new ≡ Out o) × Sends old o message flush code
 EndSends (In old) new message flush code = (new ≡ In old) × (code ≡ OtherKind)
+
+-- whole or not at all, too
+abbrev pub EndSendsWhole : End → End → List ℕ → Bool → Code → Type 0
+EndSendsWhole (Out old) new message flush code = (o : Outgoing) × (new ≡ Out o) × SendsWhole old o message flush code
+EndSendsWhole (In old) new message flush code = (new ≡ In old) × (code ≡ OtherKind)
 
 -- and publishes
 abbrev pub EndFlushes : End → End → Code → Type 0

@@ -3,6 +3,7 @@ use Rattle.std.specs.Prelude.{◌≡◌, ◌≢◌, ℕ, ◌<◌, ◌≤◌, Boo
 use Rattle.ring_rule.specs.Ends.{publishes, sender_leaves, sender_sees_flag}
 use Rattle.mq_ring.specs.Ends.{SendingEnd}
 use Rattle.mq_handle.specs.Sends.{IsSent, IsBlocked, StaysOpen}
+use Rattle.mq_handle.specs.Wholes.{FitsRing, IsSentWhole, IsLeftOut}
 use Rattle.c_queue.specs.Sides.{Outgoing, outgoing}
 use Rattle.c_queue.specs.declared.code.Code.{Code}
 use Rattle.c_queue.specs.declared.code.Code.TheVariants.{Done, WouldBlock, Detached, TooLong, OtherMessage, Gone}
@@ -28,6 +29,19 @@ Sends old new message flush TooLong = (old.sender.end.ring.max < length message)
 Sends old new message flush OtherMessage = ((m : List ℕ) × (old.begun ≡ Some m) × (m ≢ message)) × (new ≡ old)
 Sends old new message flush Gone = (old.sender.end.gone ≡ true) × (new ≡ old)
 Sends old new message flush code = ⊥
+
+-- A message is sent whole or not at all. Done: the messages sent are those before and this one. WouldBlock: there was
+-- no room for what is not yet on the ring of the message's frame, and nothing was stored. Detached: the flag was found
+-- set, and nothing else was done. The others made no step: the message is too long for the queue, or its frame for the
+-- ring; a part of another message is on the ring; this side has left
+abbrev pub SendsWhole : Outgoing → Outgoing → List ℕ → Bool → Code → Type 0
+SendsWhole old new message flush Done = Stays old.sender new.sender × IsSentWhole old.sender.end new.sender.end message flush × (new.begun ≡ None)
+SendsWhole old new message flush WouldBlock = Stays old.sender new.sender × ((stored : ℕ) × IsLeftOut old.sender.end new.sender.end message stored) × (new.begun ≡ old.begun)
+SendsWhole old new message flush Detached = FitsRing old.sender.end.ring message × (new ≡ outgoing (record old.sender { end = sender_sees_flag old.sender.end 1 }) old.begun)
+SendsWhole old new message flush TooLong = (FitsRing old.sender.end.ring message → ⊥) × (new ≡ old)
+SendsWhole old new message flush OtherMessage = ((m : List ℕ) × (old.begun ≡ Some m) × (m ≢ message)) × (new ≡ old)
+SendsWhole old new message flush Gone = (old.sender.end.gone ≡ true) × (new ≡ old)
+SendsWhole old new message flush code = ⊥
 
 -- all that was put is published, or this side has left
 abbrev pub Flushes : Outgoing → Outgoing → Code → Type 0

@@ -1,7 +1,7 @@
 //! One side of a queue, of either kind.
 
 ghost use Rattle.std.specs.Prelude.{◌≡◌};
-ghost use Rattle.c_queue.specs.Ends.{EndSends, EndFlushes, EndReceives, EndLeaves, has_left};
+ghost use Rattle.c_queue.specs.Ends.{EndSends, EndSendsWhole, EndFlushes, EndReceives, EndLeaves, has_left};
 
 use crate::code::Code;
 use crate::inbox::Inbox;
@@ -23,6 +23,16 @@ impl End {
     {
         match self {
             End::Sends(side) => side.try_send(message, flush),
+            End::Receives(_) => Code::OtherKind,
+        }
+    }
+
+    /// As `Outbox::try_send_whole`, of the side that sends.
+    pub fn try_send_whole(&mut self, message: &[u8], flush: bool) -> Code
+        ensures { EndSendsWhole self.old self.new message.now flush result }
+    {
+        match self {
+            End::Sends(side) => side.try_send_whole(message, flush),
             End::Receives(_) => Code::OtherKind,
         }
     }

@@ -9,7 +9,7 @@ ghost use Rattle.c_queue.specs.declared.end.End.TheVariants.{Sends as Out, Recei
 ghost use Rattle.c_queue.specs.Made.{IsQueue, IsRefused};
 ghost use Rattle.c_queue.specs.Sides.{Outgoing};
 ghost use Rattle.mq_handle.specs.Receives.{Incoming};
-ghost use Rattle.c_queue.specs.Calls.{Sends, Flushes, Receives, Leaves, Closes, Opens};
+ghost use Rattle.c_queue.specs.Calls.{Sends, SendsWhole, Flushes, Receives, Leaves, Closes, Opens};
 
 use crate::code::Code;
 use crate::end::End;
@@ -132,6 +132,18 @@ impl Handle {
             return Code::Blank;
         };
         let code = side.try_send(message, flush);
+        self.put(side);
+        code
+    }
+
+    /// As `Outbox::try_send_whole`, of a handle of the side that sends.
+    pub fn try_send_whole(&mut self, alloc: Global, message: &[u8], flush: bool) -> Code
+        ensures { SendsWhole self.old.value self.new.value message.now flush result }
+    {
+        let Some(mut side) = self.take(alloc) else {
+            return Code::Blank;
+        };
+        let code = side.try_send_whole(message, flush);
         self.put(side);
         code
     }

@@ -4,7 +4,7 @@ ghost use Rattle.std.specs.Prelude.{◌≡◌, ◌≢◌, ◌≤◌, false, leng
 ghost use Rattle.std_alloc.specs.Arc.{arc_value};
 ghost use Rattle.mq_handle.specs.Messages.{left_of};
 ghost use Rattle.c_queue.specs.Sides.{outgoing, begun_of};
-ghost use Rattle.c_queue.specs.Sends.{Sends, Flushes, Leaves, begun_after};
+ghost use Rattle.c_queue.specs.Sends.{Sends, SendsWhole, Flushes, Leaves, begun_after};
 
 use crate::code::Code;
 use mq_handle::{SendAnswer, Sender};
@@ -82,6 +82,29 @@ impl Outbox {
                 self.begun = begin(self.buffer.as_mut_slice(), self.begun, message, stored);
                 Code::WouldBlock
             }
+            SendAnswer::Detached => Code::Detached,
+            SendAnswer::TooLong { .. } => Code::TooLong,
+        }
+    }
+
+    /// Puts the message on the ring if there is room for all of it, and nothing of it otherwise; so after WouldBlock
+    /// any message may follow, unless a part of one is on the ring from a `try_send`. The costs are those of
+    /// `mq_handle::Sender::try_send_whole`. It takes no memory and keeps no copy.
+    pub fn try_send_whole(&mut self, message: &[u8], flush: bool) -> Code
+        ensures { SendsWhole self.old self.new message.now flush result }
+    {
+        if self.gone {
+            return Code::Gone;
+        }
+        if is_other(self.buffer.as_slice(), self.begun, message) {
+            return Code::OtherMessage;
+        }
+        match self.sender.try_send_whole(&self.region, message, flush) {
+            SendAnswer::Sent => {
+                self.begun = None;
+                Code::Done
+            }
+            SendAnswer::WouldBlock { .. } => Code::WouldBlock,
             SendAnswer::Detached => Code::Detached,
             SendAnswer::TooLong { .. } => Code::TooLong,
         }

@@ -15,7 +15,7 @@
 
 ghost use Rattle.std.specs.Prelude.{◌≡◌};
 ghost use Rattle.c_queue.specs.Numbers.{number_of};
-ghost use Rattle.c_queue.specs.Calls.{Opens, Sends, Flushes, Receives, Leaves, Closes};
+ghost use Rattle.c_queue.specs.Calls.{Opens, Sends, SendsWhole, Flushes, Receives, Leaves, Closes};
 ghost use Rattle.c_queue.specs.declared.code.Code.{Code as TheCode};
 
 use c_queue::{Handle, open};
@@ -48,6 +48,20 @@ pub extern "C" fn lk_raw_queue_send(
     ensures { (code : TheCode) × (result ≡ number_of code) × Sends tx.old.value tx.new.value message.now now code }
 {
     tx.try_send(alloc, message, now).number()
+}
+
+/// Tries to send a message whole: nothing of it is sent unless there is room for all of it. `now` is whether the
+/// receiver is shown it at once. The costs are those of `c_queue::Outbox::try_send_whole`.
+#[unsafe(no_mangle)]
+pub extern "C" fn lk_raw_queue_send_whole(
+    alloc: Global,
+    tx: &mut Handle,
+    message: &[u8],
+    now: bool,
+) -> i32
+    ensures { (code : TheCode) × (result ≡ number_of code) × SendsWhole tx.old.value tx.new.value message.now now code }
+{
+    tx.try_send_whole(alloc, message, now).number()
 }
 
 /// Shows the receiver all that was put. One store.

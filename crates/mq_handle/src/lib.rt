@@ -10,9 +10,10 @@
 //! the written count, only the receiver stores the read count, and each sets the flag as its last step. The ring's ends
 //! hold no list of messages; `specs/Messages.antt` reads it off the words (`whole_of`).
 //!
-//! `storing` puts the words of a frame on the ring and `taking` takes them off it, `looking` looks for more room and
-//! for more words, `sending`, `sending_whole` and `receiving` are one try each, `sender`, `receiver` and `waiting` are
-//! the calls over these, and `queue` makes a queue and brings its ends together.
+//! `body` is the bytes of a message to send, in one slice or several, `storing` puts the words of a frame on the ring
+//! and `taking` takes them off it, `looking` looks for more room and for more words, `sending`, `sending_whole` and
+//! `receiving` are one try each, `sender`, `receiver` and `waiting` are the calls over these, and `queue` makes a queue
+//! and brings its ends together.
 
 #![tactic(auto)]
 

@@ -108,9 +108,9 @@ impl Sender {
     }
 
     /// `try_send` of the parts as one message, which is their bytes one after another: the receiver can't tell it from
-    /// a message that came in one slice. The parts may be cut otherwise in a repeated call; only their bytes have to be
-    /// the same. Costs as much as `try_send`, and a copy of the bytes by way of 512 bytes of the stack, for each of which
-    /// the parts are gone over; it takes no memory.
+    /// a message that came in one slice. A repeated call may cut the message into other parts; only the bytes have to
+    /// be the same. Costs what `try_send` costs and one copy more, by way of 512 bytes of the stack; the list of parts
+    /// is gone over once for each such buffer. It takes no memory.
     pub fn try_send_parts(&mut self, r: &Region, parts: &[&[u8]], flush: bool) -> SendAnswer
         requires here { self.old.region ≡ r.now }
         requires stays { self.old.end.gone ≡ false }

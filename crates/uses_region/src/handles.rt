@@ -1,8 +1,9 @@
 //! Sends and receives in a row, and a stream between two threads.
 
-ghost use Rattle.std.specs.Prelude.{◌≡◌, ◌<◌, ◌≤◌, ◌*◌, ◌+◌, ◌^◌, [], false, true, length, IfSome, IsTrue};
+ghost use Rattle.std.specs.Prelude.{◌≡◌, ◌<◌, ◌≤◌, ◌*◌, ◌+◌, ◌^◌, ◌++◌, [], false, true, length, IfSome, IsTrue};
 ghost use Rattle.mq_handle.specs.Messages.{left_of};
 ghost use Rattle.mq_handle.specs.Sends.{Continues};
+ghost use Rattle.mq_handle.specs.Waiting.{EndsSend};
 
 use mq_handle::{
     ReceiveAnswer, ReceiveDone, Receiver, SendAnswer, SendDone, Sender, attach, home, meet,
@@ -137,6 +138,32 @@ fn whole_or_not(r: &Region, s: &mut Sender, q: &mut Receiver) -> bool
     s.try_send_whole(r, b"xyz", true) == SendAnswer::Detached
 }
 
+/// A message in three parts, of which one is empty, comes as one; it is put whole or not at all, too.
+fn in_parts(r: &Region, s: &mut Sender, q: &mut Receiver) -> bool
+    requires here { (s.old.region ≡ r.now) × (q.old.region ≡ r.now) }
+    requires stays { (s.old.end.gone ≡ false) × (q.old.end.gone ≡ false) }
+    requires fresh { left_of s.old.end.put ≡ [] }
+{
+    let three = [b"abc".as_slice(), b"".as_slice(), b"defgh12".as_slice()];
+    let SendAnswer::Sent = s.try_send_parts(r, &three, true) else {
+        return false;
+    };
+    let two = [b"x".as_slice(), b"yz".as_slice()];
+    let SendAnswer::WouldBlock { stored: 0 } = s.try_send_parts_whole(r, &two, true) else {
+        return false;
+    };
+    let ReceiveAnswer::Message = q.try_receive(r) else {
+        return false;
+    };
+    if q.message() != b"abcdefgh12".as_slice() {
+        return false;
+    }
+    let SendAnswer::Sent = s.try_send_parts_whole(r, &two, true) else {
+        return false;
+    };
+    q.try_receive(r) == ReceiveAnswer::Message && q.message() == b"xyz".as_slice()
+}
+
 /// The receiver goes first.
 fn nobody_receives(r: &Region, s: &mut Sender, q: &mut Receiver) -> bool
     requires here { (s.old.region ≡ r.now) × (q.old.region ≡ r.now) }
@@ -252,6 +279,38 @@ fn send_all<R: Wait>(rt: &R, r: &Region, mut s: Sender, count: u64) -> bool
     true
 }
 
+/// Sends a head and a body as one message.
+fn send_both<R: Wait>(rt: &R, r: &Region, s: &mut Sender, head: &[u8], body: &[u8]) -> SendDone
+    requires here { s.old.region ≡ r.now }
+    requires stays { s.old.end.gone ≡ false }
+    requires few { length head.now + length body.now < 2 ^ 64 }
+    requires continues { Continues s.old.end.put (head.now ++ body.now) }
+    ensures kept { s.new ≡ record s.old { end = s.new.end } }
+    ensures sent { EndsSend s.old.end s.new.end (head.now ++ body.now) true result }
+{
+    s.send_parts(rt, r, &[head, body], true)
+}
+
+/// Sends the messages in order, each in three parts. Answers whether all were sent.
+fn send_all_in_parts<R: Wait>(rt: &R, r: &Region, mut s: Sender, count: u64) -> bool
+    requires here { s.region ≡ r.now }
+    requires stays { s.end.gone ≡ false }
+    requires fresh { left_of s.end.put ≡ [] }
+    requires few { count ≤ 2 ^ 32 }
+{
+    let mut bytes = [0u8; 600];
+    for number in 0..count {
+        let len = write_message(&mut bytes, number);
+        let (head, rest) = bytes[..len].split_at(len / 3);
+        let (mid, tail) = rest.split_at(len / 5);
+        let SendDone::Sent = s.send_parts(rt, r, &[head, mid, tail], number % 3 == 0) else {
+            return false;
+        };
+    }
+    s.detach(r);
+    true
+}
+
 /// Receives the messages, and then that the sender is gone. Answers whether all were whole and in order.
 fn receive_all<R: Wait>(rt: &R, r: &Region, mut q: Receiver, count: u64) -> bool
     requires here { q.region ≡ r.now }
@@ -283,6 +342,31 @@ fn stream<R: Threads + Wait + Sync>(rt: &R, r: &Region, s: Sender, q: Receiver, 
         || -> bool
             requires { (s.region ≡ r.now) × (s.end.gone ≡ false) × (left_of s.end.put ≡ []) × (count ≤ 2 ^ 32) }
         { send_all(rt, r, s, count) },
+        || -> bool
+            requires { (q.region ≡ r.now) × (q.end.gone ≡ false) × (count ≤ 2 ^ 32) }
+        { receive_all(rt, r, q, count) },
+    );
+    sent && received
+}
+
+/// One thread sends in parts, one receives.
+fn stream_in_parts<R: Threads + Wait + Sync>(
+    rt: &R,
+    r: &Region,
+    s: Sender,
+    q: Receiver,
+    count: u64,
+) -> bool
+    requires here { (s.region ≡ r.now) × (q.region ≡ r.now) }
+    requires stays { (s.end.gone ≡ false) × (q.end.gone ≡ false) }
+    requires fresh { left_of s.end.put ≡ [] }
+    requires few { count ≤ 2 ^ 32 }
+{
+    let (sent, received) = join(
+        rt,
+        || -> bool
+            requires { (s.region ≡ r.now) × (s.end.gone ≡ false) × (left_of s.end.put ≡ []) × (count ≤ 2 ^ 32) }
+        { send_all_in_parts(rt, r, s, count) },
         || -> bool
             requires { (q.region ≡ r.now) × (q.end.gone ≡ false) × (count ≤ 2 ^ 32) }
         { receive_all(rt, r, q, count) },
@@ -395,6 +479,20 @@ fn a_message_is_put_whole_or_not_at_all(rt: HostRuntime) {
 }
 
 #[test]
+fn a_message_is_sent_in_parts(rt: HostRuntime) {
+    let (r, mut s, mut q) = new_queue(rt.alloc(), 4, 0, 64).expect(&rt, "memory");
+    assert!(rt; in_parts(&r, &mut s, &mut q));
+}
+
+#[test]
+fn a_head_and_a_body_are_one_message(rt: HostRuntime) {
+    let (r, mut s, mut q) = new_queue(rt.alloc(), 8, 0, 64).expect(&rt, "memory");
+    assert!(rt; send_both(&rt, &r, &mut s, b"head", b" and body") == SendDone::Sent);
+    assert!(rt; q.try_receive(&r) == ReceiveAnswer::Message);
+    assert!(rt; q.message() == b"head and body".as_slice());
+}
+
+#[test]
 fn the_receiver_goes_first(rt: HostRuntime) {
     let (r, mut s, mut q) = new_queue(rt.alloc(), 4, 0, 64).expect(&rt, "memory");
     assert!(rt; nobody_receives(&r, &mut s, &mut q));
@@ -416,4 +514,10 @@ fn counts_are_published_by_quarters(rt: HostRuntime) {
 fn a_stream_is_whole_and_in_order(rt: HostRuntime) {
     let (r, s, q) = new_queue(rt.alloc(), 64, 0, 600).expect(&rt, "memory");
     assert!(rt; stream(&rt, &r, s, q, 100000));
+}
+
+#[test]
+fn a_stream_in_parts_is_whole_and_in_order(rt: HostRuntime) {
+    let (r, s, q) = new_queue(rt.alloc(), 64, 0, 600).expect(&rt, "memory");
+    assert!(rt; stream_in_parts(&rt, &r, s, q, 10000));
 }

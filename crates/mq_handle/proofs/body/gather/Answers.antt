@@ -1,4 +1,4 @@
-use Rattle.std.proofs.Common.{◌≡◌, ◌+◌, ◌-◌, ◌<◌, ℕ, List, Bor, [], ◌∷◌, ◌++◌, min, length, take, drop, get_or, sym, ap, ◌∙◌, arith, length-append, length-drop}
+use Rattle.std.proofs.Common.{◌≡◌, ◌+◌, ◌-◌, ℕ, List, Bor, [], min, length, take, drop, get_or, sym, ap, ◌∙◌, arith, length-append, length-drop}
 use Rattle.mq_handle.specs.Parts.{joined}
 use Rattle.mq_handle.proofs.Gathered.{next_part, part_more, slice_rest}
 use borrow.Rule.Slice.PartMut.{same_len_mid}

@@ -1,6 +1,5 @@
-use Rattle.std.proofs.Common.{◌≡◌, ◌≤◌, ◌++◌, ◌*◌, ℕ, List, length, refl, sym, ap, subst, ◌∙◌, arith}
+use Rattle.std.proofs.Common.{◌≡◌, ◌++◌, ◌*◌, ℕ, List, length, refl, sym, ap, subst, ◌∙◌, arith}
 use Rattle.std.specs.List.{fold}
-use Rattle.rel_pointer.specs.Bytes.{word_count}
 use Rattle.ring_rule.specs.Frames.{IsFramed}
 use Rattle.ring_rule.specs.Ends.{puts}
 use Rattle.mq_ring.specs.Bursts.{words_from}

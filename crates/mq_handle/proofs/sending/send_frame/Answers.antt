@@ -6,7 +6,7 @@ use Rattle.mq_ring.specs.Ends.{SendingEnd}
 use Rattle.mq_handle.specs.Held.{InFrames}
 use Rattle.mq_handle.specs.Filling.{base_of, Fills, FillsUp, finishes}
 use Rattle.mq_handle.specs.Sends.{IsSent, StaysOpen}
-use Rattle.mq_handle.proofs.SendTries.{begun, all_there, part_there, blocked_is, sent_is, opens, finished_ring, finished_put, finished_opens, in_frames, all_bytes, chosen_true, chosen_false}
+use Rattle.mq_handle.proofs.SendTries.{begun, all_there, part_there, blocked_is, sent_is, opens, finished_ring, finished_put, finished_opens, in_frames, chosen_true, chosen_false}
 use Rattle.mq_handle.proofs.Filling.{changed, filled_up}
 use Rattle.mq_handle.proofs.sending.send_frame.Goals as goal
 

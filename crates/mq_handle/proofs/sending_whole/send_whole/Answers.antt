@@ -12,7 +12,7 @@ use Rattle.mq_handle.specs.Sends.{StaysOpen}
 use Rattle.mq_handle.specs.Told.{RoomFound}
 use Rattle.mq_handle.specs.Wholes.{FitsRing, IsSentWhole, IsLeftOut}
 use Rattle.mq_handle.proofs.Filling.{length-frame}
-use Rattle.mq_handle.proofs.SendTries.{begun, all_bytes}
+use Rattle.mq_handle.proofs.SendTries.{begun}
 use Rattle.mq_handle.proofs.Wholes.{unfinished, counted_seen, looked_open, looked_framed, sent_whole, left_out, saw_none, found_whole}
 use Rattle.mq_handle.proofs.sending_whole.send_whole.Goals as goal
 
