@@ -6,13 +6,13 @@ use Rattle.lock_book.specs.History.{last_of, IsLegal}
 use Rattle.lock_book.proofs.Uses.{legal_front, legal_back, last-append}
 use Rattle.par_barrier.specs.declared.history.BarrierState.{BarrierState}
 use Rattle.par_barrier.specs.declared.history.BarrierCall.{BarrierCall}
-use Rattle.par_barrier.specs.declared.history.BarrierCall.TheVariants.{Arrive}
+use Rattle.par_barrier.specs.declared.history.BarrierCall.TheVariants.{Attach, Arrive, Look, Detach, ArriveAndDetach, ArriveAndDetachExceptLast}
 use Rattle.par_barrier.specs.declared.history.BarrierReply.{BarrierReply}
 use Rattle.par_barrier.specs.declared.history.BarrierReply.TheVariants.{Waiting, Released, Twice}
 use Rattle.par_barrier.specs.Parties.{is_among, next_phase, nobody}
 use Rattle.par_barrier.specs.Legal.{BarrierLegal}
-use Rattle.par_barrier.specs.Phases.{Step, IsHistory, is_end, is_detach, ends_in, this_phase, leaves_by, ArrivesBy, HasArrived, TellsPhases, ElectsOne, TellsElected, ArrivesOnce}
-use Rattle.par_barrier.proofs.Turns.{IsSound, WasThere, Quiet, Ends, Turn, turn}
+use Rattle.par_barrier.specs.Phases.{Step, IsHistory, is_end, is_arrival, is_left, ends_in, this_phase, leaves_by, ArrivesBy, HasArrived, TellsPhases, IsElectedAt, IsAbandonedAt, ElectsOne, TellsElected, ArrivesOnce}
+use Rattle.par_barrier.proofs.Turns.{IsSound, WasThere, Quiet, Elects, Ends, Turn, turn}
 
 -- a sound state before a step, and the step
 abbrev turn_of : (s : BarrierState) (e : Step) → IsSound s → BarrierLegal e.by s e.call e.reply e.after → Turn e.by s e.call e.reply e.after
@@ -73,11 +73,11 @@ tells_phases front e p h is =
 abbrev AllArrived : BarrierState → List Step → Type 0
 AllArrived s phase = (m : ℕ) → is_among m s.arrived ≡ true → HasArrived m phase
 
-not_left : (m : ℕ) (e : Step) → ((e.by == m) && is_detach e.call) ≡ false → list_any (leaves_by m) (e ∷ []) ≡ false
+not_left : (m : ℕ) (e : Step) → ((e.by == m) && is_left e.reply) ≡ false → list_any (leaves_by m) (e ∷ []) ≡ false
 not_left m e h = ap (λ b. b || false) h
 
 -- one who has arrived, and does not leave by the next call, has arrived still
-stays_arrived : (m : ℕ) (phase : List Step) (e : Step) → HasArrived m phase → ((e.by == m) && is_detach e.call) ≡ false → HasArrived m (phase ++ e ∷ [])
+stays_arrived : (m : ℕ) (phase : List Step) (e : Step) → HasArrived m phase → ((e.by == m) && is_left e.reply) ≡ false → HasArrived m (phase ++ e ∷ [])
 stays_arrived m phase e a h = record {
   before = a.before;
   arrival = a.arrival;
@@ -96,9 +96,9 @@ pub arrived_step : (s : BarrierState) (e : Step) (phase : List Step) → s.phase
 arrived_step s e phase low all (inl q) m h =
     subst (λ (b : Bool). HasArrived m (cond b [] (phase ++ e ∷ []))) (sym (same_phase s e q.phase)) (by (q.came m h))
   where
-    by : WasThere e.by s e.call m ⊎ ((e.by ≡ m) × (e.call ≡ Arrive) × (e.reply ≡ Waiting)) → HasArrived m (phase ++ e ∷ [])
+    by : WasThere e.by s e.reply m ⊎ ((e.by ≡ m) × (e.call ≡ Arrive) × (e.reply ≡ Waiting)) → HasArrived m (phase ++ e ∷ [])
     by (inl w) = stays_arrived m phase e (all m w.0) w.1
-    by (inr w) = just_arrived m phase e (w.0, w.1, inl w.2)
+    by (inr w) = just_arrived m phase e (w.0, ap is_arrival w.1, inl w.2)
 arrived_step s e phase low all (inr q) m h = let o : is_among m [] ≡ true = sym (ap (is_among m) q.empty) ∙ h in absurd (cc)
 
 pub all_arrived : (s : BarrierState) (es phase : List Step) → IsSound s → s.phase < 2 ^ 64 → AllArrived s phase → IsLegal BarrierLegal s es → AllArrived (last_of s es) (this_phase s phase es)
@@ -120,13 +120,17 @@ elects_one front e h is = by (turn_at front e h).kind
     all : AllArrived (last_of nobody front) (this_phase nobody [] front)
     all = all_arrived nobody front [] nobody_sound (omega arith) (λ m k. absurd (cc)) before
 
-    came : (m : ℕ) → WasThere e.by (last_of nobody front) e.call m ⊎ ((e.by ≡ m) × (e.call ≡ Arrive) × ((p : ℕ) × (e.reply ≡ Released p true))) → HasArrived m (this_phase nobody [] front ++ e ∷ [])
+    came : (m : ℕ) → WasThere e.by (last_of nobody front) e.reply m ⊎ ((e.by ≡ m) × (is_arrival e.call ≡ true) × ((p : ℕ) × (e.reply ≡ Released p true))) → HasArrived m (this_phase nobody [] front ++ e ∷ [])
     came m (inl w) = stays_arrived m (this_phase nobody [] front) e (all m w.0) w.1
     came m (inr w) = just_arrived m (this_phase nobody [] front) e (w.0, w.1, inr w.2)
 
-    by : Quiet e.by (last_of nobody front) e.call e.reply e.after ⊎ Ends e.by (last_of nobody front) e.call e.reply e.after → (m : ℕ) × (e.after.elected ≡ Some m) × (is_among m e.after.attached ≡ true) × HasArrived m (this_phase nobody [] front ++ e ∷ [])
+    one : Elects e.by (last_of nobody front) e.call e.reply e.after ⊎ IsAbandonedAt e → ((m : ℕ) × IsElectedAt m front e) ⊎ IsAbandonedAt e
+    one (inl w) = inl (w.winner, record { elected = w.elects; takes_part = w.takes_part; came = came w.winner w.came })
+    one (inr w) = inr w
+
+    by : Quiet e.by (last_of nobody front) e.call e.reply e.after ⊎ Ends e.by (last_of nobody front) e.call e.reply e.after → ((m : ℕ) × IsElectedAt m front e) ⊎ IsAbandonedAt e
     by (inl q) = let o = same_phase (last_of nobody front) e q.phase in absurd (cc)
-    by (inr q) = (q.winner, q.elects, q.takes_part, came q.winner q.came)
+    by (inr q) = one q.who
 
 -- ---- who is elected
 
@@ -200,8 +204,14 @@ arrives_by : (s : BarrierState) (x : Step) → Quiet x.by s x.call x.reply x.aft
 arrives_by s x (inl q) a w = q.arrives a w
 arrives_by s x (inr q) a w = absurd (q.loud w)
 
-twice : (n : ℕ) (s : BarrierState) (c : BarrierCall) (r : BarrierReply) (t : BarrierState) → IsSound s → is_among n s.arrived ≡ true → c ≡ Arrive → BarrierLegal n s c r t → r ≡ Twice s.phase
-twice n s c r t sound here is h = let k : BarrierLegal n s Arrive r t = subst (λ (d : BarrierCall). BarrierLegal n s d r t) is h in (k.twice (sound n here) here).0
+-- who has arrived and says so again
+twice : (n : ℕ) (s : BarrierState) (c : BarrierCall) (r : BarrierReply) (t : BarrierState) → IsSound s → is_among n s.arrived ≡ true → is_arrival c ≡ true → BarrierLegal n s c r t → r ≡ Twice s.phase
+twice n s Attach r t sound here is h = absurd (cc)
+twice n s Arrive r t sound here is h = (h.twice (sound n here) here).0
+twice n s Look r t sound here is h = absurd (cc)
+twice n s Detach r t sound here is h = absurd (cc)
+twice n s ArriveAndDetach r t sound here is h = (h.twice (sound n here) here).0
+twice n s ArriveAndDetachExceptLast r t sound here is h = (h.twice (sound n here) here).0
 
 pub arrives_once : ArrivesOnce
 arrives_once front mid x y h a w none stays same again =

@@ -3,10 +3,16 @@
 use Rattle.std.specs.Prelude.{◌≡◌, ◌≢◌, ℕ, true, false, List, [], ◌∷◌, ◌++◌}
 use Rattle.par_barrier.specs.declared.history.BarrierState.{BarrierState}
 use Rattle.par_barrier.specs.declared.history.BarrierCall.{BarrierCall}
-use Rattle.par_barrier.specs.declared.history.BarrierCall.TheVariants.{Attach, Arrive, Look, Detach}
+use Rattle.par_barrier.specs.declared.history.BarrierCall.TheVariants.{Attach, Arrive, Look, Detach, ArriveAndDetach, ArriveAndDetachExceptLast}
 use Rattle.par_barrier.specs.declared.history.BarrierReply.{BarrierReply}
 use Rattle.par_barrier.specs.declared.history.BarrierReply.TheVariants.{Attached, Waiting, Released, Left, AlreadyIn, NotIn, Twice}
-use Rattle.par_barrier.specs.Parties.{is_among, without, are_among, next_phase, joined, with_arrival, parted, ended, is_elected}
+use Rattle.par_barrier.specs.Parties.{is_among, without, are_among, next_phase, joined, with_arrival, parted, ended, abandoned, is_elected}
+
+-- What follows for the others where a caller has left the state s: if all that take part have arrived, the phase ends and
+-- the first of them is elected
+pub record Leaves (s : BarrierState) (r : BarrierReply) (t : BarrierState) : Type 0 where
+  pub stays : are_among s.attached s.arrived ≡ false → (r ≡ Left s.phase false) × (t ≡ s)
+  pub ends : are_among s.attached s.arrived ≡ true → (first : ℕ) (others : List ℕ) → s.arrived ≡ first ∷ others → (r ≡ Left (next_phase s.phase) false) × (t ≡ ended first s)
 
 module _ (n : ℕ) (s : BarrierState) (r : BarrierReply) (t : BarrierState) where
   -- the caller does not take part; nothing changes
@@ -33,12 +39,25 @@ module _ (n : ℕ) (s : BarrierState) (r : BarrierReply) (t : BarrierState) wher
     pub waits : is_among n s.attached ≡ true → is_among n s.arrived ≡ true → r ≡ Waiting
     pub released : is_among n s.attached ≡ true → is_among n s.arrived ≡ false → r ≡ Released s.phase (is_elected n s.elected)
 
-  -- BarrierDetach: the caller leaves, and if all that stay have arrived the phase ends and the first of them is elected
+  -- BarrierDetach: the caller leaves
   pub record Detaches : Type 0 where
     pub absent : is_among n s.attached ≡ false → IsAbsent
     pub last : is_among n s.attached ≡ true → without n s.attached ≡ [] → (r ≡ Left s.phase true) × (t ≡ parted n s)
-    pub stays : is_among n s.attached ≡ true → are_among (without n s.attached) (without n s.arrived) ≡ false → (r ≡ Left s.phase false) × (t ≡ parted n s)
-    pub ends : is_among n s.attached ≡ true → without n s.attached ≢ [] → are_among (without n s.attached) (without n s.arrived) ≡ true → (first : ℕ) (others : List ℕ) → without n s.arrived ≡ first ∷ others → (r ≡ Left (next_phase s.phase) false) × (t ≡ ended first (parted n s))
+    pub others : is_among n s.attached ≡ true → without n s.attached ≢ [] → Leaves (parted n s) r t
+
+  -- BarrierArriveAndDetach: the caller arrives and leaves at once; if nobody else takes part, the phase ends too
+  pub record ArrivesAndDetaches : Type 0 where
+    pub absent : is_among n s.attached ≡ false → IsAbsent
+    pub twice : is_among n s.attached ≡ true → is_among n s.arrived ≡ true → (r ≡ Twice s.phase) × (t ≡ s)
+    pub last : is_among n s.attached ≡ true → is_among n s.arrived ≡ false → without n s.attached ≡ [] → (r ≡ Left (next_phase s.phase) true) × (t ≡ abandoned (parted n s))
+    pub others : is_among n s.attached ≡ true → is_among n s.arrived ≡ false → without n s.attached ≢ [] → Leaves (parted n s) r t
+
+  -- BarrierArriveAndDetachExceptLast: the same, but a caller that is the last to take part stays, and is elected
+  pub record ArrivesAndDetachesExceptLast : Type 0 where
+    pub absent : is_among n s.attached ≡ false → IsAbsent
+    pub twice : is_among n s.attached ≡ true → is_among n s.arrived ≡ true → (r ≡ Twice s.phase) × (t ≡ s)
+    pub last : is_among n s.attached ≡ true → is_among n s.arrived ≡ false → without n s.attached ≡ [] → (r ≡ Released (next_phase s.phase) true) × (t ≡ ended n s)
+    pub others : is_among n s.attached ≡ true → is_among n s.arrived ≡ false → without n s.attached ≢ [] → Leaves (parted n s) r t
 
 -- the call of the caller n may be answered r and leave t
 abbrev pub BarrierLegal : ℕ → BarrierState → BarrierCall → BarrierReply → BarrierState → Type 0
@@ -46,6 +65,8 @@ BarrierLegal n s Attach r t = Attaches n s r t
 BarrierLegal n s Arrive r t = Arrives n s r t
 BarrierLegal n s Look r t = Looks n s r t
 BarrierLegal n s Detach r t = Detaches n s r t
+BarrierLegal n s ArriveAndDetach r t = ArrivesAndDetaches n s r t
+BarrierLegal n s ArriveAndDetachExceptLast r t = ArrivesAndDetachesExceptLast n s r t
 
 -- the replies that a call may have at all
 abbrev pub MayAnswer : BarrierCall → BarrierReply → Type 0
@@ -77,3 +98,19 @@ MayAnswer Detach (Released p e) = ⊥
 MayAnswer Detach (Attached p) = ⊥
 MayAnswer Detach (AlreadyIn p) = ⊥
 MayAnswer Detach (Twice p) = ⊥
+MayAnswer ArriveAndDetach (Left p l) = Unit {0}
+MayAnswer ArriveAndDetach (NotIn p) = Unit {0}
+MayAnswer ArriveAndDetach (Twice p) = Unit {0}
+MayAnswer ArriveAndDetach Waiting = ⊥
+MayAnswer ArriveAndDetach (Released p e) = ⊥
+MayAnswer ArriveAndDetach (Attached p) = ⊥
+MayAnswer ArriveAndDetach (AlreadyIn p) = ⊥
+MayAnswer ArriveAndDetachExceptLast (Left p true) = ⊥
+MayAnswer ArriveAndDetachExceptLast (Left p false) = Unit {0}
+MayAnswer ArriveAndDetachExceptLast (Released p true) = Unit {0}
+MayAnswer ArriveAndDetachExceptLast (Released p false) = ⊥
+MayAnswer ArriveAndDetachExceptLast (NotIn p) = Unit {0}
+MayAnswer ArriveAndDetachExceptLast (Twice p) = Unit {0}
+MayAnswer ArriveAndDetachExceptLast Waiting = ⊥
+MayAnswer ArriveAndDetachExceptLast (Attached p) = ⊥
+MayAnswer ArriveAndDetachExceptLast (AlreadyIn p) = ⊥

@@ -40,6 +40,10 @@ parted n s = record s { attached = without n s.attached; arrived = without n s.a
 abbrev pub ended : ℕ → BarrierState → BarrierState
 ended n s = record s { phase = next_phase s.phase; arrived = []; elected = Some n }
 
+-- the phase has ended, and nobody is elected
+abbrev pub abandoned : BarrierState → BarrierState
+abandoned s = record s { phase = next_phase s.phase; arrived = []; elected = None }
+
 -- whether n is the caller that was elected last
 abbrev pub is_elected : ℕ → Option ℕ → Bool
 is_elected n None = false

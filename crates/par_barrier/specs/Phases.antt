@@ -5,7 +5,7 @@ use Rattle.lock_book.specs.declared.view.Entry.{Entry}
 use Rattle.lock_book.specs.History.{last_of, IsLegal}
 use Rattle.par_barrier.specs.declared.history.BarrierState.{BarrierState}
 use Rattle.par_barrier.specs.declared.history.BarrierCall.{BarrierCall}
-use Rattle.par_barrier.specs.declared.history.BarrierCall.TheVariants.{Attach, Arrive, Look, Detach}
+use Rattle.par_barrier.specs.declared.history.BarrierCall.TheVariants.{Attach, Arrive, Look, Detach, ArriveAndDetach, ArriveAndDetachExceptLast}
 use Rattle.par_barrier.specs.declared.history.BarrierReply.{BarrierReply}
 use Rattle.par_barrier.specs.declared.history.BarrierReply.TheVariants.{Attached, Waiting, Released, Left, AlreadyIn, NotIn, Twice}
 use Rattle.par_barrier.specs.Parties.{is_among, nobody}
@@ -43,20 +43,32 @@ phase_told (AlreadyIn p) = Some p
 phase_told (NotIn p) = Some p
 phase_told (Twice p) = Some p
 
--- the caller n arrived by this call
+-- whether a call says that its caller has arrived
+abbrev pub is_arrival : BarrierCall → Bool
+is_arrival Attach = false
+is_arrival Arrive = true
+is_arrival Look = false
+is_arrival Detach = false
+is_arrival ArriveAndDetach = true
+is_arrival ArriveAndDetachExceptLast = true
+
+-- the caller n arrived by this call, and takes part after it
 abbrev pub ArrivesBy : ℕ → Step → Type 0
-ArrivesBy n e = (e.by ≡ n) × (e.call ≡ Arrive) × ((e.reply ≡ Waiting) ⊎ ((p : ℕ) × (e.reply ≡ Released p true)))
+ArrivesBy n e = (e.by ≡ n) × (is_arrival e.call ≡ true) × ((e.reply ≡ Waiting) ⊎ ((p : ℕ) × (e.reply ≡ Released p true)))
 
--- whether a call is one to detach
-abbrev pub is_detach : BarrierCall → Bool
-is_detach Attach = false
-is_detach Arrive = false
-is_detach Look = false
-is_detach Detach = true
+-- whether a reply says that the caller takes part no more
+abbrev pub is_left : BarrierReply → Bool
+is_left (Attached p) = false
+is_left Waiting = false
+is_left (Released p elected) = false
+is_left (Left p last) = true
+is_left (AlreadyIn p) = false
+is_left (NotIn p) = false
+is_left (Twice p) = false
 
--- whether the call is the caller's, to leave
+-- whether the call is the caller's, and it left by it
 abbrev pub leaves_by : ℕ → Step → Bool
-leaves_by n e = (e.by == n) && is_detach e.call
+leaves_by n e = (e.by == n) && is_left e.reply
 
 -- among these calls of one phase there is one by which n arrived, and n has not left since
 pub record HasArrived (n : ℕ) (phase : List Step) : Type 0 where
@@ -72,9 +84,19 @@ pub record HasArrived (n : ℕ) (phase : List Step) : Type 0 where
 abbrev pub TellsPhases : Type 0
 TellsPhases = (front : List Step) (e : Step) (p : ℕ) → IsHistory (front ++ e ∷ []) → phase_told e.reply ≡ Some p → p ≡ ends_in nobody (front ++ e ∷ []) % 2 ^ 64
 
--- Each end of a phase elects one caller, which takes part at that moment and has arrived in that phase
+-- The end of a phase elects m, which takes part at that moment and has arrived in that phase
+pub record IsElectedAt (m : ℕ) (front : List Step) (e : Step) : Type 0 where
+  pub elected : e.after.elected ≡ Some m
+  pub takes_part : is_among m e.after.attached ≡ true
+  pub came : HasArrived m (this_phase nobody [] front ++ e ∷ [])
+
+-- the end of a phase after which nobody takes part: whoever took part last has arrived and left at once
+abbrev pub IsAbandonedAt : Step → Type 0
+IsAbandonedAt e = (e.call ≡ ArriveAndDetach) × (e.after.attached ≡ []) × (e.after.elected ≡ None)
+
+-- Each end of a phase elects one caller, unless nobody is left
 abbrev pub ElectsOne : Type 0
-ElectsOne = (front : List Step) (e : Step) → IsHistory (front ++ e ∷ []) → is_end (last_of nobody front) e ≡ true → (m : ℕ) × (e.after.elected ≡ Some m) × (is_among m e.after.attached ≡ true) × HasArrived m (this_phase nobody [] front ++ e ∷ [])
+ElectsOne = (front : List Step) (e : Step) → IsHistory (front ++ e ∷ []) → is_end (last_of nobody front) e ≡ true → ((m : ℕ) × IsElectedAt m front e) ⊎ IsAbandonedAt e
 
 -- Until the next end no other caller gets the reply that it is elected
 abbrev pub TellsElected : Type 0
@@ -82,4 +104,4 @@ TellsElected = (front mid : List Step) (e x : Step) (p : ℕ) → IsHistory (fro
 
 -- A caller that has arrived, and has not left since, cannot arrive again before the phase ends
 abbrev pub ArrivesOnce : Type 0
-ArrivesOnce = (front mid : List Step) (x y : Step) → IsHistory (front ++ x ∷ (mid ++ y ∷ [])) → x.call ≡ Arrive → x.reply ≡ Waiting → ends_in x.after mid ≡ 0 → list_any (leaves_by x.by) mid ≡ false → y.by ≡ x.by → y.call ≡ Arrive → y.reply ≡ Twice x.after.phase
+ArrivesOnce = (front mid : List Step) (x y : Step) → IsHistory (front ++ x ∷ (mid ++ y ∷ [])) → x.call ≡ Arrive → x.reply ≡ Waiting → ends_in x.after mid ≡ 0 → list_any (leaves_by x.by) mid ≡ false → y.by ≡ x.by → is_arrival y.call ≡ true → y.reply ≡ Twice x.after.phase

@@ -1,5 +1,5 @@
 -- What a contract sees of a barrier and of its passes.
-use Rattle.std.specs.Prelude.{◌≡◌, ℕ, true, List, [], ◌∷◌, ◌++◌, replicate, length}
+use Rattle.std.specs.Prelude.{◌≡◌, ℕ, true, false, List, [], ◌∷◌, ◌++◌, replicate, length}
 use Rattle.std.specs.Prelude.{Result, Ok, Err}
 use mathlib.Core.Option.{some}
 use lib.ListN.{get_elem?}
@@ -16,6 +16,8 @@ use Rattle.par_barrier.specs.declared.answers.Arrival.{Arrival}
 use Rattle.par_barrier.specs.declared.answers.Arrival.TheVariants as arrival
 use Rattle.par_barrier.specs.declared.answers.Arrived.{Arrived}
 use Rattle.par_barrier.specs.declared.answers.Left.{Left}
+use Rattle.par_barrier.specs.declared.answers.Departure.{Departure}
+use Rattle.par_barrier.specs.declared.answers.Departure.TheVariants as departure
 use Rattle.par_barrier.specs.declared.answers.BarrierAnswer.{BarrierAnswer}
 use Rattle.par_barrier.specs.declared.answers.BarrierAnswer.TheVariants as refused
 use Rattle.par_barrier.specs.declared.barrier.Barrier.{Barrier}
@@ -87,10 +89,16 @@ arrival_reply (Ok arrival.Waiting) = reply.Waiting
 arrival_reply (Ok (arrival.Released p e)) = reply.Released p e
 arrival_reply (Err why) = refusal_reply why
 
--- the reply that an answer of `detach` represents
+-- the reply that an answer of `detach` or `arrive_and_detach` represents
 abbrev pub detach_reply : Result Left BarrierAnswer → BarrierReply
 detach_reply (Ok left) = reply.Left left.phase left.last
 detach_reply (Err why) = refusal_reply why
+
+-- the reply that an answer of `arrive_and_detach_except_last` represents
+abbrev pub departure_reply : Result Departure BarrierAnswer → BarrierReply
+departure_reply (Ok (departure.Left p)) = reply.Left p false
+departure_reply (Ok (departure.Last p)) = reply.Released p true
+departure_reply (Err why) = refusal_reply why
 
 -- the reply that an answer of `arrive_and_wait` represents: that of its last call
 abbrev pub arrived_reply : Result Arrived BarrierAnswer → BarrierReply

@@ -23,6 +23,15 @@ pub struct Left {
     pub last: bool,
 }
 
+/// The answer to a party that leaves unless it is the last: the phase that is on now.
+#[derive(Clone, Copy, Debug, PartialEq, Eq)]
+pub enum Departure {
+    /// It takes part no more, and others do.
+    Left { phase: u64 },
+    /// Nobody else took part: the phase has ended, and it takes part still.
+    Last { phase: u64 },
+}
+
 /// Why a call changed nothing, with the phase that was on at that moment.
 #[derive(Clone, Copy, Debug, PartialEq, Eq, Drop)]
 pub enum BarrierAnswer {

@@ -7,11 +7,11 @@ ghost use Rattle.std.specs.Prelude.{◌≡◌, ◌<◌, ◌∷◌, [], ℕ, IfOk
 ghost use mathlib.Core.Option.{some};
 ghost use lib.ListN.{get_elem?};
 ghost use Rattle.lock_book.specs.Shown.{callers_of as callers_of_shelf, count_of, opens_of};
-ghost use Rattle.par_barrier.specs.declared.history.BarrierCall.TheVariants.{Arrive, Attach, Detach, Look};
+ghost use Rattle.par_barrier.specs.declared.history.BarrierCall.TheVariants.{Arrive, ArriveAndDetach, ArriveAndDetachExceptLast, Attach, Detach, Look};
 ghost use Rattle.par_barrier.specs.Legal.{MayAnswer};
 ghost use Rattle.par_barrier.specs.Parties.{nobody};
 
-use crate::answers::{Arrival, BarrierAnswer, Left};
+use crate::answers::{Arrival, BarrierAnswer, Departure, Left};
 use crate::history::{BarrierCall, BarrierReply};
 use crate::parties::{Ask, Parties};
 use lock_book::{Pass, Shelf};
@@ -44,7 +44,7 @@ fn wrapped(alloc: Global, passes: Vec<Pass<Parties>>) -> Result<Vec<BarrierPass>
 }
 
 impl Barrier {
-    ghost use Rattle.par_barrier.specs.Shown.{AreAll, Belongs, Called, arrival_reply, attach_reply, callers_of, detach_reply, history_of, number_of, own_of};
+    ghost use Rattle.par_barrier.specs.Shown.{AreAll, Belongs, Called, arrival_reply, attach_reply, callers_of, departure_reply, detach_reply, history_of, number_of, own_of};
 
     /// A barrier that nobody takes part in, in phase 0, and a pass for each of its callers, numbered from 0. It takes a
     /// few words of memory for each caller; no other call takes any.
@@ -158,6 +158,46 @@ impl Barrier {
         match self.call_with_news(rt, pass, BarrierCall::Detach) {
             BarrierReply::Left(phase, last) => Ok(Left { phase, last }),
             BarrierReply::NotIn(phase) => Err(BarrierAnswer::NotIn { phase }),
+            _ => unreachable!(),
+        }
+    }
+
+    /// The caller arrives, and takes part no more; it doesn't wait for the others. If all that stay have arrived, or
+    /// nobody stays, the phase ends. NotIn and Twice as in `arrive`. It may wait for its turn.
+    pub fn arrive_and_detach<R: Wait>(
+        &self,
+        rt: &R,
+        pass: &mut BarrierPass,
+    ) -> Result<Left, BarrierAnswer>
+        requires own { Belongs self.now pass.old }
+        ensures own { Belongs self.now pass.new × (number_of pass.new ≡ number_of pass.old) }
+        ensures called { Called pass.old pass.new ArriveAndDetach (detach_reply result) }
+    {
+        match self.call_with_news(rt, pass, BarrierCall::ArriveAndDetach) {
+            BarrierReply::Left(phase, last) => Ok(Left { phase, last }),
+            BarrierReply::NotIn(phase) => Err(BarrierAnswer::NotIn { phase }),
+            BarrierReply::Twice(phase) => Err(BarrierAnswer::Twice { phase }),
+            _ => unreachable!(),
+        }
+    }
+
+    /// The caller arrives, and takes part no more unless it is the last that does: then the phase ends, the caller is
+    /// elected, and it takes part still, for what one party has to do after all others are done. NotIn and Twice as in
+    /// `arrive`. It may wait for its turn, and not for the others.
+    pub fn arrive_and_detach_except_last<R: Wait>(
+        &self,
+        rt: &R,
+        pass: &mut BarrierPass,
+    ) -> Result<Departure, BarrierAnswer>
+        requires own { Belongs self.now pass.old }
+        ensures own { Belongs self.now pass.new × (number_of pass.new ≡ number_of pass.old) }
+        ensures called { Called pass.old pass.new ArriveAndDetachExceptLast (departure_reply result) }
+    {
+        match self.call_with_news(rt, pass, BarrierCall::ArriveAndDetachExceptLast) {
+            BarrierReply::Left(phase, false) => Ok(Departure::Left { phase }),
+            BarrierReply::Released(phase, true) => Ok(Departure::Last { phase }),
+            BarrierReply::NotIn(phase) => Err(BarrierAnswer::NotIn { phase }),
+            BarrierReply::Twice(phase) => Err(BarrierAnswer::Twice { phase }),
             _ => unreachable!(),
         }
     }

@@ -20,6 +20,8 @@ pub enum BarrierCall {
     Arrive,
     Look,
     Detach,
+    ArriveAndDetach,
+    ArriveAndDetachExceptLast,
 }
 
 /// What a call is answered. Each except `Waiting` has the phase after the call.
@@ -31,7 +33,7 @@ pub enum BarrierReply {
     Waiting,
     /// A phase ended since the caller arrived; whether the caller was elected.
     Released(u64, bool),
-    /// The caller takes part no more; whether it was the last.
+    /// The caller takes part no more; whether nobody does.
     Left(u64, bool),
     /// Attached already.
     AlreadyIn(u64),

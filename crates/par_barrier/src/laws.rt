@@ -8,7 +8,8 @@ pub fn tells_phases()
     ensures { TellsPhases }
 {}
 
-/// Each end of a phase elects exactly one caller, which takes part at that moment and has arrived in that phase.
+/// Each end of a phase elects exactly one caller, which takes part at that moment and has arrived in that phase, unless
+/// nobody takes part any more.
 pub fn elects_one()
     ensures { ElectsOne }
 {}

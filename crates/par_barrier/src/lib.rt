@@ -16,7 +16,7 @@ mod laws;
 mod parties;
 mod waiting;
 
-pub use answers::{Arrival, Arrived, BarrierAnswer, Left};
+pub use answers::{Arrival, Arrived, BarrierAnswer, Departure, Left};
 pub use barrier::{Barrier, BarrierPass};
 pub use close::ClosedBarrier;
 pub use history::{BarrierCall, BarrierReply, BarrierState};

@@ -3,10 +3,12 @@
 //! A caller that has arrived takes part, and nobody comes twice in a list (`AreParties`). So all have arrived exactly
 //! if the two lists are equally long, and neither outgrows the room that it has for all callers: no call takes memory.
 
-ghost use Rattle.std.specs.Prelude.{◌≡◌, ◌≢◌, ◌<◌, ℕ, List, true, false, IfOk, IfSome, IsNone, [], ◌∷◌};
-ghost use Rattle.par_barrier.specs.declared.history.BarrierCall.TheVariants.{Arrive, Attach, Detach, Look};
-ghost use Rattle.par_barrier.specs.Parties.{are_among, ended, is_among, is_elected, joined, nobody, parted, with_arrival};
-ghost use Rattle.par_barrier.specs.Legal.{Arrives, Attaches, BarrierLegal, Detaches, Looks, MayAnswer};
+ghost use Rattle.std.specs.Prelude.{◌≡◌, ◌≢◌, ◌<◌, ◌==◌, ℕ, List, true, false, not, IfOk, IfSome, IsNone, [], ◌∷◌};
+ghost use Rattle.std.specs.List.{list_any};
+ghost use Rattle.par_barrier.specs.declared.history.BarrierCall.TheVariants.{Arrive, ArriveAndDetach, ArriveAndDetachExceptLast, Attach, Detach, Look};
+ghost use Rattle.par_barrier.specs.declared.history.BarrierReply.TheVariants.{Left};
+ghost use Rattle.par_barrier.specs.Parties.{abandoned, are_among, ended, is_among, is_elected, joined, nobody, parted, with_arrival};
+ghost use Rattle.par_barrier.specs.Legal.{Arrives, ArrivesAndDetaches, ArrivesAndDetachesExceptLast, Attaches, BarrierLegal, Detaches, Leaves, Looks, MayAnswer};
 ghost use Rattle.par_barrier.specs.Kept.{PartiesView};
 
 use crate::history::{BarrierCall, BarrierReply, BarrierState};
@@ -121,6 +123,15 @@ impl Parties {
         self.elected = Some(elected);
     }
 
+    /// The phase ends, and nobody is elected.
+    fn abandon_phase(&mut self)
+        ensures { self.new ≡ record self.old { state = abandoned self.old.state } }
+    {
+        self.phase = self.phase.wrapping_add(1);
+        self.arrived.clear();
+        self.elected = None;
+    }
+
     /// The caller `n` takes part from now on, unless it does already.
     fn attach(&mut self, n: u32) -> BarrierReply
         requires below { n < self.old.callers }
@@ -179,7 +190,7 @@ impl Parties {
         }
     }
 
-    /// The caller `n` leaves. If all that stay have arrived, the phase ends, and the first of them is elected.
+    /// The caller `n` leaves.
     fn detach(&mut self, n: u32) -> BarrierReply
         ensures callers { self.new.callers ≡ self.old.callers }
         ensures legal { Detaches n self.old.state result self.new.state }
@@ -192,14 +203,71 @@ impl Parties {
         if self.is_empty() {
             return BarrierReply::Left(self.phase(), true);
         }
+        BarrierReply::Left(self.settle(), false)
+    }
+
+    /// The caller `n` arrives and leaves. If it was the last that took part, the phase ends.
+    fn arrive_and_detach(&mut self, n: u32) -> BarrierReply
+        ensures callers { self.new.callers ≡ self.old.callers }
+        ensures legal { ArrivesAndDetaches n self.old.state result self.new.state }
+        ensures fits { MayAnswer ArriveAndDetach result }
+    {
+        if !self.is_attached(n) {
+            return BarrierReply::NotIn(self.phase());
+        }
+        if self.has_arrived(n) {
+            return BarrierReply::Twice(self.phase());
+        }
+        self.part(n);
+        if self.is_empty() {
+            self.abandon_phase();
+            return BarrierReply::Left(self.phase(), true);
+        }
+        BarrierReply::Left(self.settle(), false)
+    }
+
+    /// The caller `n` arrives, and leaves unless it is the last that takes part: then the phase ends and elects it.
+    fn arrive_and_detach_except_last(&mut self, n: u32) -> BarrierReply
+        ensures callers { self.new.callers ≡ self.old.callers }
+        ensures legal { ArrivesAndDetachesExceptLast n self.old.state result self.new.state }
+        ensures fits { MayAnswer ArriveAndDetachExceptLast result }
+    {
+        if !self.is_attached(n) {
+            return BarrierReply::NotIn(self.phase());
+        }
+        if self.has_arrived(n) {
+            return BarrierReply::Twice(self.phase());
+        }
+        if !self.has_others(n) {
+            self.end_phase(n);
+            return BarrierReply::Released(self.phase(), true);
+        }
+        self.part(n);
+        BarrierReply::Left(self.settle(), false)
+    }
+
+    /// Somebody has left others: if all of them have arrived, the phase ends, and the first of them is elected. Returns
+    /// the phase that is on then.
+    fn settle(&mut self) -> u64
+        requires others { self.old.state.attached ≢ [] }
+        ensures callers { self.new.callers ≡ self.old.callers }
+        ensures legal { Leaves self.old.state (Left result false) self.new.state }
+    {
         let Some(first) = self.first_arrived() else {
-            return BarrierReply::Left(self.phase(), false);
+            return self.phase();
         };
         if !self.all_arrived() {
-            return BarrierReply::Left(self.phase(), false);
+            return self.phase();
         }
         self.end_phase(first);
-        BarrierReply::Left(self.phase(), false)
+        self.phase()
+    }
+
+    /// Whether anybody but the caller `n` takes part.
+    fn has_others(&self, n: u32) -> bool
+        ensures { result ≡ list_any (λ m. not (m == n)) self.now.state.attached }
+    {
+        self.attached.iter().any(|m| *m != n)
     }
 
     /// The first caller to arrive, of those that have arrived.
@@ -259,6 +327,8 @@ impl Kept for Parties {
             BarrierCall::Arrive => self.arrive(n),
             BarrierCall::Look => self.look(n),
             BarrierCall::Detach => self.detach(n),
+            BarrierCall::ArriveAndDetach => self.arrive_and_detach(n),
+            BarrierCall::ArriveAndDetachExceptLast => self.arrive_and_detach_except_last(n),
         }
     }
 }

@@ -1,4 +1,4 @@
-//! The answers of a barrier in turn, and three threads that go through a hundred phases.
+//! The answers of a barrier in turn, parties that arrive and leave at once, and three threads that go through a hundred phases.
 
 ghost use Rattle.std.specs.Prelude.{◌≡◌, IfOk};
 ghost use Rattle.lock_book.specs.History.{calls_by};
@@ -6,7 +6,9 @@ ghost use Rattle.par_barrier.specs.Ending.{whole_of};
 ghost use Rattle.par_barrier.specs.Phases.{IsHistory};
 ghost use Rattle.par_barrier.specs.Shown.{Belongs, callers_of, number_of, own_of};
 
-use par_barrier::{Arrival, Arrived, Barrier, BarrierAnswer, BarrierPass, ClosedBarrier, Left};
+use par_barrier::{
+    Arrival, Arrived, Barrier, BarrierAnswer, BarrierPass, ClosedBarrier, Departure, Left,
+};
 use std::alloc::{AllocError, Global};
 use std::sync::Wait;
 use std::test::Fail;
@@ -108,6 +110,69 @@ fn each_answer(rt: HostRuntime) -> Result<(), Fail> {
     );
     zero.meet(&b, &mut one);
     let _closed = close_two(rt.alloc(), b, zero, one)?;
+    Ok(())
+}
+
+#[test]
+fn who_arrives_and_leaves(rt: HostRuntime) -> Result<(), Fail> {
+    let (b, mut zero, mut one) = for_two(rt.alloc())?;
+    assert_eq!(rt;
+        b.arrive_and_detach(&rt, &mut zero),
+        Err(BarrierAnswer::NotIn { phase: 0 })
+    );
+    assert_eq!(rt; b.attach(&rt, &mut zero), Ok(0));
+    assert_eq!(rt; b.attach(&rt, &mut one), Ok(0));
+    assert_eq!(rt; b.arrive(&rt, &mut zero), Ok(Arrival::Waiting));
+    assert_eq!(rt;
+        b.arrive_and_detach_except_last(&rt, &mut zero),
+        Err(BarrierAnswer::Twice { phase: 0 })
+    );
+    // the other one has arrived, so the phase ends and elects it
+    assert_eq!(rt;
+        b.arrive_and_detach(&rt, &mut one),
+        Ok(Left {
+            phase: 1,
+            last: false,
+        })
+    );
+    assert_eq!(rt;
+        b.look(&rt, &mut zero),
+        Ok(Arrival::Released {
+            phase: 1,
+            elected: true,
+        })
+    );
+    // nobody else takes part, so the phase ends with nobody to elect
+    assert_eq!(rt;
+        b.arrive_and_detach(&rt, &mut zero),
+        Ok(Left {
+            phase: 2,
+            last: true,
+        })
+    );
+    Ok(())
+}
+
+#[test]
+fn the_last_stays(rt: HostRuntime) -> Result<(), Fail> {
+    let (b, mut zero, mut one) = for_two(rt.alloc())?;
+    assert_eq!(rt; b.attach(&rt, &mut zero), Ok(0));
+    assert_eq!(rt; b.attach(&rt, &mut one), Ok(0));
+    assert_eq!(rt;
+        b.arrive_and_detach_except_last(&rt, &mut one),
+        Ok(Departure::Left { phase: 0 })
+    );
+    assert_eq!(rt;
+        b.arrive_and_detach_except_last(&rt, &mut zero),
+        Ok(Departure::Last { phase: 1 })
+    );
+    assert_eq!(rt;
+        b.detach(&rt, &mut zero),
+        Ok(Left {
+            phase: 1,
+            last: true,
+        })
+    );
     Ok(())
 }
 
