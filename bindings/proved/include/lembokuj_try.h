@@ -58,7 +58,7 @@ enum {
     LK_NO_MEMORY = -4,     /* the system gave no memory */
     LK_BAD_SIZE = -5,      /* a size out of range */
     LK_BAD_CALLERS = -6,   /* no callers, more than 4,096, or all of them have handles */
-    LK_TOO_LONG = -7,      /* the message is longer than the queue's greatest */
+    LK_TOO_LONG = -7,      /* the message is longer than the queue's greatest, or, to be sent whole, than the ring */
     LK_OTHER_MESSAGE = -8, /* a part of another message is on the ring: send that one again first */
     LK_NO_SPACE = -9,      /* the caller's own words are used up */
 };
@@ -147,6 +147,7 @@ typedef struct lk_handle {
 /* What liblk_queue.a exports. Each pointer has to be good, and the two handles of lk_raw_queue_new have to differ. */
 int32_t lk_raw_queue_new(uint64_t ring_words, uint32_t max_bytes, lk_handle *tx, lk_handle *rx);
 int32_t lk_raw_queue_send(lk_handle *tx, const uint8_t *bytes, size_t len, bool now);
+int32_t lk_raw_queue_send_whole(lk_handle *tx, const uint8_t *bytes, size_t len, bool now);
 int32_t lk_raw_queue_flush(lk_handle *tx);
 int32_t lk_raw_queue_receive(lk_handle *rx, uint8_t *out, size_t room, size_t *len);
 int32_t lk_raw_queue_leave(lk_handle *handle);
@@ -168,7 +169,16 @@ static inline int lk_queue_send_try(lk_handle *tx, const void *bytes, size_t len
     return lk_raw_queue_send(tx, bytes ? (const uint8_t *)bytes : (const uint8_t *)"", len, !(flags & LK_LATER));
 }
 
-/* The same, and waits while the ring is full. */
+/* Sends a message whole or not at all: after LK_WOULD_BLOCK nothing of it is on the ring, and the next message may be any
+ * other. But one that lk_queue_send_try has begun has to be sent first (LK_OTHER_MESSAGE); this call sends the rest of it
+ * too. LK_TOO_LONG also if the ring is too short: there a message takes a word and its bytes, rounded up to 8. LK_DETACHED
+ * if the receiver has left. The bytes are copied. */
+static inline int lk_queue_send_whole_try(lk_handle *tx, const void *bytes, size_t len, int flags) {
+    if (!tx || (!bytes && len)) return LK_NULL;
+    return lk_raw_queue_send_whole(tx, bytes ? (const uint8_t *)bytes : (const uint8_t *)"", len, !(flags & LK_LATER));
+}
+
+/* As lk_queue_send_try, and waits while the ring is full. */
 static inline int lk_queue_send_wait(lk_handle *tx, const void *bytes, size_t len, int flags) {
     int code;
     for (unsigned tries = 0; (code = lk_queue_send_try(tx, bytes, len, flags)) == LK_WOULD_BLOCK; tries++) lk_between(tries);

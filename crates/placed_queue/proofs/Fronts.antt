@@ -1,0 +1,36 @@
+-- Beginnings of one list.
+use Rattle.std.proofs.Common.{◌≡◌, ◌≤◌, List, [], ◌∷◌, ◌++◌, length, take, refl, ap, sym, ◌∙◌, arith, append_assoc, length-append}
+use mathlib.Core.List.{IsPrefix}
+use Rattle.placed_queue.specs.Rules.{IsLonger}
+
+-- each list begins with itself
+pub prefix_self : {A : Type 0} (xs : List A) → IsPrefix xs xs
+prefix_self [] = ([], refl)
+prefix_self (x ∷ xs) = (let r = prefix_self xs in r.0, ap (λ ys. x ∷ ys) (prefix_self xs).1)
+
+pub prefix_trans : {A : Type 0} (xs ys zs : List A) → IsPrefix xs ys → IsPrefix ys zs → IsPrefix xs zs
+prefix_trans xs ys zs p q = (p.0 ++ q.0, sym (append_assoc xs p.0 q.0) ∙ (ap (λ w. w ++ q.0) p.1 ∙ q.1))
+
+-- a beginning as long as the whole is the whole
+pub prefix_whole : {A : Type 0} (xs ys : List A) → IsPrefix xs ys → length ys ≤ length xs → xs ≡ ys
+prefix_whole [] [] p le = refl
+prefix_whole [] (y ∷ ys) p le = absurd (omega arith)
+prefix_whole (x ∷ xs) [] p le = absurd (cc (p.1))
+prefix_whole (x ∷ xs) (y ∷ ys) p le =
+    let rest = prefix_whole xs ys (p.0, cc (p.1)) (omega arith) in cc (p.1, rest)
+
+-- of two beginnings of one list the shorter is the front of the longer
+pub prefix_take : {A : Type 0} (xs ys zs : List A) → IsPrefix xs zs → IsPrefix ys zs → length xs ≤ length ys → take (length xs) ys ≡ xs
+prefix_take [] ys zs p q le = refl
+prefix_take (x ∷ xs) [] zs p q le = absurd (omega arith)
+prefix_take (x ∷ xs) (y ∷ ys) [] p q le = absurd (cc (p.1))
+prefix_take (x ∷ xs) (y ∷ ys) (z ∷ zs) p q le =
+    let heads : y ≡ x = cc (p.1, q.1) in
+    let rest = prefix_take xs ys zs (p.0, cc (p.1)) (q.0, cc (q.1)) (omega arith) in cc (heads, rest)
+
+pub prefix_length : {A : Type 0} (xs ys : List A) → IsPrefix xs ys → length xs ≤ length ys
+prefix_length xs ys p = omega (arith, sym (ap length p.1) ∙ length-append xs p.0)
+
+-- a beginning that is not as long is shorter
+pub prefix_grown : {A : Type 0} (xs ys : List A) → IsPrefix xs ys → (length ys ≡ length xs → ⊥) → IsLonger xs ys
+prefix_grown xs ys p differ = (p, omega (arith, prefix_length xs ys p, differ))

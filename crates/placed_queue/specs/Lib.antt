@@ -1,0 +1,4 @@
+pub mod Rules
+pub mod Sides
+pub mod Receives
+pub mod Calls

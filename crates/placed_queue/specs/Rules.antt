@@ -1,0 +1,24 @@
+-- The rule of a history, and what its steps tell.
+use Rattle.std.specs.Prelude.{ℕ, ◌≡◌, ◌==◌, ◌<◌, true, List, [], ◌∷◌, ◌++◌, length, MatchBool}
+use mathlib.Core.List.{IsPrefix}
+use Rattle.logbook.specs.Pages.{Cell, Step, View, Book, Named}
+use Rattle.placed_queue.specs.declared.item.Item.{Item}
+
+-- the first word is the length of the history. A book has two words, of which this one leaves the second at 0
+abbrev pub IsKept : List Cell → List Item → Type 0
+IsKept cells log = cells ≡ (length log, true) ∷ (0, true) ∷ []
+
+abbrev pub head_of : Book → Named
+head_of b = record { tracked = true; key = 0; book = b }
+
+-- the history was seen whole, and its length found
+abbrev pub Looks : Step Item → View Item ℕ → ℕ → View Item ℕ → Type 0
+Looks s v found w = length w.0 ≡ found
+
+-- the item was added to all that had been seen; or the history was longer, and was seen
+abbrev pub Adds : Step Item → View Item ℕ → ℕ → View Item ℕ → Type 0
+Adds s v found w = MatchBool (found == s.old) (w.0 ≡ v.0 ++ s.ask ∷ []) (length w.0 ≡ found)
+
+-- ys begins with xs, and goes on
+abbrev pub IsLonger : {A : Type 0} → List A → List A → Type 0
+IsLonger xs ys = IsPrefix xs ys × (length xs < length ys)
