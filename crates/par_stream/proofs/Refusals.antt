@@ -1,12 +1,12 @@
 -- A row that is refused in a window, among all rows of a source.
 use Rattle.std.proofs.Common.{◌≡◌, ◌<◌, ◌≤◌, ◌+◌, ◌-◌, ◌^◌, ◌++◌, ◌⊎◌, ◌∙◌, inl, inr, ℕ, zero, suc, Bool, true, false, List, [], ◌∷◌, Option, None, Some, IfSome, All, length, take, refl, ap, sym, subst, arith, append-nil, length-append}
-use Rattle.std.specs.Prelude.{slice_get, string_bytes}
+use Rattle.std.specs.Prelude.{string_bytes}
 use Rattle.std.proofs.lemmas.List.{get_or-append-add, get_or_append_left}
 use Rattle.std.proofs.lemmas.Grind.{get_or_after_one}
 use Rattle.std.proofs.lemmas.List.Elements.{All-append, All-same}
 use Rattle.csv_rows.specs.Records.{record_at, records_of}
 use Rattle.par_model.specs.Named.{missing_name}
-use Rattle.par_model.specs.Outcome.{Table as IsTable, by_missing, by_refused}
+use Rattle.par_model.specs.Outcome.{Refused, Table as IsTable, by_missing, by_refused}
 use Rattle.par_model.specs.Plan.{Plan}
 use Rattle.par_model.specs.Refuse.{refusal, refused_rows}
 use Rattle.par_model.specs.declared.refusal.Refusal.{Refusal}
@@ -16,7 +16,6 @@ use Rattle.partial_agg.specs.declared.map.BlockAnswer.TheVariants as answer
 use Rattle.plan_spec.specs.Query.{Query}
 use Rattle.row_blocks.specs.Blocks.{Table}
 use Rattle.split_run.specs.Causes.{IsFirstCause}
-use Rattle.table_query.specs.Lines.{refused_of}
 use Rattle.table_query.specs.Refused.{refused_in}
 use Rattle.table_query.proofs.RefusedRows.{refused_first, refused_in-none}
 use Rattle.par_stream.specs.Outcome.{outcome, outcome_over}
@@ -30,10 +29,6 @@ begins None left records rest is_last r = tt
 begins (Some bytes) left records rest true r = ([], r.all refl ∙ sym (append-nil records))
 begins (Some bytes) None records rest false r = absurd (r.more refl)
 begins (Some bytes) (Some left) records rest false r = (records_of (rest ++ left), (r.more refl).parts)
-
-refused_by : (rows : List (ℕ × Refusal)) → refused_of (by_refused rows) ≡ rows
-refused_by [] = refl
-refused_by (r ∷ rows) = refl
 
 take_front : (ws more : Table) (k : ℕ) → k ≤ length ws → take k (ws ++ more) ≡ take k ws
 take_front [] more zero h = refl
@@ -54,7 +49,7 @@ module _ (query : Query) where
   -- no record
   pub none_tells : (from : Option (List ℕ)) → HasAll from [] → Tells query from stop.NoHeader
   none_tells None all = tt
-  none_tells (Some bytes) all = ap (outcome (Some query.plan)) all
+  none_tells (Some bytes) all = ap (outcome query.plan) all
 
   -- a column that the header lacks
   pub missing_tells : (from : Option (List ℕ)) (records : Table) (why : Stop) → Begins from records → 0 < length records
@@ -63,14 +58,14 @@ module _ (query : Query) where
   missing_tells None records why b some (inr m) = subst (Tells query None) (sym m.1) tt
   missing_tells (Some bytes) [] why b some (inr m) = absurd (omega (arith, some))
   missing_tells (Some bytes) (header ∷ rows) why b some (inr m) =
-      subst (Tells query (Some bytes)) (sym m.1) (ap (outcome (Some query.plan)) b.1 ∙ ap (by_missing query.plan header (rows ++ b.0)) m.2)
+      subst (Tells query (Some bytes)) (sym m.1) (ap (outcome query.plan) b.1 ∙ ap (by_missing query.plan header (rows ++ b.0)) m.2)
 
 module _ (query : Query) (header : List (List ℕ)) (bound : Plan) (is : IsBound query header bound) where
-  pub outcome_rows : (rows : Table) → outcome (Some query.plan) (header ∷ rows) ≡ by_refused (refused_in bound (header ∷ rows))
+  pub outcome_rows : (rows : Table) → outcome query.plan (header ∷ rows) ≡ by_refused (refused_in bound (header ∷ rows))
   outcome_rows rows = ap (by_missing query.plan header rows) is.whole ∙ ap (λ (b : Plan). by_refused (refused_rows b (length header) rows)) (sym is.is)
 
   -- rows of which none is refused
-  pub accepted_table : (rows : Table) → All (IsAccepted bound (length header)) rows → outcome (Some query.plan) (header ∷ rows) ≡ IsTable
+  pub accepted_table : (rows : Table) → All (IsAccepted bound (length header)) rows → outcome query.plan (header ∷ rows) ≡ IsTable
   accepted_table rows accepted = outcome_rows rows ∙ ap by_refused (refused_in-none bound (header ∷ rows) accepted)
 
   module _ (rows wrows more : Table) (row : ℕ) (why : Refusal) (some : 1 ≤ row) (within : row < length (header ∷ wrows)) (cause : refusal bound (length header) (record_at (header ∷ wrows) row) ≡ Some why) where
@@ -121,17 +116,17 @@ module _ (query : Query) (header : List (List ℕ)) (bound : Plan) (is : IsBound
       why : Refusal
       why = record { cause = cause; item = item }
 
-      whole : (bytes : List ℕ) (more : Table) → records_of bytes ≡ header ∷ ((rows ++ wrows) ++ more) → refused_of (outcome_over (Some query.plan) bytes) ≡ refused_in bound (header ∷ ((rows ++ wrows) ++ more))
-      whole bytes more e = ap refused_of (ap (outcome (Some query.plan)) e ∙ outcome_rows ((rows ++ wrows) ++ more)) ∙ refused_by (refused_in bound (header ∷ ((rows ++ wrows) ++ more)))
+      whole : (bytes : List ℕ) (more : Table) → records_of bytes ≡ header ∷ ((rows ++ wrows) ++ more) → outcome_over query.plan bytes ≡ by_refused (refused_in bound (header ∷ ((rows ++ wrows) ++ more)))
+      whole bytes more e = ap (outcome query.plan) e ∙ outcome_rows ((rows ++ wrows) ++ more)
 
       number : length rows + row ≡ before + row
       number = ap (λ n. n + row) (sym is_before)
 
-      first_told : (from : Option (List ℕ)) → Begins from (header ∷ (rows ++ wrows)) → IfSome from (λ bytes. slice_get (refused_of (outcome_over (Some query.plan) bytes)) 0 ≡ Some (before + row, why))
+      first_told : (from : Option (List ℕ)) → Begins from (header ∷ (rows ++ wrows)) → IfSome from (λ bytes. (others : List (ℕ × Refusal)) × (outcome_over query.plan bytes ≡ Refused ((before + row, why) ∷ others)))
       first_told None b = tt
       first_told (Some bytes) b =
           let f = first_is rows wrows b.0 row why c.refused.first c.refused.within c.refused.cause_is accepted c.before in
-          ap (λ (l : List (ℕ × Refusal)). slice_get l 0) (whole bytes b.0 b.1 ∙ subst (λ n. refused_in bound (header ∷ ((rows ++ wrows) ++ b.0)) ≡ (n, why) ∷ f.0) number f.1)
+          (f.0, whole bytes b.0 b.1 ∙ ap by_refused (subst (λ n. refused_in bound (header ∷ ((rows ++ wrows) ++ b.0)) ≡ (n, why) ∷ f.0) number f.1))
 
       by : IsRefusedRow query.plan (before + row) why said ⊎ (said ≡ stop.Memory) → Tells query from said
       by (inr e) = subst (Tells query from) (sym e) tt

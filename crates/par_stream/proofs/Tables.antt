@@ -1,5 +1,5 @@
 -- The text of the groups of all rows of a source.
-use Rattle.std.proofs.Common.{◌≡◌, ◌≤◌, ◌^◌, ◌∷◌, ◌∙◌, ℕ, List, Option, None, Some, Result, Ok, Err, IfErr, IfSome, length, ap, subst, sym, take}
+use Rattle.std.proofs.Common.{◌≡◌, ◌≤◌, ◌^◌, ◌∷◌, ◌∙◌, ℕ, List, Option, None, Some, Result, Ok, Err, IfErr, IfSome, length, refl, ap, subst, sym, take}
 use Rattle.std.specs.Io.KnownBytes.{Appends}
 use Rattle.par_model.specs.Named.{bound_plan}
 use Rattle.par_model.specs.Outcome.{IsAnswer}
@@ -22,20 +22,22 @@ abbrev pub AnswersAny : Query → ReadGroups → List ℕ → Type 0
 AnswersAny query r text = (header : List (List ℕ)) (width : ℕ) (rows : Table) → r.bound ≡ bound_plan header query.plan → length rows ≤ 2 ^ 50 → AreShared r.bound width rows r.maps.items → IsAnswer query.plan (header ∷ rows) text
 
 module _ (query : Query) (r : ReadGroups) (text : List ℕ) where
-  pub table_text : (from : Option (List ℕ)) → AnswersAny query r text → AreGroupsOver query from r → IfSome from (λ bytes. IsTableText (Some query.plan) bytes text)
+  pub table_text : (from : Option (List ℕ)) → AnswersAny query r text → AreGroupsOver query from r → IfSome from (λ bytes. IsTableText (Some query) bytes text)
   table_text None answers over = tt
   table_text (Some bytes) answers over = record {
-    has_table = ap (outcome (Some query.plan)) over.all ∙ accepted_table query over.header r.bound over.bound over.rows over.shared.accepted;
+    query = query;
+    is = refl;
+    has_table = ap (outcome query.plan) over.all ∙ accepted_table query over.header r.bound over.bound over.rows over.shared.accepted;
     is_text = subst (λ (l : Table). IsAnswer query.plan l text) (sym over.all) (answers over.header (length over.header) over.rows over.bound.is over.few over.shared);
   }
 
   -- what was written of it
   pub table_written : (from old new : Option (List ℕ)) → AnswersAny query r text → AreGroupsOver query from r → Appends old new text
-      → IfSome from (λ bytes. (text : List ℕ) × IsTableText (Some query.plan) bytes text × Appends old new text)
+      → IfSome from (λ bytes. (text : List ℕ) × IsTableText (Some query) bytes text × Appends old new text)
   table_written None old new answers over wrote = tt
   table_written (Some bytes) old new answers over wrote = (text, table_text (Some bytes) answers over, wrote)
 
   pub part_written : (from old new : Option (List ℕ)) (n : ℕ) → AnswersAny query r text → AreGroupsOver query from r → Appends old new (take n text)
-      → IfSome from (λ bytes. (text : List ℕ) × IsTableText (Some query.plan) bytes text × (n : ℕ) × Appends old new (take n text))
+      → IfSome from (λ bytes. (text : List ℕ) × IsTableText (Some query) bytes text × (n : ℕ) × Appends old new (take n text))
   part_written None old new n answers over wrote = tt
   part_written (Some bytes) old new n answers over wrote = (text, table_text (Some bytes) answers over, n, wrote)

@@ -72,7 +72,7 @@ filled (Some bytes) (Some old) (Some new) was lines rest records is_last read f 
 }
 
 -- a window that begins with a record that is too long
-pub long_read : (from old new : Option (List ℕ)) (was text : List ℕ) (plan : Option NamedPlan) (records : Table) (row : ℕ) → (records ≡ []) ⊎ (outcome plan records ≡ IsTable) → HasRead from old records was → length records ≡ row → Fills old new was text → IsLong text → IfSome from (λ bytes. HasLong plan bytes row)
+pub long_read : (from old new : Option (List ℕ)) (was text : List ℕ) (plan : NamedPlan) (records : Table) (row : ℕ) → (records ≡ []) ⊎ (outcome plan records ≡ IsTable) → HasRead from old records was → length records ≡ row → Fills old new was text → IsLong text → IfSome from (λ bytes. HasLong plan bytes row)
 long_read None old new was text plan records row whole read number f long = tt
 long_read (Some bytes) None new was text plan records row whole read number f long = absurd read
 long_read (Some bytes) (Some old) None was text plan records row whole read number f long = absurd f.1
@@ -116,9 +116,9 @@ is_not_filled old new old_faults new_faults was (Err answer.Memory) fault long =
 
 module _ (old new : Option (List ℕ)) (old_faults new_faults : ℕ) (was : Stretch) where
   -- what the reason says, where so many records stand in front of the window
-  pub window_tells : (query : Query) (from : Option (List ℕ)) (records : Table) (row : ℕ) (why : WindowAnswer) → (records ≡ []) ⊎ (outcome (Some query.plan) records ≡ IsTable) → HasRead from old records was.rest → length records ≡ row → IsNotFilled old new old_faults new_faults was why → Tells query from (stop_of_window why row)
+  pub window_tells : (query : Query) (from : Option (List ℕ)) (records : Table) (row : ℕ) (why : WindowAnswer) → (records ≡ []) ⊎ (outcome query.plan records ≡ IsTable) → HasRead from old records was.rest → length records ≡ row → IsNotFilled old new old_faults new_faults was why → Tells query from (stop_of_window why row)
   window_tells query from records row answer.ReadFault whole read number is = tt
-  window_tells query from records row answer.LongRecord whole read number is = long_read from old new was.rest is.0 (Some query.plan) records row whole read number is.1 is.2
+  window_tells query from records row answer.LongRecord whole read number is = long_read from old new was.rest is.0 query.plan records row whole read number is.1 is.2
   window_tells query from records row answer.Memory whole read number is = tt
 
   -- where it is a read that failed

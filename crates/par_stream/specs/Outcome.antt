@@ -1,25 +1,24 @@
 -- What a query over a table of any length comes to, and what no answer can be over.
-use Rattle.std.specs.Prelude.{◌≡◌, ◌⊎◌, ◌++◌, [], ◌∷◌, ℕ, List, None, Option, Some, length}
+use Rattle.std.specs.Prelude.{◌≡◌, ◌⊎◌, ◌++◌, [], ◌∷◌, ℕ, List, length}
 use Rattle.csv_rows.specs.Records.{records_of}
 use Rattle.row_blocks.specs.Blocks.{Table as Records}
 use Rattle.par_model.specs.Named.{NamedPlan, missing_name}
-use Rattle.par_model.specs.Outcome.{Outcome, NoHeader, Table, Usage, by_missing}
+use Rattle.par_model.specs.Outcome.{Outcome, NoHeader, Table, by_missing}
 use Rattle.row_windows.specs.Seams.{IsLong}
 
--- of a plan, or of words that are none, over some records, of which the first is the header
-abbrev pub outcome : Option NamedPlan → Records → Outcome
-outcome None records = Usage
-outcome (Some plan) [] = NoHeader
-outcome (Some plan) (header ∷ rows) = by_missing plan header rows (missing_name header plan)
+-- of a plan over some records, of which the first is the header
+abbrev pub outcome : NamedPlan → Records → Outcome
+outcome plan [] = NoHeader
+outcome plan (header ∷ rows) = by_missing plan header rows (missing_name header plan)
 
--- over bytes
-abbrev pub outcome_over : Option NamedPlan → List ℕ → Outcome
+-- of a plan over bytes
+abbrev pub outcome_over : NamedPlan → List ℕ → Outcome
 outcome_over plan bytes = outcome plan (records_of bytes)
 
 -- After so many records of some bytes begins a record of more bytes than a record may have: from some place on they
 -- have the other records, and begin with a text that is too long and cannot be cut. The records before it, if there are
 -- any, come to a table of the plan: the header has its columns, and no row is refused
-pub record HasLong (plan : Option NamedPlan) (bytes : List ℕ) (row : ℕ) : Type 0 where
+pub record HasLong (plan : NamedPlan) (bytes : List ℕ) (row : ℕ) : Type 0 where
   pub front : List ℕ
   pub text : List ℕ
   pub back : List ℕ

@@ -1,8 +1,8 @@
 -- What a reason to have no table says of the outcome.
-use Rattle.std.specs.Prelude.{[], ◌∷◌, ◌≡◌, ◌<◌, ◌+◌, ◌^◌, ◌⊎◌, ◌++◌, ⊤, ℕ, List, None, Option, Some, IfSome, codes, decimal, slice_get, string_bytes}
+use Rattle.std.specs.Prelude.{[], ◌∷◌, ◌≡◌, ◌<◌, ◌+◌, ◌^◌, ◌⊎◌, ◌++◌, ⊤, ℕ, List, None, Option, Some, IfSome, codes, decimal, string_bytes}
 use Rattle.csv_rows.specs.Records.{record_at}
 use Rattle.par_model.specs.Named.{NamedPlan}
-use Rattle.par_model.specs.Outcome.{NoColumn, NoHeader, Table}
+use Rattle.par_model.specs.Outcome.{NoColumn, NoHeader, Refused, Table}
 use Rattle.par_model.specs.Plan.{Plan}
 use Rattle.par_model.specs.declared.refusal.Refusal.{Refusal}
 use Rattle.partial_agg.specs.Rows.{header_width}
@@ -16,7 +16,7 @@ use Rattle.row_blocks.specs.Blocks.{Table as Records}
 use Rattle.row_windows.specs.Stretch.{Stretch}
 use Rattle.row_windows.specs.declared.window.WindowAnswer.{WindowAnswer}
 use Rattle.row_windows.specs.declared.window.WindowAnswer.TheVariants as window
-use Rattle.table_query.specs.Lines.{refusal_text, refused_of}
+use Rattle.table_query.specs.Lines.{refusal_text}
 use Rattle.par_stream.specs.Outcome.{HasLong, outcome_over}
 use Rattle.par_stream.specs.Reading.{Begins, HasAdded, window_records, window_rows}
 use Rattle.par_stream.specs.declared.adding.Added.{Added}
@@ -25,17 +25,6 @@ use Rattle.par_stream.specs.declared.stop.Cause.{Cause}
 use Rattle.par_stream.specs.declared.stop.Cause.TheVariants as cause
 use Rattle.par_stream.specs.declared.stop.Stop.{Stop}
 use Rattle.par_stream.specs.declared.stop.Stop.TheVariants as stop
-
--- the status of a reason
-abbrev pub stop_status : Stop → ℕ
-stop_status stop.Usage = MISUSED
-stop_status stop.ReadFault = READ_FAULT
-stop_status stop.NoHeader = MISUSED
-stop_status (stop.NoColumn name) = MISUSED
-stop_status (stop.LongRecord row) = LONG_RECORD
-stop_status (stop.Refused row why) = REFUSED
-stop_status stop.WriteFault = WRITE_FAULT
-stop_status stop.Memory = NO_MEMORY
 
 -- how the program is called
 abbrev pub usage_text : List ℕ
@@ -48,52 +37,37 @@ cause_text cause.LongKey = codes "group key is longer than 248 bytes"
 cause_text (cause.Item name) = codes "column " ++ (string_bytes name ++ codes " is not an integer")
 cause_text (cause.Filter name) = codes "filter column " ++ (string_bytes name ++ codes " is not an integer")
 
--- the number of a row, in front of what is said of it
+-- the number of a row, before what is said of it
 abbrev pub row_front : ℕ → List ℕ
 row_front row = codes "row " ++ (decimal row ++ codes ": ")
 
--- what comes before the text of a reason: the row that it names
-abbrev pub front_of : Stop → List ℕ
-front_of stop.Usage = []
-front_of stop.ReadFault = []
-front_of stop.NoHeader = []
-front_of (stop.NoColumn name) = []
-front_of (stop.LongRecord row) = row_front row
-front_of (stop.Refused row why) = row_front row
-front_of stop.WriteFault = []
-front_of stop.Memory = []
-
--- what its line says, where it names a row what comes after the row's number
-abbrev pub text_of : Stop → List ℕ
-text_of stop.Usage = usage_text
-text_of stop.ReadFault = codes "read fault"
-text_of stop.NoHeader = codes "no header"
-text_of (stop.NoColumn name) = codes "no column " ++ string_bytes name
-text_of (stop.LongRecord row) = codes "longer than 67108864 bytes"
-text_of (stop.Refused row why) = cause_text why
-text_of stop.WriteFault = codes "write fault"
-text_of stop.Memory = codes "out of memory"
-
--- what its line says
-abbrev pub stop_text : Stop → List ℕ
-stop_text why = front_of why ++ text_of why
+-- the status of a reason, and what its line says
+abbrev pub stop_says : Stop → ℕ × List ℕ
+stop_says stop.Usage = (MISUSED, usage_text)
+stop_says stop.ReadFault = (READ_FAULT, codes "read fault")
+stop_says stop.NoHeader = (MISUSED, codes "no header")
+stop_says (stop.NoColumn name) = (MISUSED, codes "no column " ++ string_bytes name)
+stop_says (stop.LongRecord row) = (LONG_RECORD, row_front row ++ codes "longer than 67108864 bytes")
+stop_says (stop.Refused row why) = (REFUSED, row_front row ++ cause_text why)
+stop_says stop.WriteFault = (WRITE_FAULT, codes "write fault")
+stop_says stop.Memory = (NO_MEMORY, codes "out of memory")
 
 -- A row that is named, with what is said of its cause: that is the text of a refusal, and if a source tells what it had
 -- left, the outcome of the query refuses this row for it, first of all
 pub record NamesFirstRow (query : Query) (left : Option (List ℕ)) (row : ℕ) (why : Cause) : Type 0 where
   pub refusal : Refusal
   pub says : cause_text why ≡ refusal_text query.plan refusal
-  pub first : IfSome left (λ bytes. slice_get (refused_of (outcome_over (Some query.plan) bytes)) 0 ≡ Some (row, refusal))
+  pub first : IfSome left (λ bytes. (others : List (ℕ × Refusal)) × (outcome_over query.plan bytes ≡ Refused ((row, refusal) ∷ others)))
 
 -- what a reason says of what a query is over, where a source tells what it had left
 abbrev pub Tells : Query → Option (List ℕ) → Stop → Type 0
 Tells query left stop.Usage = ⊥
 Tells query left stop.ReadFault = ⊤
-Tells query left stop.NoHeader = IfSome left (λ bytes. outcome_over (Some query.plan) bytes ≡ NoHeader)
-Tells query left (stop.NoColumn name) = IfSome left (λ bytes. outcome_over (Some query.plan) bytes ≡ NoColumn (string_bytes name))
-Tells query left (stop.LongRecord row) = IfSome left (λ bytes. HasLong (Some query.plan) bytes row)
+Tells query left stop.NoHeader = IfSome left (λ bytes. outcome_over query.plan bytes ≡ NoHeader)
+Tells query left (stop.NoColumn name) = IfSome left (λ bytes. outcome_over query.plan bytes ≡ NoColumn (string_bytes name))
+Tells query left (stop.LongRecord row) = IfSome left (λ bytes. HasLong query.plan bytes row)
 Tells query left (stop.Refused row why) = NamesFirstRow query left row why
-Tells query left stop.WriteFault = IfSome left (λ bytes. outcome_over (Some query.plan) bytes ≡ Table)
+Tells query left stop.WriteFault = IfSome left (λ bytes. outcome_over query.plan bytes ≡ Table)
 Tells query left stop.Memory = ⊤
 
 -- Why the rows of a window were not added to the maps of some others, which stand before them: it is so said of each source
@@ -102,7 +76,7 @@ abbrev pub TellsOfRows : Query → Plan → Stretch → Added → Stop → Type 
 TellsOfRows query plan w added why = (from : Option (List ℕ)) (rows : Records) → HasAdded plan (header_width (window_records w)) rows added
     → Begins from (record_at (window_records w) 0 ∷ (rows ++ window_rows w)) → Tells query from why
 
--- likewise of words that ask for a query, or for none
+-- what a reason says of what words ask for, a query or nothing
 abbrev pub TellsOf : Option Query → Option (List ℕ) → Stop → Type 0
 TellsOf None left why = (why ≡ stop.Usage) ⊎ (why ≡ stop.Memory)
 TellsOf (Some query) left why = Tells query left why

@@ -1,7 +1,6 @@
 -- What the words of a command line ask for: the options of a plan, but for the two that speak of a shared table of groups.
-use Rattle.std.specs.Prelude.{◌==◌, ◌||◌, ℕ, Bool, List, None, Option, codes, if◌then◌else◌, option_map}
+use Rattle.std.specs.Prelude.{◌==◌, ◌||◌, ℕ, Bool, List, None, Option, codes, if◌then◌else◌}
 use Rattle.std.specs.List.{list_any, starts_with}
-use Rattle.par_model.specs.Named.{NamedPlan}
 use Rattle.plan_spec.specs.Query as plan
 
 -- whether a word names an option that speaks of a shared table of groups
@@ -11,7 +10,3 @@ is_of_table word = starts_with (λ a b. a == b) word (codes "--plan") || starts_
 -- the query of the words, if they are one
 abbrev pub query_of : List (List ℕ) → Option plan.Query
 query_of words = if list_any is_of_table words then None else plan.query_of words
-
--- its plan
-abbrev pub plan_of : List (List ℕ) → Option NamedPlan
-plan_of words = option_map (λ query. query.plan) (query_of words)

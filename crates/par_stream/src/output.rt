@@ -26,9 +26,9 @@ pub(crate) fn write_table<R: Threads + Sync, O: Sink>(
 ) -> Result<(), Stop>
     requires { (from : Option (List ℕ)) × AreGroupsOver plan.now from read }
     ensures table { OnOk result ((from : Option (List ℕ)) → AreGroupsOver plan.now from read → IfSome from (λ bytes.
-        (text : List ℕ) × IsTableText (Some plan.now.plan) bytes text × Appends (O.taken out.old) (O.taken out.new) text)) }
+        (text : List ℕ) × IsTableText (Some plan.now) bytes text × Appends (O.taken out.old) (O.taken out.new) text)) }
     ensures part { IfErr result (λ why. why ≡ stop.WriteFault → (from : Option (List ℕ)) → AreGroupsOver plan.now from read → IfSome from (λ bytes.
-        (text : List ℕ) × IsTableText (Some plan.now.plan) bytes text × (n : ℕ) × Appends (O.taken out.old) (O.taken out.new) (take n text))) }
+        (text : List ℕ) × IsTableText (Some plan.now) bytes text × (n : ℕ) × Appends (O.taken out.old) (O.taken out.new) (take n text))) }
     ensures nothing { IfErr result (λ why. (why ≢ stop.WriteFault) → out.new ≡ out.old) }
     ensures write_fault { IfErr result (λ why. why ≡ stop.WriteFault → Rose (O.faults out.old) (O.faults out.new)) }
     ensures why { IfErr result (λ why. (why ≡ stop.WriteFault) ⊎ (why ≡ stop.Memory)) }

@@ -1,10 +1,10 @@
 //! Why there is no table: its status and its line.
 
-ghost use Rattle.std.specs.Prelude.{◌≡◌, ◌⊎◌, ◌++◌, IfOk, map};
+ghost use Rattle.std.specs.Prelude.{◌≡◌, ◌⊎◌, ◌++◌, IfOk, codes, map};
 ghost use Rattle.std.specs.List.{concat};
 ghost use Rattle.answer_text.specs.Lines.{IsSaid};
 ghost use Rattle.par_stream.specs.Lines.{line};
-ghost use Rattle.par_stream.specs.Stops.{IsRefusedRow, cause_text, stop_of_words, stop_status, stop_text, text_of};
+ghost use Rattle.par_stream.specs.Stops.{IsRefusedRow, cause_text, stop_of_words, stop_says};
 ghost use Rattle.table_query.specs.Lines.{refusal_text};
 ghost use Rattle.par_stream.specs.declared.stop.Stop.TheVariants as stop;
 
@@ -83,7 +83,7 @@ impl Cause {
 impl Stop {
     /// The exit status.
     fn status(&self) -> u8
-        ensures { result ≡ stop_status self.now }
+        ensures { result ≡ (stop_says self.now).0 }
     {
         match self {
             Stop::Usage | Stop::NoHeader | Stop::NoColumn(_) => MISUSED,
@@ -95,42 +95,34 @@ impl Stop {
         }
     }
 
-    /// What its line says, in pieces: of a row it is what comes after the row's number.
-    fn text(&self) -> (&str, &str, &str)
-        ensures { result.0.now ++ (result.1.now ++ result.2.now) ≡ text_of self.now }
-    {
-        match self {
-            Stop::Usage => (
-                "",
-                "",
-                "usage: parstream [--group COLUMNS] --agg ITEMS [--where FILTER] [--workers N]",
-            ),
-            Stop::ReadFault => ("read fault", "", ""),
-            Stop::NoHeader => ("no header", "", ""),
-            Stop::NoColumn(name) => ("no column ", name.as_str(), ""),
-            Stop::LongRecord(_) => ("longer than 67108864 bytes", "", ""),
-            Stop::Refused(_, cause) => cause.text(),
-            Stop::WriteFault => ("write fault", "", ""),
-            Stop::Memory => ("out of memory", "", ""),
-        }
-    }
-
     /// The pieces of its line.
     fn pieces<'a>(&'a self, digits: &'a mut itoa::Buffer) -> [&'a str; 8]
-        ensures { concat (map (λ piece. piece.now) result) ≡ line (stop_text self.now) }
+        ensures { concat (map (λ piece. piece.now) result) ≡ line (stop_says self.now).1 }
     {
-        let (row, number, colon) = match self {
-            Stop::Refused(row, _) | Stop::LongRecord(row) => ("row ", digits.format(*row), ": "),
-            _ => ("", "", ""),
-        };
-        let (text, name, rest) = self.text();
-        ["parstream: ", row, number, colon, text, name, rest, "\n"]
+        match self {
+            Stop::Usage => plain(
+                "usage: parstream [--group COLUMNS] --agg ITEMS [--where FILTER] [--workers N]",
+                "",
+            ),
+            Stop::ReadFault => plain("read fault", ""),
+            Stop::NoHeader => plain("no header", ""),
+            Stop::NoColumn(name) => plain("no column ", name.as_str()),
+            Stop::LongRecord(row) => {
+                of_row(digits.format(*row), "longer than 67108864 bytes", "", "")
+            }
+            Stop::Refused(row, cause) => {
+                let (text, name, rest) = cause.text();
+                of_row(digits.format(*row), text, name, rest)
+            }
+            Stop::WriteFault => plain("write fault", ""),
+            Stop::Memory => plain("out of memory", ""),
+        }
     }
 
     /// Writes the line, and gives the status.
     pub(crate) fn end<E: Sink>(&self, err: &mut E) -> u8
-        ensures said { IsSaid (E.taken err.old) (E.taken err.new) (E.faults err.old) (E.faults err.new) (line (stop_text self.now)) }
-        ensures status { result ≡ stop_status self.now }
+        ensures said { IsSaid (E.taken err.old) (E.taken err.new) (E.faults err.old) (E.faults err.new) (line (stop_says self.now).1) }
+        ensures status { result ≡ (stop_says self.now).0 }
     {
         self.report(err);
         self.status()
@@ -138,11 +130,25 @@ impl Stop {
 
     /// Writes the line. A failed write ends it, and changes nothing else.
     fn report<E: Sink>(&self, err: &mut E)
-        ensures { IsSaid (E.taken err.old) (E.taken err.new) (E.faults err.old) (E.faults err.new) (line (stop_text self.now)) }
+        ensures { IsSaid (E.taken err.old) (E.taken err.new) (E.faults err.old) (E.faults err.new) (line (stop_says self.now).1) }
     {
         let mut digits = itoa::Buffer::new();
         let _ = write_pieces(err, &self.pieces(&mut digits));
     }
+}
+
+/// The pieces of a line that names no row: a text, and a name after it.
+fn plain<'a>(text: &'a str, name: &'a str) -> [&'a str; 8]
+    ensures { concat (map (λ piece. piece.now) result) ≡ line (text.now ++ name.now) }
+{
+    ["parstream: ", "", "", "", text, name, "", "\n"]
+}
+
+/// The pieces of a line that names a row by its number: then come a text, a name, and a text.
+fn of_row<'a>(number: &'a str, text: &'a str, name: &'a str, rest: &'a str) -> [&'a str; 8]
+    ensures { concat (map (λ piece. piece.now) result) ≡ line ((codes "row " ++ (number.now ++ codes ": ")) ++ (text.now ++ (name.now ++ rest.now))) }
+{
+    ["parstream: ", "row ", number, ": ", text, name, rest, "\n"]
 }
 
 /// The reason that this row is refused, or want of memory.

@@ -45,18 +45,21 @@ cut-longer text n at cut =
       };
     }
 
+is-quoted : (s : State) → place_of s ≡ place.Quoted → s ≡ st.InQuoted
+is-quoted st.InQuoted h = refl
+is-quoted st.StartRecord h = cc
+is-quoted st.StartField h = cc
+is-quoted st.InField h = cc
+is-quoted st.AfterQuote h = cc
+is-quoted st.InEscape h = cc
+is-quoted st.InComment h = cc
+is-quoted st.AfterCr h = cc
+
 pub place-quoted : (s : State) → place_of s ≡ place.Quoted → is_quoted s ≡ true
-place-quoted st.InQuoted h = refl
-place-quoted st.StartRecord h = cc
-place-quoted st.StartField h = cc
-place-quoted st.InField h = cc
-place-quoted st.AfterQuote h = cc
-place-quoted st.InEscape h = cc
-place-quoted st.InComment h = cc
-place-quoted st.AfterCr h = cc
+place-quoted s h = ap is_quoted (is-quoted s h)
 
 -- and at no other place
 pub no-cut : (text : List ℕ) → NoneBelow text (length text) → NoCut text
 no-cut text none = λ at low lt line.
     let is = scan-follows st.StartRecord (take at text) refl in
-    place-quoted (state_after st.StartRecord (take at text)) (is.1 ∙ none at low lt line)
+    is-quoted (state_after st.StartRecord (take at text)) (is.1 ∙ none at low lt line)

@@ -1,7 +1,8 @@
 -- Where the bytes of a table can be cut, and lines that are too long to be read.
 use Rattle.std.specs.Prelude.{◌≡◌, ◌<◌, ◌==◌, ◌||◌, ◌++◌, Bool, true, ℕ, List, drop, length, slice_index, take}
 use Rattle.csv.specs.Reading.{strip_bom}
-use Rattle.csv_rows.specs.Cuts.{IsCut, ends_quoted}
+use Rattle.csv.specs.declared.parser.State.TheVariants as st
+use Rattle.csv_rows.specs.Cuts.{IsCut, state_after}
 use Rattle.csv_rows.specs.Records.{records_of}
 use Rattle.row_windows.specs.declared.window.TheConstants.{MOST_RECORD_BYTES}
 
@@ -25,9 +26,9 @@ pub record IsCutAt (text : List ℕ) (at : ℕ) : Type 0 where
   pub within : at < length text
   pub seam : IsSeam (take at text) (drop at text)
 
--- each end of a line behind the first byte of a text stands between quotes
+-- each end of a line after the first byte of a text is between quotes
 abbrev pub NoCut : List ℕ → Type 0
-NoCut text = (at : ℕ) → 0 < at → at < length text → is_line_end (slice_index text at) ≡ true → ends_quoted (take at text) ≡ true
+NoCut text = (at : ℕ) → 0 < at → at < length text → is_line_end (slice_index text at) ≡ true → state_after st.StartRecord (take at text) ≡ st.InQuoted
 
 -- a text begins with a record of more bytes than a record may have
 pub record IsLong (text : List ℕ) : Type 0 where

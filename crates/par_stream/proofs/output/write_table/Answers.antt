@@ -24,7 +24,7 @@ returns-in_err-write_each-clause-part g c =
     let Wrote : List (Vec ℕ) → Type 0 = λ pieces. Appends old new (take failed.0 (joined pieces)) in
     let wrote = subst Wrote c.deref.ensures.value failed.1 in
     IfErr-each c.from_residual-in_err-write_each.result (λ (why : Stop). why ≡ stop.WriteFault → (from : Option (List ℕ)) → AreGroupsOver query from c.args.read
-    → IfSome from (λ bytes. (text : List ℕ) × IsTableText (Some query.plan) bytes text × (n : ℕ) × Appends old new (take n text)))
+    → IfSome from (λ bytes. (text : List ℕ) × IsTableText (Some query) bytes text × (n : ℕ) × Appends old new (take n text)))
     (λ why _ from over. part_written query c.args.read (joined c.in_ok-pieces.pieces.items) from old new failed.0 c.in_ok-pieces.ensures over wrote)
 
 pub returns-clause-table : goal.returns-clause-table

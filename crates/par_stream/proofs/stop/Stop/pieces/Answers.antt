@@ -1,0 +1,35 @@
+use Rattle.std.proofs.Common.{rules, ◌≡◌, ◌++◌, ◌∙◌, codes, ℕ, List, ap, sym}
+use Rattle.std.specs.Prelude.{string_bytes}
+use Rattle.par_stream.specs.Lines.{line}
+use Rattle.par_stream.specs.Stops.{row_front, stop_says}
+use Rattle.par_stream.specs.declared.stop.Stop.{Stop}
+use Rattle.par_stream.proofs.stop.Stop.pieces.Goals as goal
+
+-- the line of a reason
+abbrev line_of : Stop → List ℕ
+line_of why = line (stop_says why).1
+
+pub returns-in-Usage : goal.returns-in-Usage
+returns-in-Usage c = c.plain.ensures ∙ sym (ap line_of c.in-Usage.is)
+
+pub returns-in-ReadFault : goal.returns-in-ReadFault
+returns-in-ReadFault c = c.plain-in-ReadFault.ensures ∙ sym (ap line_of c.in-ReadFault.is)
+
+pub returns-in-NoHeader : goal.returns-in-NoHeader
+returns-in-NoHeader c = c.plain-in-NoHeader.ensures ∙ sym (ap line_of c.in-NoHeader.is)
+
+pub returns-in-NoColumn : goal.returns-in-NoColumn
+returns-in-NoColumn c =
+    let name : c.as_str.result.now ≡ string_bytes c.in-NoColumn.name = search rules in
+    c.plain-in-NoColumn.ensures ∙ (ap (λ (n : List ℕ). line (codes "no column " ++ n)) name ∙ sym (ap line_of c.in-NoColumn.is))
+
+pub returns-in-LongRecord : goal.returns-in-LongRecord
+returns-in-LongRecord c =
+    let front : (codes "row " ++ (c.format.result.now ++ codes ": ")) ≡ row_front c.in-LongRecord.row = search rules in
+    c.of_row.ensures ∙ (ap (λ (f : List ℕ). line (f ++ codes "longer than 67108864 bytes")) front ∙ sym (ap line_of c.in-LongRecord.is))
+
+pub returns-in-WriteFault : goal.returns-in-WriteFault
+returns-in-WriteFault c = c.plain-in-WriteFault.ensures ∙ sym (ap line_of c.in-WriteFault.is)
+
+pub returns-in-Memory : goal.returns-in-Memory
+returns-in-Memory c = c.plain-in-Memory.ensures ∙ sym (ap line_of c.in-Memory.is)
