@@ -1,5 +1,6 @@
 #!/usr/bin/env python3
-"""Whether docs/EMBEDDING.md is true: its Rust and its C program are built as it says, and its commands print what stands there.
+"""Whether docs/EMBEDDING.md is true: its Rust and its C program are built as it says, and its commands print what stands there. And
+whether the C program of docs/PROCESSES.md is built and runs as that page says.
 
 Takes the folder that bindings/build has laid out.
 """
@@ -42,7 +43,7 @@ def same(what, got, want):
 
 CMAKE = """cmake_minimum_required(VERSION 3.10)
 project(tally C)
-find_package(lembokuj 0.2 REQUIRED)
+find_package(lembokuj 0.3 REQUIRED)
 add_executable(tally tally.c)
 target_link_libraries(tally lembokuj::lembokuj)
 """
@@ -54,6 +55,29 @@ def cmake(room, output):
         file.write(CMAKE)
     run("cmake -S . -B made -DCMAKE_PREFIX_PATH=$PWD/dist && cmake --build made", room)
     same("find_package(lembokuj)", run("made/tally", room), output)
+
+
+def processes(room):
+    """The program in Rust of docs/PROCESSES.md, both its parts in one, and its commands for the one in C."""
+    with open(f"{REPOSITORY}/docs/PROCESSES.md", encoding="utf-8") as file:
+        page = file.read()
+    parts = re.search(r"^```rust\n(.*?)^```$", page, re.M | re.S)[1]
+    added = re.search(r"`(cargo add [^`]*)`", page)[1]
+    run(f"cargo new --quiet sums && cd sums && {added}", room)
+    lines = [
+        "use lembokuj::processes::Region;",
+        "fn main() -> Result<(), Box<dyn std::error::Error>> {",
+        parts,
+        'println!("{}", std::str::from_utf8(rx.receive()?)?);',
+        'Ok(Region::unlink("lk.sums")?)',
+        "}",
+    ]
+    with open(f"{room}/sums/src/main.rs", "w", encoding="utf-8") as file:
+        file.write("\n".join(lines).replace("lk.sums", f"lk.sums.{os.getpid()}"))
+    same("docs/PROCESSES.md: its program in Rust", run("cargo run --quiet --offline", f"{room}/sums"), "hello\n")
+    commands = re.search(r"(?:^    .*partial_sums.*\n|^       .*\n)+", page, re.M)[0]
+    last = run(commands, room).splitlines()[-1:]
+    same("docs/PROCESSES.md: partial_sums", last, ["partial_sums: 300000 lines, sum 45000150000"])
 
 
 def main():
@@ -92,7 +116,9 @@ def main():
             same(lines, run(lines, room), output)
         if shutil.which("cmake"):
             cmake(room, output)
-    print("embedding: as docs/EMBEDDING.md says")
+        if sys.platform == "linux":
+            processes(room)
+    print("embedding: as docs/EMBEDDING.md and docs/PROCESSES.md say")
 
 
 main()

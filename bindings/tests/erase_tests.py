@@ -7,6 +7,7 @@ import io
 import os
 import tempfile
 import unittest
+from unittest import mock
 
 HERE = os.path.dirname(os.path.abspath(__file__))
 
@@ -266,12 +267,25 @@ class Workspaces(unittest.TestCase):
         with tempfile.TemporaryDirectory() as folder:
             self.workspace(folder, {"crates/region_words/src/lib.rt": "mod region;", "crates/region_words/src/region.rt": "fn f() {}\n"})
             files = tool.erase_crate("region_words", folder)
-            self.assertEqual(sorted(files), ["lib.rs", "region.rs", "region/slices.rs"])
-            self.assertTrue(files["region.rs"].endswith("fn f() {}\n\nmod slices;\n"))
+            self.assertEqual(sorted(files), ["lib.rs", "region.rs", "region/mapped.rs", "region/slices.rs"])
+            where = f"#[cfg({tool.WITH_MAPPINGS})]\n"
+            self.assertTrue(files["region.rs"].endswith(f"fn f() {{}}\n\nmod slices;\n\n{where}mod mapped;\n"))
             self.workspace(folder, {"crates/region_words/src/lib.rt": "fn f() {}"})
             with self.assertRaises(tool.Refused):
                 tool.erase_crate("region_words", folder)
 
+    def test_a_variant_is_its_source_with_each_change_made_once(self):
+        with tempfile.TemporaryDirectory() as folder, mock.patch.object(tool, "VARIANTS", {"high": ("low", (("lib.rs", "u64", "u32"),))}):
+            self.workspace(folder, {"crates.txt": "low:\n", "crates/low/src/lib.rt": "fn f() -> u64 requires { x } { 0 }"})
+            self.assertEqual(tool.read_crates(os.path.join(folder, "crates.txt")), {"low": [], "high": []})
+            self.assertIn("fn f() -> u64", tool.erase_crate("low", folder)["lib.rs"])
+            self.assertIn("fn f() -> u32", tool.erase_crate("high", folder)["lib.rs"])
+            for other in ("fn f() -> u8 { 0 }", "fn f(n: u64) -> u64 { n }"):
+                self.workspace(folder, {"crates/low/src/lib.rt": other})
+                with self.assertRaises(tool.Refused):
+                    tool.erase_crate("high", folder)
+
+    @mock.patch.object(tool, "VARIANTS", {})
     def test_where_one_is_refused_nothing_is_written(self):
         with tempfile.TemporaryDirectory() as folder:
             files = {"crates.txt": "".join(f"{root}:\n" for root in tool.ROOTS)}
@@ -286,6 +300,7 @@ class Workspaces(unittest.TestCase):
             tool.make_workspace(out, folder)
             self.assertEqual(sorted(os.listdir(os.path.join(out, "crates"))), sorted(tool.ROOTS))
 
+    @mock.patch.object(tool, "VARIANTS", {})
     def test_only_what_an_earlier_run_made_is_removed(self):
         with tempfile.TemporaryDirectory() as folder:
             files = {"crates.txt": "".join(f"{root}:\n" for root in tool.ROOTS)}

@@ -21,7 +21,7 @@ pub(crate) const MOST_CALLERS: u32 = 4_096;
 /// The longest request, in bytes.
 const MOST_BYTES: u64 = 1 << 30;
 
-/// Why there is no area.
+/// Why there is no area, or, of one that processes share, why a call was refused.
 #[derive(Clone, Copy, Debug, PartialEq, Eq)]
 #[non_exhaustive]
 pub enum AreaError {
@@ -31,12 +31,26 @@ pub enum AreaError {
     Callers,
     /// There is no memory.
     Memory,
+    /// Of an area that processes share: the pages that the request takes are not free in a row, or more than 2^28 bytes were
+    /// asked for.
+    NoSpace,
+    /// Of an area that processes share: no chunk of this area was posted by the ticket, or it was fetched already; or the chunk is
+    /// of another area.
+    Stranger,
+    /// Of an area that processes share: a process ended while it had a lock that the call needs, and what that guards is lost.
+    OwnerDied,
+    /// Of an area that processes share: the region is damaged.
+    Damaged,
 }
 
 errors!(AreaError {
     Pages => "an area has at most 65536 pages",
     Callers => "an area has 1 to 4096 callers",
     Memory => "out of memory",
+    NoSpace => "no space",
+    Stranger => "no chunk of this area, or no ticket of one",
+    OwnerDied => "a process ended while it had the lock",
+    Damaged => "the region is damaged",
 });
 
 /// The area has no row of free pages that is long enough for the request.

@@ -4,6 +4,8 @@ use crate::area::MOST_CALLERS;
 use crate::bell::awake;
 use crate::errors;
 use crate::limit::{Limit, Over};
+#[cfg(processes)]
+use crate::processes::Party;
 use crate::shared::{reserved, shared};
 use par_barrier::{BarrierAnswer, BarrierPass};
 use rattle_std::alloc::Global;
@@ -27,6 +29,10 @@ pub enum BarrierError {
     NotIn,
     /// The caller has arrived in this phase already.
     Twice,
+    /// Of a barrier of processes: one ended while it had the barrier's lock, and the barrier is lost for all.
+    OwnerDied,
+    /// Of a barrier of processes: the region is damaged.
+    Damaged,
 }
 
 errors!(BarrierError {
@@ -35,6 +41,8 @@ errors!(BarrierError {
     AlreadyIn => "the caller takes part already",
     NotIn => "the caller does not take part",
     Twice => "the caller has arrived in this phase already",
+    OwnerDied => "a process ended while it had the lock",
+    Damaged => "the region is damaged",
 });
 
 impl From<BarrierAnswer> for BarrierError {
@@ -117,6 +125,20 @@ impl Shared {
 /// # Ok::<(), lembokuj::BarrierError>(())
 /// ```
 pub struct Barrier {
+    at: At,
+}
+
+/// The place of a barrier.
+enum At {
+    /// In memory of this process.
+    Threads(Caller),
+    /// In a mapping.
+    #[cfg(processes)]
+    Processes(Party),
+}
+
+/// A caller of a barrier in memory of this process.
+struct Caller {
     shared: Arc<Shared>,
     /// Some up to the drop.
     pass: Option<BarrierPass>,
@@ -124,8 +146,24 @@ pub struct Barrier {
 
 impl fmt::Debug for Barrier {
     fn fmt(&self, f: &mut fmt::Formatter<'_>) -> fmt::Result {
-        write!(f, "Barrier {{ caller: {:?} }}", self.pass.as_ref().map(BarrierPass::number))
+        let number = match &self.at {
+            At::Threads(caller) => caller.pass.as_ref().map(BarrierPass::number),
+            #[cfg(processes)]
+            At::Processes(party) => Some(party.number()),
+        };
+        write!(f, "Barrier {{ caller: {number:?} }}")
     }
+}
+
+/// Makes a call of the caller, wherever the barrier is.
+macro_rules! at {
+    ($barrier:expr, $caller:ident => $call:expr) => {
+        match $barrier {
+            At::Threads($caller) => $call,
+            #[cfg(processes)]
+            At::Processes($caller) => $call,
+        }
+    };
 }
 
 impl Barrier {
@@ -165,22 +203,27 @@ impl Barrier {
             spare: Mutex::new(spare),
         };
         let shared = shared(common).map_err(|_| BarrierError::Memory)?;
-        let mut first = Barrier { shared, pass };
+        let mut first = Caller { shared, pass };
         first.attach()?;
-        Ok(first)
+        Ok(Barrier { at: At::Threads(first) })
+    }
+
+    /// The handle of a caller of processes.
+    #[cfg(processes)]
+    pub(crate) fn of_processes(party: Party) -> Barrier {
+        Barrier { at: At::Processes(party) }
     }
 
     /// One more handle, whose caller takes part from the phase that is on; None if all that the barrier was made for are out. A
-    /// handle that is dropped makes room for another.
+    /// handle that is dropped makes room for another; of a barrier of processes it does not.
     #[must_use]
     pub fn handle(&self) -> Option<Barrier> {
-        let pass = self.shared.spare.lock().unwrap_or_else(PoisonError::into_inner).pop()?;
-        let mut handle = Barrier {
-            shared: Arc::clone(&self.shared),
-            pass: Some(pass),
+        let at = match &self.at {
+            At::Threads(caller) => At::Threads(caller.another()?),
+            #[cfg(processes)]
+            At::Processes(party) => At::Processes(party.another()?),
         };
-        // A pass that is not out takes no part, so this is never refused.
-        handle.attach().ok().map(|_| handle)
+        Some(Barrier { at })
     }
 
     /// The caller takes part again. The phase that is on.
@@ -189,7 +232,7 @@ impl Barrier {
     ///
     /// [`BarrierError::AlreadyIn`].
     pub fn attach(&mut self) -> Result<u64, BarrierError> {
-        self.call(|barrier, pass| barrier.attach(&crate::HOST, pass))
+        at!(&mut self.at, caller => caller.attach())
     }
 
     /// Arrives, and waits until all who take part have: awake for some microseconds, and then asleep. It waits forever if one of
@@ -232,9 +275,7 @@ impl Barrier {
     ///
     /// As [`Barrier::wait`].
     pub fn arrive(&mut self) -> Result<Option<Arrival>, BarrierError> {
-        let arrival = self.call(|barrier, pass| barrier.arrive(&crate::HOST, pass))?;
-        self.shared.wake();
-        Ok(told(arrival))
+        at!(&mut self.at, caller => caller.arrive())
     }
 
     /// Whether the phase has ended in which the caller arrived. It changes nothing.
@@ -243,7 +284,7 @@ impl Barrier {
     ///
     /// [`BarrierError::NotIn`].
     pub fn look(&mut self) -> Result<Option<Arrival>, BarrierError> {
-        self.call(|barrier, pass| barrier.look(&crate::HOST, pass)).map(told)
+        at!(&mut self.at, caller => caller.look())
     }
 
     /// The caller takes part no more. If all who stay have arrived, the phase ends. Says whether nobody is left.
@@ -252,9 +293,30 @@ impl Barrier {
     ///
     /// [`BarrierError::NotIn`].
     pub fn detach(&mut self) -> Result<bool, BarrierError> {
-        let left = self.call(|barrier, pass| barrier.detach(&crate::HOST, pass))?;
-        self.shared.wake();
-        Ok(left.last)
+        at!(&mut self.at, caller => caller.detach())
+    }
+
+    fn wait_by(&mut self, limit: &mut Limit<'_>) -> Result<Option<Arrival>, BarrierError> {
+        if let Some(arrival) = self.arrive()? {
+            return Ok(Some(arrival));
+        }
+        match awake(&mut || self.look().transpose()) {
+            None => at!(&mut self.at, caller => caller.sleep(limit)),
+            found => found.transpose(),
+        }
+    }
+}
+
+impl Caller {
+    /// A caller that was not out.
+    fn another(&self) -> Option<Caller> {
+        let pass = self.shared.spare.lock().unwrap_or_else(PoisonError::into_inner).pop()?;
+        let mut caller = Caller {
+            shared: Arc::clone(&self.shared),
+            pass: Some(pass),
+        };
+        // A pass that is not out takes no part, so this is never refused.
+        caller.attach().ok().map(|_| caller)
     }
 
     fn call<T>(
@@ -265,17 +327,30 @@ impl Barrier {
         Ok(ask(&self.shared.barrier, pass)?)
     }
 
-    fn wait_by(&mut self, limit: &mut Limit<'_>) -> Result<Option<Arrival>, BarrierError> {
-        if let Some(arrival) = self.arrive()? {
-            return Ok(Some(arrival));
-        }
+    fn attach(&mut self) -> Result<u64, BarrierError> {
+        self.call(|barrier, pass| barrier.attach(&crate::HOST, pass))
+    }
+
+    fn arrive(&mut self) -> Result<Option<Arrival>, BarrierError> {
+        let arrival = self.call(|barrier, pass| barrier.arrive(&crate::HOST, pass))?;
+        self.shared.wake();
+        Ok(told(arrival))
+    }
+
+    fn look(&mut self) -> Result<Option<Arrival>, BarrierError> {
+        self.call(|barrier, pass| barrier.look(&crate::HOST, pass)).map(told)
+    }
+
+    fn detach(&mut self) -> Result<bool, BarrierError> {
+        let left = self.call(|barrier, pass| barrier.detach(&crate::HOST, pass))?;
+        self.shared.wake();
+        Ok(left.last)
+    }
+
+    /// Sleeps until the phase in which the caller arrived has ended, or the limit is reached.
+    fn sleep(&mut self, limit: &mut Limit<'_>) -> Result<Option<Arrival>, BarrierError> {
         let shared = Arc::clone(&self.shared);
-        let mut look = || self.look().transpose();
-        let found = match awake(&mut look) {
-            None => shared.sleep(limit, look),
-            found => found,
-        };
-        found.transpose()
+        shared.sleep(limit, || self.look().transpose()).transpose()
     }
 }
 
@@ -289,7 +364,7 @@ fn told(arrival: par_barrier::Arrival) -> Option<Arrival> {
     }
 }
 
-impl Drop for Barrier {
+impl Drop for Caller {
     fn drop(&mut self) {
         let _ = self.detach();
         let pass = self.pass.take();

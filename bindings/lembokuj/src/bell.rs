@@ -143,7 +143,7 @@ impl Bell {
             return Some(done);
         }
         self.attach_thread(&self.parker);
-        let done = asleep(&self.parker, limit, &mut attempt);
+        let done = asleep(&self.parker, limit, None, &mut attempt);
         self.detach();
         done
     }
@@ -164,14 +164,20 @@ pub(crate) fn awake<T>(attempt: &mut impl FnMut() -> Option<T>) -> Option<T> {
     None
 }
 
-/// Tries by a thread that sleeps in between: its parker is attached to the bells that ring for something new.
-pub(crate) fn asleep<T>(parker: &Parker, limit: &mut Limit<'_>, attempt: &mut impl FnMut() -> Option<T>) -> Option<T> {
+/// Tries by a thread that sleeps in between, no longer than a nap if there is one: its parker is attached to the bells that ring for
+/// something new.
+pub(crate) fn asleep<T>(
+    parker: &Parker,
+    limit: &mut Limit<'_>,
+    nap: Option<Duration>,
+    attempt: &mut impl FnMut() -> Option<T>,
+) -> Option<T> {
     loop {
         if let Some(done) = attempt() {
             return Some(done);
         }
         match limit.next_sleep() {
-            Ok(time) => parker.park(time),
+            Ok(time) => parker.park(time.into_iter().chain(nap).min()),
             // The other end may have come meanwhile.
             Err(Over) => return attempt(),
         }

@@ -1,4 +1,4 @@
-//! Causes of refusals as errors. `lembokuj_processes` has this file too.
+//! Causes of refusals as errors.
 
 /// Gives an enum of causes a text for each, and makes it an error.
 macro_rules! errors {

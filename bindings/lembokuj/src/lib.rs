@@ -1,7 +1,8 @@
 // SPDX-License-Identifier: PostgreSQL
 //! Objects that the threads of one process share, over regions of words: queues, a hash table, an allocator, barriers, tables of
 //! contents. They are those of Lembokuj's runtime for parallel queries, in the manner of PostgreSQL's `shm_mq`, `dshash`, `dsa`,
-//! `barrier` and `shm_toc`. Other processes can't see them: what lies in a region is reached through Rust's own references.
+//! `barrier` and `shm_toc`. Other processes can't see them: what lies in a region is reached through Rust's own references. Those that several
+//! processes share are in the module `processes`, with the feature of that name, on Linux.
 //!
 //! | you want | begin at | what was proved below it |
 //! |---|---|---|
@@ -49,7 +50,8 @@
 //! **Hostile keys.** The hash of a [`Table`] is fixed and known (HashDoS). **A new chunk** of an [`Area`] holds whatever its last
 //! owner left there.
 
-#![forbid(unsafe_code)]
+#![cfg_attr(not(processes), forbid(unsafe_code))]
+#![deny(unsafe_code)]
 #![warn(missing_docs)]
 
 mod area;
@@ -57,7 +59,10 @@ mod barrier;
 mod bell;
 mod causes;
 mod limit;
+mod link;
 mod owned;
+#[cfg(processes)]
+pub mod processes;
 mod queue;
 mod region;
 mod rows;

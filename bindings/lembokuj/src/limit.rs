@@ -1,4 +1,4 @@
-//! How long a wait may last. `lembokuj_processes` has this file too.
+//! How long a wait may last.
 
 use std::time::{Duration, Instant};
 

@@ -6,10 +6,11 @@
 use crate::bell::Bell;
 use crate::errors;
 use crate::limit::Limit;
+use crate::link::{Common, Damage, Link, Side};
 use crate::shared::{Opaque, reserved, shared};
 use mq_handle::{ReceiveAnswer, Receiver, SendAnswer, Sender, attach};
 use mq_ring::{Ring, is_ring_size};
-use rattle_std::alloc::Global;
+use rattle_std::alloc::{AllocError, Global};
 use region_words::Region;
 use std::sync::Arc;
 use std::time::Duration;
@@ -54,6 +55,10 @@ pub enum SendError {
     /// A part of another message is on the ring, after the answer [`SendError::Begun`]: send that one again first. Nothing was
     /// stored.
     OtherMessage,
+    /// Of a queue between processes: the receiver's process ended before it left.
+    PeerDied,
+    /// Of a queue between processes: the region is damaged.
+    Damaged,
 }
 
 errors!(SendError {
@@ -62,6 +67,8 @@ errors!(SendError {
     WouldBlock => "the ring has no room for the message",
     Begun => "a part of the message is on the ring; send the same message again",
     OtherMessage => "a part of another message is on the ring; send that one again first",
+    PeerDied => "the receiver's process has ended",
+    Damaged => "the region is damaged",
 });
 
 /// Why a receiver has no message.
@@ -72,30 +79,41 @@ pub enum ReceiveError {
     WouldBlock,
     /// The sender has gone, and all its messages were received.
     Detached,
+    /// Of a queue between processes: the sender's process ended before it left, and all whole messages that it had shown were
+    /// received.
+    PeerDied,
+    /// Of a queue between processes: the region is damaged.
+    Damaged,
 }
 
 errors!(ReceiveError {
     WouldBlock => "no whole message is there",
     Detached => "the sender is gone, and all its messages were received",
+    PeerDied => "the sender's process has ended, and all its messages were received",
+    Damaged => "the region is damaged",
 });
 
-/// What both ends share: the words, and what each of them sleeps at.
-#[derive(Debug)]
-struct Common {
-    words: Opaque<Region>,
-    sender: Bell,
-    receiver: Bell,
+impl From<Damage> for SendError {
+    fn from(_: Damage) -> SendError {
+        SendError::Damaged
+    }
+}
+
+impl From<Damage> for ReceiveError {
+    fn from(_: Damage) -> ReceiveError {
+        ReceiveError::Damaged
+    }
 }
 
 /// The sending end. If it is dropped, the receiver gets what was sent and then [`ReceiveError::Detached`].
 #[derive(Debug)]
 pub struct Tx {
-    common: Arc<Common>,
+    link: Link,
     end: Opaque<Sender>,
     max: u32,
     ring_words: u64,
-    /// Whether a call found that the receiver has gone.
-    receiver_is_gone: bool,
+    /// What a call found that ends the queue: the receiver has gone, or its process, or the region is damaged.
+    over: Option<SendError>,
     /// The message of which a part is on the ring. Its memory was reserved with the queue, and is kept.
     pending: Vec<u8>,
     is_pending: bool,
@@ -104,13 +122,16 @@ pub struct Tx {
 /// The receiving end. If it is dropped, the sender is answered [`SendError::Detached`].
 #[derive(Debug)]
 pub struct Rx {
-    common: Arc<Common>,
+    link: Link,
     end: Opaque<Receiver>,
     /// What a wait for several receivers found here, which the next call returns.
-    held: Option<ReceiveAnswer>,
+    held: Option<Taken>,
     /// When such a wait last chose this one.
     pub(crate) chosen: u64,
 }
+
+/// What a look for a message found.
+type Taken = Result<ReceiveAnswer, Damage>;
 
 /// Makes a queue over a ring of `ring_words` words of 8 bytes, a power of two up to 2^20, for messages of at most `max_bytes`
 /// bytes, 2^20 at most. On the ring a message takes a word and its bytes, rounded up to 8. A message may be longer than the ring,
@@ -174,29 +195,47 @@ pub fn queue(ring_words: u64, max_bytes: u32) -> Result<(Tx, Rx), QueueError> {
     let chunk = part.split_chunk(&region, 1, ring_words + RING_HEAD);
     let (tx, rx) = Ring::create(&region, chunk, ring_words, 0, max_bytes);
     let (sender, receiver) = attach(Global, tx, rx).map_err(|_| QueueError::Memory)?;
-    let pending = reserved(max_bytes as usize).map_err(|_| QueueError::Memory)?;
     let common = Common {
         words: Opaque(region),
         sender: Bell::new().map_err(|_| QueueError::Memory)?,
         receiver: Bell::new().map_err(|_| QueueError::Memory)?,
     };
     let common = shared(common).map_err(|_| QueueError::Memory)?;
-    let tx = Tx {
-        common: Arc::clone(&common),
-        end: Opaque(sender),
-        max: max_bytes,
-        ring_words,
-        receiver_is_gone: false,
-        pending,
-        is_pending: false,
-    };
-    let rx = Rx {
-        common,
-        end: Opaque(receiver),
-        held: None,
-        chosen: 0,
-    };
-    Ok((tx, rx))
+    let tx = Tx::over(Link::Threads(Arc::clone(&common), Side::Sender), sender, max_bytes, ring_words);
+    let rx = Rx::over(Link::Threads(common, Side::Receiver), receiver);
+    Ok((tx.map_err(|_| QueueError::Memory)?, rx))
+}
+
+/// A message, in one slice or in several whose bytes lie in a row.
+#[derive(Clone, Copy)]
+enum Message<'a> {
+    One(&'a [u8]),
+    Parts(&'a [&'a [u8]]),
+}
+
+impl Message<'_> {
+    fn len(self) -> usize {
+        match self {
+            Message::One(bytes) => bytes.len(),
+            Message::Parts(parts) => parts.iter().fold(0, |sum: usize, part| sum.saturating_add(part.len())),
+        }
+    }
+
+    fn is(self, bytes: &[u8]) -> bool {
+        match self {
+            Message::One(message) => message == bytes,
+            Message::Parts(parts) => parts.iter().copied().flatten().eq(bytes),
+        }
+    }
+
+    /// Puts its bytes into a list, which has room for them.
+    fn put_into(self, list: &mut Vec<u8>) {
+        list.clear();
+        match self {
+            Message::One(message) => list.extend_from_slice(message),
+            Message::Parts(parts) => parts.iter().for_each(|part| list.extend_from_slice(part)),
+        }
+    }
 }
 
 /// How a message goes to the ring.
@@ -218,6 +257,19 @@ const LATER: Way = Way {
 };
 
 impl Tx {
+    /// The sending end of a queue over a ring on which nothing was put. It takes memory for the greatest message.
+    pub(crate) fn over(link: Link, end: Sender, max: u32, ring_words: u64) -> Result<Tx, AllocError> {
+        Ok(Tx {
+            pending: reserved(max as usize)?,
+            link,
+            end: Opaque(end),
+            max,
+            ring_words,
+            over: None,
+            is_pending: false,
+        })
+    }
+
     /// Sends a message without waiting, as a whole or not at all, and shows it to the receiver at once. It costs one load, a store
     /// for each word and one for the count. The receiver gives room back when it has taken a quarter of the ring, or finds
     /// nothing there: so a message of more than three quarters may have to wait for the latter.
@@ -226,7 +278,7 @@ impl Tx {
     ///
     /// [`SendError`]; nothing was stored, unless it is [`SendError::Begun`] for the rest of a message that was begun by parts.
     pub fn try_send(&mut self, message: &[u8]) -> Result<(), SendError> {
-        self.keeping(message, |tx| tx.try_put(message, AT_ONCE))
+        self.keeping(Message::One(message), |tx, message| tx.try_put(message, AT_ONCE))
     }
 
     /// As [`Tx::try_send`], but the receiver may see the message only after a later call or [`Tx::flush`]: at most a quarter of
@@ -236,7 +288,7 @@ impl Tx {
     ///
     /// As [`Tx::try_send`].
     pub fn try_send_later(&mut self, message: &[u8]) -> Result<(), SendError> {
-        self.keeping(message, |tx| tx.try_put(message, LATER))
+        self.keeping(Message::One(message), |tx, message| tx.try_put(message, LATER))
     }
 
     /// Stores as much of a message as has room. After [`SendError::Begun`] the message belongs to this queue: until a call with
@@ -250,7 +302,7 @@ impl Tx {
             by_parts: true,
             ..AT_ONCE
         };
-        self.keeping(message, |tx| tx.try_put(message, by_parts))
+        self.keeping(Message::One(message), |tx, message| tx.try_put(message, by_parts))
     }
 
     /// Sends a message, and waits while the ring is full: awake for some microseconds, and then asleep until the receiver has done
@@ -260,7 +312,7 @@ impl Tx {
     ///
     /// [`SendError::Detached`], [`SendError::TooLong`], [`SendError::OtherMessage`].
     pub fn send(&mut self, message: &[u8]) -> Result<(), SendError> {
-        self.keeping(message, |tx| tx.put(message, true, &mut Limit::Forever))
+        self.keeping(Message::One(message), |tx, message| tx.put(message, true, &mut Limit::Forever))
     }
 
     /// As [`Tx::send`], but the receiver may see the message only later, as by [`Tx::try_send_later`].
@@ -269,7 +321,7 @@ impl Tx {
     ///
     /// As [`Tx::send`].
     pub fn send_later(&mut self, message: &[u8]) -> Result<(), SendError> {
-        self.keeping(message, |tx| tx.put(message, false, &mut Limit::Forever))
+        self.keeping(Message::One(message), |tx, message| tx.put(message, false, &mut Limit::Forever))
     }
 
     /// As [`Tx::send`], but waits no longer than this time.
@@ -279,7 +331,7 @@ impl Tx {
     /// As [`Tx::send`]; and at the end of the time [`SendError::WouldBlock`], with nothing stored, or [`SendError::Begun`] for a
     /// message that is longer than the ring.
     pub fn send_timeout(&mut self, message: &[u8], time: Duration) -> Result<(), SendError> {
-        self.keeping(message, |tx| tx.put(message, true, &mut Limit::after(time)))
+        self.keeping(Message::One(message), |tx, message| tx.put(message, true, &mut Limit::after(time)))
     }
 
     /// As [`Tx::send`], but waits only while the function says so, which is asked when the wait begins to sleep and then about every
@@ -289,31 +341,35 @@ impl Tx {
     ///
     /// As [`Tx::send_timeout`].
     pub fn send_while(&mut self, message: &[u8], mut go_on: impl FnMut() -> bool) -> Result<(), SendError> {
-        self.keeping(message, |tx| tx.put(message, true, &mut Limit::While(&mut go_on)))
+        self.keeping(Message::One(message), |tx, message| tx.put(message, true, &mut Limit::While(&mut go_on)))
     }
 
-    /// Sends slices as one message, their bytes in a row, as [`Tx::send`] does. They are copied once more.
+    /// Sends slices as one message, their bytes in a row, as [`Tx::send`] does: the receiver gets the same as of a message in
+    /// one. The bytes are copied to the ring by way of 512 bytes of the stack, for each of which the slices are gone over.
     ///
     /// # Errors
     ///
     /// As [`Tx::send`].
     pub fn send_slices(&mut self, slices: &[&[u8]]) -> Result<(), SendError> {
-        self.joined(slices, |tx, message| tx.put(message, true, &mut Limit::Forever))
+        self.keeping(Message::Parts(slices), |tx, message| tx.put(message, true, &mut Limit::Forever))
     }
 
-    /// Sends slices as one message, their bytes in a row, as [`Tx::try_send`] does. They are copied once more.
+    /// Sends slices as one message, their bytes in a row, as [`Tx::try_send`] does: nothing is stored unless all of it has room. It
+    /// costs as much as [`Tx::send_slices`].
     ///
     /// # Errors
     ///
     /// As [`Tx::try_send`].
     pub fn try_send_slices(&mut self, slices: &[&[u8]]) -> Result<(), SendError> {
-        self.joined(slices, |tx, message| tx.try_put(message, AT_ONCE))
+        self.keeping(Message::Parts(slices), |tx, message| tx.try_put(message, AT_ONCE))
     }
 
     /// Shows the receiver all that was sent.
     pub fn flush(&mut self) {
-        self.end.0.flush(&self.common.words.0);
-        self.common.receiver.ring();
+        if self.over.is_none() && self.link.call(|words| self.end.0.flush(words)).is_err() {
+            self.over = Some(SendError::Damaged);
+        }
+        self.link.ring();
     }
 
     /// Ends the queue for the sender: as dropping it.
@@ -326,7 +382,8 @@ impl Tx {
     pub fn close(self) {}
 
     /// Sends a message for a task: as [`Tx::send`], but pending while the ring is full. If it is given up while it is pending, a
-    /// message that is longer than the ring may have been begun.
+    /// message that is longer than the ring may have been begun. Between processes nobody wakes a task: there each poll that is
+    /// pending asks for the next one at once, so the executor stays awake.
     ///
     /// # Errors
     ///
@@ -340,35 +397,45 @@ impl Tx {
     #[cfg(feature = "async")]
     pub fn poll_send(&mut self, task: &mut std::task::Context<'_>, message: &[u8]) -> std::task::Poll<Result<(), SendError>> {
         use std::task::Poll;
+        let message = Message::One(message);
         let way = Way {
             flush: true,
             by_parts: self.is_longer_than_ring(message),
         };
-        let answer = self.keeping(message, |tx| tx.try_put(message, way));
+        let answer = self.keeping(message, |tx, message| tx.try_put(message, way));
         if !lacks_room(answer) {
             return Poll::Ready(answer);
         }
-        self.common.sender.attach_task(task.waker());
-        let answer = self.keeping(message, |tx| tx.try_put(message, way));
+        self.link.attach_task(task);
+        let answer = self.keeping(message, |tx, message| tx.try_put(message, way));
         if lacks_room(answer) {
             return Poll::Pending;
         }
-        self.common.sender.detach();
+        self.link.detach_task();
         Poll::Ready(answer)
     }
 
     /// Whether the words of a message, its length and its bytes, are more than the ring has.
-    fn is_longer_than_ring(&self, message: &[u8]) -> bool {
+    fn is_longer_than_ring(&self, message: Message<'_>) -> bool {
         1 + message.len().div_ceil(8) as u64 > self.ring_words
     }
 
     /// Makes a call of which nothing hinders the message, and keeps it if a part of it is on the ring then.
-    fn keeping(&mut self, message: &[u8], call: impl FnOnce(&mut Tx) -> Result<(), SendError>) -> Result<(), SendError> {
-        self.fits(message.len())?;
-        if self.is_pending && self.pending != message {
+    fn keeping(
+        &mut self,
+        message: Message<'_>,
+        call: impl FnOnce(&mut Tx, Message<'_>) -> Result<(), SendError>,
+    ) -> Result<(), SendError> {
+        if message.len() > self.max as usize {
+            return Err(SendError::TooLong);
+        }
+        if let Some(over) = self.over {
+            return Err(over);
+        }
+        if self.is_pending && !message.is(&self.pending) {
             return Err(SendError::OtherMessage);
         }
-        let answer = call(self);
+        let answer = call(self, message);
         if answer == Err(SendError::Begun) {
             self.keep(message);
         }
@@ -376,74 +443,49 @@ impl Tx {
     }
 
     /// A part of the message is on the ring, and no other may come next.
-    fn keep(&mut self, message: &[u8]) {
+    fn keep(&mut self, message: Message<'_>) {
         if !self.is_pending {
-            self.pending.clear();
-            self.pending.extend_from_slice(message);
+            message.put_into(&mut self.pending);
             self.is_pending = true;
         }
     }
 
-    /// The same with the bytes of slices in a row, which are put together in the memory for the pending message.
-    fn joined(
-        &mut self,
-        slices: &[&[u8]],
-        call: impl FnOnce(&mut Tx, &[u8]) -> Result<(), SendError>,
-    ) -> Result<(), SendError> {
-        self.fits(slices.iter().fold(0, |sum: usize, slice| sum.saturating_add(slice.len())))?;
-        if !self.is_pending {
-            self.pending.clear();
-            for slice in slices {
-                self.pending.extend_from_slice(slice);
-            }
-        } else if !slices.iter().copied().flatten().eq(&self.pending) {
-            return Err(SendError::OtherMessage);
-        }
-        let message = std::mem::take(&mut self.pending);
-        let answer = call(self, &message);
-        self.pending = message;
-        self.is_pending |= answer == Err(SendError::Begun);
-        answer
+    /// One try of the ring's end. What is left of a message that was begun goes by parts, whatever the way.
+    fn put_once(&mut self, message: Message<'_>, way: Way) -> Result<SendAnswer, Damage> {
+        let Way { flush, by_parts } = way;
+        let by_parts = by_parts || self.is_pending;
+        let end = &mut self.end.0;
+        self.link.call(|words| match (message, by_parts) {
+            (Message::One(bytes), true) => end.try_send(words, bytes, flush),
+            (Message::One(bytes), false) => end.try_send_whole(words, bytes, flush),
+            (Message::Parts(parts), true) => end.try_send_parts(words, parts, flush),
+            (Message::Parts(parts), false) => end.try_send_parts_whole(words, parts, flush),
+        })
     }
 
-    /// Whether a message of this length may go to this receiver at all.
-    fn fits(&self, bytes: usize) -> Result<(), SendError> {
-        if bytes > self.max as usize {
-            Err(SendError::TooLong)
-        } else if self.receiver_is_gone {
-            Err(SendError::Detached)
-        } else {
-            Ok(())
-        }
-    }
-
-    /// One try. What is left of a message that was begun goes by parts, whatever the way.
-    fn try_put(&mut self, message: &[u8], way: Way) -> Result<(), SendError> {
-        let words = &self.common.words.0;
-        let answer = if way.by_parts || self.is_pending {
-            self.end.0.try_send(words, message, way.flush)
-        } else {
-            self.end.0.try_send_whole(words, message, way.flush)
-        };
-        self.common.receiver.ring();
-        match answer {
-            SendAnswer::Sent => {
+    /// One try.
+    fn try_put(&mut self, message: Message<'_>, way: Way) -> Result<(), SendError> {
+        let answer = self.put_once(message, way);
+        self.link.ring();
+        let over = match answer {
+            Ok(SendAnswer::Sent) => {
                 self.is_pending = false;
-                Ok(())
+                return Ok(());
             }
-            SendAnswer::WouldBlock { stored: 0 } => Err(SendError::WouldBlock),
-            SendAnswer::WouldBlock { .. } => Err(SendError::Begun),
-            SendAnswer::Detached => {
-                self.receiver_is_gone = true;
-                Err(SendError::Detached)
-            }
-            SendAnswer::TooLong { .. } => Err(SendError::TooLong),
-        }
+            Ok(SendAnswer::WouldBlock { stored: 0 }) => return Err(SendError::WouldBlock),
+            Ok(SendAnswer::WouldBlock { .. }) => return Err(SendError::Begun),
+            Ok(SendAnswer::TooLong { .. }) => return Err(SendError::TooLong),
+            Ok(SendAnswer::Detached) if self.link.has_peer_died() => SendError::PeerDied,
+            Ok(SendAnswer::Detached) => SendError::Detached,
+            Err(damage) => damage.into(),
+        };
+        self.over = Some(over);
+        Err(over)
     }
 
     /// One try before a wait. If the caller's function is asked in between, it may panic after a part was stored, so the message is
     /// kept at once.
-    fn try_put_within(&mut self, message: &[u8], way: Way, is_asked: bool) -> Result<(), SendError> {
+    fn try_put_within(&mut self, message: Message<'_>, way: Way, is_asked: bool) -> Result<(), SendError> {
         let answer = self.try_put(message, way);
         if is_asked && answer == Err(SendError::Begun) {
             self.keep(message);
@@ -452,7 +494,7 @@ impl Tx {
     }
 
     /// Sends with a wait. Without a limit what has room is stored at once, since the message is sent in the end.
-    fn put(&mut self, message: &[u8], flush: bool, limit: &mut Limit<'_>) -> Result<(), SendError> {
+    fn put(&mut self, message: Message<'_>, flush: bool, limit: &mut Limit<'_>) -> Result<(), SendError> {
         let by_parts = matches!(limit, Limit::Forever) || self.is_longer_than_ring(message);
         let is_asked = matches!(limit, Limit::While(_));
         let way = Way { flush, by_parts };
@@ -460,8 +502,8 @@ impl Tx {
         if !lacks_room(answer) {
             return answer;
         }
-        let common = Arc::clone(&self.common);
-        let done = common.sender.wait(limit, || {
+        let link = self.link.clone();
+        let done = link.wait(limit, || {
             answer = self.try_put_within(message, way, is_asked);
             (!lacks_room(answer)).then_some(answer)
         });
@@ -476,12 +518,22 @@ fn lacks_room(answer: Result<(), SendError>) -> bool {
 
 impl Drop for Tx {
     fn drop(&mut self) {
-        self.end.0.detach(&self.common.words.0);
-        self.common.receiver.ring();
+        let Tx { link, end, .. } = self;
+        link.leave(|words| end.0.detach(words));
     }
 }
 
 impl Rx {
+    /// The receiving end of a queue over a ring off which nothing was taken.
+    pub(crate) fn over(link: Link, end: Receiver) -> Rx {
+        Rx {
+            link,
+            end: Opaque(end),
+            held: None,
+            chosen: 0,
+        }
+    }
+
     /// The next message, if a whole one is there, without waiting. It is lent from the receiver's own memory up to its next call.
     /// A word costs one load; each byte is copied once.
     ///
@@ -531,7 +583,8 @@ impl Rx {
     /// Ends the queue for the receiver: as dropping it.
     pub fn close(self) {}
 
-    /// The next message for a task: as [`Rx::receive`], but pending while there is none.
+    /// The next message for a task: as [`Rx::receive`], but pending while there is none. Between processes nobody wakes a task: as by
+    /// [`Tx::send_async`].
     ///
     /// # Errors
     ///
@@ -549,9 +602,9 @@ impl Rx {
         if self.is_ready() {
             return Poll::Ready(());
         }
-        self.common.receiver.attach_task(task.waker());
+        self.link.attach_task(task);
         if self.is_ready() {
-            self.common.receiver.detach();
+            self.link.detach_task();
             return Poll::Ready(());
         }
         Poll::Pending
@@ -561,51 +614,58 @@ impl Rx {
     /// call then gives.
     pub fn is_ready(&mut self) -> bool {
         if self.held.is_none() {
-            self.held = Some(self.take()).filter(|answer| *answer != ReceiveAnswer::WouldBlock);
+            self.held = Some(self.take()).filter(|answer| is_something(*answer));
         }
         self.held.is_some()
     }
 
-    /// What its thread sleeps at.
-    pub(crate) fn bell(&self) -> &Bell {
-        &self.common.receiver
+    /// How it reaches the other end.
+    pub(crate) fn link(&self) -> &Link {
+        &self.link
     }
 
-    fn next(&mut self) -> ReceiveAnswer {
+    fn next(&mut self) -> Taken {
         match self.held.take() {
             Some(answer) => answer,
             None => self.take(),
         }
     }
 
-    fn take(&mut self) -> ReceiveAnswer {
-        let answer = self.end.0.try_receive(&self.common.words.0);
-        self.common.sender.ring();
+    fn take(&mut self) -> Taken {
+        let Rx { link, end, .. } = self;
+        let answer = link.call(|words| end.0.try_receive(words));
+        link.ring();
         answer
     }
 
-    fn told(&self, answer: ReceiveAnswer) -> Result<&[u8], ReceiveError> {
-        match answer {
+    fn told(&self, answer: Taken) -> Result<&[u8], ReceiveError> {
+        match answer? {
             ReceiveAnswer::Message => Ok(self.end.0.message()),
             ReceiveAnswer::WouldBlock => Err(ReceiveError::WouldBlock),
+            ReceiveAnswer::Detached if self.link.has_peer_died() => Err(ReceiveError::PeerDied),
             ReceiveAnswer::Detached => Err(ReceiveError::Detached),
         }
     }
 
     fn wait(&mut self, limit: &mut Limit<'_>) -> Result<&[u8], ReceiveError> {
         let mut answer = self.next();
-        if answer == ReceiveAnswer::WouldBlock {
-            let common = Arc::clone(&self.common);
-            let attempt = || Some(self.take()).filter(|answer| *answer != ReceiveAnswer::WouldBlock);
-            answer = common.receiver.wait(limit, attempt).unwrap_or(ReceiveAnswer::WouldBlock);
+        if !is_something(answer) {
+            let link = self.link.clone();
+            let found = link.wait(limit, || Some(self.take()).filter(|answer| is_something(*answer)));
+            answer = found.unwrap_or(Ok(ReceiveAnswer::WouldBlock));
         }
         self.told(answer)
     }
 }
 
+/// Whether a further look may not find something else.
+fn is_something(answer: Taken) -> bool {
+    answer != Ok(ReceiveAnswer::WouldBlock)
+}
+
 impl Drop for Rx {
     fn drop(&mut self) {
-        self.end.0.detach(&self.common.words.0);
-        self.common.sender.ring();
+        let Rx { link, end, .. } = self;
+        link.leave(|words| end.0.detach(words));
     }
 }

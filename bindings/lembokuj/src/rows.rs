@@ -1,4 +1,4 @@
-//! The words and bytes of a chunk at places. `lembokuj_processes` has this file too.
+//! The words and bytes of a chunk at places.
 
 use std::fmt;
 

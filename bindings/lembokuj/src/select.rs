@@ -1,13 +1,14 @@
 //! A wait for any of several receivers.
 
 use crate::Rx;
-use crate::bell::{Parker, asleep, awake};
+use crate::bell::{Bell, Parker, asleep, awake};
 use crate::limit::Limit;
 use std::sync::Arc;
 use std::time::Duration;
 
 /// Waits until one of the receivers has a message, or its sender has gone, and gives its place in the list: its next call does not
-/// wait. Of several that are ready it gives the one that was chosen longest ago. With no receivers it waits forever.
+/// wait. Of several that are ready it gives the one that was chosen longest ago. With no receivers it waits forever. If one of the queues is
+/// between processes, it looks every millisecond, since another process wakes only who waits for one queue.
 ///
 /// ```
 /// use lembokuj::{ReceiveError, queue, select};
@@ -46,12 +47,8 @@ pub fn select_while(receivers: &mut [&mut Rx], mut go_on: impl FnMut() -> bool) 
 fn select_by(receivers: &mut [&mut Rx], limit: &mut Limit<'_>) -> Option<usize> {
     let mut found = awake(&mut || ready(receivers));
     if found.is_none() {
-        let parker = receivers.first().map(|receiver| Arc::clone(receiver.bell().parker()));
-        found = match parker {
-            Some(parker) => asleep_at(&parker, receivers, limit),
-            // Nobody wakes this one.
-            None => asleep(&Parker::default(), limit, &mut || None),
-        };
+        let parker = receivers.iter().find_map(|receiver| receiver.link().bell()).map(|bell| Arc::clone(bell.parker()));
+        found = asleep_at(parker.as_ref(), receivers, limit);
     }
     let last = receivers.iter().map(|receiver| receiver.chosen).max().unwrap_or(0);
     if let Some(at) = found {
@@ -60,15 +57,29 @@ fn select_by(receivers: &mut [&mut Rx], limit: &mut Limit<'_>) -> Option<usize> 
     found
 }
 
+/// How long the thread sleeps if some of the senders are other processes, which can't wake it here.
+const NAP: Duration = Duration::from_millis(1);
+
+/// After how many naps it asks the system whether they live.
+const NAPS: u32 = 50;
+
 /// The thread sleeps at this parker until one of the receivers is ready: the bell of each rings there meanwhile.
-fn asleep_at(parker: &Arc<Parker>, receivers: &mut [&mut Rx], limit: &mut Limit<'_>) -> Option<usize> {
-    for receiver in &*receivers {
-        receiver.bell().attach_thread(parker);
+fn asleep_at(parker: Option<&Arc<Parker>>, receivers: &mut [&mut Rx], limit: &mut Limit<'_>) -> Option<usize> {
+    let bells = || receivers.iter().filter_map(|receiver| receiver.link().bell());
+    let nap = (bells().count() < receivers.len()).then_some(NAP);
+    if let Some(parker) = parker {
+        bells().for_each(|bell| bell.attach_thread(parker));
     }
-    let found = asleep(parker, limit, &mut || ready(receivers));
-    for receiver in receivers {
-        receiver.bell().detach();
-    }
+    let mut naps = 0;
+    let nobodys = Parker::default();
+    let found = asleep(parker.map_or(&nobodys, |parker| &**parker), limit, nap, &mut || {
+        naps += 1;
+        if nap.is_some() && naps % NAPS == 0 {
+            receivers.iter().for_each(|receiver| receiver.link().look_at_peer());
+        }
+        ready(receivers)
+    });
+    receivers.iter().filter_map(|receiver| receiver.link().bell()).for_each(Bell::detach);
     found
 }
 

@@ -20,7 +20,7 @@ pub(crate) fn reserved<T>(room: usize) -> Result<Vec<T>, AllocError> {
 }
 
 /// The counts of an `Arc` and its alignment at most.
-const HEAD: usize = 256;
+pub(crate) const HEAD: usize = 256;
 
 /// Shares a value. `Arc::new` ends the process if there is no memory, so as much is asked for and given back first.
 pub(crate) fn shared<T>(value: T) -> Result<Arc<T>, AllocError> {

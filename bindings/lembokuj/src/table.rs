@@ -28,7 +28,7 @@ const SOME_WORDS: usize = 16;
 /// The most words of a value.
 const MOST_VALUE_WORDS: usize = 1 << 16;
 
-/// Why there is no table.
+/// Why there is no table, or, of one that processes share, why a call was not made: then nothing was done to the key.
 #[derive(Clone, Copy, Debug, PartialEq, Eq)]
 #[non_exhaustive]
 pub enum TableError {
@@ -38,18 +38,25 @@ pub enum TableError {
     Callers,
     /// There is no memory.
     Memory,
-    /// The pages don't hold an empty table: that takes 16.
+    /// The pages don't hold an empty table: that takes 16. Of a table that processes share: the pages are used up.
     NoSpace,
     /// A key of other than 1 to 64 words, or a value of too many.
     Words,
+    /// Of a table that processes share: a process ended while it had the key's partition, or a lock of the pages that the call
+    /// needs. What that guards is lost.
+    OwnerDied,
+    /// Of a table that processes share: the region is damaged.
+    Damaged,
 }
 
 errors!(TableError {
     Pages => "a table has at most 65536 pages",
     Callers => "a table has 1 to 4096 callers",
     Memory => "out of memory",
-    NoSpace => "the pages don't hold an empty table",
+    NoSpace => "the pages don't hold the table",
     Words => "a key or a value has a number of words that is out of range",
+    OwnerDied => "a process ended while it had the lock",
+    Damaged => "the region is damaged",
 });
 
 impl From<AreaError> for TableError {
@@ -57,7 +64,10 @@ impl From<AreaError> for TableError {
         match why {
             AreaError::Pages => TableError::Pages,
             AreaError::Callers => TableError::Callers,
-            AreaError::Memory => TableError::Memory,
+            AreaError::NoSpace => TableError::NoSpace,
+            AreaError::OwnerDied => TableError::OwnerDied,
+            AreaError::Damaged => TableError::Damaged,
+            AreaError::Memory | AreaError::Stranger => TableError::Memory,
         }
     }
 }

@@ -333,6 +333,53 @@ static void contents(void) {
     WANT(lk_toc_close(&again), LK_OK);
 }
 
+/* Calls of which the functions above have only right uses: no handle, or one of another kind, or nothing to write to. */
+static void no_handles(void) {
+    lk_sender *tx;
+    lk_receiver *rx;
+    lk_area *area[1];
+    lk_chunk *chunk;
+    lk_toc_share *share;
+    uint64_t number;
+    WANT(lk_queue_new(8, 8, &tx, &rx), LK_OK);
+    WANT(lk_queue_flush(NULL), LK_NULL);
+    WANT(lk_queue_flush((lk_sender *)rx), LK_KIND);
+    WANT(lk_queue_close_receiver(NULL), LK_NULL);
+    WANT(lk_queue_close_receiver((lk_receiver **)&tx), LK_KIND);
+    HOLDS(tx != NULL);
+    WANT(lk_area_new(20, 1, area), LK_OK);
+    WANT(lk_area_alloc_zeroed(NULL, 8, &chunk), LK_NULL);
+    WANT(lk_area_alloc_zeroed((lk_area *)tx, 8, &chunk), LK_KIND);
+    WANT(lk_area_alloc_zeroed(area[0], (uint64_t)1 << 40, &chunk), LK_NO_SPACE);
+    WANT(lk_area_alloc_zeroed(area[0], 8, &chunk), LK_OK);
+    WANT(lk_chunk_words(NULL, &number), LK_NULL);
+    WANT(lk_chunk_words((lk_chunk *)tx, &number), LK_KIND);
+    WANT(lk_chunk_words(chunk, NULL), LK_NULL);
+    WANT(lk_chunk_close(&chunk), LK_OK);
+    WANT(lk_area_close(NULL), LK_NULL);
+    WANT(lk_area_close((lk_area **)&tx), LK_KIND);
+    WANT(lk_table_close(NULL), LK_NULL);
+    WANT(lk_table_close((lk_table **)area), LK_KIND);
+    WANT(lk_words_count(NULL, &number), LK_NULL);
+    WANT(lk_words_count((lk_words *)tx, &number), LK_KIND);
+    WANT(lk_words_close(NULL), LK_NULL);
+    WANT(lk_words_close((lk_words **)area), LK_KIND);
+    WANT(lk_barrier_close(NULL), LK_NULL);
+    WANT(lk_barrier_close((lk_barrier **)area), LK_KIND);
+    WANT(lk_toc_share_again(NULL, &share), LK_NULL);
+    WANT(lk_toc_share_again((lk_toc_share *)tx, &share), LK_KIND);
+    WANT(lk_toc_words(NULL, 1, &number), LK_NULL);
+    WANT(lk_toc_words((lk_toc_share *)tx, 1, &number), LK_KIND);
+    WANT(lk_toc_chunk_close(NULL), LK_NULL);
+    WANT(lk_toc_chunk_close((lk_toc_chunk **)area), LK_KIND);
+    WANT(lk_toc_close(NULL), LK_NULL);
+    WANT(lk_toc_close((lk_toc_share **)area), LK_KIND);
+    HOLDS(strcmp(lk_message(1000), "no code of this library") == 0);
+    WANT(lk_area_close(area), LK_OK);
+    WANT(lk_queue_close_sender(&tx), LK_OK);
+    WANT(lk_queue_close_receiver(&rx), LK_OK);
+}
+
 int main(void) {
     HOLDS(strcmp(lk_version(), LK_VERSION) == 0);
     queues();
@@ -342,6 +389,7 @@ int main(void) {
     words();
     barriers();
     contents();
+    no_handles();
     if (!wrong) puts("misuse: each wrong call is told");
     return wrong;
 }

@@ -1,7 +1,8 @@
 /* SPDX-License-Identifier: PostgreSQL
  *
  * lembokuj.h: objects that the threads of one process share, over regions of words: queues, areas, hash tables, barriers,
- * tables of contents. Other processes can't see them.
+ * tables of contents. Other processes can't see them. Those that several processes share, on Linux, are laid out in a file
+ * in memory: the last section, lk_region_... The handles that it gives are used by the calls of the sections before.
  *
  * Handles. A call that makes something gives a handle for each of its callers; lk_.._handle makes one more instead of one that
  * was closed. What is shared lives until its last handle is closed. A close takes the place of the handle and makes it NULL;
@@ -29,9 +30,9 @@
 #include <stddef.h>
 #include <stdint.h>
 
-#define LK_VERSION "0.2.0"
+#define LK_VERSION "0.3.0"
 #define LK_VERSION_MAJOR 0
-#define LK_VERSION_MINOR 2
+#define LK_VERSION_MINOR 3
 #define LK_VERSION_PATCH 0
 
 /* Its code is to be looked at. */
@@ -52,8 +53,9 @@ enum {
     LK_ABSENT = 3,            /* the key was not there */
     LK_BEGUN = 4,             /* a part of the message is on the ring: send the same message again */
     LK_OTHER_VALUE = 5,       /* the key has another value than the one expected */
+    LK_PEER_DIED = 6,         /* between processes: the other end's process ended before it left; a receiver: and all that came was received */
     LK_NULL = -1,             /* a pointer is null */
-    LK_KIND = -2,             /* a handle of another kind */
+    LK_KIND = -2,             /* a handle of another kind; a region that is open already */
     LK_FREED = -3,            /* a chunk that was freed */
     LK_NO_MEMORY = -4,        /* the system gave no memory */
     LK_BAD_SIZE = -5,         /* a size out of range */
@@ -66,9 +68,21 @@ enum {
     LK_ALREADY_IN = -12,      /* the caller takes part in the barrier already */
     LK_NOT_IN = -13,          /* the caller takes no part in the barrier */
     LK_TWICE = -14,           /* the caller has arrived in this phase already; a receiver that is twice in a list */
-    LK_FULL = -15,            /* the table of contents is full */
-    LK_KEY_THERE = -16,       /* the table of contents has the key already */
+    LK_FULL = -15,            /* the table of contents is full, or the region */
+    LK_KEY_THERE = -16,       /* the table of contents has the key already, or the region */
     LK_NO_HANDLE = -17,       /* all handles that the object was made for are out */
+    LK_SYSTEM = -21,          /* the system refused: no file under the name, or it is taken, or no leave to use it, or no memory */
+    LK_NOT_REGION = -22,      /* the file is no region */
+    LK_OTHER_VERSION = -23,   /* the region is of another version */
+    LK_OTHER_BUILD = -24,     /* the region is of another build of this library */
+    LK_OTHER_SIZE = -25,      /* the file is not as long as its head says */
+    LK_DAMAGED = -26,         /* the region is damaged */
+    LK_NOT_OPEN = -27,        /* the region is not open yet */
+    LK_OTHER_SYSTEM = -28,    /* the region is of another start of the system, or another space of process ids */
+    LK_NO_KEY = -29,          /* no object of this kind has the key */
+    LK_TAKEN = -30,           /* all handles are with processes */
+    LK_OWNER_DIED = -31,      /* between processes: one ended while it had the lock, and what that guards is lost */
+    LK_STRANGER = -32,        /* no chunk of this area, or no ticket of one */
 };
 
 /* The text of a code, and the version of the library that runs, to be compared with LK_VERSION. They live forever. */
@@ -302,6 +316,74 @@ LK_TELLS int lk_toc_share_again(lk_toc_share *toc, lk_toc_share **out);
 LK_TELLS int lk_toc_words(lk_toc_share *toc, uint64_t key, uint64_t *out);
 LK_TELLS int lk_toc_load(lk_toc_share *toc, uint64_t key, uint64_t at, uint64_t *out);
 int lk_toc_close(lk_toc_share **toc);
+
+/* ---- Regions that processes share: Linux, x86-64 and aarch64 ----
+ *
+ * The maker: lk_region_create or lk_region_create_named, lk_region_add_.., lk_region_open. The others: lk_region_attach (a descriptor)
+ * or lk_region_attach_named. Then each takes handles by key. A handle is with one process at a time, and is used by one call at a
+ * time; an end of a queue and a place at a barrier are taken once. After a fork the child attaches anew and does not use its parent's
+ * handles. A region may be closed before the handles that were taken of it. If there is no memory, a call of this section may end
+ * the process, as other calls don't.
+ *
+ * A process that ends without leaving is to the others a thread that stops. Nobody takes a lock from it: the calls that need what it
+ * guarded answer LK_OWNER_DIED, those of its keys, of its size of chunks, or of its barrier. The other end of its queue answers
+ * LK_PEER_DIED, after all whole messages. A barrier goes on without it. lk_wait_any looks every millisecond if a sender is another
+ * process. All that may write the file can spoil it for all: LK_DAMAGED. */
+
+typedef struct lk_region lk_region;
+
+/* A region of this many words of 8 bytes, from 64 to fewer than 2^26, without a name: programs that the maker starts inherit its file.
+ * Or under a name of shm_open's, without the slash, until lk_region_unlink. What nobody stores to takes no memory. LK_BAD_SIZE,
+ * LK_SYSTEM, LK_NO_MEMORY. */
+LK_TELLS int lk_region_create(uint64_t words, lk_region **out);
+LK_TELLS int lk_region_create_named(const char *name, uint64_t words, lk_region **out);
+int lk_region_unlink(const char *name);
+
+/* Lays an object out under a key: a queue as lk_queue_new's; a table of numbers and an area, each in pages of 4 KiB that nothing else
+ * has, up to 65,536, for up to 4,096 callers; a barrier of up to 63 callers, who all take part; words that nobody changes.
+ * LK_KEY_THERE, LK_FULL, LK_BAD_SIZE, LK_BAD_CALLERS, LK_NO_SPACE: the table's pages are too few for an empty one. */
+LK_TELLS int lk_region_add_queue(lk_region *region, uint64_t key, uint64_t ring_words, uint32_t max_bytes);
+LK_TELLS int lk_region_add_table(lk_region *region, uint64_t key, uint32_t pages, uint32_t callers);
+LK_TELLS int lk_region_add_area(lk_region *region, uint64_t key, uint32_t pages, uint32_t callers);
+LK_TELLS int lk_region_add_barrier(lk_region *region, uint64_t key, uint32_t callers);
+LK_TELLS int lk_region_add_words(lk_region *region, uint64_t key, const uint64_t *words, size_t count);
+
+/* Nothing is added from now on, and others may attach. LK_KIND: it is open. */
+LK_TELLS int lk_region_open(lk_region *region);
+
+/* The region in a file, by a descriptor, which is duplicated, or by a name. LK_SYSTEM, LK_NOT_REGION, LK_OTHER_VERSION, LK_OTHER_BUILD,
+ * LK_OTHER_SIZE, LK_DAMAGED, LK_NOT_OPEN, LK_OTHER_SYSTEM, LK_NO_MEMORY. */
+LK_TELLS int lk_region_attach(int fd, lk_region **out);
+LK_TELLS int lk_region_attach_named(const char *name, lk_region **out);
+
+/* The descriptor of an open region, which lives as long as it; a word of the words under a key. LK_NOT_OPEN; LK_NO_KEY, LK_NO_WORD. */
+LK_TELLS int lk_region_fd(const lk_region *region, int *fd);
+LK_TELLS int lk_region_load(const lk_region *region, uint64_t key, uint64_t at, uint64_t *word);
+
+/* Handles, which the calls of the other sections use and close. LK_NO_KEY, LK_TAKEN, LK_NOT_OPEN, LK_NO_MEMORY. */
+LK_TELLS int lk_region_sender(const lk_region *region, uint64_t key, lk_sender **out);
+LK_TELLS int lk_region_receiver(const lk_region *region, uint64_t key, lk_receiver **out);
+LK_TELLS int lk_region_table(const lk_region *region, uint64_t key, lk_table **out);
+LK_TELLS int lk_region_area(const lk_region *region, uint64_t key, lk_area **out);
+LK_TELLS int lk_region_barrier(const lk_region *region, uint64_t key, lk_barrier **out);
+
+/* A chunk of an area in a region goes to another process by a ticket, plain numbers that are good for one fetch. A post makes *chunk
+ * NULL; nobody has the chunk then. One that is closed without either stays live. LK_KIND for an area of threads, LK_STRANGER. */
+typedef struct lk_ticket {
+    uint64_t place, bytes, number;
+} lk_ticket;
+LK_TELLS int lk_chunk_post(lk_chunk **chunk, lk_ticket *ticket);
+LK_TELLS int lk_area_fetch(lk_area *area, const lk_ticket *ticket, lk_chunk **out);
+
+/* What processes had that have ended is given back, so far as no lock was in their hands: handles of tables and areas that may be taken
+ * again, ends of queues and callers of barriers that were detached, handles that are lost with a lock, chunks that went back.
+ * `reaped` may be NULL. It asks the system for each handle that is taken, and reads each word of the areas. */
+typedef struct lk_reaped {
+    uint64_t freed, detached, lost, chunks;
+} lk_reaped;
+int lk_region_reap(const lk_region *region, lk_reaped *reaped);
+
+int lk_region_close(lk_region **region);
 
 #ifdef __cplusplus
 }

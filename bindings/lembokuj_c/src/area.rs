@@ -5,31 +5,114 @@
 
 use crate::codes::*;
 use crate::handle::{AREA, CHUNK, Handle, close, code, open, put, put_all, put_handle, refill, release, retire};
+#[cfg(processes)]
+use lembokuj::processes;
 use lembokuj::{Area, AreaError, Chunk, NoWord};
 use std::collections::VecDeque;
+use std::convert::identity;
 use std::ffi::{c_int, c_void};
 
 /// How many freed handles are kept before the oldest is used again.
 const KEPT: usize = 64;
 
 /// The handle of a chunk: none once it was freed.
-pub type ChunkHandle = Handle<Option<Chunk>>;
+pub type ChunkHandle = Handle<Option<Held>>;
+
+/// A chunk that C has.
+pub enum Held {
+    /// Of an area in memory of this process.
+    Threads(Chunk),
+    /// Of one in a region that processes share.
+    #[cfg(processes)]
+    Processes(processes::Chunk),
+}
+
+/// Makes a call of a chunk, wherever its area is.
+macro_rules! held {
+    ($held:expr, $chunk:ident => $call:expr) => {
+        match $held {
+            Held::Threads($chunk) => $call,
+            #[cfg(processes)]
+            Held::Processes($chunk) => $call,
+        }
+    };
+}
+
+/// The place of a caller's area.
+enum Home {
+    Threads(Area),
+    #[cfg(processes)]
+    Processes(processes::Area),
+}
+
+impl Home {
+    fn handle(&self) -> Option<Home> {
+        match self {
+            Home::Threads(area) => area.handle().map(Home::Threads),
+            #[cfg(processes)]
+            Home::Processes(area) => area.handle().map(Home::Processes),
+        }
+    }
+
+    fn alloc(&mut self, bytes: u64, clear: bool) -> Result<Held, c_int> {
+        match self {
+            Home::Threads(area) => {
+                let granted = if clear { area.alloc_zeroed(bytes) } else { area.alloc(bytes) };
+                granted.map(Held::Threads).map_err(|_| LK_NO_SPACE)
+            }
+            #[cfg(processes)]
+            Home::Processes(area) => {
+                let granted = if clear { area.alloc_zeroed(bytes) } else { area.alloc(bytes) };
+                granted.map(Held::Processes).map_err(why_no_area)
+            }
+        }
+    }
+
+    fn is_home_of(&self, chunk: &Held) -> bool {
+        match (self, chunk) {
+            (Home::Threads(area), Held::Threads(chunk)) => area.is_home_of(chunk),
+            #[cfg(processes)]
+            (Home::Processes(area), Held::Processes(chunk)) => area.is_home_of(chunk),
+            #[cfg(processes)]
+            _ => false,
+        }
+    }
+
+    fn free(&mut self, chunk: Held) -> Result<(), c_int> {
+        match (self, chunk) {
+            (Home::Threads(area), Held::Threads(chunk)) => {
+                area.free(chunk);
+                Ok(())
+            }
+            #[cfg(processes)]
+            (Home::Processes(area), Held::Processes(chunk)) => area.free(chunk).map_err(why_no_area),
+            #[cfg(processes)]
+            _ => Err(LK_OTHER_AREA),
+        }
+    }
+}
 
 /// One caller of an area, with the handles of the chunks that it freed.
 pub struct Caller {
-    area: Area,
+    area: Home,
     freed: VecDeque<*mut ChunkHandle>,
 }
 
 impl Caller {
-    fn new(area: Area) -> Result<Caller, c_int> {
+    fn new(area: Home) -> Result<Caller, c_int> {
         let mut freed = VecDeque::new();
         freed.try_reserve_exact(KEPT).map_err(|_| LK_NO_MEMORY)?;
         Ok(Caller { area, freed })
     }
 
+    /// The caller of an area in a region.
+    #[cfg(processes)]
+    pub(crate) fn of_processes(area: processes::Area) -> Result<Caller, c_int> {
+        Caller::new(Home::Processes(area))
+    }
+
     /// A handle of a chunk.
-    fn hand_out(&mut self, chunk: Chunk) -> Result<*mut ChunkHandle, c_int> {
+    fn hand_out(&mut self, chunk: Held) -> Result<*mut ChunkHandle, c_int> {
         if self.freed.len() == KEPT
             && let Some(handle) = self.freed.pop_front()
         {
@@ -66,7 +149,7 @@ fn callers_of(handles: Vec<Area>) -> Result<Vec<Caller>, c_int> {
     let mut callers = Vec::new();
     callers.try_reserve_exact(handles.len()).map_err(|_| LK_NO_MEMORY)?;
     for handle in handles {
-        callers.push(Caller::new(handle)?);
+        callers.push(Caller::new(Home::Threads(handle))?);
     }
     Ok(callers)
 }
@@ -76,6 +159,10 @@ pub(crate) fn why_no_area(why: AreaError) -> c_int {
     match why {
         AreaError::Pages => LK_BAD_SIZE,
         AreaError::Callers => LK_BAD_CALLERS,
+        AreaError::NoSpace => LK_NO_SPACE,
+        AreaError::Stranger => LK_STRANGER,
+        AreaError::OwnerDied => LK_OWNER_DIED,
+        AreaError::Damaged => LK_DAMAGED,
         _ => LK_NO_MEMORY,
     }
 }
@@ -93,7 +180,7 @@ pub unsafe extern "C" fn lk_area_new(pages: u32, callers: u32, out: *mut *mut Ha
     match Area::new(pages, callers) {
         Ok(handles) => code(callers_of(handles).and_then(|callers| {
             // SAFETY: the caller's duty.
-            unsafe { put_all(out, AREA, callers) }.map(|()| LK_OK)
+            unsafe { put_all(out, AREA, callers, identity) }.map(|()| LK_OK)
         })),
         Err(why) => why_no_area(why),
     }
@@ -127,8 +214,7 @@ unsafe fn alloc(area: *mut Handle<Caller>, bytes: u64, clear: bool, out: *mut *m
     }
     // SAFETY: the caller's duty.
     let caller = unsafe { open(area, AREA) }?;
-    let granted = if clear { caller.area.alloc_zeroed(bytes) } else { caller.area.alloc(bytes) };
-    let chunk = granted.map_err(|_| LK_NO_SPACE)?;
+    let chunk = caller.area.alloc(bytes, clear)?;
     let handle = caller.hand_out(chunk)?;
     // SAFETY: the place may be written.
     unsafe { out.write(handle) };
@@ -185,11 +271,72 @@ unsafe fn free(caller: &mut Caller, place: *mut *mut ChunkHandle) -> Result<c_in
     }
     // SAFETY: the same; from here on only the list has it.
     let chunk = unsafe { retire(handle, CHUNK) }?;
-    caller.area.free(chunk);
+    let freed = caller.area.free(chunk);
     caller.keep(handle);
     // SAFETY: the place may be written.
     unsafe { place.write(std::ptr::null_mut()) };
-    Ok(LK_OK)
+    freed.map(|()| LK_OK)
+}
+
+/// See the header.
+///
+/// # Safety
+///
+/// `chunk` is null or points to a handle that only this call uses; `ticket` is null or may be written.
+#[cfg(processes)]
+#[unsafe(no_mangle)]
+pub unsafe extern "C" fn lk_chunk_post(chunk: *mut *mut ChunkHandle, ticket: *mut processes::Ticket) -> c_int {
+    if chunk.is_null() || ticket.is_null() {
+        return LK_NULL;
+    }
+    // SAFETY: the caller's duty.
+    code(unsafe { post(chunk) }.and_then(|posted| unsafe { put(ticket, posted) }.map(|()| LK_OK)))
+}
+
+/// Posts the chunk at a place.
+///
+/// # Safety
+///
+/// The place points to null or a handle that only this call uses.
+#[cfg(processes)]
+unsafe fn post(place: *mut *mut ChunkHandle) -> Result<processes::Ticket, c_int> {
+    // SAFETY: the caller's duty.
+    match unsafe { open(*place, CHUNK) }?.as_ref().ok_or(LK_FREED)? {
+        Held::Threads(_) => return Err(LK_KIND),
+        Held::Processes(_) => {}
+    }
+    // SAFETY: the caller's duty.
+    match unsafe { close(place, CHUNK) }?.flatten() {
+        Some(Held::Processes(chunk)) => Ok(chunk.post()),
+        _ => Err(LK_FREED),
+    }
+}
+
+/// See the header.
+///
+/// # Safety
+///
+/// `area` is a handle that only this call uses; `ticket` is null or may be read; `out` is null or may be written.
+#[cfg(processes)]
+#[unsafe(no_mangle)]
+pub unsafe extern "C" fn lk_area_fetch(
+    area: *mut Handle<Caller>,
+    ticket: *const processes::Ticket,
+    out: *mut *mut ChunkHandle,
+) -> c_int {
+    if ticket.is_null() || out.is_null() {
+        return LK_NULL;
+    }
+    // SAFETY: the caller's duty.
+    code(unsafe {
+        open(area, AREA)
+            .and_then(|caller| {
+                let Home::Processes(area) = &mut caller.area else { return Err(LK_KIND) };
+                let chunk = area.fetch(*ticket).map_err(why_no_area)?;
+                caller.hand_out(Held::Processes(chunk))
+            })
+            .and_then(|handle| put(out, handle).map(|()| LK_OK))
+    })
 }
 
 /// See the header.
@@ -225,7 +372,7 @@ pub unsafe extern "C" fn lk_chunk_words(chunk: *const ChunkHandle, out: *mut u64
     code(unsafe {
         open(chunk.cast_mut(), CHUNK)
             .and_then(|chunk| chunk.as_ref().ok_or(LK_FREED))
-            .and_then(|chunk| put(out, chunk.words()))
+            .and_then(|chunk| put(out, held!(chunk, chunk => chunk.words())))
             .map(|()| LK_OK)
     })
 }
@@ -241,7 +388,7 @@ pub unsafe extern "C" fn lk_chunk_load(chunk: *mut ChunkHandle, at: u64, out: *m
     code(unsafe {
         open(chunk, CHUNK)
             .and_then(|chunk| chunk.as_mut().ok_or(LK_FREED))
-            .and_then(|chunk| chunk.load(at).ok_or(LK_NO_WORD))
+            .and_then(|chunk| held!(chunk, chunk => chunk.load(at)).ok_or(LK_NO_WORD))
             .and_then(|value| put(out, value))
             .map(|()| LK_OK)
     })
@@ -260,7 +407,7 @@ pub unsafe extern "C" fn lk_chunk_memory(chunk: *mut ChunkHandle, memory: *mut *
     // SAFETY: the caller's duty. The bytes are the chunk's until it is given back, and no call keeps a reference to them.
     code(unsafe {
         open(chunk, CHUNK).and_then(|chunk| chunk.as_mut().ok_or(LK_FREED)).map(|chunk| {
-            let all = chunk.as_bytes_mut();
+            let all = held!(chunk, chunk => chunk.as_bytes_mut());
             bytes.write(all.len());
             memory.write(all.as_mut_ptr().cast());
             LK_OK
@@ -273,7 +420,7 @@ pub unsafe extern "C" fn lk_chunk_memory(chunk: *mut ChunkHandle, memory: *mut *
 /// # Safety
 ///
 /// `chunk` is a handle that only this call uses.
-unsafe fn on_chunk(chunk: *mut ChunkHandle, call: impl FnOnce(&mut Chunk) -> Result<(), NoWord>) -> c_int {
+unsafe fn on_chunk(chunk: *mut ChunkHandle, call: impl FnOnce(&mut Held) -> Result<(), NoWord>) -> c_int {
     // SAFETY: the caller's duty.
     let chunk = unsafe { open(chunk, CHUNK) }.and_then(|chunk| chunk.as_mut().ok_or(LK_FREED));
     code(chunk.and_then(|chunk| call(chunk).map(|()| LK_OK).map_err(|NoWord| LK_NO_WORD)))
@@ -287,7 +434,7 @@ unsafe fn on_chunk(chunk: *mut ChunkHandle, call: impl FnOnce(&mut Chunk) -> Res
 #[unsafe(no_mangle)]
 pub unsafe extern "C" fn lk_chunk_store(chunk: *mut ChunkHandle, at: u64, value: u64) -> c_int {
     // SAFETY: the same duty.
-    unsafe { on_chunk(chunk, |chunk| chunk.store(at, value)) }
+    unsafe { on_chunk(chunk, |held| held!(held, chunk => chunk.store(at, value))) }
 }
 
 /// The place for `count` items that C lends for a call.
@@ -314,7 +461,7 @@ pub unsafe extern "C" fn lk_chunk_read(chunk: *mut ChunkHandle, at: u64, words: 
     // SAFETY: the caller's duty.
     match unsafe { lent_mut(words, count) } {
         // SAFETY: the caller's duty.
-        Ok(words) => unsafe { on_chunk(chunk, |chunk| chunk.read(at, words)) },
+        Ok(words) => unsafe { on_chunk(chunk, |held| held!(held, chunk => chunk.read(at, words))) },
         Err(code) => code,
     }
 }
@@ -329,7 +476,7 @@ pub unsafe extern "C" fn lk_chunk_write(chunk: *mut ChunkHandle, at: u64, words:
     // SAFETY: the caller's duty.
     match unsafe { crate::queue::lent(words, count) } {
         // SAFETY: the caller's duty.
-        Ok(words) => unsafe { on_chunk(chunk, |chunk| chunk.write(at, words)) },
+        Ok(words) => unsafe { on_chunk(chunk, |held| held!(held, chunk => chunk.write(at, words))) },
         Err(code) => code,
     }
 }
@@ -344,7 +491,7 @@ pub unsafe extern "C" fn lk_chunk_read_bytes(chunk: *mut ChunkHandle, at: u64, b
     // SAFETY: the caller's duty.
     match unsafe { lent_mut(bytes.cast::<u8>(), count) } {
         // SAFETY: the caller's duty.
-        Ok(bytes) => unsafe { on_chunk(chunk, |chunk| chunk.read_bytes(at, bytes)) },
+        Ok(bytes) => unsafe { on_chunk(chunk, |held| held!(held, chunk => chunk.read_bytes(at, bytes))) },
         Err(code) => code,
     }
 }
@@ -359,7 +506,7 @@ pub unsafe extern "C" fn lk_chunk_write_bytes(chunk: *mut ChunkHandle, at: u64, 
     // SAFETY: the caller's duty.
     match unsafe { crate::queue::lent(bytes.cast::<u8>(), count) } {
         // SAFETY: the caller's duty.
-        Ok(bytes) => unsafe { on_chunk(chunk, |chunk| chunk.write_bytes(at, bytes)) },
+        Ok(bytes) => unsafe { on_chunk(chunk, |held| held!(held, chunk => chunk.write_bytes(at, bytes))) },
         Err(code) => code,
     }
 }

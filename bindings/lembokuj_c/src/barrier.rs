@@ -4,6 +4,7 @@ use crate::codes::*;
 use crate::handle::{BARRIER, Handle, close, code, open, put, put_all, put_handle};
 use crate::limit::{Limit, Wait};
 use lembokuj::{Arrival, Barrier, BarrierError};
+use std::convert::identity;
 use std::ffi::c_int;
 
 fn why(error: BarrierError) -> c_int {
@@ -12,6 +13,8 @@ fn why(error: BarrierError) -> c_int {
         BarrierError::AlreadyIn => LK_ALREADY_IN,
         BarrierError::NotIn => LK_NOT_IN,
         BarrierError::Twice => LK_TWICE,
+        BarrierError::OwnerDied => LK_OWNER_DIED,
+        BarrierError::Damaged => LK_DAMAGED,
         _ => LK_NO_MEMORY,
     }
 }
@@ -69,7 +72,7 @@ pub unsafe extern "C" fn lk_barrier_new(callers: u32, out: *mut *mut Handle<Barr
     }
     match Barrier::new(callers) {
         // SAFETY: the caller's duty.
-        Ok(handles) => code(unsafe { put_all(out, BARRIER, handles) }.map(|()| LK_OK)),
+        Ok(handles) => code(unsafe { put_all(out, BARRIER, handles, identity) }.map(|()| LK_OK)),
         Err(error) => why(error),
     }
 }

@@ -19,6 +19,7 @@ pub(crate) const BARRIER: Kind = Kind(0x6c6b_4241_5252_4945);
 pub(crate) const TOC: Kind = Kind(0x6c6b_544f_4300_0001);
 pub(crate) const TOC_CHUNK: Kind = Kind(0x6c6b_544f_4300_0002);
 pub(crate) const WORD_TABLE: Kind = Kind(0x6c6b_574f_5244_0001);
+pub(crate) const REGION: Kind = Kind(0x6c6b_5245_4749_4f4e);
 pub(crate) const FROZEN: Kind = Kind(0x6c6b_544f_4300_0003);
 
 /// A value that C holds by a pointer. The kind comes first, whatever the value is.
@@ -170,19 +171,24 @@ pub(crate) unsafe fn put_handle<T>(place: *mut *mut Handle<T>, kind: Kind, value
     Ok(())
 }
 
-/// Writes a handle for each value to a list of places. If there is no memory for one, those before it are taken back, and their
+/// Writes a handle for what is made of each item to a list of places. If there is no memory for one, those before it are taken back, and their
 /// places are null.
 ///
 /// # Safety
 ///
 /// The list is null or has room for all of them.
-pub(crate) unsafe fn put_all<T>(places: *mut *mut Handle<T>, kind: Kind, values: Vec<T>) -> Result<(), c_int> {
+pub(crate) unsafe fn put_all<U, T>(
+    places: *mut *mut Handle<T>,
+    kind: Kind,
+    items: Vec<U>,
+    make: impl Fn(U) -> T,
+) -> Result<(), c_int> {
     if places.is_null() {
         return Err(LK_NULL);
     }
-    for (at, value) in values.into_iter().enumerate() {
+    for (at, item) in items.into_iter().enumerate() {
         // SAFETY: the list has room for all of them.
-        if let Err(code) = unsafe { put_handle(places.add(at), kind, value) } {
+        if let Err(code) = unsafe { put_handle(places.add(at), kind, make(item)) } {
             for before in 0..at {
                 // SAFETY: a handle of this kind was written there just now.
                 let _ = unsafe { close(places.add(before), kind) };

@@ -10,6 +10,8 @@ mod barrier;
 mod codes;
 mod handle;
 mod limit;
+#[cfg(processes)]
+mod processes;
 mod queue;
 mod table;
 mod toc;
@@ -20,6 +22,12 @@ pub use barrier::*;
 pub use codes::*;
 pub use handle::Handle;
 pub use limit::Limit;
+#[cfg(processes)]
+pub use processes::{
+    ReapedCounts, lk_region_add_area, lk_region_add_barrier, lk_region_add_queue, lk_region_add_table, lk_region_add_words, lk_region_area,
+    lk_region_attach, lk_region_attach_named, lk_region_barrier, lk_region_close, lk_region_create, lk_region_create_named, lk_region_fd,
+    lk_region_load, lk_region_open, lk_region_reap, lk_region_receiver, lk_region_sender, lk_region_table, lk_region_unlink,
+};
 pub use queue::*;
 pub use table::*;
 pub use toc::*;

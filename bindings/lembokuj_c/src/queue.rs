@@ -69,6 +69,8 @@ fn sent(answer: Result<(), SendError>) -> c_int {
         Err(SendError::Begun) => LK_BEGUN,
         Err(SendError::TooLong) => LK_TOO_LONG,
         Err(SendError::OtherMessage) => LK_OTHER_MESSAGE,
+        Err(SendError::PeerDied) => LK_PEER_DIED,
+        Err(SendError::Damaged) => LK_DAMAGED,
         Err(_) => LK_DETACHED,
     }
 }
@@ -229,6 +231,8 @@ unsafe fn receive(
         // SAFETY: the places may be written.
         Ok(Ok(message)) => code(unsafe { put(bytes, message.as_ptr()).and_then(|()| put(len, message.len())) }.map(|()| LK_OK)),
         Ok(Err(ReceiveError::WouldBlock)) => LK_WOULD_BLOCK,
+        Ok(Err(ReceiveError::PeerDied)) => LK_PEER_DIED,
+        Ok(Err(ReceiveError::Damaged)) => LK_DAMAGED,
         Ok(Err(_)) => LK_DETACHED,
         Err(code) => code,
     }

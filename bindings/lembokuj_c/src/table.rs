@@ -2,11 +2,87 @@
 
 use crate::codes::*;
 use crate::handle::{Handle, TABLE, close, code, open, put, put_all, put_handle};
-use lembokuj::{NoSpace, Table, TableError, table_pages};
+#[cfg(processes)]
+use lembokuj::processes;
+use lembokuj::{Table, TableError, table_pages};
 use std::ffi::{c_int, c_void};
 
-/// The tables that C has.
-type Numbers = Table<u64, u64>;
+/// A caller of a table that C has.
+#[cfg_attr(processes, expect(clippy::large_enum_variant, reason = "a handle of C's is on the heap anyway"))]
+pub enum Numbers {
+    /// Of one in memory of this process.
+    Threads(Table<u64, u64>),
+    /// Of one in a region that processes share.
+    #[cfg(processes)]
+    Processes(processes::Table),
+}
+
+/// A call of a table in a region, as its answer is a code of C's.
+#[cfg(processes)]
+fn coded<T>(answer: Result<T, TableError>) -> Result<T, c_int> {
+    answer.map_err(why_no_table)
+}
+
+impl Numbers {
+    fn handle(&self) -> Option<Numbers> {
+        match self {
+            Numbers::Threads(table) => table.handle().map(Numbers::Threads),
+            #[cfg(processes)]
+            Numbers::Processes(table) => table.handle().map(Numbers::Processes),
+        }
+    }
+
+    fn get(&mut self, key: u64) -> Result<Option<u64>, c_int> {
+        match self {
+            Numbers::Threads(table) => Ok(table.get(&key)),
+            #[cfg(processes)]
+            Numbers::Processes(table) => coded(table.get(key)),
+        }
+    }
+
+    fn insert(&mut self, key: u64, value: u64) -> Result<Option<u64>, c_int> {
+        match self {
+            Numbers::Threads(table) => table.insert(&key, value).map_err(|_| LK_NO_SPACE),
+            #[cfg(processes)]
+            Numbers::Processes(table) => coded(table.insert(key, value)),
+        }
+    }
+
+    fn add(&mut self, key: u64, more: u64) -> Result<Option<u64>, c_int> {
+        match self {
+            Numbers::Threads(table) => {
+                let sum = |old: Option<&u64>, more: &u64| Some(old.unwrap_or(&0).wrapping_add(*more));
+                table.update_with(&key, more, sum).map_err(|_| LK_NO_SPACE)
+            }
+            #[cfg(processes)]
+            Numbers::Processes(table) => coded(table.add(key, more)),
+        }
+    }
+
+    fn remove(&mut self, key: u64) -> Result<Option<u64>, c_int> {
+        match self {
+            Numbers::Threads(table) => Ok(table.remove(&key)),
+            #[cfg(processes)]
+            Numbers::Processes(table) => coded(table.remove(key)),
+        }
+    }
+
+    fn count(&mut self) -> Result<u64, c_int> {
+        match self {
+            Numbers::Threads(table) => Ok(table.count()),
+            #[cfg(processes)]
+            Numbers::Processes(table) => coded(table.count()),
+        }
+    }
+
+    fn entries(&mut self) -> Result<Vec<(u64, u64)>, c_int> {
+        match self {
+            Numbers::Threads(table) => table.entries().map_err(|_| LK_NO_MEMORY),
+            #[cfg(processes)]
+            Numbers::Processes(table) => coded(table.entries()),
+        }
+    }
+}
 
 /// See the header.
 #[unsafe(no_mangle)]
@@ -24,9 +100,9 @@ pub unsafe extern "C" fn lk_table_new(pages: u32, callers: u32, out: *mut *mut H
     if out.is_null() {
         return LK_NULL;
     }
-    match Numbers::with_pages(pages, callers) {
+    match Table::with_pages(pages, callers) {
         // SAFETY: the caller's duty.
-        Ok(handles) => code(unsafe { put_all(out, TABLE, handles) }.map(|()| LK_OK)),
+        Ok(handles) => code(unsafe { put_all(out, TABLE, handles, Numbers::Threads) }.map(|()| LK_OK)),
         Err(why) => why_no_table(why),
     }
 }
@@ -37,6 +113,8 @@ pub(crate) fn why_no_table(why: TableError) -> c_int {
         TableError::Pages | TableError::Words => LK_BAD_SIZE,
         TableError::Callers => LK_BAD_CALLERS,
         TableError::NoSpace => LK_NO_SPACE,
+        TableError::OwnerDied => LK_OWNER_DIED,
+        TableError::Damaged => LK_DAMAGED,
         _ => LK_NO_MEMORY,
     }
 }
@@ -65,7 +143,7 @@ pub unsafe extern "C" fn lk_table_handle(table: *const Handle<Numbers>, out: *mu
 unsafe fn call(
     table: *mut Handle<Numbers>,
     old: *mut u64,
-    ask: impl FnOnce(&mut Numbers) -> Result<Option<u64>, NoSpace>,
+    ask: impl FnOnce(&mut Numbers) -> Result<Option<u64>, c_int>,
 ) -> c_int {
     // SAFETY: the caller's duty.
     let table = match unsafe { open(table, TABLE) } {
@@ -77,7 +155,7 @@ unsafe fn call(
         // SAFETY: the place may be written.
         Ok(Some(value)) => code(unsafe { put(old, value) }.map(|()| LK_OK)),
         Ok(None) => LK_ABSENT,
-        Err(_) => LK_NO_SPACE,
+        Err(code) => code,
     }
 }
 
@@ -89,7 +167,7 @@ unsafe fn call(
 #[unsafe(no_mangle)]
 pub unsafe extern "C" fn lk_table_put(table: *mut Handle<Numbers>, key: u64, value: u64, old: *mut u64) -> c_int {
     // SAFETY: the same duty.
-    unsafe { call(table, old, |table| table.insert(&key, value)) }
+    unsafe { call(table, old, |table| table.insert(key, value)) }
 }
 
 /// See the header.
@@ -100,11 +178,7 @@ pub unsafe extern "C" fn lk_table_put(table: *mut Handle<Numbers>, key: u64, val
 #[unsafe(no_mangle)]
 pub unsafe extern "C" fn lk_table_add(table: *mut Handle<Numbers>, key: u64, more: u64, old: *mut u64) -> c_int {
     // SAFETY: the same duty.
-    unsafe {
-        call(table, old, |table| {
-            table.update_with(&key, more, |old, more| Some(old.unwrap_or(&0).wrapping_add(*more)))
-        })
-    }
+    unsafe { call(table, old, |table| table.add(key, more)) }
 }
 
 /// See the header.
@@ -115,7 +189,7 @@ pub unsafe extern "C" fn lk_table_add(table: *mut Handle<Numbers>, key: u64, mor
 #[unsafe(no_mangle)]
 pub unsafe extern "C" fn lk_table_get(table: *mut Handle<Numbers>, key: u64, value: *mut u64) -> c_int {
     // SAFETY: the same duty.
-    unsafe { call(table, value, |table| Ok(table.get(&key))) }
+    unsafe { call(table, value, |table| table.get(key)) }
 }
 
 /// See the header.
@@ -126,7 +200,7 @@ pub unsafe extern "C" fn lk_table_get(table: *mut Handle<Numbers>, key: u64, val
 #[unsafe(no_mangle)]
 pub unsafe extern "C" fn lk_table_delete(table: *mut Handle<Numbers>, key: u64, old: *mut u64) -> c_int {
     // SAFETY: the same duty.
-    unsafe { call(table, old, |table| Ok(table.remove(&key))) }
+    unsafe { call(table, old, |table| table.remove(key)) }
 }
 
 /// See the header.
@@ -137,7 +211,7 @@ pub unsafe extern "C" fn lk_table_delete(table: *mut Handle<Numbers>, key: u64, 
 #[unsafe(no_mangle)]
 pub unsafe extern "C" fn lk_table_count(table: *mut Handle<Numbers>, out: *mut u64) -> c_int {
     // SAFETY: the caller's duty.
-    code(unsafe { open(table, TABLE).and_then(|table| put(out, table.count())).map(|()| LK_OK) })
+    code(unsafe { open(table, TABLE).and_then(Numbers::count).and_then(|count| put(out, count)).map(|()| LK_OK) })
 }
 
 /// See the header.
@@ -155,12 +229,9 @@ pub unsafe extern "C" fn lk_table_each(
         return LK_NULL;
     };
     // SAFETY: the caller's duty.
-    let entries = match unsafe { open(table, TABLE) } {
-        Ok(table) => table.entries(),
+    let entries = match unsafe { open(table, TABLE) }.and_then(Numbers::entries) {
+        Ok(entries) => entries,
         Err(code) => return code,
-    };
-    let Ok(entries) = entries else {
-        return LK_NO_MEMORY;
     };
     for (key, value) in entries {
         // SAFETY: the caller's duty.

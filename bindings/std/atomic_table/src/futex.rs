@@ -1,7 +1,5 @@
 //! Sleeping on a word of a mapping until another process wakes, by the system's `futex`.
 
-use crate::{Shared, TableRule};
-use rattle_std::sync::Wait;
 use std::ffi::c_long;
 use std::sync::atomic::AtomicU64;
 use std::time::Duration;
@@ -39,29 +37,4 @@ compile_error!("a futex is the low half of a word");
 pub fn wake(word: &AtomicU64, most: u32) {
     // SAFETY: the word is there; nothing of the program is changed.
     unsafe { syscall(SYS_FUTEX, word.as_ptr().cast::<u32>(), FUTEX_WAKE, c_long::from(most.min(i32::MAX as u32))) };
-}
-
-/// How long a sleep without a limit of its own lasts, since whoever would wake may have ended.
-const LONGEST_SLEEP: Duration = Duration::from_millis(100);
-
-impl<S, V, K, P: TableRule<S, V, K>> Shared<S, V, K, P> {
-    /// Sleeps on a word of the table if its low 32 bits are `expected`. It may return for no reason.
-    pub fn park<R: Wait>(&self, rt: &R, word: usize, expected: u32) {
-        self.park_timeout(rt, word, expected, LONGEST_SLEEP);
-    }
-
-    /// The same, for no longer than `dur`.
-    pub fn park_timeout<R: Wait>(&self, _rt: &R, word: usize, expected: u32, dur: Duration) {
-        sleep_on(self.word(word), expected, dur);
-    }
-
-    /// Wakes one of those who sleep on the word.
-    pub fn wake_one(&self, word: usize) {
-        wake(self.word(word), 1);
-    }
-
-    /// Wakes all of them.
-    pub fn wake_all(&self, word: usize) {
-        wake(self.word(word), u32::MAX);
-    }
 }

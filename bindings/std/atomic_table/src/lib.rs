@@ -5,42 +5,38 @@
 //! atomic `u64`; a slot is read and written by plain reads and writes, through the seat that holds it; a seat, a badge and
 //! a view have no bytes. Who may take which step, and that no slot is held by two seats, is the rule that each crate above
 //! proves; in Rust the rules are empty traits. So a caller that follows no such rule can reach one slot from two threads:
-//! this crate and those of the runtime over it are only for the crates `lembokuj` and `lembokuj_processes`, and are not
-//! published.
+//! this crate and those of the runtime over it are only for the crate `lembokuj`, and are not published.
 //!
-//! Words and slots lie on the heap, or, with the feature `mapping`, in a file that several processes map, each at another
-//! address. Then a process is to the others as a thread: what one stores in the mapping the others load, and nothing in it
-//! is an address. A value in a slot may then have no pointer, which no type says: it is the duty of the crates that make
-//! tables, and of `Table::attach`'s callers.
+//! Words and slots lie on the heap, or, on Linux, in a file that several processes map, each at another address: where, is said when
+//! a table is made (`placed_in`), and all steps are the same code. In a mapping a process is to the others as a thread: what one stores
+//! the others load, and nothing in it is an address. A value in a slot may then have no pointer, which no type says: it is
+//! the duty of the crates that make tables, and of `Table::attach`'s callers.
 //!
-//! The places of `unsafe` are `impl Sync for Shared`, `Seat::slot_mut` and the two calls for slots in a row; with the
-//! feature besides `impl Send` for what lies in the mapping, the places and first values of tables (`placed`), and the
-//! calls of the system (`mapping`, `futex`).
+//! The places of `unsafe` are `impl Sync for Shared`, `Seat::slot_mut` and the two calls for slots in a row; the memory of a table
+//! (`place`); and, for a mapping, the first values of tables (`site`) and the calls of the system (`mapping`, `futex`).
 
 #![expect(clippy::type_complexity, reason = "a marker names all that it stands for")]
 
-#[cfg(feature = "mapping")]
+#[cfg(all(target_os = "linux", any(target_arch = "x86_64", target_arch = "aarch64")))]
 mod futex;
-#[cfg(not(feature = "mapping"))]
-mod heap;
 mod home;
-#[cfg(feature = "mapping")]
+mod lists;
+#[cfg(all(target_os = "linux", any(target_arch = "x86_64", target_arch = "aarch64")))]
 mod mapping;
-#[cfg(feature = "mapping")]
-mod placed;
+mod place;
+#[cfg(all(target_os = "linux", any(target_arch = "x86_64", target_arch = "aarch64")))]
+mod site;
+mod sleep;
 
-#[cfg(feature = "mapping")]
+#[cfg(all(target_os = "linux", any(target_arch = "x86_64", target_arch = "aarch64")))]
 pub use futex::{sleep_on, wake};
-#[cfg(feature = "mapping")]
+#[cfg(all(target_os = "linux", any(target_arch = "x86_64", target_arch = "aarch64")))]
 pub use mapping::{Mapping, Room};
-#[cfg(feature = "mapping")]
-pub use placed::{Site, placed_in};
+#[cfg(all(target_os = "linux", any(target_arch = "x86_64", target_arch = "aarch64")))]
+pub use site::{Site, placed_in};
 
-#[cfg(not(feature = "mapping"))]
-use heap::Place;
-#[cfg(feature = "mapping")]
-use placed::Place;
 use home::is_word;
+use place::Place;
 use rattle_std::alloc::{AllocError, Global};
 use rattle_std::vec::Vec;
 use std::marker::PhantomData;

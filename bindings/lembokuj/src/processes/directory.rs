@@ -6,9 +6,9 @@
 //! An object's entry is a chunk of `ENTRY_WORDS` words: its kind, how many handles it has, the number of its first claim, that
 //! of its first word of advice, and then the numbers of its kind.
 
-use crate::map::region_end;
-use crate::sys::Sum;
-use crate::table::Numbers;
+use crate::processes::map::region_end;
+use crate::processes::sys::Sum;
+use crate::processes::table::Numbers;
 use atomic_table::Site;
 use dsa_area::AreaSite;
 use dshash_parts::{Dshash, TableSite};
@@ -16,6 +16,7 @@ use region_words::Region;
 use rel_pointer::RelPtr;
 use shm_toc::FrozenToc;
 use std::hash::Hasher;
+use std::sync::Arc;
 
 /// The magic number of the directory's table of contents.
 pub(crate) const TOC_MAGIC: u64 = 0x4c_4b54_4f43;
@@ -61,7 +62,7 @@ pub(crate) struct Entry {
 /// All objects of a region.
 #[derive(Clone, Debug, Default)]
 pub(crate) struct Directory {
-    pub(crate) entries: Vec<Entry>,
+    pub(crate) entries: Vec<Arc<Entry>>,
 }
 
 const QUEUE: u64 = 1;
@@ -163,7 +164,7 @@ impl Object {
                 let item = dshash_core::item_bytes(1, 1);
                 area_fits(area) && table.key_words == 1 && table.item_bytes == item && Dshash::<Numbers>::fits(table, file)
             }
-            Object::Barrier(site) => par_barrier::Barrier::fits(*site, file),
+            Object::Barrier(site) => par_barrier_mapped::Barrier::fits(*site, file),
             Object::Words { first, count } => within(*first, *count),
         }
     }
@@ -219,13 +220,13 @@ impl Directory {
             let place = word(TOC_HEAD + 2 * at + 1)?;
             let end = place.checked_add(ENTRY_WORDS)?;
             let numbers = (place..end).map(&mut word).collect::<Option<Vec<u64>>>()?;
-            entries.push(Entry::of(key, &numbers, words, file)?);
+            entries.push(Arc::new(Entry::of(key, &numbers, words, file)?));
         }
         Some(Directory { entries })
     }
 
     /// The object under a key.
-    pub(crate) fn find(&self, key: u64) -> Option<&Entry> {
+    pub(crate) fn find(&self, key: u64) -> Option<&Arc<Entry>> {
         self.entries.iter().find(|entry| entry.key == key)
     }
 

@@ -1,5 +1,6 @@
 //! A region that lies in a mapping, as each process has it. Not proved.
-use crate::{Frozen, Region};
+use super::Region;
+use crate::Frozen;
 use atomic_table::{Badge, Mapping, Site, Table};
 use std::sync::Arc;
 use std::sync::atomic::AtomicU64;

@@ -1,11 +1,9 @@
-//! Sleeping on a word of a table, and waking those who do.
+//! Sleeping on a word that only the threads of this process reach, and waking those who do.
 //!
 //! Each system has a call for it (`futex` on Linux), but none that Rust's library shows. So who sleeps stands in one of a
 //! few lists, found by the word's address, and sleeps by `thread::park`. Whoever is about to sleep looks at the word while
 //! it has the list, and whoever wakes takes the list after it changed the word: so one of the two sees the other.
 
-use crate::{Shared, TableRule};
-use rattle_std::sync::Wait;
 use std::sync::atomic::AtomicU64;
 use std::sync::atomic::Ordering::SeqCst;
 use std::sync::{Mutex, MutexGuard, PoisonError};
@@ -69,40 +67,20 @@ fn first_sleeper(at: usize) -> Option<Thread> {
     Some(sleepers.remove(first).thread)
 }
 
-impl<S, V, K, P: TableRule<S, V, K>> Shared<S, V, K, P> {
-    /// Sleeps if the low 32 bits of the word are `expected`, until a wake. It may also return for no reason.
-    #[cold]
-    pub fn park<R: Wait>(&self, _rt: &R, word: usize, expected: u32) {
-        let word = self.word(word);
-        if begins_sleep(word, expected) {
-            thread::park();
-            ends_sleep(word);
+/// Sleeps if the low 32 bits of the word are `expected`, until a wake, or for no longer than `time` if there is one. It may also return
+/// for no reason.
+pub(crate) fn sleep_on(word: &AtomicU64, expected: u32, time: Option<Duration>) {
+    if begins_sleep(word, expected) {
+        match time {
+            None => thread::park(),
+            Some(time) => thread::park_timeout(time),
         }
+        ends_sleep(word);
     }
+}
 
-    /// The same, for no longer than `dur`.
-    #[cold]
-    pub fn park_timeout<R: Wait>(&self, _rt: &R, word: usize, expected: u32, dur: Duration) {
-        let word = self.word(word);
-        if begins_sleep(word, expected) {
-            thread::park_timeout(dur);
-            ends_sleep(word);
-        }
-    }
-
-    /// Wakes one thread that sleeps on the word, if there is one.
-    #[cold]
-    pub fn wake_one(&self, word: usize) {
-        if let Some(thread) = first_sleeper(address_of(self.word(word))) {
-            thread.unpark();
-        }
-    }
-
-    /// Wakes every thread that sleeps on the word.
-    #[cold]
-    pub fn wake_all(&self, word: usize) {
-        while let Some(thread) = first_sleeper(address_of(self.word(word))) {
-            thread.unpark();
-        }
-    }
+/// Wakes the thread that has slept longest on the word; false if there is none.
+pub(crate) fn wake_first(word: &AtomicU64) -> bool {
+    let first = first_sleeper(address_of(word));
+    first.map(|thread| thread.unpark()).is_some()
 }

@@ -1,7 +1,8 @@
 //! Processes at the objects of one region, each a program of its own that attached by name; and what is left when one of them
 //! is killed, at a moment of its full work or while it has a lock. `KILLS=n` kills n processes at each object, else 9.
 
-use lembokuj_processes::{AreaError, BarrierError, ReceiveError, Region, SendError, TableError, Ticket};
+use lembokuj::processes::{Region, Ticket};
+use lembokuj::{AreaError, BarrierError, ReceiveError, SendError, TableError, select};
 use std::collections::BTreeMap;
 use std::process::{Child, Command, exit};
 use std::sync::Arc;
@@ -222,7 +223,7 @@ impl Collector {
 
 /// Collects the reports of all workers.
 fn collect(region: &Region) -> Vec<Collector> {
-    let collect = |mut rx: lembokuj_processes::Rx, came: Arc<AtomicU64>| {
+    let collect = |mut rx: lembokuj::Rx, came: Arc<AtomicU64>| {
         let mut told = Vec::new();
         loop {
             match rx.receive() {
@@ -402,7 +403,7 @@ fn kill_at_table(kills: u32, with_lock: bool) {
         for (number, mut child) in children.into_iter().enumerate() {
             assert!(number == victim || child.wait().unwrap().success(), "a process that was not killed failed");
         }
-        let reports: Vec<Report> = reports.into_iter().map(|report| report.join()).collect();
+        let reports: Vec<Report> = reports.into_iter().map(Collector::join).collect();
         for (number, report) in reports.iter().enumerate() {
             let has_ended = !with_lock && report.told.len() as u64 == ADDS;
             assert!(if number == victim { has_ended || report.end == ReceiveError::PeerDied } else { report.end == ReceiveError::Detached });
@@ -458,7 +459,7 @@ fn new_keys_are_refused(region: &Region) -> bool {
 /// A sender is killed, and then a receiver: the other side is told, after all whole messages.
 fn kill_at_queue(kills: u32) {
     let mut came = 0u64;
-    for _ in 0..kills {
+    for round in 0..kills {
         let made = Named::new();
         let mut rx = made.region.receiver(QUEUE).unwrap();
         let mut sender = made.start("role-send", 0);
@@ -474,6 +475,10 @@ fn kill_at_queue(kills: u32) {
         });
         let mut next = 0u64;
         let end = loop {
+            // A wait for several receivers learns it too.
+            if round % 3 == 0 {
+                assert_eq!(select(&mut [&mut rx]), 0);
+            }
             match rx.receive() {
                 Ok(bytes) => {
                     assert_eq!(bytes, next.to_le_bytes());
@@ -502,7 +507,8 @@ fn kill_at_queue(kills: u32) {
     println!("queue    {kills} senders were killed: {came} messages came, in order; {kills} receivers: each sender was told");
 }
 
-/// One of four is killed: the others go on, and each phase elects one; or, if it had the barrier's lock, all are told that.
+/// One of four is killed: the others go on, and each phase elects one; or, if it had the barrier's lock, each that still calls is
+/// told that.
 fn kill_at_barrier(kills: u32, with_lock: bool) {
     let (mut slowest, mut lost) = (Duration::ZERO, 0);
     for _ in 0..kills {
@@ -522,15 +528,21 @@ fn kill_at_barrier(kills: u32, with_lock: bool) {
         let codes: Vec<_> = children.into_iter().skip(1).map(|mut child| child.wait().unwrap().code()).collect();
         slowest = slowest.max(begun.elapsed());
         let told: Vec<u64> = reports.into_iter().skip(1).map(|report| report.join().told.len() as u64).collect();
-        if codes.iter().all(|code| *code == Some(LOST_CODE)) {
+        assert!(codes.iter().all(|code| matches!(code, Some(0 | LOST_CODE))), "{codes:?}");
+        if codes.contains(&Some(LOST_CODE)) {
             lost += 1;
+            // Whoever had seen the last phase end before that needs the barrier no more; the others were waiting for its end.
+            let has_ended = codes.contains(&Some(0));
+            assert!(!with_lock || !has_ended, "{codes:?}");
+            for (code, count) in codes.iter().zip(told) {
+                assert!(if *code == Some(0) { count == PHASES } else { !has_ended || count == PHASES - 1 }, "{codes:?} {count}");
+            }
             // Those that had ended before another one looked are marked already.
             let reaped = made.region.reap();
             assert!(reaped.lost <= WORKERS && reaped.detached == 0, "a barrier that is lost is lost to all: {reaped:?}");
             assert_eq!(made.region.reap().lost, 0);
         } else {
-            assert!(!with_lock && codes.iter().all(|code| *code == Some(0)), "{codes:?}");
-            assert!(told.iter().all(|count| *count == PHASES), "{told:?}");
+            assert!(!with_lock && told.iter().all(|count| *count == PHASES), "{told:?}");
         }
     }
     let which = if with_lock { "that had the lock" } else { "of four at any moment" };

@@ -22,9 +22,10 @@
 //! | 7 | 0 while it is made, 1 once it is open, 2 once a process found it damaged | the maker; a process that finds it |
 //! | 8 | how many tickets were written | a process that posts a chunk |
 
-use crate::directory::Directory;
-use crate::sys::{self, Process, Sum};
-use crate::table::Numbers;
+use crate::link::Damage;
+use crate::processes::directory::Directory;
+use crate::processes::sys::{self, Process, Sum};
+use crate::processes::table::Numbers;
 use atomic_table::{Mapping, Site};
 use std::fs::File;
 use std::hash::Hasher;
@@ -95,10 +96,6 @@ crate::errors!(AttachError {
     OtherSystem => "the region is of another system",
 });
 
-/// Something in the mapping is not as this library leaves it.
-#[derive(Clone, Copy, Debug, PartialEq, Eq)]
-pub(crate) struct Damage;
-
 /// A region as this process has it.
 pub(crate) struct Map {
     pub(crate) mapping: Arc<Mapping>,
@@ -117,7 +114,7 @@ fn layout() -> u64 {
         pages,
         pool,
         dshash_parts::Dshash::<Numbers>::slot_layout(),
-        par_barrier::Barrier::slot_layout(),
+        par_barrier_mapped::Barrier::slot_layout(),
     ] {
         sum.write_u64(bytes);
         sum.write_u64(align);
@@ -170,6 +167,11 @@ pub(crate) fn begin(mapping: &Mapping, words: u64) {
     ] {
         head(mapping, word).store(value, SeqCst);
     }
+}
+
+/// The place of a word of a region in its file, in bytes.
+pub(crate) fn place_of(at: u64) -> u64 {
+    8 * (HEAD_WORDS + at)
 }
 
 impl Map {
@@ -243,11 +245,6 @@ impl Map {
     /// Whether a process found it damaged.
     pub(crate) fn is_damaged(&self) -> bool {
         head(&self.mapping, Head::State).load(SeqCst) == DAMAGED
-    }
-
-    /// The place of a word of the region in the file, in bytes.
-    pub(crate) fn place_of(&self, at: u64) -> u64 {
-        8 * (HEAD_WORDS + at)
     }
 
     /// A number that no other ticket of the region has.

@@ -1,15 +1,16 @@
 //! What a message and a call of a table cost between processes, beside threads of one process and what the system has: a pipe,
-//! a Unix socket and a POSIX message queue. Each message has 8 bytes, and is shown at once.
+//! a Unix socket and a POSIX message queue. Each message has 8 bytes, and is shown at once. Then what a wait for another process
+//! uses, and how long its message takes to wake the receiver.
 //!
-//!     cargo bench [-- COUNT]        COUNT messages or calls each, else 1,000,000
+//!     cargo bench -p lembokuj --features processes --bench processes [-- COUNT]        COUNT messages or calls each, else 1,000,000
 
-use lembokuj_processes::Region;
+use lembokuj::processes::Region;
 use std::ffi::{CString, c_char, c_int, c_long, c_uint};
 use std::io::{Read, Write};
 use std::os::unix::net::UnixStream;
 use std::process::{Child, Command, Stdio};
 use std::thread;
-use std::time::Instant;
+use std::time::{Duration, Instant, SystemTime};
 
 const QUEUE: u64 = 1;
 const TABLE: u64 = 2;
@@ -42,6 +43,7 @@ fn main() {
     let count: u64 = words.first().and_then(|word| word.parse().ok()).unwrap_or(1_000_000);
     messages(count);
     calls(count);
+    waits();
 }
 
 fn child(role: &str, name: &str, count: u64) -> Command {
@@ -72,6 +74,13 @@ fn play(role: &str, name: &str, count: u64) {
         "send" => {
             let mut tx = Region::attach_named(name).unwrap().sender(QUEUE).unwrap();
             (0..count).for_each(|n| tx.send(&n.to_le_bytes()).unwrap());
+        }
+        "wake" => {
+            let mut tx = Region::attach_named(name).unwrap().sender(QUEUE).unwrap();
+            for _ in 0..count {
+                thread::sleep(Duration::from_millis(5));
+                tx.send(&now().to_le_bytes()).unwrap();
+            }
         }
         "write" => {
             let mut out = std::io::stdout().into_raw();
@@ -206,4 +215,34 @@ fn calls(count: u64) {
         told(&format!("the same, {callers} threads"), callers * count, begun);
         Region::unlink(&name).unwrap();
     }
+}
+
+/// The system's clock, which processes share, in nanoseconds.
+fn now() -> u64 {
+    SystemTime::now().duration_since(SystemTime::UNIX_EPOCH).unwrap().as_nanos() as u64
+}
+
+/// The processor time of this thread so far, in milliseconds, as the system counts it.
+fn used() -> f64 {
+    let stat = std::fs::read_to_string("/proc/thread-self/schedstat").unwrap_or_default();
+    stat.split_whitespace().next().and_then(|time| time.parse::<f64>().ok()).unwrap_or(f64::NAN) / 1e6
+}
+
+fn waits() {
+    let name = format!("lk.bench.{}", std::process::id());
+    let made = region(&name);
+    let mut rx = made.receiver(QUEUE).unwrap();
+    let before = used();
+    assert!(rx.receive_timeout(Duration::from_secs(2)).is_err());
+    println!("a receiver that waits 2 s for another process uses {:.2} ms", used() - before);
+    let sender = child("wake", &name, 200).spawn().unwrap();
+    let mut times = Vec::new();
+    while let Ok(bytes) = rx.receive() {
+        times.push(now().saturating_sub(u64::from_le_bytes(bytes.try_into().unwrap())) as f64 / 1e3);
+    }
+    ended(sender);
+    Region::unlink(&name).unwrap();
+    times.sort_by(f64::total_cmp);
+    let (middle, most) = (times[times.len() / 2], times[times.len() - 1]);
+    println!("a receiver that sleeps has another process's message after {middle:.0} us in the middle, {most:.0} us at most");
 }

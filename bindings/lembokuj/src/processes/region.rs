@@ -1,9 +1,9 @@
 //! Regions: how one is laid out and opened, and how handles are taken of it.
 
-use crate::directory::{ADVICE_WORDS, Directory, ENTRY_WORDS, Entry, MOST_HANDLES, MOST_MESSAGE_BYTES, Object, TOC_MAGIC};
-use crate::map::{self, AttachError, HEAD_WORDS, MOST_WORDS, Map};
-use crate::sys::{self, Process};
-use crate::table::Numbers;
+use crate::processes::directory::{ADVICE_WORDS, Directory, ENTRY_WORDS, Entry, MOST_HANDLES, MOST_MESSAGE_BYTES, Object, TOC_MAGIC};
+use crate::processes::map::{self, AttachError, HEAD_WORDS, MOST_WORDS, Map};
+use crate::processes::sys::{self, Process};
+use crate::processes::table::Numbers;
 use crate::{HOST, errors};
 use atomic_table::{Mapping, Room, placed_in};
 use dsa_area::AreaPass;
@@ -115,22 +115,38 @@ impl fmt::Debug for Region {
 impl Region {
     /// Begins a region of this many words of 8 bytes, from 64 to fewer than 2^26, in a file without a name, which programs that
     /// this process starts inherit under the number of [`Region::fd`]. What nobody stores to takes no memory.
+    ///
+    /// # Errors
+    ///
+    /// [`BuildError::Words`], [`BuildError::System`].
     pub fn create(words: u64) -> Result<Builder, BuildError> {
         Builder::new(words, |bytes| sys::nameless_file(c"lembokuj", bytes))
     }
 
     /// The same under a name in `/dev/shm`, as `shm_open` has them, without the slash. Nobody may have the name; it stays until
     /// [`Region::unlink`].
+    ///
+    /// # Errors
+    ///
+    /// [`BuildError::Words`], [`BuildError::System`].
     pub fn create_named(name: &str, words: u64) -> Result<Builder, BuildError> {
         Builder::new(words, |bytes| sys::new_named_file(name, bytes))
     }
 
     /// Takes the name away. Who has the region keeps it; the memory goes with the last of them.
+    ///
+    /// # Errors
+    ///
+    /// What the system says.
     pub fn unlink(name: &str) -> std::io::Result<()> {
         sys::remove_name(name)
     }
 
     /// The region in a file. It duplicates the descriptor. The cost grows with the number of objects.
+    ///
+    /// # Errors
+    ///
+    /// [`AttachError`] has the causes.
     pub fn attach(file: impl AsFd) -> Result<Region, AttachError> {
         let fd = file.as_fd().try_clone_to_owned().map_err(|_| AttachError::System)?;
         Ok(Region {
@@ -139,6 +155,10 @@ impl Region {
     }
 
     /// The region under a name.
+    ///
+    /// # Errors
+    ///
+    /// [`AttachError`] has the causes.
     pub fn attach_named(name: &str) -> Result<Region, AttachError> {
         let file = sys::named_file(name).map_err(|_| AttachError::System)?;
         Ok(Region {
@@ -148,16 +168,22 @@ impl Region {
 
     /// The descriptor of the file, which lives as long as this region. Another program gets the file by this number, if this
     /// process made the region without a name and started it, over a socket, or by `/proc/PID/fd`.
+    #[must_use]
     pub fn fd(&self) -> RawFd {
         self.map.file.as_raw_fd()
     }
 
     /// Where the mapping begins in this process, for the curious: other processes have it at another address.
+    #[must_use]
     pub fn address(&self) -> usize {
         self.map.mapping.address()
     }
 
     /// A word of the words under a key, from 0; None past their end.
+    ///
+    /// # Errors
+    ///
+    /// [`TakeError::NoKey`].
     pub fn load(&self, key: u64, at: u64) -> Result<Option<u64>, TakeError> {
         match self.map.directory.find(key).map(|entry| &entry.object) {
             Some(Object::Words { first, count }) => Ok((at < *count).then(|| self.map.region.word(first + at).load(SeqCst))),
@@ -208,6 +234,7 @@ impl Builder {
     }
 
     /// The bytes that are left for objects.
+    #[must_use]
     pub fn free_bytes(&self) -> u64 {
         self.toc.free_bytes()
     }
@@ -230,7 +257,7 @@ impl Builder {
         }
         self.toc.insert(&self.region, key, chunk.at).map_err(refused)?;
         self.toc.keep(&self.region, chunk);
-        self.directory.entries.push(entry);
+        self.directory.entries.push(Arc::new(entry));
         Ok(())
     }
 
@@ -244,6 +271,10 @@ impl Builder {
 
     /// A queue with one sender and one receiver: a ring of `ring_words` words, a power of two up to 2^20, and messages of at most
     /// `max_bytes` bytes.
+    ///
+    /// # Errors
+    ///
+    /// [`BuildError`] has the causes.
     pub fn queue(&mut self, key: u64, ring_words: u64, max_bytes: u32) -> Result<(), BuildError> {
         self.is_new(key)?;
         if !mq_ring::is_ring_size(ring_words) {
@@ -277,6 +308,10 @@ impl Builder {
     }
 
     /// An area of 1 to 65,536 pages, of 4,096 bytes each, for up to 4,096 callers.
+    ///
+    /// # Errors
+    ///
+    /// [`BuildError`] has the causes.
     pub fn area(&mut self, key: u64, pages: u32, callers: u32) -> Result<(), BuildError> {
         self.is_new(key)?;
         let (area, _passes) = self.new_area(pages, callers)?;
@@ -284,6 +319,10 @@ impl Builder {
     }
 
     /// A table of numbers under numbers, in pages that nothing else has, for up to 4,096 callers.
+    ///
+    /// # Errors
+    ///
+    /// [`BuildError`] has the causes.
     pub fn table(&mut self, key: u64, pages: u32, callers: u32) -> Result<(), BuildError> {
         self.is_new(key)?;
         let (area, mut passes) = self.new_area(pages, callers)?;
@@ -299,18 +338,26 @@ impl Builder {
     }
 
     /// A barrier of up to 63 callers, who all take part from the start.
+    ///
+    /// # Errors
+    ///
+    /// [`BuildError`] has the causes.
     pub fn barrier(&mut self, key: u64, callers: u32) -> Result<(), BuildError> {
         self.is_new(key)?;
-        if !(1..=par_barrier::Barrier::MOST_CALLERS).contains(&callers) {
+        if !(1..=par_barrier_mapped::Barrier::MOST_CALLERS).contains(&callers) {
             return Err(BuildError::Callers);
         }
-        let made = placed_in(&self.room, || par_barrier::Barrier::new(Global, callers));
+        let made = placed_in(&self.room, || par_barrier_mapped::Barrier::new(Global, callers));
         let (barrier, mut passes) = made.map_err(|_| BuildError::Full)?;
         barrier.attach_all(&HOST, passes.as_mut_slice());
         self.enter(key, callers, Object::Barrier(barrier.site()))
     }
 
     /// Words that everybody reads and nobody changes.
+    ///
+    /// # Errors
+    ///
+    /// [`BuildError`] has the causes.
     pub fn words(&mut self, key: u64, words: &[u64]) -> Result<(), BuildError> {
         self.is_new(key)?;
         if words.is_empty() {
@@ -327,6 +374,7 @@ impl Builder {
     }
 
     /// Opens the region: the directory is frozen, and others may attach.
+    #[must_use]
     pub fn open(mut self) -> Region {
         // What nothing was given of is nobody's, so that freezing stores nothing there, and it takes no memory.
         let rest = self.toc.free_bytes() / CHUNK_ALIGN * CHUNK_ALIGN;
@@ -347,18 +395,18 @@ impl Builder {
 /// A handle that this process has: which object, and the number of the handle.
 pub(crate) struct Handle {
     pub(crate) map: Arc<Map>,
-    pub(crate) entry: Entry,
+    pub(crate) entry: Arc<Entry>,
     pub(crate) number: u32,
 }
 
 impl Handle {
     /// The handle of this number, if nobody has it.
-    pub(crate) fn take(map: &Arc<Map>, entry: &Entry, number: u32) -> Result<Handle, TakeError> {
+    pub(crate) fn take(map: &Arc<Map>, entry: &Arc<Entry>, number: u32) -> Result<Handle, TakeError> {
         let claim = claim_of(map, entry, number);
         match claim.compare_exchange(FREE, map.me.number(), SeqCst, SeqCst) {
             Ok(_) => Ok(Handle {
                 map: Arc::clone(map),
-                entry: entry.clone(),
+                entry: Arc::clone(entry),
                 number,
             }),
             Err(_) => Err(TakeError::Taken),
@@ -366,7 +414,7 @@ impl Handle {
     }
 
     /// The first handle that nobody has.
-    pub(crate) fn take_any(map: &Arc<Map>, entry: &Entry) -> Result<Handle, TakeError> {
+    pub(crate) fn take_any(map: &Arc<Map>, entry: &Arc<Entry>) -> Result<Handle, TakeError> {
         let first = (0..entry.handles).find_map(|number| Handle::take(map, entry, number).ok());
         first.ok_or(TakeError::Taken)
     }

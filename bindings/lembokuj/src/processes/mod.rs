@@ -1,9 +1,13 @@
-// SPDX-License-Identifier: PostgreSQL
-//! Objects that several processes share: queues, hash tables, areas, barriers and words in one mapping, which each process has
-//! at another address. They are the objects of the crate `lembokuj` in another place, with the same names of calls.
+//! Objects that several processes share: queues, hash tables, areas, barriers and words in one file in memory, which each process
+//! maps at another address. They are the objects of this crate in another place, over the same code below, with the same names of calls and
+//! the same errors; this module is there with the feature `processes`, on Linux.
+//!
+//! Take it if the callers are processes, or if one of them may be killed while the others go on. For the threads of one process the
+//! calls of the crate itself, [`crate::queue`], [`crate::Table`] and so on, are the same objects in memory of the process's own: they
+//! take any keys and values, have no file, and need no answer for a caller that died.
 //!
 //! ```no_run
-//! use lembokuj_processes::Region;
+//! use lembokuj::processes::Region;
 //! # fn main() -> Result<(), Box<dyn std::error::Error>> {
 //! // The leader:
 //! let mut builder = Region::create_named("lk.sums", 1 << 16)?;
@@ -30,26 +34,20 @@
 //!
 //! **After a fork** the child attaches anew, and does not use its parent's handles; if it drops them, nothing happens.
 //!
+//! **Memory.** To lay out a region, attach to it, take a handle and ask whether a process lives takes some; without it such a call may
+//! end the process.
+//!
 //! **Trust.** Everybody that may write the file can spoil it for all: the processes that have it are one domain of trust. What a file
 //! says of its layout is looked at before anything is used ([`AttachError`]); what processes change later is looked at
 //! only so far that no word outside of it is touched, and answers `Damaged` then.
 //!
 //! The code below was proved in Rattle for every interleaving of threads. Here its contracts are erased, its words lie in a
-//! mapping, and a process stands for a thread: nothing of that is proved (`docs/PROCESSES.md` of the repository). Linux only.
+//! mapping, and a process stands for a thread: nothing of that is proved (`docs/PROCESSES.md` of the repository).
 
-#![warn(missing_docs)]
-
-// What does not depend on who shares an object is one text for threads and for processes.
-#[path = "../../lembokuj/src/causes.rs"]
-mod causes;
-#[path = "../../lembokuj/src/limit.rs"]
-mod limit;
-#[path = "../../lembokuj/src/rows.rs"]
-mod rows;
+#![allow(unsafe_code)]
 
 mod area;
 mod barrier;
-mod c;
 mod directory;
 mod map;
 mod queue;
@@ -58,16 +56,11 @@ mod region;
 mod sys;
 mod table;
 
-pub use area::{Area, AreaError, Chunk, Ticket};
-pub use barrier::{Arrival, Barrier, BarrierError};
+pub use area::{Area, Chunk, Ticket};
 pub use map::AttachError;
-pub use queue::{ReceiveError, Rx, SendError, Tx};
 pub use reap::Reaped;
-pub use rows::NoWord;
 pub use region::{BuildError, Builder, Region, TakeError};
-pub use table::{Table, TableError};
+pub use table::Table;
 
-use causes::errors;
-
-/// The leave to wait, which the calls beneath ask for.
-const HOST: rattle_std::HostRuntime = rattle_std::HostRuntime::new();
+pub(crate) use barrier::Party;
+pub(crate) use queue::End;

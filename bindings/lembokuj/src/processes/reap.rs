@@ -1,10 +1,10 @@
 //! What ended processes had is given to others, as far as no lock was in their hands.
 
-use crate::directory::{Entry, Object};
-use crate::map::Map;
-use crate::region::{FREE, LOST, Region, SPENT, TakeError, claim_of, has_ended};
-use crate::sys::Process;
-use crate::{area, barrier, queue, table};
+use crate::processes::directory::{Entry, Object};
+use crate::processes::map::Map;
+use crate::processes::region::{FREE, LOST, Region, SPENT, TakeError, claim_of, has_ended};
+use crate::processes::sys::Process;
+use crate::processes::{area, barrier, queue, table};
 use std::sync::atomic::Ordering::SeqCst;
 
 /// What was found of processes that have ended.
@@ -28,6 +28,7 @@ impl Region {
     /// another handle or more space. It costs a question to the system for each handle that is taken and each process that
     /// has chunks, and it reads a word for each word of an area. A chunk that was posted and not fetched is nobody's, and stays; so does one that
     /// the dead were asking for or giving back.
+    #[expect(clippy::must_use_candidate, reason = "a supervisor calls it for what it does")]
     pub fn reap(&self) -> Reaped {
         let mut reaped = Reaped::default();
         for entry in &self.map.directory.entries {
@@ -46,6 +47,10 @@ impl Region {
 impl Region {
     /// The ids of the processes that have a lock of the object under a key at this moment, each once: for a supervisor that wants
     /// to know who hinders others, or whose end would lose something. It stops nobody.
+    ///
+    /// # Errors
+    ///
+    /// [`TakeError::NoKey`].
     pub fn lock_holders(&self, key: u64) -> Result<Vec<u32>, TakeError> {
         let entry = self.map.directory.find(key).ok_or(TakeError::NoKey)?;
         let has_lock = locks_of(&self.map, entry);

@@ -1,7 +1,8 @@
 //! Files that are no regions, or whose head or directory is not as it was written: each is refused by name, and whatever else
 //! of a file is damaged, a process that attaches to it and takes its handles does not fall.
 
-use lembokuj_processes::{AttachError, ReceiveError, Region, SendError, TakeError};
+use lembokuj::processes::{AttachError, Region, TakeError};
+use lembokuj::{ReceiveError, SendError};
 use std::collections::BTreeMap;
 use std::fs::{File, OpenOptions};
 use std::os::unix::fs::FileExt;
@@ -157,7 +158,7 @@ fn damaged_files_are_refused_by_name_and_hurt_nobody() {
                 false
             }
             _ => {
-                for _ in 0..1 + chance.below(64) {
+                for _ in 0..=chance.below(64) {
                     // Not words of locks: whether their holders live is asked of the processes that they name.
                     set(&file, REGION + chance.below(2 * WORDS), chance.word());
                 }
@@ -201,7 +202,7 @@ fn other_files_are_no_regions() {
     assert_eq!(Region::attach_named("../etc/passwd").err(), Some(AttachError::System));
     let empty = File::open("/dev/null").unwrap();
     assert_eq!(Region::attach(&empty).err(), Some(AttachError::NotRegion));
-    let source = File::open(concat!(env!("CARGO_MANIFEST_DIR"), "/src/region.rs")).unwrap();
+    let source = File::open(concat!(env!("CARGO_MANIFEST_DIR"), "/src/processes/region.rs")).unwrap();
     // It can't be written, so the system refuses to share it.
     assert_eq!(Region::attach(&source).err(), Some(AttachError::System));
     let (reader, _writer) = std::io::pipe().unwrap();

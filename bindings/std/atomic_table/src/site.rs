@@ -1,14 +1,15 @@
-//! Words and slots in a mapping.
+//! Words and slots in a mapping: where they lie, and how a table is made there and found again.
 
 use crate::home::{Home, is_word};
 use crate::mapping::{Mapping, Room};
+use crate::place::{Ground, Place};
 use crate::{Refused, Shared, Table, TableRule};
 use rattle_std::alloc::Global;
 use rattle_std::vec::Vec;
-use std::cell::{RefCell, UnsafeCell};
+use std::cell::Cell;
+use std::marker::PhantomData;
 use std::ptr::NonNull;
 use std::sync::Arc;
-use std::sync::atomic::AtomicU64;
 use std::sync::atomic::Ordering::SeqCst;
 
 /// The alignment of a table's slots in words, and that of its words: a lock has a line of the cache.
@@ -60,57 +61,37 @@ impl Site {
     }
 }
 
-/// The words and slots of a table, which stay in the mapping when this is dropped.
-pub(crate) struct Place<S> {
-    /// Keeps the mapping.
-    _mapping: Arc<Mapping>,
-    site: Site,
-    words: NonNull<AtomicU64>,
-    word_count: usize,
-    slots: NonNull<u64>,
-    slot_count: usize,
-    marker: std::marker::PhantomData<S>,
-}
-
-// SAFETY: the words are atomic, and the memory is the mapping's, which the place keeps. A slot is reached only through a table
-// (see `Shared`), whose threads hand its value to one another.
-unsafe impl<S: Send> Send for Place<S> {}
-
 thread_local! {
-    /// Where this thread makes tables.
-    static ROOM: RefCell<Option<Room>> = const { RefCell::new(None) };
+    /// Where this thread makes tables, if not on the heap: a room that `placed_in` borrows.
+    static ROOM: Cell<Option<NonNull<Room>>> = const { Cell::new(None) };
 }
 
-/// What `make` makes lies in this room.
+/// What `make` makes in this thread lies in this room.
 pub fn placed_in<R>(room: &Room, make: impl FnOnce() -> R) -> R {
-    struct Back(Option<Room>);
+    struct Back(Option<NonNull<Room>>);
     impl Drop for Back {
         fn drop(&mut self) {
-            ROOM.set(self.0.take());
+            ROOM.set(self.0);
         }
     }
-    let _back = Back(ROOM.replace(Some(room.clone())));
+    let _back = Back(ROOM.replace(Some(NonNull::from(room))));
     make()
 }
 
+/// The room of this thread, if it is inside of `placed_in`.
+pub(crate) fn room_of_this_thread() -> Option<Room> {
+    // SAFETY: the room is borrowed as long as the place names it.
+    ROOM.get().map(|room| unsafe { room.as_ref() }.clone())
+}
+
 impl<S> Place<S> {
-    /// New ones with these values, in the room that `placed_in` names; refused if no room is named, or too little of it is
-    /// left. The room's words are 0, so a word that is to be 0 is not stored, and a page of them takes no memory.
-    pub(crate) fn new(words: &[u64], slots: Vec<S>) -> Result<Place<S>, Refused<S>> {
-        let taken = ROOM.with_borrow(|room| {
-            let room = room.as_ref()?;
-            let site = Site {
-                words: room.take(words.len() as u64, LINE_WORDS)?,
-                word_count: words.len() as u64,
-                slots: room.take((slots.len() * stride::<S>()) as u64, HOME_WORDS)?,
-                slot_count: slots.len() as u64,
-            };
-            Some((Arc::clone(room.mapping()), site))
-        });
-        let Some((mapping, site)) = taken else {
+    /// New ones with these values in a room; refused if too little of it is left. The room's words are 0, so a word that is to be 0 is not
+    /// stored, and a page of them takes no memory.
+    pub(crate) fn in_room(room: &Room, words: &[u64], slots: Vec<S>) -> Result<Place<S>, Refused<S>> {
+        let Some(site) = site_in(room, words.len(), slots.len() * stride::<S>(), slots.len()) else {
             return Err(Refused { slots });
         };
-        let place: Place<S> = Place::at(&mapping, site);
+        let place: Place<S> = Place::at(room.mapping(), site);
         for (at, word) in words.iter().enumerate().filter(|(_, word)| **word != 0) {
             place.word(at).store(*word, SeqCst);
         }
@@ -130,52 +111,34 @@ impl<S> Place<S> {
             word_count: site.word_count as usize,
             slots: mapping.pointer(site.slots, slot_bytes),
             slot_count: site.slot_count as usize,
-            site,
-            _mapping: Arc::clone(mapping),
-            marker: std::marker::PhantomData,
+            ground: Ground::Mapping { _kept: Arc::clone(mapping), site },
+            marker: PhantomData,
         }
     }
 
-    /// A word.
-    #[inline]
-    pub(crate) fn word(&self, at: usize) -> &AtomicU64 {
-        assert!(at < self.word_count, "a word of the table");
-        // SAFETY: the word is in the mapping, which the place keeps.
-        unsafe { self.words.add(at).as_ref() }
-    }
-
-    /// Where the value of a slot lies.
-    #[inline]
-    pub(crate) fn slot(&self, at: usize) -> *mut S {
-        assert!(at < self.slot_count, "a slot of the table");
-        // SAFETY: the slot is in the mapping.
-        unsafe {
-            if const { is_word::<S>() } {
-                self.slots.add(at).cast().as_ptr()
-            } else {
-                UnsafeCell::raw_get(&raw const (*self.slots.cast::<Home<S>>().add(at).as_ptr()).slot)
-            }
-        }
-    }
-
-    /// Where the values of some slots in a row lie, which are plain words.
-    #[inline]
-    pub(crate) fn row(&self, first: usize, count: usize) -> *mut S {
-        assert!(first <= self.slot_count && count <= self.slot_count - first, "slots of the table");
-        // SAFETY: the slots are in the mapping, or this is just past the last one if none is wanted.
-        unsafe { self.slots.add(first).cast().as_ptr() }
-    }
-
-    /// None: the values stay in the mapping.
-    pub(crate) fn into_values(self) -> impl Iterator<Item = S> {
-        std::iter::empty()
+    /// Whether other processes may step on its words too.
+    pub(crate) fn is_in_mapping(&self) -> bool {
+        matches!(self.ground, Ground::Mapping { .. })
     }
 }
 
+/// Takes so many words, and so many for slots, of a room.
+fn site_in(room: &Room, words: usize, slot_words: usize, slots: usize) -> Option<Site> {
+    Some(Site {
+        words: room.take(words as u64, LINE_WORDS)?,
+        word_count: words as u64,
+        slots: room.take(slot_words as u64, HOME_WORDS)?,
+        slot_count: slots as u64,
+    })
+}
+
 impl<S, V, K, P: TableRule<S, V, K>> Shared<S, V, K, P> {
-    /// Where it lies in the mapping.
+    /// Where it lies in its mapping. It panics if it lies in none.
     pub fn site(&self) -> Site {
-        self.place.site
+        match self.place.ground {
+            Ground::Mapping { site, .. } => site,
+            Ground::Own => panic!("a table in a mapping"),
+        }
     }
 }
 

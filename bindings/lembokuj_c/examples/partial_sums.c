@@ -5,7 +5,7 @@
  * partial_sums FILE [WORKERS [kill]]     with kill, the leader kills one worker after its first answer, and once it has the next
  *                                        part */
 #define _GNU_SOURCE
-#include "lembokuj_processes.h"
+#include <lembokuj.h>
 
 #include <inttypes.h>
 #include <signal.h>
@@ -28,7 +28,7 @@ typedef struct { uint64_t number, lines; int64_t sum; } answer;
     do {                                                                                     \
         int must_code = (call);                                                              \
         if (must_code != LK_OK) {                                                            \
-            fprintf(stderr, "partial_sums: %s: %s\n", #call, lk_region_message(must_code)); \
+            fprintf(stderr, "partial_sums: %s: %s\n", #call, lk_message(must_code)); \
             exit(1);                                                                         \
         }                                                                                    \
     } while (0)
@@ -48,23 +48,26 @@ static bool sum_of(FILE *file, const task *part, answer *out) {
 
 static int work(const char *name, const char *path, uint64_t number) {
     lk_region *region;
-    lk_shared *tasks, *answers;
+    lk_receiver *tasks;
+    lk_sender *answers;
     task part;
     answer sum;
+    const uint8_t *bytes;
     size_t len;
     int code;
     FILE *file = fopen(path, "r");
     if (!file) return 1;
     MUST(lk_region_attach_named(name, &region));
-    MUST(lk_shared_receiver(region, TASKS + number, &tasks));
-    MUST(lk_shared_sender(region, ANSWERS + number, &answers));
-    while ((code = lk_shared_receive(tasks, &part, sizeof part, &len)) == LK_OK) {
+    MUST(lk_region_receiver(region, TASKS + number, &tasks));
+    MUST(lk_region_sender(region, ANSWERS + number, &answers));
+    while ((code = lk_queue_receive(tasks, &bytes, &len)) == LK_OK) {
+        memcpy(&part, bytes, sizeof part);
         if (!sum_of(file, &part, &sum)) return 1;
-        MUST(lk_shared_send(answers, &sum, sizeof sum));
+        MUST(lk_queue_send(answers, &sum, sizeof sum, 0));
     }
     fclose(file);
-    lk_shared_close(&answers);
-    lk_shared_close(&tasks);
+    lk_queue_close_sender(&answers);
+    lk_queue_close_receiver(&tasks);
     lk_region_close(&region);
     return code == LK_DETACHED ? 0 : 1;
 }
@@ -73,7 +76,8 @@ static int work(const char *name, const char *path, uint64_t number) {
 typedef struct {
     pid_t pid;
     int status;
-    lk_shared *tasks, *answers;
+    lk_sender *tasks;
+    lk_receiver *answers;
     int part; /* the one that it has, or NO_PART */
     int answered;
     bool ended; /* the system says so */
@@ -95,7 +99,7 @@ static void hand_out(leader *all, int at) {
     worker *one = &all->workers[at];
     if (one->gone || one->part != NO_PART || all->waits == 0) return;
     int part = all->waiting[--all->waits];
-    int code = lk_shared_send(one->tasks, &all->parts[part], sizeof(task));
+    int code = lk_queue_send(one->tasks, &all->parts[part], sizeof(task), 0);
     if (code == LK_OK) {
         one->part = part;
     } else {
@@ -108,12 +112,14 @@ static void hand_out(leader *all, int at) {
 static bool hear(leader *all, int at) {
     worker *one = &all->workers[at];
     answer sum;
+    const uint8_t *bytes;
     size_t len;
     if (one->gone) return false;
-    int code = lk_shared_try_receive(one->answers, &sum, sizeof sum, &len);
+    int code = lk_queue_try_receive(one->answers, &bytes, &len);
     /* One that ended before it took its ends leaves nobody who could be missed at them. */
     if (code == LK_WOULD_BLOCK && !one->ended) return false;
     if (code == LK_OK) {
+        memcpy(&sum, bytes, sizeof sum);
         all->sum += sum.sum;
         all->lines += sum.lines;
         all->done++;
@@ -132,8 +138,8 @@ static bool hear(leader *all, int at) {
 static void start(leader *all, const char *me, const char *name, const char *path, int at) {
     char number[16];
     worker *one = &all->workers[at];
-    MUST(lk_shared_sender(all->region, TASKS + at, &one->tasks));
-    MUST(lk_shared_receiver(all->region, ANSWERS + at, &one->answers));
+    MUST(lk_region_sender(all->region, TASKS + at, &one->tasks));
+    MUST(lk_region_receiver(all->region, ANSWERS + at, &one->answers));
     one->part = NO_PART;
     snprintf(number, sizeof number, "%d", at);
     one->pid = fork();
@@ -193,8 +199,8 @@ static void lead(leader *all, bool kills) {
 static int finish(leader *all, const char *name) {
     int bad = 0;
     for (int at = 0; at < all->count; at++) {
-        lk_shared_close(&all->workers[at].tasks);
-        lk_shared_close(&all->workers[at].answers);
+        lk_queue_close_sender(&all->workers[at].tasks);
+        lk_queue_close_receiver(&all->workers[at].answers);
         worker *one = &all->workers[at];
         if (!one->ended) waitpid(one->pid, &one->status, 0);
         if (one->status != 0 && !(all->killed && at == 0)) bad = 1;

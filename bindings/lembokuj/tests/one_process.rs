@@ -1,6 +1,7 @@
 //! What one process sees of a region: keys, handles, wrong use.
 
-use lembokuj_processes::{AreaError, AttachError, BarrierError, BuildError, ReceiveError, Region, SendError, TakeError, Ticket};
+use lembokuj::processes::{AttachError, BuildError, Reaped, Region, TakeError, Ticket};
+use lembokuj::{AreaError, BarrierError, ReceiveError, SendError, queue, select, select_timeout};
 
 #[test]
 fn what_can_t_be_laid_out_is_refused_by_name() {
@@ -77,7 +78,7 @@ fn a_handle_is_taken_once() {
     drop(two);
     assert_eq!(one.look().unwrap().map(|arrival| arrival.phase), Some(1));
     assert_eq!(region.barrier(3).err(), Some(TakeError::Taken));
-    assert_eq!(region.reap(), Default::default());
+    assert_eq!(region.reap(), Reaped::default());
 }
 
 #[test]
@@ -120,7 +121,8 @@ fn tables_and_areas_keep_what_they_are_given() {
         area.free(chunk).unwrap();
     }
     assert_eq!(area.alloc(1 << 20).err(), Some(AreaError::NoSpace));
-    assert_eq!(area.alloc(0).err(), Some(AreaError::NoSpace));
+    assert_eq!(area.alloc(u64::MAX).err(), Some(AreaError::NoSpace));
+    assert_eq!(area.alloc(0).map(|chunk| chunk.words() >= 1), Ok(true));
     let chunk = stranger.alloc(8).unwrap();
     assert_eq!(area.free(chunk), Err(AreaError::Stranger));
     // A wait has an end.
@@ -131,15 +133,96 @@ fn tables_and_areas_keep_what_they_are_given() {
     assert_eq!(barrier.look().unwrap().map(|arrival| arrival.phase), Some(1));
     // A message longer than the ring goes by parts.
     let (mut tx, mut rx) = (region.sender(4).unwrap(), region.receiver(4).unwrap());
-    assert_eq!(tx.try_send(&[1; 4000]), Err(SendError::LongerThanRing));
-    assert_eq!(tx.send_timeout(&[1; 4000], soon), Err(SendError::LongerThanRing));
+    assert_eq!(tx.try_send(&[1; 4000]), Err(SendError::TooLong));
     assert_eq!(rx.receive_timeout(soon), Err(ReceiveError::WouldBlock));
     assert_eq!(tx.send_timeout(&[1; 100], soon), Ok(()));
     assert_eq!(tx.send_timeout(&[1; 100], soon), Err(SendError::WouldBlock));
     let mut asked = 0;
     assert_eq!(tx.send_while(&[1; 100], || { asked += 1; asked < 3 }), Err(SendError::WouldBlock));
     assert_eq!((asked, rx.receive_while(|| false)), (3, Ok(&[1; 100][..])));
+    assert_eq!(tx.send_timeout(&[9; 4000], soon), Err(SendError::Begun));
+    assert_eq!(tx.try_send(&[1]), Err(SendError::OtherMessage));
     let sender = std::thread::spawn(move || tx.send(&[9; 4000]));
     assert_eq!(rx.receive(), Ok(&[9; 4000][..]));
     assert_eq!(sender.join().unwrap(), Ok(()));
+}
+
+/// A queue and a barrier of a region have the calls of those between threads, and a wait for several receivers takes both.
+#[test]
+fn ends_and_callers_are_those_of_threads() {
+    let mut builder = Region::create(1 << 16).unwrap();
+    builder.queue(1, 16, 200).unwrap();
+    builder.barrier(2, 2).unwrap();
+    let region = builder.open();
+    let (mut tx, mut rx) = (region.sender(1).unwrap(), region.receiver(1).unwrap());
+    assert_eq!(tx.send_slices(&[b"one", b"", b" two"]), Ok(()));
+    assert_eq!(tx.try_send_slices(&[b"three", &[4; 200]]), Err(SendError::TooLong));
+    assert_eq!(tx.try_send_slices(&[b"three", &[4; 90]]), Ok(()));
+    assert_eq!(tx.try_send_slices(&[b"no", b"room"]), Err(SendError::WouldBlock));
+    assert_eq!(rx.receive(), Ok(&b"one two"[..]));
+    let mut three = b"three".to_vec();
+    three.extend([4; 90]);
+    assert_eq!(rx.receive(), Ok(&three[..]));
+    // What is sent later is seen after a flush.
+    assert_eq!((tx.send_later(b"a"), tx.try_send_later(b"b")), (Ok(()), Ok(())));
+    assert_eq!(rx.try_receive(), Err(ReceiveError::WouldBlock));
+    tx.flush();
+    assert_eq!((rx.receive().map(<[u8]>::to_vec), rx.message()), (Ok(b"a".to_vec()), &b"a"[..]));
+    assert_eq!(rx.receive(), Ok(&b"b"[..]));
+    // By parts: the message belongs to the queue until it is through.
+    assert_eq!(tx.try_send_part(&[7; 200]), Err(SendError::Begun));
+    assert_eq!(tx.try_send(b"other"), Err(SendError::OtherMessage));
+    assert_eq!(rx.try_receive(), Err(ReceiveError::WouldBlock));
+    while tx.try_send_part(&[7; 200]) == Err(SendError::Begun) {
+        assert_eq!(rx.try_receive(), Err(ReceiveError::WouldBlock));
+    }
+    assert_eq!(rx.receive(), Ok(&[7; 200][..]));
+    let (mut near, mut inbox) = queue(64, 8).unwrap();
+    near.send(b"near").unwrap();
+    assert_eq!(select(&mut [&mut rx, &mut inbox]), 1);
+    assert_eq!(inbox.receive(), Ok(&b"near"[..]));
+    let later = std::thread::spawn(move || {
+        std::thread::sleep(std::time::Duration::from_millis(20));
+        tx.send(b"far").unwrap();
+        tx
+    });
+    assert_eq!(select(&mut [&mut rx, &mut inbox]), 0);
+    assert_eq!(rx.receive(), Ok(&b"far"[..]));
+    assert_eq!(select_timeout(&mut [&mut rx], std::time::Duration::from_millis(5)), None);
+    later.join().unwrap().close();
+    assert_eq!(select(&mut [&mut rx]), 0);
+    assert_eq!(rx.receive(), Err(ReceiveError::Detached));
+    rx.close();
+
+    let mut barrier = region.barrier(2).unwrap();
+    let mut other = barrier.handle().unwrap();
+    assert!(barrier.handle().is_none());
+    assert_eq!(other.attach(), Err(BarrierError::AlreadyIn));
+    assert_eq!(other.detach(), Ok(false));
+    assert_eq!(other.arrive(), Err(BarrierError::NotIn));
+    assert_eq!(barrier.wait().map(|arrival| (arrival.phase, arrival.is_elected)), Ok((1, true)));
+    assert_eq!(other.attach(), Ok(1));
+    assert_eq!(barrier.wait_while(|| false), Ok(None));
+    assert_eq!(other.wait().map(|arrival| arrival.phase), Ok(2));
+}
+
+#[test]
+fn handles_for_the_same_process() {
+    let mut builder = Region::create(1 << 18).unwrap();
+    builder.area(1, 40, 2).unwrap();
+    builder.table(2, 40, 2).unwrap();
+    builder.area(3, 20, 1).unwrap();
+    let region = builder.open();
+    let (mut area, stranger) = (region.area(1).unwrap(), region.area(3).unwrap());
+    let mut second = area.handle().unwrap();
+    assert!(area.handle().is_none());
+    let mut chunk = area.alloc(100).unwrap();
+    chunk.as_words_mut().fill(7);
+    assert!(second.is_home_of(&chunk) && !stranger.is_home_of(&chunk));
+    second.free(chunk).unwrap();
+    assert!(second.alloc_zeroed(100).unwrap().as_words().iter().all(|word| *word == 0));
+    let mut table = region.table(2).unwrap();
+    let mut other = table.handle().unwrap();
+    assert!(table.handle().is_none());
+    assert_eq!((table.insert(1, 2), other.get(1)), (Ok(None), Ok(Some(2))));
 }

@@ -3,12 +3,13 @@
 //! A chunk's words are the slots of its numbers in the region. The two first of these numbers have words besides, which nothing else
 //! uses: the first one says who has the chunk, the second one how long it is. They are 0 as long as nobody has it.
 
-use crate::directory::{Entry, Object};
-use crate::errors;
-use crate::map::{Damage, Map};
+use crate::processes::directory::{Entry, Object};
+use crate::AreaError;
+use crate::link::Damage;
+use crate::processes::map::{Map, place_of};
 use crate::rows::chunk_calls;
-use crate::region::{FREE, Handle, Region, TakeError, has_ended};
-use crate::sys::PROCESS_BITS;
+use crate::processes::region::{FREE, Handle, Region, TakeError, has_ended};
+use crate::processes::sys::PROCESS_BITS;
 use dsa_area::AreaPass;
 use region_words::Part;
 use rel_pointer::RelPtr;
@@ -17,26 +18,6 @@ use std::fmt;
 use std::os::unix::fs::FileExt;
 use std::sync::Arc;
 use std::sync::atomic::Ordering::SeqCst;
-
-/// Why a call of an area was refused.
-#[derive(Clone, Copy, Debug, PartialEq, Eq)]
-pub enum AreaError {
-    /// The pages that it takes are not free in a row, or no bytes or more than 2^28 were asked for.
-    NoSpace,
-    /// No chunk of this area was posted by the ticket, or it was fetched already; or the chunk is of another area.
-    Stranger,
-    /// A process ended while it had a lock that the call needs: what that guards is lost.
-    OwnerDied,
-    /// The region is damaged.
-    Damaged,
-}
-
-errors!(AreaError {
-    NoSpace => "no space",
-    Stranger => "no chunk of this area, or no ticket of one",
-    OwnerDied => "a process ended while it had the lock",
-    Damaged => "the region is damaged",
-});
 
 impl From<Damage> for AreaError {
     fn from(_: Damage) -> AreaError {
@@ -98,6 +79,7 @@ impl Ticket {
     pub const BYTES: usize = 24;
 
     /// As bytes, for a queue.
+    #[must_use]
     pub fn to_bytes(self) -> [u8; Ticket::BYTES] {
         let mut bytes = [0; Ticket::BYTES];
         for (to, number) in bytes.chunks_exact_mut(8).zip([self.place, self.bytes, self.number]) {
@@ -107,6 +89,7 @@ impl Ticket {
     }
 
     /// Of such bytes. None if they are more or fewer.
+    #[must_use]
     pub fn from_bytes(bytes: &[u8]) -> Option<Ticket> {
         let bytes: &[u8; Ticket::BYTES] = bytes.try_into().ok()?;
         let number = |at: usize| u64::from_le_bytes(std::array::from_fn(|i| bytes[8 * at + i]));
@@ -128,19 +111,55 @@ pub(crate) fn attached(map: &Map, object: &Object, callers: u32) -> Option<dsa_a
 
 impl Region {
     /// A handle of an area.
+    ///
+    /// # Errors
+    ///
+    /// [`TakeError::NoKey`], [`TakeError::Taken`].
     pub fn area(&self, key: u64) -> Result<Area, TakeError> {
         let entry = self.map.directory.find(key).ok_or(TakeError::NoKey)?;
-        let area = attached(&self.map, &entry.object, entry.handles).ok_or(TakeError::NoKey)?;
-        let handle = Handle::take_any(&self.map, entry)?;
-        let pass = AreaPass::taken(handle.number);
-        Ok(Area { handle, area, pass })
+        Area::take(&self.map, entry)
     }
 }
 
 impl Area {
-    /// A chunk of this many bytes or more.
+    fn take(map: &Arc<Map>, entry: &Arc<Entry>) -> Result<Area, TakeError> {
+        let area = attached(map, &entry.object, entry.handles).ok_or(TakeError::NoKey)?;
+        let handle = Handle::take_any(map, entry)?;
+        let pass = AreaPass::taken(handle.number);
+        Ok(Area { handle, area, pass })
+    }
+
+    /// One more handle, for this process; None if all that the area was made for are with processes.
+    #[must_use]
+    pub fn handle(&self) -> Option<Area> {
+        Area::take(&self.handle.map, &self.handle.entry).ok()
+    }
+
+    /// Whether a chunk of this process is of this area.
+    #[must_use]
+    pub fn is_home_of(&self, chunk: &Chunk) -> bool {
+        chunk.area_key == self.handle.entry.key && Arc::ptr_eq(&chunk.map, &self.handle.map)
+    }
+
+    /// As [`Area::alloc`], with words that are 0.
+    ///
+    /// # Errors
+    ///
+    /// As [`Area::alloc`].
+    pub fn alloc_zeroed(&mut self, bytes: u64) -> Result<Chunk, AreaError> {
+        let mut chunk = self.alloc(bytes)?;
+        chunk.as_words_mut().fill(0);
+        Ok(chunk)
+    }
+
+    /// A chunk of this many bytes or more, which holds whatever its words held before. It may wait for the lock of one size class and
+    /// for that of the pages.
+    ///
+    /// # Errors
+    ///
+    /// [`AreaError::NoSpace`], [`AreaError::OwnerDied`], [`AreaError::Damaged`].
     pub fn alloc(&mut self, bytes: u64) -> Result<Chunk, AreaError> {
-        if !(1..=MOST_BYTES).contains(&bytes) {
+        if bytes > MOST_BYTES {
             return Err(AreaError::NoSpace);
         }
         let Area { handle, area, pass } = self;
@@ -163,8 +182,12 @@ impl Area {
     }
 
     /// Gives a chunk back; anybody may have asked for it. If it is refused, it stays live, and nobody has it.
+    ///
+    /// # Errors
+    ///
+    /// [`AreaError::Stranger`] for a chunk of another area, [`AreaError::OwnerDied`], [`AreaError::Damaged`].
     pub fn free(&mut self, chunk: Chunk) -> Result<(), AreaError> {
-        if chunk.area_key != self.handle.entry.key || !Arc::ptr_eq(&chunk.map, &self.handle.map) {
+        if !self.is_home_of(&chunk) {
             return Err(AreaError::Stranger);
         }
         self.take_back(chunk.inner)
@@ -186,7 +209,11 @@ impl Area {
         }
     }
 
-    /// The chunk of a ticket, which this process has from now on.
+    /// The chunk of a ticket, which this process has from now on. One compare-and-exchange.
+    ///
+    /// # Errors
+    ///
+    /// [`AreaError::Stranger`].
     pub fn fetch(&mut self, ticket: Ticket) -> Result<Chunk, AreaError> {
         let Object::Area(site) = &self.handle.entry.object else {
             return Err(AreaError::Stranger);
@@ -222,7 +249,7 @@ impl Area {
             let first = site.first + PAGE_WORDS * page;
             // By a call of the system, since a page that nobody has stored to would take memory if it were loaded.
             let mut bytes = [0; 8 * PAGE_WORDS as usize];
-            if map.file.read_exact_at(&mut bytes, map.place_of(first)).is_err() {
+            if map.file.read_exact_at(&mut bytes, place_of(first)).is_err() {
                 break;
             }
             let words = bytes.chunks_exact(8).map(|word| u64::from_le_bytes(std::array::from_fn(|i| word[i])));
@@ -268,11 +295,8 @@ fn taken(place: u64, bytes: u64) -> region_words::Chunk {
 }
 
 /// Gives back the chunks of an area that ended processes had, through a handle that nobody has. None if there is none.
-pub(crate) fn sweep(map: &Arc<Map>, entry: &Entry) -> Option<u64> {
-    let area = attached(map, &entry.object, entry.handles)?;
-    let handle = Handle::take_any(map, entry).ok()?;
-    let pass = AreaPass::taken(handle.number);
-    Some(Area { handle, area, pass }.sweep())
+pub(crate) fn sweep(map: &Arc<Map>, entry: &Arc<Entry>) -> Option<u64> {
+    Some(Area::take(map, entry).ok()?.sweep())
 }
 
 impl Drop for Area {
@@ -285,26 +309,31 @@ impl Drop for Area {
 
 impl Chunk {
     /// How many words it has.
+    #[must_use]
     pub fn words(&self) -> u64 {
         self.inner.bytes / 8
     }
 
     /// Its words, in place.
+    #[must_use]
     pub fn as_words(&self) -> &[u64] {
         self.inner.as_words(&self.map.region)
     }
 
     /// The same, to be changed.
+    #[must_use]
     pub fn as_words_mut(&mut self) -> &mut [u64] {
         self.inner.as_words_mut(&self.map.region)
     }
 
     /// Its bytes, in place: eight for each word.
+    #[must_use]
     pub fn as_bytes(&self) -> &[u8] {
         self.inner.as_bytes(&self.map.region)
     }
 
     /// The same, to be changed.
+    #[must_use]
     pub fn as_bytes_mut(&mut self) -> &mut [u8] {
         self.inner.as_bytes_mut(&self.map.region)
     }
@@ -312,6 +341,7 @@ impl Chunk {
     chunk_calls!();
 
     /// Posts the chunk: nobody has it until a process fetches it by the ticket.
+    #[must_use]
     pub fn post(self) -> Ticket {
         let number = self.map.next_ticket();
         let place = self.inner.at.word();

@@ -1,9 +1,10 @@
 //! A hash table of numbers under numbers, which several processes use at once.
 
-use crate::directory::Object;
-use crate::errors;
-use crate::map::{Damage, Map};
-use crate::region::{FREE, Handle, Region, TakeError};
+use crate::processes::directory::{Entry, Object};
+use crate::TableError;
+use crate::link::Damage;
+use crate::processes::map::Map;
+use crate::processes::region::{FREE, Handle, Region, TakeError};
 use dsa_area::{AreaPass, NoSpace};
 use dshash_core::{CellObject, CoreOut, PARTITIONS, bucket_count, hash_key, partition_of_hash};
 use dshash_parts::{DsPass, Dshash, Key, TableAnswer, TableAsk};
@@ -11,26 +12,6 @@ use rattle_std::alloc::Global;
 use region_words::Chunk;
 use std::fmt;
 use std::sync::Arc;
-
-/// Why a call of a table was not made. Nothing was done to the key.
-#[derive(Clone, Copy, Debug, PartialEq, Eq)]
-pub enum TableError {
-    /// The table's pages are used up.
-    NoSpace,
-    /// A process ended while it had the key's partition, or a lock of the pages that the call needs: what that guards is lost.
-    OwnerDied,
-    /// There is no memory for the entries that are listed.
-    Memory,
-    /// The region is damaged.
-    Damaged,
-}
-
-errors!(TableError {
-    NoSpace => "the table's pages are used up",
-    OwnerDied => "a process ended while it had the lock",
-    Memory => "out of memory",
-    Damaged => "the region is damaged",
-});
 
 impl From<Damage> for TableError {
     fn from(_: Damage) -> TableError {
@@ -116,10 +97,20 @@ pub(crate) fn attached(map: &Map, object: &Object, callers: u32) -> Option<(Dsha
 
 impl Region {
     /// A handle of a table.
+    ///
+    /// # Errors
+    ///
+    /// [`TakeError::NoKey`], [`TakeError::Taken`].
     pub fn table(&self, key: u64) -> Result<Table, TakeError> {
         let entry = self.map.directory.find(key).ok_or(TakeError::NoKey)?;
-        let (table, area) = attached(&self.map, &entry.object, entry.handles).ok_or(TakeError::NoKey)?;
-        let handle = Handle::take_any(&self.map, entry)?;
+        Table::take(&self.map, entry)
+    }
+}
+
+impl Table {
+    fn take(map: &Arc<Map>, entry: &Arc<Entry>) -> Result<Table, TakeError> {
+        let (table, area) = attached(map, &entry.object, entry.handles).ok_or(TakeError::NoKey)?;
+        let handle = Handle::take_any(map, entry)?;
         let at = At {
             table,
             pass: DsPass::<Numbers>::taken(handle.number),
@@ -127,6 +118,12 @@ impl Region {
             area_pass: AreaPass::taken(handle.number),
         };
         Ok(Table { handle, at })
+    }
+
+    /// One more handle, for this process; None if all that the table was made for are with processes.
+    #[must_use]
+    pub fn handle(&self) -> Option<Table> {
+        Table::take(&self.handle.map, &self.handle.entry).ok()
     }
 }
 
@@ -210,26 +207,46 @@ impl Table {
     }
 
     /// The number under a key.
+    ///
+    /// # Errors
+    ///
+    /// [`TableError::OwnerDied`], [`TableError::Damaged`].
     pub fn get(&mut self, key: u64) -> Result<Option<u64>, TableError> {
         self.call(key, Ask::Get)
     }
 
     /// Puts a number under a key; the one before.
+    ///
+    /// # Errors
+    ///
+    /// [`TableError::NoSpace`] for a new key, [`TableError::OwnerDied`], [`TableError::Damaged`].
     pub fn insert(&mut self, key: u64, value: u64) -> Result<Option<u64>, TableError> {
         self.call(key, Ask::Insert(value))
     }
 
     /// Takes a key out; the number that was there.
+    ///
+    /// # Errors
+    ///
+    /// As [`Table::get`].
     pub fn remove(&mut self, key: u64) -> Result<Option<u64>, TableError> {
         self.call(key, Ask::Remove)
     }
 
     /// Adds to the number under a key, modulo 2^64, and makes it if it is not there; the one before.
+    ///
+    /// # Errors
+    ///
+    /// As [`Table::insert`].
     pub fn add(&mut self, key: u64, more: u64) -> Result<Option<u64>, TableError> {
         self.call(key, Ask::Add(more))
     }
 
     /// How many keys there are: each of the 128 partitions is counted at another moment.
+    ///
+    /// # Errors
+    ///
+    /// As [`Table::get`].
     pub fn count(&mut self) -> Result<u64, TableError> {
         let Table { handle, at } = self;
         let map = Arc::clone(&handle.map);
@@ -246,6 +263,10 @@ impl Table {
     }
 
     /// All keys with their numbers, in no order, each partition at another moment. It takes memory for them.
+    ///
+    /// # Errors
+    ///
+    /// [`TableError::Memory`], and as [`Table::get`].
     pub fn entries(&mut self) -> Result<Vec<(u64, u64)>, TableError> {
         let Table { handle, at } = self;
         let map = Arc::clone(&handle.map);
