@@ -1,6 +1,6 @@
 #!/usr/bin/env bash
 # Starts or stops a ClickHouse server for compare.py, of Debian's packages clickhouse-server and clickhouse-client, as the
-# user nobody. It listens on this machine alone and keeps what it needs in BENCH_DIR.
+# user nobody. It listens only on this machine and keeps what it needs in BENCH_DIR.
 # Usage: bench/clickhouse.sh start|stop
 set -eu
 folder=${BENCH_DIR:-/tmp/lembokuj-bench}/clickhouse

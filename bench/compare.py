@@ -1,19 +1,19 @@
 #!/usr/bin/env python3
-"""Times pargather and parstream beside other programs on the same query, and checks each answer.
+"""Times pargather, parstream and other programs on the same query, and checks each answer.
 
 usage: compare.py [--files a,b,c,d] [--times 5] [--workers 0,1,2,4] [--plans gather] [--only NAME,..] [--save FILE.json]
 
 Each program runs once before any runs a second time, so that what else the machine does falls on all alike: trust the
 ratios of one run, not its seconds. A program whose first run takes more than 12 s runs once. What each wrote is compared
 with the answer of Python's csv module and its integers: keys, counts, sums, minima and maxima exactly, means to four
-decimals, and whether the rows stand in byte order of the keys.
+decimals, and whether the rows are in byte order of the keys.
 
 wall        from the start of the command to its end
 processor   user and system time of the command, its children, and of a server that does the work
 memory      of the largest of its processes, in MiB, the command's own (starter.py)
 to the best wall time over that of the fastest peer that parses quotes and answered rightly
 
-`--files a16` is 16 times the rows of file a (940 MiB), which are above the limits of pargather; it is made where it is asked for.
+`--files a16` is 16 times the rows of file a (940 MiB), which are above the limits of pargather; it is made if it is asked for.
 
 The files (files.py), the straight Rust program (baseline.rs, by rustc) and what the programs write lie in BENCH_DIR, or
 /tmp/lembokuj-bench. The programs are crates/pargather/out/pargather and crates/parstream/out/parstream, as `.ci/run` or
@@ -65,7 +65,7 @@ def right_answer(file):
 
 
 def number(text):
-    """The number that a text is, without an error where it is a whole one."""
+    """The number that a text is, without an error if it is a whole one."""
     try:
         return int(text)
     except ValueError:

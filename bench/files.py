@@ -81,7 +81,7 @@ def make(folder):
 
 
 def make_long(folder):
-    """Writes the rows of a.csv 16 times behind its header."""
+    """Writes the rows of a.csv 16 times after its header."""
     with open(f"{folder}/a.csv", "rb") as lines, open(f"{folder}/a16.csv", "wb") as out:
         header, rows = lines.readline(), lines.read()
         out.write(header)

@@ -1,5 +1,5 @@
 #!/usr/bin/env python3
-"""Times calls of the shared objects by several threads beside the same loads in plain Rust, each kind on its own.
+"""Times calls of the shared objects by several threads, and the same loads in plain Rust, one kind after another.
 
 usage: objects.py [--kinds lock,area,..] [--builds proved,erased] [--times 5] [--calls PERCENT] [--save FILE.json]
 
@@ -63,12 +63,12 @@ class Program:
 
 QUEUES = ["queue", "flushed"]
 TABLES = ["puts", "gets", "sets"]
-KINDS = ["lock", "area", "window", *QUEUES, *TABLES]
+KINDS = ["lock", "area", "spares", "window", *QUEUES, *TABLES]
 
 
 def loads(kinds, percent):
     listed = [Load("lock", threads, 4_000_000 // threads, 1, 8) for threads in SEVERAL + [8, 64]]
-    listed += [Load(kind, threads, 2_000_000 // threads, 1, size) for kind in ("area", "window") for size in (24, 600) for threads in SEVERAL]
+    listed += [Load(kind, threads, 2_000_000 // threads, 1, size) for kind in ("area", "spares", "window") for size in (24, 600) for threads in SEVERAL]
     listed += [Load(kind, 2, 2_000_000 if size == 8 else 300_000, 1, size) for kind in QUEUES for size in (8, 1000)]
     listed += [Load(kind, threads, 1_000_000 // threads, 1, size) for kind in TABLES for size in (1_000, 1_000_000) for threads in SEVERAL]
     for load in listed:
@@ -79,7 +79,7 @@ def loads(kinds, percent):
 def programs(kind, builds):
     allocators = [("system's allocator", "system", "")] + ([("jemalloc", "system", JEMALLOC)] if os.path.exists(JEMALLOC) else [])
     maps = [("HashMap, 1 mutex", "one", ""), ("HashMap, 128 mutexes", "many", "")]
-    peers = {"lock": [("Mutex", "mutex", "")], "area": allocators, "window": allocators}
+    peers = {"lock": [("Mutex", "mutex", "")], "area": allocators, "spares": allocators, "window": allocators}
     peers.update(dict.fromkeys(QUEUES, [("sync_channel", "channel", ""), ("plain ring", "ring", "")]))
     peers.update(dict.fromkeys(TABLES, maps))
     return [Program(build, [BUILDS[build]]) for build in builds] + [Program(name, [PEERS, form], preload) for name, form, preload in peers[kind]]
@@ -121,7 +121,7 @@ def measured(load, builds, times):
 
 
 def show(load, builds, results):
-    """Nanoseconds a call, and behind them the time of each build over that one, in the order of the builds."""
+    """Nanoseconds a call, and then the time of each build divided by that one, in the order of the builds."""
     print(load.name)
     for name, each in results.items():
         columns = []

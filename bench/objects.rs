@@ -1,7 +1,7 @@
 //! The loads of the program `uses_load`, made with what plain Rust has: `objects FORM KIND THREADS CALLS SIZE` makes
 //! one shared object, lets so many threads make so many calls each, and prints the line that `uses_load` prints.
 //!
-//! The forms are `mutex` of the lock, `system` of area and window (the system's allocator, or one that is preloaded),
+//! The forms are `mutex` of the lock, `system` of area, spares and window (the system's allocator, or one that is preloaded),
 //! `channel` and `ring` of queue and flushed, `one` and `many` of puts, gets and sets. docs/PERFORMANCE.md says what each
 //! load is.
 use std::alloc::{alloc, dealloc, Layout};
@@ -269,7 +269,7 @@ fn main() {
     let parts = if words[0] == "many" { 128 } else { 1 };
     let told = match (words[0].as_str(), words[1].as_str()) {
         ("mutex", "lock") => format!("{all} calls, value {}", lock(threads, calls)),
-        ("system", "area") => format!("{all} pairs of {size} bytes, {} good", area(threads, calls, size)),
+        ("system", "area" | "spares") => format!("{all} pairs of {size} bytes, {} good", area(threads, calls, size)),
         ("system", "window") => format!("{all} pairs of {size} bytes, {} good", window(threads, calls, size)),
         ("channel", "queue" | "flushed") => format!("{calls} messages of {size} bytes, {} came", channel(calls, size)),
         ("ring", "queue" | "flushed") => format!("{calls} messages of {size} bytes, {} came", ring(calls, size)),

@@ -1,6 +1,6 @@
 #!/usr/bin/env bash
 # Starts or stops a PostgreSQL server for rows.py, of Debian's package postgresql, as the user nobody. It listens on a
-# socket in BENCH_DIR alone and keeps its data there.
+# socket in BENCH_DIR only and keeps its data there.
 # Usage: bench/postgres.sh start|stop
 set -eu
 folder=${BENCH_DIR:-/tmp/lembokuj-bench}/postgres

@@ -19,7 +19,7 @@ class File:
     keys: list
     value: str
     columns: list
-    bare: str = ""  # a file with the key columns and the value alone, unquoted
+    bare: str = ""  # a file with only the key columns and the value, unquoted
 
     @property
     def path(self):
@@ -52,7 +52,7 @@ class Program:
     command: str
     path: str
     kind: str  # ours; limit, straight Rust over std; peer; bare, a peer that cannot parse quotes
-    server: int = 0  # the process that does the work, where it is not the command's own
+    server: int = 0  # the process that does the work, if it is not the command's
 
 
 PANDAS = """import sys, pandas
@@ -136,7 +136,7 @@ def has_pandas():
 
 
 def clickhouse_server():
-    """The number of the server's process, 0 where `clickhouse.sh start` was not called."""
+    """The number of the server's process, 0 if `clickhouse.sh start` was not called."""
     try:
         with open(f"{FOLDER}/clickhouse/pid", encoding="ascii") as file:
             number = int(file.read())

@@ -1,5 +1,5 @@
 #!/usr/bin/env python3
-"""Times `pargather join` and `pargather merge` beside other programs, and checks each answer.
+"""Times `pargather join`, `pargather merge` and other programs, and checks each answer.
 
 usage: rows.py [--tasks join,a,b] [--times 3] [--workers 0,1,2,4] [--only NAME,..]
 
