@@ -5,7 +5,7 @@ use Rattle.par_model.specs.Named.{bound_plan}
 use Rattle.par_model.specs.Outcome.{IsAnswer}
 use Rattle.plan_spec.specs.Query.{Query}
 use Rattle.row_blocks.specs.Blocks.{Table}
-use Rattle.split_law.specs.Shares.{AreShared}
+use Rattle.gather_law.specs.Shares.{AreShared}
 use Rattle.par_stream.specs.Answers.{IsTableText}
 use Rattle.par_stream.specs.Outcome.{outcome}
 use Rattle.par_stream.specs.Reading.{AreGroupsOver}

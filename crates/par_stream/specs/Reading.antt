@@ -14,7 +14,7 @@ use Rattle.row_windows.specs.Seams.{BeginsLine, IsLong, IsSeam}
 use Rattle.row_windows.specs.Stretch.{Fills, Stretch}
 use Rattle.row_windows.specs.declared.window.WindowAnswer.{WindowAnswer}
 use Rattle.row_windows.specs.declared.window.WindowAnswer.TheVariants as answer
-use Rattle.split_law.specs.Shares.{AreShared}
+use Rattle.gather_law.specs.Shares.{AreShared}
 use Rattle.par_stream.specs.declared.adding.Added.{Added}
 use Rattle.par_stream.specs.declared.reading.ReadGroups.{ReadGroups}
 use Rattle.par_stream.specs.declared.reading.Stream.{Stream}

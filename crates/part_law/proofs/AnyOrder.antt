@@ -7,7 +7,7 @@ use Rattle.std.proofs.lemmas.List.Sorted.{IsPermutation-append_comm, IsPermutati
 use Rattle.par_model.specs.Plan.{Plan}
 use Rattle.partial_agg.specs.Groups.{AreGroups, GroupsByKey}
 use Rattle.row_blocks.specs.Blocks.{Table}
-use Rattle.split_law.specs.Shares.{AreShared, together}
+use Rattle.gather_law.specs.Shares.{AreShared, together}
 use Rattle.part_law.specs.Law.{OrderKeeps}
 
 -- the elements at i and j in each other's place; d is read only beyond the end

@@ -11,7 +11,7 @@ use Rattle.partial_agg.specs.Groups.{AreGroups, GroupsByKey, with_groups}
 use Rattle.partial_agg.specs.Rows.{IsAccepted}
 use Rattle.partial_agg.proofs.Joining.{maps_join}
 use Rattle.row_blocks.specs.Blocks.{Table}
-use Rattle.split_law.specs.Shares.{AreShared, together}
+use Rattle.gather_law.specs.Shares.{AreShared, together}
 use Rattle.part_law.specs.Tiles.{AreTiles, IsPart}
 use Rattle.part_law.specs.Law.{CombineKeeps, PartsAreShares}
 use Rattle.part_law.proofs.TileRecords.{behind_one, rows_behind, tiles_add_up}

@@ -8,7 +8,7 @@ use Rattle.par_model.specs.Outcome.{IsAnswer}
 use Rattle.par_model.specs.Plan.{Plan}
 use Rattle.partial_agg.specs.Groups.{GroupsByKey, with_groups}
 use Rattle.row_blocks.specs.Blocks.{Table}
-use Rattle.split_law.specs.Shares.{AreShared}
+use Rattle.gather_law.specs.Shares.{AreShared}
 use Rattle.part_law.specs.Tiles.{AreTiles, IsPart}
 
 -- the records of a text are those of its tiles

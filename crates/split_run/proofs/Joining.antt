@@ -15,7 +15,7 @@ use Rattle.partial_agg.specs.Rows.{IsAccepted}
 use Rattle.partial_agg.proofs.AnyOrder.{in_any_order}
 use Rattle.partial_agg.proofs.Joining.{maps_join}
 use Rattle.row_blocks.specs.Blocks.{Table}
-use Rattle.split_law.specs.Shares.{AreShared, together}
+use Rattle.gather_law.specs.Shares.{AreShared, together}
 use Rattle.split_run.specs.Together.{Joins}
 
 -- shares of the front of some maps, and of the back

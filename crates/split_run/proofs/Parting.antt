@@ -14,7 +14,7 @@ use Rattle.partial_agg.specs.Listed.{listed, state_at}
 use Rattle.partial_agg.specs.State.{empty_state}
 use Rattle.partial_agg.specs.declared.groups.Group.{Group}
 use Rattle.row_blocks.proofs.Permute.{AllZip-join}
-use Rattle.split_law.specs.Parts.{AreListings, groups_in, part_map, with_listed, with_part}
+use Rattle.gather_law.specs.KeyParts.{AreListings, groups_in, part_map, with_listed, with_part}
 use Rattle.split_run.specs.Parted.{lists_of}
 use Rattle.split_run.specs.Ranges.{range_of}
 use Rattle.split_run.specs.declared.parted.Parted.{Parted}

@@ -12,8 +12,8 @@ use Rattle.par_model.specs.Plan.{Plan}
 use Rattle.partial_agg.specs.Groups.{GroupsByKey}
 use Rattle.partial_agg.specs.Rows.{IsAccepted, header_width}
 use Rattle.row_blocks.specs.Blocks.{AreBlocks, Table, rows_of_blocks}
-use Rattle.split_law.specs.Shares.{Add, AreShared, together}
-use Rattle.split_law.proofs.RowShares.{blocks_cover, shares_grow}
+use Rattle.gather_law.specs.Shares.{Add, AreShared, together}
+use Rattle.gather_law.proofs.RowShares.{blocks_cover, shares_grow}
 use Rattle.split_run.specs.Causes.{IsCause}
 use Rattle.split_run.specs.Hands.{AreDone, HasAdded, HasDone}
 use Rattle.split_run.specs.declared.hands.Hand.{Hand}

@@ -25,10 +25,10 @@ use Rattle.result_text.proofs.PartTexts.{pieces_answer}
 use Rattle.result_text.proofs.Uses.{All-listed, printable-listed}
 use Rattle.partial_agg.proofs.Combining.{settles}
 use Rattle.row_blocks.specs.Blocks.{Table}
-use Rattle.split_law.specs.Parts.{AreListings, part_map}
-use Rattle.split_law.specs.Shares.{AreShared, rows_in}
-use Rattle.split_law.proofs.KeyParts.{parts_together}
-use Rattle.split_law.proofs.PartMaps.{parts_join}
+use Rattle.gather_law.specs.KeyParts.{AreListings, part_map}
+use Rattle.gather_law.specs.Shares.{AreShared, rows_in}
+use Rattle.gather_law.proofs.KeyParts.{parts_together}
+use Rattle.gather_law.proofs.PartMaps.{parts_join}
 use Rattle.split_run.specs.Parted.{ArePartedFrom, AreRangeTexts, HasParted, IsReady, lists_of}
 use Rattle.split_run.specs.Ranges.{count_of, range_of}
 use Rattle.split_run.specs.declared.parted.Parted.{Parted}

@@ -6,7 +6,7 @@ use Rattle.partial_agg.specs.Listed.{listed}
 use Rattle.result_text.specs.Text.{AreLinesOf}
 use Rattle.std.specs.Global.{Vec}
 use Rattle.std.specs.declared.alloc.AllocError.{AllocError}
-use Rattle.split_law.specs.Parts.{part_map}
+use Rattle.gather_law.specs.KeyParts.{part_map}
 use Rattle.split_run.specs.Ranges.{range_of}
 use Rattle.split_run.specs.declared.parted.Parted.{Parted}
 use Rattle.split_run.specs.declared.ranges.Ranges.{Ranges}

@@ -5,7 +5,7 @@ use Rattle.row_blocks.specs.Blocks.{Table}
 use Rattle.par_model.specs.Plan.{Plan}
 use Rattle.partial_agg.specs.Groups.{AreGroups, GroupsByKey}
 use Rattle.partial_agg.specs.Rows.{IsAccepted}
-use Rattle.split_law.specs.Shares.{together}
+use Rattle.gather_law.specs.Shares.{together}
 
 -- where some maps are those of shares of rows, this is the map of the shares together
 abbrev pub Joins : List GroupsByKey → GroupsByKey → Type 0

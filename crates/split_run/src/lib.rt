@@ -2,7 +2,7 @@
 //!
 //! Each participant keeps its own map over all windows. The rows of a window are shared out by blocks that the
 //! participants draw, each block once; each adds the rows of its blocks to its map ([`add_rows`]). So the maps are always
-//! those of shares of all rows so far, no matter who drew a block (`AreShared` of `split_law`), and no group goes from one
+//! those of shares of all rows so far, no matter who drew a block (`AreShared` of `gather_law`), and no group goes from one
 //! participant to another before the last row. Then the maps are put together, by halves in separate threads
 //! ([`put_together`]).
 

@@ -3,7 +3,7 @@
 
 ghost use Rattle.std.specs.Prelude.{◌≡◌, ◌<◌, All, IfOk, OnOk, length, map, slice_index_or};
 ghost use Rattle.partial_agg.specs.Groups.{added};
-ghost use Rattle.split_law.specs.Parts.{AreListings, groups_in, part_map, with_listed};
+ghost use Rattle.gather_law.specs.KeyParts.{AreListings, groups_in, part_map, with_listed};
 ghost use Rattle.split_run.specs.Parted.{ArePartedFrom, HasParted, IsReady, lists_of};
 ghost use Rattle.split_run.specs.Ranges.{AreOrdered, range_of};
 

@@ -12,8 +12,8 @@ ghost use Rattle.result_text.specs.Pieces.{joined};
 ghost use Rattle.result_text.specs.Printable.{ArePrintable, IsBoundFrom};
 ghost use Rattle.result_text.specs.Text.{AreLinesOf};
 ghost use Rattle.row_blocks.specs.Blocks.{Table};
-ghost use Rattle.split_law.specs.Parts.{part_map};
-ghost use Rattle.split_law.specs.Shares.{AreShared};
+ghost use Rattle.gather_law.specs.KeyParts.{part_map};
+ghost use Rattle.gather_law.specs.Shares.{AreShared};
 ghost use Rattle.split_run.specs.Parted.{AreRangeTexts, IsReady, lists_of};
 ghost use Rattle.split_run.specs.Ranges.{count_of, range_of};
 

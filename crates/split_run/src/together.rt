@@ -5,7 +5,7 @@ ghost use Rattle.std.specs.Thread.{IsSync};
 ghost use Rattle.row_blocks.specs.Blocks.{Table};
 ghost use Rattle.par_model.specs.Plan.{Plan};
 ghost use Rattle.partial_agg.specs.Groups.{AreGroups, with_groups};
-ghost use Rattle.split_law.specs.Shares.{AreShared};
+ghost use Rattle.gather_law.specs.Shares.{AreShared};
 ghost use Rattle.split_run.specs.Together.{Joins};
 
 use partial_agg::GroupMap;

@@ -6,7 +6,7 @@ ghost use Rattle.scan_claim.specs.Shown.{blocks_of};
 ghost use Rattle.row_blocks.specs.Blocks.{AreBlocks, Table};
 ghost use Rattle.par_model.specs.Columns.{HasColumns};
 ghost use Rattle.partial_agg.specs.Rows.{IsAccepted, header_width};
-ghost use Rattle.split_law.specs.Shares.{AreShared};
+ghost use Rattle.gather_law.specs.Shares.{AreShared};
 ghost use Rattle.split_run.specs.Causes.{IsCauseOfAll, IsFirstCause};
 ghost use Rattle.split_run.specs.Hands.{AreDone, AreNew};
 ghost use Rattle.split_run.specs.declared.hands.Hand.{Hand};

@@ -5,7 +5,7 @@ use Rattle.par_model.specs.Columns.{HasColumns}
 use Rattle.partial_agg.specs.Groups.{GroupsByKey}
 use Rattle.partial_agg.specs.Rows.{header_width}
 use Rattle.row_blocks.specs.Blocks.{Table}
-use Rattle.split_law.specs.Shares.{AreShared}
+use Rattle.gather_law.specs.Shares.{AreShared}
 use Rattle.split_run.specs.Causes.{IsFirstCause}
 use Rattle.table_query.proofs.Outcomes.{header_first}
 use Rattle.par_stream.specs.Reading.{window_records, window_rows}

@@ -2,8 +2,8 @@ use Rattle.std.proofs.Common.{[], List, length, refl, subst, sym}
 use Rattle.csv_rows.specs.Records.{record_at}
 use Rattle.partial_agg.specs.Groups.{GroupsByKey}
 use Rattle.row_blocks.specs.Blocks.{Table}
-use Rattle.split_law.specs.Shares.{AreShared}
-use Rattle.split_law.proofs.RowShares.{shares_begin}
+use Rattle.gather_law.specs.Shares.{AreShared}
+use Rattle.gather_law.proofs.RowShares.{shares_begin}
 use Rattle.par_stream.specs.Reading.{Reaches}
 use Rattle.par_stream.proofs.reading.open.Goals as goal
 

@@ -1,5 +1,5 @@
 use Rattle.std.proofs.Common.{◌≡◌, length, take}
-use Rattle.split_law.specs.Parts.{groups_in, with_listed}
+use Rattle.gather_law.specs.KeyParts.{groups_in, with_listed}
 use Rattle.split_run.specs.Ranges.{range_of}
 use Rattle.split_run.proofs.parted.add_range.Given as goal
 

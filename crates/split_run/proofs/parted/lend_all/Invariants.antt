@@ -1,5 +1,5 @@
 use Rattle.std.proofs.Common.{take}
-use Rattle.split_law.specs.Parts.{AreListings}
+use Rattle.gather_law.specs.KeyParts.{AreListings}
 use Rattle.split_run.specs.Parted.{lists_of}
 use Rattle.split_run.proofs.parted.lend_all.Given as goal
 

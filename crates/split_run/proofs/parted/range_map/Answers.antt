@@ -1,5 +1,5 @@
 use Rattle.std.proofs.Common.{◌≡◌, arith, subst}
-use Rattle.split_law.specs.Parts.{groups_in, with_listed}
+use Rattle.gather_law.specs.KeyParts.{groups_in, with_listed}
 use Rattle.split_run.specs.Ranges.{range_of}
 use Rattle.split_run.specs.declared.parted.Parted.{Parted}
 use Rattle.split_run.proofs.Parting.{list_next}

@@ -1,5 +1,5 @@
 use Rattle.std.proofs.Common.{◌≡◌, take}
-use Rattle.split_law.specs.Parts.{part_map}
+use Rattle.gather_law.specs.KeyParts.{part_map}
 use Rattle.split_run.specs.Parted.{lists_of}
 use Rattle.split_run.specs.Ranges.{range_of}
 use Rattle.split_run.proofs.parted.range_map.Given as goal

@@ -9,7 +9,7 @@ use Rattle.partial_agg.specs.Listed.{listed}
 use Rattle.result_text.specs.Printable.{ArePrintable}
 use Rattle.result_text.proofs.Ranges.{joined-one}
 use Rattle.result_text.proofs.Uses.{printable-listed}
-use Rattle.split_law.specs.Parts.{AreListings, part_map}
+use Rattle.gather_law.specs.KeyParts.{AreListings, part_map}
 use Rattle.split_run.specs.Parted.{AreRangeTexts, IsReady, lists_of}
 use Rattle.split_run.specs.Ranges.{count_of, range_of}
 use Rattle.split_run.specs.declared.parted.Parted.{Parted}

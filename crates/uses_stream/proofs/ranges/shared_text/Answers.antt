@@ -2,8 +2,8 @@ use Rattle.std.proofs.Common.{◌≡◌, ◌≤◌, ◌^◌, [], List, arith, dr
 use Rattle.csv_rows.specs.Records.{record_at}
 use Rattle.partial_agg.specs.Groups.{GroupsByKey}
 use Rattle.partial_agg.specs.Rows.{header_width}
-use Rattle.split_law.specs.Shares.{AreShared}
-use Rattle.split_law.proofs.RowShares.{shares_begin}
+use Rattle.gather_law.specs.Shares.{AreShared}
+use Rattle.gather_law.proofs.RowShares.{shares_begin}
 use Rattle.uses_stream.proofs.ranges.shared_text.Goals as goal
 
 pub table_text-requires-clause-bound : goal.table_text-requires-clause-bound

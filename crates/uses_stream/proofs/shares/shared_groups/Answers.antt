@@ -1,8 +1,8 @@
 use Rattle.std.proofs.Common.{◌≡◌, [], List, arith, drop, length-drop, subst, sym}
 use Rattle.partial_agg.specs.Groups.{GroupsByKey}
 use Rattle.partial_agg.specs.Rows.{header_width}
-use Rattle.split_law.specs.Shares.{AreShared}
-use Rattle.split_law.proofs.RowShares.{shares_begin}
+use Rattle.gather_law.specs.Shares.{AreShared}
+use Rattle.gather_law.proofs.RowShares.{shares_begin}
 use Rattle.uses_stream.proofs.shares.shared_groups.Goals as goal
 
 pub returns-in-Ok-put_together : goal.returns-in-Ok-put_together

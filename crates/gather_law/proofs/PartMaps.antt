@@ -22,10 +22,10 @@ use Rattle.partial_agg.proofs.Joining.{absent, both_true, true_of}
 use Rattle.row_blocks.specs.Blocks.{Table}
 use Rattle.row_blocks.proofs.Elements.{All-apart}
 use Rattle.row_blocks.proofs.Permute.{flat_map-permutation}
-use Rattle.split_law.specs.Law.{PartsJoin}
-use Rattle.split_law.specs.Parts.{AreListings, groups_in, with_listed, with_part}
-use Rattle.split_law.specs.Shares.{together}
-use Rattle.split_law.proofs.KeyParts.{part_group}
+use Rattle.gather_law.specs.Sharing.{PartsJoin}
+use Rattle.gather_law.specs.KeyParts.{AreListings, groups_in, with_listed, with_part}
+use Rattle.gather_law.specs.Shares.{together}
+use Rattle.gather_law.proofs.KeyParts.{part_group}
 
 abbrev Entries : Type 0
 Entries = List (List ℕ × AggState)

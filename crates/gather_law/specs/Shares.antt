@@ -1,5 +1,5 @@
 -- Rows that are shared out to participants, and the maps that these keep of them.
-use Rattle.std.specs.Prelude.{◌≡◌, ◌==◌, ℕ, List, [], ◌∷◌, All, filter}
+use Rattle.std.specs.Prelude.{◌≡◌, ◌==◌, ℕ, List, [], ◌∷◌, All, filter, get_or}
 use Rattle.std.specs.List.{AllZip, flat_map}
 use Rattle.std.specs.List.Sorted.{IsPermutation}
 use Rattle.par_model.specs.Key.{key_of}
@@ -11,6 +11,10 @@ use Rattle.row_blocks.specs.Blocks.{Table}
 -- the shares one after another
 abbrev pub together : List Table → Table
 together shares = flat_map (λ share. share) shares
+
+-- the rows of the pieces of these numbers, one piece after another; a number that is no piece has none
+abbrev pub rows_at : List Table → List ℕ → Table
+rows_at pieces numbers = flat_map (λ n. get_or pieces n []) numbers
 
 -- Participants have taken shares of some rows, of which none is refused: each has the map of its own share, and the
 -- shares together are the rows, in some order

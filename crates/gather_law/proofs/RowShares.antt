@@ -1,8 +1,9 @@
 -- Shares of rows that grow, and are put together.
-use Rattle.std.proofs.Common.{◌≡◌, ◌<◌, ◌+◌, ◌^◌, ◌++◌, ℕ, zero, suc, List, [], ◌∷◌, length, fold, map, drop, replicate, All, refl, ap, sym, subst, ◌∙◌, arith, length-append, append-nil, append_assoc}
+use Rattle.std.proofs.Common.{◌≡◌, ◌<◌, ◌+◌, ◌^◌, ◌++◌, ℕ, zero, suc, List, [], ◌∷◌, length, fold, get_or, map, drop, replicate, take, All, refl, ap, sym, subst, ◌∙◌, arith, length-append, append-nil, append_assoc}
 use Rattle.std.specs.FinMap as fin
 use Rattle.std.specs.List.{AllZip}
 use Rattle.std.specs.List.Sorted.{IsPermutation}
+use Rattle.std.proofs.lemmas.List.{take_all}
 use Rattle.std.proofs.lemmas.List.Concat.{flat_map-append}
 use Rattle.std.proofs.lemmas.List.Elements.{All-append, All-head, All-nil, All-tail}
 use Rattle.std.proofs.lemmas.List.Sorted.{All-permutation, IsPermutation-append, IsPermutation-append_comm, IsPermutation-append_left, IsPermutation-append_right, IsPermutation-refl, IsPermutation-sym, IsPermutation-trans, length_permutation}
@@ -17,8 +18,8 @@ use Rattle.partial_agg.proofs.Joining.{maps_join}
 use Rattle.row_blocks.proofs.Draws.{drawn_are_below}
 use Rattle.row_blocks.proofs.BlockRows.{rows_all}
 use Rattle.row_blocks.proofs.Permute.{flat_map-permutation, same-permutation}
-use Rattle.split_law.specs.Law.{BlocksCover, SharesBegin, SharesGrow, SharesJoin}
-use Rattle.split_law.specs.Shares.{Add, together}
+use Rattle.gather_law.specs.Sharing.{BlocksCover, PiecesCover, SharesBegin, SharesGrow, SharesJoin}
+use Rattle.gather_law.specs.Shares.{Add, rows_at, together}
 
 -- ---- blocks that were drawn each once
 
@@ -43,6 +44,36 @@ blocks_cover plan width records draws n once all accepted =
     same-permutation (rows_of_blocks records drawn) (rows_of_blocks records (below n)) (drop 1 records) (rows_all records n all) (flat_map-permutation (block_rows records) drawn (below n) sorted) in
     let same : IsPermutation mine (drop 1 records) = subst (λ l. IsPermutation l (drop 1 records)) (sym (drawn_together records draws)) rows in
     (same, All-permutation (IsAccepted plan width) mine (drop 1 records) same (all_drawn plan width records draws accepted))
+
+-- ---- pieces that were drawn each once
+
+drawn_pieces : (pieces : List Table) (draws : List (List ℕ)) → together (map (rows_at pieces) draws) ≡ rows_at pieces (flat draws)
+drawn_pieces pieces [] = refl
+drawn_pieces pieces (ds ∷ draws) =
+    ap (λ (l : Table). rows_at pieces ds ++ l) (drawn_pieces pieces draws) ∙ sym (flat_map-append (λ n. get_or pieces n []) ds (flat draws))
+
+-- one piece more, if there is one
+next_piece : (pieces : List Table) (n : ℕ) → together (take n pieces) ++ get_or pieces n [] ≡ together (take (suc n) pieces)
+next_piece [] zero = refl
+next_piece [] (suc n) = refl
+next_piece (p ∷ pieces) zero = sym (append-nil p)
+next_piece (p ∷ pieces) (suc n) = append_assoc p (together (take n pieces)) (get_or pieces n []) ∙ ap (λ (l : Table). p ++ l) (next_piece pieces n)
+
+pieces_below : (pieces : List Table) (n : ℕ) → rows_at pieces (below n) ≡ together (take n pieces)
+pieces_below pieces zero = refl
+pieces_below pieces (suc n) =
+    flat_map-append (λ k. get_or pieces k []) (below n) (n ∷ []) ∙ ap (λ (l : Table). l ++ (get_or pieces n [] ++ [])) (pieces_below pieces n)
+    ∙ ap (λ (l : Table). together (take n pieces) ++ l) (append-nil (get_or pieces n []))
+    ∙ next_piece pieces n
+
+pub pieces_cover : PiecesCover
+pieces_cover pieces draws n once all =
+    let drawn = flat draws in
+    let sorted : IsPermutation drawn (below n) = drawn_are_below n drawn once in
+    let whole : rows_at pieces (below n) ≡ together pieces = pieces_below pieces n ∙ ap together (take_all n pieces all) in
+    let rows : IsPermutation (rows_at pieces drawn) (together pieces) =
+    same-permutation (rows_at pieces drawn) (rows_at pieces (below n)) (together pieces) whole (flat_map-permutation (λ k. get_or pieces k []) drawn (below n) sorted) in
+    subst (λ l. IsPermutation l (together pieces)) (sym (drawn_pieces pieces draws)) rows
 
 -- ---- no rows
 

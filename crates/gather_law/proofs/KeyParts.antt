@@ -10,8 +10,8 @@ use Rattle.partial_agg.specs.Groups.{group_of}
 use Rattle.partial_agg.proofs.Adding.{grouped}
 use Rattle.row_blocks.specs.Blocks.{Table}
 use Rattle.gather_law.proofs.Keys.{filter_apart, filter_through}
-use Rattle.split_law.specs.Law.{PartsTogether}
-use Rattle.split_law.specs.Shares.{rows_in}
+use Rattle.gather_law.specs.Sharing.{PartsTogether}
+use Rattle.gather_law.specs.Shares.{rows_in}
 
 true-false : true ≡ false → ⊥
 true-false h = cc h

@@ -9,14 +9,19 @@ use Rattle.partial_agg.specs.Groups.{AreGroups, GroupsByKey, group_of, with_grou
 use Rattle.partial_agg.specs.Rows.{IsAccepted}
 use Rattle.row_blocks.specs.Blocks.{Table, rows_of_blocks}
 use Rattle.partial_agg.specs.declared.groups.Group.{Group}
-use Rattle.split_law.specs.Parts.{AreListings, part_map}
-use Rattle.split_law.specs.Shares.{Add, AreShared, rows_in, together}
+use Rattle.gather_law.specs.KeyParts.{AreListings, part_map}
+use Rattle.gather_law.specs.Shares.{Add, AreShared, rows_at, rows_in, together}
 
 -- blocks that were drawn each once have all rows
 abbrev pub BlocksCover : Type 0
 BlocksCover = (plan : Plan) (width : ℕ) (records : Table) (draws : List (List ℕ)) (n : ℕ) → ((x : ℕ) → times x (flat draws) ≡ once_below x n) → length records ≤ 256 * n + 1
     → All (λ drawn. All (IsAccepted plan width) (rows_of_blocks records drawn)) draws
     → IsPermutation (together (map_list (rows_of_blocks records) draws)) (drop 1 records) × All (IsAccepted plan width) (drop 1 records)
+
+-- pieces of a table that were drawn each once have all its rows
+abbrev pub PiecesCover : Type 0
+PiecesCover = (pieces : List Table) (draws : List (List ℕ)) (n : ℕ) → ((x : ℕ) → times x (flat draws) ≡ once_below x n) → length pieces ≤ n
+    → IsPermutation (together (map_list (rows_at pieces) draws)) (together pieces)
 
 -- empty maps are those of shares of no rows
 abbrev pub SharesBegin : Type 0

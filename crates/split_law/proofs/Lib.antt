@@ -1,3 +1,0 @@
-pub mod RowShares
-pub mod KeyParts
-pub mod PartMaps

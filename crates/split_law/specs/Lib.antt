@@ -1,3 +1,0 @@
-pub mod Shares
-pub mod Parts
-pub mod Law
