@@ -150,7 +150,7 @@ impl fmt::Debug for Area {
 impl Area {
     /// An area of `pages` pages of 4 KiB, and a handle for each of its callers. It takes memory for the pages twice over,
     /// 1.6 % of them for their records, and a few words for each caller. Chunks of up to 8,192 bytes are cut from 16 pages at a
-    /// time, for each of 36 size classes, and a class keeps such 16 pages once it has some.
+    /// time, for each of 36 size classes. Such 16 pages go back when all of their chunks have, except those that the class used last.
     ///
     /// # Errors
     ///

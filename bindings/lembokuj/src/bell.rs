@@ -14,12 +14,16 @@ use std::sync::{Arc, Condvar, Mutex, PoisonError};
 #[cfg(feature = "async")]
 use std::task::Waker;
 use std::thread;
-use std::time::Duration;
+use std::time::{Duration, Instant};
 
 /// How many tries are made awake before the first sleep: those that spin, each twice as long as the one before, and then those that
 /// yield the processor.
 const SPINS: u32 = 7;
 const YIELDS: u32 = 24;
+
+/// How long the yielding tries go on at most. On a busy machine a single yield may take many milliseconds, and a wait with a time would
+/// end long after it.
+const YIELDING: Duration = Duration::from_micros(100);
 
 /// What a thread parks at. Each end of a queue has one, made with the queue: so a wait takes no memory, and a wake-up that comes
 /// late disturbs nobody else's parking.
@@ -151,15 +155,21 @@ impl Bell {
 
 /// Some tries by a thread that stays awake.
 pub(crate) fn awake<T>(attempt: &mut impl FnMut() -> Option<T>) -> Option<T> {
-    for round in 0..SPINS + YIELDS {
+    for round in 0..SPINS {
         if let Some(done) = attempt() {
             return Some(done);
         }
-        if round < SPINS {
-            (0..1 << round).for_each(|_| spin_loop());
-        } else {
-            thread::yield_now();
+        (0..1 << round).for_each(|_| spin_loop());
+    }
+    let began = Instant::now();
+    for _ in 0..YIELDS {
+        if let Some(done) = attempt() {
+            return Some(done);
         }
+        if began.elapsed() >= YIELDING {
+            break;
+        }
+        thread::yield_now();
     }
     None
 }
@@ -181,5 +191,21 @@ pub(crate) fn asleep<T>(
             // The other end may have come meanwhile.
             Err(Over) => return attempt(),
         }
+    }
+}
+
+#[cfg(test)]
+mod tests {
+    use super::*;
+
+    #[test]
+    fn a_wait_stays_awake_for_a_short_time_only() {
+        let mut tries = 0;
+        let found: Option<()> = awake(&mut || {
+            tries += 1;
+            thread::sleep(YIELDING);
+            None
+        });
+        assert!(found.is_none() && tries == SPINS + 1, "{tries} tries");
     }
 }

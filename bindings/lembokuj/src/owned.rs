@@ -13,7 +13,7 @@ use std::sync::{Arc, Mutex, MutexGuard, PoisonError};
 #[derive(Clone, Copy, Debug, PartialEq, Eq)]
 #[non_exhaustive]
 pub enum OwnedError {
-    /// The table has all the values that it was made for.
+    /// The table has all the values that it has room for: those that it was made for, and one more for each of its callers.
     Full,
     /// The table of keys has no room for the key.
     NoSpace(NoSpace),
@@ -22,7 +22,7 @@ pub enum OwnedError {
 impl fmt::Display for OwnedError {
     fn fmt(&self, f: &mut fmt::Formatter<'_>) -> fmt::Result {
         match self {
-            OwnedError::Full => f.write_str("the table has as many values as it was made for"),
+            OwnedError::Full => f.write_str("the table has as many values as it has room for"),
             OwnedError::NoSpace(why) => why.fmt(f),
         }
     }
@@ -122,7 +122,9 @@ impl<K, T> fmt::Debug for OwnedTable<K, T> {
 
 impl<K: Words, T: Send> OwnedTable<K, T> {
     /// An empty table for `values` values; [`OwnedTable::handle`] makes more handles, up to `callers` at a time. It takes memory for
-    /// all values from the start, and for their keys.
+    /// all values from the start, and for their keys. A value that takes another's place is put in before that one comes out, for which
+    /// there is room for one more value for each caller: so new keys may be refused only at `values + callers` values. A caller that
+    /// needs another bound counts for itself.
     ///
     /// # Errors
     ///
@@ -176,6 +178,40 @@ impl<K: Words, T: Send> OwnedTable<K, T> {
                 return Some(call(value));
             }
             // It was taken out in between: the key leads to another value, or to none.
+        }
+    }
+
+    /// Takes a key out and gives its value, if the function says so, which is called as by [`OwnedTable::with`]: so a cache takes out the
+    /// entry that it has judged, and no later one. None if the key is not there, if the function says no, or if another caller was
+    /// putting in a new value or taking out this one meanwhile; then the table is as that caller left it.
+    ///
+    /// ```
+    /// let mut table = lembokuj::OwnedTable::<u64, String>::open(10, 1)?;
+    /// table.insert(&1, "first".to_owned()).map_err(|(why, _)| why)?;
+    /// assert_eq!(table.remove_if(&1, |text| text.is_empty()), None);
+    /// assert_eq!(table.remove_if(&1, |text| text.len() == 5), Some("first".to_owned()));
+    /// assert!(!table.contains(&1));
+    /// # Ok::<(), Box<dyn std::error::Error>>(())
+    /// ```
+    pub fn remove_if(&mut self, key: &K, judge: impl FnOnce(&mut T) -> bool) -> Option<T> {
+        loop {
+            let [at, number] = self.keys.get(key)?;
+            let mut slot = locked(&self.slots.slots[at as usize]);
+            if slot.number == number
+                && let Some(value) = &mut slot.value
+            {
+                if !judge(value) {
+                    return None;
+                }
+                // Nobody waits for a slot while it has a partition, so the key's partition may be taken here.
+                let Ok(Ok(())) = self.keys.compare_and_put(key, Some(&[at, number]), None) else {
+                    return None;
+                };
+                let value = slot.value.take();
+                drop(slot);
+                locked(&self.slots.free).push(at);
+                return value;
+            }
         }
     }
 

@@ -31,7 +31,7 @@ pub fn select(receivers: &mut [&mut Rx]) -> usize {
     }
 }
 
-/// As [`select`], but waits no longer than this time: None then.
+/// As [`select`], but waits no longer than this time: None then, after it has asked whether the processes of senders live.
 #[must_use]
 pub fn select_timeout(receivers: &mut [&mut Rx], time: Duration) -> Option<usize> {
     select_by(receivers, &mut Limit::after(time))
@@ -72,13 +72,18 @@ fn asleep_at(parker: Option<&Arc<Parker>>, receivers: &mut [&mut Rx], limit: &mu
     }
     let mut naps = 0;
     let nobodys = Parker::default();
-    let found = asleep(parker.map_or(&nobodys, |parker| &**parker), limit, nap, &mut || {
+    let mut found = asleep(parker.map_or(&nobodys, |parker| &**parker), limit, nap, &mut || {
         naps += 1;
         if nap.is_some() && naps % NAPS == 0 {
             receivers.iter().for_each(|receiver| receiver.link().look_at_peer());
         }
         ready(receivers)
     });
+    // A caller that waits for a short time again and again has to learn of a death too, though it never comes to that many naps.
+    if found.is_none() && nap.is_some() {
+        receivers.iter().for_each(|receiver| receiver.link().look_at_peer());
+        found = ready(receivers);
+    }
     receivers.iter().filter_map(|receiver| receiver.link().bell()).for_each(Bell::detach);
     found
 }

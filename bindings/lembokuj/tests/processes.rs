@@ -2,7 +2,7 @@
 //! is killed, at a moment of its full work or while it has a lock. `KILLS=n` kills n processes at each object, else 9.
 
 use lembokuj::processes::{Region, Ticket};
-use lembokuj::{AreaError, BarrierError, ReceiveError, SendError, TableError, select};
+use lembokuj::{AreaError, BarrierError, ReceiveError, SendError, TableError, select, select_timeout};
 use std::collections::BTreeMap;
 use std::process::{Child, Command, exit};
 use std::sync::Arc;
@@ -439,7 +439,13 @@ fn sums_are_right(region: &Region, reports: &[Report]) -> bool {
                 assert!(found == sum || found == sum + 1, "key {key}: {found}, not {sum}");
                 more += found - sum;
             }
-            Err(TableError::OwnerDied) => refused = true,
+            Err(TableError::OwnerDied) => {
+                refused = true;
+                // Only the first answer of a lost partition takes the time of a sleep, 10 ms.
+                let began = Instant::now();
+                assert!((0..1000).all(|_| table.get(key) == Err(TableError::OwnerDied)));
+                assert!(began.elapsed() < Duration::from_secs(5), "{:?}", began.elapsed());
+            }
             Err(why) => panic!("{why}"),
         }
     }
@@ -478,6 +484,13 @@ fn kill_at_queue(kills: u32) {
             // A wait for several receivers learns it too.
             if round % 3 == 0 {
                 assert_eq!(select(&mut [&mut rx]), 0);
+            }
+            // So does one that lasts for a short time only, again and again.
+            if round % 3 == 1 {
+                let began = Instant::now();
+                while select_timeout(&mut [&mut rx], Duration::from_millis(2)).is_none() {
+                    assert!(began.elapsed() < Duration::from_secs(60), "no short wait learned it");
+                }
             }
             match rx.receive() {
                 Ok(bytes) => {

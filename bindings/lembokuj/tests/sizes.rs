@@ -302,6 +302,37 @@ fn values_may_be_owned() {
 }
 
 #[test]
+fn an_owned_value_is_taken_out_if_it_is_judged_so() {
+    let mut table = OwnedTable::<u64, u64>::open(3, 2).unwrap();
+    assert_eq!(table.insert(&1, 10), Ok(None));
+    assert_eq!((table.remove_if(&2, |_| true), table.remove_if(&1, |value| *value != 10)), (None, None));
+    assert_eq!(panicked(|| table.remove_if(&1, |_| panic!("as judge"))), "as judge");
+    // Another caller puts in a value while the first one is judged. Whichever call comes first, the new value stays.
+    let mut other = table.handle().unwrap();
+    let came = std::sync::Barrier::new(2);
+    let (before, judged) = std::thread::scope(|scope| {
+        let putter = scope.spawn(|| {
+            came.wait();
+            other.insert(&1, 11).unwrap()
+        });
+        let judged = table.remove_if(&1, |value| {
+            came.wait();
+            std::thread::sleep(std::time::Duration::from_millis(300));
+            *value == 10
+        });
+        (putter.join().unwrap(), judged)
+    });
+    assert_eq!(before.or(judged), Some(10));
+    assert!(before.is_none() || judged.is_none());
+    assert_eq!((table.remove_if(&1, |value| *value == 10), table.remove_if(&1, |value| *value == 11)), (None, Some(11)));
+    // Its slot is free again.
+    for key in 0..5 {
+        assert_eq!(table.insert(&key, key), Ok(None));
+    }
+    assert_eq!((table.insert(&5, 5), table.count()), (Err((OwnedError::Full, 5)), 5));
+}
+
+#[test]
 fn a_queue_says_what_is_wrong() {
     assert_eq!(queue(1000, 8).unwrap_err(), QueueError::RingSize);
     assert_eq!(queue(1024, (1 << 20) + 1).unwrap_err(), QueueError::MessageSize);

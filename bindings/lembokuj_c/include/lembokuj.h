@@ -126,7 +126,7 @@ LK_TELLS int lk_queue_send_within(lk_sender *tx, const void *bytes, size_t len, 
  * has answered LK_OK, any other is LK_OTHER_MESSAGE. */
 LK_TELLS int lk_queue_try_send_part(lk_sender *tx, const void *bytes, size_t len);
 
-/* Up to 64 slices as one message, their bytes in a row: waits, or does not. LK_BAD_SIZE for more slices. */
+/* Up to 64 slices as one message, their bytes in a row: waits without a limit, or does not wait. LK_BAD_SIZE for more slices. */
 typedef struct lk_slice {
     const void *bytes;
     size_t len;
@@ -145,7 +145,7 @@ LK_TELLS int lk_queue_try_receive(lk_receiver *rx, const uint8_t **bytes, size_t
 LK_TELLS int lk_queue_receive(lk_receiver *rx, const uint8_t **bytes, size_t *len);
 LK_TELLS int lk_queue_receive_within(lk_receiver *rx, const lk_limit *limit, const uint8_t **bytes, size_t *len);
 
-/* Waits until one of up to 256 receivers has a message, or its sender is gone: *which is its place in the list, and the next
+/* Waits until one of 1 to 256 receivers has a message, or its sender is gone: *which is its place in the list, and the next
  * receive there does not wait. Of several that are ready it is the one that was chosen longest ago. What a receiver has lent is
  * given up. LK_TWICE, LK_BAD_SIZE, LK_NO_MEMORY. */
 LK_TELLS int lk_wait_any(lk_receiver *const *rx, size_t count, const lk_limit *limit, size_t *which);
@@ -160,7 +160,8 @@ typedef struct lk_area lk_area;
 typedef struct lk_chunk lk_chunk; /* its words are only its holder's */
 
 /* An area of pages of 4 KiB, 65,536 at most; writes a handle for each caller to out[0 .. callers]. Chunks of up
- * to 8,192 bytes are cut from 16 pages at a time for each of 36 size classes. LK_BAD_SIZE, LK_BAD_CALLERS, LK_NO_MEMORY. */
+ * to 8,192 bytes are cut from 16 pages at a time for each of 36 size classes. Such 16 pages go back when all of their chunks have,
+ * except those that the class used last. LK_BAD_SIZE, LK_BAD_CALLERS, LK_NO_MEMORY. */
 LK_TELLS int lk_area_new(uint32_t pages, uint32_t callers, lk_area **out);
 
 /* One more handle, if fewer are out than the area was made for. LK_NO_HANDLE, LK_NO_MEMORY. */
@@ -327,20 +328,20 @@ int lk_toc_close(lk_toc_share **toc);
  *
  * A process that ends without leaving is to the others a thread that stops. Nobody takes a lock from it: the calls that need what it
  * guarded answer LK_OWNER_DIED, those of its keys, of its size of chunks, or of its barrier. The other end of its queue answers
- * LK_PEER_DIED, after all whole messages. A barrier goes on without it. lk_wait_any looks every millisecond if a sender is another
- * process. All that may write the file can spoil it for all: LK_DAMAGED. */
+ * LK_PEER_DIED, after all whole messages; an end that nobody has taken yet is waited for. A barrier goes on without it. lk_wait_any
+ * looks every millisecond if a sender is another process. All that may write the file can spoil it for all: LK_DAMAGED. */
 
 typedef struct lk_region lk_region;
 
 /* A region of this many words of 8 bytes, from 64 to fewer than 2^26, without a name: programs that the maker starts inherit its file.
- * Or under a name of shm_open's, without the slash, until lk_region_unlink. What nobody stores to takes no memory. LK_BAD_SIZE,
- * LK_SYSTEM, LK_NO_MEMORY. */
+ * Or under a name of shm_open's, without the slash, until lk_region_unlink. What nobody stores to takes no memory. A table or an
+ * area takes about 521 of the words for each page and 110 more, a queue its ring and about 30. LK_BAD_SIZE, LK_SYSTEM, LK_NO_MEMORY. */
 LK_TELLS int lk_region_create(uint64_t words, lk_region **out);
 LK_TELLS int lk_region_create_named(const char *name, uint64_t words, lk_region **out);
 int lk_region_unlink(const char *name);
 
-/* Lays an object out under a key: a queue as lk_queue_new's; a table of numbers and an area, each in pages of 4 KiB that nothing else
- * has, up to 65,536, for up to 4,096 callers; a barrier of up to 63 callers, who all take part; words that nobody changes.
+/* Lays an object out under a key: a queue as lk_queue_new's, with messages of up to 2^26 bytes; a table of numbers and an area, each
+ * in pages of 4 KiB that nothing else has, up to 65,536, for up to 4,096 callers; a barrier of up to 63 callers, who all take part; words that nobody changes.
  * LK_KEY_THERE, LK_FULL, LK_BAD_SIZE, LK_BAD_CALLERS, LK_NO_SPACE: the table's pages are too few for an empty one. */
 LK_TELLS int lk_region_add_queue(lk_region *region, uint64_t key, uint64_t ring_words, uint32_t max_bytes);
 LK_TELLS int lk_region_add_table(lk_region *region, uint64_t key, uint32_t pages, uint32_t callers);

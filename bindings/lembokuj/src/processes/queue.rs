@@ -169,7 +169,7 @@ pub(crate) fn detach_lost(map: &crate::processes::map::Map, entry: &crate::proce
 
 impl Region {
     /// The sending end of a queue, which is taken once. It takes memory for the greatest message. Its calls are those of one between
-    /// threads; a wait returns too if the receiver's process has ended.
+    /// threads; a wait returns too if the receiver's process has ended, but waits on as long as nobody has taken that end.
     ///
     /// # Errors
     ///
@@ -183,7 +183,8 @@ impl Region {
     }
 
     /// The receiving end of a queue, which is taken once. It takes memory for the greatest message. Its calls are those of one
-    /// between threads; a wait returns too if the sender's process has ended. `try_receive` does not ask whether it lives.
+    /// between threads; a wait or a [`crate::select`] returns too if the sender's process has ended, but waits on as long as nobody has
+    /// taken that end. `try_receive` does not ask whether the process lives.
     ///
     /// # Errors
     ///

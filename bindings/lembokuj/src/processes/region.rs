@@ -34,7 +34,7 @@ pub enum BuildError {
     Callers,
     /// The region has too few words left.
     Full,
-    /// The area has too few pages for an empty table: one of 17 has enough.
+    /// The area has too few pages for an empty table: one of 16 has enough.
     NoSpace,
     /// The key is there already.
     KeyThere,
@@ -114,7 +114,8 @@ impl fmt::Debug for Region {
 
 impl Region {
     /// Begins a region of this many words of 8 bytes, from 64 to fewer than 2^26, in a file without a name, which programs that
-    /// this process starts inherit under the number of [`Region::fd`]. What nobody stores to takes no memory.
+    /// this process starts inherit under the number of [`Region::fd`]. What nobody stores to takes no memory. A table or an area takes
+    /// about 521 of the words for each page and 110 more, a queue its ring and about 30; [`Builder::free_bytes`] says what is left.
     ///
     /// # Errors
     ///
@@ -270,7 +271,7 @@ impl Builder {
     }
 
     /// A queue with one sender and one receiver: a ring of `ring_words` words, a power of two up to 2^20, and messages of at most
-    /// `max_bytes` bytes.
+    /// `max_bytes` bytes, 2^26 at most.
     ///
     /// # Errors
     ///

@@ -75,6 +75,8 @@ struct At {
     pass: DsPass<Numbers>,
     area: dsa_area::Area,
     area_pass: AreaPass,
+    /// A bit for each partition whose lock was found with a process that has ended: nobody takes it from there.
+    lost: u128,
 }
 
 impl fmt::Debug for Table {
@@ -116,6 +118,7 @@ impl Table {
             pass: DsPass::<Numbers>::taken(handle.number),
             area,
             area_pass: AreaPass::taken(handle.number),
+            lost: 0,
         };
         Ok(Table { handle, at })
     }
@@ -145,9 +148,18 @@ impl At {
         }
     }
 
+    /// A turn at a partition, unless its lock is lost: only the first call that meets that waits to learn it.
     #[expect(clippy::result_large_err, reason = "the ask comes back as it came")]
     fn turn(&mut self, handle: &Handle, partition: u32, ask: TableAsk<Numbers>) -> Result<TableAnswer<Numbers>, TableAsk<Numbers>> {
-        self.table.turn_while(&handle.map.region, &mut self.pass, partition, ask, &|n| handle.lives(n))
+        let bit = 1 << partition;
+        if self.lost & bit != 0 {
+            return Err(ask);
+        }
+        let answer = self.table.turn_while(&handle.map.region, &mut self.pass, partition, ask, &|n| handle.lives(n));
+        if answer.is_err() {
+            self.lost |= bit;
+        }
+        answer
     }
 
     /// A call of a key: turns at its partition, and between them what it lacks.
@@ -206,7 +218,8 @@ impl Table {
         map.guard(|| at.call(handle, key, call))?
     }
 
-    /// The number under a key.
+    /// The number under a key. If its partition is lost, the first call of this handle there waits some 10 ms for an answer of the
+    /// system, and later ones answer at once.
     ///
     /// # Errors
     ///
