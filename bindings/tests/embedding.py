@@ -73,7 +73,7 @@ def processes(room):
         "}",
     ]
     with open(f"{room}/sums/src/main.rs", "w", encoding="utf-8") as file:
-        file.write("\n".join(lines).replace("lk.sums", f"lk.sums.{os.getpid()}"))
+        file.write("\n".join(lines).replace("lk.sums", f"lk.sums.{os.path.basename(os.path.dirname(room))}"))
     same("docs/PROCESSES.md: its program in Rust", run("cargo run --quiet --offline", f"{room}/sums"), "hello\n")
     commands = re.search(r"(?:^    .*partial_sums.*\n|^       .*\n)+", page, re.M)[0]
     last = run(commands, room).splitlines()[-1:]

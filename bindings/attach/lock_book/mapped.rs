@@ -45,7 +45,10 @@ fn take_while<T: Kept>(
         }
         sleep_on(board.shared.word(advice), SOMEBODY, LONGEST_SLEEP);
         let found = board.shared.peek(lock_word(at));
-        if found != FREE && !lives((found - 1) as u32) && board.shared.peek(lock_word(at)) == found {
+        let has_ended = || !lives((found - 1) as u32);
+        // That it has ended is asked before and after the lock is seen to be this pass's still: it may have given the lock back before it
+        // ended, and another caller may have it under the same number by now.
+        if found != FREE && has_ended() && board.shared.peek(lock_word(at)) == found && has_ended() {
             return false;
         }
     }

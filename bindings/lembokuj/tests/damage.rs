@@ -104,7 +104,7 @@ fn use_it(region: &Region) {
 
 #[test]
 fn damaged_files_are_refused_by_name_and_hurt_nobody() {
-    let name = format!("lk.damage.{}", std::process::id());
+    let name = format!("lk.damage.{}.{:?}", std::process::id(), std::time::UNIX_EPOCH.elapsed().unwrap());
     let file = made(&name);
     let length = file.metadata().unwrap().len();
     // All that was stored to, and as much again.

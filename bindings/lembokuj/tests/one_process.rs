@@ -29,7 +29,7 @@ fn what_can_t_be_laid_out_is_refused_by_name() {
 
 #[test]
 fn nobody_attaches_before_a_region_is_open() {
-    let name = format!("lk.half.{}", std::process::id());
+    let name = format!("lk.half.{}.{:?}", std::process::id(), std::time::UNIX_EPOCH.elapsed().unwrap());
     let mut builder = Region::create_named(&name, 1 << 12).unwrap();
     assert_eq!(Region::create_named(&name, 1 << 12).err(), Some(BuildError::System));
     builder.words(1, &[5]).unwrap();

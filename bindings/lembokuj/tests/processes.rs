@@ -58,7 +58,8 @@ struct Named {
 impl Named {
     fn new() -> Named {
         static COUNT: AtomicU32 = AtomicU32::new(0);
-        let name = format!("lk.test.{}.{}", std::process::id(), COUNT.fetch_add(1, SeqCst));
+        // A program with the same id may have left its file.
+        let name = format!("lk.test.{}.{}.{:x}", std::process::id(), COUNT.fetch_add(1, SeqCst), random(u64::MAX));
         let mut builder = Region::create_named(&name, 1 << 19).unwrap();
         builder.table(TABLE, 400, 6).unwrap();
         builder.queue(QUEUE, 256, 64).unwrap();
@@ -318,6 +319,9 @@ unsafe extern "C" {
 const PTRACE_SINGLESTEP: u32 = 9;
 const PTRACE_SEIZE: u32 = 0x4206;
 const PTRACE_INTERRUPT: u32 = 0x4207;
+const SIGCONT: i32 = 18;
+const SIGSTOP: i32 = 19;
+const WUNTRACED: i32 = 2;
 const __WALL: i32 = 0x4000_0000;
 
 /// A child by fork drops its copies of its parent's handles: the parent's work as before.
@@ -352,27 +356,50 @@ fn nap() {
     thread::sleep(Duration::from_micros(10_000 + random(20_000)));
 }
 
-/// Lets a process go on instruction by instruction, as a debugger does, until it has a lock of the object, and then some more,
-/// within the lock. False if it has ended before.
+/// Stops a process while it has a lock of the object. False if it has ended before.
 fn stop_with_lock(region: &Region, object: u64, child: &Child) -> bool {
-    let pid = child.id() as i32;
     let has_lock = || region.lock_holders(object).unwrap().contains(&child.id());
-    // SAFETY: numbers only, here and below, but for the place of the status.
-    assert_eq!(unsafe { ptrace(PTRACE_SEIZE, pid, 0usize, 0usize) }, 0, "the system lets a process trace its child");
+    let pid = child.id() as i32;
+    // SAFETY: numbers only.
+    if unsafe { ptrace(PTRACE_SEIZE, pid, 0usize, 0usize) } == 0 { step_to_lock(pid, has_lock) } else { halt_at_lock(pid, has_lock) }
+}
+
+/// Waits until a process is stopped. False if it has ended.
+fn is_stopped(pid: i32) -> bool {
+    let mut status = 0;
+    // SAFETY: numbers, and the place of the status.
+    assert_eq!(unsafe { waitpid(pid, &raw mut status, __WALL | WUNTRACED) }, pid);
+    status & 0xff == 0x7f
+}
+
+/// Lets a process that is traced go on instruction by instruction, as a debugger does, until it has a lock, and then some more,
+/// within the lock.
+fn step_to_lock(pid: i32, has_lock: impl Fn() -> bool) -> bool {
+    // SAFETY: numbers only, here and below.
     assert_eq!(unsafe { ptrace(PTRACE_INTERRUPT, pid, 0usize, 0usize) }, 0);
-    let is_stopped = || {
-        let mut status = 0;
-        assert_eq!(unsafe { waitpid(pid, &raw mut status, __WALL) }, pid);
-        status & 0xff == 0x7f
-    };
     let mut inside = 0;
     let wanted = 1 + random(40);
-    while is_stopped() {
+    while is_stopped(pid) {
         inside = if has_lock() { inside + 1 } else { 0 };
         if inside == wanted || inside > 0 && random(64) == 0 {
             return true;
         }
         unsafe { ptrace(PTRACE_SINGLESTEP, pid, 0usize, 0usize) };
+    }
+    false
+}
+
+/// Where the system lets nobody trace: stops a process again and again, until it has a lock then.
+fn halt_at_lock(pid: i32, has_lock: impl Fn() -> bool) -> bool {
+    // SAFETY: numbers only, here and below.
+    unsafe { kill(pid, SIGSTOP) };
+    while is_stopped(pid) {
+        if has_lock() {
+            return true;
+        }
+        unsafe { kill(pid, SIGCONT) };
+        thread::sleep(Duration::from_micros(random(3000)));
+        unsafe { kill(pid, SIGSTOP) };
     }
     false
 }
@@ -540,16 +567,21 @@ fn kill_at_barrier(kills: u32, with_lock: bool) {
         let begun = Instant::now();
         let codes: Vec<_> = children.into_iter().skip(1).map(|mut child| child.wait().unwrap().code()).collect();
         slowest = slowest.max(begun.elapsed());
-        let told: Vec<u64> = reports.into_iter().skip(1).map(|report| report.join().told.len() as u64).collect();
+        // All of them, so that no end of their queues is left for `reap`.
+        let reports: Vec<Report> = reports.into_iter().map(Collector::join).collect();
+        let told: Vec<u64> = reports[1..].iter().map(|report| report.told.len() as u64).collect();
         assert!(codes.iter().all(|code| matches!(code, Some(0 | LOST_CODE))), "{codes:?}");
         if codes.contains(&Some(LOST_CODE)) {
             lost += 1;
             // Whoever had seen the last phase end before that needs the barrier no more; the others were waiting for its end.
             let has_ended = codes.contains(&Some(0));
             assert!(!with_lock || !has_ended, "{codes:?}");
-            for (code, count) in codes.iter().zip(told) {
-                assert!(if *code == Some(0) { count == PHASES } else { !has_ended || count == PHASES - 1 }, "{codes:?} {count}");
+            for (code, count) in codes.iter().zip(&told) {
+                assert!(if *code == Some(0) { *count == PHASES } else { !has_ended || *count == PHASES - 1 }, "{codes:?} {count}");
             }
+            // Nobody is two phases ahead of another.
+            let (least, most) = (told.iter().min().unwrap(), told.iter().max().unwrap());
+            assert!(most - least <= 1, "{codes:?} {told:?}");
             // Those that had ended before another one looked are marked already.
             let reaped = made.region.reap();
             assert!(reaped.lost <= WORKERS && reaped.detached == 0, "a barrier that is lost is lost to all: {reaped:?}");

@@ -219,7 +219,8 @@ int main(int argc, char **argv) {
         return 2;
     }
     char name[64];
-    snprintf(name, sizeof name, "lk.partial_sums.%d", (int)getpid());
+    /* A leader with the same id may have been killed, and its region is there still: so the time is in the name too. */
+    snprintf(name, sizeof name, "lk.partial_sums.%d.%lld", (int)getpid(), (long long)time(NULL));
     lay_out(&all, name, (uint64_t)about.st_size);
     for (int at = 0; at < all.count; at++) start(&all, argv[0], name, argv[1], at);
     lead(&all, argc == 4);

@@ -75,7 +75,7 @@ int main(int argc, char **argv) {
         return strcmp(argv[1], "receive") ? send_all(site, count, 1) : receive_all(site, count);
     }
     uint64_t count = argc > 1 ? strtoull(argv[1], NULL, 10) : 200000;
-    alarm(100); /* nobody waits longer for a program that could not be started */
+    alarm(1000); /* nobody waits longer for a program that could not be started */
     int file = (int)syscall(SYS_memfd_create, "lk", 0);
     if (file < 0 || ftruncate(file, FILE_BYTES)) return 1;
     uint8_t *map = mmap(NULL, FILE_BYTES, PROT_READ | PROT_WRITE, MAP_SHARED, file, 0);

@@ -49,8 +49,9 @@ pub(crate) fn detach_lost(map: &Map, entry: &Entry, number: u32, found: u64) -> 
     let Some(barrier) = attached(map, entry) else { return true };
     let claim = claim_of(map, entry, number);
     if barrier.is_held_by(number) {
-        let _other = claim.compare_exchange(found, LOST, SeqCst, SeqCst);
-        return false;
+        // If the claim has changed, another process may have the lock under this number, to detach it. Or that one has marked the
+        // claim as lost, and the next call is answered so.
+        return claim.compare_exchange(found, LOST, SeqCst, SeqCst).is_err();
     }
     if claim.compare_exchange(found, DETACHING | map.me.number(), SeqCst, SeqCst).is_err() {
         return true;

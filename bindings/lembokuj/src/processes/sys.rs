@@ -208,7 +208,7 @@ mod tests {
     #[test]
     fn a_process_lives_until_it_has_ended() {
         assert!(!Process::current().has_ended());
-        let mut child = std::process::Command::new("sleep").arg("60").spawn().unwrap();
+        let mut child = std::process::Command::new("sleep").arg("3600").spawn().unwrap();
         let began = stat_of(u64::from(child.id())).unwrap().began;
         let process = Process(began << ID_BITS | u64::from(child.id()));
         assert!(!process.has_ended());

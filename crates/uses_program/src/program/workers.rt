@@ -12,7 +12,8 @@ use std::sync::atomic::{AtomicBool, AtomicU32, Ordering};
 use std::test::Fail;
 use std::thread::Threads;
 
-/// Holds each of three participants at its first block until all have come to one, for at most a million turns.
+/// Holds each of three participants at its first block until all have come to one, for at most twenty million
+/// turns: a thread may be kept from its processor for seconds.
 #[derive(Drop)]
 struct Meeting {
     came: [AtomicBool; 3],
@@ -48,7 +49,7 @@ impl Gate for Meeting {
         }
         self.count.fetch_add(1, Ordering::SeqCst);
         let backoff = Backoff::new();
-        for _turn in 0..1_000_000 {
+        for _turn in 0..20_000_000 {
             if self.count.load(Ordering::SeqCst) >= 3 {
                 return;
             }

@@ -20,7 +20,8 @@ use std::test::Fail;
 use std::thread::Threads;
 use worker_run::{Gate, WorkerEnd, work};
 
-/// Holds a worker until it is opened, for at most a million turns.
+/// Holds a worker until it is opened, for at most twenty million turns: the lead may be kept from its processor for
+/// seconds.
 #[derive(Drop)]
 struct Barred {
     open: AtomicBool,
@@ -29,7 +30,7 @@ struct Barred {
 impl Gate for Barred {
     fn pass(&self, _participant: u32, _block: u64) {
         let backoff = Backoff::new();
-        for _turn in 0..1_000_000 {
+        for _turn in 0..20_000_000 {
             if self.open.load(Ordering::SeqCst) {
                 return;
             }

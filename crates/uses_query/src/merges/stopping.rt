@@ -9,6 +9,7 @@ use std::test::Fail;
 use worker_run::Gate;
 
 /// Counts the leader's blocks, and holds the leader for a while at each: at the first one until the worker is at one too.
+/// All 20 would take seconds, since the worker may be kept from its processor; the leader is stopped after one or two.
 #[derive(Drop)]
 struct Slow {
     worker_came: AtomicBool,
@@ -29,7 +30,7 @@ impl Gate for Slow {
             }
             backoff.snooze();
         }
-        for _turn in 0..2_000 {
+        for _turn in 0..500_000 {
             backoff.snooze();
         }
     }
