@@ -1,4 +1,5 @@
 mod Asked
+mod Batches
 mod Refusals
 mod Statuses
 mod Streams

@@ -6,16 +6,19 @@ use Rattle.std.proofs.lemmas.Grind.{get_or_after_one}
 use Rattle.std.proofs.lemmas.List.Elements.{All-append, All-same}
 use Rattle.csv_rows.specs.Records.{record_at, records_of}
 use Rattle.par_model.specs.Named.{missing_name}
+use Rattle.par_model.specs.Columns.{HasColumns}
 use Rattle.par_model.specs.Outcome.{Refused, Table as IsTable, by_missing, by_refused}
 use Rattle.par_model.specs.Plan.{Plan}
 use Rattle.par_model.specs.Refuse.{refusal, refused_rows}
 use Rattle.par_model.specs.declared.refusal.Refusal.{Refusal}
-use Rattle.partial_agg.specs.Rows.{IsAccepted}
+use Rattle.partial_agg.specs.Rows.{IsAccepted, header_width}
 use Rattle.partial_agg.specs.declared.map.BlockAnswer.{BlockAnswer}
 use Rattle.partial_agg.specs.declared.map.BlockAnswer.TheVariants as answer
 use Rattle.plan_spec.specs.Query.{Query}
 use Rattle.row_blocks.specs.Blocks.{Table}
-use Rattle.split_run.specs.Causes.{IsFirstCause}
+use Rattle.row_windows.specs.Stretch.{Stretch}
+use Rattle.split_run.specs.Causes.{IsFirstCause, IsLow}
+use Rattle.split_run.specs.Pieces.{AreUnder, HaveColumns}
 use Rattle.table_query.specs.Refused.{refused_in}
 use Rattle.table_query.proofs.RefusedRows.{refused_first, refused_in-none}
 use Rattle.par_stream.specs.Outcome.{outcome, outcome_over}
@@ -108,10 +111,10 @@ module _ (query : Query) (header : List (List ℕ)) (bound : Plan) (is : IsBound
         (found.0, subst (λ m. refused_in bound all ≡ (m, why) ∷ found.0) place found.1)
 
   -- an answer on a window tells of the outcome
-  pub refused_tells : (from : Option (List ℕ)) (before : ℕ) (rows wrows : Table) (why : BlockAnswer) (said : Stop) → before ≡ length rows → before + length (header ∷ wrows) < 2 ^ 64
+  pub refused_tells : (from : Option (List ℕ)) (before : ℕ) (rows wrows : Table) (why : BlockAnswer) (said : Stop) → before ≡ length rows → before ≤ 2 ^ 50 → IsLow why
       → Begins from (header ∷ (rows ++ wrows)) → All (IsAccepted bound (length header)) rows → IsFirstCause bound (header ∷ wrows) why → Restates query.plan before why said → Tells query from said
-  refused_tells from before rows wrows answer.Memory said is_before few b accepted c restated = subst (Tells query from) (sym restated) tt
-  refused_tells from before rows wrows (answer.Row row cause item) said is_before few b accepted c restated = by (restated (omega (arith, few, c.refused.within)))
+  refused_tells from before rows wrows answer.Memory said is_before few low b accepted c restated = subst (Tells query from) (sym restated) tt
+  refused_tells from before rows wrows (answer.Row row cause item) said is_before few low b accepted c restated = by (restated (omega (arith, few, low)))
     where
       why : Refusal
       why = record { cause = cause; item = item }
@@ -131,3 +134,7 @@ module _ (query : Query) (header : List (List ℕ)) (bound : Plan) (is : IsBound
       by : IsRefusedRow query.plan (before + row) why said ⊎ (said ≡ stop.Memory) → Tells query from said
       by (inr e) = subst (Tells query from) (sym e) tt
       by (inl r) = subst (Tells query from) (sym r.1) (record { refusal = why; says = r.2; first = first_told from b })
+
+  -- the columns of the plan are in each window that has the header
+  pub have_columns : (pieces : List Stretch) → AreUnder header pieces → HaveColumns bound pieces
+  have_columns pieces under = λ k d low. subst (λ (w : ℕ). HasColumns bound w) (sym (ap header_width (under k d low))) is.columns

@@ -1,18 +1,17 @@
 -- What there is after a window.
-use Rattle.std.proofs.Common.{◌≡◌, ◌<◌, ◌≤◌, ◌++◌, ◌∙◌, ℕ, Bool, false, List, [], ◌∷◌, Option, None, Some, IfSome, drop, length, take, refl, ap, sym, subst, arith, append-nil, take-append-drop}
+use Rattle.std.proofs.Common.{◌≡◌, ◌<◌, ◌≤◌, ◌++◌, ◌∙◌, ℕ, Bool, false, List, [], ◌∷◌, All, Option, None, Some, IfSome, drop, length, slice_index_or, take, refl, ap, sym, subst, arith, append-nil, take-append-drop}
 use Rattle.std.specs.Prelude.{unwrap_or}
 use Rattle.std.proofs.lemmas.List.{take_all}
+use Rattle.std.proofs.lemmas.List.Elements.{All-cons, All-head, All-nil, All-tail}
 use Rattle.csv_rows.specs.Cuts.{IsCut}
 use Rattle.csv_rows.specs.Records.{record_at, records_of}
-use Rattle.par_model.specs.Plan.{Plan}
-use Rattle.partial_agg.specs.Rows.{header_width}
 use Rattle.row_blocks.specs.Blocks.{Table}
 use Rattle.row_windows.specs.Seams.{BeginsLine, IsCutAt, IsSeam}
 use Rattle.row_windows.proofs.Seams.{records_add_up}
 use Rattle.row_windows.specs.Stretch.{Stretch}
-use Rattle.par_stream.specs.Reading.{AddsWindow, HasAdded, HasHeader, HasRead, IsFilled, Reaches, window_records, window_rows}
-use Rattle.par_stream.specs.declared.adding.Added.{Added}
-use Rattle.par_stream.proofs.Windows.{filled}
+use Rattle.split_run.specs.Pieces.{AreUnder, piece_records, piece_rows, rows_of}
+use Rattle.par_stream.specs.Reading.{HasHeader, HasRead, IsFilledBatch, IsHeaded, Reaches, line_records}
+use Rattle.par_stream.specs.declared.batch.Batch.{Batch}
 
 -- a list of one record, and what begins with it
 pub one_record : (one all more : Table) → length one ≡ 1 → all ≡ one ++ more → (record_at all 0 ≡ record_at one 0) × (one ≡ record_at one 0 ∷ []) × (drop 1 all ≡ more) × (all ≡ record_at one 0 ∷ more)
@@ -38,40 +37,72 @@ front_one lines None some none more =
     omega (arith, none refl, more, whole)
 front_one lines (Some at) some none more = some
 
--- a window that was filled behind another one, which is not the last
-module _ (header : Table) (w was now : Stretch) (w_last is_last : Bool) (old new : Option (List ℕ)) (h : HasHeader header w w_last) (more : w_last ≡ false) (same : was.header ≡ w.header) (rest : was.rest ≡ w.rest) (f : IsFilled old new was now is_last) where
-  header_is : now.header ≡ w.header
-  header_is = f.header ∙ same
+-- the windows of a batch that have a header, and begin with lines of their own
+module _ (header : Table) (text : List ℕ) (cut : IsCut text) (is : records_of text ≡ header) (one : length header ≡ 1) where
+  piece_is : (w : Stretch) → w.header ≡ text → BeginsLine w.lines → piece_records w ≡ record_at header 0 ∷ records_of w.lines
+  piece_is w same line = ap (λ (l : List ℕ). records_of (l ++ w.lines)) same ∙ records_behind text w.lines header cut line is one
 
-  next_records : window_records now ≡ record_at header 0 ∷ records_of now.lines
-  next_records = ap (λ (l : List ℕ). records_of (l ++ now.lines)) header_is ∙ records_behind w.header now.lines header (h.cut more) (f.line (subst BeginsLine (sym rest) (h.next more))) h.line h.one
+  under_is : (w : Stretch) → w.header ≡ text → BeginsLine w.lines → piece_records w ≡ record_at header 0 ∷ piece_rows w
+  under_is w same line = let e = piece_is w same line in e ∙ ap (λ (l : Table). record_at header 0 ∷ l) (sym (ap (drop 1) e))
 
-  next_rows : window_rows now ≡ records_of now.lines
-  next_rows = ap (drop 1) next_records
+  pub all_under : (ws : List Stretch) → All (λ w. w.header ≡ text) ws → All (λ w. BeginsLine w.lines) ws → AreUnder (record_at header 0) ws
+  all_under ws same lines = λ k d low. under_is (slice_index_or ws k d) (same k d low) (lines k d low)
+
+  pub rows_are : (ws : List Stretch) → All (λ w. w.header ≡ text) ws → All (λ w. BeginsLine w.lines) ws → rows_of ws ≡ line_records ws
+  rows_are [] same lines = refl
+  rows_are (w ∷ ws) same lines =
+      let first : piece_rows w ≡ records_of w.lines = ap (drop 1) (piece_is w (All-head (λ (w : Stretch). w.header ≡ text) w ws same) (All-head (λ (w : Stretch). BeginsLine w.lines) w ws lines)) in
+      let rest = rows_are ws (All-tail (λ (w : Stretch). w.header ≡ text) w ws same) (All-tail (λ (w : Stretch). BeginsLine w.lines) w ws lines) in
+      ap (λ (l : Table). l ++ rows_of ws) first ∙ ap (λ (l : Table). records_of w.lines ++ l) rest
+
+-- a batch that was filled after another one, which is not the last
+module _ (header : Table) (b now : Batch) (was : Stretch) (b_last is_last : Bool) (old new : Option (List ℕ)) (h : IsHeaded header b b_last) (more : b_last ≡ false) (same : was.header ≡ b.next.header) (rest : was.rest ≡ b.next.rest) (f : IsFilledBatch old new was now is_last) where
+  cut_was : IsCut was.header
+  cut_was = subst IsCut (sym same) (h.cut more)
+
+  line_was : records_of was.header ≡ header
+  line_was = ap records_of same ∙ h.line
+
+  begins_was : BeginsLine was.rest
+  begins_was = subst BeginsLine (sym rest) (h.next more)
 
   -- it has that header
-  pub next_header : HasHeader header now is_last
+  pub next_header : IsHeaded header now is_last
   next_header = record {
+    few = f.few;
     one = h.one;
-    line = ap records_of header_is ∙ h.line;
-    records = next_records ∙ ap (λ (l : Table). record_at header 0 ∷ l) (sym next_rows);
-    cut = λ _. subst IsCut (sym header_is) (h.cut more);
-    next = λ e. (f.seam e).line;
+    line = ap records_of f.header ∙ line_was;
+    pieces = all_under header was.header cut_was line_was h.one now.pieces.items f.headers (f.begins begins_was);
+    cut = λ _. subst IsCut (sym f.header) cut_was;
+    next = f.line begins_was;
   }
 
-  -- its rows come behind those of the one before it
-  pub next_reaches : (from : Option (List ℕ)) (rows : Table) → HasRead from old (record_at header 0 ∷ rows) w.rest → Reaches from new (record_at header 0 ∷ (rows ++ window_rows now)) now.rest is_last
+  -- its rows come after those of the one before it
+  pub next_reaches : (from : Option (List ℕ)) (rows : Table) → HasRead from old (record_at header 0 ∷ rows) b.next.rest → Reaches from new (record_at header 0 ∷ (rows ++ rows_of now.pieces.items)) now.next.rest is_last
   next_reaches from rows read =
       let read_was : HasRead from old (record_at header 0 ∷ rows) was.rest = subst (HasRead from old (record_at header 0 ∷ rows)) (sym rest) read in
-      let reaches : Reaches from new (record_at header 0 ∷ (rows ++ records_of now.lines)) now.rest is_last = filled from old new was.rest now.lines now.rest (record_at header 0 ∷ rows) is_last read_was f.reads f.last f.seam in
-      subst (λ (l : Table). Reaches from new (record_at header 0 ∷ (rows ++ l)) now.rest is_last) (sym next_rows) reaches
+      subst (λ (l : Table). Reaches from new (record_at header 0 ∷ (rows ++ l)) now.next.rest is_last)
+      (sym (rows_are header was.header cut_was line_was h.one now.pieces.items f.headers (f.begins begins_was))) (f.reads from (record_at header 0 ∷ rows) read_was)
+
+-- a batch of the first window
+pub first_headed : (header : Table) (w : Stretch) (b : Batch) (is_last : Bool) → HasHeader header w is_last → b.pieces.items ≡ w ∷ [] → b.next.header ≡ w.header → b.next.rest ≡ w.rest → IsHeaded header b is_last
+first_headed header w b is_last h pieces same rest =
+    let under : AreUnder (record_at header 0) (w ∷ []) = All-cons (λ (w : Stretch). piece_records w ≡ record_at header 0 ∷ piece_rows w) w [] h.records (All-nil (λ (w : Stretch). piece_records w ≡ record_at header 0 ∷ piece_rows w)) in
+    record {
+      few = omega (arith, ap length pieces);
+      one = h.one;
+      line = ap records_of same ∙ h.line;
+      pieces = subst (AreUnder (record_at header 0)) (sym pieces) under;
+      cut = λ l. subst IsCut (sym same) (h.cut l);
+      next = λ l. subst BeginsLine (sym rest) (h.next l);
+    }
 
 -- the first window, of which the header's line was cut off
 pub first_header : (header more : Table) (was now : Stretch) (is_last : Bool) → length header ≡ 1 → header ≡ records_of now.header → records_of was.lines ≡ records_of now.header ++ more → now.header ++ now.lines ≡ was.lines
     → (IsCut was.lines → IsCut now.header) → now.rest ≡ was.rest → (is_last ≡ false → IsSeam was.lines was.rest) → HasHeader header now is_last
 first_header header more was now is_last one record_is first same cut rest seam =
-    let parts : window_records now ≡ header ++ more = ap records_of same ∙ (first ∙ ap (λ (l : Table). l ++ more) (sym record_is)) in
-    let e = one_record header (window_records now) more one parts in
+    let parts : piece_records now ≡ header ++ more = ap records_of same ∙ (first ∙ ap (λ (l : Table). l ++ more) (sym record_is)) in
+    let e = one_record header (piece_records now) more one parts in
     record {
       one = one;
       line = sym record_is;
@@ -79,19 +110,3 @@ first_header header more was now is_last one record_is first same cut rest seam 
       cut = λ l. cut (seam l).whole;
       next = λ l. subst BeginsLine (sym rest) (seam l).line;
     }
-
-module _ (header : Table) (w : Stretch) (is_last : Bool) (h : HasHeader header w is_last) where
-  -- the first record of a window is the header's
-  pub header_at : record_at (window_records w) 0 ≡ record_at header 0
-  header_at = ap (λ (l : Table). record_at l 0) h.records
-
-  width_is : header_width (window_records w) ≡ length (record_at header 0)
-  width_is = ap (λ (r : List (List ℕ)). length r) header_at
-
-  module _ (plan : Plan) (rows : Table) where
-    pub same_added : (a : Added) → HasAdded plan (length (record_at header 0)) rows a → HasAdded plan (header_width (window_records w)) rows a
-    same_added a has = subst (λ (n : ℕ). HasAdded plan n rows a) (sym width_is) has
-
-    -- after the rows of the window
-    pub added_behind : (old new : Added) → AddsWindow plan w old new → HasAdded plan (length (record_at header 0)) rows old → HasAdded plan (length (record_at header 0)) (rows ++ window_rows w) new
-    added_behind old new adds has = subst (λ (n : ℕ). HasAdded plan n (rows ++ window_rows w) new) width_is (adds.rows rows (same_added old has))

@@ -7,7 +7,7 @@ use Rattle.par_io.specs.Faults.{Rose}
 use Rattle.plan_spec.specs.Query.{Query}
 use Rattle.row_blocks.specs.Blocks.{Table}
 use Rattle.row_windows.specs.Seams.{BeginsLine, IsLong, IsSeam}
-use Rattle.row_windows.specs.Stretch.{Fills, Stretch}
+use Rattle.row_windows.specs.Stretch.{Fills, IsLongWindow, Stretch}
 use Rattle.row_windows.specs.declared.window.WindowAnswer.{WindowAnswer}
 use Rattle.row_windows.specs.declared.window.WindowAnswer.TheVariants as answer
 use Rattle.row_windows.proofs.Seams.{records_add_up}
@@ -107,12 +107,12 @@ is_filled old new was now (Ok is_last) header reads last seam = record {
     some false last seam begins = (seam refl).1
     some true last seam begins = omega (arith, ap length (last refl).0, ap length reads.2, length-append now.lines now.rest, length-append was.rest reads.0, begins.some)
 
-pub is_not_filled : (old new : Option (List ℕ)) (old_faults new_faults : ℕ) (was : Stretch) (r : Result Bool WindowAnswer) → (r ≡ Err answer.ReadFault → Rose old_faults new_faults)
-    → (r ≡ Err answer.LongRecord → (text : List ℕ) × Fills old new was.rest text × IsLong text) → IfErr r (IsNotFilled old new old_faults new_faults was)
-is_not_filled old new old_faults new_faults was (Ok is_last) fault long = tt
-is_not_filled old new old_faults new_faults was (Err answer.ReadFault) fault long = fault refl
-is_not_filled old new old_faults new_faults was (Err answer.LongRecord) fault long = long refl
-is_not_filled old new old_faults new_faults was (Err answer.Memory) fault long = tt
+pub is_not_filled : (old new : Option (List ℕ)) (old_faults new_faults : ℕ) (was now : Stretch) (r : Result Bool WindowAnswer) → (r ≡ Err answer.ReadFault → Rose old_faults new_faults)
+    → (r ≡ Err answer.LongRecord → IsLongWindow old new was now) → IfErr r (IsNotFilled old new old_faults new_faults was)
+is_not_filled old new old_faults new_faults was now (Ok is_last) fault long = tt
+is_not_filled old new old_faults new_faults was now (Err answer.ReadFault) fault long = fault refl
+is_not_filled old new old_faults new_faults was now (Err answer.LongRecord) fault long = let is = long refl in (now.rest, is.reads, is.long)
+is_not_filled old new old_faults new_faults was now (Err answer.Memory) fault long = tt
 
 module _ (old new : Option (List ℕ)) (old_faults new_faults : ℕ) (was : Stretch) where
   -- what the reason says, where so many records stand in front of the window

@@ -1,5 +1,5 @@
 -- What was read of a source, window by window.
-use Rattle.std.specs.Prelude.{◌≡◌, ◌≤◌, ◌+◌, ◌++◌, ◌^◌, [], ◌∷◌, ℕ, Bool, List, None, Option, Some, IfSome, drop, false, length, true, ⊤}
+use Rattle.std.specs.Prelude.{◌≡◌, ◌≤◌, ◌+◌, ◌++◌, ◌^◌, [], ◌∷◌, ℕ, Bool, List, None, Option, Some, All, IfSome, false, length, map, true, ⊤}
 use Rattle.std.specs.Io.KnownBytes.{IsAtEnd}
 use Rattle.csv_rows.specs.Cuts.{IsCut}
 use Rattle.csv_rows.specs.Records.{record_at, records_of}
@@ -7,14 +7,15 @@ use Rattle.par_io.specs.Faults.{Rose}
 use Rattle.par_model.specs.Columns.{HasColumns}
 use Rattle.par_model.specs.Named.{bound_plan, missing_name}
 use Rattle.par_model.specs.Plan.{Plan}
-use Rattle.partial_agg.specs.Rows.{header_width}
 use Rattle.plan_spec.specs.Query.{Query}
 use Rattle.row_blocks.specs.Blocks.{Table}
 use Rattle.row_windows.specs.Seams.{BeginsLine, IsLong, IsSeam}
-use Rattle.row_windows.specs.Stretch.{Fills, Stretch}
+use Rattle.row_windows.specs.Stretch.{Fills, IsLongWindow, Stretch}
 use Rattle.row_windows.specs.declared.window.WindowAnswer.{WindowAnswer}
 use Rattle.row_windows.specs.declared.window.WindowAnswer.TheVariants as answer
-use Rattle.gather_law.specs.Shares.{AreShared}
+use Rattle.gather_law.specs.Shares.{AreShared, together}
+use Rattle.split_run.specs.Pieces.{AreUnder, piece_records, piece_rows, rows_of}
+use Rattle.par_stream.specs.declared.batch.Batch.{Batch}
 use Rattle.par_stream.specs.declared.adding.Added.{Added}
 use Rattle.par_stream.specs.declared.reading.ReadGroups.{ReadGroups}
 use Rattle.par_stream.specs.declared.reading.Stream.{Stream}
@@ -49,14 +50,6 @@ pub record Reaches (from left : Option (List ℕ)) (records : Table) (rest : Lis
 
 -- ---- a window
 
--- the records of a window, of which the first is that of the header
-abbrev pub window_records : Stretch → Table
-window_records w = records_of (w.header ++ w.lines)
-
--- the others
-abbrev pub window_rows : Stretch → Table
-window_rows w = drop 1 (window_records w)
-
 -- a window of no lines was filled from a source: its lines and its rest are what there was of them and what was read
 pub record IsFilled (old new : Option (List ℕ)) (was now : Stretch) (is_last : Bool) : Type 0 where
   pub header : now.header ≡ was.header
@@ -75,9 +68,49 @@ IsNotFilled old new old_faults new_faults was answer.Memory = ⊤
 pub record HasHeader (header : Table) (w : Stretch) (is_last : Bool) : Type 0 where
   pub one : length header ≡ 1
   pub line : records_of w.header ≡ header
-  pub records : window_records w ≡ record_at header 0 ∷ window_rows w
+  pub records : piece_records w ≡ record_at header 0 ∷ piece_rows w
   pub cut : is_last ≡ false → IsCut w.header
   pub next : is_last ≡ false → BeginsLine w.rest
+
+-- ---- a batch
+
+-- the records of the lines of some windows
+abbrev pub line_records : List Stretch → Table
+line_records pieces = together (map (λ w. records_of w.lines) pieces)
+
+-- One window more of a batch was filled from a source
+pub record AddsPiece (old new : Option (List ℕ)) (was now : Batch) (is_last : Bool) : Type 0 where
+  pub piece : Stretch
+  pub pieces : now.pieces.items ≡ was.pieces.items ++ piece ∷ []
+  pub filled : IsFilled old new was.next piece is_last
+  pub header : now.next.header ≡ piece.header
+  pub lines : now.next.lines ≡ []
+  pub rest : now.next.rest ≡ piece.rest
+
+-- no window more, since what comes next is too long: it was read into the rest
+pub record MeetsLong (old new : Option (List ℕ)) (was now : Batch) : Type 0 where
+  pub pieces : now.pieces ≡ was.pieces
+  pub next : IsLongWindow old new was.next now.next
+
+-- A batch was filled from a source, from a window on that has the rest of what was read: its windows have that one's
+-- header, and the records of their lines come next
+pub record IsFilledBatch (old new : Option (List ℕ)) (was : Stretch) (b : Batch) (is_last : Bool) : Type 0 where
+  pub few : length b.pieces.items ≤ 64
+  pub header : b.next.header ≡ was.header
+  pub lines : b.next.lines ≡ []
+  pub headers : All (λ w. w.header ≡ was.header) b.pieces.items
+  pub begins : BeginsLine was.rest → All (λ w. BeginsLine w.lines) b.pieces.items
+  pub reads : (from : Option (List ℕ)) (records : Table) → HasRead from old records was.rest → Reaches from new (records ++ line_records b.pieces.items) b.next.rest is_last
+  pub line : BeginsLine was.rest → is_last ≡ false → BeginsLine b.next.rest
+
+-- the windows of a batch begin with the line of a header, which has one record and is cut off before the end of a line
+pub record IsHeaded (header : Table) (b : Batch) (is_last : Bool) : Type 0 where
+  pub few : length b.pieces.items ≤ 64
+  pub one : length header ≡ 1
+  pub line : records_of b.next.header ≡ header
+  pub pieces : AreUnder (record_at header 0) b.pieces.items
+  pub cut : is_last ≡ false → IsCut b.next.header
+  pub next : is_last ≡ false → BeginsLine b.next.rest
 
 -- ---- the rows
 
@@ -92,23 +125,23 @@ pub record HasAdded (plan : Plan) (width : ℕ) (rows : Table) (a : Added) : Typ
   pub count : a.count ≡ length rows
   pub shared : AreShared plan width rows a.maps.items
 
--- the rows of a window were added to the maps
-pub record AddsWindow (plan : Plan) (w : Stretch) (old new : Added) : Type 0 where
-  pub rows : (rows : Table) → HasAdded plan (header_width (window_records w)) rows old → HasAdded plan (header_width (window_records w)) (rows ++ window_rows w) new
+-- the rows of a batch were added to the maps
+pub record AddsBatch (plan : Plan) (b : Batch) (old new : Added) : Type 0 where
+  pub rows : (header : List (List ℕ)) (rows : Table) → AreUnder header b.pieces.items → HasAdded plan (length header) rows old → HasAdded plan (length header) (rows ++ rows_of b.pieces.items) new
   pub many : length new.maps.items ≡ length old.maps.items
   pub few : new.count ≤ 2 ^ 50
 
 -- a stream: its windows begin with its header, and there is a map for each worker and one more
 pub record IsStream (query : Query) (plan : Plan) (s : Stream) : Type 0 where
-  pub window : HasHeader s.header s.window s.is_last
+  pub batch : IsHeaded s.header s.batch s.is_last
   pub bound : IsBound query (record_at s.header 0) plan
   pub maps : length s.added.maps.items ≡ query.workers + 1
   pub few : s.added.count ≤ 2 ^ 50
 
--- its maps have these rows, which were read of a source behind the header; those of its window come next
+-- its maps have these rows, which were read of a source after the header; those of its batch come next
 pub record HasRows (plan : Plan) (from left : Option (List ℕ)) (s : Stream) (rows : Table) : Type 0 where
   pub added : HasAdded plan (length (record_at s.header 0)) rows s.added
-  pub reaches : Reaches from left (record_at s.header 0 ∷ (rows ++ window_rows s.window)) s.window.rest s.is_last
+  pub reaches : Reaches from left (record_at s.header 0 ∷ (rows ++ rows_of s.batch.pieces.items)) s.batch.next.rest s.is_last
 
 -- maps are those of shares of all rows of a source, of which none is refused
 pub record AreGroupsOver (query : Query) (from : Option (List ℕ)) (r : ReadGroups) : Type 0 where

@@ -1,11 +1,9 @@
 -- What a reason to have no table says of the outcome.
-use Rattle.std.specs.Prelude.{[], ◌∷◌, ◌≡◌, ◌<◌, ◌+◌, ◌^◌, ◌⊎◌, ◌++◌, ⊤, ℕ, List, None, Option, Some, IfSome, codes, decimal, string_bytes}
-use Rattle.csv_rows.specs.Records.{record_at}
+use Rattle.std.specs.Prelude.{◌∷◌, ◌≡◌, ◌<◌, ◌+◌, ◌^◌, ◌⊎◌, ◌++◌, ⊤, ℕ, List, None, Option, Some, IfSome, codes, length, decimal, string_bytes}
 use Rattle.par_model.specs.Named.{NamedPlan}
 use Rattle.par_model.specs.Outcome.{NoColumn, NoHeader, Refused, Table}
 use Rattle.par_model.specs.Plan.{Plan}
 use Rattle.par_model.specs.declared.refusal.Refusal.{Refusal}
-use Rattle.partial_agg.specs.Rows.{header_width}
 use Rattle.partial_agg.specs.declared.map.BlockAnswer.{BlockAnswer}
 use Rattle.partial_agg.specs.declared.map.BlockAnswer.TheVariants as answer
 use Rattle.plan_spec.specs.Query.{Query}
@@ -13,12 +11,13 @@ use Rattle.plan_spec.specs.declared.plan.PlanAnswer.{PlanAnswer}
 use Rattle.plan_spec.specs.declared.plan.PlanAnswer.TheVariants as words
 use Rattle.answer_text.specs.declared.status.TheConstants.{MISUSED, NO_MEMORY, READ_FAULT, REFUSED, WRITE_FAULT}
 use Rattle.row_blocks.specs.Blocks.{Table as Records}
-use Rattle.row_windows.specs.Stretch.{Stretch}
 use Rattle.row_windows.specs.declared.window.WindowAnswer.{WindowAnswer}
 use Rattle.row_windows.specs.declared.window.WindowAnswer.TheVariants as window
 use Rattle.table_query.specs.Lines.{refusal_text}
 use Rattle.par_stream.specs.Outcome.{HasLong, outcome_over}
-use Rattle.par_stream.specs.Reading.{Begins, HasAdded, window_records, window_rows}
+use Rattle.split_run.specs.Pieces.{AreUnder, rows_of}
+use Rattle.par_stream.specs.Reading.{Begins, HasAdded, IsBound}
+use Rattle.par_stream.specs.declared.batch.Batch.{Batch}
 use Rattle.par_stream.specs.declared.adding.Added.{Added}
 use Rattle.par_stream.specs.declared.stop.TheConstants.{LONG_RECORD}
 use Rattle.par_stream.specs.declared.stop.Cause.{Cause}
@@ -70,11 +69,11 @@ Tells query left (stop.Refused row why) = NamesFirstRow query left row why
 Tells query left stop.WriteFault = IfSome left (λ bytes. outcome_over query.plan bytes ≡ Table)
 Tells query left stop.Memory = ⊤
 
--- Why the rows of a window were not added to the maps of some others, which stand before them: it is so said of each source
+-- Why the rows of a batch were not added to the maps of some others, which come before them: it is so said of each source
 -- whose records begin with the header and all these rows
-abbrev pub TellsOfRows : Query → Plan → Stretch → Added → Stop → Type 0
-TellsOfRows query plan w added why = (from : Option (List ℕ)) (rows : Records) → HasAdded plan (header_width (window_records w)) rows added
-    → Begins from (record_at (window_records w) 0 ∷ (rows ++ window_rows w)) → Tells query from why
+abbrev pub TellsOfRows : Query → Plan → Batch → Added → Stop → Type 0
+TellsOfRows query plan b added why = (from : Option (List ℕ)) (header : List (List ℕ)) (rows : Records) → IsBound query header plan → AreUnder header b.pieces.items → HasAdded plan (length header) rows added
+    → Begins from (header ∷ (rows ++ rows_of b.pieces.items)) → Tells query from why
 
 -- what a reason says of what words ask for, a query or nothing
 abbrev pub TellsOf : Option Query → Option (List ℕ) → Stop → Type 0

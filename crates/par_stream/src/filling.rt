@@ -6,7 +6,8 @@ ghost use Rattle.csv_rows.specs.Records.{record_at, records_of};
 ghost use Rattle.csv_rows.specs.declared.records.RowsAnswer.TheVariants as parsing;
 ghost use Rattle.par_io.specs.Faults.{Rose};
 ghost use Rattle.row_blocks.specs.Blocks.{Table};
-ghost use Rattle.par_stream.specs.Reading.{HasHeader, IsFilled, IsNotFilled, Reaches, window_records};
+ghost use Rattle.split_run.specs.Pieces.{piece_records};
+ghost use Rattle.par_stream.specs.Reading.{HasHeader, IsFilled, IsNotFilled, Reaches};
 ghost use Rattle.par_stream.specs.Stops.{Tells, stop_of_window};
 ghost use Rattle.par_stream.specs.declared.stop.Stop.TheVariants as stop;
 
@@ -33,7 +34,7 @@ pub(crate) fn first_window<R: Wait, S: Source>(
     size: usize,
 ) -> Result<First, Stop>
     ensures header { IfOk result (λ f. HasHeader f.header f.window f.is_last) }
-    ensures reaches { IfOk result (λ f. Reaches (S.left source.old) (S.left source.new) (window_records f.window) f.window.rest f.is_last) }
+    ensures reaches { IfOk result (λ f. Reaches (S.left source.old) (S.left source.new) (piece_records f.window) f.window.rest f.is_last) }
     ensures why { IfErr result (λ why. (query : _) → Tells query (S.left source.old) why) }
     ensures read_fault { IfErr result (λ why. why ≡ stop.ReadFault → Rose (S.faults source.old) (S.faults source.new)) }
     ensures faults { S.faults source.old ≤ S.faults source.new }

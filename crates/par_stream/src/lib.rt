@@ -1,10 +1,10 @@
 //! One query over comma-separated bytes of any length, from the words of a command line to an exit status, with workers
-//! beside the caller's thread or in that alone.
+//! or by the caller's thread only.
 //!
-//! The words name a plan; the bytes are read window by window, whole records each. The rows of a window are shared out to
-//! the participants, and where there are workers the caller's thread reads the next window meanwhile. After the last window
-//! the groups are put together, and their text is made in ranges of the order and written. So nothing is written before the
-//! last byte was read, and only the groups and two windows with the rows of one are in memory.
+//! The words name a plan; the bytes are read window by window, whole records each. The windows of a batch are shared out to
+//! the participants, and if there are workers the caller's thread fills the next batch meanwhile. After the last batch the
+//! groups are put together, and their text is made in ranges of the order and written. So nothing is written before the
+//! last byte was read, and only the groups, two batches, and the rows of one window a participant are in memory.
 //!
 //! The first fault ends it: the words, a read that failed, no header, a column that it lacks, a record that is too long, a
 //! refused row, and the writing, as they come on the way through the input.
@@ -24,6 +24,7 @@ ghost use Rattle.par_stream.specs.declared.stop.Stop.{Stop};
 ghost use Rattle.par_stream.specs.declared.stop.Stop.TheVariants as stop;
 
 mod adding;
+mod batch;
 mod filling;
 mod output;
 mod progress;
@@ -43,17 +44,17 @@ use std::thread::Threads;
 pub use stop::{Cause, LONG_RECORD, Stop};
 use words::read_words;
 
-/// The bytes that a window of the program is to have: 4 MiB.
+/// The bytes that a batch of the program's windows is to have: 4 MiB.
 pub const WINDOW_BYTES: usize = 4_194_304;
 
 /// Answers the query that `words`, those after the program's name, name by options: writes its table to `out`, or a line
-/// to `err` that says why there is none, and returns the exit status. The source is read in windows of `window_bytes`
+/// to `err` that says why there is none, and returns the exit status. The source is read in batches of `window_bytes`
 /// ([`WINDOW_BYTES`] by the program), the first of 4,096 at most; one is longer if a record or the header's line is. As
-/// many workers as the words ask for share the rows with the caller's thread. How far the reading has come is told window
-/// by window to `progress` ([`Untold`] if nobody asks), and that it has ended before anything is written.
+/// many workers as the words ask for share the rows with the caller's thread. How far the reading has come is told batch
+/// by batch to `progress` ([`Untold`] if nobody asks), and that it has ended before anything is written.
 ///
 /// Time is linear in the input, but for the look-up of each row's group and the order of the groups. Memory is two
-/// windows, the records of one, for each participant the groups of its own rows, and the text.
+/// batches of windows, for each participant the records of one window and the groups of its own rows, and the text.
 pub fn stream_table<R: Threads + Wait + Sync, S: Source, O: Sink, E: Sink, P: Progress>(
     rt: &R,
     alloc: Global,

@@ -1,14 +1,16 @@
-//! The groups of a source, window by window.
+//! The groups of a source, batch by batch.
 
 ghost use Rattle.std.specs.Prelude.{◌≡◌, ◌≤◌, ◌++◌, ◌∷◌, ◌⊎◌, [], ℕ, List, Option, IfErr, IfOk, false, true};
 ghost use Rattle.csv_rows.specs.Records.{record_at};
 ghost use Rattle.par_io.specs.Faults.{Rose};
 ghost use Rattle.row_blocks.specs.Blocks.{Table};
-ghost use Rattle.par_stream.specs.Reading.{AreGroupsOver, HasHeader, HasRows, IsBound, IsStream, Reaches, window_records};
+ghost use Rattle.par_stream.specs.Reading.{AreGroupsOver, HasHeader, HasRows, IsBound, IsStream, Reaches};
+ghost use Rattle.split_run.specs.Pieces.{piece_records};
 ghost use Rattle.par_stream.specs.Stops.{Tells};
 ghost use Rattle.par_stream.specs.declared.stop.Stop.TheVariants as stop;
 
-use crate::adding::{Added, add_and_fill, add_window};
+use crate::adding::{Added, add_and_fill, add_batch};
+use crate::batch::Batch;
 use crate::filling::{First, first_window, stop_of_window};
 use crate::progress::{Progress, SoFar};
 use crate::rows::bind;
@@ -18,7 +20,6 @@ use par_io::Source;
 use par_model::BoundPlan;
 use partial_agg::GroupMap;
 use plan_spec::Plan;
-use row_windows::Window;
 use split_run::begin;
 use std::alloc::Global;
 use std::sync::Wait;
@@ -31,13 +32,13 @@ pub(crate) struct ReadGroups {
     pub(crate) maps: Vec<GroupMap>,
 }
 
-/// What there is before the rows of a window are added: that window, whether it is the last, another for the next, the
+/// What there is before the rows of a batch are added: that batch, whether it is the last, another for the next, the
 /// header, and what was added so far.
 #[derive(Drop)]
 pub(crate) struct Stream {
-    pub(crate) window: Window,
+    pub(crate) batch: Batch,
     pub(crate) is_last: bool,
-    pub(crate) spare: Window,
+    pub(crate) spare: Batch,
     pub(crate) header: RowStore,
     pub(crate) added: Added,
 }
@@ -45,11 +46,7 @@ pub(crate) struct Stream {
 /// The most bytes of the first window, unless a record is longer: so a wrong name is answered early, even if the source is slow.
 const FIRST_BYTES: usize = 4096;
 
-/// A window repeats the header's line, and is at least as long as it, up to so many bytes: these never have more rows than a
-/// store takes.
-const MOST_FOR_HEADER: usize = 8_000_000;
-
-/// Reads the whole source, in windows of so many bytes or more, and tells how far it has come.
+/// Reads the whole source, in batches of this many bytes or more, and reports how far it has come.
 pub(crate) fn read_groups<R: Threads + Wait + Sync, S: Source, P: Progress>(
     rt: &R,
     alloc: Global,
@@ -71,14 +68,14 @@ pub(crate) fn read_groups<R: Threads + Wait + Sync, S: Source, P: Progress>(
         if stream.is_last {
             return end(rt, alloc, plan, bound, stream);
         }
-        bytes = bytes.saturating_add(stream.window.table().len() as u64);
+        bytes = bytes.saturating_add(stream.batch.bytes());
         stream = next_window(rt, alloc, plan, &bound, source, size, stream)?;
         progress.tell(so_far(bytes, &stream.added));
     }
     unreachable!()
 }
 
-/// How far the reading has come, where the windows that were added have so many bytes.
+/// How far the reading has come if the batches that were added have this many bytes.
 fn so_far(bytes: u64, added: &Added) -> SoFar {
     let mut groups = 0;
     for map in added.maps.as_slice() {
@@ -96,7 +93,7 @@ fn open(alloc: Global, plan: &Plan, bound: &BoundPlan, first: First) -> Result<S
     requires header { HasHeader first.header first.window first.is_last }
     requires bound { IsBound plan.now (record_at first.header 0) bound.now }
     ensures stream { IfOk result (IsStream plan.now bound.now) }
-    ensures rows { IfOk result (λ s. (from left : Option (List ℕ)) → Reaches from left (window_records first.window) first.window.rest first.is_last → HasRows bound.now from left s []) }
+    ensures rows { IfOk result (λ s. (from left : Option (List ℕ)) → Reaches from left (piece_records first.window) first.window.rest first.is_last → HasRows bound.now from left s []) }
     ensures why { IfErr result (λ why. why ≡ stop.Memory) }
 {
     let _of = bound;
@@ -107,15 +104,15 @@ fn open(alloc: Global, plan: &Plan, bound: &BoundPlan, first: First) -> Result<S
     } = first;
     let maps = begin(alloc, plan.workers() + 1)?;
     Ok(Stream {
-        window,
+        batch: Batch::of_window(alloc, window)?,
         is_last,
-        spare: Window::new(alloc),
+        spare: Batch::new(alloc),
         header,
         added: Added { maps, count: 0 },
     })
 }
 
-/// Adds the rows of the window at hand, and fills the one behind it.
+/// Adds the rows of the batch at hand, and fills the one after it.
 fn next_window<R: Threads + Wait + Sync, S: Source>(
     rt: &R,
     alloc: Global,
@@ -136,31 +133,30 @@ fn next_window<R: Threads + Wait + Sync, S: Source>(
     ensures no_write { IfErr result (λ why. (why ≡ stop.WriteFault) → ⊥) }
 {
     let Stream {
-        window,
+        batch,
         is_last: _,
         mut spare,
         header,
         mut added,
     } = stream;
-    spare.follow(&window)?;
-    let size = size.max(spare.table().len().min(MOST_FOR_HEADER));
+    spare.next.follow(&batch.next)?;
     let filled = add_and_fill(
-        rt, alloc, plan, bound, &window, &mut added, &mut spare, source, size,
+        rt, alloc, plan, bound, &batch, &mut added, &mut spare, source, size,
     )?;
     let is_last = match filled {
         Ok(is_last) => is_last,
         Err(why) => return Err(stop_of_window(why, added.count + 1)),
     };
     Ok(Stream {
-        window: spare,
+        batch: spare,
         is_last,
-        spare: window,
+        spare: batch,
         header,
         added,
     })
 }
 
-/// Adds the rows of the last window.
+/// Adds the rows of the last batch.
 fn end<R: Threads + Wait + Sync>(
     rt: &R,
     alloc: Global,
@@ -175,11 +171,11 @@ fn end<R: Threads + Wait + Sync>(
     ensures kind { IfErr result (λ why. ((why ≡ stop.ReadFault) ⊎ (why ≡ stop.WriteFault)) → ⊥) }
 {
     let Stream {
-        window,
+        batch,
         mut added,
         ..
     } = stream;
-    add_window(rt, alloc, plan, &bound, &window, &mut added)?;
+    add_batch(rt, alloc, plan, &bound, &batch, &mut added)?;
     Ok(ReadGroups {
         bound,
         maps: added.maps,

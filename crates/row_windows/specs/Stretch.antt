@@ -1,6 +1,7 @@
 -- A stretch of the text of a source.
-use Rattle.std.specs.Prelude.{◌≡◌, ◌≤◌, ◌+◌, ◌-◌, ◌++◌, ℕ, List, Option, drop, length, take}
+use Rattle.std.specs.Prelude.{◌≡◌, ◌≤◌, ◌+◌, ◌-◌, ◌++◌, [], ℕ, List, Option, drop, length, take}
 use Rattle.std.specs.Io.KnownBytes.{Consumes}
+use Rattle.row_windows.specs.Seams.{IsLong}
 use Rattle.row_windows.specs.declared.window.TheConstants.{MOST_RECORD_BYTES}
 
 -- the line of the header, whole lines, and what was read behind them
@@ -27,3 +28,10 @@ pub record IsWindow (text : List ℕ) (header end filled : ℕ) : Type 0 where
 -- a text is what was there, and what was then read of a source
 abbrev pub Fills : Option (List ℕ) → Option (List ℕ) → List ℕ → List ℕ → Type 0
 Fills old new rest text = (more : List ℕ) × Consumes old new more × (text ≡ rest ++ more)
+
+-- What there was of a window without lines, and what was read, is too long to be read on: it is the window's rest
+pub record IsLongWindow (old new : Option (List ℕ)) (was now : Stretch) : Type 0 where
+  pub header : now.header ≡ was.header
+  pub lines : now.lines ≡ []
+  pub reads : Fills old new was.rest now.rest
+  pub long : IsLong now.rest

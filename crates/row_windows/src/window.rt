@@ -3,8 +3,8 @@
 ghost use Rattle.std.specs.Prelude.{◌≡◌, ◌<◌, ◌≤◌, ◌++◌, ◌+◌, ◌^◌, ℕ, List, [], IfErr, IfOk, OnOk, drop, false, length, take, true, vec_len};
 ghost use Rattle.std.specs.Io.KnownBytes.{Consumes, IsAtEnd};
 ghost use Rattle.par_io.specs.Faults.{Rose};
-ghost use Rattle.row_windows.specs.Seams.{IsLong, IsSeam, NoCut};
-ghost use Rattle.row_windows.specs.Stretch.{Fills};
+ghost use Rattle.row_windows.specs.Seams.{IsSeam, NoCut};
+ghost use Rattle.row_windows.specs.Stretch.{Fills, IsLongWindow};
 ghost use Rattle.csv.specs.Reading.{strip_bom};
 ghost use Rattle.row_windows.specs.declared.window.Found.TheVariants as found;
 ghost use Rattle.row_windows.specs.declared.window.WindowAnswer.TheVariants as answer;
@@ -94,7 +94,8 @@ impl Window {
     /// Reads on, behind what was read already, until there are at least this many bytes behind the header, or the
     /// source is at its end, and finds the last place among them at which the text can be cut. If there is none it reads
     /// on, up to as many bytes as a record may have, and cuts at the first place that there is. Says whether these lines
-    /// are the last, and then there is no rest. On `Err` what was read is lost. The time is linear in the bytes, and so is
+    /// are the last, and then there is no rest. If a record is too long, what was read of it is the rest; on any other `Err`
+    /// what was read is lost. The time is linear in the bytes, and so is
     /// the memory, at most twice the bytes.
     pub fn fill<S: Source>(&mut self, source: &mut S, size: usize) -> Result<bool, WindowAnswer>
         requires { self.old.lines ≡ [] }
@@ -106,7 +107,7 @@ impl Window {
 
         // Why it answers an error.
         ensures read_fault { result ≡ Err answer.ReadFault → Rose (S.faults source.old) (S.faults source.new) }
-        ensures long { result ≡ Err answer.LongRecord → (text : List ℕ) × Fills (S.left source.old) (S.left source.new) self.old.rest text × IsLong text }
+        ensures long { result ≡ Err answer.LongRecord → IsLongWindow (S.left source.old) (S.left source.new) self.old self.new }
         ensures faults { S.faults source.old ≤ S.faults source.new }
     {
         let mut goal = size.clamp(1, MOST_RECORD_BYTES + 1);
@@ -176,6 +177,16 @@ impl Window {
         ensures rest { self.new.rest ≡ self.old.rest }
     {
         self.header = at;
+    }
+
+    /// How many bytes its buffer has.
+    pub fn room(&self) -> usize {
+        self.text.len()
+    }
+
+    /// How many bytes of the source it has: its lines and the rest.
+    pub fn read_bytes(&self) -> usize {
+        self.filled - self.header
     }
 
     /// The header and the whole lines behind it: a table.

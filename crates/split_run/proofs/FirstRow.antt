@@ -33,13 +33,3 @@ module _ (plan : Plan) (records : Table) where
 
   pub all_accepted : (at : ℕ) → length records ≤ at + 1 → Accepted (take at (drop 1 records)) → Accepted (drop 1 records)
   all_accepted at all before = subst Accepted (take_all at (drop 1 records) (omega (arith, all, length-drop 1 records))) before
-
-  -- where no row is refused, none is
-  pub none_refused : Accepted (drop 1 records) → (row : ℕ) (why : Refusal) → IsRefused plan records row why → ⊥
-  none_refused accepted row why is =
-      let at = row - 1 in
-      let place : at + 1 ≡ row = omega (arith, is.first) in
-      let low : at < length (drop 1 records) = omega (arith, is.first, is.within, length-drop 1 records) in
-      let fine : refusal plan (header_width records) (get_or (drop 1 records) at []) ≡ None = accepted at [] low in
-      let both : None ≡ Some why = sym fine ∙ ap (refusal plan (header_width records)) (row_is at ∙ ap (record_at records) place) ∙ is.cause_is in
-      cc both

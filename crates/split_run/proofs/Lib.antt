@@ -1,4 +1,6 @@
 mod Blocks
+mod Drawn
+mod FirstPiece
 mod FirstRow
 mod Joining
 mod Rising

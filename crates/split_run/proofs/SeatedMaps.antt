@@ -6,7 +6,7 @@ use Rattle.std.proofs.lemmas.List.{length-map}
 use Rattle.scan_claim.specs.Shown.{AreSeats, Belongs, draws_of, number_of}
 use Rattle.scan_claim.specs.declared.claims.ClaimSeat.{ClaimSeat}
 use Rattle.scan_claim.specs.declared.claims.Claims.{Claims}
-use Rattle.row_blocks.specs.Blocks.{Table}
+use Rattle.row_windows.specs.Stretch.{Stretch}
 use Rattle.par_model.specs.Plan.{Plan}
 use Rattle.partial_agg.specs.Groups.{GroupsByKey}
 use Rattle.split_run.specs.Hands.{AreDone, AreNew}
@@ -49,8 +49,8 @@ all_new c seats fs e are none = λ k d low.
     record { seat = (are.1 k (slice_index_or fs k d).claim at).0; draws = none k (slice_index_or fs k d).claim at }
 
 -- the seats of participants that kept their numbers are those of all callers
-pub kept_seats : (plan : Plan) (records : Table) (c : Claims) (seats : List ClaimSeat) (fs gs : List Hand) → map seat_of fs ≡ seats → AreSeats c seats → AreDone plan records c fs gs → AreSeats c (map seat_of gs)
-kept_seats plan records c seats fs gs e are done = (count, λ k s at. by k s (mapped_from seat_of gs k s at))
+pub kept_seats : (plan : Plan) (pieces : List Stretch) (c : Claims) (seats : List ClaimSeat) (fs gs : List Hand) → map seat_of fs ≡ seats → AreSeats c seats → AreDone plan pieces c fs gs → AreSeats c (map seat_of gs)
+kept_seats plan pieces c seats fs gs e are done = (count, λ k s at. by k s (mapped_from seat_of gs k s at))
   where
     count : length (map seat_of gs) ≡ c.callers
     count = length-map gs seat_of ∙ done.count ∙ sym (length-map fs seat_of) ∙ ap (λ (l : List ClaimSeat). length l) e ∙ are.0

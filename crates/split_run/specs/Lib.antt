@@ -1,3 +1,4 @@
+pub mod Pieces
 pub mod Causes
 pub mod Hands
 pub mod Parted

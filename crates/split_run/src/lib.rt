@@ -10,12 +10,13 @@
 
 mod hands;
 mod parted;
+mod piece;
+mod pieces;
 mod ranges;
 mod refused;
 mod texts;
 mod together;
-mod window;
 
+pub use pieces::{add_pieces, begin};
 pub use texts::{FEWEST_GROUPS, table_text};
 pub use together::put_together;
-pub use window::{add_rows, begin};

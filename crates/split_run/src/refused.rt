@@ -1,28 +1,63 @@
-//! The first row of a table that is refused. The rows are read for it only if one of the participants met a refused row.
+//! The first row of a batch that is refused. The pieces are read for it only if one of the participants met a refused row.
 
-ghost use Rattle.std.specs.Prelude.{All, IfSome, IsNone, drop};
+ghost use Rattle.std.specs.Prelude.{◌≤◌, ◌^◌, All, IfSome, IsNone, drop, length};
 ghost use Rattle.par_model.specs.Columns.{HasColumns};
 ghost use Rattle.partial_agg.specs.Rows.{IsAccepted, header_width};
-ghost use Rattle.split_run.specs.Causes.{IsCause, IsFirstCause, IsFirstRefused};
+ghost use Rattle.split_run.specs.Causes.{AllAccepted, IsFirstOfAll, IsFirstRefused, IsLow, SomeRefused};
+ghost use Rattle.split_run.specs.Pieces.{HaveColumns};
 
-use csv_rows::RowStore;
+use csv_rows::{RowStore, rows};
 use par_model::{BoundPlan, Refusal};
 use partial_agg::{BlockAnswer, refusal};
+use row_windows::Window;
+use std::alloc::Global;
 
 /// What the participants answer together if one of them stopped for this reason: whichever refused row that one met, the
-/// first of the table is named.
-pub(crate) fn first_cause(rows: &RowStore, plan: &BoundPlan, why: BlockAnswer) -> BlockAnswer
-    requires columns { HasColumns plan.now (header_width rows.now) }
-    requires cause { IsCause plan.now rows.now why }
-    ensures { IsFirstCause plan.now rows.now result }
+/// first of the batch is named.
+pub(crate) fn first_cause(
+    alloc: Global,
+    pieces: &[Window],
+    plan: &BoundPlan,
+    why: BlockAnswer,
+) -> BlockAnswer
+    requires many { length pieces.now ≤ 2 ^ 32 }
+    requires columns { HaveColumns plan.now pieces.now }
+    requires cause { SomeRefused plan.now pieces.now why }
+    ensures first { IsFirstOfAll plan.now pieces.now result }
+    ensures low { IsLow result }
 {
     match why {
         BlockAnswer::Memory => BlockAnswer::Memory,
-        BlockAnswer::Row { .. } => match first_refused(rows, plan) {
-            Some((row, Refusal { cause, item })) => BlockAnswer::Row { row, cause, item },
-            None => unreachable!(),
-        },
+        BlockAnswer::Row { .. } => first_in_pieces(alloc, pieces, plan),
     }
+}
+
+/// The first refused row of pieces of which one has some, with its number over all of them. It takes the memory of one
+/// piece's store, and the time of reading the pieces up to it.
+fn first_in_pieces(alloc: Global, pieces: &[Window], plan: &BoundPlan) -> BlockAnswer
+    requires many { length pieces.now ≤ 2 ^ 32 }
+    requires columns { HaveColumns plan.now pieces.now }
+    requires refused { AllAccepted plan.now pieces.now → ⊥ }
+    ensures first { IsFirstOfAll plan.now pieces.now result }
+    ensures low { IsLow result }
+{
+    let mut before = 0u64;
+    for piece in pieces {
+        let Ok(store) = rows(alloc, piece.table()) else {
+            return BlockAnswer::Memory;
+        };
+        match first_refused(&store, plan) {
+            Some((row, Refusal { cause, item })) => {
+                return BlockAnswer::Row {
+                    row: before + row,
+                    cause,
+                    item,
+                };
+            }
+            None => before += store.count(),
+        }
+    }
+    unreachable!()
 }
 
 /// The first row that is refused, with its cause. Takes no memory, and the time of reading the rows up to it.

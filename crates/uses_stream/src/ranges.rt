@@ -1,52 +1,63 @@
 //! The text of a table that participants make range by range.
 
-ghost use Rattle.std.specs.Prelude.{◌≡◌, ◌<◌, ◌≤◌, ◌∷◌, IfOk, drop, length};
+ghost use Rattle.std.specs.Prelude.{◌≡◌, ◌<◌, ◌≤◌, ◌^◌, ◌∷◌, IfOk, length};
 ghost use Rattle.csv_rows.specs.Records.{record_at};
-ghost use Rattle.csv_rows.specs.declared.records.TheConstants.{MOST_RECORDS};
 ghost use Rattle.par_model.specs.Columns.{HasColumns};
 ghost use Rattle.par_model.specs.Named.{bound_plan};
 ghost use Rattle.par_model.specs.Outcome.{IsAnswer};
 ghost use Rattle.partial_agg.specs.Rows.{header_width};
 ghost use Rattle.result_text.specs.Pieces.{joined};
+ghost use Rattle.split_run.specs.Pieces.{AreUnder, rows_of};
 
+use crate::shares::whole;
 use csv_rows::{RowStore, rows};
 use par_model::BoundPlan;
 use partial_agg::BlockAnswer;
 use plan_spec::Plan;
-use split_run::{FEWEST_GROUPS, add_rows, begin, table_text};
+use row_windows::Window;
+use split_run::{FEWEST_GROUPS, add_pieces, begin, table_text};
 use std::alloc::{AllocError, Global};
 use std::sync::Wait;
 use std::test::Fail;
 use std::thread::Threads;
 
-/// The text of the table of all rows, by this many participants; from `fewest` groups on it is made in ranges.
+/// The text of the table of all rows of some pieces, by this many participants, and in ranges from this many groups on.
 fn shared_text<R: Threads + Wait + Sync>(
     rt: &R,
     alloc: Global,
-    rows: &RowStore,
+    header: &RowStore,
+    pieces: &[Window],
     plan: &Plan,
     bound: &BoundPlan,
     participants: u32,
     fewest: usize,
 ) -> Result<Vec<Vec<u8>>, BlockAnswer>
     requires some { 0 < participants }
-    requires few { length rows.now ≤ MOST_RECORDS }
-    requires columns { HasColumns bound.now (header_width rows.now) }
-    requires bound { bound.now ≡ bound_plan (record_at rows.now 0) plan.now.plan }
-    ensures { IfOk result (λ pieces. IsAnswer plan.now.plan (record_at rows.now 0 ∷ drop 1 rows.now) (joined pieces.items)) }
+    requires many { length pieces.now ≤ 2 ^ 32 }
+    requires under { AreUnder (record_at header.now 0) pieces.now }
+    requires columns { HasColumns bound.now (header_width header.now) }
+    requires bound { bound.now ≡ bound_plan (record_at header.now 0) plan.now.plan }
+    ensures { IfOk result (λ texts. IsAnswer plan.now.plan (record_at header.now 0 ∷ rows_of pieces.now) (joined texts.items)) }
 {
+    let _of = header;
     let Ok(maps) = begin(alloc, participants) else {
         return Err(BlockAnswer::Memory);
     };
-    let maps = match add_rows(rt, alloc, rows, bound, maps) {
-        Ok(maps) => maps,
+    let (maps, count) = match add_pieces(rt, alloc, pieces, bound, maps) {
+        Ok(done) => done,
         Err(why) => return Err(why),
     };
+    if count > MOST_ROWS {
+        return Err(BlockAnswer::Memory);
+    }
     match table_text(rt, alloc, plan, bound, maps, fewest) {
         Ok(pieces) => Ok(pieces),
         Err(_) => Err(BlockAnswer::Memory),
     }
 }
+
+/// The most rows for which averages are exact: 2^50.
+const MOST_ROWS: u64 = 1_125_899_906_842_624;
 
 /// The pieces of the text of a table of two columns, as this many participants make it.
 fn given<R: Threads + Wait + Sync>(
@@ -65,13 +76,23 @@ fn given<R: Threads + Wait + Sync>(
     let plan = Plan::of_words(alloc, words.as_slice())
         .ok()
         .ok_or("a plan")?;
-    let store = rows(alloc, text).ok().ok_or("a store")?;
-    // Tells that there are few rows. It does nothing.
-    let _count = store.count();
+    let mut windows = Vec::new(alloc);
+    windows.push(whole(alloc, text)?)?;
+    let windows = windows.as_slice();
+    let store = rows(alloc, windows[0].table()).ok().ok_or("a store")?;
     let Ok(bound) = plan.bind(&store) else {
         return Err("columns".into());
     };
-    match shared_text(rt, alloc, &store, &plan, &bound, participants, fewest) {
+    match shared_text(
+        rt,
+        alloc,
+        &store,
+        windows,
+        &plan,
+        &bound,
+        participants,
+        fewest,
+    ) {
         Ok(pieces) => Ok(pieces),
         Err(_) => Err("rows".into()),
     }

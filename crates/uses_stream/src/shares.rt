@@ -1,44 +1,57 @@
-//! Participants that share the rows of a table.
+//! Participants that share the pieces of a table.
 
-ghost use Rattle.std.specs.Prelude.{◌≡◌, ◌<◌, ◌≤◌, ◌^◌, IfOk, drop, length};
-ghost use Rattle.csv_rows.specs.declared.records.TheConstants.{MOST_RECORDS};
-ghost use Rattle.par_model.specs.Columns.{HasColumns};
+ghost use Rattle.std.specs.Prelude.{◌≡◌, ◌<◌, ◌≤◌, ◌^◌, ℕ, List, IfOk, length};
 ghost use Rattle.partial_agg.specs.Groups.{AreGroups};
-ghost use Rattle.partial_agg.specs.Rows.{header_width};
+ghost use Rattle.split_run.specs.Pieces.{AreUnder, HaveColumns, rows_of};
 
-use csv_rows::{RowStore, rows};
+use csv_rows::rows;
+use par_io::MemSource;
 use par_model::BoundPlan;
 use partial_agg::{BlockAnswer, GroupMap};
 use plan_spec::Plan;
-use split_run::{add_rows, begin, put_together};
+use row_windows::Window;
+use split_run::{add_pieces, begin, put_together};
 use std::alloc::Global;
 use std::sync::Wait;
 use std::test::Fail;
 use std::thread::Threads;
 
-/// The groups of all rows, by this many participants, the caller's thread among them.
+/// The groups of all rows of some pieces, by this many participants, the caller's thread among them.
 fn shared_groups<R: Threads + Wait + Sync>(
     rt: &R,
     alloc: Global,
-    rows: &RowStore,
+    pieces: &[Window],
     plan: &BoundPlan,
     participants: u32,
 ) -> Result<GroupMap, BlockAnswer>
     requires some { 0 < participants }
-    requires few { length rows.now ≤ MOST_RECORDS }
-    requires columns { HasColumns plan.now (header_width rows.now) }
-    ensures { IfOk result (λ groups. AreGroups plan.now (drop 1 rows.now) groups) }
+    requires many { length pieces.now ≤ 2 ^ 32 }
+    requires columns { HaveColumns plan.now pieces.now }
+    ensures { IfOk result (λ groups. (header : List (List ℕ)) → AreUnder header pieces.now → AreGroups plan.now (rows_of pieces.now) groups) }
 {
     let Ok(maps) = begin(alloc, participants) else {
         return Err(BlockAnswer::Memory);
     };
-    let maps = match add_rows(rt, alloc, rows, plan, maps) {
-        Ok(maps) => maps,
+    let (maps, count) = match add_pieces(rt, alloc, pieces, plan, maps) {
+        Ok(done) => done,
         Err(why) => return Err(why),
     };
+    if count == u64::MAX {
+        return Err(BlockAnswer::Memory);
+    }
     match put_together(rt, alloc, maps) {
         Ok(groups) => Ok(groups),
         Err(_) => Err(BlockAnswer::Memory),
+    }
+}
+
+/// A whole text as one window.
+pub(crate) fn whole(alloc: Global, text: &[u8]) -> Result<Window, Fail> {
+    let mut source = MemSource::new(Vec::from_slice(alloc, text)?, text.len(), Vec::new(alloc));
+    let mut window = Window::new(alloc);
+    match window.fill(&mut source, text.len().saturating_add(1)) {
+        Ok(true) => Ok(window),
+        _ => Err("one window".into()),
     }
 }
 
@@ -58,13 +71,15 @@ fn counted<R: Threads + Wait + Sync>(
     let plan = Plan::of_words(alloc, words.as_slice())
         .ok()
         .ok_or("a plan")?;
-    let store = rows(alloc, text).ok().ok_or("a store")?;
-    // Tells that there are few rows. It does nothing.
-    let _count = store.count();
+    let mut pieces = Vec::new(alloc);
+    pieces.push(whole(alloc, text)?)?;
+    let store = rows(alloc, pieces.as_slice()[0].table())
+        .ok()
+        .ok_or("a store")?;
     let Ok(bound) = plan.bind(&store) else {
         return Err("columns".into());
     };
-    match shared_groups(rt, alloc, &store, &bound, participants) {
+    match shared_groups(rt, alloc, pieces.as_slice(), &bound, participants) {
         Ok(groups) => Ok(Ok(groups.len())),
         Err(BlockAnswer::Row { row, .. }) => Ok(Err(row)),
         Err(BlockAnswer::Memory) => Err("memory".into()),

@@ -9,4 +9,4 @@ returns-clause-filled g c =
 pub returns-clause-why : goal.returns-clause-why
 returns-clause-why g c =
     let e = c.fill.ensures in
-    is_not_filled (g.S.Source.left c.args.source.now) (g.S.Source.left c.fill.new.source) (g.S.Source.faults c.args.source.now) (g.S.Source.faults c.fill.new.source) c.args.window.now c.fill.result e.read_fault e.long
+    is_not_filled (g.S.Source.left c.args.source.now) (g.S.Source.left c.fill.new.source) (g.S.Source.faults c.args.source.now) (g.S.Source.faults c.fill.new.source) c.args.window.now c.fill.new.self c.fill.result e.read_fault e.long

@@ -3,7 +3,8 @@ use Rattle.csv_rows.specs.Records.{records_of}
 use Rattle.par_io.specs.Faults.{Rose}
 use Rattle.row_blocks.specs.Blocks.{Table}
 use Rattle.row_windows.specs.Stretch.{Stretch}
-use Rattle.par_stream.specs.Reading.{HasRead, Reaches, window_records}
+use Rattle.split_run.specs.Pieces.{piece_records}
+use Rattle.par_stream.specs.Reading.{HasRead, Reaches}
 use Rattle.par_stream.specs.Stops.{Tells}
 use Rattle.par_stream.proofs.Windows.{filled, window_fault, window_tells}
 use Rattle.par_stream.proofs.filling.first_window.Goals as goal
@@ -32,7 +33,7 @@ returns-in-Ok-part_header-clause-reaches g c =
     let f = c.in-Ok.ensures.filled in
     let parted = c.in-Ok-part_header.ensures in
     let reaches : Reaches from new (records_of full.lines) full.rest c.in-Ok.is_last = filled from old new c.loop.window.rest full.lines full.rest [] c.in-Ok.is_last c.loop.invariant.read f.reads f.last f.seam in
-    subst (λ (rest : List ℕ). Reaches from new (window_records c.part_header.new.window) rest c.in-Ok.is_last) (sym parted.rest)
+    subst (λ (rest : List ℕ). Reaches from new (piece_records c.part_header.new.window) rest c.in-Ok.is_last) (sym parted.rest)
     (subst (λ (text : List ℕ). Reaches from new (records_of text) full.rest c.in-Ok.is_last) (sym parted.same) reaches)
 
 pub loop-preserved : goal.loop-preserved

@@ -1,30 +1,35 @@
-use Rattle.std.proofs.Common.{◌≡◌, ◌≤◌, ◌^◌, [], List, arith, drop, length, length-drop, refl, subst, sym}
+use Rattle.std.proofs.Common.{◌≡◌, ◌≤◌, ◌^◌, [], All, List, ap, arith, length, subst, sym}
 use Rattle.csv_rows.specs.Records.{record_at}
+use Rattle.par_model.specs.Columns.{HasColumns}
 use Rattle.partial_agg.specs.Groups.{GroupsByKey}
 use Rattle.partial_agg.specs.Rows.{header_width}
 use Rattle.gather_law.specs.Shares.{AreShared}
 use Rattle.gather_law.proofs.RowShares.{shares_begin}
+use Rattle.split_run.specs.Pieces.{rows_of}
 use Rattle.uses_stream.proofs.ranges.shared_text.Goals as goal
 
+pub add_pieces-requires-clause-columns : goal.add_pieces-requires-clause-columns
+add_pieces-requires-clause-columns g c κs within = λ k d low.
+    subst (HasColumns c.args.bound.now) (sym (ap header_width (c.requires.under k d low))) c.requires.columns
+
 pub table_text-requires-clause-bound : goal.table_text-requires-clause-bound
-table_text-requires-clause-bound g c κs within = record { header = record_at c.args.rows.now 0; is = c.requires.bound }
+table_text-requires-clause-bound g c κs within = record { header = record_at c.args.header.now 0; is = c.requires.bound }
 
 pub table_text-requires-clause-rows : goal.table_text-requires-clause-rows
 table_text-requires-clause-rows g c κs within =
     let plan = c.args.bound.now in
-    let rows = c.args.rows.now in
-    let width = header_width rows in
-    let none : AreShared plan width [] c.in-Ok.maps.items = subst (λ (l : List GroupsByKey). AreShared plan width [] l) (sym c.in-Ok.ensures) (shares_begin plan width c.args.participants) in
-    let all : AreShared plan width (drop 1 rows) c.in-Ok-add_rows.maps.items = c.in-Ok-add_rows.ensures.shared [] none (omega (arith, c.requires.few)) in
-    let few : length (drop 1 rows) ≤ 2 ^ 50 = omega (arith, c.requires.few, length-drop 1 rows) in
-    (width, drop 1 rows, few, all)
+    let header = record_at c.args.header.now 0 in
+    let rows = rows_of c.args.pieces.now in
+    let none : AreShared plan (length header) [] c.in-Ok.maps.items = subst (λ (l : List GroupsByKey). AreShared plan (length header) [] l) (sym c.in-Ok.ensures) (shares_begin plan (length header) c.args.participants) in
+    let few : length rows ≤ 2 ^ 50 = omega (arith, c.in-Ok-add_pieces.ensures.count) in
+    (length header, rows, few, c.in-Ok-add_pieces.ensures.shared header [] c.requires.under none (omega (arith, few)))
 
 pub returns-in-Ok-table_text : goal.returns-in-Ok-table_text
 returns-in-Ok-table_text g c =
     let plan = c.args.bound.now in
-    let rows = c.args.rows.now in
-    let width = header_width rows in
-    let none : AreShared plan width [] c.in-Ok.maps.items = subst (λ (l : List GroupsByKey). AreShared plan width [] l) (sym c.in-Ok.ensures) (shares_begin plan width c.args.participants) in
-    let all : AreShared plan width (drop 1 rows) c.in-Ok-add_rows.maps.items = c.in-Ok-add_rows.ensures.shared [] none (omega (arith, c.requires.few)) in
-    let few : length (drop 1 rows) ≤ 2 ^ 50 = omega (arith, c.requires.few, length-drop 1 rows) in
-    c.in-Ok-table_text.ensures (record_at rows 0) width (drop 1 rows) c.requires.bound few all
+    let header = record_at c.args.header.now 0 in
+    let rows = rows_of c.args.pieces.now in
+    let none : AreShared plan (length header) [] c.in-Ok.maps.items = subst (λ (l : List GroupsByKey). AreShared plan (length header) [] l) (sym c.in-Ok.ensures) (shares_begin plan (length header) c.args.participants) in
+    let few : length rows ≤ 2 ^ 50 = omega (arith, c.in-Ok-add_pieces.ensures.count) in
+    let all : AreShared plan (length header) rows c.in-Ok-add_pieces.maps.items = c.in-Ok-add_pieces.ensures.shared header [] c.requires.under none (omega (arith, few)) in
+    c.in-Ok-table_text.ensures header (length header) rows c.requires.bound few all

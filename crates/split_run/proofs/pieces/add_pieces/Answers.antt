@@ -1,10 +1,9 @@
 use Rattle.std.proofs.Common.{◌≡◌, ◌<◌, ◌∙◌, List, length, arith, subst, sym}
 use Rattle.scan_claim.specs.Shown.{AreSeats, blocks_of, lists_of}
 use Rattle.scan_claim.specs.declared.claims.ClaimSeat.{ClaimSeat}
-use Rattle.row_blocks.specs.Blocks.{AreBlocks}
 use Rattle.split_run.proofs.SeatedMaps.{all_new, hands_many, kept_seats}
 use Rattle.split_run.proofs.Shared.{all_causes, all_rows, shares_on}
-use Rattle.split_run.proofs.window.add_rows.Goals as goal
+use Rattle.split_run.proofs.pieces.add_pieces.Goals as goal
 
 pub work_all-requires-clause-new : goal.work_all-requires-clause-new
 work_all-requires-clause-new g c κs within = all_new c.in-Ok.claims c.in-Ok.seats.items c.in-Ok-hands.hands.items c.in-Ok-hands.ensures.seats c.in-Ok.ensures.seats c.in-Ok.ensures.draws
@@ -12,23 +11,13 @@ work_all-requires-clause-new g c κs within = all_new c.in-Ok.claims c.in-Ok.sea
 pub first_cause-requires-clause-cause : goal.first_cause-requires-clause-cause
 first_cause-requires-clause-cause g c =
     let plan = c.args.plan.now in
-    let rows = c.args.rows.now in
-    c.in-Err.ensures.cause plan rows (all_causes plan rows c.in-Ok.claims c.in-Ok-hands.hands.items c.work_all.new.hands.items c.work_all.ensures)
+    let pieces = c.args.pieces.now in
+    c.in-Err.ensures.cause plan pieces (all_causes plan pieces c.in-Ok.claims c.in-Ok-hands.hands.items c.work_all.new.hands.items c.work_all.ensures)
 
 pub close-drawn-requires : goal.close-drawn-requires
 close-drawn-requires g c =
     subst (λ (l : List ClaimSeat). AreSeats c.in-Ok.claims l) (sym c.in-Ok-bring_home.ensures.seats)
-    (kept_seats c.args.plan.now c.args.rows.now c.in-Ok.claims c.in-Ok.seats.items c.in-Ok-hands.hands.items c.work_all.new.hands.items c.in-Ok-hands.ensures.seats c.in-Ok.ensures.seats c.work_all.ensures)
-
-pub returns-clause-accepted : goal.returns-clause-accepted
-returns-clause-accepted g c =
-    let claims = c.in-Ok.claims in
-    let fs = c.in-Ok-hands.hands.items in
-    let gs = c.work_all.new.hands.items in
-    let home = c.in-Ok-bring_home in
-    let any : 0 < length gs = omega (arith, hands_many fs c.args.maps.items c.in-Ok-hands.ensures.maps, c.work_all.ensures.count, c.requires.some) in
-    let blocks : AreBlocks c.args.rows.now (blocks_of claims) = subst (λ n. AreBlocks c.args.rows.now n) (sym c.in-Ok.ensures.counts.0) c.count_blocks.ensures.blocks in
-    (all_rows c.args.plan.now c.args.rows.now claims fs gs home.home.seats.items (lists_of c.close-drawn.result) any blocks c.work_all.ensures home.ensures.whole home.ensures.seats c.close-drawn.ensures.lists c.close-drawn.ensures.drawn).accepted
+    (kept_seats c.args.plan.now c.args.pieces.now c.in-Ok.claims c.in-Ok.seats.items c.in-Ok-hands.hands.items c.work_all.new.hands.items c.in-Ok-hands.ensures.seats c.in-Ok.ensures.seats c.work_all.ensures)
 
 pub returns-clause-shared : goal.returns-clause-shared
 returns-clause-shared g c =
@@ -37,9 +26,20 @@ returns-clause-shared g c =
     let gs = c.work_all.new.hands.items in
     let home = c.in-Ok-bring_home in
     let any : 0 < length gs = omega (arith, hands_many fs c.args.maps.items c.in-Ok-hands.ensures.maps, c.work_all.ensures.count, c.requires.some) in
-    let blocks : AreBlocks c.args.rows.now (blocks_of claims) = subst (λ n. AreBlocks c.args.rows.now n) (sym c.in-Ok.ensures.counts.0) c.count_blocks.ensures.blocks in
-    let all = all_rows c.args.plan.now c.args.rows.now claims fs gs home.home.seats.items (lists_of c.close-drawn.result) any blocks c.work_all.ensures home.ensures.whole home.ensures.seats c.close-drawn.ensures.lists c.close-drawn.ensures.drawn in
-    λ before shared few. shares_on c.args.plan.now c.args.rows.now claims fs gs before c.args.maps.items home.home.maps.items all c.in-Ok-hands.ensures.maps home.ensures.maps shared few
+    let blocks : blocks_of claims ≡ length c.args.pieces.now = omega (arith, c.in-Ok.ensures.counts.0, c.requires.pieces) in
+    let all = all_rows c.args.plan.now c.args.pieces.now claims fs gs home.home.seats.items (lists_of c.close-drawn.result) any blocks c.work_all.ensures home.ensures.whole home.ensures.seats c.close-drawn.ensures.lists c.close-drawn.ensures.drawn in
+    shares_on c.args.plan.now c.args.pieces.now claims fs gs c.args.maps.items home.home.maps.items all c.in-Ok-hands.ensures.maps home.ensures.maps
+
+pub returns-clause-count : goal.returns-clause-count
+returns-clause-count g c =
+    let claims = c.in-Ok.claims in
+    let fs = c.in-Ok-hands.hands.items in
+    let gs = c.work_all.new.hands.items in
+    let home = c.in-Ok-bring_home in
+    let any : 0 < length gs = omega (arith, hands_many fs c.args.maps.items c.in-Ok-hands.ensures.maps, c.work_all.ensures.count, c.requires.some) in
+    let blocks : blocks_of claims ≡ length c.args.pieces.now = omega (arith, c.in-Ok.ensures.counts.0, c.requires.pieces) in
+    let all = all_rows c.args.plan.now c.args.pieces.now claims fs gs home.home.seats.items (lists_of c.close-drawn.result) any blocks c.work_all.ensures home.ensures.whole home.ensures.seats c.close-drawn.ensures.lists c.close-drawn.ensures.drawn in
+    home.ensures.count ∙ all.count
 
 pub returns-clause-many : goal.returns-clause-many
 returns-clause-many g c =

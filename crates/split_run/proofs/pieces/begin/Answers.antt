@@ -2,7 +2,7 @@ use Rattle.std.proofs.Common.{◌++◌, ◌∷◌, ◌∙◌, [], List, ap, repl
 use Rattle.std.specs.FinMap as map
 use Rattle.partial_agg.specs.Groups.{GroupsByKey}
 use Rattle.split_run.proofs.Joining.{replicate_more}
-use Rattle.split_run.proofs.window.begin.Goals as goal
+use Rattle.split_run.proofs.pieces.begin.Goals as goal
 
 pub loop-at-preserved : goal.loop-at-preserved
 loop-at-preserved c =

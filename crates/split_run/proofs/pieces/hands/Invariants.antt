@@ -1,6 +1,6 @@
 use Rattle.std.proofs.Common.{◌≡◌, ◌++◌, map, reverse}
 use Rattle.split_run.specs.declared.hands.Hand.{Hand}
-use Rattle.split_run.proofs.window.hands.Given as goal
+use Rattle.split_run.proofs.pieces.hands.Given as goal
 
 -- the maps of the participants so far, and those that are left
 abbrev pub invariant-loop-claim : goal.invariant-loop-claim

@@ -1,0 +1,53 @@
+use Rattle.std.proofs.Common.{◌≡◌, ◌≤◌, ◌+◌, ◌∷◌, ◌∙◌, [], Bool, Err, false, true, ap, arith, length, length-append, refl, subst}
+use Rattle.std.specs.Global.{Vec}
+use Rattle.row_windows.specs.Stretch.{Stretch}
+use Rattle.par_stream.specs.Reading.{AddsPiece}
+use Rattle.par_stream.proofs.Batches.{long_filled, none_filled, one_filled}
+use Rattle.par_stream.proofs.batch.Batch.fill.Goals as goal
+
+pub loop-at-init : goal.loop-at-init
+loop-at-init g c =
+    let none = ap (λ (v : Vec Stretch). v.items) c.replace-spares.ensures.after ∙ c.new.ensures.items in
+    record {
+      filled = none_filled (g.S.Source.left c.args.source.now) c.args.self.now.next (record { pieces = c.replace-spares.new.dest; next = c.args.self.now.next }) none refl c.requires;
+      few = omega (arith, ap length none);
+      none = λ _. refl;
+      rest = λ _. refl;
+      faults = omega arith;
+    }
+
+pub returns-in-Ok-true-clause-filled : goal.returns-in-Ok-true-clause-filled
+returns-in-Ok-true-clause-filled g c =
+    let old = g.S.Source.left c.args.source.now in
+    let mid = g.S.Source.left c.loop-at.source in
+    let new = g.S.Source.left c.add_piece.new.source in
+    let b = c.loop-at.self in
+    let now = c.add_piece.new.self in
+    let a : AddsPiece mid new b now true = subst (λ (last : Bool). AddsPiece mid new b now last) c.in-Ok-true.field-0-test c.in-Ok-true.ensures.added in
+    let few : length now.pieces.items ≤ 64 = omega (arith, ap length a.pieces, length-append b.pieces.items (a.piece ∷ []), c.loop-at.invariant.few, c.loop-at-test.true) in
+    one_filled old mid new c.args.self.now.next b now c.loop-at.invariant.filled true few a
+
+pub returns-in-Err-LongRecord-clause-filled : goal.returns-in-Err-LongRecord-clause-filled
+returns-in-Err-LongRecord-clause-filled g c =
+    let old = g.S.Source.left c.args.source.now in
+    let mid = g.S.Source.left c.loop-at.source in
+    let new = g.S.Source.left c.add_piece.new.source in
+    long_filled old mid new c.args.self.now.next c.loop-at.self c.add_piece.new.self c.loop-at.invariant.filled (c.in-Err-LongRecord.ensures.long (ap Err c.in-Err-LongRecord.field-0-is))
+
+pub loop-at-preserved : goal.loop-at-preserved
+loop-at-preserved g c =
+    let old = g.S.Source.left c.args.source.now in
+    let mid = g.S.Source.left c.loop-at.source in
+    let new = g.S.Source.left c.add_piece.new.source in
+    let b = c.loop-at.self in
+    let now = c.add_piece.new.self in
+    let a : AddsPiece mid new b now false = subst (λ (last : Bool). AddsPiece mid new b now last) c.in-Ok-false.field-0-test c.in-Ok-false.ensures.added in
+    let size : length now.pieces.items ≡ length b.pieces.items + 1 = omega (arith, ap length a.pieces, length-append b.pieces.items (a.piece ∷ [])) in
+    let few : length now.pieces.items ≤ 64 = omega (arith, size, c.loop-at.invariant.few, c.loop-at-test.true) in
+    record {
+      filled = one_filled old mid new c.args.self.now.next b now c.loop-at.invariant.filled false few a;
+      few = omega (arith, size, c.loop-at.invariant.few);
+      none = λ e. absurd (omega (arith, size, ap length e));
+      rest = λ e. absurd (omega (arith, size, ap length e));
+      faults = omega (arith, c.loop-at.invariant.faults, c.add_piece.ensures.faults);
+    }

@@ -1,0 +1,144 @@
+//! A batch of windows, of which each is a piece for one participant: how it is filled.
+
+ghost use Rattle.std.specs.Prelude.{◌≡◌, ◌≤◌, ◌∷◌, [], Err, IfErr, IfOk};
+ghost use Rattle.par_io.specs.Faults.{Rose};
+ghost use Rattle.par_stream.specs.Reading.{AddsPiece, IsFilledBatch, IsNotFilled, MeetsLong};
+ghost use Rattle.row_windows.specs.declared.window.WindowAnswer.TheVariants as answer;
+
+use par_io::Source;
+use row_windows::{Window, WindowAnswer};
+use std::alloc::{AllocError, Global};
+use std::mem;
+
+/// The most pieces of a batch: each has the same part of its bytes.
+const MOST_PIECES: usize = 64;
+
+/// A window repeats the header's line: so many times its bytes are to be lines, unless the batch has fewer.
+const TIMES_HEADER: usize = 4;
+
+/// A window has at least as many bytes as the header's line, up to so many: these never have more rows than a store takes.
+const MOST_FOR_HEADER: usize = 8_000_000;
+
+/// The windows of a batch, in order, and what comes after them: a window with the header, no lines, and the rest that was
+/// read already.
+#[derive(Drop)]
+pub(crate) struct Batch {
+    pub(crate) pieces: Vec<Window>,
+    pub(crate) next: Window,
+}
+
+impl Batch {
+    /// No windows, and nothing that was read.
+    pub(crate) fn new(alloc: Global) -> Batch {
+        Batch {
+            pieces: Vec::new(alloc),
+            next: Window::new(alloc),
+        }
+    }
+
+    /// A batch of one window.
+    pub(crate) fn of_window(alloc: Global, window: Window) -> Result<Batch, AllocError>
+        ensures pieces { IfOk result (λ b. b.pieces.items ≡ window ∷ []) }
+        ensures header { IfOk result (λ b. b.next.header ≡ window.header) }
+        ensures lines { IfOk result (λ b. b.next.lines ≡ []) }
+        ensures rest { IfOk result (λ b. b.next.rest ≡ window.rest) }
+    {
+        let mut next = Window::new(alloc);
+        next.follow(&window)?;
+        let mut pieces = Vec::new(alloc);
+        pieces.push(window)?;
+        Ok(Batch { pieces, next })
+    }
+
+    /// The bytes of its windows, each with the header's line.
+    pub(crate) fn bytes(&self) -> u64 {
+        let mut bytes = 0u64;
+        for piece in self.pieces.as_slice() {
+            bytes = bytes.saturating_add(piece.table().len() as u64);
+        }
+        bytes
+    }
+
+    /// Fills the batch with windows that together have some `size` bytes or more, at most 64 of them, and says whether they
+    /// are the source's last. The buffers of the windows that it had are used again. If a record is too long, the windows
+    /// before it are a batch, and it is met again when the next one is filled.
+    pub(crate) fn fill<S: Source>(
+        &mut self,
+        alloc: Global,
+        source: &mut S,
+        size: usize,
+    ) -> Result<bool, WindowAnswer>
+        requires { self.old.next.lines ≡ [] }
+        ensures filled { IfOk result (IsFilledBatch (S.left source.old) (S.left source.new) self.old.next self.new) }
+        ensures why { IfErr result (IsNotFilled (S.left source.old) (S.left source.new) (S.faults source.old) (S.faults source.new) self.old.next) }
+        ensures faults { S.faults source.old ≤ S.faults source.new }
+    {
+        let mut spares = mem::replace(&mut self.pieces, Vec::new(alloc));
+        for _at in 0..MOST_PIECES {
+            if self.bytes() >= size as u64 && !self.pieces.is_empty() {
+                return Ok(false);
+            }
+            let goal = goal_of(&self.next, size);
+            let spare = spare_of(alloc, &mut spares, goal);
+            match self.add_piece(spare, source, goal) {
+                Ok(true) => return Ok(true),
+                Ok(false) => {}
+                Err(WindowAnswer::LongRecord) => {
+                    if self.pieces.is_empty() {
+                        return Err(WindowAnswer::LongRecord);
+                    }
+                    return Ok(false);
+                }
+                Err(why) => return Err(why),
+            }
+        }
+        Ok(false)
+    }
+
+    /// Fills one window more, and says whether its lines are the source's last. The other window gets what comes after it.
+    fn add_piece<S: Source>(
+        &mut self,
+        after: Window,
+        source: &mut S,
+        goal: usize,
+    ) -> Result<bool, WindowAnswer>
+        requires { self.old.next.lines ≡ [] }
+        ensures added { IfOk result (AddsPiece (S.left source.old) (S.left source.new) self.old self.new) }
+        ensures long { result ≡ Err answer.LongRecord → MeetsLong (S.left source.old) (S.left source.new) self.old self.new }
+        ensures read_fault { result ≡ Err answer.ReadFault → Rose (S.faults source.old) (S.faults source.new) }
+        ensures faults { S.faults source.old ≤ S.faults source.new }
+    {
+        let mut after = after;
+        let last = match self.next.fill(source, goal) {
+            Ok(last) => last,
+            Err(why) => return Err(why),
+        };
+        match after.follow(&self.next) {
+            Ok(()) => {}
+            Err(AllocError) => return Err(WindowAnswer::Memory),
+        }
+        let piece = mem::replace(&mut self.next, after);
+        match self.pieces.push(piece) {
+            Ok(()) => {}
+            Err(_) => return Err(WindowAnswer::Memory),
+        }
+        Ok(last)
+    }
+}
+
+/// The bytes that the next window is to have: a part of the batch's, but not few compared with those that it repeats, or
+/// has already.
+fn goal_of(next: &Window, size: usize) -> usize {
+    let header = next.table().len().min(MOST_FOR_HEADER);
+    let times = (header * TIMES_HEADER).min(size);
+    let read = next.read_bytes().min(size);
+    (size / MOST_PIECES).max(header).max(times).max(read)
+}
+
+/// A window whose buffer is used again, unless that is much longer than the window is to be.
+fn spare_of(alloc: Global, spares: &mut Vec<Window>, goal: usize) -> Window {
+    match spares.pop() {
+        Some(spare) if spare.room() / 4 <= goal => spare,
+        _ => Window::new(alloc),
+    }
+}

@@ -1,0 +1,53 @@
+//! The rows of one piece, which are read into a store and added to a map.
+
+ghost use Rattle.std.specs.Prelude.{◌≡◌, All, IfErr, IfOk, OnOk, drop, length};
+ghost use Rattle.par_model.specs.Columns.{HasColumns};
+ghost use Rattle.partial_agg.specs.Groups.{with_rows};
+ghost use Rattle.partial_agg.specs.Rows.{IsAccepted, header_width};
+ghost use Rattle.split_run.specs.Causes.{IsCause};
+ghost use Rattle.split_run.specs.Pieces.{piece_records, piece_rows};
+
+use csv_rows::{RowStore, rows};
+use par_model::BoundPlan;
+use partial_agg::{BlockAnswer, GroupMap};
+use row_blocks::count_blocks;
+use row_windows::Window;
+use std::alloc::Global;
+
+/// Reads the rows of a piece, adds them to a map, and gives their number. The store of the rows is gone afterwards.
+pub(crate) fn add_piece(
+    alloc: Global,
+    piece: &Window,
+    plan: &BoundPlan,
+    groups: &mut GroupMap,
+) -> Result<u64, BlockAnswer>
+    requires columns { HasColumns plan.now (header_width (piece_records piece.now)) }
+    ensures added { OnOk result (groups.new ≡ with_rows plan.now groups.old (piece_rows piece.now)) }
+    ensures accepted { OnOk result (All (IsAccepted plan.now (header_width (piece_records piece.now))) (piece_rows piece.now)) }
+    ensures count { IfOk result (λ count. count ≡ length (piece_rows piece.now)) }
+    ensures refused { IfErr result (IsCause plan.now (piece_records piece.now)) }
+{
+    let Ok(store) = rows(alloc, piece.table()) else {
+        return Err(BlockAnswer::Memory);
+    };
+    match add_store(&store, plan, groups) {
+        Ok(()) => Ok(store.count()),
+        Err(why) => Err(why),
+    }
+}
+
+/// Adds the rows of a store to a map, block by block.
+fn add_store(rows: &RowStore, plan: &BoundPlan, groups: &mut GroupMap) -> Result<(), BlockAnswer>
+    requires columns { HasColumns plan.now (header_width rows.now) }
+    ensures added { OnOk result (groups.new ≡ with_rows plan.now groups.old (drop 1 rows.now)) }
+    ensures accepted { OnOk result (All (IsAccepted plan.now (header_width rows.now)) (drop 1 rows.now)) }
+    ensures refused { IfErr result (IsCause plan.now rows.now) }
+{
+    for block in 0..count_blocks(rows) {
+        match groups.add_block(rows, plan, block) {
+            Ok(()) => {}
+            Err(why) => return Err(why),
+        }
+    }
+    Ok(())
+}
