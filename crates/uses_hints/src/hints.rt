@@ -1,7 +1,10 @@
 //! What no clause says: that the calls succeed, and how their texts read.
 
-use input_hints::{Asked, Kind, asked_of, kind_of, tell};
-use par_io::MemSink;
+use input_hints::{
+    Asked, Expected, Kind, Name, Peeked, Wrong, asked_of, kind_of, refuse_input, refuse_words,
+    shown, tell, wrong_word,
+};
+use par_io::{MemSink, MemSource, read_whole};
 use std::alloc::{AllocError, Global};
 use std::test::Fail;
 
@@ -82,4 +85,179 @@ fn kinds(rt: HostRuntime) {
     for (bytes, wanted) in KINDS {
         assert!(rt; kind_of(bytes) == wanted, "{bytes:?}");
     }
+}
+
+/// Fields, and how they are shown.
+const SHOWN: [(&[u8], &str); 12] = [
+    (b"1.50", "\"1.50\""),
+    (b"", "\"\""),
+    (b"a\"b\\c", "\"a\\\"b\\\\c\""),
+    (b"\x1b[31m\0\x7f\t", "\"\\x1b[31m\\x00\\x7f\\x09\""),
+    (
+        b"gr\xc3\xb6\xc3\x9fe \xe2\x82\xac \xf0\x9f\x98\x80",
+        "\"gr\u{f6}\u{df}e \u{20ac} \u{1f600}\"",
+    ),
+    (b"gr\xf6\xdfe", "\"gr\\xf6\\xdfe\""),
+    (b"\xc2\x9b1m", "\"\\xc2\\x9b1m\""),
+    (
+        b"a\xe2\x80\xaeb\xe2\x80\xa6",
+        "\"a\\xe2\\x80\\xaeb\u{2026}\"",
+    ),
+    (b"\xe2\x82", "\"\\xe2\\x82\""),
+    (b"\xed\xa0\x80", "\"\\xed\\xa0\\x80\""),
+    (
+        b"0123456789012345678901234567890123456789",
+        "\"0123456789012345678901234567890123456789\"",
+    ),
+    (
+        b"01234567890123456789012345678901234567890",
+        "\"0123456789012345678901234567890123456789\"..",
+    ),
+];
+
+#[test]
+fn shows(rt: HostRuntime) -> Result<(), Fail> {
+    for (field, wanted) in SHOWN {
+        let text = shown(rt.alloc(), field)?;
+        assert_eq!(rt; text.as_str(), wanted);
+    }
+    Ok(())
+}
+
+/// Words, and which of them is not understood, by its place, and what may come there.
+const WRONG: [(&str, Option<(usize, Expected)>); 20] = [
+    ("--agg count", None),
+    ("--group g --agg count --where v>1 --workers 1 --", None),
+    ("", Some((0, Expected::Name))),
+    ("orders.csv", Some((0, Expected::Name))),
+    ("--agg count orders.csv", Some((2, Expected::Name))),
+    ("--group g", Some((2, Expected::Items))),
+    ("--agg", Some((1, Expected::Value(Name::Agg)))),
+    ("--agg mean:v", Some((1, Expected::Value(Name::Agg)))),
+    ("--agg=mean:v", Some((0, Expected::Value(Name::Agg)))),
+    (
+        "--group g --agg sum(v) --workers 2",
+        Some((3, Expected::Value(Name::Agg))),
+    ),
+    (
+        "--agg count --where g=a",
+        Some((3, Expected::Value(Name::Where))),
+    ),
+    (
+        "--agg count --where v==1 --workers 128",
+        Some((3, Expected::Value(Name::Where))),
+    ),
+    (
+        "--agg count --workers auto",
+        Some((3, Expected::Value(Name::Workers))),
+    ),
+    (
+        "--workers 128 --agg count",
+        Some((1, Expected::Value(Name::Workers))),
+    ),
+    (
+        "--group g,,h --agg count",
+        Some((1, Expected::Value(Name::Group))),
+    ),
+    ("--agg count --agg sum:v", Some((2, Expected::Other))),
+    ("--agg count --plan gather", Some((2, Expected::Name))),
+    ("-g g --agg count", Some((0, Expected::Name))),
+    ("--agg count, sum:v", Some((1, Expected::Value(Name::Agg)))),
+    (
+        "--where v>1 --group",
+        Some((3, Expected::Value(Name::Group))),
+    ),
+];
+
+#[test]
+fn wrong_words(rt: HostRuntime) -> Result<(), Fail> {
+    for (words, wanted) in WRONG {
+        let list = owned(rt.alloc(), words)?;
+        let found = wrong_word(rt.alloc(), list.as_slice())?;
+        let wanted = wanted.map(|(at, expected)| Wrong { at, expected });
+        assert!(rt; found == wanted, "{words}: {found:?}");
+    }
+    Ok(())
+}
+
+/// Words, and the line that they are answered with; none if they are a query.
+const REFUSED: [(&str, &str); 7] = [
+    ("--agg count", ""),
+    (
+        "--agg count orders.csv",
+        "parstream: \"orders.csv\" is not understood: the options are --group, --agg, --where and --workers; see parstream --help\n",
+    ),
+    (
+        "--agg sum(v)",
+        "parstream: \"sum(v)\" is not understood: --agg takes one to eight of count, count:C, sum:C, min:C, max:C and avg:C between commas; see parstream --help\n",
+    ),
+    (
+        "--where=gr\u{f6}\u{df}e>\u{1b}[31m01234567890123456789 --agg count",
+        "parstream: \"--where=gr\u{f6}\u{df}e>\\x1b[31m0123456789012345678\".. is not understood: --where takes a column, one of = != < <= > >=, and an integer, as in 'qty>=10'; see parstream --help\n",
+    ),
+    (
+        "--agg count --agg sum:v",
+        "parstream: \"--agg\" is not understood: an option may be given once; see parstream --help\n",
+    ),
+    (
+        "--agg count --workers",
+        "parstream: a word is missing at the end: --workers takes a number from 0 to 64; see parstream --help\n",
+    ),
+    (
+        "--group g",
+        "parstream: a word is missing at the end: --agg ITEMS is missing; see parstream --help\n",
+    ),
+];
+
+#[test]
+fn refuses_words(rt: HostRuntime) -> Result<(), Fail> {
+    for (words, said) in REFUSED {
+        let list = owned(rt.alloc(), words)?;
+        let mut err = MemSink::new(rt.alloc(), 64, 400, Vec::new(rt.alloc()))?;
+        let status = refuse_words(rt.alloc(), list.as_slice(), &mut err);
+        let wanted = (!said.is_empty()).then_some(2);
+        assert!(rt; status == wanted, "{words}");
+        assert_eq!(rt; err.written(), said.as_bytes());
+    }
+    Ok(())
+}
+
+/// Inputs, the read that fails, the status that the input is refused with, and the line.
+const INPUTS: [(&[u8], u64, Option<u8>, &str); 6] = [
+    (b"g,v\na,1\n", 0, None, ""),
+    (b"g\n", 0, None, ""),
+    (b"", 0, None, ""),
+    (
+        b"\x1f\x8b\x08\0\0\0\0\0",
+        0,
+        Some(2),
+        "parstream: the input is compressed by gzip: zcat FILE | parstream ..\n",
+    ),
+    (
+        b"\xff\xfeg\0",
+        0,
+        Some(2),
+        "parstream: the input is UTF-16: iconv -f UTF-16 -t UTF-8 FILE | parstream ..\n",
+    ),
+    (b"g,v\na,1\n", 2, Some(3), "parstream: read fault\n"),
+];
+
+/// After an input was looked at, all of it is left, whatever was said of it.
+#[test]
+fn refuses_inputs(rt: HostRuntime) -> Result<(), Fail> {
+    for (bytes, fail, wanted, said) in INPUTS {
+        let fail = vec![in rt.alloc(); fail]?;
+        let bytes_there = Vec::from_slice(rt.alloc(), bytes)?;
+        let mut source = Peeked::new(MemSource::new(bytes_there, 4, fail));
+        let mut err = MemSink::new(rt.alloc(), 64, 200, Vec::new(rt.alloc()))?;
+        let status = refuse_input(&mut source, &mut err);
+        assert!(rt; status == wanted, "{bytes:?}");
+        assert_eq!(rt; err.written(), said.as_bytes());
+        let whole = match read_whole(rt.alloc(), &mut source, 100) {
+            Ok(whole) => whole,
+            Err(_) => return Err(Fail::new("no bytes")),
+        };
+        assert_eq!(rt; whole.as_slice(), bytes);
+    }
+    Ok(())
 }
