@@ -1,2 +1,4 @@
 pub mod Texts
 pub mod Cached
+pub mod Leases
+pub mod Ticks

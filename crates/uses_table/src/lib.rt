@@ -1,15 +1,18 @@
 //! Callers of `dshash_parts` and `dshash_scan`: a cache of texts under names in the shared hash table, and two threads
-//! that share it. The crate also has the tests of the crates of the table and of what is in its cells. No other crate
-//! depends on it.
+//! that share it; and leases under its keys, which run out round after round of a clock. The crate also has the tests of
+//! the crates of the table and of what is in its cells. No other crate depends on it.
 
 #![tactic(auto)]
 
+#[cfg(test)]
+mod aging;
 #[cfg(test)]
 mod cache;
 #[cfg(test)]
 mod doubling;
 #[cfg(test)]
 mod groups;
+mod lease;
 #[cfg(test)]
 mod numbers;
 #[cfg(test)]
@@ -23,5 +26,8 @@ mod tests;
 mod text;
 
 #[cfg(test)]
+pub use aging::{Round, tick_one};
+#[cfg(test)]
 pub use cache::{forget, keep, own_name, recall, remember};
+pub use lease::{Lease, LeaseCall};
 pub use text::{Text, TextCall};

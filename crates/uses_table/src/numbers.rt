@@ -14,7 +14,7 @@ use std::test::Fail;
 
 /// A region with an area of this many pages after its first word, and the pass of its one caller.
 #[tactic(auto, using(word_map::proofs::Maps::answers, std::proofs::lemmas::Bool::Decides::nat_tests))]
-fn area_for(alloc: Global, pages: u32) -> Result<(Region, Area, AreaPass), AllocError>
+pub(crate) fn area_for(alloc: Global, pages: u32) -> Result<(Region, Area, AreaPass), AllocError>
     requires few { pages ≤ 65536 }
     ensures area { IfOk result (λ a. IsArea a.0 a.1) }
     ensures own { IfOk result (λ a. AreaBelongs a.1 a.2) }

@@ -1,7 +1,5 @@
-use Rattle.std.proofs.Common.{◌∙◌, Option, None, ap, refl, sym}
+use Rattle.std.proofs.Common.{◌∙◌, None, sym}
 use Rattle.lock_book.specs.Shown.{mine_of, number_of, seen_of}
-use Rattle.uses_table.specs.Texts.{after, stepped}
-use Rattle.uses_table.specs.declared.text.TextCall.TheVariants.{Get}
 use Rattle.uses_table.proofs.Calls.{looked_up, owns, run_leaves}
 use Rattle.uses_table.proofs.cache.recall.Goals as goal
 

@@ -1,0 +1,59 @@
+-- A round of the clock at a partition of leases, and at a whole table of them.
+use Rattle.std.specs.Prelude.{◌≡◌, ℕ, List, ◌∷◌, ◌++◌, Option}
+use Rattle.std.specs.List.{AllByRecursion, count_by}
+use Rattle.std.specs.FinMap as fin
+use Rattle.atomic_table.specs.Seated.{TableId}
+use Rattle.lock_book.specs.declared.kept.Kept.{Ghosts}
+use Rattle.lock_book.specs.declared.shelf.Pass.{Pass}
+use Rattle.lock_book.specs.declared.view.Entry.{Entry}
+use Rattle.lock_book.specs.History.{last_of}
+use Rattle.lock_book.specs.Shown.{seen_of}
+use Rattle.lock_book.specs.Told.{Histories}
+use Rattle.dsa_area.specs.declared.area.Area.{Area}
+use Rattle.dsa_area.specs.declared.area.AreaPass.{AreaPass}
+use Rattle.dshash_parts.specs.States.{PartitionState, fresh}
+use Rattle.dshash_parts.specs.declared.histories.PartitionName.{PartitionName}
+use Rattle.dshash_parts.specs.declared.histories.PartitionCalls.{PartitionCalls}
+use Rattle.dshash_parts.specs.declared.histories.PartitionReplies.{PartitionReplies}
+use Rattle.dshash_parts.specs.declared.asks.TableAsk.{TableAsk}
+use Rattle.dshash_parts.specs.declared.asks.TableAnswer.{TableAnswer}
+use Rattle.dshash_parts.specs.declared.numbered.Numbered.{Numbered}
+use Rattle.dshash_parts.specs.declared.table.Dshash.{Dshash}
+use Rattle.dshash_scan.specs.Visits.{Visit, VisitsEach}
+use Rattle.uses_table.specs.Cached.{under}
+use Rattle.uses_table.specs.Leases.{is_due, stepped, ticked}
+use Rattle.uses_table.specs.declared.lease.Lease.{Lease}
+use Rattle.uses_table.specs.declared.lease.LeaseCall.{LeaseCall}
+use Rattle.uses_table.specs.declared.lease.LeaseCall.TheVariants.{Tick}
+
+-- an entry of the history of a partition of leases
+abbrev pub LeaseEntry : Type 0
+LeaseEntry = Entry (PartitionState Lease) (PartitionCalls LeaseCall) (PartitionReplies Lease (Option Lease))
+
+-- a pass of a table of leases; g are the meanings of the locked partitions' members
+abbrev pub LeasePass : Ghosts (Numbered Lease Lease LeaseCall (Option Lease)) TableId (TableAsk Lease Lease LeaseCall (Option Lease)) (TableAnswer Lease Lease LeaseCall (Option Lease)) PartitionName (PartitionState Lease) (PartitionCalls LeaseCall) (PartitionReplies Lease (Option Lease)) → Type 0
+LeasePass g = Pass (Numbered Lease Lease LeaseCall (Option Lease)) TableId (TableAsk Lease Lease LeaseCall (Option Lease)) (TableAnswer Lease Lease LeaseCall (Option Lease)) PartitionName (PartitionState Lease) (PartitionCalls LeaseCall) (PartitionReplies Lease (Option Lease)) g
+
+-- At a moment of this history a visit ticked its key: the reply is the lease that was there, what a round leaves of it was
+-- there then, and it was taken out if it was due
+pub record WasTicked (seen : List LeaseEntry) (visit : Visit (Option Lease)) : Type 0 where
+  pub before : List LeaseEntry
+  pub turn : LeaseEntry
+  pub later : List LeaseEntry
+  pub moment : seen ≡ before ++ turn ∷ later
+  pub found : visit.1.0 ≡ fin.get (last_of fresh before).cells visit.0
+  pub left : fin.get turn.after.cells visit.0 ≡ ticked visit.1.0
+  pub taken : visit.1.1 ≡ is_due visit.1.0
+
+-- a round later: under each key is what the round leaves of the lease that was there
+abbrev pub IsRoundLater : Histories (PartitionState Lease) (PartitionCalls LeaseCall) (PartitionReplies Lease (Option Lease)) → Histories (PartitionState Lease) (PartitionCalls LeaseCall) (PartitionReplies Lease (Option Lease)) → Type 0
+IsRoundLater seen seen' = (key : List ℕ) → under seen' key ≡ ticked (under seen key)
+
+-- the passes p of a table of leases and u of its area became q and w
+module _ {g : Ghosts (Numbered Lease Lease LeaseCall (Option Lease)) TableId (TableAsk Lease Lease LeaseCall (Option Lease)) (TableAnswer Lease Lease LeaseCall (Option Lease)) PartitionName (PartitionState Lease) (PartitionCalls LeaseCall) (PartitionReplies Lease (Option Lease))} (t : Dshash Lease Lease LeaseCall (Option Lease)) (a : Area) (p : LeasePass g) (u : AreaPass) (q : LeasePass g) (w : AreaPass) where
+  -- One listing of the partition, and then one tick of each key that it told, each once and of no other: so many were
+  -- visited, and so many of them were due. The item of each of these went back to the area
+  pub record TicksEach (partition visited gone : ℕ) : Type 0 where
+    pub each : VisitsEach stepped t a p u q w partition Tick visited
+    pub moments : AllByRecursion (WasTicked (seen_of q partition)) each.visits
+    pub due : gone ≡ count_by (λ v. v.1.1) each.visits
