@@ -1,5 +1,5 @@
 -- What a round did at a partition; and if nobody else calls it, each of its leases is a round older.
-use Rattle.std.proofs.Common.{◌≡◌, ◌≢◌, ◌∙◌, ℕ, zero, suc, ◌+◌, ◌<◌, ◌≤◌, ⊎_elim, cond, Bool, true, false, List, [], ◌∷◌, ◌++◌, length, map, reverse, Option, Some, None, is_some, refl, ap, sym, subst, arith, nat_cmp}
+use Rattle.std.proofs.Common.{◌≡◌, ◌≢◌, ◌∙◌, ℕ, zero, suc, ◌+◌, ◌<◌, ◌≤◌, ⊎_elim, cond, Bool, true, false, List, [], ◌∷◌, ◌++◌, length, map, reverse, Option, Some, None, is_some, refl, ap, sym, subst, arith, nat_cmp, ◌-◌, ◌&&◌, is_none}
 use mathlib.Core.Logic.{dite}
 use native.Mathlib.Decide.{ℕ_discrete}
 use Rattle.std.proofs.lemmas.List.{reverse-append}
@@ -8,7 +8,6 @@ use Rattle.std.specs.Cmp.Lexicographic.{slice_cmp, nat_list_cmp_total}
 use Rattle.std.specs.FinMap as fin
 use Rattle.atomic_table.specs.Seated.{TableId}
 use Rattle.lock_book.specs.declared.kept.Kept.{Ghosts}
-use Rattle.lock_book.specs.declared.view.Entry.{Entry}
 use Rattle.lock_book.specs.History.{last_of}
 use Rattle.lock_book.specs.Shown.{mine_of, number_of, seen_of}
 use Rattle.lock_book.specs.Told.{Histories}
@@ -18,7 +17,7 @@ use Rattle.dsa_area.specs.declared.area.AreaPass.{AreaPass}
 use Rattle.dsa_area.specs.Sizes.{chunk_size}
 use Rattle.dshash_core.specs.Cells.{KeyMap, partition_of}
 use Rattle.dshash_core.specs.Key.{hash_of}
-use Rattle.dshash_core.specs.Outcome.{ListsAll}
+use Rattle.dshash_core.specs.Outcome.{ListsAll, changed}
 use Rattle.dshash_core.proofs.Maps.{same_key, other_key, keys_same_or_not}
 use Rattle.dshash_parts.specs.Legal.{PartitionLegal}
 use Rattle.dshash_parts.specs.States.{PartitionState, fresh}
@@ -40,11 +39,11 @@ use Rattle.dshash_scan.specs.Visits.{Visit, VisitsEach, turn_of}
 use Rattle.dshash_scan.proofs.Visits.{Scanning, all_visited}
 use Rattle.uses_table.specs.Cached.{under}
 use Rattle.uses_table.specs.Leases.{stepped, ticked}
-use Rattle.uses_table.specs.Ticks.{IsRoundLater, LeasePass, TicksEach}
+use Rattle.uses_table.specs.Ticks.{AreLater, IsLater, LeaseEntry, LeaseHistories, LeasePass, TicksEach, keys_below}
 use Rattle.uses_table.specs.declared.lease.Lease.{Lease}
 use Rattle.uses_table.specs.declared.lease.LeaseCall.{LeaseCall}
 use Rattle.uses_table.specs.declared.lease.LeaseCall.TheVariants.{Tick}
-use Rattle.uses_table.proofs.Ticks.{freed_by, freed_in, freed_visits, own_freed, were_ticked}
+use Rattle.uses_table.proofs.Ticks.{freed_among, freed_by, freed_in, freed_visits, own_freed, were_ticked}
 
 -- whether two keys are the same
 abbrev same_as : List ℕ → List ℕ → Bool
@@ -121,6 +120,22 @@ once : (o : Option Lease) → times (cond {A = ℕ} (is_some o) 1 0) o ≡ ticke
 once None = refl
 once (Some lease) = refl
 
+module _ (m : KeyMap Lease) (key : List ℕ) where
+  has_one : (lease : Lease) → fin.get m key ≡ Some lease → 1 ≤ fin.len m
+  has_one lease e = dite (ℕ_discrete (fin.len m) 0)
+      (λ z. let none : fin.get m key ≡ None = ap (λ (x : KeyMap Lease). fin.get x key) (fin.empty_of_len m z) ∙ fin.get-empty {X = Lease} _ key in let no : Some lease ≡ None = sym e ∙ none in absurd (cc))
+      (λ nz. omega arith)
+
+  -- a map that changes under a key has a key less if the key goes
+  fewer_by : (state next : Option Lease) → fin.get m key ≡ state → (state ≡ None → next ≡ None) → cond {A = ℕ} (is_some state && is_none next) 1 0 + fin.len (changed m key next) ≡ fin.len m
+  fewer_by None None e h = let l = fin.len-remove nat_list_cmp_total m key ∙ ap (λ (o : Option Lease). cond {A = ℕ} (is_some o) (fin.len m - 1) (fin.len m)) e in omega (arith, l)
+  fewer_by None (Some next) e h = let no : Some next ≡ None = h refl in absurd (cc)
+  fewer_by (Some state) None e h =
+      let l = fin.len-remove nat_list_cmp_total m key ∙ ap (λ (o : Option Lease). cond {A = ℕ} (is_some o) (fin.len m - 1) (fin.len m)) e in
+      let one = has_one state e in
+      omega (arith, l, one)
+  fewer_by (Some state) (Some next) e h = let l = fin.len-insert nat_list_cmp_total m key next ∙ ap (λ (o : Option Lease). cond {A = ℕ} (is_some o) (fin.len m) (fin.len m + 1)) e in omega (arith, l)
+
 module _ (n k : ℕ) where
   -- under a key is what as many ticks leave as the key was visited
   all_ticked : (q : List ℕ) (visits : List (Visit (Option Lease))) (s t : PartitionState Lease) → Steps (λ _. PartitionLegal stepped k) n s (map (turn_of Tick) visits) t
@@ -142,6 +157,19 @@ module _ (n k : ℕ) where
       ∙ (ap (times h) (now ∙ changed_else stepped s.cells v.0 next q is)
       ∙ sym (ap (λ (b : Bool). times (cond {A = ℕ} b (suc h) h) (fin.get s.cells q)) (other_key q v.0 is))))
       (keys_same_or_not q v.0)
+
+  -- and there are as many keys less as visits took out
+  freed_len : (visits : List (Visit (Option Lease))) (s t : PartitionState Lease) → Steps (λ _. PartitionLegal stepped k) n s (map (turn_of Tick) visits) t → freed_among (map (turn_of {S = Lease} Tick) visits) + fin.len t.cells ≡ fin.len s.cells
+  freed_len [] s t x = let e = ap (λ (z : PartitionState Lease). fin.len z.cells) x in omega (arith, e)
+  freed_len (v ∷ visits) s t x =
+      let done = x.1.is.1 in
+      let was = fin.get s.cells v.0 in
+      let rest = freed_len visits x.0 t x.2 in
+      let one : cond {A = ℕ} v.1.1 1 0 + fin.len x.0.cells ≡ fin.len s.cells =
+      ap (λ (b : Bool). cond {A = ℕ} b 1 0 + fin.len x.0.cells) done.freed_is
+      ∙ (ap (λ (m : KeyMap Lease). cond {A = ℕ} (is_some was && is_none (ticked was)) 1 0 + fin.len m) done.steps
+      ∙ fewer_by s.cells v.0 was (ticked was) refl (λ none. ap ticked none)) in
+      omega (arith, rest, one)
 
   -- the visits of the keys that were listed tick each lease that was there
   pub round_later : (q : List ℕ) (entries : List (List ℕ × Lease)) (visits : List (Visit (Option Lease))) (s t : PartitionState Lease) → ListsAll s.cells entries → map (λ v. v.0) visits ≡ reverse (map (λ e. e.0) entries)
@@ -193,36 +221,62 @@ module _ {g : Ghosts (Numbered Lease Lease LeaseCall (Option Lease)) TableId (Ta
   pub others_same : (a : Area) (u w : AreaPass) (q : LeasePass g) (k visited : ℕ) → VisitsEach stepped t a p u q w k Tick visited → (other : ℕ) → other ≢ k → seen_of q other ≡ seen_of p other
   others_same a u w q k visited x other ne = (x.others other ne).0 ∙ (x.listed.others other ne).0
 
-  -- a lone caller's round
-  pub alone_later : (a : Area) (u w : AreaPass) (q : LeasePass g) (k visited : ℕ) → callers_of t ≡ 1 → Belongs t p → Belongs t q → number_of q ≡ number_of p → VisitsEach stepped t a p u q w k Tick visited
-      → (key : List ℕ) → partition_of (hash_of key) ≡ k → under (seen_of q) key ≡ ticked (under (seen_of p) key)
-  alone_later a u w q k visited one own own' same x key here =
-      let n : ℕ = number_of p in
-      let did : Did stepped n (seen_of p) (mine_of p) (seen_of q) (mine_of q) k ((Lists, Listed (Some x.entries)) ∷ map (turn_of Tick) x.visits) =
-      then_calls (λ _. PartitionLegal stepped k) fresh n (seen_of p k) (mine_of p k) (x.seen k) (x.mine k) (seen_of q k) (mine_of q k) ((Lists, Listed (Some x.entries)) ∷ []) (map (turn_of Tick) x.visits) x.listed.here x.visited in
-      let all = steps stepped t p q one own own' same k ((Lists, Listed (Some x.entries)) ∷ map (turn_of Tick) x.visits) did in
-      let listing = all.1.is in
-      let rest : Steps (λ _. PartitionLegal stepped k) n (state_at (seen_of p) k) (map (turn_of Tick) x.visits) (state_at (seen_of q) k) =
-      subst (λ (s : PartitionState Lease). Steps (λ _. PartitionLegal stepped k) n s (map (turn_of Tick) x.visits) (state_at (seen_of q) k)) listing.1 all.2 in
-      subst (λ (z : ℕ). fin.get (map_at (seen_of q) z) key ≡ ticked (fin.get (map_at (seen_of p) z) key)) (sym here)
-      (round_later n k key x.entries x.visits (state_at (seen_of p) k) (state_at (seen_of q) k) listing.0 x.each rest)
+  module _ (a : Area) (u w : AreaPass) (q : LeasePass g) (k visited : ℕ) (one : callers_of t ≡ 1) (own : Belongs t p) (own' : Belongs t q) (same : number_of q ≡ number_of p) where
+    -- a lone caller's listing is of what it had seen, and its visits follow one another
+    lone_visits : (x : VisitsEach stepped t a p u q w k Tick visited) → ListsAll (map_at (seen_of p) k) x.entries × Steps (λ _. PartitionLegal stepped k) (number_of p) (state_at (seen_of p) k) (map (turn_of Tick) x.visits) (state_at (seen_of q) k)
+    lone_visits x =
+        let n : ℕ = number_of p in
+        let did : Did stepped n (seen_of p) (mine_of p) (seen_of q) (mine_of q) k ((Lists, Listed (Some x.entries)) ∷ map (turn_of Tick) x.visits) =
+        then_calls (λ _. PartitionLegal stepped k) fresh n (seen_of p k) (mine_of p k) (x.seen k) (x.mine k) (seen_of q k) (mine_of q k) ((Lists, Listed (Some x.entries)) ∷ []) (map (turn_of Tick) x.visits) x.listed.here x.visited in
+        let all = steps stepped t p q one own own' same k ((Lists, Listed (Some x.entries)) ∷ map (turn_of Tick) x.visits) did in
+        (all.1.is.0, subst (λ (s : PartitionState Lease). Steps (λ _. PartitionLegal stepped k) n s (map (turn_of Tick) x.visits) (state_at (seen_of q) k)) all.1.is.1 all.2)
 
--- a round on its way: the partitions below a number are a round older, and at the others nothing was seen
-pub record Passing (seen seen' : Histories (PartitionState Lease) (PartitionCalls LeaseCall) (PartitionReplies Lease (Option Lease))) (number : ℕ) : Type 0 where
+    pub alone_later : (gone : ℕ) → TicksEach t a p u q w k visited gone → IsLater (seen_of p) (seen_of q) k gone
+    alone_later gone x =
+        let lone = lone_visits x.each in
+        let counted = freed_visits Lease Tick x.each.visits in
+        let freed = freed_len (number_of p) k x.each.visits (state_at (seen_of p) k) (state_at (seen_of q) k) lone.1 in
+        record {
+          older = λ key here. subst (λ (z : ℕ). fin.get (map_at (seen_of q) z) key ≡ ticked (fin.get (map_at (seen_of p) z) key)) (sym here)
+              (round_later (number_of p) k key x.each.entries x.each.visits (state_at (seen_of p) k) (state_at (seen_of q) k) lone.0 x.each.each lone.1);
+          fewer = omega (arith, x.due, counted, freed);
+        }
+
+-- a round on its way: at the partitions below a number it is a round later, and at the others nothing was seen
+pub record Passing (seen seen' : LeaseHistories) (number gone : ℕ) : Type 0 where
   pub older : (key : List ℕ) → partition_of (hash_of key) < number → under seen' key ≡ ticked (under seen key)
+  pub fewer : gone + keys_below number seen' ≡ keys_below number seen
   pub rest : (k : ℕ) → number ≤ k → seen' k ≡ seen k
 
-pub passing_none : (seen : Histories (PartitionState Lease) (PartitionCalls LeaseCall) (PartitionReplies Lease (Option Lease))) → Passing seen seen 0
-passing_none seen = record { older = λ key low. absurd (omega (arith, low)); rest = λ k high. refl }
+pub passing_none : (seen : LeaseHistories) → Passing seen seen 0 0
+passing_none seen = record { older = λ key low. absurd (omega (arith, low)); fewer = omega arith; rest = λ k high. refl }
 
-module _ (seen seen' seen'' : Histories (PartitionState Lease) (PartitionCalls LeaseCall) (PartitionReplies Lease (Option Lease))) where
-  pub passing_more : (number : ℕ) → Passing seen seen' number → ((k : ℕ) → k ≢ number → seen'' k ≡ seen' k) → ((key : List ℕ) → partition_of (hash_of key) ≡ number → under seen'' key ≡ ticked (under seen' key)) → Passing seen seen'' (number + 1)
-  passing_more number x others here = record {
-    older = λ key low. dite (ℕ_discrete (partition_of (hash_of key)) number)
-        (λ e. here key e ∙ ap (λ (es : List (Entry (PartitionState Lease) (PartitionCalls LeaseCall) (PartitionReplies Lease (Option Lease)))). ticked (fin.get (last_of fresh es).cells key)) (x.rest (partition_of (hash_of key)) (omega (arith, e))))
-        (λ ne. ap (λ (es : List (Entry (PartitionState Lease) (PartitionCalls LeaseCall) (PartitionReplies Lease (Option Lease)))). fin.get (last_of fresh es).cells key) (others (partition_of (hash_of key)) ne) ∙ x.older key (omega (arith, low, ne)));
-    rest = λ k high. others k (λ e. omega (arith, e, high)) ∙ x.rest k (omega (arith, high));
-  }
+module _ (seen seen' seen'' : LeaseHistories) where
+  keys_same : (number : ℕ) → ((k : ℕ) → k < number → seen'' k ≡ seen' k) → keys_below number seen'' ≡ keys_below number seen'
+  keys_same zero h = refl
+  keys_same (suc number) h =
+      let rest = keys_same number (λ k low. h k (omega (arith, low))) in
+      let here = ap (λ (es : List LeaseEntry). fin.len (last_of fresh es).cells) (h number (omega arith)) in
+      omega (arith, rest, here)
 
-pub passing_all : (seen seen' : Histories (PartitionState Lease) (PartitionCalls LeaseCall) (PartitionReplies Lease (Option Lease))) (number : ℕ) → 128 ≤ number → Passing seen seen' number → IsRoundLater seen seen'
-passing_all seen seen' number all x = λ key. x.older key (let low = partition_low key in omega (arith, low, all))
+  pub passing_more : (number gone more : ℕ) → Passing seen seen' number gone → ((k : ℕ) → k ≢ number → seen'' k ≡ seen' k) → IsLater seen' seen'' number more → Passing seen seen'' (number + 1) (gone + more)
+  passing_more number gone more x others here =
+      let next : suc number ≡ number + 1 = omega arith in
+      let kept = keys_same number (λ k low. others k (λ e. omega (arith, e, low))) in
+      let same = ap (λ (es : List LeaseEntry). fin.len (last_of fresh es).cells) (x.rest number (omega arith)) in
+      let less = here.fewer in
+      let before = x.fewer in
+      let after : (gone + more) + keys_below (suc number) seen'' ≡ keys_below (suc number) seen = omega (arith, kept, same, less, before) in
+      record {
+        older = λ key low. dite (ℕ_discrete (partition_of (hash_of key)) number)
+            (λ e. here.older key e ∙ ap (λ (es : List LeaseEntry). ticked (fin.get (last_of fresh es).cells key)) (x.rest (partition_of (hash_of key)) (omega (arith, e))))
+            (λ ne. ap (λ (es : List LeaseEntry). fin.get (last_of fresh es).cells key) (others (partition_of (hash_of key)) ne) ∙ x.older key (omega (arith, low, ne)));
+        fewer = subst (λ (z : ℕ). (gone + more) + keys_below z seen'' ≡ keys_below z seen) next after;
+        rest = λ k high. others k (λ e. omega (arith, e, high)) ∙ x.rest k (omega (arith, high));
+      }
+
+pub passing_all : (seen seen' : LeaseHistories) (number gone : ℕ) → number ≡ 128 → Passing seen seen' number gone → AreLater seen seen' gone
+passing_all seen seen' number gone all x = record {
+  older = λ key. x.older key (let low = partition_low key in omega (arith, low, all));
+  fewer = subst (λ (z : ℕ). gone + keys_below z seen' ≡ keys_below z seen) all x.fewer;
+}

@@ -1,5 +1,5 @@
 -- A round of the clock at a partition of leases, and at a whole table of them.
-use Rattle.std.specs.Prelude.{◌≡◌, ℕ, List, ◌∷◌, ◌++◌, Option}
+use Rattle.std.specs.Prelude.{◌≡◌, ℕ, zero, suc, ◌+◌, List, ◌∷◌, ◌++◌, Option}
 use Rattle.std.specs.List.{AllByRecursion, count_by}
 use Rattle.std.specs.FinMap as fin
 use Rattle.atomic_table.specs.Seated.{TableId}
@@ -11,7 +11,10 @@ use Rattle.lock_book.specs.Shown.{seen_of}
 use Rattle.lock_book.specs.Told.{Histories}
 use Rattle.dsa_area.specs.declared.area.Area.{Area}
 use Rattle.dsa_area.specs.declared.area.AreaPass.{AreaPass}
+use Rattle.dshash_core.specs.Cells.{partition_of}
+use Rattle.dshash_core.specs.Key.{hash_of}
 use Rattle.dshash_parts.specs.States.{PartitionState, fresh}
+use Rattle.dshash_parts.specs.Tables.{map_at}
 use Rattle.dshash_parts.specs.declared.histories.PartitionName.{PartitionName}
 use Rattle.dshash_parts.specs.declared.histories.PartitionCalls.{PartitionCalls}
 use Rattle.dshash_parts.specs.declared.histories.PartitionReplies.{PartitionReplies}
@@ -45,9 +48,25 @@ pub record WasTicked (seen : List LeaseEntry) (visit : Visit (Option Lease)) : T
   pub left : fin.get turn.after.cells visit.0 ≡ ticked visit.1.0
   pub taken : visit.1.1 ≡ is_due visit.1.0
 
--- a round later: under each key is what the round leaves of the lease that was there
-abbrev pub IsRoundLater : Histories (PartitionState Lease) (PartitionCalls LeaseCall) (PartitionReplies Lease (Option Lease)) → Histories (PartitionState Lease) (PartitionCalls LeaseCall) (PartitionReplies Lease (Option Lease)) → Type 0
-IsRoundLater seen seen' = (key : List ℕ) → under seen' key ≡ ticked (under seen key)
+-- what a pass has seen of a table of leases
+abbrev pub LeaseHistories : Type 0
+LeaseHistories = Histories (PartitionState Lease) (PartitionCalls LeaseCall) (PartitionReplies Lease (Option Lease))
+
+-- a round later at a partition: under each of its keys is what the round leaves of the lease that was there, and it has as
+-- many keys less as leases are gone
+pub record IsLater (seen seen' : LeaseHistories) (partition gone : ℕ) : Type 0 where
+  pub older : (key : List ℕ) → partition_of (hash_of key) ≡ partition → under seen' key ≡ ticked (under seen key)
+  pub fewer : gone + fin.len (map_at seen' partition) ≡ fin.len (map_at seen partition)
+
+-- how many keys the partitions below a number have
+abbrev pub keys_below : ℕ → LeaseHistories → ℕ
+keys_below zero seen = 0
+keys_below (suc number) seen = keys_below number seen + fin.len (map_at seen number)
+
+-- a round later at all partitions
+pub record AreLater (seen seen' : LeaseHistories) (gone : ℕ) : Type 0 where
+  pub older : (key : List ℕ) → under seen' key ≡ ticked (under seen key)
+  pub fewer : gone + keys_below 128 seen' ≡ keys_below 128 seen
 
 -- the passes p of a table of leases and u of its area became q and w
 module _ {g : Ghosts (Numbered Lease Lease LeaseCall (Option Lease)) TableId (TableAsk Lease Lease LeaseCall (Option Lease)) (TableAnswer Lease Lease LeaseCall (Option Lease)) PartitionName (PartitionState Lease) (PartitionCalls LeaseCall) (PartitionReplies Lease (Option Lease))} (t : Dshash Lease Lease LeaseCall (Option Lease)) (a : Area) (p : LeasePass g) (u : AreaPass) (q : LeasePass g) (w : AreaPass) where

@@ -2,18 +2,15 @@
 //! and leaves the others a round less. A visit is a call of its key as any other, so other callers grant, renew and read
 //! leases meanwhile, and nobody waits for a whole round.
 
-ghost use Rattle.std.specs.Prelude.{◌≡◌, ℕ, ◌<◌, List, None, IfErr, IfOk, OnOk};
+ghost use Rattle.std.specs.Prelude.{◌≡◌, ◌<◌, None, IfErr, IfOk};
 ghost use Rattle.lock_book.specs.Shown.{number_of, seen_of};
 ghost use Rattle.dsa_area.specs.Shown.{number_of as area_number};
-ghost use Rattle.dshash_core.specs.Key.{hash_of};
-ghost use Rattle.dshash_core.specs.Cells.{partition_of};
 ghost use Rattle.dshash_parts.specs.Tables.{Turned, callers_of};
 ghost use Rattle.dshash_parts.specs.Uses.{IsAtHome};
 ghost use Rattle.dshash_parts.specs.declared.histories.PartitionCalls.TheVariants.{Lists};
 ghost use Rattle.dshash_parts.specs.declared.histories.PartitionReplies.TheVariants.{Listed};
-ghost use Rattle.uses_table.specs.Cached.{under};
-ghost use Rattle.uses_table.specs.Leases.{stepped, ticked};
-ghost use Rattle.uses_table.specs.Ticks.{TicksEach};
+ghost use Rattle.uses_table.specs.Leases.{stepped};
+ghost use Rattle.uses_table.specs.Ticks.{IsLater, TicksEach};
 
 use crate::lease::{Lease, LeaseCall};
 use dsa_area::{Area, AreaPass};
@@ -51,8 +48,8 @@ pub fn tick_one<R: Wait>(
     ensures area_caller { area_number apass.new ≡ area_number apass.old }
     ensures each { IfOk result (λ round. TicksEach leases.now area.now pass.old apass.old pass.new apass.new partition round.visited round.gone) }
     ensures refused { IfErr result (λ _. Turned stepped pass.old pass.new partition Lists (Listed None) × (apass.new ≡ apass.old)) }
-    // With no other caller each lease of the partition is a round older.
-    ensures alone { callers_of leases.now ≡ 1 → OnOk result ((key : List ℕ) → partition_of (hash_of key) ≡ partition → under (seen_of pass.new) key ≡ ticked (under (seen_of pass.old) key)) }
+    // With no other caller the partition is a round older.
+    ensures alone { callers_of leases.now ≡ 1 → IfOk result (λ round. IsLater (seen_of pass.old) (seen_of pass.new) partition round.gone) }
 {
     let mut scan = scan_one(rt, alloc, leases, r, pass, partition)?;
     let visited = scan.left();

@@ -1,11 +1,11 @@
 //! Rounds of the whole table, and six leases of different lengths that go through them.
 
-ghost use Rattle.std.specs.Prelude.{◌≡◌, ◌≤◌, IfOk, OnOk};
+ghost use Rattle.std.specs.Prelude.{◌≡◌, ◌≤◌, IfOk};
 ghost use Rattle.lock_book.specs.Shown.{number_of, seen_of};
 ghost use Rattle.dsa_area.specs.Shown.{number_of as area_number};
 ghost use Rattle.dshash_parts.specs.Tables.{callers_of};
 ghost use Rattle.dshash_parts.specs.Uses.{IsAtHome};
-ghost use Rattle.uses_table.specs.Ticks.{IsRoundLater};
+ghost use Rattle.uses_table.specs.Ticks.{AreLater};
 
 use super::tick_one;
 use crate::lease::{Lease, LeaseCall};
@@ -32,7 +32,7 @@ pub fn tick_all<R: Wait>(
     ensures home { IsAtHome r.now area.now leases.now 1 pass.new apass.new }
     ensures caller { number_of pass.new ≡ number_of pass.old }
     ensures area_caller { area_number apass.new ≡ area_number apass.old }
-    ensures alone { callers_of leases.now ≡ 1 → OnOk result (IsRoundLater (seen_of pass.old) (seen_of pass.new)) }
+    ensures alone { callers_of leases.now ≡ 1 → IfOk result (λ gone. AreLater (seen_of pass.old) (seen_of pass.new) gone) }
 {
     let mut gone = 0;
     for partition in 0..128 {

@@ -1,4 +1,4 @@
-use Rattle.std.proofs.Common.{◌≡◌, ◌≤◌, ◌^◌, [], All, List, ap, arith, length, subst, sym}
+use Rattle.std.proofs.Common.{◌≤◌, ◌^◌, [], List, ap, arith, length, subst, sym}
 use Rattle.csv_rows.specs.Records.{record_at}
 use Rattle.par_model.specs.Columns.{HasColumns}
 use Rattle.partial_agg.specs.Groups.{GroupsByKey}
@@ -31,5 +31,5 @@ returns-in-Ok-table_text g c =
     let rows = rows_of c.args.pieces.now in
     let none : AreShared plan (length header) [] c.in-Ok.maps.items = subst (λ (l : List GroupsByKey). AreShared plan (length header) [] l) (sym c.in-Ok.ensures) (shares_begin plan (length header) c.args.participants) in
     let few : length rows ≤ 2 ^ 50 = omega (arith, c.in-Ok-add_pieces.ensures.count) in
-    let all : AreShared plan (length header) rows c.in-Ok-add_pieces.maps.items = c.in-Ok-add_pieces.ensures.shared header [] c.requires.under none (omega (arith, few)) in
+    let all : AreShared plan (length header) rows c.in-Ok-add_pieces.done.0.items = c.in-Ok-add_pieces.ensures.shared header [] c.requires.under none (omega (arith, few)) in
     c.in-Ok-table_text.ensures header (length header) rows c.requires.bound few all

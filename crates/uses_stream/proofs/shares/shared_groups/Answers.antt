@@ -1,4 +1,4 @@
-use Rattle.std.proofs.Common.{◌≡◌, ◌<◌, ◌^◌, [], List, arith, length, subst, sym}
+use Rattle.std.proofs.Common.{◌<◌, ◌^◌, [], List, arith, length, subst, sym}
 use Rattle.partial_agg.specs.Groups.{GroupsByKey}
 use Rattle.gather_law.specs.Shares.{AreShared}
 use Rattle.gather_law.proofs.RowShares.{shares_begin}

@@ -80,8 +80,7 @@ returns-clause-each g c =
     ticks_done c.args.leases.now c.args.pass.now c.args.area.now c.args.apass.now c.loop-visit.pass c.visit_next.new.pass c.loop-visit.apass c.visit_next.new.apass c.args.partition c.left-visited.result c.loop-visit.gone c.loop-visit.scan.left i.scanning done.0 done.2 done.3 i.freed
 
 pub returns-clause-alone : goal.returns-clause-alone
-returns-clause-alone g c = λ one key here.
+returns-clause-alone g c = λ one.
     let i = c.loop-visit.invariant in
     let e = c.in_default.ensures in
-    let each = ticks_done c.args.leases.now c.args.pass.now c.args.area.now c.args.apass.now c.loop-visit.pass c.visit_next.new.pass c.loop-visit.apass c.visit_next.new.apass c.args.partition c.left-visited.result c.loop-visit.gone c.loop-visit.scan.left i.scanning e.done.0 e.done.2 e.done.3 i.freed in
-    alone_later c.args.leases.now c.args.pass.now c.args.area.now c.args.apass.now c.visit_next.new.apass c.visit_next.new.pass c.args.partition c.left-visited.result one c.requires.home.own e.own (e.caller ∙ i.caller) each.each key here
+    alone_later c.args.leases.now c.args.pass.now c.args.area.now c.args.apass.now c.visit_next.new.apass c.visit_next.new.pass c.args.partition c.left-visited.result one c.requires.home.own e.own (e.caller ∙ i.caller) c.loop-visit.gone (returns-clause-each g c)

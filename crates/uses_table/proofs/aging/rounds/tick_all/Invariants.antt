@@ -12,5 +12,5 @@ invariant-loop-partition g l = record {
   caller : number_of l.pass ≡ number_of l.fn.pass;
   area_caller : area.number_of l.apass ≡ area.number_of l.fn.apass;
   small : l.gone ≤ l.partition * 2 ^ 64;
-  passed : callers_of l.leases ≡ 1 → Passing (seen_of l.fn.pass) (seen_of l.pass) l.partition;
+  passed : callers_of l.leases ≡ 1 → Passing (seen_of l.fn.pass) (seen_of l.pass) l.partition l.gone;
 }
