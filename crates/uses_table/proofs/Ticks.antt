@@ -84,7 +84,7 @@ due_taken (Some lease) = due_goes (lease.rounds == 0) _
 
 module _ (n k : ℕ) where
   -- each visit was a tick of its key at a moment of the history
-  pub were_ticked : (visits : List (Visit (Option Lease))) (seen mine seen' mine' : List LeaseEntry) → MakesAll (λ _. PartitionLegal stepped k) fresh n seen mine seen' mine' (map (turn_of Tick) visits) → AllByRecursion (WasTicked seen') visits
+  pub were_ticked : (visits : List (Visit (Option Lease))) (seen mine seen' mine' : List LeaseEntry) → MakesAll (λ _. PartitionLegal stepped k) fresh n seen mine seen' mine' (map (turn_of Tick) visits) → AllByRecursion (WasTicked n seen') visits
   were_ticked [] seen mine seen' mine' x = tt
   were_ticked (v ∷ visits) seen mine seen' mine' x =
       let m = x.2 in
@@ -95,7 +95,7 @@ module _ (n k : ℕ) where
       let found : v.1.0 ≡ fin.get before v.0 = done.replied in (
         record {
           before = m.before;
-          turn = turn;
+          after = m.after;
           later = later.0;
           moment = later.1 ∙ (ap (λ (l : List LeaseEntry). l ++ later.0) m.ends ∙ append_assoc m.before (turn ∷ []) later.0);
           found = found;

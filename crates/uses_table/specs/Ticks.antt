@@ -1,13 +1,13 @@
 -- A round of the clock at a partition of leases, and at a whole table of them.
-use Rattle.std.specs.Prelude.{◌≡◌, ℕ, zero, suc, ◌+◌, List, ◌∷◌, ◌++◌, Option}
+use Rattle.std.specs.Prelude.{◌≡◌, ℕ, false, zero, suc, ◌+◌, List, ◌∷◌, ◌++◌, Option}
 use Rattle.std.specs.List.{AllByRecursion, count_by}
 use Rattle.std.specs.FinMap as fin
 use Rattle.atomic_table.specs.Seated.{TableId}
 use Rattle.lock_book.specs.declared.kept.Kept.{Ghosts}
 use Rattle.lock_book.specs.declared.shelf.Pass.{Pass}
 use Rattle.lock_book.specs.declared.view.Entry.{Entry}
-use Rattle.lock_book.specs.History.{last_of}
-use Rattle.lock_book.specs.Shown.{seen_of}
+use Rattle.lock_book.specs.History.{entry, last_of}
+use Rattle.lock_book.specs.Shown.{number_of, seen_of}
 use Rattle.lock_book.specs.Told.{Histories}
 use Rattle.dsa_area.specs.declared.area.Area.{Area}
 use Rattle.dsa_area.specs.declared.area.AreaPass.{AreaPass}
@@ -17,7 +17,9 @@ use Rattle.dshash_parts.specs.States.{PartitionState, fresh}
 use Rattle.dshash_parts.specs.Tables.{map_at}
 use Rattle.dshash_parts.specs.declared.histories.PartitionName.{PartitionName}
 use Rattle.dshash_parts.specs.declared.histories.PartitionCalls.{PartitionCalls}
+use Rattle.dshash_parts.specs.declared.histories.PartitionCalls.TheVariants.{Call}
 use Rattle.dshash_parts.specs.declared.histories.PartitionReplies.{PartitionReplies}
+use Rattle.dshash_parts.specs.declared.histories.PartitionReplies.TheVariants.{Made}
 use Rattle.dshash_parts.specs.declared.asks.TableAsk.{TableAsk}
 use Rattle.dshash_parts.specs.declared.asks.TableAnswer.{TableAnswer}
 use Rattle.dshash_parts.specs.declared.numbered.Numbered.{Numbered}
@@ -37,15 +39,15 @@ LeaseEntry = Entry (PartitionState Lease) (PartitionCalls LeaseCall) (PartitionR
 abbrev pub LeasePass : Ghosts (Numbered Lease Lease LeaseCall (Option Lease)) TableId (TableAsk Lease Lease LeaseCall (Option Lease)) (TableAnswer Lease Lease LeaseCall (Option Lease)) PartitionName (PartitionState Lease) (PartitionCalls LeaseCall) (PartitionReplies Lease (Option Lease)) → Type 0
 LeasePass g = Pass (Numbered Lease Lease LeaseCall (Option Lease)) TableId (TableAsk Lease Lease LeaseCall (Option Lease)) (TableAnswer Lease Lease LeaseCall (Option Lease)) PartitionName (PartitionState Lease) (PartitionCalls LeaseCall) (PartitionReplies Lease (Option Lease)) g
 
--- At a moment of this history a visit ticked its key: the reply is the lease that was there, what a round leaves of it was
--- there then, and it was taken out if it was due
-pub record WasTicked (seen : List LeaseEntry) (visit : Visit (Option Lease)) : Type 0 where
+-- At a moment of this history a visit of the caller n ticked its key: the reply is the lease that was there, what a round
+-- leaves of it was there then, and it was taken out if it was due
+pub record WasTicked (n : ℕ) (seen : List LeaseEntry) (visit : Visit (Option Lease)) : Type 0 where
   pub before : List LeaseEntry
-  pub turn : LeaseEntry
+  pub after : PartitionState Lease
   pub later : List LeaseEntry
-  pub moment : seen ≡ before ++ turn ∷ later
+  pub moment : seen ≡ before ++ entry n (Call visit.0 Tick false) (Made visit.1.0 false visit.1.1) after ∷ later
   pub found : visit.1.0 ≡ fin.get (last_of fresh before).cells visit.0
-  pub left : fin.get turn.after.cells visit.0 ≡ ticked visit.1.0
+  pub left : fin.get after.cells visit.0 ≡ ticked visit.1.0
   pub taken : visit.1.1 ≡ is_due visit.1.0
 
 -- what a pass has seen of a table of leases
@@ -74,5 +76,5 @@ module _ {g : Ghosts (Numbered Lease Lease LeaseCall (Option Lease)) TableId (Ta
   -- visited, and so many of them were due. The item of each of these went back to the area
   pub record TicksEach (partition visited gone : ℕ) : Type 0 where
     pub each : VisitsEach stepped t a p u q w partition Tick visited
-    pub moments : AllByRecursion (WasTicked (seen_of q partition)) each.visits
+    pub moments : AllByRecursion (WasTicked (number_of p) (seen_of q partition)) each.visits
     pub due : gone ≡ count_by (λ v. v.1.1) each.visits
