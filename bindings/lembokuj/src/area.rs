@@ -196,8 +196,8 @@ impl Area {
         })
     }
 
-    /// A chunk of at least `bytes` bytes, and of at least 1: up to 8,192 bytes of a size class that holds it, and otherwise of
-    /// whole pages. It may wait for the lock of one size class and for that of the pages.
+    /// A chunk of at least `bytes` bytes, and of at least 1: up to 8,192 bytes of the least size class that holds it, which above
+    /// 24 bytes is at most a third more, and otherwise of whole pages of 4 KiB. It may wait for the lock of one size class and for that of the pages.
     ///
     /// **Its words hold whatever their last owner left there**, at first 0: [`Area::alloc_zeroed`] clears them.
     ///
@@ -308,7 +308,7 @@ impl fmt::Debug for Chunk {
 }
 
 impl Chunk {
-    /// How many words of 8 bytes it has.
+    /// How many words of 8 bytes it has: those of its size class or its pages, and not only those that were asked for.
     #[must_use]
     pub fn words(&self) -> u64 {
         self.words

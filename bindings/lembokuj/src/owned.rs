@@ -86,7 +86,9 @@ impl<T> Slots<T> {
 }
 
 /// A handle of a table from keys to values that are owned: chunks of an area ([`ChunkTable`]), lists, files. A value lies
-/// under its own lock, so a long look at one keeps nobody from the others.
+/// under its own lock, so a long look at one keeps nobody from the others. Each `insert`, `remove` and `with` of a key is one step
+/// for all callers: one that begins after another has ended finds what that left. No contract says so, since this is code over
+/// [`Table`](crate::Table); it is tested.
 ///
 /// ```
 /// use lembokuj::{Area, ChunkTable, Text};

@@ -428,8 +428,8 @@ impl<K: Words, V: Words> Table<K, V> {
         Ok(self.try_call(key, &Ask::Remove)?.as_ref().map(V::load))
     }
 
-    /// Takes any entry out, as a cache that makes room does: partition after partition, round and round. None if each partition
-    /// was found empty.
+    /// Takes any entry out, as a cache that makes room does: partition after partition, round and round, from where this handle
+    /// stopped last. None if each partition was found empty.
     ///
     /// # Errors
     ///

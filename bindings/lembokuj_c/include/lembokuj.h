@@ -113,7 +113,8 @@ LK_TELLS int lk_queue_new(uint64_t ring_words, uint32_t max_bytes, lk_sender **t
 
 /* Sends a message as a whole, or stores nothing: LK_WOULD_BLOCK if it has no room now, LK_TOO_LONG if it never has, since it is
  * longer than the queue's greatest or than the ring (lk_queue_send and lk_queue_try_send_part take the latter), LK_DETACHED if the
- * receiver is gone. The bytes are copied. */
+ * receiver is gone. The bytes are copied. The receiver gives room back when it has taken a quarter of the ring, or finds nothing
+ * there: so a message of more than three quarters may have to wait for the latter. */
 LK_TELLS int lk_queue_try_send(lk_sender *tx, const void *bytes, size_t len, int flags);
 
 /* The same, but waits while the ring is full. A message that is longer than the ring needs a receiver at work. */
@@ -126,7 +127,8 @@ LK_TELLS int lk_queue_send_within(lk_sender *tx, const void *bytes, size_t len, 
  * has answered LK_OK, any other is LK_OTHER_MESSAGE. */
 LK_TELLS int lk_queue_try_send_part(lk_sender *tx, const void *bytes, size_t len);
 
-/* Up to 64 slices as one message, their bytes in a row: waits without a limit, or does not wait. LK_BAD_SIZE for more slices. */
+/* Up to 64 slices as one message, their bytes in a row: waits without a limit, or stores the whole message or nothing, as
+ * lk_queue_try_send does. LK_BAD_SIZE for more slices. */
 typedef struct lk_slice {
     const void *bytes;
     size_t len;
@@ -138,7 +140,8 @@ LK_TELLS int lk_queue_try_sendv(lk_sender *tx, const lk_slice *slices, size_t co
 int lk_queue_flush(lk_sender *tx);
 
 /* At LK_OK *bytes are the next message, *len of them, lent from the receiver's memory up to its next call or its close.
- * LK_WOULD_BLOCK if no whole message is there, LK_DETACHED if the sender is gone and all was received. */
+ * LK_WOULD_BLOCK if no whole message is there, LK_DETACHED if the sender is gone and all was received. They are aligned as bytes
+ * only: copy what is read as a larger type. */
 LK_TELLS int lk_queue_try_receive(lk_receiver *rx, const uint8_t **bytes, size_t *len);
 
 /* The same, but waits while no whole message is there; with a limit or without. */
@@ -167,7 +170,8 @@ LK_TELLS int lk_area_new(uint32_t pages, uint32_t callers, lk_area **out);
 /* One more handle, if fewer are out than the area was made for. LK_NO_HANDLE, LK_NO_MEMORY. */
 LK_TELLS int lk_area_handle(const lk_area *area, lk_area **out);
 
-/* A chunk of at least this number of bytes. Its words hold whatever their last owner left there; those of the second call are 0. It may
+/* A chunk of at least this number of bytes: of a size class, above 24 bytes at most a third more, and above 8,192 of whole pages of
+ * 4 KiB. Its words hold whatever their last owner left there; those of the second call are 0. It may
  * wait for the lock of one size class and for that of the pages. LK_NO_SPACE, LK_NO_MEMORY. */
 LK_TELLS int lk_area_alloc(lk_area *area, uint64_t bytes, lk_chunk **out);
 LK_TELLS int lk_area_alloc_zeroed(lk_area *area, uint64_t bytes, lk_chunk **out);
