@@ -397,9 +397,7 @@ fn is_count_of(item: Option<Item>, other: Option<Item>) -> bool
 {
     match (item, other) {
         (Some(item), Some(other)) => {
-            item.column == other.column
-                && item.kind == ItemKind::Count
-                && takes_numbers(other.kind)
+            item.column == other.column && item.kind == ItemKind::Count && takes_numbers(other.kind)
         }
         _ => false,
     }

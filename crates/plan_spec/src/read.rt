@@ -68,10 +68,7 @@ fn read_values(alloc: Global, given: &OptionValues<'_>) -> Result<Plan, PlanAnsw
     })
 }
 
-fn places_read<'a>(
-    alloc: Global,
-    given: Option<&'a str>,
-) -> Result<Vec<PlacesOf<'a>>, PlanAnswer>
+fn places_read<'a>(alloc: Global, given: Option<&'a str>) -> Result<Vec<PlacesOf<'a>>, PlanAnswer>
     ensures places { IfOk result (λ v. places_given (text_of given.entry) ≡ Some (map entry_of v.items)) }
     ensures within { IfOk result (λ v. All (λ entry. entry.places ≤ MOST_PLACES) v.items) }
     ensures none { result ≡ Err answer.Usage → places_given (text_of given.entry) ≡ None }
