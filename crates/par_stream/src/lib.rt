@@ -40,7 +40,7 @@ use reading::read_groups;
 use std::alloc::Global;
 use std::sync::Wait;
 use std::thread::Threads;
-pub use stop::{Cause, LONG_RECORD, Stop};
+pub use stop::{LONG_RECORD, Stop};
 use words::read_words;
 
 /// The bytes that a window of the program is to have: 4 MiB.

@@ -1,5 +1,5 @@
 pub mod Binding
-pub mod Entries
+pub mod Given
 pub mod Grammar
 pub mod Merging
 pub mod Options

@@ -54,24 +54,18 @@ query_by groups items filter hash workers pages =
     record { plan = record { groups = g; items = i; hash = h; filter = f }; workers = w; area_pages = p })
     pages) workers) hash) filter) items) groups
 
--- the query of the options' values, if each reads
-abbrev pub query_from : (group agg filter decimals hash workers pages : Option (List ℕ)) → Option Query
-query_from group agg filter decimals hash workers pages =
-    option_and_then (λ places. query_by (groups_given group) (items_given places agg) (filter_given places filter) (hash_given hash) (number_given MOST_WORKERS WORKERS workers) (number_given MOST_AREA_PAGES AREA_PAGES pages))
-    (places_given decimals)
-
 -- the query of the words of pargather, if they are one: clap takes them, and each value reads
 unfoldable pub query_of : List (List ℕ) → Option Query
 query_of words =
     if is_command_line pargather_command words
-    then query_from (value_of pargather_command (codes "group") words) (value_of pargather_command (codes "agg") words) (value_of pargather_command (codes "where") words) None
-    (value_of pargather_command (codes "plan") words) (value_of pargather_command (codes "workers") words) (value_of pargather_command (codes "area-pages") words)
+    then query_by (groups_given (value_of pargather_command (codes "group") words)) (items_given [] (value_of pargather_command (codes "agg") words)) (filter_given [] (value_of pargather_command (codes "where") words))
+    (hash_given (value_of pargather_command (codes "plan") words)) (number_given MOST_WORKERS WORKERS (value_of pargather_command (codes "workers") words)) (number_given MOST_AREA_PAGES AREA_PAGES (value_of pargather_command (codes "area-pages") words))
     else None
 
--- the query of the words of parstream
+-- the query of the words of parstream, if they are one
 unfoldable pub stream_query_of : List (List ℕ) → Option Query
 stream_query_of words =
     if is_command_line parstream_command words
-    then query_from (value_of parstream_command (codes "group") words) (value_of parstream_command (codes "agg") words) (value_of parstream_command (codes "where") words) (value_of parstream_command (codes "decimals") words)
-    None (value_of parstream_command (codes "workers") words) None
+    then option_and_then (λ places. query_by (groups_given (value_of parstream_command (codes "group") words)) (items_given places (value_of parstream_command (codes "agg") words)) (filter_given places (value_of parstream_command (codes "where") words))
+    (Some false) (number_given MOST_WORKERS WORKERS (value_of parstream_command (codes "workers") words)) (Some AREA_PAGES)) (places_given (value_of parstream_command (codes "decimals") words))
     else None

@@ -7,7 +7,7 @@ ghost use Rattle.std.specs.Option.{option_map_or};
 ghost use Rattle.par_model.specs.Columns.{reads_column};
 ghost use Rattle.par_model.specs.Table.{kind_text};
 ghost use Rattle.plan_spec.specs.Grammar.{Places, comparison_in, entry_in, filter_in, filter_over, hash_in, is_relation_byte, item_in, item_over, items_in, kind_in, names_in, number_in, parts_of, places_in, places_of, relation_in};
-ghost use Rattle.plan_spec.specs.Entries.{entry_of};
+ghost use Rattle.plan_spec.specs.Given.{entry_of};
 ghost use Rattle.plan_spec.specs.declared.plan.PlanAnswer.TheVariants as answer;
 
 use crate::PlanAnswer;

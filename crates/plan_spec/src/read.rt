@@ -1,8 +1,8 @@
 //! The plan of the words of a command line.
 
 ghost use Rattle.std.specs.Prelude.{◌≡◌, ◌≤◌, None, Some, All, IfOk, map, string_bytes, vec_len};
-ghost use Rattle.plan_spec.specs.Query.{filter_given, groups_given, hash_given, items_given, number_given, places_given, query_from, query_of, stream_query_of, text_of};
-ghost use Rattle.plan_spec.specs.Entries.{entry_of};
+ghost use Rattle.plan_spec.specs.Query.{filter_given, groups_given, hash_given, items_given, number_given, places_given, query_of, stream_query_of, text_of};
+ghost use Rattle.plan_spec.specs.Given.{entry_of, query_given};
 ghost use Rattle.par_model.specs.declared.plan.TheConstants.{MOST_PLACES};
 ghost use Rattle.plan_spec.specs.declared.plan.PlanAnswer.TheVariants as answer;
 
@@ -46,10 +46,8 @@ impl Plan {
 
 /// The plan of the options' values. What takes no memory is read first.
 fn read_values(alloc: Global, given: &OptionValues<'_>) -> Result<Plan, PlanAnswer>
-    ensures plan { IfOk result (λ plan. query_from (text_of given.now.group) (text_of given.now.agg) (text_of given.now.filter) (text_of given.now.decimals)
-        (text_of given.now.plan) (text_of given.now.workers) (text_of given.now.area_pages) ≡ Some plan) }
-    ensures usage { result ≡ Err answer.Usage → query_from (text_of given.now.group) (text_of given.now.agg) (text_of given.now.filter) (text_of given.now.decimals)
-        (text_of given.now.plan) (text_of given.now.workers) (text_of given.now.area_pages) ≡ None }
+    ensures plan { IfOk result (λ plan. query_given given.now ≡ Some plan) }
+    ensures usage { result ≡ Err answer.Usage → query_given given.now ≡ None }
 {
     let hash = hash_read(given.plan)?;
     let workers = number_read(given.workers, MOST_WORKERS, WORKERS)?;
