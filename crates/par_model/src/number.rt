@@ -9,11 +9,11 @@
 //! write a number below 10^18, which fits with either sign, so for these there is a short way: loops that look for no
 //! space and test no step against overflow. If it finds anything else, the general way decides.
 
-ghost use Rattle.std.specs.Prelude.{◌≡◌, ◌<◌, ◌≤◌, ◌+◌, ◌*◌, ◌-◌, ◌^◌, ◌++◌, ◌==◌, ◌&&◌, IfNone, IfSome, None, Some, false, if◌then◌else◌, length, nat_le, nat_lt, replicate};
+ghost use Rattle.std.specs.Prelude.{◌≡◌, ◌<◌, ◌≤◌, ◌+◌, ◌-◌, ◌^◌, ◌&&◌, ℕ, IfSome, None, Some, if◌then◌else◌, length, nat_le, replicate, true};
 ghost use Rattle.std.specs.Char.{is_ascii_digit};
-ghost use Rattle.std.specs.List.{after_first, before_first, list_all, list_any, position_or_len, prefix_len, suffix_len};
-ghost use Rattle.std.specs.Str.Parse.{digits_value, starts_with_minus, without_leading_sign};
-ghost use Rattle.par_model.specs.Number.{integer_of, is_point, is_space, decimal_of, number_of, scaled, without_spaces};
+ghost use Rattle.std.specs.List.{after_first, before_first, list_all, prefix_len, suffix_len};
+ghost use Rattle.std.specs.Str.Parse.{digits_value_after, starts_with_minus, without_leading_sign};
+ghost use Rattle.par_model.specs.Number.{decimal_of, integer_of, is_point, is_space, number_of, without_spaces};
 ghost use Rattle.par_model.specs.Magnitude.{has_places, magnitude_of, short_magnitude_of, short_scaled_of, with_sign};
 
 /// The size of the least number of 64 signed bits.
@@ -84,9 +84,9 @@ fn short_scaled(digits: &[u8], places: usize) -> Option<u64>
 /// overflow.
 fn more_short(before: u64, digits: &[u8]) -> Option<u64>
     requires few { length digits.now ≤ 18 }
-    requires small { before * 10 ^ length digits.now + 10 ^ length digits.now ≤ 10 ^ 18 }
-    ensures value { result ≡ (if list_all is_ascii_digit digits.now then Some (before * 10 ^ length digits.now + digits_value 10 digits.now) else None) }
-    ensures within { IfSome result (λ size. size < before * 10 ^ length digits.now + 10 ^ length digits.now) }
+    requires small { before < 10 ^ (18 - length digits.now) }
+    ensures value { result ≡ (if list_all is_ascii_digit digits.now then Some (digits_value_after 10 before digits.now) else None) }
+    ensures within { (k : ℕ) → before < 10 ^ k → IfSome result (λ size. size < 10 ^ (k + length digits.now)) }
 {
     let mut value = before;
     'digits: for digit in digits {
@@ -215,8 +215,7 @@ fn has_places(digits: &[u8], whole: &[u8], decimals: &[u8], places: usize) -> bo
 /// The number that digits write after those that write `before`, if there is nothing else, and it is at most 2^63.
 fn more_magnitude(before: u64, digits: &[u8]) -> Option<u64>
     requires { before ≤ 2 ^ 63 }
-    ensures value { IfSome result (λ size. (list_all is_ascii_digit digits.now ≡ true) × (size ≡ before * 10 ^ length digits.now + digits_value 10 digits.now)) }
-    ensures none { IfNone result (list_all is_ascii_digit digits.now ≡ true → 2 ^ 63 < before * 10 ^ length digits.now + digits_value 10 digits.now) }
+    ensures value { result ≡ (if list_all is_ascii_digit digits.now && nat_le (digits_value_after 10 before digits.now) (2 ^ 63) then Some (digits_value_after 10 before digits.now) else None) }
     ensures within { IfSome result (λ size. size ≤ 2 ^ 63) }
 {
     let mut value = before;
@@ -232,7 +231,7 @@ fn more_magnitude(before: u64, digits: &[u8]) -> Option<u64>
 /// A number with this many zeros after it, if it is at most 2^63.
 fn with_zeros(before: u64, count: usize) -> Option<u64>
     requires { before ≤ 2 ^ 63 }
-    ensures value { result ≡ (if nat_le (before * 10 ^ count) (2 ^ 63) then Some (before * 10 ^ count) else None) }
+    ensures value { result ≡ (if nat_le (digits_value_after 10 before (replicate count 48)) (2 ^ 63) then Some (digits_value_after 10 before (replicate count 48)) else None) }
     ensures within { IfSome result (λ size. size ≤ 2 ^ 63) }
 {
     let mut value = before;
