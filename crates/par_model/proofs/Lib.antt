@@ -2,4 +2,4 @@ pub mod Folds
 pub mod Magnitudes
 pub mod Points
 pub mod Runs
-pub mod ShortIntegers
+pub mod ShortNumbers

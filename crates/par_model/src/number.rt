@@ -26,12 +26,23 @@ const SHORT: usize = 18;
 /// more ASCII digits, any number of spaces. If there are places, there may be a point, with one to `places` of the digits
 /// after it. The value has 64 signed bits. Its time is linear in the bytes and the places, and shortest if there are at
 /// most eighteen digits, `places` of them after the point, and no space.
+#[inline(always)]
 pub fn read_number(field: &[u8], places: u32) -> Option<i64>
     ensures { result ≡ decimal_of places field.now }
 {
     if places == 0 {
-        return read_integer(field);
+        read_integer(field)
+    } else {
+        read_decimal(field, places)
     }
+}
+
+/// The number of a field that may have places.
+#[inline(never)]
+fn read_decimal(field: &[u8], places: u32) -> Option<i64>
+    requires { 0 < places }
+    ensures { result ≡ decimal_of places field.now }
+{
     let (is_minus, digits) = split_sign(field);
     match short_scaled(digits, places as usize) {
         Some(size) => Some(signed_size(is_minus, size)),

@@ -1,7 +1,7 @@
 use Rattle.std.proofs.Common.{◌∙◌, sym}
 use Rattle.par_model.proofs.Magnitudes.{none-at-more, none-at-other, one-more}
-use Rattle.par_model.proofs.integer.magnitude.Goals.{then-not-is_ascii_digit-via-then-not-is_ascii_digit, then-not-is_ascii_digit-via-else-not-is_ascii_digit+then-value}
-use Rattle.par_model.proofs.integer.magnitude.Goals as goal
+use Rattle.par_model.proofs.number.magnitude.Goals.{then-not-is_ascii_digit-via-then-not-is_ascii_digit, then-not-is_ascii_digit-via-else-not-is_ascii_digit+then-value}
+use Rattle.par_model.proofs.number.magnitude.Goals as goal
 
 pub returns-then-not-is_ascii_digit-clause-value : goal.returns-then-not-is_ascii_digit-clause-value
 returns-then-not-is_ascii_digit-clause-value c =

@@ -1,7 +1,7 @@
 use Rattle.std.proofs.Common.{arith, get_or, refl}
 use Rattle.par_model.proofs.Magnitudes.{one-more}
-use Rattle.par_model.proofs.ShortIntegers.{digit-unit, front-lt}
-use Rattle.par_model.proofs.integer.short_magnitude.Goals as goal
+use Rattle.par_model.proofs.ShortNumbers.{digit-unit, front-lt}
+use Rattle.par_model.proofs.number.short_magnitude.Goals as goal
 
 pub overflow_mul-value : goal.overflow_mul-value
 overflow_mul-value c =

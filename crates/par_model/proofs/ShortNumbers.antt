@@ -1,4 +1,5 @@
--- What at most eighteen digits write, and that a field of them after at most one sign has no space at its ends.
+-- What at most eighteen digits write, with a point among them or without one, and that a field of them after at most one
+-- sign has no space at its ends.
 use Rattle.std.proofs.Common.{rules, ◌≡◌, ◌∙◌, ◌<◌, ◌≤◌, ◌+◌, ◌-◌, ◌%◌, ◌^◌, ℕ, true, false, List, Some, length, take, drop, get_or, refl, sym, ap, arith, inl, inr}
 use Rattle.std.proofs.lemmas.Bool.{cases_Bool}
 use Rattle.std.proofs.lemmas.Bool.Decides.{nat_tests}
@@ -10,9 +11,10 @@ use Rattle.std.specs.Char.{is_ascii_digit}
 use Rattle.std.specs.List.{list_all, prefix_len, suffix_len}
 use Rattle.std.specs.Str.Parse.{digits_value, starts_with_minus, without_leading_sign}
 use Rattle.std.specs.Prelude.{◌==◌, slice_index}
-use Rattle.par_model.specs.Integer.{integer_of, is_space, without_spaces}
-use Rattle.par_model.specs.Magnitude.{is_magnitude, is_short_magnitude, magnitude_of, short_magnitude_of, with_sign}
+use Rattle.par_model.specs.Number.{decimal_of, integer_of, is_numeral, is_point, is_space, scaled, without_spaces}
+use Rattle.par_model.specs.Magnitude.{is_magnitude, is_short_magnitude, magnitude_of, short_magnitude_of, short_scaled_of, with_sign}
 use Rattle.par_model.proofs.Magnitudes.{number-signed}
+use Rattle.par_model.proofs.Points.{plain, scaled-plain}
 
 digits : IsNumeralModel (λ ds. list_all is_ascii_digit ds ≡ true) (digits_value 10)
 digits = numerals_by_value _ (search rules)
@@ -62,11 +64,11 @@ short-parts ds size e = elim (cases_Bool (is_short_magnitude ds)) [
 ]
 
 -- at most eighteen digits are a magnitude
-short-magnitude : (ds : List ℕ) (size : ℕ) → IsShort ds size → magnitude_of ds ≡ Some size
+short-magnitude : (ds : List ℕ) (size : ℕ) → IsShort ds size → magnitude_of 0 ds ≡ Some size
 short-magnitude ds size p =
     let below = digits_value_short digits ds 18 p.all p.short in
-    let is : is_magnitude ds ≡ true = grind (arith, nat_tests, below, p.some, p.all) in
-    rw (is, p.value) refl
+    let within : nat_le size (2 ^ 63) ≡ true = grind (arith, nat_tests, below, p.value) in
+    rw (plain ds p.some p.all, scaled-plain ds p.all, p.value, within) refl
 
 -- a field of digits after at most one sign has no spaces at its ends
 signed-no-spaces : (field : List ℕ) → 0 < length (without_leading_sign field) → list_all is_ascii_digit (without_leading_sign field) ≡ true
@@ -92,7 +94,7 @@ pub short-integer : (field : List ℕ) (size : ℕ) → short_magnitude_of (with
 short-integer field size e =
     let p = short-parts (without_leading_sign field) size e in
     let bare = signed-no-spaces field p.some p.all in
-    rw (bare, sym (short-magnitude _ size p)) (number-signed field)
+    rw (bare, sym (short-magnitude _ size p)) (number-signed 0 field)
 
 -- a byte that is at most 9 above `0`, counted round the 64 bits, is a digit
 pub digit-unit : (d byte start unit : ℕ) → byte ≡ d → start ≡ 48 → d < 256 → unit ≡ (byte + (18446744073709551616 - start)) % 18446744073709551616 → unit ≤ 9
