@@ -10,7 +10,7 @@ use Rattle.std.proofs.lemmas.Str.Parse.{IsNumeralModel, digits_value_short, nume
 use Rattle.std.specs.Char.{is_ascii_digit}
 use Rattle.std.specs.List.{list_all, prefix_len, suffix_len}
 use Rattle.std.specs.Str.Parse.{digits_value, starts_with_minus, without_leading_sign}
-use Rattle.std.specs.Prelude.{◌==◌, slice_index}
+use Rattle.std.specs.Prelude.{◌==◌, nat_le, slice_index}
 use Rattle.par_model.specs.Number.{decimal_of, integer_of, is_numeral, is_point, is_space, scaled, without_spaces}
 use Rattle.par_model.specs.Magnitude.{is_magnitude, is_short_magnitude, magnitude_of, short_magnitude_of, short_scaled_of, with_sign}
 use Rattle.par_model.proofs.Magnitudes.{number-signed}

@@ -11,7 +11,7 @@
 
 ghost use Rattle.std.specs.Prelude.{◌≡◌, ◌<◌, ◌≤◌, ◌+◌, ◌-◌, ◌^◌, ◌&&◌, ℕ, IfSome, None, Some, if◌then◌else◌, length, nat_le, replicate, true};
 ghost use Rattle.std.specs.Char.{is_ascii_digit};
-ghost use Rattle.std.specs.List.{after_first, before_first, list_all, prefix_len, suffix_len};
+ghost use Rattle.std.specs.List.{after_first, before_first, list_all, position_or_len, prefix_len, suffix_len};
 ghost use Rattle.std.specs.Str.Parse.{digits_value_after, starts_with_minus, without_leading_sign};
 ghost use Rattle.par_model.specs.Number.{decimal_of, integer_of, is_point, is_space, number_of, without_spaces};
 ghost use Rattle.par_model.specs.Magnitude.{has_places, magnitude_of, short_magnitude_of, short_scaled_of, with_sign};
@@ -202,11 +202,19 @@ fn split_point(digits: &[u8]) -> (&[u8], &[u8])
     ensures whole { result.0.now ≡ before_first is_point digits.now }
     ensures decimals { result.1.now ≡ after_first is_point digits.now }
 {
-    let at = digits.iter().take_while(|byte| **byte != b'.').count();
+    let at = point_place(digits);
     if at == digits.len() {
         return (digits, &[]);
     }
     (&digits[..at], &digits[at + 1..])
+}
+
+/// Where the first point is, or the end of the digits.
+fn point_place(digits: &[u8]) -> usize
+    ensures place { result ≡ position_or_len is_point digits.now }
+    ensures within { result ≤ length digits.now }
+{
+    digits.iter().take_while(|byte| **byte != b'.').count()
 }
 
 /// Whether there is no point and something before it, or a point and one to `places` bytes after it.
