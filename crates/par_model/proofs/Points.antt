@@ -112,7 +112,7 @@ magnitude-parts places ds a b c is-a is-b is-c =
 
 -- ---- the three readings of a magnitude, where one of them gives nothing, or all give a number
 
-seen : (b : Bool) (n m : ℕ) → (if b then Some n else None) ≡ Some m → (b ≡ true) × (n ≡ m)
+pub seen : (b : Bool) (n m : ℕ) → (if b then Some n else None) ≡ Some m → (b ≡ true) × (n ≡ m)
 seen true n m e = (refl, cc)
 seen false n m e = cc
 

@@ -1,20 +1,21 @@
 -- What at most eighteen digits write, with a point among them or without one, and that a field of them after at most one
 -- sign has no space at its ends.
-use Rattle.std.proofs.Common.{rules, ◌≡◌, ◌∙◌, ◌<◌, ◌≤◌, ◌+◌, ◌-◌, ◌%◌, ◌^◌, ℕ, true, false, List, Some, length, take, drop, get_or, refl, sym, ap, arith, inl, inr}
+use Rattle.std.proofs.Common.{rules, ◌≡◌, ◌∙◌, ◌<◌, ◌≤◌, ◌+◌, ◌-◌, ◌%◌, ◌^◌, ℕ, true, false, List, Some, length, take, drop, get_or, refl, sym, ap, arith, inl, inr, length-append}
 use Rattle.std.proofs.lemmas.Bool.{cases_Bool}
 use Rattle.std.proofs.lemmas.Bool.Decides.{nat_tests}
 use Rattle.std.proofs.lemmas.List.{get_or-drop, length-drop, length-take, take_all}
-use Rattle.std.proofs.lemmas.List.Folds.{list_all_at}
+use Rattle.std.proofs.lemmas.List.Folds.{list_all-append, list_all_at}
 use Rattle.std.proofs.lemmas.List.Sums.{prefix_len-drop_no, suffix_len_is}
 use Rattle.std.proofs.lemmas.Str.Parse.{IsNumeralModel, digits_value_short, numerals_by_value}
 use Rattle.std.specs.Char.{is_ascii_digit}
 use Rattle.std.specs.List.{list_all, prefix_len, suffix_len}
-use Rattle.std.specs.Str.Parse.{digits_value, starts_with_minus, without_leading_sign}
-use Rattle.std.specs.Prelude.{◌==◌, nat_le, slice_index}
+use Rattle.std.specs.Str.Parse.{digits_value, digits_value_after, starts_with_minus, without_leading_sign}
+use Rattle.std.specs.Prelude.{◌==◌, ◌&&◌, ◌++◌, None, if◌then◌else◌, nat_le, nat_lt, slice_index}
 use Rattle.par_model.specs.Number.{decimal_of, integer_of, is_numeral, is_point, is_space, scaled, without_spaces}
 use Rattle.par_model.specs.Magnitude.{is_magnitude, is_short_magnitude, magnitude_of, short_magnitude_of, short_scaled_of, with_sign}
 use Rattle.par_model.proofs.Magnitudes.{number-signed}
-use Rattle.par_model.proofs.Points.{plain, scaled-plain}
+use Rattle.par_model.proofs.Points.{plain, scaled-plain, seen}
+use Rattle.par_model.proofs.Runs.{after-append}
 
 digits : IsNumeralModel (λ ds. list_all is_ascii_digit ds ≡ true) (digits_value 10)
 digits = numerals_by_value _ (search rules)
@@ -103,3 +104,30 @@ digit-unit d byte start unit same at fits is le =
     let value : unit ≡ d - 48 = omega arith in
     let from : 48 ≤ d = omega arith in
     (grind (arith, nat_tests, value, from, le), value)
+
+-- ---- with all places
+
+-- digits before a point and after it, as they are read one after the other
+pub scaled-value : (places : ℕ) (ds : List ℕ) (whole : ℕ) → places + 2 ≤ length ds → length ds ≤ 19 → slice_index ds (length ds - 1 - places) ≡ 46
+    → (if list_all is_ascii_digit (take (length ds - 1 - places) ds) then Some (digits_value_after 10 0 (take (length ds - 1 - places) ds)) else None) ≡ Some whole
+    → (if list_all is_ascii_digit (drop (length ds - places) ds) then Some (digits_value_after 10 whole (drop (length ds - places) ds)) else None) ≡ short_scaled_of places ds
+scaled-value places ds whole long short point front =
+    let w = take (length ds - 1 - places) ds in
+    let d = drop (length ds - places) ds in
+    let on = seen (list_all is_ascii_digit w) (digits_value_after 10 0 w) whole front in
+    let test : (nat_le (places + 2) (length ds) && (nat_le (length ds) 19 && (slice_index ds (length ds - 1 - places) == 46))) ≡ true = grind (arith, nat_tests, long, short, point) in
+    let sizes = length-append w d in
+    let first = length-take (length ds - 1 - places) ds in
+    let last = length-drop (length ds - places) ds in
+    let size : length (w ++ d) ≡ length ds - 1 = omega (arith, sizes, first, last, long) in
+    let fits : (nat_lt 0 (length (w ++ d)) && nat_le (length (w ++ d)) 18) ≡ true = grind (arith, nat_tests, size, long, short) in
+    let all : list_all is_ascii_digit (w ++ d) ≡ list_all is_ascii_digit d = list_all-append is_ascii_digit w d ∙ rw on.0 refl in
+    let value : digits_value 10 (w ++ d) ≡ digits_value_after 10 whole d = after-append 0 w d ∙ ap (λ n. digits_value_after 10 n d) on.1 in
+    rw (test, fits, all, value) refl
+
+-- the decimals as a function's slice has them
+pub decimals-slice : (places : ℕ) (ds : List ℕ) → places + 2 ≤ length ds
+    → take (length ds - (length ds - 1 - places + 1)) (drop (length ds - 1 - places + 1) ds) ≡ drop (length ds - places) ds
+decimals-slice places ds long =
+    let at : length ds - 1 - places + 1 ≡ length ds - places = omega (arith, long) in
+    rw at (take_all (length ds - (length ds - places)) (drop (length ds - places) ds) (omega (arith, length-drop (length ds - places) ds)))
