@@ -12,7 +12,7 @@ use Rattle.par_model.specs.Magnitude.{has_places, magnitude_of}
 use Rattle.par_model.specs.Number.{is_numeral, is_point, scaled}
 use Rattle.par_model.proofs.Runs.{after-append, after-ge}
 
-digit-no-point : (c : ℕ) → is_ascii_digit c ≡ true → is_point c ≡ false
+pub digit-no-point : (c : ℕ) → is_ascii_digit c ≡ true → is_point c ≡ false
 digit-no-point c e = grind (arith, nat_tests, e)
 
 -- digits have no point

@@ -53,6 +53,7 @@ fn read_decimal(field: &[u8], places: u32) -> Option<i64>
 /// The integer of a field, if it is one: any number of spaces, an optional `+` or `-`, one or more ASCII digits, any
 /// number of spaces, with a value of 64 signed bits. Its time is linear in the bytes, and shortest for only one to
 /// eighteen digits, with or without a sign.
+#[inline(always)]
 pub fn read_integer(field: &[u8]) -> Option<i64>
     ensures { result ≡ integer_of field.now }
 {
