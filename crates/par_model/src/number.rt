@@ -26,7 +26,6 @@ const SHORT: usize = 18;
 /// more ASCII digits, any number of spaces. If there are places, there may be a point, with one to `places` of the digits
 /// after it. The value has 64 signed bits. Its time is linear in the bytes and the places, and shortest if there are at
 /// most eighteen digits, `places` of them after the point, and no space.
-#[inline(always)]
 pub fn read_number(field: &[u8], places: u32) -> Option<i64>
     ensures { result ≡ decimal_of places field.now }
 {
@@ -38,7 +37,6 @@ pub fn read_number(field: &[u8], places: u32) -> Option<i64>
 }
 
 /// The number of a field that may have places.
-#[inline(never)]
 fn read_decimal(field: &[u8], places: u32) -> Option<i64>
     requires { 0 < places }
     ensures { result ≡ decimal_of places field.now }
@@ -53,7 +51,6 @@ fn read_decimal(field: &[u8], places: u32) -> Option<i64>
 /// The integer of a field, if it is one: any number of spaces, an optional `+` or `-`, one or more ASCII digits, any
 /// number of spaces, with a value of 64 signed bits. Its time is linear in the bytes, and shortest for only one to
 /// eighteen digits, with or without a sign.
-#[inline(always)]
 pub fn read_integer(field: &[u8]) -> Option<i64>
     ensures { result ≡ integer_of field.now }
 {
