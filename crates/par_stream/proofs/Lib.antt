@@ -1,4 +1,3 @@
-mod Asked
 mod Refusals
 mod Statuses
 mod Streams
