@@ -1,2 +1,5 @@
 pub mod Help
 pub mod Kinds
+pub mod Shown
+pub mod Column
+pub mod Wrong

@@ -1,0 +1,4 @@
+mod Begun
+mod Fronts
+mod Texts
+mod Words

@@ -1,0 +1,8 @@
+use Rattle.std.proofs.Common.{string_bytes}
+use Rattle.input_hints.proofs.Fronts.{three_after}
+use Rattle.input_hints.proofs.field.put_shown.Goals as goal
+
+pub returns : goal.returns
+returns c =
+    rw (c.in_ok-push_str-2.ensures.bytes, c.in_ok-put_all.ensures, c.in_ok-push_str.ensures.bytes, c.first_bytes.ensures, c.end_quote.ensures)
+    (three_after (string_bytes c.args.text.now) _ _ _)

@@ -1,0 +1,106 @@
+-- The first word of a command line of parstream that is not understood.
+use Rattle.std.specs.Prelude.{[], ◌==◌, ◌&&◌, ◌||◌, ◌+◌, ◌∷◌, ℕ, Bool, zero, suc, List, Option, None, Some, bytes_eq, codes, if◌then◌else◌, is_some, length, min, slice_index_or, take}
+use Rattle.std.specs.List.{before_first, list_any, starts_with}
+use Rattle.plan_spec.specs.Query as plan
+use Rattle.input_hints.specs.declared.wrong.Expected.{Expected}
+use Rattle.input_hints.specs.declared.wrong.Expected.TheVariants as may
+use Rattle.input_hints.specs.declared.wrong.Name.{Name}
+use Rattle.input_hints.specs.declared.wrong.Name.TheVariants as opt
+use Rattle.input_hints.specs.declared.wrong.Wrong.{Wrong}
+use Rattle.input_hints.specs.declared.wrong.TheConstants.{MOST_WORDS}
+
+-- ---- the query of words
+
+-- whether a word names an option that speaks of a shared table of groups
+abbrev pub is_of_table : List ℕ → Bool
+is_of_table word = starts_with (λ a b. a == b) word (codes "--plan") || starts_with (λ a b. a == b) word (codes "--area-pages")
+
+-- the query of words of parstream, if they are one: it has no option that speaks of a shared table
+abbrev pub query_in : List (List ℕ) → Option plan.Query
+query_in words = if list_any is_of_table words then None else plan.query_of words
+
+-- ---- the words that are understood
+
+-- words are a query, or are one once `--agg=count` comes before them
+abbrev pub is_begun : List (List ℕ) → Bool
+is_begun words = is_some (query_in words) || is_some (query_in (codes "--agg=count" ∷ words))
+
+-- the greatest number, up to some number, of first words that begin a query
+abbrev pub most_begun : ℕ → List (List ℕ) → ℕ
+most_begun zero words = 0
+most_begun (suc count) words = if is_begun (take (suc count) words) then suc count else most_begun count words
+
+-- how many words are understood, from the first on
+abbrev pub understood : List (List ℕ) → ℕ
+understood words = most_begun (min (length words) MOST_WORDS) words
+
+-- ---- what is wrong after them
+
+abbrev pub is_equals : ℕ → Bool
+is_equals byte = byte == 61
+
+-- a word up to its first equals sign
+abbrev pub front_of : List ℕ → List ℕ
+front_of word = before_first is_equals word
+
+-- how an option is written
+abbrev pub name_text : Name → List ℕ
+name_text opt.Group = codes "--group"
+name_text opt.Agg = codes "--agg"
+name_text opt.Where = codes "--where"
+name_text opt.Workers = codes "--workers"
+
+-- the option of this name
+abbrev pub name_in : List ℕ → Option Name
+name_in text =
+    if bytes_eq text (codes "--group") then Some opt.Group
+    else (if bytes_eq text (codes "--agg") then Some opt.Agg
+    else (if bytes_eq text (codes "--where") then Some opt.Where
+    else (if bytes_eq text (codes "--workers") then Some opt.Workers else None)))
+
+-- the option that a word names
+abbrev pub name_of : List ℕ → Option Name
+name_of word = name_in (front_of word)
+
+-- one of some words names an option
+abbrev pub is_named : Name → List (List ℕ) → Bool
+is_named name words = list_any (λ word. bytes_eq (front_of word) (name_text name)) words
+
+-- what is wrong at a word that names an option, after some words that are understood: it is there already, or its value is
+-- not understood, which is in this word or is the next
+abbrev pub wrong_option : List (List ℕ) → ℕ → Name → Wrong
+wrong_option words count name =
+    if is_named name (take count words) then record { at = count; expected = may.Other }
+    else (if list_any is_equals (slice_index_or words count []) then record { at = count; expected = may.Value name }
+    else record { at = count + 1; expected = may.Value name })
+
+-- what is wrong at a word, after some words that are understood
+abbrev pub wrong_word : List (List ℕ) → ℕ → Option Name → Wrong
+wrong_word words count None = record { at = count; expected = may.Name }
+wrong_word words count (Some name) = wrong_option words count name
+
+-- what is wrong after some words that are understood: if there are no others the aggregates are missing
+abbrev pub wrong_after : List (List ℕ) → ℕ → Wrong
+wrong_after words count =
+    if count == length words then record { at = count; expected = may.Items }
+    else wrong_word words count (name_of (slice_index_or words count []))
+
+-- the first word that is not understood, of words that are no query
+abbrev pub wrong_in : List (List ℕ) → Wrong
+wrong_in words = wrong_after words (understood words)
+
+-- ---- what is said of it
+
+-- what the value of an option may be
+abbrev pub values_text : Name → List ℕ
+values_text opt.Group = codes "--group takes one to eight names between commas"
+values_text opt.Agg = codes "--agg takes one to eight of count, count:C, sum:C, min:C, max:C and avg:C between commas"
+values_text opt.Where = codes "--where takes a column, one of = != < <= > >=, and an integer, as in 'qty>=10'"
+values_text opt.Workers = codes "--workers takes a number from 0 to 64"
+
+-- what may come
+abbrev pub expected_text : Expected → List ℕ
+expected_text may.Name = codes "the options are --group, --agg, --where and --workers"
+expected_text may.Other = codes "an option may be given once"
+expected_text (may.Value name) = values_text name
+expected_text may.Items = codes "--agg ITEMS is missing"

@@ -1,0 +1,302 @@
+//! The first word of a command line of `parstream` that is not understood, and what may come in its place.
+//!
+//! Which words are a query is known to `plan_spec` only. So the words that are understood are found by asking it: the
+//! first few words are, if they are a query, or are one once `--agg=count` comes before them. A query has at most nine
+//! words, four options with their values and `--`, so a longer line is asked about no further than that.
+
+ghost use Rattle.std.specs.Prelude.{◌≡◌, ◌<◌, ◌≤◌, ◌∷◌, [], IfOk, IfSome, bytes_eq, codes, is_none, is_some, length, slice_index_or, string_bytes, take};
+ghost use Rattle.std.specs.List.{list_any, position_or_len};
+ghost use Rattle.answer_text.specs.Words.{texts};
+ghost use Rattle.input_hints.specs.Wrong.{expected_text, front_of, is_begun, is_equals, is_named, is_of_table, name_of, name_text, query_in, understood, values_text, wrong_after, wrong_in, wrong_option};
+
+use plan_spec::{Plan, PlanAnswer};
+use std::alloc::{AllocError, Global};
+
+/// The most words that a query has.
+pub const MOST_WORDS: usize = 9;
+
+/// An option of `parstream`.
+#[derive(Clone, Copy, Debug, PartialEq, Eq)]
+pub enum Name {
+    Group,
+    Agg,
+    Where,
+    Workers,
+}
+
+/// What may come where a word is not understood.
+#[derive(Clone, Copy, Debug, PartialEq, Eq)]
+pub enum Expected {
+    /// An option.
+    Name,
+    /// An option that was not given before.
+    Other,
+    /// The value of an option.
+    Value(Name),
+    /// `--agg` with its value, which is missing.
+    Items,
+}
+
+/// Which word is not understood: its place among the words, counted from 0, or their number if one is missing after them.
+#[derive(Clone, Copy, Debug, PartialEq, Eq)]
+pub struct Wrong {
+    pub at: usize,
+    pub expected: Expected,
+}
+
+/// The first word that is not understood, if the words are no query of `parstream`. The time and the memory are linear in
+/// the words.
+pub fn wrong_word(alloc: Global, words: &[String]) -> Result<Option<Wrong>, AllocError>
+    ensures none { IfOk result (λ wrong. is_none wrong ≡ is_some (query_in (texts words.now))) }
+    ensures first { IfOk result (λ wrong. IfSome wrong (λ wrong. wrong ≡ wrong_in (texts words.now))) }
+{
+    if is_query(alloc, words)? {
+        return Ok(None);
+    }
+    Ok(Some(first_wrong(alloc, words)?))
+}
+
+/// Whether words are a query of `parstream`.
+fn is_query(alloc: Global, words: &[String]) -> Result<bool, AllocError>
+    ensures { IfOk result (λ is. is ≡ is_some (query_in (texts words.now))) }
+{
+    if has_of_table(words) {
+        return Ok(false);
+    }
+    match Plan::of_words(alloc, words) {
+        Ok(_) => Ok(true),
+        Err(PlanAnswer::Usage) => Ok(false),
+        Err(PlanAnswer::Memory) => Err(AllocError),
+    }
+}
+
+/// The first word that is not understood, of words that are no query.
+fn first_wrong(alloc: Global, words: &[String]) -> Result<Wrong, AllocError>
+    ensures { IfOk result (λ wrong. wrong ≡ wrong_in (texts words.now)) }
+{
+    let understood = count_understood(alloc, words)?;
+    Ok(wrong_after(words, understood))
+}
+
+/// How many of the words, from the first on, are understood.
+fn count_understood(alloc: Global, words: &[String]) -> Result<usize, AllocError>
+    ensures count { IfOk result (λ count. count ≡ understood (texts words.now)) }
+    ensures within { IfOk result (λ count. count ≤ length words.now) }
+{
+    let mut count = words.len().min(MOST_WORDS);
+    'counts: while count > 0 {
+        if is_begun(alloc, &words[..count])? {
+            return Ok(count);
+        }
+        count -= 1;
+    }
+    Ok(0)
+}
+
+/// Whether words begin a query: they are one, or are one once `--agg=count` comes before them.
+fn is_begun(alloc: Global, words: &[String]) -> Result<bool, AllocError>
+    ensures { IfOk result (λ is. is ≡ is_begun (texts words.now)) }
+{
+    if is_query(alloc, words)? {
+        return Ok(true);
+    }
+    let counting = with_count(alloc, words)?;
+    is_query(alloc, counting.as_slice())
+}
+
+/// The words, with `--agg=count` before them.
+fn with_count(alloc: Global, words: &[String]) -> Result<Vec<String>, AllocError>
+    ensures { IfOk result (λ counting. texts counting.items ≡ codes "--agg=count" ∷ texts words.entry.now) }
+{
+    let mut counting = Vec::new(alloc);
+    counting.push(String::from_str(alloc, "--agg=count")?)?;
+    'words: for word in words {
+        counting.push(String::from_str(alloc, word.as_str())?)?;
+    }
+    Ok(counting)
+}
+
+/// What is wrong after the words that are understood.
+fn wrong_after(words: &[String], understood: usize) -> Wrong
+    requires { understood ≤ length words.now }
+    ensures { result ≡ wrong_after (texts words.now) understood }
+{
+    if understood == words.len() {
+        return Wrong {
+            at: understood,
+            expected: Expected::Items,
+        };
+    }
+    match name_of(word_at(words, understood)) {
+        None => Wrong {
+            at: understood,
+            expected: Expected::Name,
+        },
+        Some(name) => wrong_option(words, understood, name),
+    }
+}
+
+/// What is wrong at a word that begins with the name of an option, after so many words that are understood.
+fn wrong_option(words: &[String], understood: usize, name: Name) -> Wrong
+    requires { understood < length words.now }
+    ensures { result ≡ wrong_option (texts words.now) understood name }
+{
+    if is_given(words, understood, name) {
+        Wrong {
+            at: understood,
+            expected: Expected::Other,
+        }
+    } else if has_value(word_at(words, understood)) {
+        Wrong {
+            at: understood,
+            expected: Expected::Value(name),
+        }
+    } else {
+        Wrong {
+            at: understood + 1,
+            expected: Expected::Value(name),
+        }
+    }
+}
+
+/// A word.
+fn word_at(words: &[String], at: usize) -> &str
+    requires { at < length words.now }
+    ensures { result.now ≡ slice_index_or (texts words.now) at [] }
+{
+    words[at].as_str()
+}
+
+/// Whether a word has an equals sign.
+fn has_value(word: &str) -> bool
+    ensures { result ≡ list_any is_equals word.now }
+{
+    word.as_bytes().contains(&b'=')
+}
+
+/// Whether one of the first words is this option.
+#[tactic(auto, using(crate::proofs::Words::texts_taken))]
+fn is_given(words: &[String], count: usize, name: Name) -> bool
+    requires { count ≤ length words.now }
+    ensures { result ≡ is_named name (take count (texts words.now)) }
+{
+    is_named(name, &words[..count])
+}
+
+/// Whether one of the words is this option.
+#[tactic(auto, using(crate::proofs::Words::any_named))]
+fn is_named(name: Name, words: &[String]) -> bool
+    ensures { result ≡ is_named name (texts words.now) }
+{
+    has_name(name, words)
+}
+
+fn has_name(name: Name, words: &[String]) -> bool
+    ensures { result ≡ list_any (λ word. bytes_eq (front_of (string_bytes word)) (name_text name)) words.now }
+{
+    words.iter().any(|word| front(word.as_str()) == name.text())
+}
+
+/// The option that a word begins with the name of.
+fn name_of(word: &str) -> Option<Name>
+    ensures { result ≡ name_of word.now }
+{
+    let front = front(word);
+    if front == "--group" {
+        Some(Name::Group)
+    } else if front == "--agg" {
+        Some(Name::Agg)
+    } else if front == "--where" {
+        Some(Name::Where)
+    } else if front == "--workers" {
+        Some(Name::Workers)
+    } else {
+        None
+    }
+}
+
+/// A word up to its first equals sign.
+fn front(word: &str) -> &str
+    ensures { result.now ≡ front_of word.now }
+{
+    &word[..equals_place(word.as_bytes())]
+}
+
+/// Where the first equals sign is, or the end of the word.
+fn equals_place(bytes: &[u8]) -> usize
+    ensures place { result ≡ position_or_len is_equals bytes.now }
+    ensures within { result ≤ length bytes.now }
+{
+    bytes.iter().take_while(|byte| !is_equals(**byte)).count()
+}
+
+fn is_equals(byte: u8) -> bool
+    ensures { result ≡ is_equals byte }
+{
+    byte == b'='
+}
+
+/// Whether some word names an option that speaks of a shared table, which `parstream` doesn't have.
+#[tactic(auto, using(crate::proofs::Words::any_of_table))]
+fn has_of_table(words: &[String]) -> bool
+    ensures { result ≡ list_any is_of_table (texts words.now) }
+{
+    any_of_table(words)
+}
+
+fn any_of_table(words: &[String]) -> bool
+    ensures { result ≡ list_any (λ word. is_of_table (string_bytes word)) words.now }
+{
+    words.iter().any(|word| is_of_table(word.as_bytes()))
+}
+
+/// Whether a word names an option that speaks of a shared table.
+fn is_of_table(word: &[u8]) -> bool
+    ensures { result ≡ is_of_table word.now }
+{
+    word.starts_with(b"--plan") || word.starts_with(b"--area-pages")
+}
+
+impl Name {
+    /// How it is written.
+    pub fn text(self) -> &'static str
+        ensures { result.now ≡ name_text self }
+    {
+        match self {
+            Name::Group => "--group",
+            Name::Agg => "--agg",
+            Name::Where => "--where",
+            Name::Workers => "--workers",
+        }
+    }
+
+    /// What its value may be.
+    fn values(self) -> &'static str
+        ensures { result.now ≡ values_text self }
+    {
+        match self {
+            Name::Group => "--group takes one to eight names between commas",
+            Name::Agg => {
+                "--agg takes one to eight of count, count:C, sum:C, min:C, max:C and avg:C between commas"
+            }
+            Name::Where => {
+                "--where takes a column, one of = != < <= > >=, and an integer, as in 'qty>=10'"
+            }
+            Name::Workers => "--workers takes a number from 0 to 64",
+        }
+    }
+}
+
+impl Expected {
+    /// What may come, as a line says it.
+    pub fn text(self) -> &'static str
+        ensures { result.now ≡ expected_text self }
+    {
+        match self {
+            Expected::Name => "the options are --group, --agg, --where and --workers",
+            Expected::Other => "an option may be given once",
+            Expected::Value(name) => name.values(),
+            Expected::Items => "--agg ITEMS is missing",
+        }
+    }
+}
