@@ -1,4 +1,5 @@
 mod Begun
 mod Fronts
+mod Peeks
 mod Texts
 mod Words

@@ -1,5 +1,6 @@
 pub mod Help
 pub mod Kinds
+pub mod Peeking
+pub mod Refused
 pub mod Shown
-pub mod Column
 pub mod Wrong

@@ -1,10 +1,10 @@
 //! What no clause says: that the calls succeed, and how their texts read.
 
-use csv_rows::{RowStore, rows};
 use input_hints::{
-    Asked, Expected, Kind, Name, Wrong, asked_of, kind_of, no_column, shown, tell, wrong_word,
+    Asked, Expected, Kind, Name, Peeked, Wrong, asked_of, kind_of, refuse_input, refuse_words,
+    shown, tell, wrong_word,
 };
-use par_io::MemSink;
+use par_io::{MemSink, MemSource, read_whole};
 use std::alloc::{AllocError, Global};
 use std::test::Fail;
 
@@ -124,37 +124,6 @@ fn shows(rt: HostRuntime) -> Result<(), Fail> {
     Ok(())
 }
 
-fn store(alloc: Global, bytes: &[u8]) -> Result<RowStore, Fail> {
-    match rows(alloc, bytes) {
-        Ok(store) => Ok(store),
-        Err(_) => Err(Fail::new("no rows")),
-    }
-}
-
-/// Headers, and what is said of a name that they lack.
-const COLUMNS: [(&[u8], &str); 4] = [
-    (b"g;v\n", "no column g; the header has 1: \"g;v\""),
-    (b" g,G\n", "no column g; the header has 2: \" g\" \"G\""),
-    (
-        b"a,b,c,d,e,f,h,i\n",
-        "no column g; the header has 8: \"a\" \"b\" \"c\" \"d\" \"e\" \"f\" \"h\" \"i\"",
-    ),
-    (
-        b"a,b,c,d,e,f,h,i,j\n",
-        "no column g; the header has 9: \"a\" \"b\" \"c\" \"d\" \"e\" \"f\" \"h\" \"i\" ..",
-    ),
-];
-
-#[test]
-fn columns(rt: HostRuntime) -> Result<(), Fail> {
-    for (bytes, wanted) in COLUMNS {
-        let store = store(rt.alloc(), bytes)?;
-        let text = no_column(rt.alloc(), "g", &store.find(0))?;
-        assert_eq!(rt; text.as_str(), wanted);
-    }
-    Ok(())
-}
-
 /// Words, and which of them is not understood, by its place, and what may come there.
 const WRONG: [(&str, Option<(usize, Expected)>); 20] = [
     ("--agg count", None),
@@ -207,6 +176,88 @@ fn wrong_words(rt: HostRuntime) -> Result<(), Fail> {
         let found = wrong_word(rt.alloc(), list.as_slice())?;
         let wanted = wanted.map(|(at, expected)| Wrong { at, expected });
         assert!(rt; found == wanted, "{words}: {found:?}");
+    }
+    Ok(())
+}
+
+/// Words, and the line that they are answered with; none if they are a query.
+const REFUSED: [(&str, &str); 7] = [
+    ("--agg count", ""),
+    (
+        "--agg count orders.csv",
+        "parstream: \"orders.csv\" is not understood: the options are --group, --agg, --where and --workers; see parstream --help\n",
+    ),
+    (
+        "--agg sum(v)",
+        "parstream: \"sum(v)\" is not understood: --agg takes one to eight of count, count:C, sum:C, min:C, max:C and avg:C between commas; see parstream --help\n",
+    ),
+    (
+        "--where=gr\u{f6}\u{df}e>\u{1b}[31m01234567890123456789 --agg count",
+        "parstream: \"--where=gr\u{f6}\u{df}e>\\x1b[31m0123456789012345678\".. is not understood: --where takes a column, one of = != < <= > >=, and an integer, as in 'qty>=10'; see parstream --help\n",
+    ),
+    (
+        "--agg count --agg sum:v",
+        "parstream: \"--agg\" is not understood: an option may be given once; see parstream --help\n",
+    ),
+    (
+        "--agg count --workers",
+        "parstream: a word is missing at the end: --workers takes a number from 0 to 64; see parstream --help\n",
+    ),
+    (
+        "--group g",
+        "parstream: a word is missing at the end: --agg ITEMS is missing; see parstream --help\n",
+    ),
+];
+
+#[test]
+fn refuses_words(rt: HostRuntime) -> Result<(), Fail> {
+    for (words, said) in REFUSED {
+        let list = owned(rt.alloc(), words)?;
+        let mut err = MemSink::new(rt.alloc(), 64, 400, Vec::new(rt.alloc()))?;
+        let status = refuse_words(rt.alloc(), list.as_slice(), &mut err);
+        let wanted = (!said.is_empty()).then_some(2);
+        assert!(rt; status == wanted, "{words}");
+        assert_eq!(rt; err.written(), said.as_bytes());
+    }
+    Ok(())
+}
+
+/// Inputs, the read that fails, the status that the input is refused with, and the line.
+const INPUTS: [(&[u8], u64, Option<u8>, &str); 6] = [
+    (b"g,v\na,1\n", 0, None, ""),
+    (b"g\n", 0, None, ""),
+    (b"", 0, None, ""),
+    (
+        b"\x1f\x8b\x08\0\0\0\0\0",
+        0,
+        Some(2),
+        "parstream: the input is compressed by gzip: zcat FILE | parstream ..\n",
+    ),
+    (
+        b"\xff\xfeg\0",
+        0,
+        Some(2),
+        "parstream: the input is UTF-16: iconv -f UTF-16 -t UTF-8 FILE | parstream ..\n",
+    ),
+    (b"g,v\na,1\n", 2, Some(3), "parstream: read fault\n"),
+];
+
+/// After an input was looked at, all of it is left, whatever was said of it.
+#[test]
+fn refuses_inputs(rt: HostRuntime) -> Result<(), Fail> {
+    for (bytes, fail, wanted, said) in INPUTS {
+        let fail = vec![in rt.alloc(); fail]?;
+        let bytes_there = Vec::from_slice(rt.alloc(), bytes)?;
+        let mut source = Peeked::new(MemSource::new(bytes_there, 4, fail));
+        let mut err = MemSink::new(rt.alloc(), 64, 200, Vec::new(rt.alloc()))?;
+        let status = refuse_input(&mut source, &mut err);
+        assert!(rt; status == wanted, "{bytes:?}");
+        assert_eq!(rt; err.written(), said.as_bytes());
+        let whole = match read_whole(rt.alloc(), &mut source, 100) {
+            Ok(whole) => whole,
+            Err(_) => return Err(Fail::new("no bytes")),
+        };
+        assert_eq!(rt; whole.as_slice(), bytes);
     }
     Ok(())
 }

@@ -1,4 +1,4 @@
-//! Bytes of the input as a line may show them: nothing in them reaches a terminal as a command.
+//! Bytes of the input or of a command line as a line may show them: nothing in them reaches a terminal as a command.
 
 ghost use Rattle.std.specs.Prelude.{◌≡◌, ◌<◌, ◌≤◌, ◌++◌, ◌∷◌, [], IfOk, IfSome, is_some, length, min, option_map, slice_index, string_bytes, take};
 ghost use Rattle.std.specs.Char.{digit_char};
@@ -23,7 +23,7 @@ pub fn shown(alloc: Global, field: &[u8]) -> Result<String, AllocError>
 }
 
 /// Puts what [`shown`] makes of a field at the end of a text. If memory runs out a part of it may be there.
-pub fn put_shown(text: &mut String, field: &[u8]) -> Result<(), AllocError>
+pub(crate) fn put_shown(text: &mut String, field: &[u8]) -> Result<(), AllocError>
     ensures { IfOk result (λ _. string_bytes text.new ≡ string_bytes text.old ++ shown_text field.now) }
 {
     text.push_str("\"")?;

@@ -2,7 +2,7 @@ use Rattle.std.proofs.Common.{◌≡◌, ◌-◌, ◌<◌, ◌++◌, ◌∙◌, 
 use Rattle.std.proofs.lemmas.Bool.Decides.{nat_tests}
 use Rattle.input_hints.specs.Shown.{front_text, shown_after}
 use Rattle.input_hints.proofs.Fronts.{front_then}
-use Rattle.input_hints.proofs.field.put_all.Goals as goal
+use Rattle.input_hints.proofs.escaped.put_all.Goals as goal
 
 pub fronts-preserved : goal.fronts-preserved
 fronts-preserved c =

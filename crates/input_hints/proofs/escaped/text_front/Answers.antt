@@ -1,6 +1,6 @@
 use Rattle.std.proofs.Common.{◌≤◌, arith, length, sym}
 use Rattle.input_hints.proofs.Texts.{is_no_text, is_text}
-use Rattle.input_hints.proofs.field.text_front.Goals as goal
+use Rattle.input_hints.proofs.escaped.text_front.Goals as goal
 
 pub returns-in-Ok-clause-some : goal.returns-in-Ok-clause-some
 returns-in-Ok-clause-some c =
