@@ -1,5 +1,5 @@
 -- The first bytes of a source: what is left after some of them were read, and what they show of it.
-use Rattle.std.proofs.Common.{true, ◌≡◌, ◌∙◌, ◌+◌, ◌⊎◌, ◌++◌, ◌∷◌, [], ℕ, List, Option, None, Some, IfSome, ap, append_assoc, append-nil, arith, drop, inl, inr, length, nat_le, refl, subst, sym, take}
+use Rattle.std.proofs.Common.{true, ◌≡◌, ◌∙◌, ◌+◌, ◌⊎◌, ◌++◌, ◌∷◌, [], ℕ, List, Option, None, Some, IfSome, ap, append_assoc, append-nil, arith, drop, inl, inr, length, nat_le, refl, sym, take}
 use Rattle.std.proofs.Math.Seq.{take-add}
 use Rattle.std.proofs.lemmas.Bool.Decides.{nat_tests}
 use Rattle.std.specs.Io.KnownBytes.{Consumes, IsAtEnd, Keeps, prepend_known}
@@ -17,7 +17,7 @@ kept_more (Some x) (Some y) old new at n front read =
     ∙ append_assoc (take at old) more y ∙ ap (λ (l : List ℕ). take at old ++ l) (sym read)
 
 -- six bytes show what a file is
-six_show : (front rest : List ℕ) → length front ≡ 6 → kind_in front ≡ kind_in (front ++ rest)
+six_show : (front rest : List ℕ) → length front ≡ 6 → kind_in (front ++ rest) ≡ kind_in front
 six_show [] rest six = absurd (omega (arith, six))
 six_show (a ∷ []) rest six = absurd (omega (arith, six))
 six_show (a ∷ b ∷ []) rest six = absurd (omega (arith, six))
@@ -30,17 +30,17 @@ six_show (a ∷ b ∷ c ∷ d ∷ e ∷ f ∷ []) rest six =
 six_show (a ∷ b ∷ c ∷ d ∷ e ∷ f ∷ g ∷ more) rest six = absurd (omega (arith, six))
 
 -- so do all that are left
-shown : (front : List ℕ) (left : Option (List ℕ)) → (length front ≡ 6) ⊎ IsAtEnd left → IfSome (prepend_known front left) (λ bytes. kind_in front ≡ kind_in bytes)
+shown : (front : List ℕ) (left : Option (List ℕ)) → (length front ≡ 6) ⊎ IsAtEnd left → IfSome (prepend_known front left) (λ bytes. kind_in bytes ≡ kind_in front)
 shown front None has = tt
 shown front (Some rest) (inl six) = six_show front rest six
-shown front (Some rest) (inr end) = ap kind_in (sym (append-nil front) ∙ ap (λ (l : List ℕ). front ++ l) (sym end))
+shown front (Some rest) (inr end) = ap kind_in (ap (λ (l : List ℕ). front ++ l) end ∙ append-nil front)
 
-kept_kind : (kind : Option Kind) (a b : Option (List ℕ)) → Keeps a b → IfSome b (λ bytes. kind ≡ kind_in bytes) → IfSome a (λ bytes. kind ≡ kind_in bytes)
+kept_kind : (kind : Option Kind) (a b : Option (List ℕ)) → Keeps a b → IfSome b (λ bytes. kind_in bytes ≡ kind) → IfSome a (λ bytes. kind_in bytes ≡ kind)
 kept_kind kind None b kept is = tt
 kept_kind kind (Some x) None kept is = absurd kept
-kept_kind kind (Some x) (Some y) kept is = is ∙ ap kind_in kept
+kept_kind kind (Some x) (Some y) kept is = ap kind_in (sym kept) ∙ is
 
 -- they show it of what was left before they were read
 pub kind_shown : (old : Option (List ℕ)) (front : List ℕ) (left : Option (List ℕ)) → Keeps old (prepend_known front left) → (length front ≡ 6) ⊎ IsAtEnd left
-    → IfSome old (λ bytes. kind_in front ≡ kind_in bytes)
+    → IfSome old (λ bytes. kind_in bytes ≡ kind_in front)
 kind_shown old front left kept has = kept_kind (kind_in front) old (prepend_known front left) kept (shown front left has)

@@ -1,5 +1,5 @@
 -- The texts of words, by the words where they lie.
-use Rattle.std.proofs.Common.{◌≡◌, ℕ, List, String, map, string_bytes, take}
+use Rattle.std.proofs.Common.{◌≡◌, ℕ, List, String, string_bytes, take}
 use Rattle.std.proofs.lemmas.List.{take-map}
 use Rattle.std.specs.Prelude.{bytes_eq}
 use Rattle.std.specs.List.{list_any}

@@ -1,5 +1,5 @@
 -- Files that are no comma-separated text, by the bytes that they begin with.
-use Rattle.std.specs.Prelude.{[], ◌==◌, ◌&&◌, ◌||◌, ◌∷◌, ◌++◌, ℕ, Bool, not, List, Option, None, Some, codes, if◌then◌else◌, length, nat_le, slice_index}
+use Rattle.std.specs.Prelude.{[], ◌==◌, ◌&&◌, ◌||◌, ◌∷◌, ℕ, Bool, not, List, Option, None, Some, codes, if◌then◌else◌, length, nat_le, slice_index}
 use Rattle.std.specs.List.{starts_with}
 use Rattle.input_hints.specs.declared.kind.Kind.{Kind}
 use Rattle.input_hints.specs.declared.kind.Kind.TheVariants as kind

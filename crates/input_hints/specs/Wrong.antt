@@ -1,5 +1,5 @@
 -- The first word of a command line of parstream that is not understood.
-use Rattle.std.specs.Prelude.{[], ◌==◌, ◌&&◌, ◌||◌, ◌+◌, ◌∷◌, ℕ, Bool, zero, suc, List, Option, None, Some, bytes_eq, codes, if◌then◌else◌, is_some, length, min, slice_index_or, take}
+use Rattle.std.specs.Prelude.{[], ◌==◌, ◌||◌, ◌+◌, ◌∷◌, ℕ, Bool, zero, suc, List, Option, None, Some, bytes_eq, codes, if◌then◌else◌, is_some, length, min, slice_index_or, take}
 use Rattle.std.specs.List.{before_first, list_any, starts_with}
 use Rattle.plan_spec.specs.Query as plan
 use Rattle.input_hints.specs.declared.wrong.Expected.{Expected}

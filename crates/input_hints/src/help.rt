@@ -39,8 +39,8 @@ Examples:
   zcat orders.csv.gz | parstream --group region --agg count --workers 4
 
 Status: 0 the table was written, 1 a row is refused, 2 no such query, header or
-column, 3 a read failed, 4 a write failed, 5 out of memory, 7 a record is too
-long.
+column, or the input is no text, 3 a read failed, 4 a write failed, 5 out of
+memory, 7 a record is too long.
 ";
 
 /// What `--version` is answered.

@@ -34,7 +34,7 @@ impl<S: Source> Peeked<S> {
     /// there, or the source has ended, and what is left stays the same: a read gives these bytes once more.
     pub fn kind(&mut self) -> Result<Option<Kind>, Failed>
         ensures left { Keeps (peeked_left S.left self.old) (peeked_left S.left self.new) }
-        ensures kind { IfOk result (λ kind. IfSome (peeked_left S.left self.old) (λ bytes. kind ≡ kind_in bytes)) }
+        ensures kind { IfOk result (λ kind. IfSome (peeked_left S.left self.old) (λ bytes. kind_in bytes ≡ kind)) }
         ensures cause { HasCause (peeked_faults S.faults self.old) (peeked_faults S.faults self.new) result }
     {
         self.peek()?;

@@ -1,7 +1,7 @@
 //! What `parstream` doesn't take: words that are no query, and an input that is no comma-separated text. Each is answered
 //! by one line, and a status.
 
-ghost use Rattle.std.specs.Prelude.{◌≡◌, ◌⊎◌, ◌++◌, IfOk, IfSome, None, Some, codes, is_none, is_some, string_bytes};
+ghost use Rattle.std.specs.Prelude.{◌≡◌, ◌⊎◌, ◌++◌, IfOk, IfSome, None, Some, codes, is_none, is_some, string_bytes, true};
 ghost use Rattle.std.specs.Io.KnownBytes.{Keeps};
 ghost use Rattle.par_io.specs.Faults.{Rose};
 ghost use Rattle.answer_text.specs.Lines.{IsSaid};
@@ -14,7 +14,7 @@ ghost use Rattle.input_hints.specs.declared.kind.Kind.{Kind};
 
 use crate::escaped::put_shown;
 use crate::peeked::Peeked;
-use crate::wrong::{Wrong, wrong_word};
+use crate::wrong::{Wrong, word_at, wrong_word};
 use answer_text::{MISUSED, NO_MEMORY, READ_FAULT, write_pieces};
 use par_io::{Sink, Source};
 use std::alloc::{AllocError, Global};
@@ -25,7 +25,7 @@ pub fn refuse_words<E: Sink>(alloc: Global, words: &[String], err: &mut E) -> Op
     ensures statuses { IfSome result (λ status. (status ≡ MISUSED) ⊎ (status ≡ NO_MEMORY)) }
 
     // None: the words are a query, and `err` receives nothing.
-    ensures query { result ≡ None → is_some (query_in (texts words.now)) }
+    ensures query { result ≡ None → is_some (query_in (texts words.now)) ≡ true }
     ensures quiet { result ≡ None → err.new ≡ err.old }
 
     // Otherwise they are none, and the line names the word, or memory ran out, and the line says so.
@@ -109,8 +109,10 @@ fn put_place(text: &mut String, words: &[String], at: usize) -> Result<(), Alloc
     ensures { IfOk result (λ _. string_bytes text.new ≡ string_bytes text.old ++ place_text (texts words.now) at) }
 {
     if at >= words.len() {
-        return text.push_str("a word is missing at the end: ");
+        text.push_str("a word is missing at the end: ")?;
+        return Ok(());
     }
-    put_shown(text, words[at].as_bytes())?;
-    text.push_str(" is not understood: ")
+    put_shown(text, word_at(words, at).as_bytes())?;
+    text.push_str(" is not understood: ")?;
+    Ok(())
 }

@@ -160,7 +160,7 @@ fn wrong_option(words: &[String], understood: usize, name: Name) -> Wrong
 }
 
 /// A word.
-fn word_at(words: &[String], at: usize) -> &str
+pub(crate) fn word_at(words: &[String], at: usize) -> &str
     requires { at < length words.now }
     ensures { result.now ≡ slice_index_or (texts words.now) at [] }
 {

@@ -1,5 +1,6 @@
 //! `parstream [--group COLUMNS] --agg ITEMS ..` answers a query over the comma-separated bytes of the standard input,
-//! whatever their length; `--help`, `-h` and `--version` are answered on the standard output.
+//! whatever their length; `--help`, `-h` and `--version` are answered on the standard output. A word that is not
+//! understood, and an input that is compressed or no text, are named by a line on the standard error.
 //!
 //! This file is only the edge to the system: it hands the words and the standard streams to the libraries `input_hints`
 //! and `par_stream`, whose contracts say what the answer is, and ends with the status that it gets.
@@ -8,7 +9,7 @@
 
 mod progress;
 
-use input_hints::{asked_of, tell};
+use input_hints::{Peeked, asked_of, refuse_input, refuse_words, tell};
 use par_io::{StdSink, StdSource};
 use par_stream::{NO_MEMORY, WINDOW_BYTES, say_usage, stream_table};
 use progress::ProgressLine;
@@ -45,11 +46,18 @@ fn main(rt: HostRuntime) -> ExitCode {
     if let Some(asked) = asked_of(words.as_slice()) {
         return ExitCode::from(tell(asked, &mut out, &mut err));
     }
+    if let Some(status) = refuse_words(rt.alloc(), words.as_slice(), &mut err) {
+        return ExitCode::from(status);
+    }
+    let mut source = Peeked::new(StdSource::new(rt.stdin()));
+    if let Some(status) = refuse_input(&mut source, &mut err) {
+        return ExitCode::from(status);
+    }
     let status = stream_table(
         &rt,
         rt.alloc(),
         words.as_slice(),
-        &mut StdSource::new(rt.stdin()),
+        &mut source,
         &mut out,
         &mut err,
         WINDOW_BYTES,
