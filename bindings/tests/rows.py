@@ -2,7 +2,8 @@
 """Whether the built programs write the bytes that the repository keeps for the proved ones.
 
 Takes the folder of the programs. The rows are those of examples/expected and examples/shell/expected, each command
-as it stands there, and the standard input and output of the programs' crates.
+as it stands there, the standard input and output of the programs' crates, and what parstream says of words and of inputs
+that it refuses, as docs/SEMANTICS.md has it.
 """
 
 import os
@@ -11,6 +12,101 @@ import subprocess
 import sys
 
 REPOSITORY = os.path.abspath(os.path.join(os.path.dirname(os.path.abspath(__file__)), "..", ".."))
+
+# Words and an input of parstream, and its output, its line and its status.
+STREAMS = [
+    ("--agg count", b"g\n1\n", b"count\n1\n", b"", 0),
+    ("", b"g\n", b"", b"parstream: a word is missing at the end: --agg ITEMS is missing; see parstream --help\n", 2),
+    (
+        "--agg mean:v",
+        b"v\n1\n",
+        b"",
+        b'parstream: "mean:v" is not understood: --agg takes one to eight of count, count:C, sum:C, min:C, max:C and avg:C'
+        b" between commas; see parstream --help\n",
+        2,
+    ),
+    (
+        "--where g=\x1b[1m --agg count",
+        b"g\n1\n",
+        b"",
+        b'parstream: "g=\\x1b[1m" is not understood: --where takes a column, one of = != < <= > >=, and an integer, as in'
+        b" 'qty>=10'; see parstream --help\n",
+        2,
+    ),
+    (
+        "--agg count --plan hash",
+        b"g\n1\n",
+        b"",
+        b'parstream: "--plan" is not understood: the options are --group, --agg, --where and --workers; see parstream --help\n',
+        2,
+    ),
+    (
+        "--agg count --agg=sum:v",
+        b"v\n1\n",
+        b"",
+        b'parstream: "--agg=sum:v" is not understood: an option may be given once; see parstream --help\n',
+        2,
+    ),
+    (
+        "--agg count --workers",
+        b"v\n1\n",
+        b"",
+        b"parstream: a word is missing at the end: --workers takes a number from 0 to 64; see parstream --help\n",
+        2,
+    ),
+    (
+        "--agg \udcff",
+        b"v\n1\n",
+        b"",
+        b"parstream: usage: parstream [--group COLUMNS] --agg ITEMS [--where FILTER] [--workers N]\n",
+        2,
+    ),
+    (
+        "--agg count",
+        b"\x1f\x8b\x08\x00\x00\x00\x00\x00\x00\x03",
+        b"",
+        b"parstream: the input is compressed by gzip: zcat FILE | parstream ..\n",
+        2,
+    ),
+    ("--agg count", b"\xfd7zXZ\x00\x00\x04", b"", b"parstream: the input is compressed by xz: xzcat FILE | parstream ..\n", 2),
+    ("--agg count", b"\x28\xb5\x2f\xfd\x04\x00", b"", b"parstream: the input is compressed by zstd: zstdcat FILE | parstream ..\n", 2),
+    (
+        "--agg count",
+        b"PK\x03\x04\x14\x00",
+        b"",
+        b"parstream: the input is a zip archive: unzip -p FILE | parstream .., or save a spreadsheet as CSV\n",
+        2,
+    ),
+    (
+        "--agg count",
+        b"PAR1\x15\x04\x15",
+        b"",
+        b"parstream: the input is Parquet: duckdb -csv -c \"FROM 'FILE'\" | parstream ..\n",
+        2,
+    ),
+    (
+        "--agg count",
+        "g,v\n".encode("utf-16"),
+        b"",
+        b"parstream: the input is UTF-16: iconv -f UTF-16 -t UTF-8 FILE | parstream ..\n",
+        2,
+    ),
+    (
+        "--agg count",
+        "g,v\n".encode("utf-16-le"),
+        b"",
+        b"parstream: the input is UTF-16: iconv -f UTF-16LE -t UTF-8 FILE | parstream ..\n",
+        2,
+    ),
+    (
+        "--agg count",
+        "g,v\n".encode("utf-16-be"),
+        b"",
+        b"parstream: the input is UTF-16: iconv -f UTF-16BE -t UTF-8 FILE | parstream ..\n",
+        2,
+    ),
+    ("--agg count --where PAR1=1", b"PAR1,PK\n1,2\n3,4\n", b"count\n1\n", b"", 0),
+]
 
 
 def read(path):
@@ -70,9 +166,17 @@ def crate_rows(programs):
         yield f"{folder}: the status".encode(), b"%d" % result.returncode, b"%d" % status
 
 
+def stream_rows(programs):
+    for line, given, *wanted in STREAMS:
+        words = [os.path.join(programs, "parstream"), *line.split()]
+        result = subprocess.run(words, input=given, capture_output=True, check=False)
+        got = [result.stdout, result.stderr, result.returncode]
+        yield b"parstream " + os.fsencode(line), repr(got).encode(), repr(wanted).encode()
+
+
 def main():
     programs = os.path.abspath(sys.argv[1])
-    rows = [*example_rows(programs), *shell_rows(programs), *crate_rows(programs)]
+    rows = [*example_rows(programs), *shell_rows(programs), *crate_rows(programs), *stream_rows(programs)]
     wrong = [(line, got, wanted) for line, got, wanted in rows if got != wanted]
     for line, got, wanted in wrong:
         sys.stdout.buffer.write(b"rows: %s\n--- wanted\n%s--- got\n%s" % (line, wanted, got))
