@@ -28,19 +28,18 @@
 //! that is asked. A call of a table or an area may meet a lock that another call holds for a short while: it spins, yields the
 //! processor, and then sleeps until the lock is given back.
 //!
-//! **Cost**, by the figures in `docs/PERFORMANCE.md` of the repository, in nanoseconds a call of this crate in one thread on a busy
-//! machine:
+//! **Cost**, by the figures in `docs/PERFORMANCE.md` of the repository, in nanoseconds a call of this crate in one thread:
 //!
 //! | | here | std | |
 //! |---|--:|---|--:|
-//! | a message of 8 bytes, sent and received, shown at once / later | 41 / 36 | `sync_channel` of vectors | 45 |
-//! | a message of 1,000 bytes, likewise | 703 / 706 | `sync_channel` of vectors | 59 |
-//! | `get`, 1,000 / 1,000,000 keys | 33 / 275 | `Mutex<HashMap>` | 30 / 201 |
-//! | `insert` under a key that is there | 49 / 370 | `Mutex<HashMap>` | 30 / 335 |
-//! | `update` | 82 / 391 | `Mutex<HashMap>` | 31 / 368 |
-//! | `update_with` | 51 / 362 | `Mutex<HashMap>` | 31 / 368 |
-//! | a chunk of 24 / 600 bytes, made and given back | 104 / 105 | `Box` | 25 / 61 |
-//! | a phase of a barrier, 2 / 4 threads | 1,412 / 4,648 | `Barrier` | 1,666 / 15,442 |
+//! | a message of 8 bytes, sent and received, shown at once / later | 57 / 50 | `sync_channel` of vectors | 45 |
+//! | a message of 1,000 bytes, likewise | 701 / 708 | `sync_channel` of vectors | 58 |
+//! | `get`, 1,000 / 1,000,000 keys | 33 / 366 | `Mutex<HashMap>` | 29 / 188 |
+//! | `insert` under a key that is there | 51 / 434 | `Mutex<HashMap>` | 31 / 296 |
+//! | `update` | 83 / 423 | `Mutex<HashMap>` | 31 / 326 |
+//! | `update_with` | 52 / 418 | `Mutex<HashMap>` | 31 / 326 |
+//! | a chunk of 24 / 600 bytes, made and given back | 98 / 99 | `Box` | 26 / 56 |
+//! | a phase of a barrier, 2 / 4 threads | 340 / 4,105 | `Barrier` | 3,655 / 10,489 |
 //!
 //! **Memory.** Calls that make something take some, and so do those that list entries, take any of them, or split, join and freeze
 //! parts; their answer is an error (of `handle`, None) if there is none. The others ask for none, with these exceptions: a call that
