@@ -1,25 +1,25 @@
-//! The text of an average: four decimals, rounded half away from zero. A sum of 128 bits is exact here, since at most
-//! 2^50 numbers of 64 bits leave room for the four decimals and one bit more.
+//! The text of a number with places, and averages: rounded half away from zero, with four places more than the numbers.
+//!
+//! A sum of 128 bits is exact here, since at most 2^50 numbers of 64 bits leave room for the four places and one bit more.
 
-ghost use Rattle.std.specs.Prelude.{◌≡◌, ◌<◌, ◌≤◌, ◌+◌, ◌*◌, ◌%◌, ◌^◌, ◌++◌, OnOk, unsigned_abs};
+ghost use Rattle.std.specs.Prelude.{◌≡◌, ◌<◌, ◌≤◌, ◌+◌, ◌*◌, ◌%◌, ◌^◌, ◌/◌, ◌++◌, OnOk, drop, length, unsigned_abs};
 ghost use Rattle.std.specs.Fmt.{sign_text};
+ghost use Rattle.std.specs.Int.{is_negative};
 ghost use Rattle.par_model.specs.Decimal as decimal;
+ghost use Rattle.result_text.specs.Printable.{MOST_TEXT_PLACES};
 
 use std::alloc::AllocError;
 
-/// Puts the average of `count` numbers that have this sum at the end of a text.
-pub(crate) fn push_average(text: &mut Vec<u8>, sum: i128, count: u64) -> Result<(), AllocError>
-    requires some { 0 < count }
-    requires few { count ≤ 2 ^ 50 }
-    requires near { unsigned_abs sum ≤ 2 ^ 63 * count }
-    ensures { OnOk result (text.new.items ≡ text.old.items ++ decimal.average_text sum count) }
+/// Puts a number of units of 10^-`places` at the end of a text.
+pub(crate) fn push_number(text: &mut Vec<u8>, n: i128, places: u32) -> Result<(), AllocError>
+    requires { places ≤ MOST_TEXT_PLACES }
+    ensures { OnOk result (text.new.items ≡ text.old.items ++ decimal.number_text places n) }
 {
-    let n = ten_thousandths(sum.unsigned_abs(), count);
-    push_sign(text, sum.is_negative() && n != 0)?;
-    text.extend_from_slice(itoa::Buffer::new().format(n / 10_000).as_bytes())?;
-    text.push(b'.')?;
-    text.extend_from_slice(&four_digits((n % 10_000) as u16))?;
-    Ok(())
+    let unit = power_of_ten(places);
+    let size = n.unsigned_abs();
+    push_sign(text, n.is_negative())?;
+    text.extend_from_slice(itoa::Buffer::new().format(size / unit).as_bytes())?;
+    push_places(text, size, places, unit)
 }
 
 /// A minus sign, if there is one.
@@ -32,28 +32,65 @@ fn push_sign(text: &mut Vec<u8>, minus: bool) -> Result<(), AllocError>
     Ok(())
 }
 
+/// Puts a point and the places of a number at the end of a text, or nothing if there are none. With the unit added they
+/// are the digits after the first one, with all their zeros.
+fn push_places(text: &mut Vec<u8>, size: u128, places: u32, unit: u128) -> Result<(), AllocError>
+    requires few { places ≤ MOST_TEXT_PLACES }
+    requires unit { unit ≡ 10 ^ places }
+    requires within { unit ≤ 10 ^ MOST_TEXT_PLACES }
+    requires some { 0 < unit }
+    ensures { OnOk result (text.new.items ≡ text.old.items ++ decimal.places_text places size) }
+{
+    if places == 0 {
+        return Ok(());
+    }
+    let mut digits = itoa::Buffer::new();
+    text.push(b'.')?;
+    text.extend_from_slice(after_first(digits.format(unit + size % unit)))?;
+    Ok(())
+}
+
+/// The bytes of a text after the first one.
+fn after_first(text: &str) -> &[u8]
+    requires { 1 ≤ length text.now }
+    ensures { result.now ≡ drop 1 text.now }
+{
+    &text.as_bytes()[1..]
+}
+
+/// A power of ten.
+fn power_of_ten(exponent: u32) -> u128
+    requires { exponent ≤ MOST_TEXT_PLACES }
+    ensures power { result ≡ 10 ^ exponent }
+    ensures within { result ≤ 10 ^ MOST_TEXT_PLACES }
+    ensures some { 0 < result }
+{
+    let mut power = 1;
+    for _step in 0..exponent {
+        power *= 10;
+    }
+    power
+}
+
+/// The average of `count` numbers that have this sum, in ten-thousandths of their unit.
+pub(crate) fn average(sum: i128, count: u64) -> i128
+    requires some { 0 < count }
+    requires few { count ≤ 2 ^ 50 }
+    requires near { unsigned_abs sum ≤ 2 ^ 63 * count }
+    ensures { result ≡ decimal.average sum count }
+{
+    let size = rounded(sum.unsigned_abs(), count) as i128;
+    if sum.is_negative() { -size } else { size }
+}
+
 /// The quotient in ten-thousandths, rounded half up.
-fn ten_thousandths(size: u128, count: u64) -> u128
+fn rounded(size: u128, count: u64) -> u128
     requires some { 0 < count }
     requires few { count ≤ 2 ^ 50 }
     requires near { size ≤ 2 ^ 63 * count }
-    ensures { result ≡ decimal.rounded (10000 * size) count }
+    ensures value { result ≡ decimal.rounded (10000 * size) count }
+    ensures within { result < 2 ^ 80 }
 {
     let count = u128::from(count);
     (2 * (10_000 * size) + count) / (2 * count)
-}
-
-/// The digits of a number below 10,000, with leading zeros.
-fn four_digits(n: u16) -> [u8; 4]
-    requires { n < 10000 }
-    ensures { result ≡ decimal.four_digits n }
-{
-    [digit(n / 1000), digit(n / 100), digit(n / 10), digit(n)]
-}
-
-/// The last digit of a number.
-fn digit(n: u16) -> u8
-    ensures { result ≡ 48 + n % 10 }
-{
-    b'0' + (n % 10) as u8
 }

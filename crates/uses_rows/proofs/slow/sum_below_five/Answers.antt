@@ -10,6 +10,6 @@ use Rattle.uses_rows.proofs.slow.sum_below_five.Goals as goal
 pub returns : goal.returns
 returns c = record {
   groups = All-from_recursion (λ (column : ℕ). column < 3) (0 ∷ []) (lit< tt, tt);
-  items = All-from_recursion (λ (item : Item). IsTrue (reads_column item.kind) → item.column < 3) (record { kind = kind.Sum; column = 2 } ∷ []) (λ _. lit< tt, tt);
+  items = All-from_recursion (λ (item : Item). IsTrue (reads_column item.kind) → item.column < 3) (record { kind = kind.Sum; column = 2; places = 0 } ∷ []) (λ _. lit< tt, tt);
   filter = λ filter is. let column : 1 ≡ filter.column = ap (λ o. option_map_or (λ (f : Filter). f.column) o 0) is in omega arith;
 }
