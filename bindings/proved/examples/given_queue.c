@@ -1,7 +1,7 @@
 /* The proved queue in memory that the program maps, at another address in each process.
  *
- * given_queue [COUNT]     makes a file in memory and a queue in it, and starts a second program, which maps the file where the
- *                         system puts it: it receives COUNT messages of 8 to 100 bytes, which this program sends */
+ * given_queue [COUNT]     makes a file in memory and a queue in it, and starts a second program, which maps the file at another
+ *                         address: it receives COUNT messages of 8 to 100 bytes, which this program sends */
 #define _GNU_SOURCE
 #include "lembokuj_try.h"
 
@@ -96,6 +96,6 @@ int main(int argc, char **argv) {
     int code = send_all(place, count), status;
     if (code) return code;
     if (waitpid(child, &status, 0) != child || status) return 13;
-    printf("given_queue: %" PRIu64 " messages to another program, which has the queue at an address of its own\n", count);
+    printf("given_queue: %" PRIu64 " messages to another program, which has the queue at another address\n", count);
     return 0;
 }

@@ -283,10 +283,10 @@ static inline int lk_queue_close_park(lk_handle *handle, lk_bell *bell) {
 /* ---- Queues in memory that the program brings ----
  *
  * The program gives memory once, for good, at an address that 16 divides, and the library makes a queue in it. Nothing
- * that it stores there is an address. So processes that map this memory may each have it at an address of its own: each
- * calls with a place, which is its own three addresses of the queue's parts.
+ * that it stores there is an address. So processes may map this memory at different addresses: each calls with a place,
+ * which is its three addresses of the queue's parts.
  *
- * A process takes a side of the queue into a handle of its own memory, and that is a handle as any other: all calls above
+ * A process takes a side of the queue into a handle in its memory, and that is a handle as any other: all calls above
  * serve it. The side that receives is taken first, and the side that sends once a receiver has come; each is taken once.
  *
  * What the program owes: the memory is its own, is used for nothing else, and is mapped as long as there are handles; a
@@ -300,7 +300,7 @@ typedef struct lk_given {
     size_t size;
 } lk_given;
 
-/* Where a queue lies in this process: its head, and the words and the slots of its ring. */
+/* A queue in this process: the addresses of its head, and of the words and the slots of its ring. */
 typedef struct lk_site {
     void *at;
 } lk_site;
