@@ -19,18 +19,20 @@ use denote.Struct.Struct.{within}
 use denote.Struct.Owning.{shape}
 use seplogic.Ra.Ura.{Ura}
 use types.Logic.{Logic, sem}
-use Rattle.std.specs.Prelude.{Some}
+use Rattle.std.specs.Prelude.{Some, None, replicate}
 use Rattle.atomic_table.specs.Seated.{TableId, Placed, common, lasts}
+use Rattle.atomic_table.specs.declared.shared.TableRule.{Ghosts}
 use Rattle.atomic_table.proofs.Moves.{placed}
 use Rattle.atomic_table.proofs.Fields.{hand_of, HandData, hand_told, hand_made}
 use Rattle.std_alloc.proofs.BoxSteps.Form.{Bx}
 use Rattle.std_heap.specs.contracts.Global as Heap
 use Rattle.std_heap.specs.contracts.GlobalAllocator.TheImpl.{ghosts, dict}
 use Rattle.std_heap.proofs.Global.TheLaws as heap
-use Rattle.region_rule.specs.Places.{Ruled}
+use Rattle.word_map.specs.WordMap.{numbered}
+use Rattle.region_rule.specs.View.{Own}
+use Rattle.region_rule.specs.Places.{idle, Ruled}
 use Rattle.region_rule.specs.contracts.rule.Known as Known
 use Rattle.region_rule.specs.contracts.rule.RegionRule as RegionRule
-use Rattle.region_rule.specs.contracts.rule.RegionRuleTableRule.TheImpl as rule
 use Rattle.twin_table.specs.contracts.Twin as Twin
 use Rattle.c_given.specs.contracts.head.Head as Head
 use Rattle.c_given.proofs.head.Head.TheLaws as head
@@ -51,15 +53,18 @@ FromHead = plain (λ _. Head.the_row)
 abbrev pub FromRows : Slot 0
 FromRows = plain (λ _. Rows.the_row)
 
--- the twin of a region's table
+-- the rule of a region, and the twin of its table
+abbrev rule : Ghosts RegionRule.the_row.Denot u64.Denot Known.the_row.Denot usize.Denot
+rule = record { holds = λ count s. Ruled count s; first = λ count. idle (Own (numbered 0 (replicate count 0)) None) }
+
 abbrev pub Two : RattleType
-Two = Twin.the_row u64 Known.the_row usize RegionRule.the_row rule.ghosts
+Two = Twin.the_row u64 Known.the_row usize RegionRule.the_row rule
 
 abbrev pub FromTwin : Slot 0
 FromTwin = plain (λ _. Two)
 
 abbrev Hand : RattleType
-Hand = HandData u64 Known.the_row usize RegionRule.the_row rule.ghosts
+Hand = HandData u64 Known.the_row usize RegionRule.the_row rule
 
 -- the word of a site, and the two of a rows
 abbrev pub word : Val → Val
@@ -90,10 +95,10 @@ module _ {M : Type 1} {𝓤 : Ura M} {𝓛 : Logic 𝓤} {K : Type 0} {Γ : List
       (subst (λ (ps : List Val). vs ≡ vstruct (of_list (ptr_val d.words ∷ (ps ++ []))) ∷ []) ep (subst (λ (ws : List Val). vs ≡ vstruct (of_list (ws ++ (vss.1.0 ++ []))) ∷ []) ew ev))))))
 
   pub twin_in : K → (d : Two.Denot) → Step K 𝓛 (‵ (Two.own_val d (hand_of d.words d.slots ∷ [])) ∷ Γ) G (‵ (words_lie d.words d.slots (Some (d.table_id, d.key))) ∷ Γ) G
-  twin_in t d = step (λ s. use0 𝓛 (‵ (Hand.own_val (d.words, (d.slots, (tt, tt))) (hand_of d.words d.slots ∷ []))) (hand_made u64 Known.the_row usize RegionRule.the_row rule.ghosts 𝓛 d.words d.slots) $ fjoin t $ s)
+  twin_in t d = step (λ s. use0 𝓛 (‵ (Hand.own_val (d.words, (d.slots, (tt, tt))) (hand_of d.words d.slots ∷ []))) (hand_made u64 Known.the_row usize RegionRule.the_row rule 𝓛 d.words d.slots) $ fjoin t $ s)
 
   pub twin_out : K → (d : Two.Denot) (vs : List Val) → (vs ≡ hand_of d.words d.slots ∷ [] → Seq K 𝓛 (‵ (words_lie d.words d.slots (Some (d.table_id, d.key))) ∷ Γ) G) → Seq K 𝓛 (‵ (Two.own_val d vs) ∷ Γ) G
-  twin_out t d vs k = fsplit t $ facts t Hand (Is Hand) (shows 𝓛 Hand) (d.words, (d.slots, (tt, tt))) vs (λ is. k (hand_told u64 Known.the_row usize RegionRule.the_row rule.ghosts d.words d.slots vs is))
+  twin_out t d vs k = fsplit t $ facts t Hand (Is Hand) (shows 𝓛 Hand) (d.words, (d.slots, (tt, tt))) vs (λ is. k (hand_told u64 Known.the_row usize RegionRule.the_row rule d.words d.slots vs is))
 
 -- both addresses of a rows are in blocks
 pub both_good : (w p : Ptr) → InBlock w → InBlock p → T (has_ty (ty_struct [] (tcons ty_ptr (tcons ty_ptr tnil))) (both w p)) × WT (both w p)

@@ -6,7 +6,8 @@ use Rattle.ring_rule.specs.Ring.{Ring}
 use Rattle.ring_rule.specs.Ends.{first_receiving}
 use Rattle.ring_rule.specs.Codes.{ring_code}
 use Rattle.mq_ring.specs.Ends.{SendingEnd, ReceivingEnd}
-use Rattle.mq_handle.specs.Held.{IsUnsent, IsUnread}
+use Rattle.mq_handle.specs.Held.{IsUnsent}
+use Rattle.mq_handle.specs.Receives.{Incoming}
 
 -- its region and its ring
 pub record Which : Type 0 where
@@ -33,3 +34,7 @@ pub record IsReceiverOf (w : Which) (q : ReceivingEnd) : Type 0 where
 -- both of them
 abbrev pub ArePair : Which → SendingEnd → ReceivingEnd → Type 0
 ArePair w s q = IsSenderOf w s × IsReceiverOf w q
+
+-- the same end with room for a message
+abbrev pub IsInboxOf : Which → Incoming → Type 0
+IsInboxOf w q = (q.region ≡ w.region) × (q.end ≡ first_receiving w.ring)

@@ -1,22 +1,21 @@
 //! A queue is made in given memory, and processes take its sides.
 
-ghost use Rattle.std.specs.Prelude.{◌≡◌, ℕ, ◌^◌, ◌≤◌, IfOk, IfErr};
+ghost use Rattle.std.specs.Prelude.{◌≡◌, Some, IfSome};
 ghost use Rattle.std_alloc.specs.Arc.{arc_value};
-ghost use Rattle.atomic_table.specs.Seated.{TableId};
 ghost use Rattle.region_words.specs.Parts.{IsSized};
-ghost use Rattle.c_queue.specs.declared.code.Code.TheVariants.{NoMemory};
-ghost use Rattle.c_given.specs.Which.{Which, IsSenderOf};
-ghost use Rattle.c_given.specs.Calls.{IsPlaced, Opens, OpensSender, OpensReceiver};
+ghost use Rattle.c_queue.specs.Sides.{Outgoing};
+ghost use Rattle.c_queue.specs.declared.end.End.TheVariants.{Sends as Out};
+ghost use Rattle.c_given.specs.Which.{ArePair, IsSenderOf, IsInboxOf};
+ghost use Rattle.c_given.specs.Calls.{IsRowsOf, IsPlaced, Opens, OpensSender, OpensReceiver};
 
 use crate::given::{Rows, Site};
 use crate::head::{Found, Head, Mark, Pair};
-use crate::lay::lay;
 use c_queue::{Code, End, Handle, Inbox, Outbox};
-use given_heap::{Given, GivenHeap};
-use mq_handle::{AttachRefused, Receiver, Sender, attach};
+use given_heap::{Given, lay};
+use mq_handle::{AttachRefused, Receiver, attach};
 use mq_ring::{Ring, is_ring_size};
 use region_words::Region;
-use std::alloc::{AllocError, AllocFailed, Global};
+use std::alloc::{AllocFailed, Global};
 use std::sync::Arc;
 use twin_table::Twin;
 
@@ -42,8 +41,7 @@ pub fn open_at(
     if size < 1024 || max > MOST_BYTES || !is_ring_size(words) {
         return Code::BadSize;
     }
-    let heap = GivenHeap::new(words_at, slots_at);
-    let Ok((table, part)) = lay(alloc, heap, words as usize + 4) else {
+    let Ok((table, part)) = lay(alloc, words_at, slots_at, words as usize + 4) else {
         return Code::NoMemory;
     };
     let r = Region::at(Twin::of(table));
@@ -58,6 +56,17 @@ pub fn open_at(
     Code::Done
 }
 
+/// The region of the rows, for the handles of this process.
+fn region_of(alloc: Global, rows: Rows) -> Option<Arc<Region>>
+    requires { IsRowsOf rows.table }
+    ensures { IfSome result (λ r. rows.table ≡ Some (arc_value r, (arc_value r).words)) }
+{
+    match Arc::new(alloc, Region::at(rows.get())) {
+        Ok(region) => Some(region),
+        Err(_) => None,
+    }
+}
+
 /// The side that sends, into a blank handle, once a receiver has come: of several callers one gets it. It takes memory
 /// for the greatest message.
 pub fn open_sender(alloc: Global, site: Site, rows: Rows, tx: &mut Handle) -> Code
@@ -68,7 +77,7 @@ pub fn open_sender(alloc: Global, site: Site, rows: Rows, tx: &mut Handle) -> Co
         return Code::InUse;
     }
     let head = site.get();
-    let Ok(region) = Arc::new(alloc, Region::at(rows.get())) else {
+    let Some(region) = region_of(alloc, rows) else {
         return Code::NoMemory;
     };
     let Ok(buffer) = vec![in alloc; 0u8; head.max() as usize] else {
@@ -85,11 +94,18 @@ pub fn open_sender(alloc: Global, site: Site, rows: Rows, tx: &mut Handle) -> Co
             Code::Done
         }
         Err(AllocFailed { value }) => {
-            if let End::Sends(outbox) = value {
-                head.give_back(outbox.into_sender());
-            }
+            give_back(head, value);
             Code::NoMemory
         }
+    }
+}
+
+/// Puts a sending side that did nothing back into the head.
+fn give_back(head: &Head, side: End)
+    requires { (o : Outgoing) × (side ≡ Out o) × IsSenderOf head.now o.sender }
+{
+    if let End::Sends(outbox) = side {
+        head.give_back(outbox.into_sender());
     }
 }
 
@@ -103,22 +119,14 @@ pub fn open_receiver(alloc: Global, site: Site, rows: Rows, rx: &mut Handle) -> 
         return Code::InUse;
     }
     let head = site.get();
-    let Ok(region) = Arc::new(alloc, Region::at(rows.get())) else {
+    let Some(region) = region_of(alloc, rows) else {
         return Code::NoMemory;
     };
     let Some(pair) = head.take_pair() else {
         return Code::Taken;
     };
-    let Pair { tx, rx: end } = pair;
-    let receiver = match attach(alloc, tx, end) {
-        Ok((sender, receiver)) => {
-            head.give_sender(sender);
-            receiver
-        }
-        Err(AttachRefused { tx, rx: end }) => {
-            head.give_pair(Pair { tx, rx: end });
-            return Code::NoMemory;
-        }
+    let Some(receiver) = attached(alloc, head, pair) else {
+        return Code::NoMemory;
     };
     match Box::new(alloc, End::Receives(Inbox::new(region, receiver, head.max()))) {
         Ok(side) => {
@@ -129,6 +137,24 @@ pub fn open_receiver(alloc: Global, site: Site, rows: Rows, rx: &mut Handle) -> 
             let mut side = value;
             let _told = side.leave();
             Code::NoMemory
+        }
+    }
+}
+
+/// Makes handles' ends of the two ends: the sending one waits in the head for its process.
+fn attached(alloc: Global, head: &Head, pair: Pair) -> Option<Receiver>
+    requires { ArePair head.now pair.tx pair.rx }
+    ensures { IfSome result (λ q. IsInboxOf head.now q) }
+{
+    let Pair { tx, rx } = pair;
+    match attach(alloc, tx, rx) {
+        Ok((sender, receiver)) => {
+            head.give_sender(sender);
+            Some(receiver)
+        }
+        Err(AttachRefused { tx, rx }) => {
+            head.give_pair(Pair { tx, rx });
+            None
         }
     }
 }

@@ -1,9 +1,14 @@
-//! An allocator over two blocks of memory that its caller brings: each is given out once and never comes back.
+//! Memory that a caller brings: an allocator over two blocks of it, each of which is given out once and never comes back,
+//! and a region's words laid in them.
 
 #![tactic(auto)]
 
 ghost use Rattle.std.specs.Prelude.{◌≡◌, ◌≤◌, ◌<◌, ◌^◌, ◌%◌, IfSome};
 ghost use base.Fml.{ftrue};
+
+mod lay;
+
+pub use lay::lay;
 
 use std::alloc::{AllocError, Allocator};
 use std::cell::Cell;

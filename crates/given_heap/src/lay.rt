@@ -4,8 +4,8 @@ ghost use Rattle.std.specs.Prelude.{◌≡◌, ℕ, ◌≤◌, ◌^◌, cond, Op
 ghost use Rattle.word_map.specs.WordMap.{at as word_at, is_within};
 ghost use Rattle.region_words.specs.Parts.{IsSized};
 
+use crate::{Given, GivenHeap};
 use atomic_table::{Refused, Shared, Table};
-use given_heap::GivenHeap;
 use region_rule::{Known, RegionRule};
 use region_words::Part;
 use std::alloc::{AllocError, Global};
@@ -17,12 +17,12 @@ fn zeros(alloc: Global, count: usize) -> Result<Vec<u64>, AllocError>
     vec![in alloc; 0u64; count]
 }
 
-/// The words of a new region, all 0, for good, and the part that owns all of them. The words lie in the heap's first
-/// block and the slots in its second, each of 8 bytes a word. It takes 16 bytes a word of the process's own memory while
-/// it is made.
-pub(crate) fn lay(
+/// The words of a new region, all 0, for good, and the part that owns all of them. The words lie in the first block and
+/// the slots in the second, each of 8 bytes a word. It takes 16 bytes a word of the process's own memory while it is made.
+pub fn lay(
     alloc: Global,
-    heap: GivenHeap,
+    first: Given,
+    second: Given,
     words: usize,
 ) -> Result<(&'static Shared<u64, Known, usize, RegionRule>, Part), AllocError>
     requires { (1 ≤ words) × (words ≤ 2 ^ 26) }
@@ -33,6 +33,7 @@ pub(crate) fn lay(
 {
     let row = zeros(alloc, words)?;
     let slots = zeros(alloc, words)?;
+    let heap = GivenHeap::new(first, second);
     let (table, seat) = match Table::new(heap, row.as_slice(), slots, &words) {
         Ok(made) => made,
         Err(Refused { slots: _ }) => return Err(AllocError),
