@@ -6,9 +6,9 @@
 ghost use Rattle.std.specs.Prelude.{◌≡◌, ◌≤◌, ◌<◌, ◌^◌, ◌%◌, IfSome};
 ghost use base.Fml.{ftrue};
 
-mod lay;
+mod laying;
 
-pub use lay::lay;
+pub use laying::lay;
 
 use std::alloc::{AllocError, Allocator};
 use std::cell::Cell;

@@ -9,7 +9,7 @@ use Rattle.region_rule.specs.Places.{idle, Ruled}
 use Rattle.region_rule.proofs.Opens.{opens_table}
 use Rattle.region_words.specs.Parts.{Owned}
 use Rattle.region_words.proofs.Parts.{begun, length-zeros}
-use Rattle.given_heap.proofs.lay.lay.Goals as goal
+use Rattle.given_heap.proofs.laying.lay.Goals as goal
 
 pub new-requires : goal.new-requires
 new-requires c =
