@@ -26,7 +26,7 @@ mod split;
 mod store;
 
 pub use input::{MOST_BYTES, ReadAnswer, read_all};
-pub use par_model::read_integer;
+pub use par_model::read_number;
 pub use place::{Place, past_others, past_quote, scanned};
 pub use records::{MOST_RECORDS, RowsAnswer, rows, rows_in_threads};
 pub use store::{NearRows, Record, RowStore};

@@ -32,10 +32,12 @@ fn plan() -> BoundPlan
     let unused = Item {
         kind: ItemKind::Rows,
         column: 0,
+        places: 0,
     };
     let sum = Item {
         kind: ItemKind::Sum,
         column: 1,
+        places: 0,
     };
     BoundPlan {
         groups: [0, 0, 0, 0, 0, 0, 0, 0],

@@ -11,7 +11,8 @@ use par_io::{Sink, write_whole};
 
 /// What `--help` and `-h` are answered.
 pub const HELP: &str = "\
-usage: parstream [--group COLUMNS] --agg ITEMS [--where FILTER] [--workers N]
+usage: parstream [--group COLUMNS] --agg ITEMS [--where FILTER]
+                 [--decimals PLACES] [--workers N]
 
 Reads comma-separated records from the standard input, of which the first is the
 header, and writes a table with a row for each group.
@@ -20,22 +21,28 @@ header, and writes a table with a row for each group.
                    one group
   --agg ITEMS      one to eight items between commas: count, the number of rows;
                    count:C, that of the fields of column C that are not empty;
-                   sum:C, min:C, max:C and avg:C of the integers of column C
+                   sum:C, min:C, max:C and avg:C of the numbers of column C
   --where FILTER   only rows for which it holds: a column, one of = != < <= >
-                   >=, and an integer; quote it for the shell
+                   >=, and a number; quote it for the shell
+  --decimals PLACES
+                   how many digits numbers may have after the point, up to 18:
+                   2 for all columns, price=2,weight=3 for some; without it
+                   numbers are integers
   --workers N      0 to 64 threads besides the first; 2 if it is not given
   -h, --help       this text
   --version        the program's version
 
-An integer has 64 bits, and no point, comma or unit. An empty field is left out
-of sums, minima, maxima and averages. The input may have any length, a record at
-most 67108864 bytes, and the columns of a group 248, four of them for each
-column.
+A number has no comma and no unit, and without its point it fits 64 bits. Sums
+are exact. An average has four digits more after the point than the numbers. An
+empty field is left out of sums, minima, maxima and averages. The input may have
+any length, a record at most 67108864 bytes, and the columns of a group 248, four
+of them for each column.
 
 Examples:
   parstream --agg count < orders.csv
   parstream --group region,year --agg count,sum:qty,avg:qty < orders.csv
   parstream --group region --agg max:qty --where 'qty>=10' < orders.csv
+  parstream --agg sum:price --decimals 2 --where 'price>=9.50' < orders.csv
   zcat orders.csv.gz | parstream --group region --agg count --workers 4
 
 Status: 0 the table was written, 1 a row is refused, 2 no such query, header or

@@ -3,9 +3,9 @@ use Rattle.std.proofs.Common.{◌≡◌, ◌<◌, ◌+◌, ◌*◌, ◌^◌, ◌
 use Rattle.std.proofs.lemmas.Int.{ints, to_z-of_z}
 use Rattle.std.specs.Int.{int_max, int_min, w128}
 use Rattle.std.specs.Option.{option_map_or}
-use Rattle.std.specs.Str.Parse.{signed_digits_value}
+use Rattle.std.specs.Str.Parse.{without_leading_sign}
 use Rattle.par_model.specs.Aggregate.{total}
-use Rattle.par_model.specs.Integer.{fits_64_bits, integer_of, is_numeral, number_of, without_spaces}
+use Rattle.par_model.specs.Number.{decimal_of, fits_64_bits, is_numeral, number_of, units_of, without_spaces}
 
 -- the extreme of some numbers, if there are any
 abbrev pub extreme : (ℤ → ℤ → ℤ) → List ℤ → Option ℤ
@@ -32,7 +32,7 @@ total-push numbers n = fold_push (λ sum m. sum +ℤ m) (pos 0) numbers n
 
 -- ---- in machine numbers
 
--- an integer of a field is one of 64 bits
+-- a number of a field is one of 64 bits
 pub record Is64 (n : ℤ) : Type 0 where
   pub low : neg_ℤ (pos (2 ^ 63)) ≤ℤ n
   pub high : n <ℤ pos (2 ^ 63)
@@ -45,16 +45,16 @@ read_within false b z n e = cc
 fits-is : (z : ℤ) → fits_64_bits z ≡ true → Is64 z
 fits-is z e = record { low = grind (arith, ints); high = grind (arith, ints) }
 
-integer_is : (field : List ℕ) (n : ℤ) → integer_of field ≡ Some n → Is64 n
+number_is : (places : ℕ) (field : List ℕ) (n : ℤ) → decimal_of places field ≡ Some n → Is64 n
 unfolding number_of
-integer_is field n e =
+number_is places field n e =
     let text = without_spaces field in
-    let both = read_within (is_numeral text) (fits_64_bits (signed_digits_value 10 text)) (signed_digits_value 10 text) n e in
-    subst Is64 both.1 (fits-is (signed_digits_value 10 text) both.0)
+    let both = read_within (is_numeral places (without_leading_sign text)) (fits_64_bits (units_of places text)) (units_of places text) n e in
+    subst Is64 both.1 (fits-is (units_of places text) both.0)
 
-pub chosen_is : (b : Bool) (field : List ℕ) (n : ℤ) → Some n ≡ (if b then integer_of field else None) → Is64 n
-chosen_is true field n e = integer_is field n (sym e)
-chosen_is false field n e = cc
+pub chosen_is : (b : Bool) (places : ℕ) (field : List ℕ) (n : ℤ) → Some n ≡ (if b then decimal_of places field else None) → Is64 n
+chosen_is true places field n e = number_is places field n (sym e)
+chosen_is false places field n e = cc
 
 fits64 : (n : ℤ) → Is64 n → FitsSigned w64 n
 fits64 (pos k) is = record { sfits = omega (arith, ints, is.high) }

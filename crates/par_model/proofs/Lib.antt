@@ -1,3 +1,5 @@
 pub mod Folds
 pub mod Magnitudes
-pub mod ShortIntegers
+pub mod Points
+pub mod Runs
+pub mod ShortNumbers

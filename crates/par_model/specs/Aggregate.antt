@@ -1,9 +1,9 @@
 -- The aggregates of a group: count, sum, min and max of SQL over the group's rows, where a null counts as no value.
 use Rattle.std.specs.Prelude.{◌-◌, ◌+ℤ◌, ◌&&◌, ◌++◌, ℕ, ℤ, pos, List, [], ◌∷◌, not, map, length, fold, filter, filter_map, replicate, bytes_eq}
 use Rattle.std.specs.Int.{int_max, int_min}
-use Rattle.par_model.specs.Integer.{integer_of}
 use Rattle.par_model.specs.Keep.{is_kept}
 use Rattle.par_model.specs.Key.{key_of}
+use Rattle.par_model.specs.Number.{decimal_of}
 use Rattle.par_model.specs.Plan.{Plan}
 use Rattle.par_model.specs.Record.{field_of, is_null}
 use Rattle.par_model.specs.declared.plan.Item.{Item}
@@ -38,22 +38,22 @@ greatest (n ∷ numbers) = fold int_max n numbers
 abbrev pub no_values : SlotState
 no_values = record { count = 0; sum = pos 0; least = pos 0; greatest = pos 0 }
 
--- how many values there are, and what they are together as integers
+-- how many values there are, and what they are together as numbers
 abbrev pub number_slot : List (List ℕ) → List ℤ → SlotState
 number_slot values numbers = record { count = length values; sum = total numbers; least = least numbers; greatest = greatest numbers }
 
--- the slot of an aggregate over these values of its column
-abbrev pub slot_by : ItemKind → List (List ℕ) → SlotState
-slot_by kind.Rows values = no_values
-slot_by kind.Count values = number_slot values []
-slot_by kind.Sum values = number_slot values (filter_map integer_of values)
-slot_by kind.Min values = number_slot values (filter_map integer_of values)
-slot_by kind.Max values = number_slot values (filter_map integer_of values)
-slot_by kind.Avg values = number_slot values (filter_map integer_of values)
+-- the slot of an aggregate over these values of its column, as numbers with so many places
+abbrev pub slot_by : ItemKind → ℕ → List (List ℕ) → SlotState
+slot_by kind.Rows places values = no_values
+slot_by kind.Count places values = number_slot values []
+slot_by kind.Sum places values = number_slot values (filter_map (decimal_of places) values)
+slot_by kind.Min places values = number_slot values (filter_map (decimal_of places) values)
+slot_by kind.Max places values = number_slot values (filter_map (decimal_of places) values)
+slot_by kind.Avg places values = number_slot values (filter_map (decimal_of places) values)
 
 -- the slot of an aggregate over some rows
 abbrev pub slot_of : List (List (List ℕ)) → Item → SlotState
-slot_of rows item = slot_by item.kind (values_of item.column rows)
+slot_of rows item = slot_by item.kind item.places (values_of item.column rows)
 
 -- the state of some rows: how many they are, the slot of each aggregate, and slots of no values up to eight
 unfoldable pub state_of_rows : Plan → List (List (List ℕ)) → AggState

@@ -1,11 +1,11 @@
 pub mod Aggregate
 pub mod Columns
 pub mod Decimal
-pub mod Integer
 pub mod Keep
 pub mod Key
 pub mod Magnitude
 pub mod Named
+pub mod Number
 pub mod Outcome
 pub mod Plan
 pub mod PlanLayout

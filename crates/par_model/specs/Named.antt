@@ -8,16 +8,18 @@ use Rattle.par_model.specs.declared.plan.FilterOp.{FilterOp}
 use Rattle.par_model.specs.declared.plan.Item.{Item}
 use Rattle.par_model.specs.declared.plan.ItemKind.{ItemKind}
 
--- an aggregate, and the name of its column if it reads one
+-- an aggregate, the name of its column if it reads one, and the places of the column's numbers
 pub record NamedItem : Type 0 where
   pub kind : ItemKind
   pub column : Option (List ℕ)
+  pub places : ℕ
 
--- a filter by the name of its column
+-- a filter by the name of its column, whose numbers and whose value have so many places
 pub record NamedFilter : Type 0 where
   pub column : List ℕ
   pub op : FilterOp
   pub value : ℤ
+  pub places : ℕ
 
 -- the names to group by, the aggregates, whether the shared hash table is to be used, and the filter
 pub record NamedPlan : Type 0 where
@@ -44,11 +46,11 @@ bound_column header name = unwrap_or (column_of header name) 0
 
 -- an aggregate over the column of its name, and over column 0 if it has none
 abbrev pub bound_item : List (List ℕ) → NamedItem → Item
-bound_item header item = record { kind = item.kind; column = option_map_or (bound_column header) item.column 0 }
+bound_item header item = record { kind = item.kind; column = option_map_or (bound_column header) item.column 0; places = item.places }
 
 -- a filter over the column of its name
 abbrev pub bound_filter : List (List ℕ) → NamedFilter → Filter
-bound_filter header filter = record { column = bound_column header filter.column; op = filter.op; value = filter.value }
+bound_filter header filter = record { column = bound_column header filter.column; op = filter.op; value = filter.value; places = filter.places }
 
 -- the plan over the columns of a header that has all its names
 abbrev pub bound_plan : List (List ℕ) → NamedPlan → Plan

@@ -2,9 +2,9 @@
 use Rattle.std.specs.Prelude.{◌==◌, ◌&&◌, ℕ, Bool, true, false, not, List, length, Option, Some, None, if◌then◌else◌, is_none, nat_lt, option_map}
 use Rattle.std.specs.List.{enumerate_from, filter_map, position_from}
 use Rattle.std.specs.Option.{option_map_or}
-use Rattle.par_model.specs.Integer.{integer_of}
 use Rattle.par_model.specs.Keep.{is_kept}
 use Rattle.par_model.specs.Key.{key_of}
+use Rattle.par_model.specs.Number.{decimal_of}
 use Rattle.par_model.specs.Plan.{Plan}
 use Rattle.par_model.specs.Record.{field_of, is_null}
 use Rattle.par_model.specs.declared.plan.Item.{Item}
@@ -28,26 +28,26 @@ key_cause = 2
 abbrev pub item_cause : ℕ
 item_cause = 3
 
--- the cause of a row whose field of the filter's column is neither null nor an integer
+-- the cause of a row whose field of the filter's column is neither null nor a number
 abbrev pub filter_cause : ℕ
 filter_cause = 4
 
--- whether an aggregate reads integers
-abbrev pub reads_integers : ItemKind → Bool
-reads_integers kind.Rows = false
-reads_integers kind.Count = false
-reads_integers kind.Sum = true
-reads_integers kind.Min = true
-reads_integers kind.Max = true
-reads_integers kind.Avg = true
+-- whether an aggregate reads numbers
+abbrev pub reads_numbers : ItemKind → Bool
+reads_numbers kind.Rows = false
+reads_numbers kind.Count = false
+reads_numbers kind.Sum = true
+reads_numbers kind.Min = true
+reads_numbers kind.Max = true
+reads_numbers kind.Avg = true
 
--- whether a field is neither null nor an integer
-abbrev pub is_no_integer : List ℕ → Bool
-is_no_integer field = not (is_null field) && is_none (integer_of field)
+-- whether a field is neither null nor a number of at most so many places
+abbrev pub is_no_number : ℕ → List ℕ → Bool
+is_no_number places field = not (is_null field) && is_none (decimal_of places field)
 
 -- whether an aggregate cannot read its field of a row
 abbrev pub is_unreadable : List (List ℕ) → Item → Bool
-is_unreadable row item = reads_integers item.kind && is_no_integer (field_of row item.column)
+is_unreadable row item = reads_numbers item.kind && is_no_number item.places (field_of row item.column)
 
 -- a refusal for a cause that names no item
 abbrev pub refused_for : ℕ → Option Refusal
@@ -62,7 +62,7 @@ refused_at place = record { cause = item_cause; item = place }
 unfoldable pub refusal : Plan → ℕ → List (List ℕ) → Option Refusal
 refusal plan width row =
     if not (length row == width) then refused_for width_cause
-    else (if option_map_or (λ filter. is_no_integer (field_of row filter.column)) plan.filter false then refused_for filter_cause
+    else (if option_map_or (λ filter. is_no_number filter.places (field_of row filter.column)) plan.filter false then refused_for filter_cause
     else (if not (is_kept plan row) then None
     else (if nat_lt longest_key (length (key_of plan row)) then refused_for key_cause
     else option_map refused_at (position_from (is_unreadable row) 0 plan.items))))

@@ -1,7 +1,6 @@
 -- The table that answers a query, and its text: SELECT .. GROUP BY .. ORDER BY of SQL, written as RFC 4180 has it.
-use Rattle.std.specs.Prelude.{◌≡◌, ◌==◌, ◌++◌, ◌∷◌, [], ◌↔◌, ℕ, List, Contains, codes, decimal, filter, if◌then◌else◌, length, map, zip}
+use Rattle.std.specs.Prelude.{◌≡◌, ◌==◌, ◌+◌, ◌++◌, ◌∷◌, [], ◌↔◌, ℕ, List, Contains, codes, decimal, filter, if◌then◌else◌, length, map, zip}
 use Rattle.std.specs.Cmp.Lexicographic.{slice_cmp}
-use Rattle.std.specs.Fmt.{signed_decimal}
 use Rattle.std.specs.List.{concat}
 use Rattle.std.specs.List.Sorted.{IsStrictlySortedBy}
 use Rattle.std.specs.Option.{option_map_or}
@@ -9,7 +8,7 @@ use Rattle.std.specs.Ordering.{nat_cmp}
 use Rattle.std.specs.declared.cmp.Ordering.{Ordering}
 use Rattle.csv.specs.Writing.{default_writer, row_text}
 use Rattle.par_model.specs.Aggregate.{state_of}
-use Rattle.par_model.specs.Decimal.{average_text}
+use Rattle.par_model.specs.Decimal.{average, number_text}
 use Rattle.par_model.specs.Keep.{is_kept}
 use Rattle.par_model.specs.Key.{columns_of, encoded}
 use Rattle.par_model.specs.Named.{NamedItem, NamedPlan}
@@ -40,18 +39,18 @@ table_header plan = plan.groups ++ map item_text plan.items
 abbrev pub or_null : ℕ → List ℕ → List ℕ
 or_null count text = if count == 0 then [] else text
 
--- what an aggregate prints for a group that has this many rows
-abbrev pub value_text : ItemKind → ℕ → SlotState → List ℕ
-value_text kind.Rows rows slot = decimal rows
-value_text kind.Count rows slot = decimal slot.count
-value_text kind.Sum rows slot = or_null slot.count (signed_decimal slot.sum)
-value_text kind.Min rows slot = or_null slot.count (signed_decimal slot.least)
-value_text kind.Max rows slot = or_null slot.count (signed_decimal slot.greatest)
-value_text kind.Avg rows slot = or_null slot.count (average_text slot.sum slot.count)
+-- what an aggregate of numbers with so many places prints for a group that has this many rows; an average has four more
+abbrev pub value_text : ItemKind → ℕ → ℕ → SlotState → List ℕ
+value_text kind.Rows places rows slot = decimal rows
+value_text kind.Count places rows slot = decimal slot.count
+value_text kind.Sum places rows slot = or_null slot.count (number_text places slot.sum)
+value_text kind.Min places rows slot = or_null slot.count (number_text places slot.least)
+value_text kind.Max places rows slot = or_null slot.count (number_text places slot.greatest)
+value_text kind.Avg places rows slot = or_null slot.count (number_text (places + 4) (average slot.sum slot.count))
 
 -- the values of a group's state, one for each aggregate of the plan
 abbrev pub values_text : Plan → AggState → List (List ℕ)
-values_text plan state = map (λ p. value_text p.0.kind state.rows p.1) (zip plan.items state.slots)
+values_text plan state = map (λ p. value_text p.0.kind p.0.places state.rows p.1) (zip plan.items state.slots)
 
 -- the record of a group with these columns
 abbrev pub group_record : Plan → List (List (List ℕ)) → List (List ℕ) → List (List ℕ)

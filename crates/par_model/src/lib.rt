@@ -7,14 +7,14 @@
 
 #![tactic(auto)]
 
-pub mod integer;
+pub mod number;
 pub mod plan;
 pub mod refusal;
 pub mod row;
 pub mod state;
 
-pub use integer::read_integer;
-pub use plan::{BoundPlan, Filter, FilterOp, Item, ItemKind};
+pub use number::{read_integer, read_number};
+pub use plan::{BoundPlan, Filter, FilterOp, Item, ItemKind, MOST_PLACES};
 pub use refusal::{FILTER_CAUSE, ITEM_CAUSE, KEY_CAUSE, LONGEST_KEY, Refusal, WIDTH_CAUSE};
 pub use row::{Field, Row};
 pub use state::{AggState, NO_VALUES, SlotState};

@@ -3,13 +3,13 @@
 //! A plan lies in arrays of a fixed size, so that it can be copied into shared memory word by word. The places past a
 //! count hold column 0 and kind `Rows`, which `BoundPlan` keeps as its invariant; a contract sees only the lists.
 
-ghost use Rattle.std.specs.Prelude.{◌≡◌, ◌≤◌, length};
+ghost use Rattle.std.specs.Prelude.{◌≡◌, ◌≤◌, All, length};
 ghost use Rattle.par_model.specs.Keep.{stands};
 
 use std::marker::Model;
 
 /// What an aggregate computes: the number of rows, the number of fields that are not empty, or the sum, the least, the
-/// greatest and the average of a column of integers.
+/// greatest and the average of a column of numbers.
 #[derive(Clone, Copy, Debug, PartialEq, Eq)]
 pub enum ItemKind {
     Rows,
@@ -20,14 +20,19 @@ pub enum ItemKind {
     Avg,
 }
 
-/// An aggregate, with the column that it reads. An item of kind `Rows` reads none, and has column 0.
+/// The most digits that a number may have after the point.
+pub const MOST_PLACES: u32 = 18;
+
+/// An aggregate, with the column that it reads, and how many digits the column's numbers may have after the point,
+/// [`MOST_PLACES`] at most. An item of kind `Rows` reads none, and has column 0 and no places.
 #[derive(Clone, Copy, Debug, PartialEq, Eq)]
 pub struct Item {
     pub kind: ItemKind,
     pub column: u32,
+    pub places: u32,
 }
 
-/// The relation that a row's integer must have to the filter's value.
+/// The relation that a row's number must have to the filter's value.
 #[derive(Clone, Copy, Debug, PartialEq, Eq)]
 pub enum FilterOp {
     Equal,
@@ -54,12 +59,13 @@ impl FilterOp {
     }
 }
 
-/// Which rows are kept: those whose integer in a column has the relation to the value.
+/// Which rows are kept: those whose number in a column has the relation to the value. Both are in units of 10^-places.
 #[derive(Clone, Copy, Debug, PartialEq, Eq)]
 pub struct Filter {
     pub column: u32,
     pub op: FilterOp,
     pub value: i64,
+    pub places: u32,
 }
 
 /// A plan over column numbers.
@@ -68,7 +74,7 @@ pub struct BoundPlan {
     /// The columns to group by; places past the count hold 0.
     pub groups: [u32; 8],
     pub group_count: u32,
-    /// The aggregates; places past the count hold the kind `Rows` and column 0.
+    /// The aggregates; unused ones have the kind `Rows` and column 0.
     pub items: [Item; 8],
     pub item_count: u32,
     /// Asks for the plan over the shared hash table, which changes no answer.
@@ -102,6 +108,7 @@ impl BoundPlan {
     pub fn items(&self) -> &[Item]
         ensures items { result.now ≡ self.now.items }
         ensures few { length result.now ≤ 8 }
+        ensures places { All (λ item. item.places ≤ MOST_PLACES) result.now }
     {
         &self.items[..self.item_count as usize]
     }

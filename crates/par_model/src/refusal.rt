@@ -9,10 +9,10 @@ pub const WIDTH_CAUSE: u8 = 1;
 /// The cause of a row whose encoded group key is longer than [`LONGEST_KEY`] bytes.
 pub const KEY_CAUSE: u8 = 2;
 
-/// The cause of a row in which a field of a `sum`, `min`, `max` or `avg` is no integer.
+/// The cause of a row in which a field of a `sum`, `min`, `max` or `avg` is no number.
 pub const ITEM_CAUSE: u8 = 3;
 
-/// The cause of a row whose field of the filter's column is no integer.
+/// The cause of a row whose field of the filter's column is no number.
 pub const FILTER_CAUSE: u8 = 4;
 
 /// Why a row is refused: `cause` is one of [`WIDTH_CAUSE`], [`KEY_CAUSE`], [`ITEM_CAUSE`] and [`FILTER_CAUSE`]. `item`

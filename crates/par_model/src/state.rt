@@ -1,6 +1,7 @@
 //! The aggregates of a group over the rows that were added so far.
 
-/// The aggregates of one item. Sum, least and greatest integer are 0 if the item reads no integers or `count` is 0.
+/// The aggregates of one item. Sum, least and greatest number are 0 if the item reads no numbers or `count` is 0; they
+/// are in units of 10^-places of the item.
 #[derive(Clone, Copy, Debug, PartialEq, Eq)]
 pub struct SlotState {
     /// How many fields are not empty.

@@ -1,4 +1,3 @@
-mod Asked
 mod Batches
 mod Refusals
 mod Statuses

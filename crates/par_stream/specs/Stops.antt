@@ -1,5 +1,5 @@
 -- What a reason to have no table says of the outcome.
-use Rattle.std.specs.Prelude.{◌∷◌, ◌≡◌, ◌<◌, ◌+◌, ◌^◌, ◌⊎◌, ◌++◌, ⊤, ℕ, List, None, Option, Some, IfSome, codes, length, decimal, string_bytes}
+use Rattle.std.specs.Prelude.{◌∷◌, ◌≡◌, ◌<◌, ◌+◌, ◌^◌, ◌⊎◌, ◌++◌, ⊤, ℕ, List, None, Option, Some, String, IfSome, codes, length, decimal, string_bytes}
 use Rattle.par_model.specs.Named.{NamedPlan}
 use Rattle.par_model.specs.Outcome.{NoColumn, NoHeader, Refused, Table}
 use Rattle.par_model.specs.Plan.{Plan}
@@ -20,21 +20,12 @@ use Rattle.par_stream.specs.Reading.{Begins, HasAdded, IsBound}
 use Rattle.par_stream.specs.declared.batch.Batch.{Batch}
 use Rattle.par_stream.specs.declared.adding.Added.{Added}
 use Rattle.par_stream.specs.declared.stop.TheConstants.{LONG_RECORD}
-use Rattle.par_stream.specs.declared.stop.Cause.{Cause}
-use Rattle.par_stream.specs.declared.stop.Cause.TheVariants as cause
 use Rattle.par_stream.specs.declared.stop.Stop.{Stop}
 use Rattle.par_stream.specs.declared.stop.Stop.TheVariants as stop
 
 -- how the program is called
 abbrev pub usage_text : List ℕ
-usage_text = codes "usage: parstream [--group COLUMNS] --agg ITEMS [--where FILTER] [--workers N]"
-
--- what the line says of the cause of a refusal
-abbrev pub cause_text : Cause → List ℕ
-cause_text cause.Width = codes "wrong number of fields"
-cause_text cause.LongKey = codes "group key is longer than 248 bytes"
-cause_text (cause.Item name) = codes "column " ++ (string_bytes name ++ codes " is not an integer")
-cause_text (cause.Filter name) = codes "filter column " ++ (string_bytes name ++ codes " is not an integer")
+usage_text = codes "usage: parstream [--group COLUMNS] --agg ITEMS [--where FILTER] [--decimals PLACES] [--workers N]"
 
 -- the number of a row, before what is said of it
 abbrev pub row_front : ℕ → List ℕ
@@ -47,15 +38,15 @@ stop_says stop.ReadFault = (READ_FAULT, codes "read fault")
 stop_says stop.NoHeader = (MISUSED, codes "no header")
 stop_says (stop.NoColumn name) = (MISUSED, codes "no column " ++ string_bytes name)
 stop_says (stop.LongRecord row) = (LONG_RECORD, row_front row ++ codes "longer than 67108864 bytes")
-stop_says (stop.Refused row why) = (REFUSED, row_front row ++ cause_text why)
+stop_says (stop.Refused row why) = (REFUSED, row_front row ++ string_bytes why)
 stop_says stop.WriteFault = (WRITE_FAULT, codes "write fault")
 stop_says stop.Memory = (NO_MEMORY, codes "out of memory")
 
--- A row that is named, with what is said of its cause: that is the text of a refusal, and if a source tells what it had
+-- A row that is named, with what is said of it: that is the text of a refusal, and if a source tells what it had
 -- left, the outcome of the query refuses this row for it, first of all
-pub record NamesFirstRow (query : Query) (left : Option (List ℕ)) (row : ℕ) (why : Cause) : Type 0 where
+pub record NamesFirstRow (query : Query) (left : Option (List ℕ)) (row : ℕ) (why : List ℕ) : Type 0 where
   pub refusal : Refusal
-  pub says : cause_text why ≡ refusal_text query.plan refusal
+  pub says : why ≡ refusal_text query.plan refusal
   pub first : IfSome left (λ bytes. (others : List (ℕ × Refusal)) × (outcome_over query.plan bytes ≡ Refused ((row, refusal) ∷ others)))
 
 -- what a reason says of what a query is over, where a source tells what it had left
@@ -65,7 +56,7 @@ Tells query left stop.ReadFault = ⊤
 Tells query left stop.NoHeader = IfSome left (λ bytes. outcome_over query.plan bytes ≡ NoHeader)
 Tells query left (stop.NoColumn name) = IfSome left (λ bytes. outcome_over query.plan bytes ≡ NoColumn (string_bytes name))
 Tells query left (stop.LongRecord row) = IfSome left (λ bytes. HasLong query.plan bytes row)
-Tells query left (stop.Refused row why) = NamesFirstRow query left row why
+Tells query left (stop.Refused row why) = NamesFirstRow query left row (string_bytes why)
 Tells query left stop.WriteFault = IfSome left (λ bytes. outcome_over query.plan bytes ≡ Table)
 Tells query left stop.Memory = ⊤
 
@@ -93,7 +84,7 @@ stop_of_words words.Memory = stop.Memory
 
 -- the reason is that this row is refused, and has the text of the refusal
 abbrev pub IsRefusedRow : NamedPlan → ℕ → Refusal → Stop → Type 0
-IsRefusedRow plan row refusal why = (cause : Cause) × (why ≡ stop.Refused row cause) × (cause_text cause ≡ refusal_text plan refusal)
+IsRefusedRow plan row refusal why = (text : String) × (why ≡ stop.Refused row text) × (string_bytes text ≡ refusal_text plan refusal)
 
 -- the reason says of an answer on the rows behind so many what the answer says, or is want of memory
 abbrev pub Restates : NamedPlan → ℕ → BlockAnswer → Stop → Type 0

@@ -19,7 +19,7 @@ ghost use Rattle.answer_text.specs.Words.{texts};
 ghost use Rattle.par_stream.specs.Answers.{IsTableText};
 ghost use Rattle.par_stream.specs.Lines.{line};
 ghost use Rattle.par_stream.specs.Stops.{TellsOf, stop_says, usage_text};
-ghost use Rattle.par_stream.specs.Words.{query_of};
+ghost use Rattle.plan_spec.specs.Query.{stream_query_of};
 ghost use Rattle.par_stream.specs.declared.stop.Stop.{Stop};
 ghost use Rattle.par_stream.specs.declared.stop.Stop.TheVariants as stop;
 
@@ -41,7 +41,7 @@ use reading::read_groups;
 use std::alloc::Global;
 use std::sync::Wait;
 use std::thread::Threads;
-pub use stop::{Cause, LONG_RECORD, Stop};
+pub use stop::{LONG_RECORD, Stop};
 use words::read_words;
 
 /// The bytes that a batch of the program's windows is to have: 4 MiB.
@@ -68,7 +68,7 @@ pub fn stream_table<R: Threads + Wait + Sync, S: Source, O: Sink, E: Sink, P: Pr
     // On every status but that of a table there is a reason, which tells of the outcome over all bytes; the status is the
     // reason's, and so is the line that `err` receives, or a prefix of it if a write of it failed. A fault is answered
     // only if it came in this call.
-    ensures why { (result ≢ TABLE) → (why : Stop) × TellsOf (query_of (texts words.now)) (S.left source.old) why × (result ≡ (stop_says why).0)
+    ensures why { (result ≢ TABLE) → (why : Stop) × TellsOf (stream_query_of (texts words.now)) (S.left source.old) why × (result ≡ (stop_says why).0)
         × IsSaid (E.taken err.old) (E.taken err.new) (E.faults err.old) (E.faults err.new) (line (stop_says why).1) }
     ensures read_fault { result ≡ READ_FAULT → Rose (S.faults source.old) (S.faults source.new) }
     ensures write_fault { result ≡ WRITE_FAULT → Rose (O.faults out.old) (O.faults out.new) }
@@ -76,13 +76,13 @@ pub fn stream_table<R: Threads + Wait + Sync, S: Source, O: Sink, E: Sink, P: Pr
 
     // `out` receives the table, or a prefix of it if a write failed, and on every other status nothing.
     ensures table { result ≡ TABLE → IfSome (S.left source.old) (λ bytes.
-        (text : List ℕ) × IsTableText (query_of (texts words.now)) bytes text × Appends (O.taken out.old) (O.taken out.new) text) }
+        (text : List ℕ) × IsTableText (stream_query_of (texts words.now)) bytes text × Appends (O.taken out.old) (O.taken out.new) text) }
     ensures part { result ≡ WRITE_FAULT → IfSome (S.left source.old) (λ bytes.
-        (text : List ℕ) × IsTableText (query_of (texts words.now)) bytes text × (n : ℕ) × Appends (O.taken out.old) (O.taken out.new) (take n text)) }
+        (text : List ℕ) × IsTableText (stream_query_of (texts words.now)) bytes text × (n : ℕ) × Appends (O.taken out.old) (O.taken out.new) (take n text)) }
     ensures nothing { (result ≢ TABLE) → (result ≢ WRITE_FAULT) → out.new ≡ out.old }
 
     // Words that are no query are answered before anything is read.
-    ensures unread { IsNone (query_of (texts words.now)) → source.new ≡ source.old }
+    ensures unread { IsNone (stream_query_of (texts words.now)) → source.new ≡ source.old }
 {
     match answer_stream(rt, alloc, words, source, out, window_bytes, progress) {
         Ok(()) => TABLE,
@@ -109,15 +109,15 @@ fn answer_stream<R: Threads + Wait + Sync, S: Source, O: Sink, P: Progress>(
     progress: &mut P,
 ) -> Result<(), Stop>
     ensures table { OnOk result (IfSome (S.left source.old) (λ bytes.
-        (text : List ℕ) × IsTableText (query_of (texts words.now)) bytes text × Appends (O.taken out.old) (O.taken out.new) text)) }
+        (text : List ℕ) × IsTableText (stream_query_of (texts words.now)) bytes text × Appends (O.taken out.old) (O.taken out.new) text)) }
     ensures part { IfErr result (λ why. why ≡ stop.WriteFault → IfSome (S.left source.old) (λ bytes.
-        (text : List ℕ) × IsTableText (query_of (texts words.now)) bytes text × (n : ℕ) × Appends (O.taken out.old) (O.taken out.new) (take n text))) }
+        (text : List ℕ) × IsTableText (stream_query_of (texts words.now)) bytes text × (n : ℕ) × Appends (O.taken out.old) (O.taken out.new) (take n text))) }
     ensures nothing { IfErr result (λ why. (why ≢ stop.WriteFault) → out.new ≡ out.old) }
-    ensures why { IfErr result (TellsOf (query_of (texts words.now)) (S.left source.old)) }
+    ensures why { IfErr result (TellsOf (stream_query_of (texts words.now)) (S.left source.old)) }
     ensures read_fault { IfErr result (λ why. why ≡ stop.ReadFault → Rose (S.faults source.old) (S.faults source.new)) }
     ensures write_fault { IfErr result (λ why. why ≡ stop.WriteFault → Rose (O.faults out.old) (O.faults out.new)) }
-    ensures some { OnOk result (IsNone (query_of (texts words.now)) → ⊥) }
-    ensures unread { IsNone (query_of (texts words.now)) → source.new ≡ source.old }
+    ensures some { OnOk result (IsNone (stream_query_of (texts words.now)) → ⊥) }
+    ensures unread { IsNone (stream_query_of (texts words.now)) → source.new ≡ source.old }
 {
     let plan = read_words(alloc, words)?;
     let read = read_groups(rt, alloc, &plan, source, window_bytes, progress);

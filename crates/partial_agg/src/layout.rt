@@ -8,7 +8,7 @@
 
 ghost use Rattle.std.specs.Prelude.{◌≡◌, ◌<◌, ◌≤◌, ◌↔◌, ℕ, List, IsTrue, None, false, drop, get_or, length, slice_get, take};
 ghost use Rattle.par_model.specs.Aggregate.{no_values};
-ghost use Rattle.par_model.specs.Refuse.{reads_integers};
+ghost use Rattle.par_model.specs.Refuse.{reads_numbers};
 ghost use Rattle.partial_agg.specs.Items.{is_item_unreadable, item_value, items_state};
 ghost use Rattle.partial_agg.specs.State.{without_integers};
 ghost use Rattle.partial_agg.specs.Values.{slot_of_value, values_state};
@@ -382,31 +382,30 @@ fn takes_same(item: Option<Item>, other: Option<Item>) -> bool
         (None, None) => true,
         (Some(item), Some(other)) => {
             item.column == other.column
+                && item.places == other.places
                 && (item.kind == other.kind
-                    || takes_integers(item.kind) && takes_integers(other.kind))
+                    || takes_numbers(item.kind) && takes_numbers(other.kind))
         }
         _ => false,
     }
 }
 
-/// Whether an item only counts the integers that another takes.
+/// Whether an item only counts the numbers that another takes.
 fn is_count_of(item: Option<Item>, other: Option<Item>) -> bool
     ensures { IsTrue result → (row : List (List ℕ)) → is_item_unreadable row other ≡ false
         → (slot_of_value (item_value row item) ≡ without_integers (slot_of_value (item_value row other))) × (is_item_unreadable row item ≡ false) }
 {
     match (item, other) {
         (Some(item), Some(other)) => {
-            item.column == other.column
-                && item.kind == ItemKind::Count
-                && takes_integers(other.kind)
+            item.column == other.column && item.kind == ItemKind::Count && takes_numbers(other.kind)
         }
         _ => false,
     }
 }
 
-/// Whether an aggregate takes a column's integers.
-fn takes_integers(kind: ItemKind) -> bool
-    ensures { result ≡ reads_integers kind }
+/// Whether an aggregate takes a column's numbers.
+fn takes_numbers(kind: ItemKind) -> bool
+    ensures { result ≡ reads_numbers kind }
 {
     match kind {
         ItemKind::Rows | ItemKind::Count => false,

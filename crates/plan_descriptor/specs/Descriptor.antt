@@ -12,6 +12,7 @@ use Rattle.par_model.specs.declared.plan.FilterOp.TheVariants as op
 use Rattle.par_model.specs.declared.plan.Item.{Item}
 use Rattle.par_model.specs.declared.plan.ItemKind.{ItemKind}
 use Rattle.par_model.specs.declared.plan.ItemKind.TheVariants as kind
+use Rattle.par_model.specs.declared.plan.TheConstants.{MOST_PLACES}
 use Rattle.word_map.specs.WordMap.{WordMap, values_from}
 use Rattle.shm_toc.specs.Table.{word_of}
 
@@ -44,15 +45,19 @@ relation_word op.GreaterEqual = 6
 abbrev pub head_word : ℕ → Plan → ℕ → ℕ
 head_word version plan k = if k == 0 then version else (if k == 1 then length plan.groups else (if k == 2 then length plan.items else (if plan.hash then 1 else 0)))
 
+-- a column in the lower 32 bits, and how many places its numbers have in the upper ones
+abbrev pub column_word : ℕ → ℕ → ℕ
+column_word column places = column + 2 ^ 32 * places
+
 -- the two words of an aggregate: its kind, and its column
 abbrev pub item_word : Item → ℕ → ℕ
-item_word item k = if k == 0 then kind_word item.kind else item.column
+item_word item k = if k == 0 then kind_word item.kind else column_word item.column item.places
 
 -- the last four words: the filter's relation, its column, its value in two's complement, and a zero; without a filter
 -- four zeros
 abbrev pub filter_word : Option Filter → ℕ → ℕ
 filter_word None k = 0
-filter_word (Some filter) k = if k == 0 then relation_word filter.op else (if k == 1 then filter.column else (if k == 2 then cast_unsigned w64 filter.value else 0))
+filter_word (Some filter) k = if k == 0 then relation_word filter.op else (if k == 1 then column_word filter.column filter.places else (if k == 2 then cast_unsigned w64 filter.value else 0))
 
 -- the word at a place: the head in words 0 to 3, the columns to group by in words 4 to 11, the aggregates in words 12
 -- to 27, and the filter from word 28 on. What a place has that no column or aggregate uses is zero
@@ -64,17 +69,19 @@ plan_word version plan k = if nat_lt k 4 then head_word version plan k else (if 
 unfoldable pub plan_words : ℕ → Plan → List ℕ
 plan_words version plan = map (plan_word version plan) (range_with_len 0 (size_of version))
 
--- words are the descriptor of a plan: in version 2, or in version 1 if the plan has no filter
+-- words are the descriptor of a plan: in version 2, or in version 1 if the plan has no filter and no places
 abbrev pub IsDescriptor : List ℕ → Plan → Type 0
-IsDescriptor words plan = (words ≡ plan_words 2 plan) ⊎ ((words ≡ plan_words 1 plan) × (plan.filter ≡ None))
+IsDescriptor words plan = (words ≡ plan_words 2 plan) ⊎ ((words ≡ plan_words 1 plan) × (plan.filter ≡ None) × All (λ item. item.places ≡ 0) plan.items)
 
--- the plan's lists have room in its arrays: at most eight columns to group by, one to eight aggregates, and column 0 if
--- an aggregate reads none
+-- the plan's lists have room in its arrays: at most eight columns to group by, one to eight aggregates, and column 0
+-- without places if an aggregate reads none; no number has more places than it may
 pub record HasRoom (plan : Plan) : Type 0 where
   pub groups : length plan.groups ≤ 8
   pub some_item : 1 ≤ length plan.items
   pub items : length plan.items ≤ 8
-  pub no_column : All (λ item. item.kind ≡ kind.Rows → item.column ≡ 0) plan.items
+  pub no_column : All (λ item. item.kind ≡ kind.Rows → (item.column ≡ 0) × (item.places ≡ 0)) plan.items
+  pub item_places : All (λ item. item.places ≤ MOST_PLACES) plan.items
+  pub filter_places : ForSome plan.filter (λ filter. filter.places ≤ MOST_PLACES)
 
 -- the plan can be written: its lists have room, its columns have 32 bits, and its filter's value has 64 and a sign
 pub record IsWritable (plan : Plan) : Type 0 where
@@ -89,6 +96,10 @@ pub record IsWritable (plan : Plan) : Type 0 where
 abbrev pub is_column : Bool → ℕ → Bool
 is_column stands word = if stands then nat_lt word (2 ^ 32) else word == 0
 
+-- a column and in version 2 at most eighteen places if there is one, and else zero
+abbrev pub is_placed : List ℕ → Bool → ℕ → Bool
+is_placed words stands word = if slice_index words 0 == 1 then is_column stands word else (if stands then nat_lt word (2 ^ 32 * (MOST_PLACES + 1)) else word == 0)
+
 -- the version, 1 or 2; at most eight columns; one to eight aggregates; the plan, 0 or 1
 abbrev pub is_head : ℕ → ℕ → Bool
 is_head k word = if k == 0 then word == 1 || word == 2 else (if k == 1 then nat_le word 8 else (if k == 2 then nat_le 1 word && nat_le word 8 else nat_le word 1))
@@ -97,11 +108,11 @@ is_head k word = if k == 0 then word == 1 || word == 2 else (if k == 1 then nat_
 -- aggregates
 abbrev pub is_item : List ℕ → ℕ → ℕ → ℕ → Bool
 is_item words i k word = if k == 0 then (if nat_lt i (slice_index words 2) then nat_le word 5 else word == 0)
-    else is_column (nat_lt i (slice_index words 2) && not (slice_index words (12 + 2 * i) == 0)) word
+    else is_placed words (nat_lt i (slice_index words 2) && not (slice_index words (12 + 2 * i) == 0)) word
 
 -- the words of the filter: a relation, and with one a column and any value; without one zeros
 abbrev pub is_filter : List ℕ → ℕ → ℕ → Bool
-is_filter words k word = if k == 0 then nat_le word 6 else (if k == 1 then is_column (not (slice_index words 28 == 0)) word
+is_filter words k word = if k == 0 then nat_le word 6 else (if k == 1 then is_placed words (not (slice_index words 28 == 0)) word
     else (if k == 2 then not (slice_index words 28 == 0) || word == 0 else word == 0))
 
 -- whether the word at a place is allowed there

@@ -5,10 +5,11 @@ ghost use Rattle.std.specs.Int.{w64};
 ghost use Rattle.std.specs.Option.{ForSome, option_map_or};
 ghost use Rattle.par_model.specs.Plan.{Plan};
 ghost use Rattle.par_model.specs.PlanLayout.{unused};
-ghost use Rattle.plan_descriptor.specs.Descriptor.{IsDescriptor, IsWritable, bad_word, filter_word, is_allowed, is_column, is_filter, is_head, is_item, kind_word, relation_word, size_of};
+ghost use Rattle.par_model.specs.declared.plan.TheConstants.{MOST_PLACES};
+ghost use Rattle.plan_descriptor.specs.Descriptor.{IsDescriptor, IsWritable, bad_word, column_word, filter_word, is_allowed, is_column, is_filter, is_head, is_item, is_placed, kind_word, relation_word, size_of};
 
 use crate::BadDescriptor;
-use par_model::{BoundPlan, Filter, FilterOp, Item, ItemKind};
+use par_model::{BoundPlan, Filter, FilterOp, Item, ItemKind, MOST_PLACES};
 
 /// The plan of the words of a descriptor, or the least word that is not allowed.
 pub(crate) fn decode(words: &[u64]) -> Result<BoundPlan, BadDescriptor>
@@ -74,6 +75,21 @@ fn is_column(stands: bool, word: u64) -> bool
     if stands { word < 1 << 32 } else { word == 0 }
 }
 
+/// A column with the places of its numbers, of which version 1 has none, and else zero.
+fn is_placed(words: &[u64], stands: bool, word: u64) -> bool
+    requires { 28 ≤ length words.now }
+    ensures { result ≡ is_placed words.now stands word }
+{
+    if words[0] == 1 {
+        return is_column(stands, word);
+    }
+    if stands {
+        word < u64::from(MOST_PLACES + 1) << 32
+    } else {
+        word == 0
+    }
+}
+
 /// The two words of an aggregate.
 fn is_item(words: &[u64], at: usize, place: usize, word: u64) -> bool
     requires size { 28 ≤ length words.now }
@@ -84,7 +100,7 @@ fn is_item(words: &[u64], at: usize, place: usize, word: u64) -> bool
     if place == 0 {
         return if stands { word <= 5 } else { word == 0 };
     }
-    is_column(stands && words[12 + 2 * at] != 0, word)
+    is_placed(words, stands && words[12 + 2 * at] != 0, word)
 }
 
 /// The words of the filter.
@@ -95,7 +111,7 @@ fn is_filter(words: &[u64], place: usize, word: u64) -> bool
     let stands = words[28] != 0;
     match place {
         0 => word <= 6,
-        1 => is_column(stands, word),
+        1 => is_placed(words, stands, word),
         2 => stands || word == 0,
         _ => word == 0,
     }
@@ -136,21 +152,36 @@ fn groups(words: &[u64]) -> [u32; 8]
 fn items(words: &[u64]) -> [Item; 8]
     requires size { 28 ≤ length words.now }
     requires kinds { (k : ℕ) → k < 8 → slice_index words.now (12 + 2 * k) ≤ 5 }
-    requires columns { (k : ℕ) → k < 8 → slice_index words.now (13 + 2 * k) < 2 ^ 32 }
+    requires columns { (k : ℕ) → k < 8 → slice_index words.now (13 + 2 * k) < 2 ^ 32 * (MOST_PLACES + 1) }
     ensures size { length result ≡ 8 }
     ensures kinds { (k : ℕ) → k < 8 → kind_word (slice_index_or result k unused).kind ≡ slice_index words.now (12 + 2 * k) }
-    ensures columns { (k : ℕ) → k < 8 → (slice_index_or result k unused).column ≡ slice_index words.now (13 + 2 * k) }
+    ensures columns { (k : ℕ) → k < 8 → column_word (slice_index_or result k unused).column (slice_index_or result k unused).places ≡ slice_index words.now (13 + 2 * k) }
+    ensures places { (k : ℕ) → k < 8 → (slice_index_or result k unused).places ≤ MOST_PLACES }
 {
     let mut items = [Item {
         kind: ItemKind::Rows,
         column: 0,
+        places: 0,
     }; 8];
     'items: for at in 0..8 {
         let kind = kind_of(words[12 + 2 * at]);
-        let column = words[13 + 2 * at] as u32;
-        items[at] = Item { kind, column };
+        let (column, places) = column_of(words[13 + 2 * at]);
+        items[at] = Item {
+            kind,
+            column,
+            places,
+        };
     }
     items
+}
+
+/// The column and the places of a word.
+fn column_of(word: u64) -> (u32, u32)
+    requires { word < 2 ^ 32 * (MOST_PLACES + 1) }
+    ensures word { column_word result.0 result.1 ≡ word }
+    ensures places { result.1 ≤ MOST_PLACES }
+{
+    (word as u32, (word >> 32) as u32)
 }
 
 fn kind_of(word: u64) -> ItemKind
@@ -172,17 +203,19 @@ fn filter(words: &[u64]) -> Option<Filter>
     requires size { length words.now ≡ size_of (slice_index words.now 0) }
     requires allowed { bad_word words.now ≡ None }
     ensures old { length words.now ≡ 28 → result ≡ None }
-    ensures fits { ForSome result (λ filter. (filter.column < 2 ^ 32) × FitsSigned w64 filter.value) }
+    ensures fits { ForSome result (λ filter. (filter.column < 2 ^ 32) × (filter.places ≤ MOST_PLACES) × FitsSigned w64 filter.value) }
     ensures words { length words.now ≡ 32 → (k : ℕ) → k < 4 → filter_word result k ≡ slice_index words.now (28 + k) }
 {
     if words.len() < 32 {
         return None;
     }
     let op = relation_of(words[28])?;
+    let (column, places) = column_of(words[29]);
     Some(Filter {
-        column: words[29] as u32,
+        column,
         op,
         value: words[30].cast_signed(),
+        places,
     })
 }
 

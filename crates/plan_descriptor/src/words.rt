@@ -1,9 +1,10 @@
 //! The word of a plan at each place of its descriptor.
 
-ghost use Rattle.std.specs.Prelude.{◌≡◌, ◌<◌, ◌≤◌, ◌^◌, FitsSigned};
+ghost use Rattle.std.specs.Prelude.{◌≡◌, ◌<◌, ◌≤◌, ◌-◌, ◌/◌, ◌^◌, FitsSigned, slice_index_or};
 ghost use Rattle.std.specs.Int.{w64};
 ghost use Rattle.std.specs.Option.{ForSome};
-ghost use Rattle.plan_descriptor.specs.Descriptor.{HasRoom, filter_word, head_word, item_word, kind_word, plan_word, relation_word};
+ghost use Rattle.par_model.specs.PlanLayout.{unused};
+ghost use Rattle.plan_descriptor.specs.Descriptor.{HasRoom, column_word, filter_word, head_word, item_word, kind_word, plan_word, relation_word};
 
 use par_model::{BoundPlan, Filter, FilterOp, Item, ItemKind};
 
@@ -11,8 +12,9 @@ use par_model::{BoundPlan, Filter, FilterOp, Item, ItemKind};
 pub(crate) fn plan_word(plan: &BoundPlan, place: u64) -> u64
     requires { place < 32 }
     ensures word { result ≡ plan_word 2 plan.now place }
-    ensures narrow { place < 30 → result < 2 ^ 32 }
-    ensures value { 28 ≤ place → ForSome plan.now.filter (λ filter. FitsSigned w64 filter.value) }
+    ensures narrow { place < 12 → result < 2 ^ 32 }
+    ensures item { 12 ≤ place → place < 28 → (slice_index_or plan.now.items ((place - 12) / 2) unused).column < 2 ^ 32 }
+    ensures value { 28 ≤ place → ForSome plan.now.filter (λ filter. (filter.column < 2 ^ 32) × FitsSigned w64 filter.value) }
 {
     if place < 4 {
         return head_word(plan, place);
@@ -49,12 +51,19 @@ fn head_word(plan: &BoundPlan, place: u64) -> u64
 
 fn item_word(item: Item, place: u64) -> u64
     ensures word { result ≡ item_word item place }
-    ensures narrow { result < 2 ^ 32 }
+    ensures column { item.column < 2 ^ 32 }
 {
     match place {
         0 => kind_word(item.kind),
-        _ => u64::from(item.column),
+        _ => column_word(item.column, item.places),
     }
+}
+
+/// A column, and how many places its numbers have.
+fn column_word(column: u32, places: u32) -> u64
+    ensures { result ≡ column_word column places }
+{
+    u64::from(column) + (u64::from(places) << 32)
 }
 
 fn kind_word(kind: ItemKind) -> u64
@@ -73,8 +82,7 @@ fn kind_word(kind: ItemKind) -> u64
 
 fn filter_word(filter: Option<Filter>, place: u64) -> u64
     ensures word { result ≡ filter_word filter place }
-    ensures narrow { place < 2 → result < 2 ^ 32 }
-    ensures value { ForSome filter (λ filter. FitsSigned w64 filter.value) }
+    ensures value { ForSome filter (λ filter. (filter.column < 2 ^ 32) × FitsSigned w64 filter.value) }
 {
     match filter {
         None => 0,
@@ -84,12 +92,11 @@ fn filter_word(filter: Option<Filter>, place: u64) -> u64
 
 fn word_of_filter(filter: Filter, place: u64) -> u64
     ensures word { result ≡ filter_word (Some filter) place }
-    ensures narrow { place < 2 → result < 2 ^ 32 }
-    ensures value { FitsSigned w64 filter.value }
+    ensures value { (filter.column < 2 ^ 32) × FitsSigned w64 filter.value }
 {
     match place {
         0 => relation_word(filter.op),
-        1 => u64::from(filter.column),
+        1 => column_word(filter.column, filter.places),
         2 => filter.value.cast_unsigned(),
         _ => 0,
     }

@@ -1,14 +1,16 @@
 -- How the value of an option reads.
-use Rattle.std.specs.Prelude.{◌==◌, ◌||◌, ◌&&◌, ◌∷◌, [], ℕ, ℤ, Bool, true, false, not, List, Option, Some, None, bytes_eq, codes, drop, if◌then◌else◌, length, map, nat_le, nat_lt, option_and_then, option_map, slice_index}
+use Rattle.std.specs.Prelude.{◌==◌, ◌||◌, ◌&&◌, ◌∷◌, [], ℕ, ℤ, Bool, true, false, not, List, Option, Some, None, bytes_eq, codes, drop, find, if◌then◌else◌, length, map, nat_le, nat_lt, option_and_then, option_map, slice_index}
 use Rattle.std.specs.Char.{is_ascii_digit}
 use Rattle.std.specs.List.{after_first, before_first, list_all, list_any, position_or_len, slice_split}
+use Rattle.std.specs.Option.{option_map_or}
 use Rattle.std.specs.Str.Parse.{digits_value}
-use Rattle.par_model.specs.Integer.{integer_of}
 use Rattle.par_model.specs.Named.{NamedFilter, NamedItem}
+use Rattle.par_model.specs.Number.{decimal_of}
 use Rattle.par_model.specs.declared.plan.FilterOp.{FilterOp}
 use Rattle.par_model.specs.declared.plan.FilterOp.TheVariants as op
 use Rattle.par_model.specs.declared.plan.ItemKind.{ItemKind}
 use Rattle.par_model.specs.declared.plan.ItemKind.TheVariants as kind
+use Rattle.par_model.specs.declared.plan.TheConstants.{MOST_PLACES}
 
 -- the parts between commas
 abbrev pub parts_of : List ℕ → List (List ℕ)
@@ -17,6 +19,14 @@ parts_of text = slice_split (λ byte. byte == 44) text
 -- one to eight names between commas, none of them empty
 abbrev pub names_in : List ℕ → Option (List (List ℕ))
 names_in text = if nat_le (length (parts_of text)) 8 && not (list_any (λ part. length part == 0) (parts_of text)) then Some (parts_of text) else None
+
+-- how many places numbers have: those of the column of a name, or of any column
+abbrev pub Places : Type 0
+Places = List (Option (List ℕ) × ℕ)
+
+-- the places of a column: those of the first entry for it; none, if there is no such entry
+abbrev pub places_of : Places → List ℕ → ℕ
+places_of places name = option_map_or (λ entry. entry.1) (find (λ entry. option_map_or (bytes_eq name) entry.0 true) places) 0
 
 -- the aggregate of a column, by its name
 abbrev pub kind_in : List ℕ → Option ItemKind
@@ -28,15 +38,15 @@ kind_in text =
     else (if bytes_eq text (codes "avg") then Some kind.Avg else None))))
 
 -- an aggregate of the column of this name
-abbrev pub item_over : List ℕ → ItemKind → NamedItem
-item_over name kind = record { kind = kind; column = Some name }
+abbrev pub item_over : Places → List ℕ → ItemKind → NamedItem
+item_over places name kind = record { kind = kind; column = Some name; places = places_of places name }
 
 -- an aggregate: `count`, or a kind and the name of a column around the first colon
-abbrev pub item_in : List ℕ → Option NamedItem
-item_in text =
-    if bytes_eq text (codes "count") then Some (record { kind = kind.Rows; column = None })
+abbrev pub item_in : Places → List ℕ → Option NamedItem
+item_in places text =
+    if bytes_eq text (codes "count") then Some (record { kind = kind.Rows; column = None; places = 0 })
     else (if length (after_first (λ byte. byte == 58) text) == 0 then None
-    else option_map (item_over (after_first (λ byte. byte == 58) text)) (kind_in (before_first (λ byte. byte == 58) text)))
+    else option_map (item_over places (after_first (λ byte. byte == 58) text)) (kind_in (before_first (λ byte. byte == 58) text)))
 
 -- the values, if all are there
 abbrev pub all_some : {A : Type 0} → List (Option A) → Option (List A)
@@ -45,8 +55,8 @@ all_some (None ∷ rest) = None
 all_some (Some x ∷ rest) = option_map (λ xs. x ∷ xs) (all_some rest)
 
 -- one to eight aggregates between commas
-abbrev pub items_in : List ℕ → Option (List NamedItem)
-items_in text = if nat_le (length (parts_of text)) 8 then all_some (map item_in (parts_of text)) else None
+abbrev pub items_in : Places → List ℕ → Option (List NamedItem)
+items_in places text = if nat_le (length (parts_of text)) 8 then all_some (map (item_in places) (parts_of text)) else None
 
 -- a byte of a relation: `<`, `=`, `>` or `!`
 abbrev pub is_relation_byte : ℕ → Bool
@@ -62,20 +72,23 @@ relation_in text =
     else (if slice_index text 0 == 60 then Some (op.Less, drop 1 text)
     else (if slice_index text 0 == 62 then Some (op.Greater, drop 1 text) else None)))))
 
--- an integer with no space around it
-abbrev pub bare_integer_in : List ℕ → Option ℤ
-bare_integer_in text = if list_any (λ byte. byte == 32) text then None else integer_of text
+-- a number with so many places and no space around it
+abbrev pub bare_number_in : ℕ → List ℕ → Option ℤ
+bare_number_in places text = if list_any (λ byte. byte == 32) text then None else decimal_of places text
 
 -- the relation to the value after it
-abbrev pub comparison_in : List ℕ → Option (FilterOp × ℤ)
-comparison_in text = option_and_then (λ found. option_map (λ value. (found.0, value)) (bare_integer_in found.1)) (relation_in text)
+abbrev pub comparison_in : ℕ → List ℕ → Option (FilterOp × ℤ)
+comparison_in places text = option_and_then (λ found. option_map (λ value. (found.0, value)) (bare_number_in places found.1)) (relation_in text)
 
--- a filter: a name with no relation's byte, a relation, an integer
-abbrev pub filter_in : List ℕ → Option NamedFilter
-filter_in text =
+-- a filter over the column of this name: a relation, a number
+abbrev pub filter_over : Places → List ℕ → List ℕ → Option NamedFilter
+filter_over places name text = option_map (λ found. record { column = name; op = found.0; value = found.1; places = places_of places name }) (comparison_in (places_of places name) text)
+
+-- a filter: a name with no relation's byte, and what comes after it
+abbrev pub filter_in : Places → List ℕ → Option NamedFilter
+filter_in places text =
     if position_or_len is_relation_byte text == 0 then None
-    else option_map (λ found. record { column = before_first is_relation_byte text; op = found.0; value = found.1 })
-    (comparison_in (drop (position_or_len is_relation_byte text) text))
+    else filter_over places (before_first is_relation_byte text) (drop (position_or_len is_relation_byte text) text)
 
 -- one to five digits, with a value up to `most`
 abbrev pub number_in : ℕ → List ℕ → Option ℕ
@@ -86,3 +99,13 @@ number_in most text =
 -- whether the plan is the one over the shared hash table
 abbrev pub hash_in : List ℕ → Option Bool
 hash_in text = if bytes_eq text (codes "gather") then Some false else (if bytes_eq text (codes "hash") then Some true else None)
+
+-- how many places a column has, `price=2`, or any column, `2`
+abbrev pub entry_in : List ℕ → Option (Option (List ℕ) × ℕ)
+entry_in text =
+    if list_any (λ byte. byte == 61) text then option_map (λ n. (Some (before_first (λ byte. byte == 61) text), n)) (number_in MOST_PLACES (after_first (λ byte. byte == 61) text))
+    else option_map (λ n. (None, n)) (number_in MOST_PLACES text)
+
+-- such entries between commas
+abbrev pub places_in : List ℕ → Option Places
+places_in text = all_some (map entry_in (parts_of text))

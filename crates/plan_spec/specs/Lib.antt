@@ -1,4 +1,5 @@
 pub mod Binding
+pub mod Given
 pub mod Grammar
 pub mod Merging
 pub mod Options

@@ -12,7 +12,7 @@ is_merge words = bytes_eq (slice_index_or words 0 []) (codes "merge")
 
 -- the number of rows
 abbrev pub row_count : NamedItem
-row_count = record { kind = kind.Rows; column = None }
+row_count = record { kind = kind.Rows; column = None; places = 0 }
 
 -- a query that groups by these columns, counts rows, and is made by this many workers
 abbrev pub merge_query : List ℕ → List ℕ → Option Query

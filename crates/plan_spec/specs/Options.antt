@@ -1,4 +1,4 @@
--- The six options of the command, and what a command line gives for each.
+-- The options of the two programs, and what a command line gives for each.
 use Rattle.std.specs.Prelude.{◌==◌, ℕ, Bool, false, true, List, Option, Some, codes, length}
 use Rattle.clap.specs.Words.{App, Rule, fault_of, first_of, matches_of, new_app, new_rule, with_rule}
 
@@ -10,7 +10,7 @@ option_of name is_required = record (new_rule name) { long = Some name; required
 abbrev pub bare : App → App
 bare app = record app { top = record app.top { no_binary_name = true } }
 
--- the command, as the crate clap has it
+-- the options of pargather, as the crate clap has them
 abbrev pub pargather_command : App
 pargather_command = with_rule (with_rule (with_rule (with_rule (with_rule (with_rule (bare (new_app (codes "pargather")))
     (option_of (codes "group") false))
@@ -20,10 +20,19 @@ pargather_command = with_rule (with_rule (with_rule (with_rule (with_rule (with_
     (option_of (codes "plan") false))
     (option_of (codes "area-pages") false)
 
+-- the options of parstream
+abbrev pub parstream_command : App
+parstream_command = with_rule (with_rule (with_rule (with_rule (with_rule (bare (new_app (codes "parstream")))
+    (option_of (codes "group") false))
+    (option_of (codes "agg") true))
+    (option_of (codes "where") false))
+    (option_of (codes "workers") false))
+    (option_of (codes "decimals") false)
+
 -- whether clap takes the words
-abbrev pub is_command_line : List (List ℕ) → Bool
-is_command_line words = length (fault_of pargather_command words) == 0
+abbrev pub is_command_line : App → List (List ℕ) → Bool
+is_command_line command words = length (fault_of command words) == 0
 
 -- the value of an option
-abbrev pub value_of : List ℕ → List (List ℕ) → Option (List ℕ)
-value_of name words = first_of name (matches_of pargather_command words)
+abbrev pub value_of : App → List ℕ → List (List ℕ) → Option (List ℕ)
+value_of command name words = first_of name (matches_of command words)

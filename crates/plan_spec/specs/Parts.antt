@@ -1,14 +1,18 @@
 -- What the parts of a plan keep.
-use Rattle.std.specs.Prelude.{◌≡◌, ◌≤◌, ℕ, List, Option, is_some}
+use Rattle.std.specs.Prelude.{◌≡◌, ◌≤◌, ℕ, List, None, Option, is_some}
 use Rattle.par_model.specs.Columns.{reads_column}
 use Rattle.par_model.specs.Table.{item_text}
 use Rattle.par_model.specs.declared.plan.ItemKind.{ItemKind}
+use Rattle.par_model.specs.declared.plan.TheConstants.{MOST_PLACES}
 use Rattle.plan_spec.specs.declared.plan.TheConstants.{MOST_AREA_PAGES, MOST_WORKERS}
 
--- an aggregate has the text of its output column, and the name of a column exactly if it reads one
-pub record IsItem (kind : ItemKind) (column : Option (List ℕ)) (text : List ℕ) : Type 0 where
-  pub text_is : text ≡ item_text (record { kind = kind; column = column })
+-- an aggregate has the text of its output column, and the name of a column exactly if it reads one; without one it has
+-- no places
+pub record IsItem (kind : ItemKind) (column : Option (List ℕ)) (places : ℕ) (text : List ℕ) : Type 0 where
+  pub text_is : text ≡ item_text (record { kind = kind; column = column; places = places })
   pub named : is_some column ≡ reads_column kind
+  pub bare : column ≡ None → places ≡ 0
+  pub few : places ≤ MOST_PLACES
 
 -- at most eight columns to group by, one to eight aggregates, and no more workers and pages than words may ask for
 pub record FitsLimits (groups items workers pages : ℕ) : Type 0 where

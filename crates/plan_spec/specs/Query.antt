@@ -2,8 +2,8 @@
 use Rattle.std.specs.Prelude.{ℕ, Bool, false, List, [], Option, Some, None, codes, if◌then◌else◌, option_and_then, option_map}
 use Rattle.std.specs.Borrow.{Bor}
 use Rattle.par_model.specs.Named.{NamedFilter, NamedItem, NamedPlan}
-use Rattle.plan_spec.specs.Grammar.{filter_in, hash_in, items_in, names_in, number_in}
-use Rattle.plan_spec.specs.Options.{is_command_line, value_of}
+use Rattle.plan_spec.specs.Grammar.{Places, filter_in, hash_in, items_in, names_in, number_in, places_in}
+use Rattle.plan_spec.specs.Options.{is_command_line, pargather_command, parstream_command, value_of}
 use Rattle.plan_spec.specs.declared.plan.TheConstants.{MOST_AREA_PAGES, MOST_WORKERS}
 use Rattle.plan_spec.specs.declared.read.TheConstants.{AREA_PAGES, WORKERS}
 
@@ -22,15 +22,20 @@ abbrev pub groups_given : Option (List ℕ) → Option (List (List ℕ))
 groups_given None = Some []
 groups_given (Some text) = names_in text
 
+-- the places of columns: none if the option is not given
+abbrev pub places_given : Option (List ℕ) → Option Places
+places_given None = Some []
+places_given (Some text) = places_in text
+
 -- the aggregates, which have to be given
-abbrev pub items_given : Option (List ℕ) → Option (List NamedItem)
-items_given None = None
-items_given (Some text) = items_in text
+abbrev pub items_given : Places → Option (List ℕ) → Option (List NamedItem)
+items_given places None = None
+items_given places (Some text) = items_in places text
 
 -- the filter, if there is to be one
-abbrev pub filter_given : Option (List ℕ) → Option (Option NamedFilter)
-filter_given None = Some None
-filter_given (Some text) = option_map Some (filter_in text)
+abbrev pub filter_given : Places → Option (List ℕ) → Option (Option NamedFilter)
+filter_given places None = Some None
+filter_given places (Some text) = option_map Some (filter_in places text)
 
 -- a number up to `most`; `missing` if the option is not given
 abbrev pub number_given : ℕ → ℕ → Option (List ℕ) → Option ℕ
@@ -49,10 +54,18 @@ query_by groups items filter hash workers pages =
     record { plan = record { groups = g; items = i; hash = h; filter = f }; workers = w; area_pages = p })
     pages) workers) hash) filter) items) groups
 
--- the query of the words, if they are one: clap takes them, and each value reads
+-- the query of the words of pargather, if they are one: clap takes them, and each value reads
 unfoldable pub query_of : List (List ℕ) → Option Query
 query_of words =
-    if is_command_line words
-    then query_by (groups_given (value_of (codes "group") words)) (items_given (value_of (codes "agg") words)) (filter_given (value_of (codes "where") words))
-    (hash_given (value_of (codes "plan") words)) (number_given MOST_WORKERS WORKERS (value_of (codes "workers") words)) (number_given MOST_AREA_PAGES AREA_PAGES (value_of (codes "area-pages") words))
+    if is_command_line pargather_command words
+    then query_by (groups_given (value_of pargather_command (codes "group") words)) (items_given [] (value_of pargather_command (codes "agg") words)) (filter_given [] (value_of pargather_command (codes "where") words))
+    (hash_given (value_of pargather_command (codes "plan") words)) (number_given MOST_WORKERS WORKERS (value_of pargather_command (codes "workers") words)) (number_given MOST_AREA_PAGES AREA_PAGES (value_of pargather_command (codes "area-pages") words))
+    else None
+
+-- the query of the words of parstream, if they are one
+unfoldable pub stream_query_of : List (List ℕ) → Option Query
+stream_query_of words =
+    if is_command_line parstream_command words
+    then option_and_then (λ places. query_by (groups_given (value_of parstream_command (codes "group") words)) (items_given places (value_of parstream_command (codes "agg") words)) (filter_given places (value_of parstream_command (codes "where") words))
+    (Some false) (number_given MOST_WORKERS WORKERS (value_of parstream_command (codes "workers") words)) (Some AREA_PAGES)) (places_given (value_of parstream_command (codes "decimals") words))
     else None

@@ -6,6 +6,7 @@ ghost use Rattle.csv_rows.specs.Records.{record_at};
 ghost use Rattle.par_model.specs.Columns.{HasColumns, reads_column};
 ghost use Rattle.par_model.specs.Named.{bound_column, bound_filter, bound_item, bound_plan, column_of, missing_name, names_of};
 ghost use Rattle.par_model.specs.PlanLayout.{unused};
+ghost use Rattle.par_model.specs.declared.plan.TheConstants.{MOST_PLACES};
 ghost use Rattle.plan_spec.specs.Binding.{missing_from, missing_place};
 
 use crate::plan::{Plan, PlanFilter, PlanItem};
@@ -85,8 +86,9 @@ fn bind_items(items: &[PlanItem], rows: &RowStore) -> Result<([Item; 8], u32), u
     requires { length items.now ≤ 8 }
     ensures items { IfOk result (λ r. take (length items.now) r.0 ≡ map (bound_item (record_at rows.now 0)) items.now) }
     ensures unused { IfOk result (λ r. drop (length items.now) r.0 ≡ replicate (8 - length items.now) unused) }
-    ensures no_column { IfOk result (λ r. All (λ item. item.kind ≡ ItemKind.Rows → item.column ≡ 0) r.0) }
+    ensures no_column { IfOk result (λ r. All (λ item. item.kind ≡ ItemKind.Rows → (item.column ≡ 0) × (item.places ≡ 0)) r.0) }
     ensures below { IfOk result (λ r. All (λ item. IsTrue (reads_column item.kind) → item.column < length (record_at rows.now 0)) r.0) }
+    ensures places { IfOk result (λ r. All (λ item. item.places ≤ MOST_PLACES) r.0) }
     ensures named { IfOk result (λ r. r.1 ≡ length (filter_map (λ i. i.column) items.now)) }
     ensures few { IfOk result (λ r. r.1 ≤ 8) }
     ensures whole { OnOk result (missing_from (record_at rows.now 0) (filter_map (λ i. i.column) items.now) ≡ None) }
@@ -96,6 +98,7 @@ fn bind_items(items: &[PlanItem], rows: &RowStore) -> Result<([Item; 8], u32), u
     let unused = Item {
         kind: ItemKind::Rows,
         column: 0,
+        places: 0,
     };
     let mut bound = [unused; 8];
     let mut named = 0u32;
@@ -114,19 +117,35 @@ fn bind_items(items: &[PlanItem], rows: &RowStore) -> Result<([Item; 8], u32), u
 /// An aggregate over its column, with how many columns it has, or none if its name is no field.
 fn bind_item(item: &PlanItem, rows: &RowStore) -> Option<(Item, u32)>
     ensures item { IfSome result (λ r. r.0 ≡ bound_item (record_at rows.now 0) item.now) }
-    ensures no_column { IfSome result (λ r. r.0.kind ≡ ItemKind.Rows → r.0.column ≡ 0) }
+    ensures no_column { IfSome result (λ r. r.0.kind ≡ ItemKind.Rows → (r.0.column ≡ 0) × (r.0.places ≡ 0)) }
     ensures below { IfSome result (λ r. IsTrue (reads_column r.0.kind) → r.0.column < length (record_at rows.now 0)) }
+    ensures places { IfSome result (λ r. r.0.places ≤ MOST_PLACES) }
     ensures count { IfSome result (λ r. r.1 ≡ length (option_to_list item.now.column)) }
     ensures within { IfSome result (λ r. r.1 ≤ 1) }
     ensures whole { OnSome result (missing_from (record_at rows.now 0) (option_to_list item.now.column) ≡ None) }
     ensures missing { IfNone result (missing_from (record_at rows.now 0) (option_to_list item.now.column) ≡ Some 0) }
 {
     let kind = item.kind;
+    let places = item.places;
     match &item.column {
-        None => Some((Item { kind, column: 0 }, 0)),
+        None => Some((
+            Item {
+                kind,
+                column: 0,
+                places,
+            },
+            0,
+        )),
         Some(name) => {
             let column = column(rows, name.as_str())?;
-            Some((Item { kind, column }, 1))
+            Some((
+                Item {
+                    kind,
+                    column,
+                    places,
+                },
+                1,
+            ))
         }
     }
 }
@@ -135,6 +154,7 @@ fn bind_item(item: &PlanItem, rows: &RowStore) -> Option<(Item, u32)>
 fn bind_filter(filter: &Option<PlanFilter>, rows: &RowStore) -> Option<Option<Filter>>
     ensures filter { IfSome result (λ f. f ≡ option_map (bound_filter (record_at rows.now 0)) filter.now) }
     ensures below { IfSome result (λ f. ForSome f (λ filter. filter.column < length (record_at rows.now 0))) }
+    ensures places { IfSome result (λ f. ForSome f (λ filter. filter.places ≤ MOST_PLACES)) }
     ensures whole { OnSome result (missing_from (record_at rows.now 0) (option_to_list (option_map (λ f. f.column) filter.now)) ≡ None) }
     ensures missing { IfNone result (missing_from (record_at rows.now 0) (option_to_list (option_map (λ f. f.column) filter.now)) ≡ Some 0) }
 {
@@ -146,6 +166,7 @@ fn bind_filter(filter: &Option<PlanFilter>, rows: &RowStore) -> Option<Option<Fi
         column: place,
         op: filter.op,
         value: filter.value,
+        places: filter.places,
     }))
 }
 

@@ -1,16 +1,19 @@
-//! The grammars of the options' values: lists between commas, aggregates, a filter, numbers.
+//! The grammars of the options' values: lists between commas, aggregates, a filter, numbers, and how many places the
+//! numbers of a column have.
 
-ghost use Rattle.std.specs.Prelude.{◌≡◌, ◌==◌, ◌≤◌, None, Some, IfOk, IfSome, IsTrue, length, map, option_map, string_bytes, vec_len};
+ghost use Rattle.std.specs.Prelude.{◌≡◌, ◌==◌, ◌≤◌, None, Some, All, IfOk, IfSome, IsTrue, bytes_eq, length, map, option_map, string_bytes, true, vec_len};
 ghost use Rattle.std.specs.List.{list_any, position_or_len};
+ghost use Rattle.std.specs.Option.{option_map_or};
 ghost use Rattle.par_model.specs.Columns.{reads_column};
 ghost use Rattle.par_model.specs.Table.{kind_text};
-ghost use Rattle.plan_spec.specs.Grammar.{comparison_in, filter_in, hash_in, is_relation_byte, item_in, item_over, items_in, kind_in, names_in, number_in, parts_of, relation_in};
+ghost use Rattle.plan_spec.specs.Grammar.{Places, comparison_in, entry_in, filter_in, filter_over, hash_in, is_relation_byte, item_in, item_over, items_in, kind_in, names_in, number_in, parts_of, places_in, places_of, relation_in};
+ghost use Rattle.plan_spec.specs.Given.{entry_of};
 ghost use Rattle.plan_spec.specs.declared.plan.PlanAnswer.TheVariants as answer;
 
 use crate::PlanAnswer;
 use crate::plan::{PlanFilter, PlanItem};
-use csv_rows::read_integer;
-use par_model::{FilterOp, ItemKind};
+use csv_rows::read_number;
+use par_model::{FilterOp, ItemKind, MOST_PLACES};
 use std::alloc::{AllocError, Global};
 
 /// The greatest bound of a number.
@@ -37,12 +40,83 @@ pub(crate) fn names(alloc: Global, text: &str) -> Result<Vec<String>, PlanAnswer
     }
 }
 
+/// How many places numbers have: those of the column of this name, or of any column.
+#[derive(Clone, Copy)]
+pub(crate) struct PlacesOf<'a> {
+    column: Option<&'a str>,
+    places: u32,
+}
+
+/// Such entries between commas.
+pub(crate) fn places<'a>(alloc: Global, text: &'a str) -> Result<Vec<PlacesOf<'a>>, PlanAnswer>
+    ensures places { IfOk result (λ v. places_in text.entry.now ≡ Some (map entry_of v.items)) }
+    ensures within { IfOk result (λ v. All (λ entry. entry.places ≤ MOST_PLACES) v.items) }
+    ensures none { result ≡ Err answer.Usage → places_in text.entry.now ≡ None }
+{
+    let mut places = Vec::new(alloc);
+    'parts: for part in text.split(',') {
+        let Some(entry) = entry(part) else {
+            return Err(PlanAnswer::Usage);
+        };
+        if places.push(entry).is_err() {
+            return Err(PlanAnswer::Memory);
+        }
+    }
+    Ok(places)
+}
+
+/// Reads an entry: `price=2`, or `2`.
+fn entry(text: &str) -> Option<PlacesOf<'_>>
+    ensures entry { option_map entry_of result ≡ entry_in text.now }
+    ensures within { IfSome result (λ entry. entry.places ≤ MOST_PLACES) }
+{
+    match text.split_once('=') {
+        Some((name, number_text)) => Some(PlacesOf {
+            column: Some(name),
+            places: number(number_text, MOST_PLACES)?,
+        }),
+        None => Some(PlacesOf {
+            column: None,
+            places: number(text, MOST_PLACES)?,
+        }),
+    }
+}
+
+/// How many places the numbers of a column have: as the first entry for it says, and otherwise none.
+fn places_of(places: &[PlacesOf<'_>], name: &str) -> u32
+    requires { All (λ entry. entry.places ≤ MOST_PLACES) places.now }
+    ensures value { result ≡ places_of (map entry_of places.now) name.now }
+    ensures within { result ≤ MOST_PLACES }
+{
+    'entries: for entry in places {
+        if is_for(entry, name) {
+            return entry.places;
+        }
+    }
+    0
+}
+
+/// Whether an entry is for a column.
+fn is_for(entry: &PlacesOf<'_>, name: &str) -> bool
+    ensures { result ≡ option_map_or (bytes_eq name.now) (entry_of entry.now).0 true }
+{
+    match entry.column {
+        Some(column) => column == name,
+        None => true,
+    }
+}
+
 /// One to eight aggregates between commas.
-pub(crate) fn items(alloc: Global, text: &str) -> Result<Vec<PlanItem>, PlanAnswer>
-    ensures items { IfOk result (λ v. items_in text.now ≡ Some v.items) }
+pub(crate) fn items(
+    alloc: Global,
+    places: &[PlacesOf<'_>],
+    text: &str,
+) -> Result<Vec<PlanItem>, PlanAnswer>
+    requires { All (λ entry. entry.places ≤ MOST_PLACES) places.now }
+    ensures items { IfOk result (λ v. items_in (map entry_of places.now) text.now ≡ Some v.items) }
     ensures some { IfOk result (λ v. 1 ≤ vec_len v) }
     ensures within { IfOk result (λ v. vec_len v ≤ 8) }
-    ensures none { result ≡ Err answer.Usage → items_in text.now ≡ None }
+    ensures none { result ≡ Err answer.Usage → items_in (map entry_of places.now) text.now ≡ None }
 {
     let Ok(parts) = parts(alloc, text) else {
         return Err(PlanAnswer::Memory);
@@ -52,7 +126,7 @@ pub(crate) fn items(alloc: Global, text: &str) -> Result<Vec<PlanItem>, PlanAnsw
     }
     let mut items = Vec::new(alloc);
     'parts: for part in parts.as_slice() {
-        match item(alloc, part) {
+        match item(alloc, places, part) {
             Ok(item) => {
                 if items.push(item).is_err() {
                     return Err(PlanAnswer::Memory);
@@ -92,9 +166,10 @@ fn owned(alloc: Global, parts: &[&str]) -> Result<Vec<String>, AllocError>
 }
 
 /// Reads an aggregate.
-fn item(alloc: Global, text: &str) -> Result<PlanItem, PlanAnswer>
-    ensures item { IfOk result (λ i. item_in text.now ≡ Some i) }
-    ensures none { result ≡ Err answer.Usage → item_in text.now ≡ None }
+fn item(alloc: Global, places: &[PlacesOf<'_>], text: &str) -> Result<PlanItem, PlanAnswer>
+    requires { All (λ entry. entry.places ≤ MOST_PLACES) places.now }
+    ensures item { IfOk result (λ i. item_in (map entry_of places.now) text.now ≡ Some i) }
+    ensures none { result ≡ Err answer.Usage → item_in (map entry_of places.now) text.now ≡ None }
 {
     if text == "count" {
         return row_count(alloc).map_err(|_| PlanAnswer::Memory);
@@ -108,24 +183,31 @@ fn item(alloc: Global, text: &str) -> Result<PlanItem, PlanAnswer>
     let Some(kind) = kind(word) else {
         return Err(PlanAnswer::Usage);
     };
-    column_item(alloc, kind, name).map_err(|_| PlanAnswer::Memory)
+    column_item(alloc, kind, name, places_of(places, name)).map_err(|_| PlanAnswer::Memory)
 }
 
 /// The aggregate that counts rows.
 pub(crate) fn row_count(alloc: Global) -> Result<PlanItem, AllocError>
-    ensures { IfOk result (λ i. i ≡ record { kind = ItemKind.Rows; column = None }) }
+    ensures { IfOk result (λ i. i ≡ record { kind = ItemKind.Rows; column = None; places = 0 }) }
 {
     Ok(PlanItem {
         kind: ItemKind::Rows,
         column: None,
+        places: 0,
         text: String::from_str(alloc, "count")?,
     })
 }
 
 /// An aggregate of a column.
-fn column_item(alloc: Global, kind: ItemKind, name: &str) -> Result<PlanItem, AllocError>
-    requires { IsTrue (reads_column kind) }
-    ensures { IfOk result (λ i. i ≡ item_over name.now kind) }
+fn column_item(
+    alloc: Global,
+    kind: ItemKind,
+    name: &str,
+    places: u32,
+) -> Result<PlanItem, AllocError>
+    requires reads { IsTrue (reads_column kind) }
+    requires few { places ≤ MOST_PLACES }
+    ensures { IfOk result (λ i. i ≡ record { kind = kind; column = Some name.now; places = places }) }
 {
     let mut text = String::from_str(alloc, kind_word(kind))?;
     text.push_str("(")?;
@@ -134,6 +216,7 @@ fn column_item(alloc: Global, kind: ItemKind, name: &str) -> Result<PlanItem, Al
     Ok(PlanItem {
         kind,
         column: Some(String::from_str(alloc, name)?),
+        places,
         text,
     })
 }
@@ -172,20 +255,32 @@ fn kind(word: &str) -> Option<ItemKind>
 }
 
 /// Reads a filter.
-pub(crate) fn filter(alloc: Global, text: &str) -> Result<PlanFilter, PlanAnswer>
-    ensures filter { IfOk result (λ f. filter_in text.now ≡ Some f) }
-    ensures none { result ≡ Err answer.Usage → filter_in text.now ≡ None }
+pub(crate) fn filter(
+    alloc: Global,
+    places: &[PlacesOf<'_>],
+    text: &str,
+) -> Result<PlanFilter, PlanAnswer>
+    requires { All (λ entry. entry.places ≤ MOST_PLACES) places.now }
+    ensures filter { IfOk result (λ f. filter_in (map entry_of places.now) text.now ≡ Some f) }
+    ensures none { result ≡ Err answer.Usage → filter_in (map entry_of places.now) text.now ≡ None }
 {
     let bytes = text.as_bytes();
     let at = relation_place(bytes);
     if at == 0 {
         return Err(PlanAnswer::Usage);
     }
-    let Some((op, value)) = comparison(&bytes[at..]) else {
+    let name = &text[..at];
+    let places = places_of(places, name);
+    let Some((op, value)) = comparison(&bytes[at..], places) else {
         return Err(PlanAnswer::Usage);
     };
-    match String::from_str(alloc, &text[..at]) {
-        Ok(column) => Ok(PlanFilter { column, op, value }),
+    match String::from_str(alloc, name) {
+        Ok(column) => Ok(PlanFilter {
+            column,
+            op,
+            value,
+            places,
+        }),
         Err(_) => Err(PlanAnswer::Memory),
     }
 }
@@ -204,15 +299,15 @@ fn is_relation(byte: u8) -> bool
     byte == b'<' || byte == b'=' || byte == b'>' || byte == b'!'
 }
 
-/// Reads a relation, and the integer after it.
-fn comparison(bytes: &[u8]) -> Option<(FilterOp, i64)>
-    ensures { result ≡ comparison_in bytes.now }
+/// Reads a relation, and the number after it.
+fn comparison(bytes: &[u8], places: u32) -> Option<(FilterOp, i64)>
+    ensures { result ≡ comparison_in places bytes.now }
 {
     let (op, text) = relation(bytes)?;
     if text.contains(&b' ') {
         return None;
     }
-    let value = read_integer(text)?;
+    let value = read_number(text, places)?;
     Some((op, value))
 }
 

@@ -3,9 +3,9 @@
 //! `clap` states what its parse gives as a function of the command and the words, so which words are a command line,
 //! and what each option was given, is said only in terms of that function.
 
-ghost use Rattle.std.specs.Prelude.{◌≡◌, IfOk, OnOk, codes, map, option_map, false, true, string_bytes};
+ghost use Rattle.std.specs.Prelude.{◌≡◌, IfOk, IsErr, None, OnOk, codes, map, option_map, false, true, string_bytes};
 ghost use Rattle.clap.specs.Words.{app_of, found_of, matches_of, rows_of, with_rule};
-ghost use Rattle.plan_spec.specs.Options.{is_command_line, option_of, pargather_command, value_of};
+ghost use Rattle.plan_spec.specs.Options.{is_command_line, option_of, pargather_command, parstream_command, value_of};
 ghost use Rattle.plan_spec.specs.declared.plan.PlanAnswer.TheVariants as answer;
 
 use crate::PlanAnswer;
@@ -13,50 +13,83 @@ use clap::error::ErrorKind;
 use clap::{Arg, ArgMatches, Command};
 use std::alloc::{AllocError, Global};
 
-/// The values of the six options, each as it was given.
+/// The values of the options, each as it was given. One that a command does not have is not given.
 #[derive(Drop)]
 pub(crate) struct OptionValues<'a> {
     pub(crate) group: Option<&'a str>,
     pub(crate) agg: Option<&'a str>,
     /// The value of `--where`.
     pub(crate) filter: Option<&'a str>,
+    pub(crate) decimals: Option<&'a str>,
     pub(crate) workers: Option<&'a str>,
     pub(crate) plan: Option<&'a str>,
     pub(crate) area_pages: Option<&'a str>,
 }
 
-/// What the words give for each option.
+/// What the words of pargather give for each option.
 pub(crate) fn option_values<'a>(
     alloc: Global,
     words: &'a [String],
 ) -> Result<OptionValues<'a>, PlanAnswer>
-    ensures takes { OnOk result (is_command_line (map string_bytes words.entry.now) ≡ true) }
-    ensures group { IfOk result (λ g. option_map (λ s. s.now) g.group ≡ value_of (codes "group") (map string_bytes words.entry.now)) }
-    ensures agg { IfOk result (λ g. option_map (λ s. s.now) g.agg ≡ value_of (codes "agg") (map string_bytes words.entry.now)) }
-    ensures filter { IfOk result (λ g. option_map (λ s. s.now) g.filter ≡ value_of (codes "where") (map string_bytes words.entry.now)) }
-    ensures workers { IfOk result (λ g. option_map (λ s. s.now) g.workers ≡ value_of (codes "workers") (map string_bytes words.entry.now)) }
-    ensures plan { IfOk result (λ g. option_map (λ s. s.now) g.plan ≡ value_of (codes "plan") (map string_bytes words.entry.now)) }
-    ensures area_pages { IfOk result (λ g. option_map (λ s. s.now) g.area_pages ≡ value_of (codes "area-pages") (map string_bytes words.entry.now)) }
-    ensures refuses { result ≡ Err answer.Usage → is_command_line (map string_bytes words.entry.now) ≡ false }
+    ensures takes { OnOk result (is_command_line pargather_command (map string_bytes words.entry.now) ≡ true) }
+    ensures group { IfOk result (λ g. option_map (λ s. s.now) g.group ≡ value_of pargather_command (codes "group") (map string_bytes words.entry.now)) }
+    ensures agg { IfOk result (λ g. option_map (λ s. s.now) g.agg ≡ value_of pargather_command (codes "agg") (map string_bytes words.entry.now)) }
+    ensures filter { IfOk result (λ g. option_map (λ s. s.now) g.filter ≡ value_of pargather_command (codes "where") (map string_bytes words.entry.now)) }
+    ensures decimals { IfOk result (λ g. g.decimals ≡ None) }
+    ensures workers { IfOk result (λ g. option_map (λ s. s.now) g.workers ≡ value_of pargather_command (codes "workers") (map string_bytes words.entry.now)) }
+    ensures plan { IfOk result (λ g. option_map (λ s. s.now) g.plan ≡ value_of pargather_command (codes "plan") (map string_bytes words.entry.now)) }
+    ensures area_pages { IfOk result (λ g. option_map (λ s. s.now) g.area_pages ≡ value_of pargather_command (codes "area-pages") (map string_bytes words.entry.now)) }
+    ensures refuses { result ≡ Err answer.Usage → is_command_line pargather_command (map string_bytes words.entry.now) ≡ false }
 {
-    let matches = matches_in(alloc, words)?;
+    let matches = matches_in(pargather(alloc), words)?;
     Ok(OptionValues {
         group: matches.get_str("group"),
         agg: matches.get_str("agg"),
         filter: matches.get_str("where"),
+        decimals: None,
         workers: matches.get_str("workers"),
         plan: matches.get_str("plan"),
         area_pages: matches.get_str("area-pages"),
     })
 }
 
-/// The parse of the words.
-fn matches_in<'a>(alloc: Global, words: &'a [String]) -> Result<ArgMatches<'a>, PlanAnswer>
-    ensures takes { OnOk result (is_command_line (map string_bytes words.entry.now) ≡ true) }
-    ensures rows { IfOk result (λ m. rows_of (found_of m) ≡ matches_of pargather_command (map string_bytes words.entry.now)) }
-    ensures refuses { result ≡ Err answer.Usage → is_command_line (map string_bytes words.entry.now) ≡ false }
+/// What the words of parstream give for each option.
+pub(crate) fn stream_values<'a>(
+    alloc: Global,
+    words: &'a [String],
+) -> Result<OptionValues<'a>, PlanAnswer>
+    ensures takes { OnOk result (is_command_line parstream_command (map string_bytes words.entry.now) ≡ true) }
+    ensures group { IfOk result (λ g. option_map (λ s. s.now) g.group ≡ value_of parstream_command (codes "group") (map string_bytes words.entry.now)) }
+    ensures agg { IfOk result (λ g. option_map (λ s. s.now) g.agg ≡ value_of parstream_command (codes "agg") (map string_bytes words.entry.now)) }
+    ensures filter { IfOk result (λ g. option_map (λ s. s.now) g.filter ≡ value_of parstream_command (codes "where") (map string_bytes words.entry.now)) }
+    ensures decimals { IfOk result (λ g. option_map (λ s. s.now) g.decimals ≡ value_of parstream_command (codes "decimals") (map string_bytes words.entry.now)) }
+    ensures workers { IfOk result (λ g. option_map (λ s. s.now) g.workers ≡ value_of parstream_command (codes "workers") (map string_bytes words.entry.now)) }
+    ensures plan { IfOk result (λ g. (g.plan ≡ None) × (g.area_pages ≡ None)) }
+    ensures refuses { result ≡ Err answer.Usage → is_command_line parstream_command (map string_bytes words.entry.now) ≡ false }
 {
-    let Ok(command) = command(alloc) else {
+    let matches = matches_in(parstream(alloc), words)?;
+    Ok(OptionValues {
+        group: matches.get_str("group"),
+        agg: matches.get_str("agg"),
+        filter: matches.get_str("where"),
+        decimals: matches.get_str("decimals"),
+        workers: matches.get_str("workers"),
+        plan: None,
+        area_pages: None,
+    })
+}
+
+/// The parse of the words by a command, if there was memory for it.
+fn matches_in<'a>(
+    command: Result<Command<'a>, AllocError>,
+    words: &'a [String],
+) -> Result<ArgMatches<'a>, PlanAnswer>
+    ensures takes { OnOk result (IfOk command (λ c. is_command_line (app_of c) (map string_bytes words.entry.now) ≡ true)) }
+    ensures rows { IfOk result (λ m. IfOk command (λ c. rows_of (found_of m) ≡ matches_of (app_of c) (map string_bytes words.entry.now))) }
+    ensures refuses { result ≡ Err answer.Usage → IfOk command (λ c. is_command_line (app_of c) (map string_bytes words.entry.now) ≡ false) }
+    ensures memory { IsErr command → result ≡ Err answer.Memory }
+{
+    let Ok(command) = command else {
         return Err(PlanAnswer::Memory);
     };
     match command.try_get_matches_from(words) {
@@ -66,8 +99,8 @@ fn matches_in<'a>(alloc: Global, words: &'a [String]) -> Result<ArgMatches<'a>, 
     }
 }
 
-/// The command with its six options, for words with no program name before them.
-fn command<'a>(alloc: Global) -> Result<Command<'a>, AllocError>
+/// The command of pargather with its six options, for words with no program name before them.
+fn pargather<'a>(alloc: Global) -> Result<Command<'a>, AllocError>
     ensures { IfOk result (λ c. app_of c ≡ pargather_command) }
 {
     let bare = Command::new(alloc, "pargather").no_binary_name(true);
@@ -77,6 +110,18 @@ fn command<'a>(alloc: Global) -> Result<Command<'a>, AllocError>
     let staffed = with_option(alloc, filtered, "workers", false)?;
     let planned = with_option(alloc, staffed, "plan", false)?;
     with_option(alloc, planned, "area-pages", false)
+}
+
+/// The command of parstream with its five options.
+fn parstream<'a>(alloc: Global) -> Result<Command<'a>, AllocError>
+    ensures { IfOk result (λ c. app_of c ≡ parstream_command) }
+{
+    let bare = Command::new(alloc, "parstream").no_binary_name(true);
+    let grouped = with_option(alloc, bare, "group", false)?;
+    let summed = with_option(alloc, grouped, "agg", true)?;
+    let filtered = with_option(alloc, summed, "where", false)?;
+    let staffed = with_option(alloc, filtered, "workers", false)?;
+    with_option(alloc, staffed, "decimals", false)
 }
 
 /// A command with one more option, which takes one value.

@@ -1,6 +1,7 @@
 //! A plan by the names of its columns, with the number of workers and the pages of the shared area.
 
 ghost use Rattle.std.specs.Prelude.{◌≡◌, ◌<◌, ◌≤◌, ◌++◌, [], IfSome, filter_map, is_some, length, map, option_and_then, option_map, option_to_list, slice_get, slice_index_or};
+ghost use Rattle.std.specs.Option.{option_map_or};
 ghost use Rattle.par_model.specs.Columns.{reads_column};
 ghost use Rattle.par_model.specs.Named.{names_of};
 ghost use Rattle.par_model.specs.Table.{item_text};
@@ -21,11 +22,13 @@ pub enum PlanAnswer {
     Memory,
 }
 
-/// An aggregate with the name of its column, if it reads one, and the name of its output column.
+/// An aggregate with the name of its column, if it reads one, the places of the column's numbers, and the name of its
+/// output column.
 #[derive(Drop)]
 pub(crate) struct PlanItem {
     pub(crate) kind: ItemKind,
     pub(crate) column: Option<String>,
+    pub(crate) places: u32,
     /// `count`, or the kind with the column, as `sum(v)`.
     pub(crate) text: String,
 }
@@ -37,17 +40,18 @@ impl Model for PlanItem {
 
     ghost Value = { NamedItem };
 
-    ghost view = { λ i. record { kind = i.kind; column = option_map string_bytes i.column } };
+    ghost view = { λ i. record { kind = i.kind; column = option_map string_bytes i.column; places = i.places } };
 
-    ghost invariant = { λ i. IsItem i.kind (option_map string_bytes i.column) (string_bytes i.text) };
+    ghost invariant = { λ i. IsItem i.kind (option_map string_bytes i.column) i.places (string_bytes i.text) };
 }
 
-/// A filter by the name of its column.
+/// A filter by the name of its column, whose numbers and whose value have so many places.
 #[derive(Drop)]
 pub(crate) struct PlanFilter {
     pub(crate) column: String,
     pub(crate) op: FilterOp,
     pub(crate) value: i64,
+    pub(crate) places: u32,
 }
 
 impl Model for PlanFilter {
@@ -56,7 +60,12 @@ impl Model for PlanFilter {
 
     ghost Value = { NamedFilter };
 
-    ghost view = { λ f. record { column = string_bytes f.column; op = f.op; value = f.value } };
+    ghost view = { λ f. record { column = string_bytes f.column; op = f.op; value = f.value; places = f.places } };
+
+    ghost use Rattle.std.specs.Prelude.{◌≤◌};
+    ghost use Rattle.par_model.specs.declared.plan.TheConstants.{MOST_PLACES};
+
+    ghost invariant = { λ f. f.places ≤ MOST_PLACES };
 }
 
 /// A plan by the names of its columns. It owns its texts, and is made by [`Plan::of_words`].
@@ -135,6 +144,26 @@ impl Plan {
         match &item.column {
             Some(name) => Some(name.as_str()),
             None => None,
+        }
+    }
+
+    /// How many places the numbers of the column have that an aggregate reads. There are none past the last aggregate.
+    pub fn item_places(&self, at: u32) -> u32
+        ensures { result ≡ option_map_or (λ item. item.places) (slice_get self.now.plan.items at) 0 }
+    {
+        match self.items.get(at as usize) {
+            Some(item) => item.places,
+            None => 0,
+        }
+    }
+
+    /// How many places the filter's value has, if there is a filter, and otherwise none.
+    pub fn filter_places(&self) -> u32
+        ensures { result ≡ option_map_or (λ filter. filter.places) self.now.plan.filter 0 }
+    {
+        match &self.filter {
+            Some(filter) => filter.places,
+            None => 0,
         }
     }
 

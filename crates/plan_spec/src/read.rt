@@ -1,11 +1,13 @@
 //! The plan of the words of a command line.
 
-ghost use Rattle.std.specs.Prelude.{◌≡◌, ◌≤◌, None, Some, IfOk, map, string_bytes, vec_len};
-ghost use Rattle.plan_spec.specs.Query.{filter_given, groups_given, hash_given, items_given, number_given, query_by, query_of, text_of};
+ghost use Rattle.std.specs.Prelude.{◌≡◌, ◌≤◌, None, Some, All, IfOk, map, string_bytes, vec_len};
+ghost use Rattle.plan_spec.specs.Query.{filter_given, groups_given, hash_given, items_given, number_given, places_given, query_of, stream_query_of, text_of};
+ghost use Rattle.plan_spec.specs.Given.{entry_of, query_given};
+ghost use Rattle.par_model.specs.declared.plan.TheConstants.{MOST_PLACES};
 ghost use Rattle.plan_spec.specs.declared.plan.PlanAnswer.TheVariants as answer;
 
-use crate::grammar::{MOST_NUMBER, filter, hash, items, names, number};
-use crate::options::{OptionValues, option_values};
+use crate::grammar::{MOST_NUMBER, PlacesOf, filter, hash, items, names, number, places};
+use crate::options::{OptionValues, option_values, stream_values};
 use crate::plan::{MOST_AREA_PAGES, MOST_WORKERS, Plan, PlanAnswer, PlanFilter, PlanItem};
 use std::alloc::Global;
 
@@ -16,7 +18,7 @@ const WORKERS: u32 = 2;
 const AREA_PAGES: u32 = 2_048;
 
 impl Plan {
-    /// The plan of the words after a program's name: a simple command of `clap` with the options
+    /// The plan of the words after pargather's name: a simple command of `clap` with the options
     /// `--group`, `--agg` (required), `--where`, `--workers`, `--plan` and `--area-pages`, each with one
     /// value, and each value by its grammar. Asking for help is no plan.
     pub fn of_words(alloc: Global, words: &[String]) -> Result<Plan, PlanAnswer>
@@ -28,21 +30,32 @@ impl Plan {
             Err(answer) => Err(answer),
         }
     }
+
+    /// The plan of the words after parstream's name: a simple command with the options `--group`, `--agg` (required),
+    /// `--where`, `--workers` and `--decimals`. It uses no shared table, and names the default number of pages for one.
+    pub fn of_stream_words(alloc: Global, words: &[String]) -> Result<Plan, PlanAnswer>
+        ensures plan { IfOk result (λ plan. stream_query_of (map string_bytes words.now) ≡ Some plan) }
+        ensures usage { result ≡ Err answer.Usage → stream_query_of (map string_bytes words.now) ≡ None }
+    {
+        match stream_values(alloc, words) {
+            Ok(given) => read_values(alloc, &given),
+            Err(answer) => Err(answer),
+        }
+    }
 }
 
 /// The plan of the options' values. What takes no memory is read first.
 fn read_values(alloc: Global, given: &OptionValues<'_>) -> Result<Plan, PlanAnswer>
-    ensures plan { IfOk result (λ plan. query_by (groups_given (text_of given.now.group)) (items_given (text_of given.now.agg)) (filter_given (text_of given.now.filter))
-        (hash_given (text_of given.now.plan)) (number_given MOST_WORKERS WORKERS (text_of given.now.workers)) (number_given MOST_AREA_PAGES AREA_PAGES (text_of given.now.area_pages)) ≡ Some plan) }
-    ensures usage { result ≡ Err answer.Usage → query_by (groups_given (text_of given.now.group)) (items_given (text_of given.now.agg)) (filter_given (text_of given.now.filter))
-        (hash_given (text_of given.now.plan)) (number_given MOST_WORKERS WORKERS (text_of given.now.workers)) (number_given MOST_AREA_PAGES AREA_PAGES (text_of given.now.area_pages)) ≡ None }
+    ensures plan { IfOk result (λ plan. query_given given.now ≡ Some plan) }
+    ensures usage { result ≡ Err answer.Usage → query_given given.now ≡ None }
 {
     let hash = hash_read(given.plan)?;
     let workers = number_read(given.workers, MOST_WORKERS, WORKERS)?;
     let area_pages = number_read(given.area_pages, MOST_AREA_PAGES, AREA_PAGES)?;
-    let filter = filter_read(alloc, given.filter)?;
+    let places = places_read(alloc, given.decimals)?;
+    let filter = filter_read(alloc, &places, given.filter)?;
     let groups = groups_read(alloc, given.group)?;
-    let items = items_read(alloc, given.agg)?;
+    let items = items_read(alloc, &places, given.agg)?;
     Ok(Plan {
         groups,
         items,
@@ -51,6 +64,17 @@ fn read_values(alloc: Global, given: &OptionValues<'_>) -> Result<Plan, PlanAnsw
         workers,
         area_pages,
     })
+}
+
+fn places_read<'a>(alloc: Global, given: Option<&'a str>) -> Result<Vec<PlacesOf<'a>>, PlanAnswer>
+    ensures places { IfOk result (λ v. places_given (text_of given.entry) ≡ Some (map entry_of v.items)) }
+    ensures within { IfOk result (λ v. All (λ entry. entry.places ≤ MOST_PLACES) v.items) }
+    ensures none { result ≡ Err answer.Usage → places_given (text_of given.entry) ≡ None }
+{
+    match given {
+        Some(text) => places(alloc, text),
+        None => Ok(Vec::new(alloc)),
+    }
 }
 
 fn groups_read(alloc: Global, given: Option<&str>) -> Result<Vec<String>, PlanAnswer>
@@ -64,24 +88,34 @@ fn groups_read(alloc: Global, given: Option<&str>) -> Result<Vec<String>, PlanAn
     }
 }
 
-fn items_read(alloc: Global, given: Option<&str>) -> Result<Vec<PlanItem>, PlanAnswer>
-    ensures items { IfOk result (λ v. items_given (text_of given.entry) ≡ Some v.items) }
+fn items_read(
+    alloc: Global,
+    places: &[PlacesOf<'_>],
+    given: Option<&str>,
+) -> Result<Vec<PlanItem>, PlanAnswer>
+    requires { All (λ entry. entry.places ≤ MOST_PLACES) places.now }
+    ensures items { IfOk result (λ v. items_given (map entry_of places.now) (text_of given.entry) ≡ Some v.items) }
     ensures some { IfOk result (λ v. 1 ≤ vec_len v) }
     ensures within { IfOk result (λ v. vec_len v ≤ 8) }
-    ensures none { result ≡ Err answer.Usage → items_given (text_of given.entry) ≡ None }
+    ensures none { result ≡ Err answer.Usage → items_given (map entry_of places.now) (text_of given.entry) ≡ None }
 {
     match given {
-        Some(text) => items(alloc, text),
+        Some(text) => items(alloc, places, text),
         None => Err(PlanAnswer::Usage),
     }
 }
 
-fn filter_read(alloc: Global, given: Option<&str>) -> Result<Option<PlanFilter>, PlanAnswer>
-    ensures filter { IfOk result (λ f. filter_given (text_of given.entry) ≡ Some f) }
-    ensures none { result ≡ Err answer.Usage → filter_given (text_of given.entry) ≡ None }
+fn filter_read(
+    alloc: Global,
+    places: &[PlacesOf<'_>],
+    given: Option<&str>,
+) -> Result<Option<PlanFilter>, PlanAnswer>
+    requires { All (λ entry. entry.places ≤ MOST_PLACES) places.now }
+    ensures filter { IfOk result (λ f. filter_given (map entry_of places.now) (text_of given.entry) ≡ Some f) }
+    ensures none { result ≡ Err answer.Usage → filter_given (map entry_of places.now) (text_of given.entry) ≡ None }
 {
     match given {
-        Some(text) => Ok(Some(filter(alloc, text)?)),
+        Some(text) => Ok(Some(filter(alloc, places, text)?)),
         None => Ok(None),
     }
 }

@@ -20,13 +20,13 @@ use partial_agg::{Groups, empty};
 use plan_spec::Plan;
 use std::alloc::{AllocError, Global};
 
-/// A table of which some lines are written. The record and the text of an average are filled anew for each line, in the
-/// same memory.
+/// A table of which some lines are written. The record and the text of a number with places are filled anew for each
+/// line, in the same memory.
 #[derive(Drop)]
 pub(crate) struct TableWriter {
     writer: Writer<Vec<u8>>,
     row: ByteRecord,
-    average: Vec<u8>,
+    text: Vec<u8>,
 }
 
 impl TableWriter {
@@ -38,7 +38,7 @@ impl TableWriter {
         TableWriter {
             writer: WriterBuilder::new().from_writer(Vec::new(alloc)),
             row: ByteRecord::new(alloc),
-            average: Vec::new(alloc),
+            text: Vec::new(alloc),
         }
     }
 
@@ -107,7 +107,7 @@ impl TableWriter {
     {
         self.row.clear();
         push_columns(&mut self.row, key, bound.group_count)?;
-        push_values(&mut self.row, &mut self.average, bound, state)?;
+        push_values(&mut self.row, &mut self.text, bound, state)?;
         self.write_record()
     }
 

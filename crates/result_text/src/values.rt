@@ -4,13 +4,15 @@ ghost use Rattle.std.specs.Prelude.{◌≡◌, ◌≤◌, ◌++◌, ◌∷◌, [
 ghost use Rattle.csv.specs.Records.{fields_of, partial_of};
 ghost use Rattle.par_model.specs.Table.{item_text, table_header, value_text, values_text};
 ghost use Rattle.result_text.specs.KeyColumns.{columns_in};
-ghost use Rattle.result_text.specs.Printable.{IsBoundFrom, IsSmallSlot};
+ghost use Rattle.par_model.specs.Decimal.{number_text};
+ghost use Rattle.par_model.specs.declared.plan.TheConstants.{MOST_PLACES};
+ghost use Rattle.result_text.specs.Printable.{IsBoundFrom, IsSmallSlot, MOST_TEXT_PLACES};
 
-use crate::decimal::push_average;
+use crate::decimal::{average, push_number};
 use crate::order::split_column;
 use csv::ByteRecord;
 use itoa::Integer;
-use par_model::{AggState, BoundPlan, ItemKind, SlotState};
+use par_model::{AggState, BoundPlan, Item, ItemKind, SlotState};
 use plan_spec::Plan;
 use std::alloc::AllocError;
 
@@ -68,10 +70,10 @@ pub(crate) fn push_columns(row: &mut ByteRecord, key: &[u8], columns: u32) -> Re
     Ok(())
 }
 
-/// The values of a group's aggregates. The text of an average is made in `average`.
+/// The values of a group's aggregates. The text of a number with places is made in `text`.
 pub(crate) fn push_values(
     row: &mut ByteRecord,
-    average: &mut Vec<u8>,
+    text: &mut Vec<u8>,
     bound: &BoundPlan,
     state: &AggState,
 ) -> Result<(), AllocError>
@@ -80,7 +82,7 @@ pub(crate) fn push_values(
     ensures fields { OnOk result (fields_of row.new ≡ fields_of row.old ++ values_text bound.now state.now) }
 {
     for (item, slot) in bound.items().iter().zip(state.slots.iter()) {
-        push_value(row, average, item.kind, state.rows, slot)?;
+        push_value(row, text, *item, state.rows, slot)?;
     }
     Ok(())
 }
@@ -88,29 +90,46 @@ pub(crate) fn push_values(
 /// The value of one aggregate, or an empty field if it is null.
 fn push_value(
     row: &mut ByteRecord,
-    average: &mut Vec<u8>,
-    kind: ItemKind,
+    text: &mut Vec<u8>,
+    item: Item,
     rows: u64,
     slot: &SlotState,
 ) -> Result<(), AllocError>
     requires whole { partial_of row.old ≡ [] }
     requires small { IsSmallSlot slot.now }
-    ensures fields { OnOk result (fields_of row.new ≡ fields_of row.old ++ value_text kind rows slot.now ∷ []) }
+    requires places { item.places ≤ MOST_PLACES }
+    ensures fields { OnOk result (fields_of row.new ≡ fields_of row.old ++ value_text item.kind item.places rows slot.now ∷ []) }
     ensures whole { OnOk result (partial_of row.new ≡ []) }
 {
-    match kind {
+    match item.kind {
         ItemKind::Rows => push_integer(row, rows),
         ItemKind::Count => push_integer(row, slot.count),
         _ if slot.count == 0 => row.push_field(&[]),
-        ItemKind::Sum => push_integer(row, slot.sum),
-        ItemKind::Min => push_integer(row, slot.least),
-        ItemKind::Max => push_integer(row, slot.greatest),
-        ItemKind::Avg => {
-            average.clear();
-            push_average(average, slot.sum, slot.count)?;
-            row.push_field(average)
-        }
+        ItemKind::Sum => push_units(row, text, slot.sum, item.places),
+        ItemKind::Min => push_units(row, text, i128::from(slot.least), item.places),
+        ItemKind::Max => push_units(row, text, i128::from(slot.greatest), item.places),
+        ItemKind::Avg => push_units(row, text, average(slot.sum, slot.count), item.places + 4),
     }
+}
+
+/// A number of units of 10^-`places`. Without places it is an integer, which needs no text.
+fn push_units(
+    row: &mut ByteRecord,
+    text: &mut Vec<u8>,
+    n: i128,
+    places: u32,
+) -> Result<(), AllocError>
+    requires whole { partial_of row.old ≡ [] }
+    requires few { places ≤ MOST_TEXT_PLACES }
+    ensures fields { OnOk result (fields_of row.new ≡ fields_of row.old ++ number_text places n ∷ []) }
+    ensures whole { OnOk result (partial_of row.new ≡ []) }
+{
+    if places == 0 {
+        return push_integer(row, n);
+    }
+    text.clear();
+    push_number(text, n, places)?;
+    row.push_field(text)
 }
 
 /// An integer of any width.

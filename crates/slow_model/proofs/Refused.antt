@@ -6,7 +6,7 @@ use Rattle.par_model.specs.Keep.{is_kept}
 use Rattle.par_model.specs.Key.{key_of}
 use Rattle.par_model.specs.Plan.{Plan}
 use Rattle.par_model.specs.Record.{field_of}
-use Rattle.par_model.specs.Refuse.{filter_cause, is_no_integer, is_unreadable, key_cause, longest_key, refusal, refused_at, refused_for, width_cause}
+use Rattle.par_model.specs.Refuse.{filter_cause, is_no_number, is_unreadable, key_cause, longest_key, refusal, refused_at, refused_for, width_cause}
 
 module _ (plan : Plan) (width : ℕ) (row : List (List ℕ)) where
   pub at_width : nat_eq (length row) width ≡ false → refusal plan width row ≡ refused_for width_cause
@@ -14,11 +14,11 @@ module _ (plan : Plan) (width : ℕ) (row : List (List ℕ)) where
   at_width other = rw other refl
 
   module _ (same : nat_eq (length row) width ≡ true) where
-    pub at_filter : option_map_or (λ filter. is_no_integer (field_of row filter.column)) plan.filter false ≡ true → refusal plan width row ≡ refused_for filter_cause
+    pub at_filter : option_map_or (λ filter. is_no_number filter.places (field_of row filter.column)) plan.filter false ≡ true → refusal plan width row ≡ refused_for filter_cause
     unfolding refusal
     at_filter bad = rw (same, bad) refl
 
-    module _ (good : option_map_or (λ filter. is_no_integer (field_of row filter.column)) plan.filter false ≡ false) where
+    module _ (good : option_map_or (λ filter. is_no_number filter.places (field_of row filter.column)) plan.filter false ≡ false) where
       pub at_left_out : is_kept plan row ≡ false → refusal plan width row ≡ None
       unfolding refusal
       at_left_out out = rw (same, good, out) refl

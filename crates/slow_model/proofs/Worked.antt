@@ -3,11 +3,11 @@ use Rattle.std.specs.Prelude.{◌≡◌, ◌∷◌, ◌++◌, [], ℕ, ℤ, pos,
 use Rattle.std.specs.Fmt.{digits}
 use Rattle.csv.specs.Writing.{escaped, fields_text, is_blank}
 use Rattle.par_model.specs.Aggregate.{state_of_rows}
-use Rattle.par_model.specs.Decimal.{average_text}
-use Rattle.par_model.specs.Integer.{integer_of, number_of}
+use Rattle.par_model.specs.Decimal.{average, number_text}
 use Rattle.par_model.specs.Keep.{is_kept}
 use Rattle.par_model.specs.Key.{encoded}
 use Rattle.par_model.specs.Named.{NamedItem, NamedPlan, bound_plan, missing_name}
+use Rattle.par_model.specs.Number.{decimal_of, integer_of, number_of}
 use Rattle.par_model.specs.Outcome.{NoColumn, NoHeader, Refused, Table, TooManyBytes, Usage, outcome}
 use Rattle.par_model.specs.Refuse.{refusal, refused_rows}
 use Rattle.par_model.specs.Table.{group_record, table_header, table_text}
@@ -62,6 +62,76 @@ after_sign : integer_of (codes "- 5") ≡ None
 unfolding number_of
 after_sign = refl
 
+-- ---- decimals
+
+all_places : decimal_of 2 (codes " 1.50 ") ≡ Some (pos 150)
+unfolding number_of
+all_places = refl
+
+fewer_places : decimal_of 2 (codes "-.5") ≡ Some (negsuc 49)
+unfolding number_of
+fewer_places = refl
+
+no_point : decimal_of 2 (codes "+7") ≡ Some (pos 700)
+unfolding number_of
+no_point = refl
+
+point_at_end : decimal_of 2 (codes "5.") ≡ None
+unfolding number_of
+point_at_end = refl
+
+too_many_places : decimal_of 2 (codes "1.500") ≡ None
+unfolding number_of
+too_many_places = refl
+
+two_points : decimal_of 2 (codes "1.5.") ≡ None
+unfolding number_of
+two_points = refl
+
+sign_after_point : decimal_of 2 (codes ".-5") ≡ None
+unfolding number_of
+sign_after_point = refl
+
+lone_point : decimal_of 2 (codes ".") ≡ None
+unfolding number_of
+lone_point = refl
+
+spaces_are_none : decimal_of 2 (codes "  ") ≡ None
+unfolding number_of
+spaces_are_none = refl
+
+lone_sign : decimal_of 2 (codes "-") ≡ None
+unfolding number_of
+lone_sign = refl
+
+greatest_decimal : decimal_of 2 (codes "92233720368547758.07") ≡ Some (pos 9223372036854775807)
+unfolding number_of
+greatest_decimal = refl
+
+above_greatest_decimal : decimal_of 2 (codes "92233720368547758.08") ≡ None
+unfolding number_of
+above_greatest_decimal = refl
+
+whole_above_greatest : decimal_of 2 (codes "92233720368547759") ≡ None
+unfolding number_of
+whole_above_greatest = refl
+
+point_without_places : decimal_of 0 (codes "1.0") ≡ None
+unfolding number_of
+point_without_places = refl
+
+small_decimal_text : number_text 2 (negsuc 4) ≡ codes "-0.05"
+unfolding number_text digits
+small_decimal_text = refl
+
+decimal_text : number_text 3 (pos 12005) ≡ codes "12.005"
+unfolding number_text digits
+decimal_text = refl
+
+integer_text : number_text 0 (negsuc 41) ≡ codes "-42"
+unfolding number_text digits
+integer_text = refl
+
 -- ---- keys
 
 key_of_two : encoded (codes "x" ∷ codes "yz" ∷ []) ≡ 1 ∷ 0 ∷ 0 ∷ 0 ∷ 120 ∷ 2 ∷ 0 ∷ 0 ∷ 0 ∷ 121 ∷ 122 ∷ []
@@ -78,40 +148,40 @@ longest_key_fits = refl
 
 -- ---- averages
 
-halves_go_away_from_zero : average_text (negsuc 0) 32 ≡ codes "-0.0313"
-unfolding average_text digits
+halves_go_away_from_zero : number_text 4 (average (negsuc 0) 32) ≡ codes "-0.0313"
+unfolding number_text digits
 halves_go_away_from_zero = refl
 
-smallest_average : average_text (negsuc 0) 20000 ≡ codes "-0.0001"
-unfolding average_text digits
+smallest_average : number_text 4 (average (negsuc 0) 20000) ≡ codes "-0.0001"
+unfolding number_text digits
 smallest_average = refl
 
-zero_has_no_sign : average_text (negsuc 0) 20001 ≡ codes "0.0000"
-unfolding average_text digits
+zero_has_no_sign : number_text 4 (average (negsuc 0) 20001) ≡ codes "0.0000"
+unfolding number_text digits
 zero_has_no_sign = refl
 
-whole_average : average_text (pos 4) 2 ≡ codes "2.0000"
-unfolding average_text digits
+whole_average : number_text 4 (average (pos 4) 2) ≡ codes "2.0000"
+unfolding number_text digits
 whole_average = refl
 
-third : average_text (negsuc 0) 3 ≡ codes "-0.3333"
-unfolding average_text digits
+third : number_text 4 (average (negsuc 0) 3) ≡ codes "-0.3333"
+unfolding number_text digits
 third = refl
 
 -- ---- plans
 
 -- an aggregate of a column by its name
 abbrev named : ItemKind → List ℕ → NamedItem
-named k name = record { kind = k; column = Some name }
+named k name = record { kind = k; column = Some name; places = 0 }
 
 abbrev counted : NamedItem
-counted = record { kind = kind.Rows; column = None }
+counted = record { kind = kind.Rows; column = None; places = 0 }
 
 abbrev plan : List (List ℕ) → List NamedItem → NamedPlan
 plan groups items = record { groups = groups; items = items; hash = false; filter = None }
 
 abbrev filtered : NamedPlan → List ℕ → FilterOp → ℤ → NamedPlan
-filtered p name relation value = record p { filter = Some (record { column = name; op = relation; value = value }) }
+filtered p name relation value = record p { filter = Some (record { column = name; op = relation; value = value; places = 0 }) }
 
 -- ---- `g,v` over a,1 b,2 a,3
 
@@ -135,11 +205,11 @@ sums_header : table_header sums ≡ codes "g" ∷ codes "sum(v)" ∷ codes "avg(
 sums_header = refl
 
 sums_of_a : group_record (bound_plan letter_header sums) letter_rows (codes "a" ∷ []) ≡ codes "a" ∷ codes "4" ∷ codes "2.0000" ∷ []
-unfolding state_of_rows is_kept encoded number_of average_text digits
+unfolding state_of_rows is_kept encoded number_of number_text digits
 sums_of_a = refl
 
 sums_of_b : group_record (bound_plan letter_header sums) letter_rows (codes "b" ∷ []) ≡ codes "b" ∷ codes "2" ∷ codes "2.0000" ∷ []
-unfolding state_of_rows is_kept encoded number_of average_text digits
+unfolding state_of_rows is_kept encoded number_of number_text digits
 sums_of_b = refl
 
 unknown_column : outcome (Some (plan [] (named kind.Sum (codes "w") ∷ []))) 4 (letter_header ∷ []) ≡ NoColumn (codes "w")
@@ -173,11 +243,11 @@ abbrev null_rows : List (List (List ℕ))
 null_rows = (codes "a" ∷ [] ∷ []) ∷ (codes "a" ∷ codes "-1" ∷ []) ∷ (codes "a" ∷ codes "0" ∷ []) ∷ (codes "a" ∷ codes "0" ∷ []) ∷ []
 
 nulls_are_no_values : group_record (bound_plan letter_header (plan (codes "g" ∷ []) (counted ∷ named kind.Count (codes "v") ∷ named kind.Avg (codes "v") ∷ []))) null_rows (codes "a" ∷ []) ≡ codes "a" ∷ codes "4" ∷ codes "3" ∷ codes "-0.3333" ∷ []
-unfolding state_of_rows is_kept encoded number_of average_text digits
+unfolding state_of_rows is_kept encoded number_of number_text digits
 nulls_are_no_values = refl
 
 sum_of_none_is_null : group_record (bound_plan letter_header (plan [] (counted ∷ named kind.Sum (codes "v") ∷ []))) [] [] ≡ codes "0" ∷ [] ∷ []
-unfolding state_of_rows digits
+unfolding state_of_rows number_text digits
 sum_of_none_is_null = refl
 
 lone_null_is_quoted : table_text ((codes "sum(v)" ∷ []) ∷ ([] ∷ []) ∷ []) ≡ codes "sum(v)" ++ (10 ∷ 34 ∷ 34 ∷ 10 ∷ [])
@@ -189,11 +259,11 @@ unfolding table_text escaped fields_text is_blank
 quoted_key = refl
 
 least_and_greatest : group_record (bound_plan (codes "v" ∷ []) (plan [] (named kind.Min (codes "v") ∷ named kind.Max (codes "v") ∷ []))) ((codes " 7 " ∷ []) ∷ (codes "-3" ∷ []) ∷ (codes "+5" ∷ []) ∷ []) [] ≡ codes "-3" ∷ codes "7" ∷ []
-unfolding state_of_rows is_kept encoded number_of digits
+unfolding state_of_rows is_kept encoded number_of number_text digits
 least_and_greatest = refl
 
 wide_sum : group_record (bound_plan (codes "v" ∷ []) (plan [] (named kind.Sum (codes "v") ∷ []))) ((codes "9223372036854775807" ∷ []) ∷ (codes "9223372036854775807" ∷ []) ∷ []) [] ≡ codes "18446744073709551614" ∷ []
-unfolding state_of_rows is_kept encoded number_of digits
+unfolding state_of_rows is_kept encoded number_of number_text digits
 wide_sum = refl
 
 too_wide : outcome (Some (plan [] (named kind.Sum (codes "v") ∷ []))) 22 ((codes "v" ∷ []) ∷ (codes "9223372036854775808" ∷ []) ∷ []) ≡ Refused ((1, record { cause = 3; item = 0 }) ∷ [])
@@ -201,7 +271,7 @@ unfolding outcome missing_name refused_rows refusal is_kept encoded number_of
 too_wide = refl
 
 wide_is_counted : group_record (bound_plan (codes "v" ∷ []) (plan [] (named kind.Count (codes "v") ∷ []))) ((codes "9223372036854775808" ∷ []) ∷ []) [] ≡ codes "1" ∷ []
-unfolding state_of_rows is_kept encoded digits
+unfolding state_of_rows is_kept encoded number_text digits
 wide_is_counted = refl
 
 -- ---- filters, over `g,v,w` and a,1,5 b,2,x a,,7 b,9,1
@@ -220,7 +290,7 @@ unfolding outcome missing_name refused_rows refusal is_kept encoded number_of
 filter_below = refl
 
 filter_below_group : group_record (bound_plan filter_header (filtered sum_w (codes "v") op.Less (pos 2))) filter_rows (codes "a" ∷ []) ≡ codes "a" ∷ codes "1" ∷ codes "5" ∷ []
-unfolding state_of_rows is_kept encoded number_of digits
+unfolding state_of_rows is_kept encoded number_of number_text digits
 filter_below_group = refl
 
 kept_row_is_refused : outcome (Some (filtered sum_w (codes "v") op.GreaterEqual (pos 2))) 28 (filter_header ∷ filter_rows) ≡ Refused ((2, record { cause = 3; item = 1 }) ∷ [])
@@ -232,11 +302,11 @@ unfolding outcome missing_name refused_rows refusal is_kept encoded number_of
 filter_field_is_refused = refl
 
 filter_unequal : group_record (bound_plan filter_header (filtered (plan [] (counted ∷ [])) (codes "v") op.NotEqual (pos 1))) filter_rows [] ≡ codes "2" ∷ []
-unfolding state_of_rows is_kept encoded number_of digits
+unfolding state_of_rows is_kept encoded number_of number_text digits
 filter_unequal = refl
 
 filter_negative : group_record (bound_plan filter_header (filtered (plan [] (counted ∷ [])) (codes "v") op.GreaterEqual (negsuc 2))) filter_rows [] ≡ codes "3" ∷ []
-unfolding state_of_rows is_kept encoded number_of digits
+unfolding state_of_rows is_kept encoded number_of number_text digits
 filter_negative = refl
 
 -- a key that is too long refuses no row that the filter leaves out, and one that it keeps
@@ -247,3 +317,19 @@ long_key_left_out = refl
 long_key_kept : outcome (Some (plan (codes "k" ∷ []) (counted ∷ []))) 248 ((codes "k" ∷ []) ∷ (replicate 245 120 ∷ []) ∷ []) ≡ Refused ((1, record { cause = 2; item = 0 }) ∷ [])
 unfolding outcome missing_name refused_rows refusal is_kept encoded
 long_key_kept = refl
+
+-- ---- prices with two places
+
+abbrev priced : ItemKind → NamedItem
+priced k = record { kind = k; column = Some (codes "price"); places = 2 }
+
+abbrev prices : List (List (List ℕ))
+prices = (codes "1.50" ∷ []) ∷ (codes "-2" ∷ []) ∷ (codes "+0.05" ∷ []) ∷ (codes ".5" ∷ []) ∷ []
+
+price_sums : group_record (bound_plan (codes "price" ∷ []) (plan [] (priced kind.Sum ∷ priced kind.Min ∷ priced kind.Max ∷ priced kind.Avg ∷ []))) prices [] ≡ codes "0.05" ∷ codes "-2.00" ∷ codes "1.50" ∷ codes "0.012500" ∷ []
+unfolding state_of_rows is_kept encoded number_of number_text digits
+price_sums = refl
+
+price_filter : group_record (bound_plan (codes "price" ∷ []) (record (plan [] (counted ∷ [])) { filter = Some (record { column = codes "price"; op = op.GreaterEqual; value = pos 50; places = 2 }) })) prices [] ≡ codes "2" ∷ []
+unfolding state_of_rows is_kept encoded number_of digits
+price_filter = refl

@@ -7,12 +7,12 @@ ghost use Rattle.std.specs.Prelude.{◌≡◌, ◌≤◌, ◌<◌, true, false, 
 ghost use Rattle.std.specs.List.{position_from};
 ghost use Rattle.std.specs.Option.{option_map_or};
 ghost use Rattle.par_model.specs.Columns.{HasColumns};
-ghost use Rattle.par_model.specs.Keep.{is_kept, leaves_out};
+ghost use Rattle.par_model.specs.Keep.{is_kept, keeps};
 ghost use Rattle.par_model.specs.Key.{key_of};
 ghost use Rattle.par_model.specs.Record.{field_of};
-ghost use Rattle.par_model.specs.Refuse.{is_no_integer, is_unreadable, longest_key, reads_integers, refusal};
+ghost use Rattle.par_model.specs.Refuse.{is_no_number, is_unreadable, longest_key, reads_numbers, refusal};
 
-use par_model::integer::read_integer;
+use par_model::number::read_number;
 use par_model::plan::{BoundPlan, Filter, Item, ItemKind};
 use par_model::refusal::{FILTER_CAUSE, ITEM_CAUSE, KEY_CAUSE, LONGEST_KEY, Refusal, WIDTH_CAUSE};
 use par_model::row::Row;
@@ -50,21 +50,21 @@ pub fn slow_refusal(row: &Row, width: u32, plan: &BoundPlan) -> Option<Refusal>
     })
 }
 
-/// Whether a field is neither null nor an integer.
-fn is_no_integer(field: &[u8]) -> bool
-    ensures { result ≡ is_no_integer field.now }
+/// Whether a field is neither null nor a number with so many places.
+fn is_no_number(field: &[u8], places: u32) -> bool
+    ensures { result ≡ is_no_number places field.now }
 {
-    !field.is_empty() && read_integer(field).is_none()
+    !field.is_empty() && read_number(field, places).is_none()
 }
 
 /// Whether the filter cannot read its field.
 fn has_unreadable_filter(row: &Row, plan: &BoundPlan) -> bool
     requires { HasColumns plan.now (length row.now) }
-    ensures { result ≡ option_map_or (λ filter. is_no_integer (field_of row.now filter.column)) plan.now.filter false }
+    ensures { result ≡ option_map_or (λ filter. is_no_number filter.places (field_of row.now filter.column)) plan.now.filter false }
 {
     match plan.filter {
         None => false,
-        Some(filter) => is_no_integer(row.field(filter.column)),
+        Some(filter) => is_no_number(row.field(filter.column), filter.places),
     }
 }
 
@@ -75,22 +75,18 @@ pub(crate) fn keeps(row: &Row, plan: &BoundPlan) -> bool
 {
     match plan.filter {
         None => true,
-        Some(filter) => !leaves_out(&filter, row),
+        Some(filter) => passes(&filter, row),
     }
 }
 
-/// Whether a filter leaves the row out.
-fn leaves_out(filter: &Filter, row: &Row) -> bool
+/// Whether a filter keeps the row.
+fn passes(filter: &Filter, row: &Row) -> bool
     requires { filter.now.column < length row.now }
-    ensures { result ≡ leaves_out filter.now row.now }
+    ensures { result ≡ keeps filter.now row.now }
 {
-    let field = row.field(filter.column);
-    if field.is_empty() {
-        return true;
-    }
-    match read_integer(field) {
+    match read_number(row.field(filter.column), filter.places) {
         None => false,
-        Some(number) => !filter.op.stands(number, filter.value),
+        Some(number) => filter.op.stands(number, filter.value),
     }
 }
 
@@ -126,13 +122,13 @@ fn first_unreadable(row: &Row, plan: &BoundPlan) -> Option<u32>
 
 /// Whether an item cannot read its field.
 fn is_unreadable(row: &Row, item: Item) -> bool
-    requires { reads_integers item.kind ≡ true → item.column < length row.now }
+    requires { reads_numbers item.kind ≡ true → item.column < length row.now }
     ensures { result ≡ is_unreadable row.now item }
 {
     match item.kind {
         ItemKind::Rows | ItemKind::Count => false,
         ItemKind::Sum | ItemKind::Min | ItemKind::Max | ItemKind::Avg => {
-            is_no_integer(row.field(item.column))
+            is_no_number(row.field(item.column), item.places)
         }
     }
 }

@@ -9,13 +9,13 @@ ghost use Rattle.std.specs.Int.{int_max, int_min};
 ghost use Rattle.std.specs.Option.{option_map_or};
 ghost use Rattle.par_model.specs.Aggregate.{greatest, least, rows_of, slot_of, state_of, total, values_of};
 ghost use Rattle.par_model.specs.Columns.{HasColumns, reads_column};
-ghost use Rattle.par_model.specs.Integer.{integer_of};
 ghost use Rattle.par_model.specs.Keep.{is_kept};
 ghost use Rattle.par_model.specs.Key.{encoded_field, key_of};
+ghost use Rattle.par_model.specs.Number.{decimal_of};
 ghost use Rattle.par_model.specs.Record.{field_of};
 
 use crate::slow::keeps;
-use par_model::integer::read_integer;
+use par_model::number::read_number;
 use par_model::plan::{BoundPlan, Item, ItemKind};
 use par_model::row::Row;
 use par_model::state::{AggState, NO_VALUES, SlotState};
@@ -51,9 +51,9 @@ fn slot(rows: &[Row], key: &[u8], plan: &BoundPlan, item: Item) -> SlotState
         },
         ItemKind::Sum | ItemKind::Min | ItemKind::Max | ItemKind::Avg => SlotState {
             count: count_values(rows, key, plan, item.column),
-            sum: sum(rows, key, plan, item.column),
-            least: least(rows, key, plan, item.column),
-            greatest: greatest(rows, key, plan, item.column),
+            sum: sum(rows, key, plan, item),
+            least: least(rows, key, plan, item),
+            greatest: greatest(rows, key, plan, item),
         },
     }
 }
@@ -87,45 +87,45 @@ fn count_values(rows: &[Row], key: &[u8], plan: &BoundPlan, column: u32) -> u64
     count
 }
 
-/// The sum of a column's integers in the group's rows.
-fn sum(rows: &[Row], key: &[u8], plan: &BoundPlan, column: u32) -> i128
+/// The sum of an item's numbers in the group's rows.
+fn sum(rows: &[Row], key: &[u8], plan: &BoundPlan, item: Item) -> i128
     requires plan { All (λ row. HasColumns plan.now (length row)) rows.now }
-    requires column { All (λ row. column < length row) rows.now }
-    ensures { result ≡ total (filter_map integer_of (values_of column (rows_of plan.now rows.now key.now))) }
+    requires column { All (λ row. item.column < length row) rows.now }
+    ensures { result ≡ total (filter_map (decimal_of item.places) (values_of item.column (rows_of plan.now rows.now key.now))) }
 {
     let mut sum: i128 = 0;
     'rows: for row in rows {
-        if let Some(number) = number_in(row, key, plan, column) {
+        if let Some(number) = number_of(row, key, plan, item) {
             sum += i128::from(number);
         }
     }
     sum
 }
 
-/// The least of a column's integers in the group's rows, and 0 if there is none.
-fn least(rows: &[Row], key: &[u8], plan: &BoundPlan, column: u32) -> i64
+/// The least of an item's numbers in the group's rows, and 0 if there is none.
+fn least(rows: &[Row], key: &[u8], plan: &BoundPlan, item: Item) -> i64
     requires plan { All (λ row. HasColumns plan.now (length row)) rows.now }
-    requires column { All (λ row. column < length row) rows.now }
-    ensures { result ≡ least (filter_map integer_of (values_of column (rows_of plan.now rows.now key.now))) }
+    requires column { All (λ row. item.column < length row) rows.now }
+    ensures { result ≡ least (filter_map (decimal_of item.places) (values_of item.column (rows_of plan.now rows.now key.now))) }
 {
     let mut least: Option<i64> = None;
     'rows: for row in rows {
-        if let Some(number) = number_in(row, key, plan, column) {
+        if let Some(number) = number_of(row, key, plan, item) {
             least = Some(lesser(least, number));
         }
     }
     least.unwrap_or(0)
 }
 
-/// The greatest of a column's integers in the group's rows, and 0 if there is none.
-fn greatest(rows: &[Row], key: &[u8], plan: &BoundPlan, column: u32) -> i64
+/// The greatest of an item's numbers in the group's rows, and 0 if there is none.
+fn greatest(rows: &[Row], key: &[u8], plan: &BoundPlan, item: Item) -> i64
     requires plan { All (λ row. HasColumns plan.now (length row)) rows.now }
-    requires column { All (λ row. column < length row) rows.now }
-    ensures { result ≡ greatest (filter_map integer_of (values_of column (rows_of plan.now rows.now key.now))) }
+    requires column { All (λ row. item.column < length row) rows.now }
+    ensures { result ≡ greatest (filter_map (decimal_of item.places) (values_of item.column (rows_of plan.now rows.now key.now))) }
 {
     let mut greatest: Option<i64> = None;
     'rows: for row in rows {
-        if let Some(number) = number_in(row, key, plan, column) {
+        if let Some(number) = number_of(row, key, plan, item) {
             greatest = Some(greater(greatest, number));
         }
     }
@@ -152,16 +152,16 @@ fn greater(so_far: Option<i64>, number: i64) -> i64
     }
 }
 
-/// The integer of a column in a row of the group, if the row is one and the field is one.
-fn number_in(row: &Row, key: &[u8], plan: &BoundPlan, column: u32) -> Option<i64>
+/// The number of an item in a row of the group, if the row is one and the field is one.
+fn number_of(row: &Row, key: &[u8], plan: &BoundPlan, item: Item) -> Option<i64>
     requires plan { HasColumns plan.now (length row.now) }
-    requires column { column < length row.now }
-    ensures { result ≡ (if is_kept plan.now row.now && bytes_eq (key_of plan.now row.now) key.now then integer_of (field_of row.now column) else None) }
+    requires column { item.column < length row.now }
+    ensures { result ≡ (if is_kept plan.now row.now && bytes_eq (key_of plan.now row.now) key.now then decimal_of item.places (field_of row.now item.column) else None) }
 {
     if !is_in_group(row, key, plan) {
         return None;
     }
-    read_integer(row.field(column))
+    read_number(row.field(item.column), item.places)
 }
 
 /// Whether a row is one of the group: the plan keeps it, and it has the key.

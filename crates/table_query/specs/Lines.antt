@@ -1,5 +1,5 @@
 -- The lines that say why a query has no table.
-use Rattle.std.specs.Prelude.{[], ◌≡◌, ◌==◌, ◌++◌, ℕ, List, Option, Some, Contains, IsSomeAnd, codes, decimal, if◌then◌else◌, option_and_then, slice_get, unwrap_or}
+use Rattle.std.specs.Prelude.{[], ◌≡◌, ◌==◌, ◌++◌, ℕ, zero, suc, List, Option, Some, Contains, IsSomeAnd, codes, decimal, if◌then◌else◌, option_and_then, slice_get, unwrap_or}
 use Rattle.std.specs.Option.{option_map_or}
 use Rattle.par_model.specs.Named.{NamedPlan}
 use Rattle.par_model.specs.Outcome.{Outcome, Usage, TooManyBytes, NoHeader, TooManyRows, NoColumn, Refused, Table}
@@ -28,13 +28,27 @@ item_name plan place = unwrap_or (option_and_then (λ item. item.column) (slice_
 abbrev pub filter_name : NamedPlan → List ℕ
 filter_name plan = option_map_or (λ filter. filter.column) plan.filter []
 
+-- the places of the numbers of that column
+abbrev pub item_places : NamedPlan → ℕ → ℕ
+item_places plan place = option_map_or (λ item. item.places) (slice_get plan.items place) 0
+
+-- the places of the filter's value
+abbrev pub filter_places : NamedPlan → ℕ
+filter_places plan = option_map_or (λ filter. filter.places) plan.filter 0
+
+-- what a field is not that is no number of at most so many places
+abbrev pub number_kind : ℕ → List ℕ
+number_kind zero = codes " is not an integer"
+number_kind (suc zero) = codes " is not a decimal with at most 1 place"
+number_kind places = codes " is not a decimal with at most " ++ (decimal places ++ codes " places")
+
 -- why a row is refused
 abbrev pub refusal_text : NamedPlan → Refusal → List ℕ
 refusal_text plan why =
     if why.cause == width_cause then codes "wrong number of fields"
     else (if why.cause == key_cause then codes "group key is longer than 248 bytes"
-    else (if why.cause == item_cause then codes "column " ++ (item_name plan why.item ++ codes " is not an integer")
-    else codes "filter column " ++ (filter_name plan ++ codes " is not an integer")))
+    else (if why.cause == item_cause then codes "column " ++ (item_name plan why.item ++ number_kind (item_places plan why.item))
+    else codes "filter column " ++ (filter_name plan ++ number_kind (filter_places plan))))
 
 -- what a line says of a refused row
 abbrev pub row_text : NamedPlan → ℕ × Refusal → List ℕ

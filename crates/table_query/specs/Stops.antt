@@ -1,5 +1,5 @@
 -- What a reason to have no table says of the outcome.
-use Rattle.std.specs.Prelude.{[], ◌≡◌, ⊤, ℕ, List, Option, Some, Contains, slice_get, codes, decimal, ◌++◌, IsSomeAnd, string_bytes}
+use Rattle.std.specs.Prelude.{[], ◌≡◌, ⊤, ℕ, List, Option, Some, Contains, slice_get, codes, decimal, ◌++◌, IsSomeAnd, String, string_bytes}
 use Rattle.csv_rows.specs.declared.input.ReadAnswer.{ReadAnswer}
 use Rattle.csv_rows.specs.declared.input.ReadAnswer.TheVariants as reading
 use Rattle.csv_rows.specs.declared.records.RowsAnswer.{RowsAnswer}
@@ -14,8 +14,6 @@ use Rattle.table_query.specs.Asked.{usage_in}
 use Rattle.table_query.specs.Lines.{refusal_text, refused_of}
 use Rattle.table_query.specs.declared.wanted.Wanted.{Wanted}
 use Rattle.answer_text.specs.declared.status.TheConstants.{MISUSED, NO_MEMORY, READ_FAULT, REFUSED, TOO_LARGE, WRITE_FAULT}
-use Rattle.table_query.specs.declared.stop.Cause.{Cause}
-use Rattle.table_query.specs.declared.stop.Cause.TheVariants as cause
 use Rattle.table_query.specs.declared.stop.Stop.{Stop}
 use Rattle.table_query.specs.declared.stop.Stop.TheVariants as stop
 
@@ -31,13 +29,6 @@ stop_status (stop.Refused row why) = REFUSED
 stop_status stop.WriteFault = WRITE_FAULT
 stop_status stop.Memory = NO_MEMORY
 
--- what the line says of the cause of a refusal
-abbrev pub cause_text : Cause → List ℕ
-cause_text cause.Width = codes "wrong number of fields"
-cause_text cause.LongKey = codes "group key is longer than 248 bytes"
-cause_text (cause.Item name) = codes "column " ++ (string_bytes name ++ codes " is not an integer")
-cause_text (cause.Filter name) = codes "filter column " ++ (string_bytes name ++ codes " is not an integer")
-
 -- what the line of a reason says, given what was wanted; if it names a row, only what comes after the row's number
 abbrev pub text_of : Wanted → Stop → List ℕ
 text_of wanted stop.Usage = usage_in wanted
@@ -46,7 +37,7 @@ text_of wanted stop.TooManyBytes = codes "more than 67108864 bytes"
 text_of wanted stop.NoHeader = codes "no header"
 text_of wanted stop.TooManyRows = codes "more than 4194304 rows"
 text_of wanted (stop.NoColumn name) = codes "no column " ++ string_bytes name
-text_of wanted (stop.Refused row why) = cause_text why
+text_of wanted (stop.Refused row why) = string_bytes why
 text_of wanted stop.WriteFault = codes "write fault"
 text_of wanted stop.Memory = codes "out of memory"
 
@@ -66,17 +57,17 @@ front_of stop.Memory = []
 abbrev pub stop_text : Wanted → Stop → List ℕ
 stop_text wanted why = front_of why ++ text_of wanted why
 
--- the outcome refuses this row, and for this cause
-pub record RefusesRow (plan : NamedPlan) (row : ℕ) (why : Cause) (o : Outcome) : Type 0 where
+-- the outcome refuses this row, and this says why
+pub record RefusesRow (plan : NamedPlan) (row : ℕ) (why : String) (o : Outcome) : Type 0 where
   pub refusal : Refusal
   pub has : Contains (refused_of o) (row, refusal)
-  pub says : cause_text why ≡ refusal_text plan refusal
+  pub says : string_bytes why ≡ refusal_text plan refusal
 
--- the outcome refuses this row first, and for this cause
-pub record RefusesFirst (plan : NamedPlan) (row : ℕ) (why : Cause) (o : Outcome) : Type 0 where
+-- the outcome refuses this row first, and this says why
+pub record RefusesFirst (plan : NamedPlan) (row : ℕ) (why : String) (o : Outcome) : Type 0 where
   pub refusal : Refusal
   pub first : slice_get (refused_of o) 0 ≡ Some (row, refusal)
-  pub says : cause_text why ≡ refusal_text plan refusal
+  pub says : string_bytes why ≡ refusal_text plan refusal
 
 -- what a reason says of the outcome
 abbrev pub Explains : Option NamedPlan → Stop → Outcome → Type 0
@@ -137,4 +128,4 @@ stop_of_parsing parsing.Memory = stop.Memory
 
 -- the reason is that this row is refused, and has the text of the refusal
 abbrev pub IsRefusedRow : NamedPlan → ℕ → Refusal → Stop → Type 0
-IsRefusedRow plan row refusal why = (cause : Cause) × (why ≡ stop.Refused row cause) × (cause_text cause ≡ refusal_text plan refusal)
+IsRefusedRow plan row refusal why = (cause : String) × (why ≡ stop.Refused row cause) × (string_bytes cause ≡ refusal_text plan refusal)

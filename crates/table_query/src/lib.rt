@@ -14,7 +14,7 @@ mod stop;
 mod wanted;
 
 pub use input::{Ready, prepare};
-pub use names::stop_of_row;
+pub use names::{refusal_text, stop_of_row};
 pub use reading::{Alone, InThreads, Reading};
-pub use stop::{Cause, Stop};
+pub use stop::Stop;
 pub use wanted::Wanted;

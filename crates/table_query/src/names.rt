@@ -1,14 +1,14 @@
-//! The names of columns that the line of a refused row mentions.
+//! What a line says of a refused row.
 //!
-//! They are those of a plan: the name of an aggregate's column, by the aggregate's place, and that of the filter's
-//! column. They are copied, since the line is written after the plan is gone.
+//! It names a column of a plan: that of an aggregate, by the aggregate's place, or that of the filter. The text is made at
+//! once, since the line is written after the plan is gone.
 
-ghost use Rattle.std.specs.Prelude.{◌≡◌, ◌⊎◌, IfOk};
-ghost use Rattle.table_query.specs.Lines.{refusal_text};
-ghost use Rattle.table_query.specs.Stops.{IsRefusedRow, cause_text};
+ghost use Rattle.std.specs.Prelude.{◌≡◌, ◌⊎◌, ◌++◌, IfOk, OnOk, string_bytes};
+ghost use Rattle.table_query.specs.Lines.{number_kind, refusal_text};
+ghost use Rattle.table_query.specs.Stops.{IsRefusedRow};
 ghost use Rattle.table_query.specs.declared.stop.Stop.TheVariants as stop;
 
-use crate::stop::{Cause, Stop};
+use crate::stop::Stop;
 use par_model::{ITEM_CAUSE, KEY_CAUSE, Refusal, WIDTH_CAUSE};
 use plan_spec::Plan;
 use std::alloc::{AllocError, Global};
@@ -17,26 +17,52 @@ use std::alloc::{AllocError, Global};
 pub fn stop_of_row(alloc: Global, plan: &Plan, row: u64, why: Refusal) -> Stop
     ensures { IsRefusedRow plan.now.plan row why result ⊎ (result ≡ stop.Memory) }
 {
-    match cause_of(alloc, plan, why) {
+    match refusal_text(alloc, plan, why) {
         Ok(cause) => Stop::Refused(row, cause),
         Err(AllocError) => Stop::Memory,
     }
 }
 
-/// The cause of a refusal with the name that its line mentions.
-fn cause_of(alloc: Global, plan: &Plan, why: Refusal) -> Result<Cause, AllocError>
-    ensures { IfOk result (λ cause. cause_text cause ≡ refusal_text plan.now.plan why) }
+/// What a line says of the cause of a refusal.
+pub fn refusal_text(alloc: Global, plan: &Plan, why: Refusal) -> Result<String, AllocError>
+    ensures { IfOk result (λ text. string_bytes text ≡ refusal_text plan.now.plan why) }
 {
     if why.cause == WIDTH_CAUSE {
-        return Ok(Cause::Width);
+        return String::from_str(alloc, "wrong number of fields");
     }
     if why.cause == KEY_CAUSE {
-        return Ok(Cause::LongKey);
+        return String::from_str(alloc, "group key is longer than 248 bytes");
     }
     if why.cause == ITEM_CAUSE {
         let name = plan.item_name(why.item).unwrap_or("");
-        return Ok(Cause::Item(String::from_str(alloc, name)?));
+        return no_number(alloc, "column ", name, plan.item_places(why.item));
     }
     let name = plan.filter_name().unwrap_or("");
-    Ok(Cause::Filter(String::from_str(alloc, name)?))
+    no_number(alloc, "filter column ", name, plan.filter_places())
+}
+
+/// What a line says of a field that is no number of at most so many places: a text, the name of its column, and what the
+/// field is not.
+fn no_number(alloc: Global, front: &str, name: &str, places: u32) -> Result<String, AllocError>
+    ensures { IfOk result (λ text. string_bytes text ≡ front.now ++ (name.now ++ number_kind places)) }
+{
+    let mut text = String::from_str(alloc, front)?;
+    text.push_str(name)?;
+    push_kind(&mut text, places)?;
+    Ok(text)
+}
+
+/// What a field is not that is no number of at most so many places.
+fn push_kind(text: &mut String, places: u32) -> Result<(), AllocError>
+    ensures { OnOk result (string_bytes text.new ≡ string_bytes text.old ++ number_kind places) }
+{
+    match places {
+        0 => text.push_str(" is not an integer"),
+        1 => text.push_str(" is not a decimal with at most 1 place"),
+        _ => {
+            text.push_str(" is not a decimal with at most ")?;
+            text.push_str(itoa::Buffer::new().format(places))?;
+            text.push_str(" places")
+        }
+    }
 }

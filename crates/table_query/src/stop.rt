@@ -3,7 +3,7 @@
 ghost use Rattle.std.specs.Prelude.{◌≡◌, ◌++◌, map};
 ghost use Rattle.std.specs.List.{concat};
 ghost use Rattle.answer_text.specs.Lines.{IsSaid, line};
-ghost use Rattle.table_query.specs.Stops.{cause_text, stop_of_parsing, stop_of_reading, stop_of_words, stop_status, stop_text, text_of};
+ghost use Rattle.table_query.specs.Stops.{stop_of_parsing, stop_of_reading, stop_of_words, stop_status, stop_text, text_of};
 ghost use Rattle.table_query.specs.declared.stop.Stop.TheVariants as stop;
 
 use crate::wanted::Wanted;
@@ -13,16 +13,7 @@ use par_io::Sink;
 use plan_spec::PlanAnswer;
 use std::alloc::AllocError;
 
-/// Why a row is refused, with the name of the column that its line mentions.
-#[derive(Debug, Drop)]
-pub enum Cause {
-    Width,
-    LongKey,
-    Item(String),
-    Filter(String),
-}
-
-/// Why there is no table.
+/// Why there is no table. A refused row has its number, and what the line says of its cause.
 #[derive(Debug, Drop)]
 pub enum Stop {
     Usage,
@@ -31,7 +22,7 @@ pub enum Stop {
     NoHeader,
     TooManyRows,
     NoColumn(String),
-    Refused(u64, Cause),
+    Refused(u64, String),
     WriteFault,
     Memory,
 }
@@ -79,20 +70,6 @@ impl From<RowsAnswer> for Stop {
     }
 }
 
-impl Cause {
-    /// What the line says of it: a text, a name, and the text after that.
-    fn text(&self) -> (&str, &str, &str)
-        ensures { result.0.now ++ (result.1.now ++ result.2.now) ≡ cause_text self.now }
-    {
-        match self {
-            Cause::Width => ("wrong number of fields", "", ""),
-            Cause::LongKey => ("group key is longer than 248 bytes", "", ""),
-            Cause::Item(name) => ("column ", name.as_str(), " is not an integer"),
-            Cause::Filter(name) => ("filter column ", name.as_str(), " is not an integer"),
-        }
-    }
-}
-
 impl Stop {
     /// The exit status.
     fn status(&self) -> u8
@@ -109,32 +86,32 @@ impl Stop {
     }
 
     /// What its line says, in pieces: of a refused row it is what comes after the row's number.
-    fn text(&self, wanted: Wanted) -> (&str, &str, &str)
-        ensures { result.0.now ++ (result.1.now ++ result.2.now) ≡ text_of wanted self.now }
+    fn text(&self, wanted: Wanted) -> (&str, &str)
+        ensures { result.0.now ++ result.1.now ≡ text_of wanted self.now }
     {
         match self {
-            Stop::Usage => ("", "", wanted.usage()),
-            Stop::ReadFault => ("read fault", "", ""),
-            Stop::TooManyBytes => ("more than 67108864 bytes", "", ""),
-            Stop::NoHeader => ("no header", "", ""),
-            Stop::TooManyRows => ("more than 4194304 rows", "", ""),
-            Stop::NoColumn(name) => ("no column ", name.as_str(), ""),
-            Stop::Refused(_, cause) => cause.text(),
-            Stop::WriteFault => ("write fault", "", ""),
-            Stop::Memory => ("out of memory", "", ""),
+            Stop::Usage => ("", wanted.usage()),
+            Stop::ReadFault => ("read fault", ""),
+            Stop::TooManyBytes => ("more than 67108864 bytes", ""),
+            Stop::NoHeader => ("no header", ""),
+            Stop::TooManyRows => ("more than 4194304 rows", ""),
+            Stop::NoColumn(name) => ("no column ", name.as_str()),
+            Stop::Refused(_, cause) => ("", cause.as_str()),
+            Stop::WriteFault => ("write fault", ""),
+            Stop::Memory => ("out of memory", ""),
         }
     }
 
     /// The pieces of its line.
-    fn pieces<'a>(&'a self, wanted: Wanted, digits: &'a mut itoa::Buffer) -> [&'a str; 8]
+    fn pieces<'a>(&'a self, wanted: Wanted, digits: &'a mut itoa::Buffer) -> [&'a str; 7]
         ensures { concat (map (λ piece. piece.now) result) ≡ line (stop_text wanted self.now) }
     {
         let (row, number, colon) = match self {
             Stop::Refused(row, _) => ("row ", digits.format(*row), ": "),
             _ => ("", "", ""),
         };
-        let (text, name, rest) = self.text(wanted);
-        ["pargather: ", row, number, colon, text, name, rest, "\n"]
+        let (text, rest) = self.text(wanted);
+        ["pargather: ", row, number, colon, text, rest, "\n"]
     }
 
     /// Writes the line, for words that were to ask for what is wanted, and returns the status.

@@ -47,14 +47,17 @@ fn count_plan() -> BoundPlan
     let count = Item {
         kind: ItemKind::Count,
         column: 2,
+        places: 0,
     };
     let sum = Item {
         kind: ItemKind::Sum,
         column: 2,
+        places: 0,
     };
     let unused = Item {
         kind: ItemKind::Rows,
         column: 0,
+        places: 0,
     };
     BoundPlan {
         groups: [0, 1, 0, 0, 0, 0, 0, 0],
@@ -66,6 +69,7 @@ fn count_plan() -> BoundPlan
             column: 3,
             op: FilterOp::NotEqual,
             value: 9,
+            places: 0,
         }),
     }
 }

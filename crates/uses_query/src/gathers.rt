@@ -41,10 +41,12 @@ fn query(alloc: Global, text: &[u8]) -> Result<(RowStore, BoundPlan), Fail>
     let unused = Item {
         kind: ItemKind::Rows,
         column: 0,
+        places: 0,
     };
     let sum = Item {
         kind: ItemKind::Sum,
         column: 1,
+        places: 0,
     };
     let plan = BoundPlan {
         groups: [0, 0, 0, 0, 0, 0, 0, 0],

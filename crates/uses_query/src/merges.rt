@@ -39,6 +39,7 @@ fn ordered_by(
     let unused = Item {
         kind: ItemKind::Rows,
         column: 0,
+        places: 0,
     };
     let plan = BoundPlan {
         groups: [if both { 1 } else { 0 }, 0, 0, 0, 0, 0, 0, 0],

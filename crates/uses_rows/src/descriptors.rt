@@ -14,6 +14,7 @@ use std::test::Fail;
 const UNUSED: Item = Item {
     kind: ItemKind::Rows,
     column: 0,
+    places: 0,
 };
 
 /// Writes a plan after a table of contents, freezes it, and reads the plan that the key names: the caller of
@@ -80,7 +81,11 @@ fn store_words(r: &Region, chunk: &mut Chunk, words: &[u64; 32])
 
 /// Two groups, three aggregates, and a filter with this relation.
 fn plan_with(op: FilterOp, value: i64) -> BoundPlan {
-    let item = |kind, column| Item { kind, column };
+    let item = |kind, column| Item {
+        kind,
+        column,
+        places: 0,
+    };
     BoundPlan {
         groups: [3, 70000, 0, 0, 0, 0, 0, 0],
         group_count: 2,
@@ -100,6 +105,7 @@ fn plan_with(op: FilterOp, value: i64) -> BoundPlan {
             column: 7,
             op,
             value,
+            places: 0,
         }),
     }
 }

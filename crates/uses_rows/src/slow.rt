@@ -6,7 +6,7 @@ ghost use Rattle.par_model.specs.declared.plan.ItemKind.TheVariants as kind;
 
 use par_model::{
     AggState, BoundPlan, Field, Filter, FilterOp, Item, ItemKind, Refusal, Row, SlotState,
-    read_integer,
+    read_integer, read_number,
 };
 use slow_model::{slow_refusal, slow_state};
 use std::alloc::{AllocError, Global};
@@ -16,11 +16,12 @@ use std::test::Fail;
 const UNUSED: Item = Item {
     kind: ItemKind::Rows,
     column: 0,
+    places: 0,
 };
 
 /// Counts the rows of each group of a column: the caller of CALLING.md.
 fn count_by(column: u32) -> BoundPlan
-    ensures { result ≡ record { groups = column ∷ []; items = record { kind = kind.Rows; column = 0 } ∷ []; hash = false; filter = None } }
+    ensures { result ≡ record { groups = column ∷ []; items = record { kind = kind.Rows; column = 0; places = 0 } ∷ []; hash = false; filter = None } }
 {
     BoundPlan {
         groups: [column, 0, 0, 0, 0, 0, 0, 0],
@@ -109,6 +110,61 @@ fn integers(rt: HostRuntime) {
     }
 }
 
+/// Fields and places, with the number in units of the last place.
+const NUMBERS: [(&[u8], u32, Option<i64>); 40] = [
+    (b"1.50", 2, Some(150)),
+    (b"1.5", 2, Some(150)),
+    (b"1", 2, Some(100)),
+    (b"-1.50", 2, Some(-150)),
+    (b"+1.50", 2, Some(150)),
+    (b"  1.50 ", 2, Some(150)),
+    (b".5", 2, Some(50)),
+    (b"-.5", 2, Some(-50)),
+    (b"-.50", 2, Some(-50)),
+    (b"5.", 2, None),
+    (b".", 2, None),
+    (b"-.", 2, None),
+    (b"", 2, None),
+    (b"   ", 2, None),
+    (b"-", 2, None),
+    (b"1.505", 2, None),
+    (b"1.500", 2, None),
+    (b"1.5.0", 2, None),
+    (b"1..5", 2, None),
+    (b".-5", 2, None),
+    (b"1.-5", 2, None),
+    (b"1.5-", 2, None),
+    (b"1. 5", 2, None),
+    (b"1 .5", 2, None),
+    (b"1,50", 2, None),
+    (b"$1.50", 2, None),
+    (b"1.5e1", 2, None),
+    (b"1.5", 0, None),
+    (b"15", 0, Some(15)),
+    (b"5.", 0, None),
+    (b"0001.50", 2, Some(150)),
+    (b"92233720368547758.07", 2, Some(i64::MAX)),
+    (b"92233720368547758.08", 2, None),
+    (b"-92233720368547758.08", 2, Some(i64::MIN)),
+    (b"-92233720368547758.09", 2, None),
+    (b"92233720368547758", 2, Some(9223372036854775800)),
+    (b"92233720368547759", 2, None),
+    (b"9223372036854775807", 1, None),
+    (
+        b"000000000000000000000000000000000.000000000000000001",
+        18,
+        Some(1),
+    ),
+    (b"-0.00", 2, Some(0)),
+];
+
+#[test]
+fn numbers(rt: HostRuntime) {
+    for (field, places, want) in NUMBERS {
+        assert!(rt; read_number(field, places) == want, "{field:?}");
+    }
+}
+
 /// A row of these fields.
 fn row_of(alloc: Global, texts: &[&str]) -> Result<Row, AllocError>
     ensures { IfOk result (λ row. length row ≡ length texts.now) }
@@ -131,6 +187,7 @@ fn sum_below_five() -> BoundPlan
             Item {
                 kind: ItemKind::Sum,
                 column: 2,
+                places: 0,
             },
             UNUSED,
             UNUSED,
@@ -146,6 +203,7 @@ fn sum_below_five() -> BoundPlan
             column: 1,
             op: FilterOp::Less,
             value: 5,
+            places: 0,
         }),
     }
 }
@@ -177,9 +235,13 @@ fn refuses_rows(rt: HostRuntime) -> Result<(), Fail> {
 
 /// An aggregate of column 1.
 fn of_values(kind: ItemKind) -> Item
-    ensures { result ≡ record { kind = kind; column = 1 } }
+    ensures { result ≡ record { kind = kind; column = 1; places = 0 } }
 {
-    Item { kind, column: 1 }
+    Item {
+        kind,
+        column: 1,
+        places: 0,
+    }
 }
 
 /// Each aggregate of column 1, for each group of column 0, over the rows whose column 2 is not 9.
@@ -205,6 +267,7 @@ fn all_aggregates() -> BoundPlan
             column: 2,
             op: FilterOp::NotEqual,
             value: 9,
+            places: 0,
         }),
     }
 }

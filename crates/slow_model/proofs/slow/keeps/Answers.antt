@@ -8,4 +8,4 @@ returns-in-None c = rw (← c.plan.view_is, c.in-None.is) refl
 
 pub returns-in-Some : goal.returns-in-Some
 unfolding is_kept
-returns-in-Some c = rw (← c.plan.view_is, c.in-Some.is, c.leaves_out.ensures) refl
+returns-in-Some c = rw (← c.plan.view_is, c.in-Some.is, c.passes.ensures) refl

@@ -1,9 +1,9 @@
 use Rattle.std.proofs.Common.{◌∙◌, ◌≡◌, Some, rules, sym}
 use Rattle.std.specs.Str.Parse.{without_leading_sign}
-use Rattle.par_model.specs.Integer.{integer_of}
+use Rattle.par_model.specs.Number.{integer_of}
 use Rattle.par_model.specs.Magnitude.{short_magnitude_of}
-use Rattle.par_model.proofs.ShortIntegers.{short-integer}
-use Rattle.par_model.proofs.integer.read_integer.Goals as goal
+use Rattle.par_model.proofs.ShortNumbers.{short-integer}
+use Rattle.par_model.proofs.number.read_integer.Goals as goal
 
 pub returns-in-Some : goal.returns-in-Some
 returns-in-Some c =
