@@ -22,7 +22,7 @@ pub struct Whole<'a> {
 /// Puts what all files say alike at the end of some bytes.
 #[tactic(auto, unfolding(crate::specs::Head::subject_bytes))]
 pub fn push_whole(out: &mut Vec<u8>, whole: Whole<'_>) -> Result<(), AllocError>
-    ensures { OnOk result (out.new.items ≡ out.old.items ++ subject_bytes (subject_of whole)) }
+    ensures { OnOk result (out.new.items ≡ out.old.items ++ subject_bytes (subject_of whole.entry)) }
 {
     push_words(out, whole.words)?;
     push_text(out, whole.header)?;

@@ -32,7 +32,7 @@ pub struct KeyRange<'a> {
 
 /// Puts the words of a plan at the end of some bytes.
 pub fn push_words(out: &mut Vec<u8>, words: PlanWords<'_>) -> Result<(), AllocError>
-    ensures { OnOk result (out.new.items ≡ out.old.items ++ words_bytes (words_of words)) }
+    ensures { OnOk result (out.new.items ≡ out.old.items ++ words_bytes (words_of words.entry)) }
 {
     push_pair(out, words.group, words.agg)?;
     push_pair(out, words.filter, words.decimals)
@@ -62,7 +62,7 @@ pub fn read_words(bytes: &[u8]) -> Option<(PlanWords<'_>, &[u8])>
 
 /// Puts a range of keys at the end of some bytes.
 pub fn push_range(out: &mut Vec<u8>, range: KeyRange<'_>) -> Result<(), AllocError>
-    ensures { OnOk result (out.new.items ≡ out.old.items ++ keys_bytes (keys_of range)) }
+    ensures { OnOk result (out.new.items ≡ out.old.items ++ keys_bytes (keys_of range.entry)) }
 {
     push_pair(out, range.low, range.high)
 }
