@@ -7,7 +7,7 @@ use Rattle.state_head.specs.declared.cover.Stretch.{Stretch}
 use Rattle.state_head.proofs.Reading.{GoesOn, IsReadTo, Left, none_read, one_more}
 
 -- the place that is before what comes after some stretches
-pub place_after : Option Place → List Stretch → Option Place
+abbrev pub place_after : Option Place → List Stretch → Option Place
 place_after before [] = before
 place_after before (s ∷ more) = place_after (Some s.place) more
 

@@ -16,6 +16,9 @@ use std::alloc::AllocError;
 /// The most rows of a table: 2^50.
 const MOST_ROWS: u64 = 1 << 50;
 
+/// The greatest number of a source.
+const MOST_SOURCE: u64 = u32::MAX as u64;
+
 /// Some bytes of a source: those from one place up to another, of a source of `size` bytes.
 #[derive(Clone, Copy, Debug, PartialEq, Eq)]
 pub struct Place {
@@ -119,7 +122,7 @@ fn read_numbers(bytes: &[u8]) -> Option<(Place, &[u8])>
     ensures read { IfSome result (λ found. bytes.now ≡ place_bytes found.0 ++ found.1.now) }
     ensures written { (p : Place) (rest : List ℕ) → FitsPlace p → bytes.now ≡ place_bytes p ++ rest → MatchOption result ⊥ (λ found. (found.0 ≡ p) × (found.1.now ≡ rest)) }
 {
-    let Some((source, after)) = read_count(bytes, u64::from(u32::MAX)) else {
+    let Some((source, after)) = read_count(bytes, MOST_SOURCE) else {
         return None;
     };
     let Some((from, after)) = read_count(after, u64::MAX) else {

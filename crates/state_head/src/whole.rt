@@ -11,6 +11,9 @@ use std::alloc::AllocError;
 /// The most bytes that a header has.
 const MOST_HEADER: u64 = 1 << 28;
 
+/// The most sources.
+const MOST_SOURCES: u64 = u32::MAX as u64;
+
 /// What the files of all parts of one table say alike: the words of the plan, the text of the header, how many sources there are.
 #[derive(Clone, Copy)]
 pub struct Whole<'a> {
@@ -55,10 +58,10 @@ pub fn read_whole(bytes: &[u8]) -> Option<(Whole<'_>, &[u8])>
 
 /// The number of sources, from 1 to 2^32 - 1, that some bytes begin with, and the bytes after it.
 fn read_sources(bytes: &[u8]) -> Option<(u32, &[u8])>
-    ensures read { IfSome result (λ found. (bytes.now ≡ number_bytes found.0 ++ found.1.now) × (0 < found.0)) }
+    ensures read { IfSome result (λ found. (bytes.now ≡ number_bytes found.0 ++ found.1.now) × (0 < found.0) × (found.0 < 2 ^ 32)) }
     ensures written { (n : ℕ) (rest : List ℕ) → 0 < n → n < 2 ^ 32 → bytes.now ≡ number_bytes n ++ rest → MatchOption result ⊥ (λ found. (found.0 ≡ n) × (found.1.now ≡ rest)) }
 {
-    match read_count(bytes, u64::from(u32::MAX)) {
+    match read_count(bytes, MOST_SOURCES) {
         Some((n, rest)) => {
             if n > 0 {
                 Some((n as u32, rest))

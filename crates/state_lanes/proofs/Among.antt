@@ -92,11 +92,11 @@ kept [] lanes lane e = e
 kept (item ∷ items) lanes lane e = kept items (with_lane lanes (lane_of item)) lane (with_kept lanes (lane_of item) lane e)
 
 -- a lane, if there is one, is among these
-pub IsAmong : List Lane → Option Lane → Type 0
+abbrev pub IsAmong : List Lane → Option Lane → Type 0
 IsAmong lanes None = Unit {0}
 IsAmong lanes (Some lane) = has_lane lanes lane ≡ true
 
-pub AreAmong : List Lane → List Item → Type 0
+abbrev pub AreAmong : List Lane → List Item → Type 0
 AreAmong lanes [] = Unit {0}
 AreAmong lanes (item ∷ items) = IsAmong lanes (lane_of item) × AreAmong lanes items
 
@@ -110,7 +110,7 @@ all_among (item ∷ items) lanes = (first (lane_of item), all_among items (with_
 
 -- ---- each once
 
-pub AreApart : List Lane → Type 0
+abbrev pub AreApart : List Lane → Type 0
 AreApart [] = Unit {0}
 AreApart (lane ∷ lanes) = (has_lane lanes lane ≡ false) × AreApart lanes
 
@@ -131,11 +131,11 @@ all_apart (item ∷ items) lanes apart = all_apart items (with_lane lanes (lane_
 
 -- ---- each lane is that of an aggregate
 
-pub is_by : Lane → Option Lane → Bool
+abbrev pub is_by : Lane → Option Lane → Bool
 is_by lane None = false
 is_by lane (Some one) = is_same one lane
 
-pub has_item : List Item → Lane → Bool
+abbrev pub has_item : List Item → Lane → Bool
 has_item [] lane = false
 has_item (item ∷ items) lane = is_by lane (lane_of item) || has_item items lane
 

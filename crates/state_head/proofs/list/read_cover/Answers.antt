@@ -27,7 +27,7 @@ returns-in_default-clause-written c = λ cover rest is e. absurd (c.in_default.e
 
 pub loop-init : goal.loop-init
 loop-init c =
-    subst (λ (ss : List Stretch). IsCoverTo c.args.sources c.in-Some.count c.in-Some.after.now ss None c.in-Some.after.now 0) (sym c.new.ensures.items) (no_stretch c.args.sources c.in-Some.count c.in-Some.after.now)
+    subst (λ (ss : List Stretch). IsCoverTo c.args.sources c.in-Some.count c.in-Some.after.now ss None c.in-Some.after.now 0) (sym c.new-cover.ensures.items) (no_stretch c.args.sources c.in-Some.count c.in-Some.after.now)
 
 pub returns-in_default-read_next-clause-written : goal.returns-in_default-read_next-clause-written
 returns-in_default-read_next-clause-written c = λ cover rest is e.
