@@ -106,7 +106,7 @@ group_more columns kinds bytes rest at key rows slots after some is e good same 
           (λ all more wrote l.
             let o = one_of columns kinds rest is.found some all more wrote l in
             let m = same o.g.key o.g.rows o.g.slots (flat_map (tuple_bytes kinds) o.later ++ more) o.is_tuple (tuple_written kinds rest (flat_map (tuple_bytes kinds) o.later ++ more) o.g o.begins) in
-            record { later = o.later; is = o.is ∙ ap (λ (g : Group). g ∷ o.later) (sym (as_one x o.g m.0 m.1.1.0 m.1.1.1)); left = m.1.0 });
+            record { later = o.later; is = o.is ∙ ap (λ (g : Group). g ∷ o.later) (sym (as_one x o.g m.0 m.2 m.3)); left = m.1 });
       many = omega (arith, more_found, many);
       room = omega (arith, some_bytes, long, room);
     }

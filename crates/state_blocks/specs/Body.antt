@@ -1,8 +1,9 @@
 -- What a file of states has after its head: the blocks, their end, the foot, the end of the file.
-use Rattle.std.specs.Prelude.{◌≤◌, ◌+◌, ◌^◌, ◌++◌, ℕ, Bool, List, [], ◌∷◌, All, codes, length}
+use Rattle.std.specs.Prelude.{◌≡◌, ◌≤◌, ◌+◌, ◌^◌, ◌++◌, ℕ, Bool, List, [], ◌∷◌, All, codes, length}
 use Rattle.std.specs.Int.{to_le_bytes, w32}
 use Rattle.std.specs.List.{flat_map}
 use Rattle.state_blocks.specs.Blocks.{Group, IsBlock, block_section, blocks_bytes, first_key}
+use Rattle.state_blocks.specs.declared.index.Index.{Index}
 use Rattle.state_file.specs.Number.{number_bytes}
 use Rattle.state_file.specs.Section.{section}
 use Rattle.state_file.specs.Text.{text_bytes}
@@ -36,3 +37,10 @@ body_bytes kinds at blocks = blocks_bytes kinds blocks ++ (section [] ++ end_byt
 pub record IsBody (columns : ℕ) (kinds : List Bool) (at : ℕ) (blocks : List (List Group)) : Type 0 where
   pub each : All (IsBlock columns kinds) blocks
   pub short : length (foot_bytes kinds at blocks) ≤ 2 ^ 28
+
+-- what is known of these blocks, the first of which begins at this place
+pub record IsIndex (kinds : List Bool) (start : ℕ) (blocks : List (List Group)) (index : Index) : Type 0 where
+  pub places : index.places.items ≡ places_bytes kinds start blocks
+  pub at : index.at ≡ start + length (blocks_bytes kinds blocks)
+  pub blocks_many : index.blocks ≡ length blocks
+  pub groups_many : index.groups ≡ length (groups_of blocks)

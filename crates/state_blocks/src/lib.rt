@@ -3,7 +3,13 @@
 #![tactic(auto)]
 
 mod block;
+mod body;
+mod end;
+mod index;
 #[cfg(test)]
 mod tests;
+mod writer;
 
 pub use block::{read_block, read_first};
+pub use body::{BodyFault, BodyRead, read_body};
+pub use writer::{BodyWriter, WriteError};

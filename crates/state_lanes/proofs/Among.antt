@@ -139,21 +139,19 @@ abbrev pub has_item : List Item → Lane → Bool
 has_item [] lane = false
 has_item (item ∷ items) lane = is_by lane (lane_of item) || has_item items lane
 
+or_last : (a : Bool) → (a || false) ≡ true → a ≡ true
+or_last true e = refl
+or_last false e = e
+
 with_came : (lanes : List Lane) (o : Option Lane) (lane : Lane) → has_lane (with_lane lanes o) lane ≡ true → (has_lane lanes lane ≡ true) ⊎ (is_by lane o ≡ true)
 with_came lanes None lane e = inl e
-with_came lanes (Some one) lane = cond_both (has_lane lanes one) lanes (lanes ++ one ∷ []) (λ (ls : List Lane). has_lane ls lane ≡ true → (has_lane lanes lane ≡ true) ⊎ (is_same one lane ≡ true)) (λ _ e. inl e) (λ _ e. more e)
+with_came lanes (Some one) lane e =
+    cond_both (has_lane lanes one) lanes (lanes ++ one ∷ []) (λ (ls : List Lane). has_lane ls lane ≡ true → (has_lane lanes lane ≡ true) ⊎ (is_same one lane ≡ true)) (λ _ f. inl f)
+    (λ _ f. either (or_split (has_lane lanes lane) (is_same one lane || false) (sym (has-append lanes (one ∷ []) lane) ∙ f))) e
   where
-    last : (is_same one lane || false) ≡ true → is_same one lane ≡ true
-    last e = go (or_split (is_same one lane) false e)
-      where
-        go : (is_same one lane ≡ true) ⊎ (false ≡ true) → is_same one lane ≡ true
-        go (inl h) = h
-        go (inr h) = absurd (false≢true h)
     either : (has_lane lanes lane ≡ true) ⊎ ((is_same one lane || false) ≡ true) → (has_lane lanes lane ≡ true) ⊎ (is_same one lane ≡ true)
     either (inl h) = inl h
-    either (inr h) = inr (last h)
-    more : has_lane (lanes ++ one ∷ []) lane ≡ true → (has_lane lanes lane ≡ true) ⊎ (is_same one lane ≡ true)
-    more e = either (or_split (has_lane lanes lane) (is_same one lane || false) (sym (has-append lanes (one ∷ []) lane) ∙ e))
+    either (inr h) = inr (or_last (is_same one lane) h)
 
 pub came : (items : List Item) (lanes : List Lane) (lane : Lane) → has_lane (lanes_after lanes items) lane ≡ true → (has_lane lanes lane ≡ true) ⊎ (has_item items lane ≡ true)
 came [] lanes lane e = inl e

@@ -12,7 +12,7 @@ use Rattle.state_lanes.specs.Lanes.{first_of, has_lane, is_of, is_same, item_slo
 use Rattle.state_lanes.specs.Rows.{LanesComeBack, RowsAreTold, slot_over}
 use Rattle.state_lanes.specs.declared.lanes.Lane.{Lane}
 use Rattle.state_lanes.specs.declared.lanes.Lane.TheVariants.{Numbers, Values}
-use Rattle.state_lanes.proofs.Among.{AreAmong, AreApart, IsAmong, all_among, all_apart, came, has_item, is_by, not_same, or_left, or_right, or_second, same_one, same_refl}
+use Rattle.state_lanes.proofs.Among.{AreAmong, AreApart, IsAmong, all_among, all_apart, came, has_item, is_by, lanes_after, or_left, or_right, or_second, same_one, same_refl}
 
 -- each lane has its own slot
 at_own : (f : Lane → SlotState) (lanes : List Lane) (lane : Lane) → has_lane lanes lane ≡ true → slot_at lanes (map f lanes) lane ≡ f lane
@@ -65,31 +65,29 @@ own (one ∷ lanes) (s ∷ slots) e apart =
 -- the first aggregate that reads a lane has its slot
 first_found : (lanes : List Lane) (slots pad : List SlotState) (items : List Item) (lane : Lane) → has_item items lane ≡ true → first_of items (map (slot_in lanes slots) items ++ pad) lane ≡ slot_at lanes slots lane
 first_found lanes slots pad [] lane e = absurd (false≢true e)
-first_found lanes slots pad (item ∷ items) lane e = go (lane_of item) refl (is_by lane (lane_of item)) refl
+first_found lanes slots pad (item ∷ items) lane e = go (is_by lane (lane_of item)) refl
   where
-    later : List SlotState
-    later = map (slot_in lanes slots) items ++ pad
     by : (o : Option Lane) → is_by lane o ≡ true → option_map_or (slot_at lanes slots) o no_values ≡ slot_at lanes slots lane
     by None h = absurd (false≢true h)
     by (Some one) h = ap (slot_at lanes slots) (same_one one lane h)
     is_it : (o : Option Lane) → option_map_or (λ one. is_same one lane) o false ≡ is_by lane o
     is_it None = refl
     is_it (Some one) = refl
-    go : (o : Option Lane) → lane_of item ≡ o → (t : Bool) → is_by lane (lane_of item) ≡ t → first_of (item ∷ items) (map (slot_in lanes slots) (item ∷ items) ++ pad) lane ≡ slot_at lanes slots lane
-    go o same true h = cond-true (is_of lane item) (slot_in lanes slots item) (first_of items later lane) (is_it (lane_of item) ∙ h) ∙ by (lane_of item) h
-    go o same false h = cond-false (is_of lane item) (slot_in lanes slots item) (first_of items later lane) (is_it (lane_of item) ∙ h)
+    go : (t : Bool) → is_by lane (lane_of item) ≡ t → first_of (item ∷ items) (map (slot_in lanes slots) (item ∷ items) ++ pad) lane ≡ slot_at lanes slots lane
+    go true h = cond-true (is_of lane item) (slot_in lanes slots item) (first_of items (map (slot_in lanes slots) items ++ pad) lane) (is_it (lane_of item) ∙ h) ∙ by (lane_of item) h
+    go false h = cond-false (is_of lane item) (slot_in lanes slots item) (first_of items (map (slot_in lanes slots) items ++ pad) lane) (is_it (lane_of item) ∙ h)
         ∙ first_found lanes slots pad items lane (or_second (is_by lane (lane_of item)) (has_item items lane) e h)
 
-pub come_back : LanesComeBack
-unfolding item_slots lane_slots lanes_of
-come_back items slots many =
-    map_same lanes (first_of items (map (slot_in lanes slots) items ++ pad)) (slot_at lanes slots) (λ lane h. first_found lanes slots pad items lane (found lane (came items [] lane h)))
-    ∙ own lanes slots many (all_apart items [] tt)
+back : (items : List Item) (slots pad : List SlotState) → length slots ≡ length (lanes_after [] items) → map (first_of items (map (slot_in (lanes_after [] items) slots) items ++ pad)) (lanes_after [] items) ≡ slots
+back items slots pad many =
+    map_same (lanes_after [] items) (first_of items (map (slot_in (lanes_after [] items) slots) items ++ pad)) (slot_at (lanes_after [] items) slots)
+    (λ lane h. first_found (lanes_after [] items) slots pad items lane (found lane (came items [] lane h)))
+    ∙ own (lanes_after [] items) slots many (all_apart items [] tt)
   where
-    lanes : List Lane
-    lanes = lanes_of items
-    pad : List SlotState
-    pad = replicate (8 - length items) no_values
     found : (lane : Lane) → (false ≡ true) ⊎ (has_item items lane ≡ true) → has_item items lane ≡ true
     found lane (inl h) = absurd (false≢true h)
     found lane (inr h) = h
+
+pub come_back : LanesComeBack
+unfolding item_slots lane_slots lanes_of
+come_back items slots many = back items slots (replicate (8 - length items) no_values) many

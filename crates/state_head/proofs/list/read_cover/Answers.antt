@@ -1,4 +1,4 @@
-use Rattle.std.proofs.Common.{◌≡◌, ◌<◌, ◌≤◌, ◌+◌, ◌^◌, ◌++◌, ◌∙◌, ℕ, List, None, append_assoc, arith, length, subst, sym}
+use Rattle.std.proofs.Common.{◌≡◌, ◌<◌, ◌≤◌, ◌+◌, ◌^◌, ◌++◌, ◌∙◌, ℕ, List, None, Some, append_assoc, arith, length, subst, sym}
 use Rattle.std.specs.List.{flat_map}
 use Rattle.state_file.specs.Number.{number_bytes}
 use Rattle.state_head.specs.Cover.{IsCover, cover_bytes, stretch_bytes}
@@ -38,7 +38,7 @@ returns-in_default-read_next-clause-written c = λ cover rest is e.
 pub loop-preserved : goal.loop-preserved
 loop-preserved c =
     let next = c.in-Some-read_next.ensures in
-    subst (λ (ss : List Stretch). IsCoverTo c.args.sources c.in-Some.count c.in-Some.after.now ss _ c.in-Some-read_next.more.now (c.loop.counter + 1)) (sym c.in_ok-push.ensures.items)
+    subst (λ (ss : List Stretch). IsCoverTo c.args.sources c.in-Some.count c.in-Some.after.now ss (Some c.in-Some-read_next.stretch.place) c.in-Some-read_next.more.now (c.loop.counter + 1)) (sym c.in_ok-push.ensures.items)
     (stretch_more c.args.sources c.in-Some.count c.in-Some.after.now c.loop.cover.items c.loop.before c.loop.rest.now c.loop.counter c.in-Some-read_next.stretch c.in-Some-read_next.more.now c.loop-test.true c.loop.invariant
     next.read.0 next.read.1 next.written)
 

@@ -19,7 +19,7 @@ returns-in-Some-read_sources-clause-read c =
     let two = c.in-Some-read_text.ensures.read in
     let three = c.in-Some-read_sources.ensures.read in (
       subject_read c.args.bytes.now c.in-Some.after.now c.in-Some-read_text.after.now c.in-Some-read_sources.rest.now c.in-Some-read_text.header.now (words_of c.in-Some.words) c.in-Some-read_sources.sources one.0 two.0 three.0,
-      record { are_words = one.1; header = two.1; some = three.1.0; few = three.1.1 },
+      record { are_words = one.1; header = two.1; some = three.1; few = three.2 },
     )
 
 pub returns-in-Some-read_sources-clause-written : goal.returns-in-Some-read_sources-clause-written
