@@ -1,2 +1,1 @@
-mod Indexes
-mod Tuples
+pub mod Tuples

@@ -15,6 +15,7 @@ pub fn read_block(bytes: &[u8], columns: u32, kinds: &[bool]) -> Result<u64, u64
     requires { length kinds.now ≤ 8 }
     ensures read { IfOk result (λ n. (block : List Group) × (bytes.now ≡ block_bytes kinds.now block) × All (IsTuple columns kinds.now) block × (length block ≡ n)) }
     ensures written { (block : List Group) → All (IsTuple columns kinds.now) block → bytes.now ≡ block_bytes kinds.now block → MatchResult result (λ n. n ≡ length block) (λ n. ⊥) }
+    ensures few { MatchResult result (λ n. n ≤ length bytes.now) (λ n. n < length bytes.now) }
 
     // When an error comes.
     ensures stops { IfErr result (StopsAfter columns kinds.now bytes.now) }

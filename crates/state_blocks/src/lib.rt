@@ -1,15 +1,9 @@
-//! What a file of partial states has after its head: its groups in blocks, and a foot that says where each block begins.
+//! A block of a file of partial states: some groups, one after another.
 
 #![tactic(auto)]
 
 mod block;
-mod body;
-mod end;
-mod index;
 #[cfg(test)]
 mod tests;
-mod writer;
 
 pub use block::{read_block, read_first};
-pub use body::{BodyFault, BodyRead, read_body};
-pub use writer::{BodyWriter, WriteError};

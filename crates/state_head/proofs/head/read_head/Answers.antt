@@ -6,14 +6,14 @@ use Rattle.state_head.specs.Words.{keys_bytes, keys_of}
 use Rattle.state_head.proofs.Texts.{head_read, head_written, preface_same}
 use Rattle.state_head.proofs.head.read_head.Goals as goal
 
-some_of : {X : Type 0} {P : X → Type 0} (o : Option X) (x : X) → o ≡ Some x → IfSome o P → P x
-some_of {P = P} o x e h = subst (λ p. IfSome p P) e h
+some_of {X : Type 0} {P : X → Type 0} : (o : Option X) (x : X) → o ≡ Some x → IfSome o P → P x
+some_of o x e h = subst (λ p. IfSome p P) e h
 
-match_some : {X : Type 0} {P : X → Type 0} (o : Option X) (x : X) → o ≡ Some x → MatchOption o ⊥ P → P x
-match_some {P = P} o x e h = subst (λ p. MatchOption p ⊥ P) e h
+match_some {X : Type 0} {P : X → Type 0} : (o : Option X) (x : X) → o ≡ Some x → MatchOption o ⊥ P → P x
+match_some o x e h = subst (λ p. MatchOption p ⊥ P) e h
 
-match_none : {X : Type 0} {P : X → Type 0} (o : Option X) → o ≡ None → MatchOption o ⊥ P → ⊥
-match_none {P = P} o e h = subst (λ p. MatchOption p ⊥ P) e h
+match_none {X : Type 0} {P : X → Type 0} : (o : Option X) → o ≡ None → MatchOption o ⊥ P → ⊥
+match_none o e h = subst (λ p. MatchOption p ⊥ P) e h
 
 empty_is : (bs : List ℕ) → length bs ≡ 0 → bs ≡ []
 empty_is [] e = refl

@@ -3,7 +3,7 @@ use Rattle.std.specs.Prelude.{◌≡◌, ◌≤◌, ◌+◌, ◌^◌, ◌++◌, 
 use Rattle.std.specs.Int.{to_le_bytes, w32}
 use Rattle.std.specs.List.{flat_map}
 use Rattle.state_blocks.specs.Blocks.{Group, IsBlock, block_section, blocks_bytes, first_key}
-use Rattle.state_blocks.specs.declared.index.Index.{Index}
+use Rattle.state_body.specs.declared.index.Index.{Index}
 use Rattle.state_file.specs.Number.{number_bytes}
 use Rattle.state_file.specs.Section.{section}
 use Rattle.state_file.specs.Text.{text_bytes}

@@ -2,7 +2,7 @@
 
 ghost use Rattle.std.specs.Prelude.{◌≡◌, ◌<◌, ◌≤◌, ◌^◌, ◌++◌, ℕ, List, IfOk, IfSome, MatchOption, MatchResult, OnOk, length};
 ghost use Rattle.std.specs.Int.{to_le_bytes, w32};
-ghost use Rattle.state_blocks.specs.Body.{end_bytes, last_bytes};
+ghost use Rattle.state_body.specs.Body.{end_bytes, last_bytes};
 
 use crate::body::BodyFault;
 use state_file::{push_section, read_bytes, read_section, read_u32};

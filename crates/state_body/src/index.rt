@@ -2,7 +2,7 @@
 
 ghost use Rattle.std.specs.Prelude.{◌≡◌, ◌<◌, ◌+◌, ◌^◌, ◌++◌, ◌∷◌, [], ℕ, Bool, List, IfOk, OnOk, length};
 ghost use Rattle.state_blocks.specs.Blocks.{Group, block_bytes, first_key};
-ghost use Rattle.state_blocks.specs.Body.{IsIndex, foot_bytes};
+ghost use Rattle.state_body.specs.Body.{IsIndex, foot_bytes};
 
 use state_file::{push_number, push_text};
 use std::alloc::{AllocError, Global};

@@ -4,11 +4,11 @@
 
 ghost use Rattle.std.specs.Prelude.{◌≡◌, ◌<◌, ◌≤◌, ◌+◌, ◌^◌, ◌++◌, ℕ, List, All, IfOk, MatchResult, [], length};
 ghost use Rattle.state_blocks.specs.Blocks.{Group, IsBlock, blocks_bytes};
-ghost use Rattle.state_blocks.specs.Body.{IsBody, IsIndex, body_bytes, groups_of};
-ghost use Rattle.state_blocks.specs.declared.body.BodyFault.TheVariants as fault;
+ghost use Rattle.state_body.specs.Body.{IsBody, IsIndex, body_bytes, groups_of};
+ghost use Rattle.state_body.specs.declared.body.BodyFault.TheVariants as fault;
 ghost use Rattle.state_file.specs.Section.{section};
 
-use crate::block::{read_block, read_first};
+use state_blocks::{read_block, read_first};
 use crate::end::read_end;
 use crate::index::Index;
 use state_file::{SectionRead, read_section};

@@ -1,7 +1,7 @@
 //! Writes the blocks of a file, one group after another, and its foot.
 
 ghost use Rattle.std.specs.Prelude.{◌≡◌, ◌≤◌, length};
-ghost use Rattle.state_blocks.specs.declared.writer.WriteError.TheVariants as variant;
+ghost use Rattle.state_body.specs.declared.writer.WriteError.TheVariants as variant;
 
 use crate::end::{MOST_FOOT, push_end};
 use crate::index::Index;

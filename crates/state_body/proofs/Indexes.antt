@@ -4,8 +4,8 @@ use Rattle.std.proofs.lemmas.Grind.{flat_map-append}
 use Rattle.std.specs.Int.{to_le_bytes, w32}
 use Rattle.std.specs.List.{flat_map}
 use Rattle.state_blocks.specs.Blocks.{Group, block_bytes, block_section, blocks_bytes, first_key}
-use Rattle.state_blocks.specs.Body.{IsIndex, groups_of, places_bytes}
-use Rattle.state_blocks.specs.declared.index.Index.{Index}
+use Rattle.state_body.specs.Body.{IsIndex, groups_of, places_bytes}
+use Rattle.state_body.specs.declared.index.Index.{Index}
 use Rattle.state_file.specs.Checksum.{crc32c}
 use Rattle.state_file.specs.Number.{number_bytes}
 use Rattle.state_file.specs.Section.{section}

@@ -1,0 +1,42 @@
+//! Worked bytes of what comes after a head, cut at each place, and with each bit turned.
+
+use crate::{BodyWriter, read_body};
+use par_model::{NO_VALUES, SlotState};
+use std::test::Fail;
+
+/// What comes after a head that ends at place 100, of one block with two groups of one column, `a` and `b`.
+const BODY: &[u8] = b"\x13\0\0\0\x05\x01\0\0\0a\x03\x02\x06\x02\x01\x05\x01\0\0\0b\x01\0";
+
+#[test]
+fn bodies(rt: HostRuntime) -> Result<(), Fail> {
+    let kinds = [true];
+    let one = SlotState {
+        count: 2,
+        sum: 3,
+        least: 1,
+        greatest: 2,
+    };
+    let mut writer = BodyWriter::new(rt.alloc(), 100);
+    let mut out = Vec::new(rt.alloc());
+    writer.push(&mut out, &kinds, b"\x01\0\0\0a", 3, &[one]).ok();
+    writer.push(&mut out, &kinds, b"\x01\0\0\0b", 1, &[NO_VALUES]).ok();
+    writer.finish(rt.alloc(), &mut out).ok();
+    assert!(rt; out.as_slice().starts_with(BODY));
+    assert!(rt; out.as_slice().ends_with(b"\nstates\n"));
+    let size = out.len();
+    out.extend_from_slice(b"more")?;
+    let Ok(read) = read_body(rt.alloc(), out.as_slice(), 100, 1, &kinds) else {
+        return Err(Fail::new("no body"));
+    };
+    assert!(rt; read.groups == 2 && read.rest == b"more".as_slice() && read.blocks.len() == 27);
+    for at in 0..size {
+        let cut = read_body(rt.alloc(), &out.as_slice()[..at], 100, 1, &kinds);
+        assert!(rt; cut.is_err(), "{at}");
+        for bit in 0..8 {
+            out[at] ^= 1 << bit;
+            assert!(rt; read_body(rt.alloc(), out.as_slice(), 100, 1, &kinds).is_err(), "{at}");
+            out[at] ^= 1 << bit;
+        }
+    }
+    Ok(())
+}
