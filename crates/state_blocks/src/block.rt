@@ -4,7 +4,7 @@
 //! any group of it counts, and its groups are read again, one by one, by `state_groups::read_group`.
 
 ghost use Rattle.std.specs.Prelude.{◌≡◌, ◌<◌, ◌≤◌, ◌++◌, ℕ, List, All, IfErr, IfOk, MatchOption, MatchResult, length};
-ghost use Rattle.state_blocks.specs.Blocks.{Group, IsTuple, StopsAfter, block_bytes, first_key, tuple_bytes};
+ghost use Rattle.state_blocks.specs.Blocks.{Group, IsTuple, StopsAfter, block_bytes, tuple_bytes};
 
 use par_model::{AggState, NO_VALUES};
 use state_groups::read_group;
