@@ -20,7 +20,7 @@ unfolding number_bytes
 number_some n = sevens_some 18 n
 
 -- no group has no bytes
-tuple_some : (kinds : List Bool) (g : Group) → 0 < length (tuple_bytes kinds g)
+pub tuple_some : (kinds : List Bool) (g : Group) → 0 < length (tuple_bytes kinds g)
 unfolding tuple_bytes text_bytes
 tuple_some kinds g =
     let size = number_bytes (length g.key) in

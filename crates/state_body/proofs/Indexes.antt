@@ -11,7 +11,7 @@ use Rattle.state_file.specs.Number.{number_bytes}
 use Rattle.state_file.specs.Section.{section}
 use Rattle.state_file.specs.Text.{text_bytes}
 
-section_long : (part : List ℕ) → length (section part) ≡ length part + 8
+pub section_long : (part : List ℕ) → length (section part) ≡ length part + 8
 unfolding section
 section_long part =
     let size = to_le_bytes w32 (length part) in

@@ -1,8 +1,8 @@
 -- What a file of states has after its head: the blocks, their end, the foot, the end of the file.
-use Rattle.std.specs.Prelude.{◌≡◌, ◌≤◌, ◌+◌, ◌^◌, ◌++◌, ℕ, Bool, List, [], ◌∷◌, All, codes, length}
+use Rattle.std.specs.Prelude.{◌≡◌, ◌≤◌, ◌+◌, ◌^◌, ◌++◌, ℕ, Bool, List, [], ◌∷◌, All, codes, length, map}
 use Rattle.std.specs.Int.{to_le_bytes, w32}
 use Rattle.std.specs.List.{flat_map}
-use Rattle.state_blocks.specs.Blocks.{Group, IsBlock, block_section, blocks_bytes, first_key}
+use Rattle.state_blocks.specs.Blocks.{Group, IsBlock, block_bytes, block_section, blocks_bytes, first_key}
 use Rattle.state_body.specs.declared.index.Index.{Index}
 use Rattle.state_file.specs.Number.{number_bytes}
 use Rattle.state_file.specs.Section.{section}
@@ -44,3 +44,15 @@ pub record IsIndex (kinds : List Bool) (start : ℕ) (blocks : List (List Group)
   pub at : index.at ≡ start + length (blocks_bytes kinds blocks)
   pub blocks_many : index.blocks ≡ length blocks
   pub groups_many : index.groups ≡ length (groups_of blocks)
+
+-- one block more is known, of these bytes, whatever groups they are
+pub record Takes (columns : ℕ) (kinds : List Bool) (part : List ℕ) (old new : Index) : Type 0 where
+  pub block : List Group
+  pub is : part ≡ block_bytes kinds block
+  pub is_block : IsBlock columns kinds block
+  pub known : (b : List Group) → IsBlock columns kinds b → part ≡ block_bytes kinds b → (start : ℕ) (blocks : List (List Group)) → IsIndex kinds start blocks old → IsIndex kinds start (blocks ++ b ∷ []) new
+
+-- what is known is of any blocks that have these bytes
+abbrev pub Knows : ℕ → List Bool → ℕ → List (List ℕ) → Index → Index → Type 0
+Knows columns kinds start parts old new =
+    (blocks : List (List Group)) → parts ≡ map (block_bytes kinds) blocks → All (IsBlock columns kinds) blocks → IsIndex kinds start [] old → IsIndex kinds start blocks new

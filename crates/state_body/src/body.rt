@@ -2,9 +2,9 @@
 //!
 //! The foot has to be that of the blocks, so each byte of a file is looked at.
 
-ghost use Rattle.std.specs.Prelude.{◌≡◌, ◌<◌, ◌≤◌, ◌+◌, ◌^◌, ◌++◌, ℕ, List, All, IfOk, MatchResult, [], length};
-ghost use Rattle.state_blocks.specs.Blocks.{Group, IsBlock, blocks_bytes};
-ghost use Rattle.state_body.specs.Body.{IsBody, IsIndex, body_bytes, groups_of};
+ghost use Rattle.std.specs.Prelude.{◌≡◌, ◌<◌, ◌≤◌, ◌+◌, ◌^◌, ◌++◌, ℕ, List, [], All, IfOk, MatchResult, OnOk, length, map};
+ghost use Rattle.state_blocks.specs.Blocks.{Group, IsBlock, block_bytes, blocks_bytes};
+ghost use Rattle.state_body.specs.Body.{IsBody, IsIndex, Knows, Takes, body_bytes, groups_of};
 ghost use Rattle.state_body.specs.declared.body.BodyFault.TheVariants as fault;
 ghost use Rattle.state_file.specs.Section.{section};
 
@@ -78,12 +78,12 @@ fn read_blocks<'a>(
     requires at { index.old.at + length bytes.now < 2 ^ 64 }
     requires none { (index.old.blocks ≡ 0) × (index.old.groups ≡ 0) }
     ensures read { IfOk result (λ after. (blocks : List (List Group)) × All (IsBlock columns kinds.now) blocks × (bytes.now ≡ blocks_bytes kinds.now blocks ++ (section [] ++ after.now))
-        × (IsIndex kinds.now index.old.at [] index.old → IsIndex kinds.now index.old.at blocks index.new)) }
+        × Knows columns kinds.now index.old.at (map (block_bytes kinds.now) blocks) index.old index.new) }
     ensures written { (blocks : List (List Group)) (rest : List ℕ) → All (IsBlock columns kinds.now) blocks → bytes.now ≡ blocks_bytes kinds.now blocks ++ (section [] ++ rest)
-        → MatchResult result (λ after. after.now ≡ rest) (λ why. why ≡ fault.Memory) }
+        → MatchResult result (λ after. (after.now ≡ rest) × (IsIndex kinds.now index.old.at [] index.old → IsIndex kinds.now index.old.at blocks index.new)) (λ why. why ≡ fault.Memory) }
 {
     let mut rest = bytes;
-    for _ in 0..bytes.len() {
+    for at in 0..bytes.len() {
         let (part, after) = match read_section(rest, MOST_BLOCK) {
             Ok(found) => found,
             Err(why) => return Err(BodyFault::Block { why }),
@@ -98,13 +98,24 @@ fn read_blocks<'a>(
     Err(BodyFault::Block { why })
 }
 
-/// Takes in one block.
+/// Takes in a block of these bytes.
 fn take_block(
     index: &mut Index,
     part: &[u8],
     columns: u32,
     kinds: &[bool],
 ) -> Result<(), BodyFault>
+    requires kinds { length kinds.now ≤ 8 }
+    requires some { 0 < length part.now }
+    requires short { length part.now ≤ 2 ^ 20 }
+    requires at { index.old.at + length part.now + 8 < 2 ^ 64 }
+    requires blocks { index.old.blocks + 1 < 2 ^ 64 }
+    requires groups { index.old.groups + length part.now + 1 < 2 ^ 64 }
+    ensures read { OnOk result (Takes columns kinds.now part.now index.old index.new) }
+    ensures written { (block : List Group) → IsBlock columns kinds.now block → part.now ≡ block_bytes kinds.now block → MatchResult result (λ done. Unit {0}) (λ why. why ≡ fault.Memory) }
+    ensures at { OnOk result (index.new.at ≡ index.old.at + length part.now + 8) }
+    ensures blocks { OnOk result (index.new.blocks ≡ index.old.blocks + 1) }
+    ensures groups { OnOk result (index.new.groups ≤ index.old.groups + length part.now) }
 {
     let groups = match read_block(part, columns, kinds) {
         Ok(groups) => groups,
