@@ -53,11 +53,11 @@ pub record IsBlockTo (columns : ℕ) (kinds : List Bool) (bytes rest : List ℕ)
 
 pub no_group : (columns : ℕ) (kinds : List Bool) (bytes : List ℕ) → IsBlockTo columns kinds bytes bytes 0
 no_group columns kinds bytes = record {
-    found = [];
-    so_far = none_read (tuple_bytes kinds) (All (IsTuple columns kinds)) (Wrote columns kinds) bytes (All-nil (IsTuple columns kinds));
-    many = refl;
-    room = omega arith;
-  }
+  found = [];
+  so_far = none_read (tuple_bytes kinds) (All (IsTuple columns kinds)) (Wrote columns kinds) bytes (All-nil (IsTuple columns kinds));
+  many = refl;
+  room = omega arith;
+}
 
 -- what one more group of all that were written is
 record IsOneMore (columns : ℕ) (kinds : List Bool) (rest : List ℕ) (tail : List Group) (more : List ℕ) : Type 0 where
@@ -80,12 +80,12 @@ one_of columns kinds rest found h all more wrote l = go l.tail l.whole l.left
         let none : length rest ≡ 0 = ap length (f ∙ wrote.1) in
         absurd (omega (arith, h, none))
     go (g ∷ later) e f = record {
-        g = g;
-        later = later;
-        is_tuple = middle columns kinds found g later (subst (λ (gs : List Group). All (IsTuple columns kinds) gs) e wrote.0);
-        is = refl;
-        begins = f ∙ append_assoc (tuple_bytes kinds g) (flat_map (tuple_bytes kinds) later) more;
-      }
+      g = g;
+      later = later;
+      is_tuple = middle columns kinds found g later (subst (λ (gs : List Group). All (IsTuple columns kinds) gs) e wrote.0);
+      is = refl;
+      begins = f ∙ append_assoc (tuple_bytes kinds g) (flat_map (tuple_bytes kinds) later) more;
+    }
 
 -- a group more is read
 pub group_more : (columns : ℕ) (kinds : List Bool) (bytes rest : List ℕ) (at : ℕ) (key : List ℕ) (rows : ℕ) (slots : List SlotState) (after : List ℕ) → 0 < length rest → IsBlockTo columns kinds bytes rest at
@@ -104,9 +104,9 @@ group_more columns kinds bytes rest at key rows slots after some is e good same 
       found = is.found ++ x ∷ [];
       so_far = one_more (tuple_bytes kinds) (All (IsTuple columns kinds)) (Wrote columns kinds) bytes is.found rest x after is.so_far begins (All-push (IsTuple columns kinds) is.found x is.so_far.are good)
           (λ all more wrote l.
-            let o = one_of columns kinds rest is.found some all more wrote l in
-            let m = same o.g.key o.g.rows o.g.slots (flat_map (tuple_bytes kinds) o.later ++ more) o.is_tuple (tuple_written kinds rest (flat_map (tuple_bytes kinds) o.later ++ more) o.g o.begins) in
-            record { later = o.later; is = o.is ∙ ap (λ (g : Group). g ∷ o.later) (sym (as_one x o.g m.0 m.2 m.3)); left = m.1 });
+          let o = one_of columns kinds rest is.found some all more wrote l in
+          let m = same o.g.key o.g.rows o.g.slots (flat_map (tuple_bytes kinds) o.later ++ more) o.is_tuple (tuple_written kinds rest (flat_map (tuple_bytes kinds) o.later ++ more) o.g o.begins) in
+          record { later = o.later; is = o.is ∙ ap (λ (g : Group). g ∷ o.later) (sym (as_one x o.g m.0 m.2 m.3)); left = m.1 });
       many = omega (arith, more_found, many);
       room = omega (arith, some_bytes, long, room);
     }
@@ -148,11 +148,11 @@ empty_is (b ∷ bs) e = absurd (omega (arith, e))
 pub whole_block : (columns : ℕ) (kinds : List Bool) (bytes rest : List ℕ) (at : ℕ) → length rest ≡ 0 → IsBlockTo columns kinds bytes rest at → IsWholeBlock columns kinds bytes at
 unfolding block_bytes
 whole_block columns kinds bytes rest at none is = record {
-    block = is.found;
-    is = is.so_far.read ∙ ap (λ (bs : List ℕ). flat_map (tuple_bytes kinds) is.found ++ bs) (empty_is rest none) ∙ append-nil (flat_map (tuple_bytes kinds) is.found);
-    each = is.so_far.are;
-    many = is.many;
-  }
+  block = is.found;
+  is = is.so_far.read ∙ ap (λ (bs : List ℕ). flat_map (tuple_bytes kinds) is.found ++ bs) (empty_is rest none) ∙ append-nil (flat_map (tuple_bytes kinds) is.found);
+  each = is.so_far.are;
+  many = is.many;
+}
 
 pub whole_written : (columns : ℕ) (kinds : List Bool) (bytes rest : List ℕ) (at : ℕ) → length rest ≡ 0 → IsBlockTo columns kinds bytes rest at
     → (block : List Group) → All (IsTuple columns kinds) block → bytes ≡ block_bytes kinds block → at ≡ length block
@@ -166,5 +166,6 @@ whole_written columns kinds bytes rest at none is block all e = go (is.so_far.le
         let later = flat_map (tuple_bytes kinds) tail in
         let long = ap length g in
         absurd (omega (arith, none, some, long, length-append (tuple_bytes kinds t ++ later) [], length-append (tuple_bytes kinds t) later))
+
     go : Left (tuple_bytes kinds) block is.found rest [] → at ≡ length block
     go l = done l.tail l.whole l.left

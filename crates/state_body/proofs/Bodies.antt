@@ -65,17 +65,17 @@ parts_none kinds (b ∷ blocks) e = absurd (omega (arith, ap length e))
 
 pub no_block : (columns : ℕ) (kinds : List Bool) (bytes : List ℕ) (old : Index) → old.blocks ≡ 0 → old.groups ≡ 0 → IsBodyTo columns kinds bytes old old bytes 0
 no_block columns kinds bytes old blocks groups = record {
-    parts = [];
-    blocks = [];
-    parts_are = refl;
-    each = All-nil (IsBlock columns kinds);
-    so_far = none_read section AnyParts (Wrote columns kinds) bytes tt;
-    known = λ bs e all is. subst (λ (xs : List (List Group)). IsIndex kinds old.at xs old) (sym (parts_none kinds bs e)) is;
-    at_is = refl;
-    blocks_few = omega (arith, blocks);
-    groups_few = omega (arith, groups);
-    room = omega arith;
-  }
+  parts = [];
+  blocks = [];
+  parts_are = refl;
+  each = All-nil (IsBlock columns kinds);
+  so_far = none_read section AnyParts (Wrote columns kinds) bytes tt;
+  known = λ bs e all is. subst (λ (xs : List (List Group)). IsIndex kinds old.at xs old) (sym (parts_none kinds bs e)) is;
+  at_is = refl;
+  blocks_few = omega (arith, blocks);
+  groups_few = omega (arith, groups);
+  room = omega arith;
+}
 
 -- blocks by their parts, of which one is the last
 record HasLast (kinds : List Bool) (blocks : List (List Group)) (parts : List (List ℕ)) (part : List ℕ) : Type 0 where
@@ -95,6 +95,7 @@ has_last kinds (b ∷ blocks) (p ∷ parts) part e =
   where
     head_of : p ∷ (parts ++ part ∷ []) ≡ block_bytes kinds b ∷ map (block_bytes kinds) blocks → p ≡ block_bytes kinds b
     head_of f = cc
+
     tail_of : p ∷ (parts ++ part ∷ []) ≡ block_bytes kinds b ∷ map (block_bytes kinds) blocks → parts ++ part ∷ [] ≡ map (block_bytes kinds) blocks
     tail_of f = cc
 
@@ -185,6 +186,7 @@ block_more columns kinds bytes old index new rest at part after is e some same t
     goes tail more (inr next) =
         let m = same next.part (flat_map section next.later ++ more) next.short next.begins in
         record { later = next.later; is = next.is ∙ ap (λ (p : List ℕ). p ∷ next.later) (sym m.0); left = m.1 }
+
     knows : (bs : List (List Group)) → HasLast kinds bs is.parts part → All (IsBlock columns kinds) bs → IsIndex kinds old.at [] old → IsIndex kinds old.at bs new
     knows bs l all none =
         let a = all_front columns kinds l.front l.last (subst (λ (xs : List (List Group)). All (IsBlock columns kinds) xs) l.is all) in
@@ -204,12 +206,12 @@ sections kinds blocks = flat_map-map section (block_bytes kinds) blocks
 pub all_read : (columns : ℕ) (kinds : List Bool) (bytes : List ℕ) (old index : Index) (rest : List ℕ) (at : ℕ) (part after : List ℕ) → IsBodyTo columns kinds bytes old index rest at → rest ≡ section part ++ after → part ≡ []
     → AreRead columns kinds bytes old index after
 all_read columns kinds bytes old index rest at part after is e none = record {
-    blocks = is.blocks;
-    each = is.each;
-    is = is.so_far.read ∙ ap (λ (bs : List ℕ). flat_map section is.parts ++ bs) (e ∙ ap (λ (p : List ℕ). section p ++ after) none)
-        ∙ ap (λ (bs : List ℕ). bs ++ (section [] ++ after)) (ap (λ (ps : List (List ℕ)). flat_map section ps) is.parts_are ∙ sections kinds is.blocks);
-    known = subst (λ (ps : List (List ℕ)). Knows columns kinds old.at ps old index) is.parts_are is.known;
-  }
+  blocks = is.blocks;
+  each = is.each;
+  is = is.so_far.read ∙ ap (λ (bs : List ℕ). flat_map section is.parts ++ bs) (e ∙ ap (λ (p : List ℕ). section p ++ after) none)
+      ∙ ap (λ (bs : List ℕ). bs ++ (section [] ++ after)) (ap (λ (ps : List (List ℕ)). flat_map section ps) is.parts_are ∙ sections kinds is.blocks);
+  known = subst (λ (ps : List (List ℕ)). Knows columns kinds old.at ps old index) is.parts_are is.known;
+}
 
 cancel : (front a b : List ℕ) → front ++ a ≡ front ++ b → a ≡ b
 cancel [] a b e = e
@@ -229,10 +231,13 @@ all_written columns kinds bytes old index rest at part after is e none same bloc
   where
     parts : List (List ℕ)
     parts = map (block_bytes kinds) blocks
+
     wrote : Wrote columns kinds parts (section [] ++ more)
     wrote = record { blocks = blocks; parts_are = refl; each = all; rest = more; ends = refl }
+
     l : Left section parts is.parts rest (section [] ++ more)
     l = is.so_far.left parts (section [] ++ more) wrote (f ∙ ap (λ (bs : List ℕ). bs ++ (section [] ++ more)) (sym (sections kinds blocks)))
+
     go : (tail : List (List ℕ)) → parts ≡ is.parts ++ tail → IsEnd rest tail (section [] ++ more) ⊎ IsMore rest tail (section [] ++ more) → (after ≡ more) × (IsIndex kinds old.at [] old → IsIndex kinds old.at blocks index)
     go tail g (inl end) =
         let mine = same [] end.after (omega arith) end.ends in

@@ -8,9 +8,9 @@ ghost use Rattle.state_body.specs.Body.{IsBody, IsIndex, Knows, Takes, body_byte
 ghost use Rattle.state_body.specs.declared.body.BodyFault.TheVariants as fault;
 ghost use Rattle.state_file.specs.Section.{section};
 
-use state_blocks::{read_block, read_first};
 use crate::end::read_end;
 use crate::index::Index;
+use state_blocks::{read_block, read_first};
 use state_file::{SectionRead, read_section};
 use std::alloc::{AllocError, Global};
 
@@ -99,12 +99,7 @@ fn read_blocks<'a>(
 }
 
 /// Takes in a block of these bytes.
-fn take_block(
-    index: &mut Index,
-    part: &[u8],
-    columns: u32,
-    kinds: &[bool],
-) -> Result<(), BodyFault>
+fn take_block(index: &mut Index, part: &[u8], columns: u32, kinds: &[bool]) -> Result<(), BodyFault>
     requires kinds { length kinds.now ≤ 8 }
     requires some { 0 < length part.now }
     requires short { length part.now ≤ 2 ^ 20 }

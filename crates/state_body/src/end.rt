@@ -59,7 +59,13 @@ fn read_last(bytes: &[u8]) -> Option<(u32, &[u8])>
         return None;
     };
     match read_bytes(after, LAST.len()) {
-        Some((last, rest)) => { if last == LAST.as_slice() { Some((size, rest)) } else { None } }
+        Some((last, rest)) => {
+            if last == LAST.as_slice() {
+                Some((size, rest))
+            } else {
+                None
+            }
+        }
         None => None,
     }
 }

@@ -18,8 +18,12 @@ fn bodies(rt: HostRuntime) -> Result<(), Fail> {
     };
     let mut writer = BodyWriter::new(rt.alloc(), 100);
     let mut out = Vec::new(rt.alloc());
-    writer.push(&mut out, &kinds, b"\x01\0\0\0a", 3, &[one]).ok();
-    writer.push(&mut out, &kinds, b"\x01\0\0\0b", 1, &[NO_VALUES]).ok();
+    writer
+        .push(&mut out, &kinds, b"\x01\0\0\0a", 3, &[one])
+        .ok();
+    writer
+        .push(&mut out, &kinds, b"\x01\0\0\0b", 1, &[NO_VALUES])
+        .ok();
     writer.finish(rt.alloc(), &mut out).ok();
     assert!(rt; out.as_slice().starts_with(BODY));
     assert!(rt; out.as_slice().ends_with(b"\nstates\n"));
@@ -34,7 +38,10 @@ fn bodies(rt: HostRuntime) -> Result<(), Fail> {
         assert!(rt; cut.is_err(), "{at}");
         for bit in 0..8 {
             out[at] ^= 1 << bit;
-            assert!(rt; read_body(rt.alloc(), out.as_slice(), 100, 1, &kinds).is_err(), "{at}");
+            assert!(rt;
+                read_body(rt.alloc(), out.as_slice(), 100, 1, &kinds).is_err(),
+                "{at}"
+            );
             out[at] ^= 1 << bit;
         }
     }

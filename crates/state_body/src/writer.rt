@@ -95,8 +95,7 @@ impl BodyWriter {
             return Err(WriteError::Long);
         }
         push_section(out, self.block.as_slice())?;
-        self.index
-            .add(self.first.as_slice(), self.groups, self.block.len() as u64)?;
+        self.index.add(self.first.as_slice(), self.groups, self.block.len() as u64)?;
         self.block.clear();
         self.groups = 0;
         Ok(())

@@ -55,12 +55,12 @@ one_of sources count bytes found before rest at is h all more wrote l = go l.tai
         let count_is = wrote.1 in
         absurd (omega (arith, long, many, count_is, h))
     go (s ∷ later) e f = record {
-        s = s;
-        later = later;
-        next = subst (λ (b : Option Place). IsNext sources b s) (sym is.last) (stretches-pop sources None found s later (subst (λ (ss : List Stretch). AreStretches sources None ss) e wrote.0));
-        is = refl;
-        begins = f ∙ append_assoc (stretch_bytes s) (flat_map stretch_bytes later) more;
-      }
+      s = s;
+      later = later;
+      next = subst (λ (b : Option Place). IsNext sources b s) (sym is.last) (stretches-pop sources None found s later (subst (λ (ss : List Stretch). AreStretches sources None ss) e wrote.0));
+      is = refl;
+      begins = f ∙ append_assoc (stretch_bytes s) (flat_map stretch_bytes later) more;
+    }
 
 -- one stretch more is read
 pub stretch_more : (sources count : ℕ) (bytes : List ℕ) (found : List Stretch) (before : Option Place) (rest : List ℕ) (at : ℕ) (x : Stretch) (after : List ℕ) → at < count → IsCoverTo sources count bytes found before rest at
@@ -74,9 +74,9 @@ stretch_more sources count bytes found before rest at x after h is e next same =
       so_far = one_more stretch_bytes (AreStretches sources None) (Wrote sources count) bytes found rest x after is.so_far e
           (stretches-push sources None found x is.so_far.are (subst (λ (b : Option Place). IsNext sources b x) is.last next))
           (λ all more wrote l.
-            let o = one_of sources count bytes found before rest at is h all more wrote l in
-            let m = same o.s (flat_map stretch_bytes o.later ++ more) o.next o.begins in
-            record { later = o.later; is = o.is ∙ ap (λ (s : Stretch). s ∷ o.later) (sym m.0); left = m.1 });
+          let o = one_of sources count bytes found before rest at is h all more wrote l in
+          let m = same o.s (flat_map stretch_bytes o.later ++ more) o.next o.begins in
+          record { later = o.later; is = o.is ∙ ap (λ (s : Stretch). s ∷ o.later) (sym m.0); left = m.1 });
       last = sym (place-push None found x);
       many = omega (arith, long, many);
     }
@@ -101,5 +101,6 @@ stretch_all sources count bytes found before rest at end is all more wrote e = g
         let many = is.many in
         let count_is = wrote.1 in
         absurd (omega (arith, long, many, count_is, end))
+
     go : Left stretch_bytes all found rest more → (found ≡ all) × (rest ≡ more)
     go l = done l.tail l.whole l.left

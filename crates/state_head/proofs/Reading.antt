@@ -32,10 +32,10 @@ pub one_more : {A : Type 0} (bytes_of : A → List ℕ) (Are : List A → Type 0
     → ((all : List A) (more : List ℕ) → Wrote all more → (l : Left bytes_of all found rest more) → GoesOn bytes_of l.tail more x after)
     → IsReadTo bytes_of Are Wrote bytes (found ++ x ∷ []) after
 one_more bytes_of Are Wrote bytes found rest x after so_far e are on = record {
-    read = so_far.read ∙ ap (λ (bs : List ℕ). flat_map bytes_of found ++ bs) e ∙ sym (append_assoc (flat_map bytes_of found) (bytes_of x) after) ∙ ap (λ (bs : List ℕ). bs ++ after) (sym (flat_map-push bytes_of found x));
-    are = are;
-    left = λ all more wrote f.
-        let l = so_far.left all more wrote f in
-        let g = on all more wrote l in
-        record { tail = g.later; whole = l.whole ∙ ap (λ tail. found ++ tail) g.is ∙ sym (append_assoc found (x ∷ []) g.later); left = g.left };
-  }
+  read = so_far.read ∙ ap (λ (bs : List ℕ). flat_map bytes_of found ++ bs) e ∙ sym (append_assoc (flat_map bytes_of found) (bytes_of x) after) ∙ ap (λ (bs : List ℕ). bs ++ after) (sym (flat_map-push bytes_of found x));
+  are = are;
+  left = λ all more wrote f.
+      let l = so_far.left all more wrote f in
+      let g = on all more wrote l in
+      record { tail = g.later; whole = l.whole ∙ ap (λ tail. found ++ tail) g.is ∙ sym (append_assoc found (x ∷ []) g.later); left = g.left };
+}

@@ -42,7 +42,11 @@ pub fn read_head<'a>(alloc: Global, bytes: &'a [u8]) -> Result<Option<Head<'a>>,
     match read_range(after) {
         Some((range, rest)) => {
             if rest.is_empty() {
-                Ok(Some(Head { whole, cover, range }))
+                Ok(Some(Head {
+                    whole,
+                    cover,
+                    range,
+                }))
             } else {
                 Ok(None)
             }

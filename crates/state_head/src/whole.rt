@@ -62,13 +62,7 @@ fn read_sources(bytes: &[u8]) -> Option<(u32, &[u8])>
     ensures written { (n : ℕ) (rest : List ℕ) → 0 < n → n < 2 ^ 32 → bytes.now ≡ number_bytes n ++ rest → MatchOption result ⊥ (λ found. (found.0 ≡ n) × (found.1.now ≡ rest)) }
 {
     match read_count(bytes, MOST_SOURCES) {
-        Some((n, rest)) => {
-            if n > 0 {
-                Some((n as u32, rest))
-            } else {
-                None
-            }
-        }
+        Some((n, rest)) => { if n > 0 { Some((n as u32, rest)) } else { None } }
         None => None,
     }
 }
