@@ -34,16 +34,23 @@ fn bodies(rt: HostRuntime) -> Result<(), Fail> {
     };
     assert!(rt; read.groups == 2 && read.rest == b"more".as_slice() && read.blocks.len() == 27);
     for at in 0..size {
-        let cut = read_body(rt.alloc(), &out.as_slice()[..at], 100, 1, &kinds);
-        assert!(rt; cut.is_err(), "{at}");
-        for bit in 0..8 {
-            out[at] ^= 1 << bit;
+        let cut = out.as_slice().get(..at).unwrap_or(b"");
+        assert!(rt; read_body(rt.alloc(), cut, 100, 1, &kinds).is_err(), "{at}");
+        for bit in 0..8u32 {
+            turn(&mut out, at, bit);
             assert!(rt;
                 read_body(rt.alloc(), out.as_slice(), 100, 1, &kinds).is_err(),
                 "{at}"
             );
-            out[at] ^= 1 << bit;
+            turn(&mut out, at, bit);
         }
     }
     Ok(())
+}
+
+/// Turns a bit of some bytes.
+fn turn(bytes: &mut Vec<u8>, at: usize, bit: u32) {
+    if let Some(byte) = bytes.get_mut(at) {
+        *byte ^= 1u8.wrapping_shl(bit);
+    }
 }
