@@ -19,14 +19,13 @@ number_some : (n : ℕ) → 0 < length (number_bytes n)
 unfolding number_bytes
 number_some n = sevens_some 18 n
 
+front_some : (a b c : List ℕ) → 0 < length a → 0 < length ((a ++ b) ++ c)
+front_some a b c some = omega (arith, some, length-append (a ++ b) c, length-append a b)
+
 -- no group has no bytes
 pub tuple_some : (kinds : List Bool) (g : Group) → 0 < length (tuple_bytes kinds g)
 unfolding tuple_bytes text_bytes
-tuple_some kinds g =
-    let size = number_bytes (length g.key) in
-    let tail = number_bytes g.rows ++ slots_bytes kinds g.slots in
-    let some = number_some (length g.key) in
-    omega (arith, some, length-append (size ++ g.key) tail, length-append size g.key)
+tuple_some kinds g = front_some (number_bytes (length g.key)) g.key (number_bytes g.rows ++ slots_bytes kinds g.slots) (number_some (length g.key))
 
 -- a group of these parts
 abbrev pub made_of : List ℕ → ℕ → List SlotState → Group
@@ -99,7 +98,7 @@ group_more columns kinds bytes rest at key rows slots after some is e good same 
     let long = ap length begins ∙ length-append (tuple_bytes kinds x) after in
     let many = is.many in
     let room = is.room in
-    let more_found = length-append is.found (x ∷ []) in
+    let more_found : length (is.found ++ x ∷ []) ≡ length is.found + 1 = length-append is.found (x ∷ []) in
     record {
       found = is.found ++ x ∷ [];
       so_far = one_more (tuple_bytes kinds) (All (IsTuple columns kinds)) (Wrote columns kinds) bytes is.found rest x after is.so_far begins (All-push (IsTuple columns kinds) is.found x is.so_far.are good)
@@ -164,7 +163,8 @@ whole_written columns kinds bytes rest at none is block all e = go (is.so_far.le
     done (t ∷ tail) f g =
         let some = tuple_some kinds t in
         let later = flat_map (tuple_bytes kinds) tail in
-        let long = ap length g in
+        let is_so : rest ≡ (tuple_bytes kinds t ++ later) ++ [] = g in
+        let long = ap length is_so in
         absurd (omega (arith, none, some, long, length-append (tuple_bytes kinds t ++ later) [], length-append (tuple_bytes kinds t) later))
 
     go : Left (tuple_bytes kinds) block is.found rest [] → at ≡ length block

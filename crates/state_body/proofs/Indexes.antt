@@ -11,14 +11,12 @@ use Rattle.state_file.specs.Number.{number_bytes}
 use Rattle.state_file.specs.Section.{section}
 use Rattle.state_file.specs.Text.{text_bytes}
 
+long_of : (size part sum : List ℕ) → length size ≡ 4 → length sum ≡ 4 → length (size ++ (part ++ sum)) ≡ length part + 8
+long_of size part sum four more = omega (arith, four, more, length-append size (part ++ sum), length-append part sum)
+
 pub section_long : (part : List ℕ) → length (section part) ≡ length part + 8
 unfolding section
-section_long part =
-    let size = to_le_bytes w32 (length part) in
-    let sum = to_le_bytes w32 (crc32c part) in
-    let four : length size ≡ 4 = refl in
-    let more : length sum ≡ 4 = refl in
-    omega (arith, four, more, length-append size (part ++ sum), length-append part sum)
+section_long part = long_of (to_le_bytes w32 (length part)) part (to_le_bytes w32 (crc32c part)) refl refl
 
 pub blocks-push : (kinds : List Bool) (blocks : List (List Group)) (block : List Group) → blocks_bytes kinds (blocks ++ block ∷ []) ≡ blocks_bytes kinds blocks ++ block_section kinds block
 unfolding blocks_bytes
@@ -52,9 +50,12 @@ groups-push blocks block =
     let last = append-nil block in
     omega (arith, ap length joined, length-append (groups_of blocks) (block ++ []), ap length last)
 
+plus_none : (n : ℕ) → n ≡ n + 0
+plus_none n = omega arith
+
 pub index_none : (kinds : List Bool) (start : ℕ) (index : Index) → index.places.items ≡ [] → index.at ≡ start → index.blocks ≡ 0 → index.groups ≡ 0 → IsIndex kinds start [] index
 unfolding blocks_bytes
-index_none kinds start index places at blocks groups = record { places = places; at = omega (arith, at); blocks_many = blocks; groups_many = groups }
+index_none kinds start index places at blocks groups = record { places = places; at = at ∙ plus_none start; blocks_many = blocks; groups_many = groups }
 
 pub index_more : (kinds : List Bool) (start : ℕ) (blocks : List (List Group)) (block : List Group) (i j : Index) (first : List ℕ) (groups bytes : ℕ) → IsIndex kinds start blocks i → first ≡ first_key block → groups ≡ length block
     → bytes ≡ length (block_bytes kinds block) → j.places.items ≡ (i.places.items ++ number_bytes i.at) ++ text_bytes first → j.at ≡ i.at + bytes + 8 → j.blocks ≡ i.blocks + 1 → j.groups ≡ i.groups + groups
