@@ -160,6 +160,7 @@ came (item ∷ items) lanes lane e = go (came items (with_lane lanes (lane_of it
     first : (has_lane lanes lane ≡ true) ⊎ (is_by lane (lane_of item) ≡ true) → (has_lane lanes lane ≡ true) ⊎ ((is_by lane (lane_of item) || has_item items lane) ≡ true)
     first (inl h) = inl h
     first (inr h) = inr (or_left (is_by lane (lane_of item)) (has_item items lane) h)
+
     go : (has_lane (with_lane lanes (lane_of item)) lane ≡ true) ⊎ (has_item items lane ≡ true) → (has_lane lanes lane ≡ true) ⊎ ((is_by lane (lane_of item) || has_item items lane) ≡ true)
     go (inl h) = first (with_came lanes (lane_of item) lane h)
     go (inr h) = inr (or_right (is_by lane (lane_of item)) (has_item items lane) h)

@@ -17,11 +17,11 @@ use Rattle.state_lanes.proofs.Among.{AreAmong, AreApart, IsAmong, all_among, all
 -- each lane has its own slot
 at_own : (f : Lane → SlotState) (lanes : List Lane) (lane : Lane) → has_lane lanes lane ≡ true → slot_at lanes (map f lanes) lane ≡ f lane
 at_own f [] lane e = absurd (false≢true e)
-at_own f (one ∷ lanes) lane e = go (is_same one lane) refl
+at_own f (one ∷ lanes) lane e = go (is_same one lane) refl (at_own f lanes lane)
   where
-    go : (t : Bool) → is_same one lane ≡ t → slot_at (one ∷ lanes) (map f (one ∷ lanes)) lane ≡ f lane
-    go true h = cond-true (is_same one lane) (f one) (slot_at lanes (map f lanes) lane) h ∙ ap f (same_one one lane h)
-    go false h = cond-false (is_same one lane) (f one) (slot_at lanes (map f lanes) lane) h ∙ at_own f lanes lane (or_second (is_same one lane) (has_lane lanes lane) e h)
+    go : (t : Bool) → is_same one lane ≡ t → (has_lane lanes lane ≡ true → slot_at lanes (map f lanes) lane ≡ f lane) → slot_at (one ∷ lanes) (map f (one ∷ lanes)) lane ≡ f lane
+    go true h later = cond-true (is_same one lane) (f one) (slot_at lanes (map f lanes) lane) h ∙ ap f (same_one one lane h)
+    go false h later = cond-false (is_same one lane) (f one) (slot_at lanes (map f lanes) lane) h ∙ later (or_second (is_same one lane) (has_lane lanes lane) e h)
 
 by_kind : (rows : List (List (List ℕ))) (lanes : List Lane) (k : ItemKind) (column places : ℕ) → IsAmong lanes (lane_by k column places)
     → option_map_or (slot_at lanes (map (slot_over rows) lanes)) (lane_by k column places) no_values ≡ slot_by k places (values_of column rows)
@@ -59,24 +59,27 @@ own (one ∷ lanes) (s ∷ slots) e apart =
     differs : (lane : Lane) → has_lane lanes lane ≡ true → (t : Bool) → is_same one lane ≡ t → is_same one lane ≡ false
     differs lane h false f = f
     differs lane h true f = absurd (false≢true (sym apart.0 ∙ ap (λ (l : Lane). has_lane lanes l) (same_one one lane f) ∙ h))
+
     other : (lane : Lane) → has_lane lanes lane ≡ true → slot_at (one ∷ lanes) (s ∷ slots) lane ≡ slot_at lanes slots lane
     other lane h = cond-false (is_same one lane) s (slot_at lanes slots lane) (differs lane h (is_same one lane) refl)
 
 -- the first aggregate that reads a lane has its slot
 first_found : (lanes : List Lane) (slots pad : List SlotState) (items : List Item) (lane : Lane) → has_item items lane ≡ true → first_of items (map (slot_in lanes slots) items ++ pad) lane ≡ slot_at lanes slots lane
 first_found lanes slots pad [] lane e = absurd (false≢true e)
-first_found lanes slots pad (item ∷ items) lane e = go (is_by lane (lane_of item)) refl
+first_found lanes slots pad (item ∷ items) lane e = go (is_by lane (lane_of item)) refl (first_found lanes slots pad items lane)
   where
     by : (o : Option Lane) → is_by lane o ≡ true → option_map_or (slot_at lanes slots) o no_values ≡ slot_at lanes slots lane
     by None h = absurd (false≢true h)
     by (Some one) h = ap (slot_at lanes slots) (same_one one lane h)
+
     is_it : (o : Option Lane) → option_map_or (λ one. is_same one lane) o false ≡ is_by lane o
     is_it None = refl
     is_it (Some one) = refl
-    go : (t : Bool) → is_by lane (lane_of item) ≡ t → first_of (item ∷ items) (map (slot_in lanes slots) (item ∷ items) ++ pad) lane ≡ slot_at lanes slots lane
-    go true h = cond-true (is_of lane item) (slot_in lanes slots item) (first_of items (map (slot_in lanes slots) items ++ pad) lane) (is_it (lane_of item) ∙ h) ∙ by (lane_of item) h
-    go false h = cond-false (is_of lane item) (slot_in lanes slots item) (first_of items (map (slot_in lanes slots) items ++ pad) lane) (is_it (lane_of item) ∙ h)
-        ∙ first_found lanes slots pad items lane (or_second (is_by lane (lane_of item)) (has_item items lane) e h)
+
+    go : (t : Bool) → is_by lane (lane_of item) ≡ t → (has_item items lane ≡ true → first_of items (map (slot_in lanes slots) items ++ pad) lane ≡ slot_at lanes slots lane) → first_of (item ∷ items) (map (slot_in lanes slots) (item ∷ items) ++ pad) lane ≡ slot_at lanes slots lane
+    go true h later = cond-true (is_of lane item) (slot_in lanes slots item) (first_of items (map (slot_in lanes slots) items ++ pad) lane) (is_it (lane_of item) ∙ h) ∙ by (lane_of item) h
+    go false h later = cond-false (is_of lane item) (slot_in lanes slots item) (first_of items (map (slot_in lanes slots) items ++ pad) lane) (is_it (lane_of item) ∙ h)
+        ∙ later (or_second (is_by lane (lane_of item)) (has_item items lane) e h)
 
 back : (items : List Item) (slots pad : List SlotState) → length slots ≡ length (lanes_after [] items) → map (first_of items (map (slot_in (lanes_after [] items) slots) items ++ pad)) (lanes_after [] items) ≡ slots
 back items slots pad many =
