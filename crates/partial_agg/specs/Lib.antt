@@ -4,6 +4,7 @@ pub mod Groups
 pub mod Values
 pub mod Status
 pub mod Listed
+pub mod Parts
 pub mod Placed
 pub mod Lanes
 pub mod Items

@@ -234,12 +234,19 @@ impl GroupMap {
         ensures same { self.new ≡ self.old }
         ensures hashed { IfSome result (λ clues. AreHashed plan.now width rows.now first count clues.hashes) }
     {
-        self.states.fit(plan.items());
+        self.fit_rows(plan);
         look_ahead(&self.keys, &self.states, rows, first, count, width, plan)
     }
 
+    /// Finds whether the states fit the plan's rows. It is done once for many of them.
+    pub(crate) fn fit_rows(&mut self, plan: &BoundPlan)
+        ensures { self.new ≡ self.old }
+    {
+        self.states.fit(plan.items());
+    }
+
     /// Reads a row, to whose key there may be a clue, and adds it if it is kept.
-    fn add_read(
+    pub(crate) fn add_read(
         &mut self,
         buffer: &mut RowBuffer,
         clue: Option<Clue>,
