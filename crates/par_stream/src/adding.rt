@@ -14,7 +14,6 @@ use par_model::BoundPlan;
 use partial_agg::GroupMap;
 use plan_spec::Plan;
 use row_windows::WindowAnswer;
-use part_run::{PartMap, add_by_parts, part_all};
 use split_run::add_pieces;
 use std::alloc::Global;
 use std::mem;
@@ -28,9 +27,6 @@ const MOST_ROWS: u64 = 1_125_899_906_842_624;
 #[derive(Drop)]
 pub(crate) struct Added {
     pub(crate) maps: Vec<GroupMap>,
-    pub(crate) parts: Vec<PartMap>,
-    pub(crate) groups: usize,
-    pub(crate) threads: usize,
     pub(crate) count: u64,
 }
 
@@ -129,33 +125,12 @@ pub(crate) fn add_batch<R: Threads + Wait + Sync>(
 {
     // Tells that there are few maps. It does nothing.
     let _workers = plan.workers();
-    let threads = added.threads;
-    let more = if added.parts.is_empty() {
-        let olds = mem::replace(&mut added.maps, Vec::new(alloc));
-        let (news, more) = match add_pieces(rt, alloc, batch.pieces.as_slice(), bound, olds) {
-            Ok(done) => done,
-            Err(why) => return Err(stop_of_block(alloc, plan, added.count, why)),
-        };
-        added.maps = news;
-        let mut most = 0;
-        let mut all = 0;
-        for map in added.maps.as_slice() {
-            most = map.len().max(most);
-            all += map.len();
-        }
-        let new = all - added.groups;
-        added.groups = all;
-        if bound.group_count > 0 && most >= std::knob("T_FEW", 16384) && 4 * new as u64 > more {
-            let olds = mem::replace(&mut added.maps, Vec::new(alloc));
-            added.parts = part_all(rt, alloc, olds.as_slice(), threads)?;
-        }
-        more
-    } else {
-        match add_by_parts(rt, alloc, batch.pieces.as_slice(), bound, &mut added.parts, threads) {
-            Ok(more) => more,
-            Err(why) => return Err(stop_of_block(alloc, plan, added.count, why)),
-        }
+    let olds = mem::replace(&mut added.maps, Vec::new(alloc));
+    let (news, more) = match add_pieces(rt, alloc, batch.pieces.as_slice(), bound, olds) {
+        Ok(done) => done,
+        Err(why) => return Err(stop_of_block(alloc, plan, added.count, why)),
     };
+    added.maps = news;
     added.count = added.count.saturating_add(more);
     if added.count > MOST_ROWS {
         return Err(Stop::Memory);

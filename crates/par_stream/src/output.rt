@@ -33,8 +33,8 @@ pub(crate) fn write_table<R: Threads + Sync, O: Sink>(
     ensures write_fault { IfErr result (λ why. why ≡ stop.WriteFault → Rose (O.faults out.old) (O.faults out.new)) }
     ensures why { IfErr result (λ why. (why ≡ stop.WriteFault) ⊎ (why ≡ stop.Memory)) }
 {
-    let ReadGroups { bound, maps, threads } = read;
-    let pieces = table_text(rt, alloc, plan, &bound, maps, FEWEST_GROUPS, threads)?;
+    let ReadGroups { bound, maps } = read;
+    let pieces = table_text(rt, alloc, plan, &bound, maps, FEWEST_GROUPS)?;
     write_each(out, &pieces)?;
     Ok(())
 }

@@ -20,7 +20,6 @@ use par_io::Source;
 use par_model::BoundPlan;
 use partial_agg::GroupMap;
 use plan_spec::Plan;
-use part_run::maps_of;
 use split_run::begin;
 use std::alloc::Global;
 use std::sync::Wait;
@@ -31,7 +30,6 @@ use std::thread::Threads;
 pub(crate) struct ReadGroups {
     pub(crate) bound: BoundPlan,
     pub(crate) maps: Vec<GroupMap>,
-    pub(crate) threads: usize,
 }
 
 /// What there is before the rows of a batch are added: that batch, whether it is the last, another for the next, the
@@ -110,7 +108,7 @@ fn open(alloc: Global, plan: &Plan, bound: &BoundPlan, first: First) -> Result<S
         is_last,
         spare: Batch::new(alloc),
         header,
-        added: Added { maps, parts: Vec::new(alloc), groups: 0, threads: plan.workers() as usize + 1, count: 0 },
+        added: Added { maps, count: 0 },
     })
 }
 
@@ -142,9 +140,8 @@ fn next_window<R: Threads + Wait + Sync, S: Source>(
         mut added,
     } = stream;
     spare.next.follow(&batch.next)?;
-    let times = if added.parts.is_empty() { 1 } else { std::knob("T_TIMES", 4) };
     let filled = add_and_fill(
-        rt, alloc, plan, bound, &batch, &mut added, &mut spare, source, size * times,
+        rt, alloc, plan, bound, &batch, &mut added, &mut spare, source, size,
     )?;
     let is_last = match filled {
         Ok(is_last) => is_last,
@@ -179,11 +176,8 @@ fn end<R: Threads + Wait + Sync>(
         ..
     } = stream;
     add_batch(rt, alloc, plan, &bound, &batch, &mut added)?;
-    let threads = added.threads;
-    let maps = if added.parts.is_empty() { added.maps } else { maps_of(alloc, added.parts)? };
     Ok(ReadGroups {
         bound,
-        maps,
-        threads,
+        maps: added.maps,
     })
 }

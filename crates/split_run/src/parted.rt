@@ -43,11 +43,11 @@ pub(crate) fn part_all<R: Threads + Sync>(
     alloc: Global,
     lists: &mut Vec<Parted<'_>>,
     ranges: &Ranges<'_>,
-    threads: usize,
 )
     requires { AreOrdered ranges.now }
     ensures { ArePartedFrom ranges.now lists.old.items lists.new.items }
 {
+    let threads = lists.len().max(1);
     for_each_mut(
         rt,
         lists.as_mut_slice(),

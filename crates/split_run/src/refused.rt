@@ -13,7 +13,7 @@ use row_windows::Window;
 use std::alloc::Global;
 
 /// What the participants answer together if one of them stopped for this reason: whichever refused row that one met, the
-/// first of the batch is named.
+/// first of the batch is named. If it was a refused row, the pieces are read once more up to the first of them.
 pub fn first_cause(
     alloc: Global,
     pieces: &[Window],

@@ -44,7 +44,6 @@ pub fn table_text<R: Threads + Sync>(
     bound: &BoundPlan,
     maps: Vec<GroupMap>,
     fewest: usize,
-    threads: usize,
 ) -> Result<Vec<Vec<u8>>, AllocError>
     requires bound { IsBoundFrom plan.now.plan bound.now }
     requires rows { (width : ℕ) × (rows : Table) × (length rows ≤ 2 ^ 50) × AreShared bound.now width rows maps.items }
@@ -57,11 +56,11 @@ pub fn table_text<R: Threads + Sync>(
         return behind(alloc, text, Vec::new(alloc));
     }
     let mut lists = lend_all(alloc, &maps)?;
-    let count = threads.saturating_mul(RANGES).max(count_groups(&maps) / std::knob("T_RANGE", 8192));
+    let count = lists.len().saturating_mul(RANGES);
     let ranges = Ranges::new(alloc, &lists, bound.group_count, count)?;
-    part_all(rt, alloc, &mut lists, &ranges, threads);
+    part_all(rt, alloc, &mut lists, &ranges);
     let header = header_text(alloc, plan, bound)?;
-    let texts = range_texts(rt, alloc, bound, &lists, &ranges, threads)?;
+    let texts = range_texts(rt, alloc, bound, &lists, &ranges)?;
     behind(alloc, header, texts)
 }
 
@@ -81,13 +80,13 @@ fn range_texts<R: Threads + Sync>(
     bound: &BoundPlan,
     lists: &[Parted<'_>],
     ranges: &Ranges<'_>,
-    threads: usize,
 ) -> Result<Vec<Part>, AllocError>
     requires ready { All (IsReady ranges.now) lists.now }
     requires printable { (range : ℕ) → ArePrintable bound.now (listed (part_map (range_of ranges.now) range (lists_of lists.now))) }
     ensures { IfOk result (λ texts. AreRangeTexts bound.now ranges.now lists.now (count_of ranges.now) texts.items) }
 {
     let mut texts = no_texts(alloc, ranges.count())?;
+    let threads = lists.len().max(1);
     for_each_mut(
         rt,
         texts.as_mut_slice(),

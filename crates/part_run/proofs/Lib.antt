@@ -1,0 +1,2 @@
+mod Spread
+mod Grown
