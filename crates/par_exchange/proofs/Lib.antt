@@ -1,6 +1,7 @@
 pub mod PlaceLaws
-pub mod Bringing
 pub mod Tracks
+pub mod Ways
+pub mod Present
 pub mod Stages
 pub mod Fits
 pub mod Uses

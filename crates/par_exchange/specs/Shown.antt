@@ -1,5 +1,5 @@
 -- What a contract sees of an exchange and of its passes.
-use Rattle.std.specs.Prelude.{◌≡◌, ℕ, List, [], ◌∷◌, Result, Ok, Err, Option, Some, None}
+use Rattle.std.specs.Prelude.{◌≡◌, ℕ, true, false, List, [], ◌∷◌, Result, Ok, Err, Option, Some, None}
 use Rattle.std.specs.Global.{Vec}
 use Rattle.lock_book.specs.declared.kept.Kept.{Ghosts}
 use Rattle.lock_book.specs.declared.shelf.Pass.{Pass}
@@ -16,6 +16,10 @@ use Rattle.par_exchange.specs.declared.asks.Ask.{Ask}
 use Rattle.par_exchange.specs.declared.asks.Answer.{Answer}
 use Rattle.par_exchange.specs.declared.asks.Gathered.{Gathered}
 use Rattle.par_exchange.specs.declared.asks.Gathered.TheVariants as gathered
+use Rattle.par_exchange.specs.declared.asks.Departure.{Departure}
+use Rattle.par_exchange.specs.declared.asks.Departure.TheVariants as departure
+use Rattle.par_exchange.specs.declared.asks.Stays.{Stays}
+use Rattle.par_exchange.specs.declared.asks.Stays.TheVariants as stays
 use Rattle.par_exchange.specs.declared.desk.Desk.{Desk}
 use Rattle.par_exchange.specs.declared.exchange.Exchange.{Exchange}
 use Rattle.par_exchange.specs.States.{fresh}
@@ -67,7 +71,7 @@ module _ {T : Type 0} where
   gather_reply (Err x) = reply.Refused
 
   -- the reply that an answer of `scatter` represents
-  abbrev pub scatter_reply : Result (Unit {0}) (Vec T) → ExchangeReply T
+  abbrev pub scatter_reply : Result (Unit {0}) (Vec (Option T)) → ExchangeReply T
   scatter_reply (Ok u) = reply.Given
   scatter_reply (Err v) = reply.Refused
 
@@ -76,8 +80,23 @@ module _ {T : Type 0} where
   take_reply None = reply.Nothing
   take_reply (Some x) = reply.Taken x
 
-  -- a fact of what the elected got
-  abbrev pub IfElected : Result (Gathered T) T → (List T → Type 0) → Type 0
+  -- the reply that an answer of `leave` represents
+  abbrev pub leave_reply : Result (Departure T) Stays → ExchangeReply T
+  leave_reply (Ok departure.Left) = reply.Left false
+  leave_reply (Ok departure.Last) = reply.Left true
+  leave_reply (Ok (departure.Elected v)) = reply.Leaving v.items
+  leave_reply (Err stays.Busy) = reply.Refused
+  leave_reply (Err stays.Gone) = reply.Gone
+
+  -- a fact of what the elected got by `gather`
+  abbrev pub IfElected : Result (Gathered T) T → (List (Option T) → Type 0) → Type 0
   IfElected (Ok gathered.Waiting) P = Unit {0}
   IfElected (Ok (gathered.Elected v)) P = P v.items
   IfElected (Err x) P = Unit {0}
+
+  -- a fact of what the elected got by `leave`
+  abbrev pub IfLeaving : Result (Departure T) Stays → (List (Option T) → Type 0) → Type 0
+  IfLeaving (Ok departure.Left) P = Unit {0}
+  IfLeaving (Ok departure.Last) P = Unit {0}
+  IfLeaving (Ok (departure.Elected v)) P = P v.items
+  IfLeaving (Err why) P = Unit {0}

@@ -47,11 +47,11 @@ where
     ghost env_fits = { λ _ _. Unit {0} };
 
     // an ask is the caller's own
-    ghost in_fits = { λ e n ask. (ask.by ≡ n) × (n < e.parties) × CallFits (X.brings e.sign) (X.gives e.sign) e.parties n (call_of ask.wish) };
+    ghost in_fits = { λ e n ask. (ask.by ≡ n) × (n < e.parties) × CallFits (X.brings e.sign) (X.gives e.sign) (X.leaves e.sign) n (call_of ask.wish) };
 
     ghost out_fits = { λ _ ask answer. AnswerFits ask.wish answer };
 
-    ghost legal = { λ e n s c r t. MayCall (X.brings e.sign) (X.gives e.sign) e.parties n s c r t };
+    ghost legal = { λ e n s c r t. MayCall (X.brings e.sign) (X.gives e.sign) (X.leaves e.sign) n s c r t };
 
     fn apply(&mut self, _env: &(), ask: Ask<X::Token>) -> Answer<X::Token> {
         let n = ask.by;
@@ -59,6 +59,7 @@ where
             Wish::Bring(token) => self.tokens.bring(n, token),
             Wish::Give(tokens) => self.tokens.give(n, tokens),
             Wish::Take => self.tokens.take(n),
+            Wish::Leave => self.tokens.leave(n),
         }
     }
 }

@@ -1,4 +1,5 @@
-//! An exchange: parties bring a token each, one of them gets the tokens of all, and gives each party one again.
+//! An exchange: parties bring a token each, one of them gets the tokens of all, and gives each party one again. A party
+//! may leave; the others go on without it.
 //!
 //! `trade` says what is exchanged. `tokens` has the tokens, with a function for each call over the `places` in which
 //! they lie; `desk` is the locked value, and `asks` what it is asked and answers. `history` says what its history is
@@ -18,9 +19,9 @@ mod tokens;
 mod trade;
 mod waiting;
 
-pub use asks::Gathered;
+pub use asks::{Departure, Gathered, Stays};
 pub use close::ClosedExchange;
 pub use exchange::{Exchange, ExchangePass};
 pub use history::{ExchangeCall, ExchangeReply, ExchangeState, PartyStage};
-pub use laws::{gathers_each, gives_each};
+pub use laws::{ends_with_all, gathers_each, gives_each};
 pub use trade::Trade;

@@ -1,8 +1,8 @@
 //! Places in a row, each with a token or with none.
 
-ghost use Rattle.std.specs.Prelude.{◌≡◌, ◌≤◌, List, Some, None, IfOk, is_none, length, map, replicate, vec_capacity};
+ghost use Rattle.std.specs.Prelude.{◌≡◌, ◌≢◌, None, IfOk, true, false, replicate};
 ghost use Rattle.std.specs.List.{list_any};
-ghost use Rattle.par_exchange.specs.States.{all_of, cleared};
+ghost use Rattle.par_exchange.specs.States.{cleared, who};
 
 use std::alloc::{AllocError, Global};
 
@@ -17,37 +17,45 @@ pub(crate) fn empty_places<T: Drop>(alloc: Global, count: u32) -> Result<Vec<Opt
     Ok(places)
 }
 
-/// Whether a place has none.
-pub(crate) fn is_short<T>(places: &[Option<T>]) -> bool
-    ensures { result ≡ list_any (λ place. is_none place) places.now }
+/// So many marks, all of them true.
+pub(crate) fn all_marked(alloc: Global, count: u32) -> Result<Vec<bool>, AllocError>
+    ensures { IfOk result (λ v. v.items ≡ replicate count true) }
 {
-    places.iter().any(|place| place.is_none())
+    let mut marks = Vec::new(alloc);
+    for _ in 0..count {
+        marks.push(true)?;
+    }
+    Ok(marks)
 }
 
-/// The tokens of all places, in order. They have none then.
-pub(crate) fn collect_all<T>(places: &mut [Option<T>], mut all: Vec<T>) -> Vec<T>
-    requires tokens { (tokens : List _) × (all_of places.old ≡ Some tokens) }
-    requires empty { length all.items ≡ 0 }
-    requires room { length places.old ≤ vec_capacity all }
-    ensures tokens { (tokens : List _) → all_of places.old ≡ Some tokens → result.items ≡ tokens }
-    ensures cleared { places.new ≡ cleared places.old }
+/// Whether exactly the marked places have a token.
+pub(crate) fn are_of<T>(places: &[Option<T>], marks: &[bool]) -> bool
+    ensures yes { result ≡ true → who places.now ≡ marks.now }
+    ensures no { result ≡ false → who places.now ≢ marks.now }
 {
-    for place in places.iter_mut() {
-        if let Some(token) = place.take() {
-            all.push_reserved(token);
+    if places.len() != marks.len() {
+        return false;
+    }
+    for k in 0..places.len() {
+        if places[k].is_some() != marks[k] {
+            return false;
         }
     }
-    all
+    true
 }
 
-/// Puts the tokens into the places, in order. The list is empty then.
-pub(crate) fn spread_out<T: Drop>(places: &mut [Option<T>], tokens: &mut Vec<T>)
-    requires one_each { length tokens.old.items ≡ length places.old }
-    ensures places { places.new ≡ map (λ x. Some x) tokens.old.items }
-    ensures empty { length tokens.new.items ≡ 0 }
-    ensures room { vec_capacity tokens.new ≡ vec_capacity tokens.old }
+/// Whether a mark is true.
+pub(crate) fn any_marked(marks: &[bool]) -> bool
+    ensures { result ≡ list_any (λ mark. mark) marks.now }
 {
-    while let Some(token) = tokens.pop() {
-        places[tokens.len()] = Some(token);
+    marks.iter().any(|mark| *mark)
+}
+
+/// Drops the tokens of all places.
+pub(crate) fn clear_all<T: Drop>(places: &mut [Option<T>])
+    ensures { places.new ≡ cleared places.old }
+{
+    for place in places.iter_mut() {
+        *place = None;
     }
 }

@@ -10,7 +10,7 @@ pub trait Trade {
     /// What a party brings, and gets.
     type Token: Drop;
 
-    /// What the two facts may name, as the region of all tokens. The exchange keeps it for good.
+    /// What the facts may name, as the region of all tokens. The exchange keeps it for good.
     type Sign: Drop;
 
     // what the party of this number may bring
@@ -18,4 +18,7 @@ pub trait Trade {
 
     // what may be given to the party of this number
     ghost gives: { Self.Sign → ℕ → Self.Token → Type 0 };
+
+    // what is true if the party of this number leaves; with ⊥ it never does
+    ghost leaves: { Self.Sign → ℕ → Type 0 };
 }

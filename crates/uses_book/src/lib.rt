@@ -1,6 +1,6 @@
 //! Callers of `lock_book`, kept so that its surface is proved where it is used: a counter that two threads add to, a
 //! drawer that holds a part of a region, in a generic wrapper, and a user's object in another. The crate also has the
-//! tests of `par_barrier`, and three threads at a `par_exchange`.
+//! tests of `par_barrier`, and of `par_exchange` three threads that trade and two that leave.
 
 #![tactic(auto)]
 
@@ -14,6 +14,8 @@ mod crossing;
 mod drawer;
 #[cfg(test)]
 mod guarded;
+#[cfg(test)]
+mod leaving;
 #[cfg(test)]
 mod numbered;
 #[cfg(test)]
@@ -34,6 +36,8 @@ pub use crossing::{Cabinet, CabinetPass, Lent, One, close_both, cross, end_two};
 pub use drawer::Drawer;
 #[cfg(test)]
 pub use guarded::{Guarded, Object, advance, called_by_two, called_once};
+#[cfg(test)]
+pub use leaving::{Numbers, one_goes_on, rounds};
 #[cfg(test)]
 pub use numbered::{Numbered, Tag};
 #[cfg(test)]

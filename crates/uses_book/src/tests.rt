@@ -9,7 +9,7 @@ ghost use Rattle.lock_book.specs.Shown.{Belongs, callers_of, count_of, number_of
 
 use crate::{
     Guarded, Numbered, Object, Tag, added_by_two, called_by_two, called_once, end_two, for_three,
-    put_in, round_trip, take_out, three_parties,
+    one_goes_on, put_in, round_trip, take_out, three_parties,
 };
 use lock_book::{Pass, Shelf, two_of};
 use region_words::{Part, Region};
@@ -133,5 +133,11 @@ fn three_threads_read_what_the_next_one_wrote(rt: HostRuntime) -> Result<(), Fai
     let (region, exchange, zero, one, two) = for_three(rt.alloc())?;
     let read = three_parties(&rt, &region, &exchange, zero, one, two);
     assert!(rt; read == (41, (42, 40)));
+    Ok(())
+}
+
+#[test]
+fn a_party_goes_on_without_another_that_left(rt: HostRuntime) -> Result<(), Fail> {
+    assert!(rt; one_goes_on(&rt, rt.alloc(), 3)? == (0, 1));
     Ok(())
 }

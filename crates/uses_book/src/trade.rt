@@ -17,4 +17,7 @@ impl Trade for Parts {
     ghost brings = { brings };
 
     ghost gives = { gives };
+
+    // nobody leaves
+    ghost leaves = { λ _ _. ⊥ };
 }

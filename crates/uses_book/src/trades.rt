@@ -1,10 +1,11 @@
 //! Three threads write in parts of a region, exchange the parts, and each reads what another wrote.
 
-ghost use Rattle.std.specs.Prelude.{◌≡◌, ◌+◌, ◌%◌, ◌<◌, IfOk, IsSome, length};
+ghost use Rattle.std.specs.Prelude.{◌≡◌, ◌+◌, ◌%◌, ◌<◌, IfOk, IsSome, length, replicate, true};
 ghost use Rattle.word_map.specs.WordMap.{at as word_at};
 ghost use Rattle.lock_book.specs.Shown.{number_of};
 ghost use Rattle.par_exchange.specs.Legal.{Each};
 ghost use Rattle.par_exchange.specs.Shown.{Belongs, IsExchange, parties_of, stage_of};
+ghost use Rattle.par_exchange.specs.States.{who};
 ghost use Rattle.par_exchange.specs.declared.history.PartyStage.TheVariants.{Elected, Free};
 ghost use Rattle.uses_book.specs.Trading.{brings, gives};
 ghost use Rattle.uses_book.specs.Hands.{IsOpen, IsReady};
@@ -25,9 +26,10 @@ fn after(n: u64) -> u64
 }
 
 /// Each party's part goes to the party before it.
-fn rotate(parts: &mut Vec<Part>)
-    requires { length parts.old.items ≡ 3 }
-    ensures count { length parts.new.items ≡ 3 }
+fn rotate(parts: &mut Vec<Option<Part>>)
+    requires count { length parts.old.items ≡ 3 }
+    requires all { who parts.old.items ≡ replicate 3 true }
+    ensures all { who parts.new.items ≡ replicate 3 true }
     ensures each { (base : _) → Each (brings base) parts.old.items → Each (gives base) parts.new.items }
 {
     parts.swap(0, 1);
@@ -40,12 +42,13 @@ fn give_out<R: Wait>(
     region: &Region,
     exchange: &Exchange<Parts>,
     pass: &mut ExchangePass<Parts>,
-    mut parts: Vec<Part>,
+    mut parts: Vec<Option<Part>>,
 )
     requires open { IsOpen region.now exchange.now }
     requires own { Belongs exchange.now pass.old }
-    requires elected { stage_of pass.old ≡ Elected }
-    requires three { length parts.items ≡ 3 }
+    requires elected { stage_of pass.old ≡ Elected (replicate 3 true) }
+    requires count { length parts.items ≡ 3 }
+    requires all { who parts.items ≡ replicate 3 true }
     requires parts { (base : _) → IsExchange base exchange.now → Each (brings base) parts.items }
     ensures own { Belongs exchange.now pass.new × (number_of pass.new ≡ number_of pass.old) }
 {

@@ -18,7 +18,7 @@ pub call-requires-clause-input : goal.call-requires-clause-input
 call-requires-clause-input g c κs within = λ o at.
     let ex = c.requires.exchange in
     let n = number_of c.args.pass.now in
-    subst (λ (q : ExchangeName g.row.X-Sign.Denot × ExchangeState g.row.X-Token.Denot). Unit {0} × ((c.number-by.result ≡ n) × (n < q.0.parties) × CallFits (g.X.Trade.brings q.0.sign) (g.X.Trade.gives q.0.sign) q.0.parties n (call_of c.args.wish)))
+    subst (λ (q : ExchangeName g.row.X-Sign.Denot × ExchangeState g.row.X-Token.Denot). Unit {0} × ((c.number-by.result ≡ n) × (n < q.0.parties) × CallFits (g.X.Trade.brings q.0.sign) (g.X.Trade.gives q.0.sign) (g.X.Trade.leaves q.0.sign) n (call_of c.args.wish)))
     (some-injective _ o (sym (ap (λ xs. get_elem? xs 0) ex.1.opens) ∙ at))
     (tt, (c.number-by.ensures, c.requires.own.stands.below, c.requires.fits ex.0 ex.1))
 
@@ -30,7 +30,7 @@ returns-clause-turned g c = λ sign is.
     let own = c.call.ensures.own in
     let here = ap (λ xs. get_elem? xs 0) is.opens in
     let whole = own.0.stands.lawful 0 _ here in
-    let may = MayCall (g.X.Trade.brings sign) (g.X.Trade.gives sign) p in
+    let may = MayCall (g.X.Trade.brings sign) (g.X.Trade.gives sign) (g.X.Trade.leaves sign) in
     record {
       before = a.before;
       after = a.after;

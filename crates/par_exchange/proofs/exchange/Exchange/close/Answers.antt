@@ -13,7 +13,7 @@ returns g c =
     let e = c.close.ensures.ended in
     record {
       ended = record {
-        lawful = plain (g.X.Trade.brings ex.0) (g.X.Trade.gives ex.0) (parties_of x) (fresh (parties_of x)) (whole_of c.close.result) (e.lawful 0 _ (ap (λ xs. get_elem? xs 0) ex.1.opens));
+        lawful = plain (g.X.Trade.brings ex.0) (g.X.Trade.gives ex.0) (g.X.Trade.leaves ex.0) (fresh (parties_of x)) (whole_of c.close.result) (e.lawful 0 _ (ap (λ xs. get_elem? xs 0) ex.1.opens));
         begins = λ n p at. e.begins n 0 p at;
         mine = λ n p at. e.mine n 0 p at;
         no_others = λ n le. e.no_others 0 n le;

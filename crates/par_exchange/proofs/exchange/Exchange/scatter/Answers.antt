@@ -15,4 +15,4 @@ pub returns-in-AllBack-clause-stage : goal.returns-in-AllBack-clause-stage
 returns-in-AllBack-clause-stage g c = turned_stage (c.in-AllBack.ensures.turned c.requires.exchange.0 c.requires.exchange.1)
 
 pub returns-in-AllBack-clause-elected : goal.returns-in-AllBack-clause-elected
-returns-in-AllBack-clause-elected g c = λ elected. absurd (turned_elected (c.in-AllBack.ensures.turned c.requires.exchange.0 c.requires.exchange.1) c.args.tokens.items refl elected refl)
+returns-in-AllBack-clause-elected g c = λ has. absurd (turned_elected (c.in-AllBack.ensures.turned c.requires.exchange.0 c.requires.exchange.1) c.args.places.items refl has refl)
