@@ -44,7 +44,7 @@ where
     X::Sign: Send,
 {
     /// An exchange for the given number of parties, and a pass for each, numbered from 0. It takes room for three
-    /// tokens of each party; no other call takes memory.
+    /// tokens of each party and a mark; no other call takes memory.
     pub fn new(
         alloc: Global,
         parties: u32,

@@ -49,11 +49,7 @@ fn give_back<R: Wait>(
 }
 
 /// One round: brings the number and gets it back.
-fn round<R: Wait>(
-    rt: &R,
-    exchange: &Exchange<Numbers>,
-    pass: &mut ExchangePass<Numbers>,
-) -> u64
+fn round<R: Wait>(rt: &R, exchange: &Exchange<Numbers>, pass: &mut ExchangePass<Numbers>) -> u64
     requires exchange { (sign : _) × IsExchange sign exchange.now }
     requires own { Belongs exchange.now pass.old }
     requires free { stage_of pass.old ≡ Free }
@@ -110,7 +106,14 @@ pub fn rounds<R: Wait>(
 /// An exchange of numbers for two parties, and their passes.
 fn for_two(
     alloc: Global,
-) -> Result<(Exchange<Numbers>, ExchangePass<Numbers>, ExchangePass<Numbers>), AllocError>
+) -> Result<
+    (
+        Exchange<Numbers>,
+        ExchangePass<Numbers>,
+        ExchangePass<Numbers>,
+    ),
+    AllocError,
+>
     ensures exchange { IfOk result (λ r. IsExchange tt r.0) }
     ensures zero { IfOk result (λ r. Belongs r.0 r.1 × (number_of r.1 ≡ 0) × (stage_of r.1 ≡ Free)) }
     ensures one { IfOk result (λ r. Belongs r.0 r.2 × (number_of r.2 ≡ 1) × (stage_of r.2 ≡ Free)) }
