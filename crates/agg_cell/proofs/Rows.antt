@@ -70,19 +70,19 @@ filter_few p (x ∷ xs) = by (p x) (filter_few p xs)
 values_few : (column : ℕ) (rows : Table) → length (values_of column rows) ≤ length rows
 values_few column rows = omega (arith, filter_few (λ field. not (is_null field)) (map (λ row. field_of row column) rows), length-map rows (λ (row : List (List ℕ)). field_of row column))
 
-slot_few : (k : ItemKind) (column : ℕ) (rows : Table) → (slot_by k (values_of column rows)).count ≤ length rows
-slot_few kind.Rows column rows = omega arith
-slot_few kind.Count column rows = values_few column rows
-slot_few kind.Sum column rows = values_few column rows
-slot_few kind.Min column rows = values_few column rows
-slot_few kind.Max column rows = values_few column rows
-slot_few kind.Avg column rows = values_few column rows
+slot_few : (k : ItemKind) (places column : ℕ) (rows : Table) → (slot_by k places (values_of column rows)).count ≤ length rows
+slot_few kind.Rows places column rows = omega arith
+slot_few kind.Count places column rows = values_few column rows
+slot_few kind.Sum places column rows = values_few column rows
+slot_few kind.Min places column rows = values_few column rows
+slot_few kind.Max places column rows = values_few column rows
+slot_few kind.Avg places column rows = values_few column rows
 
 slots_few : (items : List Item) (fill i : ℕ) (rows : Table) → (get_or (map (slot_of rows) items ++ replicate fill no_values) i no_values).count ≤ length rows
 slots_few [] zero i rows = omega arith
 slots_few [] (suc fill) zero rows = omega arith
 slots_few [] (suc fill) (suc i) rows = slots_few [] fill i rows
-slots_few (item ∷ items) fill zero rows = slot_few item.kind item.column rows
+slots_few (item ∷ items) fill zero rows = slot_few item.kind item.places item.column rows
 slots_few (item ∷ items) fill (suc i) rows = slots_few items fill i rows
 
 count_few : (plan : Plan) (i : ℕ) (rows : Table) → count_at i (state_of_rows plan rows) ≤ length rows
