@@ -2,7 +2,7 @@
 //!
 //! A sum of 128 bits is exact here, since at most 2^50 numbers of 64 bits leave room for the four places and one bit more.
 
-ghost use Rattle.std.specs.Prelude.{◌≡◌, ◌<◌, ◌≤◌, ◌+◌, ◌*◌, ◌%◌, ◌^◌, ◌/◌, ◌++◌, OnOk, unsigned_abs};
+ghost use Rattle.std.specs.Prelude.{◌≡◌, ◌<◌, ◌≤◌, ◌+◌, ◌*◌, ◌%◌, ◌^◌, ◌/◌, ◌++◌, OnOk, drop, length, unsigned_abs};
 ghost use Rattle.std.specs.Fmt.{sign_text};
 ghost use Rattle.std.specs.Int.{is_negative};
 ghost use Rattle.par_model.specs.Decimal as decimal;
@@ -51,8 +51,16 @@ fn push_places(
     }
     let mut digits = itoa::Buffer::new();
     text.push(b'.')?;
-    text.extend_from_slice(&digits.format(unit + size % unit).as_bytes()[1..])?;
+    text.extend_from_slice(after_first(digits.format(unit + size % unit)))?;
     Ok(())
+}
+
+/// The bytes of a text after the first one.
+fn after_first(text: &str) -> &[u8]
+    requires { 1 ≤ length text.now }
+    ensures { result.now ≡ drop 1 text.now }
+{
+    &text.as_bytes()[1..]
 }
 
 /// A power of ten.
