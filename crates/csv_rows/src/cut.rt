@@ -33,8 +33,8 @@ pub(crate) fn find_cut<R: Threads + Sync>(
     }
 }
 
-/// The text after its byte order mark, if it begins with one.
-pub(crate) fn without_mark(bytes: &[u8]) -> &[u8]
+/// The text after its byte order mark, if it begins with one. In constant time.
+pub fn without_mark(bytes: &[u8]) -> &[u8]
     ensures text { result.now ≡ strip_bom bytes.now }
     ensures length { length result.now ≤ length bytes.now }
 {

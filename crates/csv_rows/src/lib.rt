@@ -25,6 +25,7 @@ mod scan;
 mod split;
 mod store;
 
+pub use cut::without_mark;
 pub use input::{MOST_BYTES, ReadAnswer, read_all};
 pub use par_model::read_number;
 pub use place::{Place, past_others, past_quote, scanned};

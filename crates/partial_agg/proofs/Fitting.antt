@@ -3,9 +3,9 @@ use Rattle.std.proofs.Common.{◌≡◌, ◌<◌, ◌≤◌, ◌+◌, ◌-◌, �
 use Rattle.std.proofs.lemmas.List.{length-map}
 use Rattle.std.specs.List.{position_from, slice_get}
 use Rattle.par_model.specs.Aggregate.{no_values}
-use Rattle.par_model.specs.Integer.{integer_of}
+use Rattle.par_model.specs.Number.{decimal_of}
 use Rattle.par_model.specs.Record.{is_null}
-use Rattle.par_model.specs.Refuse.{is_no_integer, is_unreadable, reads_integers}
+use Rattle.par_model.specs.Refuse.{is_no_number, is_unreadable, reads_numbers}
 use Rattle.par_model.specs.declared.plan.Item.{Item}
 use Rattle.par_model.specs.declared.plan.ItemKind.{ItemKind}
 use Rattle.par_model.specs.declared.plan.ItemKind.TheVariants as kind
@@ -34,30 +34,30 @@ pub all_readable : (row : List (List ℕ)) (items : List Item) (n : ℕ) → ((a
 all_readable row [] n each = refl
 all_readable row (item ∷ items) n each = rw (each 0 (omega arith)) (all_readable row items (n + 1) (λ at lt. each (suc at) (omega arith)))
 
--- what aggregates of integers take is the same
-integers_of : (k : ItemKind) (field : List ℕ) → reads_integers k ≡ true → value_by k field ≡ read field
-integers_of kind.Rows field e = cc
-integers_of kind.Count field e = cc
-integers_of kind.Sum field e = refl
-integers_of kind.Min field e = refl
-integers_of kind.Max field e = refl
-integers_of kind.Avg field e = refl
+-- what aggregates of numbers take is the same
+numbers_of : (k : ItemKind) (places : ℕ) (field : List ℕ) → reads_numbers k ≡ true → value_by k places field ≡ read places field
+numbers_of kind.Rows places field e = cc
+numbers_of kind.Count places field e = cc
+numbers_of kind.Sum places field e = refl
+numbers_of kind.Min places field e = refl
+numbers_of kind.Max places field e = refl
+numbers_of kind.Avg places field e = refl
 
-pub alike : (k other : ItemKind) (field : List ℕ) → reads_integers k ≡ true → reads_integers other ≡ true
-    → (value_by k field ≡ value_by other field) × ((reads_integers k && is_no_integer field) ≡ (reads_integers other && is_no_integer field))
-alike k other field e f = (integers_of k field e ∙ sym (integers_of other field f), ap (λ b. b && is_no_integer field) (e ∙ sym f))
+pub alike : (k other : ItemKind) (places : ℕ) (field : List ℕ) → reads_numbers k ≡ true → reads_numbers other ≡ true
+    → (value_by k places field ≡ value_by other places field) × ((reads_numbers k && is_no_number places field) ≡ (reads_numbers other && is_no_number places field))
+alike k other places field e f = (numbers_of k places field e ∙ sym (numbers_of other places field f), ap (λ b. b && is_no_number places field) (e ∙ sym f))
 
 -- and a count of the same column counts it
-counts_read : (field : List ℕ) (b : Bool) (o : Option ℤ) → is_null field ≡ b → integer_of field ≡ o → (not b && is_none o) ≡ false
-    → slot_of_value (counted field) ≡ without_integers (slot_of_value (read field))
-counts_read field true o null int readable = rw null refl
-counts_read field false None null int readable = cc
-counts_read field false (Some n) null int readable = rw (null, int) refl
+counts_read : (places : ℕ) (field : List ℕ) (b : Bool) (o : Option ℤ) → is_null field ≡ b → decimal_of places field ≡ o → (not b && is_none o) ≡ false
+    → slot_of_value (counted field) ≡ without_integers (slot_of_value (read places field))
+counts_read places field true o null int readable = rw null refl
+counts_read places field false None null int readable = cc
+counts_read places field false (Some n) null int readable = rw (null, int) refl
 
-pub counts : (k : ItemKind) (field : List ℕ) → reads_integers k ≡ true → (reads_integers k && is_no_integer field) ≡ false → slot_of_value (counted field) ≡ without_integers (slot_of_value (value_by k field))
-counts k field e readable =
-    counts_read field (is_null field) (integer_of field) refl refl (ap (λ b. b && is_no_integer field) (sym e) ∙ readable)
-    ∙ ap (λ v. without_integers (slot_of_value v)) (sym (integers_of k field e))
+pub counts : (k : ItemKind) (places : ℕ) (field : List ℕ) → reads_numbers k ≡ true → (reads_numbers k && is_no_number places field) ≡ false → slot_of_value (counted field) ≡ without_integers (slot_of_value (value_by k places field))
+counts k places field e readable =
+    counts_read places field (is_null field) (decimal_of places field) refl refl (ap (λ b. b && is_no_number places field) (sym e) ∙ readable)
+    ∙ ap (λ v. without_integers (slot_of_value v)) (sym (numbers_of k places field e))
 
 -- the lanes of a row, by the values of the items at their places
 each_slot : (row : List (List ℕ)) (items : List Item) (places : List ℕ)

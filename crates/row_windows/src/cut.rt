@@ -6,13 +6,13 @@
 
 ghost use Rattle.std.specs.Prelude.{◌≡◌, ◌≤◌, ◌-◌, IfSome, None, drop, length, take};
 ghost use Rattle.csv.specs.Reading.{strip_bom};
-ghost use Rattle.csv_rows.specs.Places.{NoQuote, has_mark, place_after};
+ghost use Rattle.csv_rows.specs.Places.{NoQuote, place_after};
 ghost use Rattle.csv_rows.specs.declared.place.Place.TheVariants as place;
 ghost use Rattle.row_windows.specs.Ends.{IsLastBelow, IsOpenEnd};
 ghost use Rattle.row_windows.specs.Seams.{IsCutAt, NoCut};
 
 use crate::header::ends_line;
-use csv_rows::{Place, past_others, past_quote, scanned};
+use csv_rows::{Place, past_others, past_quote, scanned, without_mark};
 use memchr::{memchr, memrchr2};
 
 /// The last place behind its first byte at which a text can be cut. In linear time.
@@ -70,24 +70,6 @@ fn first_end(text: &[u8]) -> Option<usize>
         place = scanned(&text[at..at + 1], place);
     }
     None
-}
-
-/// The text after a byte order mark.
-pub(crate) fn without_mark(bytes: &[u8]) -> &[u8]
-    ensures text { result.now ≡ strip_bom bytes.now }
-    ensures length { length result.now ≤ length bytes.now }
-{
-    if has_mark(bytes) {
-        return &bytes[3..];
-    }
-    bytes
-}
-
-/// Whether a text begins with a byte order mark.
-fn has_mark(bytes: &[u8]) -> bool
-    ensures { result ≡ has_mark bytes.now }
-{
-    bytes.len() >= 3 && bytes[0] == 0xEF && bytes[1] == 0xBB && bytes[2] == 0xBF
 }
 
 /// The last end of a line of a text that stands outside quotes, behind its first byte.

@@ -5,8 +5,7 @@ ghost use Rattle.csv_rows.specs.Records.{records_of};
 ghost use Rattle.row_windows.specs.Ends.{IsFirstEnd, NoneBehind};
 ghost use Rattle.row_windows.specs.Seams.{IsCutAt, is_line_end};
 
-use crate::cut::without_mark;
-use csv_rows::{Place, scanned};
+use csv_rows::{Place, scanned, without_mark};
 
 /// The first place behind some byte that ends no line at which a text can be cut: in front of it stands the first record,
 /// and that alone. In time linear in the bytes up to it.
