@@ -1,3 +1,4 @@
+pub mod Entries
 pub mod ItemNames
 pub mod Fills
 pub mod Present
@@ -6,3 +7,5 @@ pub mod Missing
 pub mod Numbers
 pub mod Parsed
 pub mod Places
+pub mod Relations
+pub mod Values

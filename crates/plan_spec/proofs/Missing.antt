@@ -1,7 +1,13 @@
 -- A query of which a part does not read.
 use Rattle.std.proofs.Common.{◌≡◌, ℕ, Bool, List, Option, Some, None, refl}
+use Rattle.std.specs.Prelude.{option_and_then}
 use Rattle.par_model.specs.Named.{NamedFilter, NamedItem}
 use Rattle.plan_spec.specs.Query.{query_by}
+
+-- what has no value in any case
+pub never : {A B : Type 0} (f : A → Option B) (o : Option A) → ((x : A) → f x ≡ None) → option_and_then f o ≡ None
+never f None none = refl
+never f (Some x) none = none x
 
 pub no_hash : (workers pages : Option ℕ) (groups : Option (List (List ℕ))) (items : Option (List NamedItem)) (filter : Option (Option NamedFilter)) → query_by groups items filter None workers pages ≡ None
 no_hash workers pages None items filter = refl

@@ -53,8 +53,11 @@ pub(crate) fn places<'a>(alloc: Global, text: &'a str) -> Result<Vec<PlacesOf<'a
     ensures within { IfOk result (λ v. All (λ entry. entry.places ≤ MOST_PLACES) v.items) }
     ensures none { result ≡ Err answer.Usage → places_in text.entry.now ≡ None }
 {
+    let Ok(parts) = parts(alloc, text) else {
+        return Err(PlanAnswer::Memory);
+    };
     let mut places = Vec::new(alloc);
-    'parts: for part in text.split(',') {
+    'parts: for part in parts.as_slice() {
         let Some(entry) = entry(part) else {
             return Err(PlanAnswer::Usage);
         };
@@ -88,12 +91,10 @@ fn places_of(places: &[PlacesOf<'_>], name: &str) -> u32
     ensures value { result ≡ places_of (map entry_of places.now) name.now }
     ensures within { result ≤ MOST_PLACES }
 {
-    'entries: for entry in places {
-        if is_for(entry, name) {
-            return entry.places;
-        }
+    match places.iter().find(|entry| is_for(entry, name)) {
+        Some(entry) => entry.places,
+        None => 0,
     }
-    0
 }
 
 /// Whether an entry is for a column.
@@ -269,9 +270,22 @@ pub(crate) fn filter(
     if at == 0 {
         return Err(PlanAnswer::Usage);
     }
-    let name = &text[..at];
+    column_filter(alloc, places, &text[..at], &bytes[at..])
+}
+
+/// A filter over the column of a name, by a text that begins with a relation.
+fn column_filter(
+    alloc: Global,
+    places: &[PlacesOf<'_>],
+    name: &str,
+    text: &[u8],
+) -> Result<PlanFilter, PlanAnswer>
+    requires { All (λ entry. entry.places ≤ MOST_PLACES) places.now }
+    ensures filter { IfOk result (λ f. filter_over (map entry_of places.now) name.now text.now ≡ Some f) }
+    ensures none { result ≡ Err answer.Usage → filter_over (map entry_of places.now) name.now text.now ≡ None }
+{
     let places = places_of(places, name);
-    let Some((op, value)) = comparison(&bytes[at..], places) else {
+    let Some((op, value)) = comparison(text, places) else {
         return Err(PlanAnswer::Usage);
     };
     match String::from_str(alloc, name) {

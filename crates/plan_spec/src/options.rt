@@ -3,8 +3,8 @@
 //! `clap` states what its parse gives as a function of the command and the words, so which words are a command line,
 //! and what each option was given, is said only in terms of that function.
 
-ghost use Rattle.std.specs.Prelude.{◌≡◌, IfOk, IsErr, None, OnOk, codes, map, option_map, false, true, string_bytes};
-ghost use Rattle.clap.specs.Words.{app_of, found_of, matches_of, rows_of, with_rule};
+ghost use Rattle.std.specs.Prelude.{◌≡◌, IfOk, None, OnOk, codes, map, option_map, false, true, string_bytes};
+ghost use Rattle.clap.specs.Words.{app_of, found_of, is_simple_and_free, matches_of, rows_of, with_rule};
 ghost use Rattle.plan_spec.specs.Options.{is_command_line, option_of, pargather_command, parstream_command, value_of};
 ghost use Rattle.plan_spec.specs.declared.plan.PlanAnswer.TheVariants as answer;
 
@@ -41,7 +41,10 @@ pub(crate) fn option_values<'a>(
     ensures area_pages { IfOk result (λ g. option_map (λ s. s.now) g.area_pages ≡ value_of pargather_command (codes "area-pages") (map string_bytes words.entry.now)) }
     ensures refuses { result ≡ Err answer.Usage → is_command_line pargather_command (map string_bytes words.entry.now) ≡ false }
 {
-    let matches = matches_in(pargather(alloc), words)?;
+    let Ok(command) = pargather(alloc) else {
+        return Err(PlanAnswer::Memory);
+    };
+    let matches = matches_in(command, words)?;
     Ok(OptionValues {
         group: matches.get_str("group"),
         agg: matches.get_str("agg"),
@@ -67,7 +70,10 @@ pub(crate) fn stream_values<'a>(
     ensures plan { IfOk result (λ g. (g.plan ≡ None) × (g.area_pages ≡ None)) }
     ensures refuses { result ≡ Err answer.Usage → is_command_line parstream_command (map string_bytes words.entry.now) ≡ false }
 {
-    let matches = matches_in(parstream(alloc), words)?;
+    let Ok(command) = parstream(alloc) else {
+        return Err(PlanAnswer::Memory);
+    };
+    let matches = matches_in(command, words)?;
     Ok(OptionValues {
         group: matches.get_str("group"),
         agg: matches.get_str("agg"),
@@ -79,19 +85,13 @@ pub(crate) fn stream_values<'a>(
     })
 }
 
-/// The parse of the words by a command, if there was memory for it.
-fn matches_in<'a>(
-    command: Result<Command<'a>, AllocError>,
-    words: &'a [String],
-) -> Result<ArgMatches<'a>, PlanAnswer>
-    ensures takes { OnOk result (IfOk command (λ c. is_command_line (app_of c) (map string_bytes words.entry.now) ≡ true)) }
-    ensures rows { IfOk result (λ m. IfOk command (λ c. rows_of (found_of m) ≡ matches_of (app_of c) (map string_bytes words.entry.now))) }
-    ensures refuses { result ≡ Err answer.Usage → IfOk command (λ c. is_command_line (app_of c) (map string_bytes words.entry.now) ≡ false) }
-    ensures memory { IsErr command → result ≡ Err answer.Memory }
+/// The parse of the words by a command of which `clap` states the matches and the faults in full.
+fn matches_in<'a>(command: Command<'a>, words: &'a [String]) -> Result<ArgMatches<'a>, PlanAnswer>
+    requires { is_simple_and_free (app_of command) ≡ true }
+    ensures takes { OnOk result (is_command_line (app_of command.entry) (map string_bytes words.entry.now) ≡ true) }
+    ensures rows { IfOk result (λ m. rows_of (found_of m) ≡ matches_of (app_of command.entry) (map string_bytes words.entry.now)) }
+    ensures refuses { result ≡ Err answer.Usage → is_command_line (app_of command.entry) (map string_bytes words.entry.now) ≡ false }
 {
-    let Ok(command) = command else {
-        return Err(PlanAnswer::Memory);
-    };
     match command.try_get_matches_from(words) {
         Ok(matches) => Ok(matches),
         Err(error) if error.kind() == ErrorKind::OutOfMemory => Err(PlanAnswer::Memory),

@@ -1,5 +1,6 @@
-use Rattle.std.proofs.Common.{◌≡◌, ◌<◌, ◌+◌, ◌∙◌, length, take, drop, arith, length-append, length-set}
+use Rattle.std.proofs.Common.{◌≡◌, ◌<◌, ◌≤◌, ◌+◌, ◌∙◌, length, take, drop, arith, length-append, length-set}
 use Rattle.par_model.specs.declared.plan.ItemKind.TheVariants as kind
+use Rattle.par_model.specs.declared.plan.TheConstants.{MOST_PLACES}
 use Rattle.std.proofs.lemmas.List.Elements.{All-set}
 use Rattle.std.specs.Prelude.{IsTrue, filter_map, is_none, option_to_list}
 use Rattle.csv_rows.specs.Records.{record_at}
@@ -37,8 +38,9 @@ items-preserved c =
     record {
       items = more.0;
       size = length-set c.items.bound c.items.at c.in-Some.one ∙ inv.size;
-      no_column = All-set (λ item. item.kind ≡ kind.Rows → item.column ≡ 0) c.items.bound c.items.at c.in-Some.one one.no_column inv.no_column;
+      no_column = All-set (λ item. item.kind ≡ kind.Rows → (item.column ≡ 0) × (item.places ≡ 0)) c.items.bound c.items.at c.in-Some.one one.no_column inv.no_column;
       below = All-set (λ item. IsTrue (reads_column item.kind) → item.column < length header) c.items.bound c.items.at c.in-Some.one one.below inv.below;
+      places = All-set (λ item. item.places ≤ MOST_PLACES) c.items.bound c.items.at c.in-Some.one one.places inv.places;
       few = omega (arith, inv.few, one.within);
       rest = more.1;
       named = rw named (omega (arith, size, inv.named, one.count));

@@ -3,6 +3,7 @@ use Rattle.std.proofs.lemmas.List.{length-map}
 use Rattle.std.proofs.lemmas.List.Splits.{length-slice_split}
 use Rattle.std.specs.Prelude.{◌==◌, Err}
 use Rattle.std.specs.Result.{is_ok}
+use Rattle.plan_spec.specs.Given.{entry_of}
 use Rattle.plan_spec.specs.Grammar.{all_some, item_in}
 use Rattle.plan_spec.specs.declared.plan.PlanAnswer.TheVariants as answer
 use Rattle.plan_spec.proofs.Present.{if-none, more-read, none-read}
@@ -12,8 +13,8 @@ pub returns-in-Err-clause-none : goal.returns-in-Err-clause-none
 returns-in-Err-clause-none c = λ h.
     let same : c.in-Err.answer ≡ answer.Usage = cc h in
     let parts = c.as_slice-part-items.result.now in
-    let none = none-read (λ s. s.now) item_in parts c.parts.part-index (record { ref_ptr = (0, 0); now = [] }) c.parts-test.true (c.in-Err.ensures.none (ap Err same)) in
-    rw (← c.in-Ok.ensures, ← c.as_slice-part-items.ensures.value) (if-none (nat_le (length (map (λ s. s.now) parts)) 8) (all_some (map item_in (map (λ s. s.now) parts))) none)
+    let none = none-read (λ s. s.now) (item_in (map entry_of c.args.places.now)) parts c.parts.part-index (record { ref_ptr = (0, 0); now = [] }) c.parts-test.true (c.in-Err.ensures.none (ap Err same)) in
+    rw (← c.in-Ok.ensures, ← c.as_slice-part-items.ensures.value) (if-none (nat_le (length (map (λ s. s.now) parts)) 8) (all_some (map (item_in (map entry_of c.args.places.now)) (map (λ s. s.now) parts))) none)
 
 pub parts-preserved : goal.parts-preserved
 parts-preserved c =
@@ -22,7 +23,7 @@ parts-preserved c =
     let items = rw good at c.push.ensures.items in
     let len = rw good at c.push.ensures.len in
     record {
-      read = rw items (more-read (λ s. s.now) item_in c.as_slice-part-items.result.now c.parts.part-index (record { ref_ptr = (0, 0); now = [] }) c.parts.items.items c.in-Ok-item.item c.parts-test.true inv.read c.in-Ok-item.ensures.item);
+      read = rw items (more-read (λ s. s.now) (item_in (map entry_of c.args.places.now)) c.as_slice-part-items.result.now c.parts.part-index (record { ref_ptr = (0, 0); now = [] }) c.parts.items.items c.in-Ok-item.item c.parts-test.true inv.read c.in-Ok-item.ensures.item);
       count = rw (len, inv.count) refl;
     }
 

@@ -16,6 +16,6 @@ returns-then-not-is_ascii_digit c =
 pub digits-preserved : goal.digits-preserved
 digits-preserved c =
     let inv = c.digits.invariant in
-    let more = one-more c.as_bytes-digits.result.now c.digits.digit-index c.digits.value c.from.result c.digits-test.true
+    let more = one-more 0 c.as_bytes-digits.result.now c.digits.digit-index c.digits.value c.from.result c.digits-test.true
     (sym c.is_ascii_digit.ensures.value ∙ c.if-not-is_ascii_digit.false) c.from.ensures inv.digits inv.value in
     record { digits = more.0; value = more.1 }
