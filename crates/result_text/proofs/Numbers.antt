@@ -1,5 +1,6 @@
 -- The text of a number in the pieces that are written.
-use Rattle.std.proofs.Common.{◌≡◌, ◌<◌, ◌≤◌, ◌/◌, ◌^◌, ◌++◌, [], append_assoc, append-nil, arith, Bool, decimal, ℕ, suc, ℤ, pos, negsuc, List, length, refl, unsigned_abs}
+use Rattle.std.proofs.Common.{◌≡◌, ◌<◌, ◌≤◌, ◌/◌, ◌^◌, ◌++◌, ◌∷◌, [], append_assoc, append-nil, arith, Bool, decimal, false, nat_lt, ℕ, suc, ℤ, pos, negsuc, List, length, unsigned_abs}
+use Rattle.std.proofs.lemmas.Bool.Decides.{nat_tests}
 use Rattle.std.proofs.lemmas.Fmt.{decimal_is_IsNumeral_wide}
 use Rattle.std.specs.Fmt.{sign_text, signed_decimal}
 use Rattle.std.specs.Int.{is_negative}
@@ -16,8 +17,13 @@ number_pieces n places unit minus text signed digits whole tail minus_is unit_is
 -- a number without places
 pub bare_text : (n : ℤ) → number_text 0 n ≡ signed_decimal n
 unfolding number_text
-bare_text (pos size) = append-nil (decimal size)
-bare_text (negsuc size) = append-nil _
+bare_text (pos size) =
+    let plus : nat_lt size 0 ≡ false = grind (arith, nat_tests) in
+    let whole : size / 10 ^ 0 ≡ size = omega arith in
+    rw (whole, plus) (append-nil (decimal size))
+bare_text (negsuc size) =
+    let whole : suc size / 10 ^ 0 ≡ suc size = omega arith in
+    rw whole (append-nil (45 ∷ decimal (suc size)))
 
 -- a number has some digit
 pub some_digit : (n : ℕ) → n < 10 ^ 64 → 1 ≤ length (decimal n)
