@@ -4,6 +4,8 @@ use Rattle.std.proofs.lemmas.Bool.{cases_Bool, cases_lt}
 use Rattle.std.proofs.lemmas.Bool.Decides.{nat_tests}
 use Rattle.std.specs.List.{position_from, range_with_len}
 use Rattle.std.specs.Prelude.{◌⊎◌, slice_index}
+use Rattle.par_model.specs.declared.plan.TheConstants.{MOST_PLACES}
+use Rattle.plan_descriptor.proofs.Columns.{column_fits, column_none, placed_fits, placed_none, placed_old}
 use Rattle.plan_descriptor.proofs.Sections.{allowed_filter, allowed_group, allowed_head, allowed_item}
 use Rattle.plan_descriptor.specs.Descriptor.{bad_word, is_allowed, is_column, is_filter, is_head, is_item}
 
@@ -43,7 +45,8 @@ pub record Allowed (words : List ℕ) : Type 0 where
   pub groups_end : (i : ℕ) → i < 8 → slice_index words 1 ≤ i → slice_index words (4 + i) ≡ 0
   pub kinds : (i : ℕ) → i < 8 → slice_index words (12 + 2 * i) ≤ 5
   pub kinds_end : (i : ℕ) → i < 8 → slice_index words 2 ≤ i → slice_index words (12 + 2 * i) ≡ 0
-  pub columns : (i : ℕ) → i < 8 → slice_index words (13 + 2 * i) < 2 ^ 32
+  pub columns : (i : ℕ) → i < 8 → slice_index words (13 + 2 * i) < 2 ^ 32 * (MOST_PLACES + 1)
+  pub old_columns : slice_index words 0 ≡ 1 → (i : ℕ) → i < 8 → slice_index words (13 + 2 * i) < 2 ^ 32
   pub no_column : (i : ℕ) → i < 8 → slice_index words (12 + 2 * i) ≡ 0 → slice_index words (13 + 2 * i) ≡ 0
 
 few_groups : (w : ℕ) → is_head 1 w ≡ true → w ≤ 8
@@ -57,14 +60,6 @@ one_or_none w e = grind (arith, nat_tests)
 
 is_version : (w : ℕ) → is_head 0 w ≡ true → (w ≡ 1) ⊎ (w ≡ 2)
 is_version w e = grind (arith, nat_tests)
-
-column_fits : (b : Bool) (w : ℕ) → is_column b w ≡ true → w < 2 ^ 32
-column_fits true w e = grind (arith, nat_tests)
-column_fits false w e = grind (arith, nat_tests)
-
-column_none : (b : Bool) (w : ℕ) → b ≡ false → is_column b w ≡ true → w ≡ 0
-column_none true w b e = cc
-column_none false w b e = grind (arith, nat_tests)
 
 kind_fits : (b : Bool) (w : ℕ) → (if b then nat_le w 5 else nat_eq w 0) ≡ true → w ≤ 5
 kind_fits true w e = grind (arith, nat_tests)
@@ -106,15 +101,16 @@ allowed words long none =
       groups_end = λ i h past. column_none (nat_lt i (slice_index words 1)) (slice_index words (4 + i)) (not_below i (slice_index words 1) past) (group i h);
       kinds = λ i h. kind_fits (nat_lt i (slice_index words 2)) (slice_index words (12 + 2 * i)) (kind i h);
       kinds_end = λ i h past. kind_none (nat_lt i (slice_index words 2)) (slice_index words (12 + 2 * i)) (not_below i (slice_index words 2) past) (kind i h);
-      columns = λ i h. column_fits (nat_lt i (slice_index words 2) && not (nat_eq (slice_index words (12 + 2 * i)) 0)) (slice_index words (13 + 2 * i)) (column i h);
-      no_column = λ i h rows. column_none (nat_lt i (slice_index words 2) && not (nat_eq (slice_index words (12 + 2 * i)) 0)) (slice_index words (13 + 2 * i))
+      columns = λ i h. placed_fits words (nat_lt i (slice_index words 2) && not (nat_eq (slice_index words (12 + 2 * i)) 0)) (slice_index words (13 + 2 * i)) (column i h);
+      old_columns = λ one i h. placed_old words (nat_lt i (slice_index words 2) && not (nat_eq (slice_index words (12 + 2 * i)) 0)) (slice_index words (13 + 2 * i)) one (column i h);
+      no_column = λ i h rows. placed_none words (nat_lt i (slice_index words 2) && not (nat_eq (slice_index words (12 + 2 * i)) 0)) (slice_index words (13 + 2 * i))
           (both-false (nat_lt i (slice_index words 2)) (not (nat_eq (slice_index words (12 + 2 * i)) 0)) (at_zero (slice_index words (12 + 2 * i)) rows)) (column i h);
     }
 
 -- the words of the filter
 pub record AllowedFilter (words : List ℕ) : Type 0 where
   pub relation : slice_index words 28 ≤ 6
-  pub column : slice_index words 29 < 2 ^ 32
+  pub column : slice_index words 29 < 2 ^ 32 * (MOST_PLACES + 1)
   pub no_column : slice_index words 28 ≡ 0 → slice_index words 29 ≡ 0
   pub no_value : slice_index words 28 ≡ 0 → slice_index words 30 ≡ 0
   pub last : slice_index words 31 ≡ 0
@@ -139,8 +135,8 @@ allowed_with_filter words long none =
     let last = word 3 (omega arith) in
     record {
       relation = few_relations (slice_index words 28) relation;
-      column = column_fits (not (nat_eq (slice_index words 28) 0)) (slice_index words 29) column;
-      no_column = λ none. column_none (not (nat_eq (slice_index words 28) 0)) (slice_index words 29) (at_zero (slice_index words 28) none) column;
+      column = placed_fits words (not (nat_eq (slice_index words 28) 0)) (slice_index words 29) column;
+      no_column = λ none. placed_none words (not (nat_eq (slice_index words 28) 0)) (slice_index words 29) (at_zero (slice_index words 28) none) column;
       no_value = λ none. value_none (not (nat_eq (slice_index words 28) 0)) (slice_index words 30) (at_zero (slice_index words 28) none) value;
       last = is_zero (slice_index words 31) last;
     }

@@ -1,5 +1,5 @@
 -- The words of a filter, and the lengths of a descriptor.
-use Rattle.std.proofs.Common.{◌≡◌, ◌==◌, ◌≤◌, ◌<◌, ◌+◌, ◌^◌, ◌∙◌, ℕ, ℤ, true, FitsSigned, List, Option, Some, None, ap, if◌then◌else◌, length, arith, nat_le, nat_lt, not, of_z, refl, subst, sym, to_z, w64}
+use Rattle.std.proofs.Common.{◌≡◌, ◌==◌, ◌≤◌, ◌<◌, ◌+◌, ◌^◌, ◌∙◌, ℕ, ℤ, true, FitsSigned, List, Option, Some, None, ap, if◌then◌else◌, length, arith, nat_le, not, of_z, refl, subst, sym, to_z, w64}
 use Rattle.std.proofs.lemmas.Bool.Decides.{nat_tests}
 use Rattle.std.proofs.lemmas.Int.{of_z-to_z, to_z-of_z}
 use Rattle.std.specs.Option.{ForSome}
@@ -7,9 +7,11 @@ use Rattle.std.specs.Prelude.{slice_index}
 use Rattle.par_model.specs.declared.plan.Filter.{Filter}
 use Rattle.par_model.specs.declared.plan.FilterOp.{FilterOp}
 use Rattle.par_model.specs.declared.plan.FilterOp.TheVariants as op
+use Rattle.par_model.specs.declared.plan.TheConstants.{MOST_PLACES}
 use Rattle.plan_descriptor.proofs.Allowed.{AllowedFilter}
+use Rattle.plan_descriptor.proofs.Columns.{placed_column, placed_nothing, same_parts}
 use Rattle.plan_descriptor.proofs.Sections.{by_four}
-use Rattle.plan_descriptor.specs.Descriptor.{filter_word, is_filter, relation_word, size_of}
+use Rattle.plan_descriptor.specs.Descriptor.{column_word, filter_word, is_filter, relation_word, size_of}
 
 -- a descriptor that is longer than one of version 1
 pub whole : (words : List ℕ) → length words ≡ size_of (slice_index words 0) → 28 < length words → length words ≡ 32
@@ -20,23 +22,23 @@ pub no_filter : (words : List ℕ) → AllowedFilter words → slice_index words
 no_filter words is none = by_four (λ k. 0 ≡ slice_index words (28 + k)) (sym none) (sym (is.no_column none)) (sym (is.no_value none)) (sym is.last)
 
 -- the words of a filter, whose value was read as a signed number and is written again
-pub some_filter : (words : List ℕ) (relation : ℕ) (value : ℤ) → AllowedFilter words → relation ≡ slice_index words 28 → value ≡ to_z w64 (slice_index words 30) → FitsSigned w64 value
+pub some_filter : (words : List ℕ) (relation column places : ℕ) (value : ℤ) → AllowedFilter words → relation ≡ slice_index words 28 → column_word column places ≡ slice_index words 29 → value ≡ to_z w64 (slice_index words 30) → FitsSigned w64 value
     → slice_index words 30 < 2 ^ 64 → (k : ℕ) → k < 4
-    → (if k == 0 then relation else (if k == 1 then slice_index words 29 else (if k == 2 then of_z w64 (to_z w64 (of_z w64 value)) else 0))) ≡ slice_index words (28 + k)
-some_filter words relation value is same read fits small =
-    by_four (λ k. (if k == 0 then relation else (if k == 1 then slice_index words 29 else (if k == 2 then of_z w64 (to_z w64 (of_z w64 value)) else 0))) ≡ slice_index words (28 + k))
-    same refl
+    → (if k == 0 then relation else (if k == 1 then column_word column places else (if k == 2 then of_z w64 (to_z w64 (of_z w64 value)) else 0))) ≡ slice_index words (28 + k)
+some_filter words relation column places value is same column_is read fits small =
+    by_four (λ k. (if k == 0 then relation else (if k == 1 then column_word column places else (if k == 2 then of_z w64 (to_z w64 (of_z w64 value)) else 0))) ≡ slice_index words (28 + k))
+    same column_is
     (ap (of_z w64) (to_z-of_z w64 value fits ∙ read) ∙ of_z-to_z w64 (slice_index words 30) small)
     (sym is.last)
 
 pub long : (words : List ℕ) → length words ≡ size_of (slice_index words 0) → 28 ≤ length words
 long words size = grind (arith, nat_tests)
 
--- a filter whose column and value fit
-pub some_fits : (f : Filter) → f.column < 2 ^ 32 → FitsSigned w64 f.value → ForSome (Some f) (λ filter. (filter.column < 2 ^ 32) × FitsSigned w64 filter.value)
-some_fits f column value filter is =
+-- a filter whose column, places and value fit
+pub some_fits : (f : Filter) → f.column < 2 ^ 32 → f.places ≤ MOST_PLACES → FitsSigned w64 f.value → ForSome (Some f) (λ filter. (filter.column < 2 ^ 32) × (filter.places ≤ MOST_PLACES) × FitsSigned w64 filter.value)
+some_fits f column places value filter is =
     let same : f ≡ filter = cc in
-    (subst (λ (g : Filter). g.column < 2 ^ 32) same column, subst (λ (g : Filter). FitsSigned w64 g.value) same value)
+    (subst (λ (g : Filter). g.column < 2 ^ 32) same column, subst (λ (g : Filter). g.places ≤ MOST_PLACES) same places, subst (λ (g : Filter). FitsSigned w64 g.value) same value)
 
 -- the relation of a word
 relation_of : ℕ → FilterOp
@@ -67,13 +69,9 @@ same_filter None (Some g) fits fits' same = absurd (omega (arith, same 0 (omega 
 same_filter (Some f) None fits fits' same = absurd (omega (arith, same 0 (omega arith), a_relation f.op))
 same_filter (Some f) (Some g) fits fits' same =
     let ops : f.op ≡ g.op = sym (relation_of-word f.op) ∙ ap relation_of (same 0 (omega arith)) ∙ relation_of-word g.op in
-    let columns : f.column ≡ g.column = same 1 (omega arith) in
+    let columns = same_parts f.column g.column f.places g.places (fits f refl).0 (fits' g refl).0 (same 1 (omega arith)) in
     let values : f.value ≡ g.value = sym (to_z-of_z w64 f.value (fits f refl).1) ∙ ap (to_z w64) (same 2 (omega arith)) ∙ to_z-of_z w64 g.value (fits' g refl).1 in
-    λ i. Some (record { column = columns i; op = ops i; value = values i })
-
--- the words of a filter are allowed, where word 28 is its relation's
-below_true : (a b : ℕ) → a < b → nat_lt a b ≡ true
-below_true a b h = grind (arith, nat_tests)
+    λ i. Some (record { column = columns.0 i; op = ops i; value = values i; places = columns.1 i })
 
 le_true : (a b : ℕ) → a ≤ b → nat_le a b ≡ true
 le_true a b h = grind (arith, nat_tests)
@@ -81,10 +79,13 @@ le_true a b h = grind (arith, nat_tests)
 not_zero : (a : ℕ) → 0 < a → not (a == 0) ≡ true
 not_zero a h = grind (arith, nat_tests)
 
-pub filter_allowed : (words : List ℕ) (o : Option Filter) → ForSome o (λ filter. (filter.column < 2 ^ 32) × FitsSigned w64 filter.value) → slice_index words 28 ≡ filter_word o 0
+-- the words of a filter are allowed in version 2, where word 28 is its relation's
+pub filter_allowed : (words : List ℕ) (o : Option Filter) → ForSome o (λ filter. (filter.column < 2 ^ 32) × FitsSigned w64 filter.value) → ForSome o (λ filter. filter.places ≤ MOST_PLACES)
+    → (slice_index words 0 ≡ 1 → ⊥) → slice_index words 28 ≡ filter_word o 0
     → (k : ℕ) → k < 4 → is_filter words k (filter_word o k) ≡ true
-filter_allowed words None fits relation = by_four (λ k. is_filter words k (filter_word None k) ≡ true) refl (rw relation refl) (rw relation refl) refl
-filter_allowed words (Some f) fits relation =
+filter_allowed words None fits few new relation = by_four (λ k. is_filter words k (filter_word None k) ≡ true) refl (rw relation (placed_nothing words)) (rw relation refl) refl
+filter_allowed words (Some f) fits few new relation =
     let some = a_relation f.op in
     let stands : not (slice_index words 28 == 0) ≡ true = rw relation (not_zero (relation_word f.op) some.0) in
-    by_four (λ k. is_filter words k (filter_word (Some f) k) ≡ true) (le_true (relation_word f.op) 6 some.1) (rw stands (below_true f.column (2 ^ 32) (fits f refl).0)) (rw stands refl) refl
+    by_four (λ k. is_filter words k (filter_word (Some f) k) ≡ true) (le_true (relation_word f.op) 6 some.1)
+    (rw stands (placed_column words f.column f.places (fits f refl).0 (few f refl) (λ one. absurd (new one)))) (rw stands refl) refl

@@ -1,4 +1,5 @@
 pub mod Allowed
+pub mod Columns
 pub mod Filters
 pub mod Padded
 pub mod Places

@@ -10,11 +10,13 @@ use Rattle.par_model.specs.PlanLayout.{unused}
 use Rattle.par_model.specs.declared.plan.Item.{Item}
 use Rattle.par_model.specs.declared.plan.ItemKind.{ItemKind}
 use Rattle.par_model.specs.declared.plan.ItemKind.TheVariants as kind
+use Rattle.par_model.specs.declared.plan.TheConstants.{MOST_PLACES}
 use Rattle.plan_descriptor.proofs.Allowed.{none_bad}
+use Rattle.plan_descriptor.proofs.Columns.{placed_column, placed_nothing}
 use Rattle.plan_descriptor.proofs.Filters.{filter_allowed, same_filter}
 use Rattle.plan_descriptor.proofs.ReadPlans.{same_item}
 use Rattle.plan_descriptor.proofs.Sections.{allowed_filter, allowed_group, allowed_head, allowed_item, by_four, by_section, by_two, word_of_filter, word_of_group, word_of_head, word_of_item}
-use Rattle.plan_descriptor.specs.Descriptor.{IsDescriptor, IsWritable, bad_word, head_word, is_allowed, is_column, is_head, is_item, item_word, kind_word, plan_word, plan_words, size_of}
+use Rattle.plan_descriptor.specs.Descriptor.{IsDescriptor, IsWritable, bad_word, column_word, head_word, is_allowed, is_column, is_head, is_item, is_placed, item_word, kind_word, plan_word, plan_words, size_of}
 
 -- the words of a plan, place by place
 pub record IsWords (words : List ℕ) (version : ℕ) (plan : Plan) : Type 0 where
@@ -73,20 +75,30 @@ item_kind items i = elim (cases_lt i (length items)) [
   | inr h ↦ rw (past i (length items) h, get_or_past items i unused h) refl
 ]
 
-column_of_kind : (item : Item) (k : ItemKind) → item.kind ≡ k → item.column < 2 ^ 32 → (item.kind ≡ kind.Rows → item.column ≡ 0) → is_column (not (kind_word k == 0)) item.column ≡ true
-column_of_kind item kind.Rows is fits none = rw (none is) refl
-column_of_kind item kind.Count is fits none = below item.column (2 ^ 32) fits
-column_of_kind item kind.Sum is fits none = below item.column (2 ^ 32) fits
-column_of_kind item kind.Min is fits none = below item.column (2 ^ 32) fits
-column_of_kind item kind.Max is fits none = below item.column (2 ^ 32) fits
-column_of_kind item kind.Avg is fits none = below item.column (2 ^ 32) fits
+column_of_kind : (words : List ℕ) (item : Item) (k : ItemKind) → item.kind ≡ k → is_placed words true (column_word item.column item.places) ≡ true
+    → (item.kind ≡ kind.Rows → (item.column ≡ 0) × (item.places ≡ 0)) → is_placed words (not (kind_word k == 0)) (column_word item.column item.places) ≡ true
+column_of_kind words item kind.Rows is placed none = rw ((none is).0, (none is).1) (placed_nothing words)
+column_of_kind words item kind.Count is placed none = placed
+column_of_kind words item kind.Sum is placed none = placed
+column_of_kind words item kind.Min is placed none = placed
+column_of_kind words item kind.Max is placed none = placed
+column_of_kind words item kind.Avg is placed none = placed
 
-item_column : (items : List Item) (i : ℕ) → All (λ item. item.column < 2 ^ 32) items → All (λ item. item.kind ≡ kind.Rows → item.column ≡ 0) items
-    → is_column (nat_lt i (length items) && not (kind_word (slice_index_or items i unused).kind == 0)) (slice_index_or items i unused).column ≡ true
-item_column items i fits none = elim (cases_lt i (length items)) [
-  | inl h ↦ rw (below i (length items) h) (column_of_kind (slice_index_or items i unused) (slice_index_or items i unused).kind refl (fits i unused h) (none i unused h))
-  | inr h ↦ rw (past i (length items) h, get_or_past items i unused h) refl
+item_column : (words : List ℕ) (items : List Item) (i : ℕ) → All (λ item. item.column < 2 ^ 32) items → All (λ item. item.places ≤ MOST_PLACES) items → (slice_index words 0 ≡ 1 → All (λ item. item.places ≡ 0) items)
+    → All (λ item. item.kind ≡ kind.Rows → (item.column ≡ 0) × (item.places ≡ 0)) items
+    → is_placed words (nat_lt i (length items) && not (kind_word (slice_index_or items i unused).kind == 0)) (column_word (slice_index_or items i unused).column (slice_index_or items i unused).places) ≡ true
+item_column words items i fits few old none = elim (cases_lt i (length items)) [
+  | inl h ↦
+      let item = slice_index_or items i unused in
+      rw (below i (length items) h) (column_of_kind words item item.kind refl (placed_column words item.column item.places (fits i unused h) (few i unused h) (λ one. old one i unused h)) (none i unused h))
+  | inr h ↦ rw (past i (length items) h, get_or_past items i unused h) (placed_nothing words)
 ]
+
+-- only version 2 has a filter
+newer : (version k : ℕ) → 28 + k < size_of version → version ≡ 1 → ⊥
+newer version k within one =
+    let short = rw one at within in
+    omega (arith, short)
 
 module _ (words : List ℕ) (version : ℕ) (plan : Plan) (is : IsWords words version plan) (can : IsWritable plan) (long : 28 ≤ size_of version) where
   group_is : (i : ℕ) → i < 8 → slice_index words (4 + i) ≡ slice_index plan.groups i
@@ -104,22 +116,25 @@ module _ (words : List ℕ) (version : ℕ) (plan : Plan) (is : IsWords words ve
   items_are : slice_index words 2 ≡ length plan.items
   items_are = is.each 2 (omega arith)
 
-  item_allowed : (i : ℕ) → i < 8 → (k : ℕ) → k < 2 → is_item words i k (item_word (slice_index_or plan.items i unused) k) ≡ true
-  item_allowed i h = by_two (λ k. is_item words i k (item_word (slice_index_or plan.items i unused) k) ≡ true)
-      (rw items_are (item_kind plan.items i)) (rw (items_are, kind_is i h) (item_column plan.items i can.item_columns can.room.no_column))
+  version_is : slice_index words 0 ≡ version
+  version_is = is.each 0 (omega arith)
 
-  written_allowed : is_head 0 version ≡ true → (k : ℕ) → k < 32 → k < size_of version → is_allowed words k ≡ true
-  written_allowed head = by_section (λ k. k < size_of version → is_allowed words k ≡ true)
+  item_allowed : (version ≡ 1 → All (λ item. item.places ≡ 0) plan.items) → (i : ℕ) → i < 8 → (k : ℕ) → k < 2 → is_item words i k (item_word (slice_index_or plan.items i unused) k) ≡ true
+  item_allowed old i h = by_two (λ k. is_item words i k (item_word (slice_index_or plan.items i unused) k) ≡ true)
+      (rw items_are (item_kind plan.items i)) (rw (items_are, kind_is i h) (item_column words plan.items i can.item_columns can.room.item_places (λ one. old (sym version_is ∙ one)) can.room.no_column))
+
+  written_allowed : (version ≡ 1 → All (λ item. item.places ≡ 0) plan.items) → is_head 0 version ≡ true → (k : ℕ) → k < 32 → k < size_of version → is_allowed words k ≡ true
+  written_allowed old head = by_section (λ k. k < size_of version → is_allowed words k ≡ true)
       (λ k h within. rw (allowed_head words k h, is.each k within, word_of_head version plan k h)
       (by_four (λ k. is_head k (head_word version plan k) ≡ true) head (at_most (length plan.groups) 8 can.room.groups) (some_items (length plan.items) can.room.some_item can.room.items) (one_bit plan.hash) k h))
       (λ i h within. rw (allowed_group words i h, groups_are, group_is i h) (group_column plan.groups i can.group_columns))
-      (λ i k h low within. rw (allowed_item words i k h low, item_is i k h low) (item_allowed i h k low))
+      (λ i k h low within. rw (allowed_item words i k h low, item_is i k h low) (item_allowed old i h k low))
       (λ k h within.
       let relation = is.each 28 (omega arith) ∙ word_of_filter version plan 0 in
-      rw (allowed_filter words k, is.each (28 + k) within, word_of_filter version plan k) (filter_allowed words plan.filter can.filter relation k h))
+      rw (allowed_filter words k, is.each (28 + k) within, word_of_filter version plan k) (filter_allowed words plan.filter can.filter can.room.filter_places (λ one. newer version k within (sym version_is ∙ one)) relation k h))
 
-  pub none_bad_written : is_head 0 version ≡ true → size_of version ≤ 32 → bad_word words ≡ None
-  none_bad_written head few = none_bad words (λ k h. written_allowed head k (omega (arith, is.size)) (omega (arith, is.size)))
+  pub none_bad_written : (version ≡ 1 → All (λ item. item.places ≡ 0) plan.items) → is_head 0 version ≡ true → size_of version ≤ 32 → bad_word words ≡ None
+  none_bad_written old head few = none_bad words (λ k h. written_allowed old head k (omega (arith, is.size)) (omega (arith, is.size)))
 
 -- two plans with the same words
 module _ (words : List ℕ) (version : ℕ) (a b : Plan) (is : IsWords words version a) (is' : IsWords words version b) (can : IsWritable a) (can' : IsWritable b) (long : 28 ≤ size_of version) where
@@ -136,6 +151,7 @@ module _ (words : List ℕ) (version : ℕ) (a b : Plan) (is : IsWords words ver
       ext_get_or unused a.items b.items size (λ i h.
       let within : i < 8 = omega (arith, can.room.items) in
       same_item (slice_index_or a.items i unused) (slice_index_or b.items i unused) (sym (kind_is words version a is can long i within) ∙ kind_is words version b is' can' long i within)
+      (can.item_columns i unused h) (can'.item_columns i unused (omega (arith, size, h)))
       (sym (item_is words version a is can long i 1 within (omega arith)) ∙ item_is words version b is' can' long i 1 within (omega arith)))
 
   same_hash : a.hash ≡ b.hash
@@ -146,8 +162,8 @@ module _ (words : List ℕ) (version : ℕ) (a b : Plan) (is : IsWords words ver
 
 -- a descriptor's words are allowed
 pub descriptor_allowed : (words : List ℕ) (plan : Plan) → IsWritable plan → IsDescriptor words plan → bad_word words ≡ None
-descriptor_allowed words plan can (inl is) = none_bad_written words 2 plan (words_of words 2 plan is) can (omega arith) refl (omega arith)
-descriptor_allowed words plan can (inr is) = none_bad_written words 1 plan (words_of words 1 plan is.0) can (omega arith) refl (omega arith)
+descriptor_allowed words plan can (inl is) = none_bad_written words 2 plan (words_of words 2 plan is) can (omega arith) (λ one. absurd (omega (arith, one))) refl (omega arith)
+descriptor_allowed words plan can (inr is) = none_bad_written words 1 plan (words_of words 1 plan is.0) can (omega arith) (λ one. is.2) refl (omega arith)
 
 -- and are those of one plan
 pub one_plan : (words : List ℕ) (a b : Plan) → IsWritable a → IsWritable b → IsDescriptor words a → IsDescriptor words b → a ≡ b

@@ -4,7 +4,7 @@ use Rattle.std.proofs.lemmas.List.{ext_get_or, get_or-drop, get_or-replicate, ge
 use Rattle.std.proofs.lemmas.List.Elements.{All-take}
 use Rattle.std.proofs.lemmas.List.FromFn.{fill_by_all}
 use Rattle.std.specs.Option.{ForSome}
-use Rattle.std.specs.Prelude.{slice_index, slice_index_or}
+use Rattle.std.specs.Prelude.{All, slice_index, slice_index_or}
 use Rattle.par_model.specs.Plan.{Plan}
 use Rattle.par_model.specs.PlanLayout.{IsPadded, plan_of, unused}
 use Rattle.par_model.specs.declared.plan.BoundPlan.TheInside.{Inside}
@@ -12,10 +12,12 @@ use Rattle.par_model.specs.declared.plan.Filter.{Filter}
 use Rattle.par_model.specs.declared.plan.Item.{Item}
 use Rattle.par_model.specs.declared.plan.ItemKind.{ItemKind}
 use Rattle.par_model.specs.declared.plan.ItemKind.TheVariants as kind
+use Rattle.par_model.specs.declared.plan.TheConstants.{MOST_PLACES}
 use Rattle.plan_descriptor.proofs.Allowed.{Allowed}
+use Rattle.plan_descriptor.proofs.Columns.{no_places, same_parts, zero_parts}
 use Rattle.plan_descriptor.proofs.Padded.{padded}
 use Rattle.plan_descriptor.proofs.Sections.{by_four, by_section, by_two, word_of_filter, word_of_group, word_of_head, word_of_item}
-use Rattle.plan_descriptor.specs.Descriptor.{HasRoom, IsWritable, filter_word, head_word, item_word, kind_word, plan_word, plan_words, size_of}
+use Rattle.plan_descriptor.specs.Descriptor.{HasRoom, IsWritable, column_word, filter_word, head_word, item_word, kind_word, plan_word, plan_words, size_of}
 
 -- the kind of a word
 abbrev pub kind_of : ℕ → ItemKind
@@ -30,10 +32,11 @@ kind_of-word kind.Max = refl
 kind_of-word kind.Avg = refl
 
 -- an aggregate whose two words are known
-pub same_item : (a b : Item) → kind_word a.kind ≡ kind_word b.kind → a.column ≡ b.column → a ≡ b
-same_item a b kinds columns =
+pub same_item : (a b : Item) → kind_word a.kind ≡ kind_word b.kind → a.column < 2 ^ 32 → b.column < 2 ^ 32 → column_word a.column a.places ≡ column_word b.column b.places → a ≡ b
+same_item a b kinds narrow narrow' columns =
     let same : a.kind ≡ b.kind = sym (kind_of-word a.kind) ∙ ap kind_of kinds ∙ kind_of-word b.kind in
-    λ i. record { kind = same i; column = columns i }
+    let parts = same_parts a.column b.column a.places b.places narrow narrow' columns in
+    λ i. record { kind = same i; column = parts.0 i; places = parts.1 i }
 
 one_or_none : (w : ℕ) → w ≤ 1 → (if nat_eq w 1 then 1 else 0) ≡ w
 one_or_none zero h = refl
@@ -51,7 +54,9 @@ ends xs n z size small each =
 module _ (words groups : List ℕ) (items : List Item) (hash : Bool) (filter : Option Filter) (is : Allowed words)
     (groups_size : length groups ≡ 8) (columns : (i : ℕ) → i < 8 → slice_index groups i ≡ slice_index words (4 + i))
     (items_size : length items ≡ 8) (kinds : (i : ℕ) → i < 8 → kind_word (slice_index_or items i unused).kind ≡ slice_index words (12 + 2 * i))
-    (item_columns : (i : ℕ) → i < 8 → (slice_index_or items i unused).column ≡ slice_index words (13 + 2 * i)) where
+    (item_columns : (i : ℕ) → i < 8 → column_word (slice_index_or items i unused).column (slice_index_or items i unused).places ≡ slice_index words (13 + 2 * i))
+    (narrow : (i : ℕ) → i < 8 → (slice_index_or items i unused).column < 2 ^ 32) (few : (i : ℕ) → i < 8 → (slice_index_or items i unused).places ≤ MOST_PLACES)
+    (fits : ForSome filter (λ f. (f.column < 2 ^ 32) × (f.places ≤ MOST_PLACES) × FitsSigned w64 f.value)) where
   abbrev pub read : Inside
   read = record { groups = groups; group_count = slice_index words 1; items = items; item_count = slice_index words 2; hash = hash; filter = filter }
 
@@ -62,12 +67,16 @@ module _ (words groups : List ℕ) (items : List Item) (hash : Bool) (filter : O
     items_fit = is.items;
     groups_end = ends groups (slice_index words 1) 0 groups_size is.groups (λ i h past. columns i h ∙ is.groups_end i h past);
     items_end = ends items (slice_index words 2) unused items_size is.items
-        (λ i h past. same_item (slice_index_or items i unused) unused (kinds i h ∙ is.kinds_end i h past) (item_columns i h ∙ is.no_column i h (is.kinds_end i h past)));
+        (λ i h past. same_item (slice_index_or items i unused) unused (kinds i h ∙ is.kinds_end i h past) (narrow i h) (omega arith) (item_columns i h ∙ is.no_column i h (is.kinds_end i h past)));
     no_column = λ i d h rows.
         let within : i < 8 = omega (arith, items_size) in
         let same = get_or_default items i d unused h in
         let none : kind_word (slice_index_or items i unused).kind ≡ 0 = ap kind_word (rw same at rows) in
-        rw same (item_columns i within ∙ is.no_column i within (sym (kinds i within) ∙ none));
+        rw same (zero_parts (slice_index_or items i unused).column (slice_index_or items i unused).places (item_columns i within ∙ is.no_column i within (sym (kinds i within) ∙ none)));
+    item_places = λ i d h.
+        let within : i < 8 = omega (arith, items_size) in
+        rw (get_or_default items i d unused h) (few i within);
+    filter_places = λ f is. (fits f is).1;
   }
 
   -- the plan of these arrays
@@ -91,20 +100,29 @@ module _ (words groups : List ℕ) (items : List Item) (hash : Bool) (filter : O
     groups = omega (arith, groups_length, is.groups);
     some_item = omega (arith, items_length, is.some_item);
     items = omega (arith, items_length, is.items);
-    no_column = All-take (λ (item : Item). item.kind ≡ kind.Rows → item.column ≡ 0) (slice_index words 2) items padded_plan.no_column;
+    no_column = All-take (λ (item : Item). item.kind ≡ kind.Rows → (item.column ≡ 0) × (item.places ≡ 0)) (slice_index words 2) items padded_plan.no_column;
+    item_places = All-take (λ (item : Item). item.places ≤ MOST_PLACES) (slice_index words 2) items padded_plan.item_places;
+    filter_places = padded_plan.filter_places;
   }
 
-  pub read_writable : ForSome filter (λ f. (f.column < 2 ^ 32) × FitsSigned w64 f.value) → IsWritable plan
-  read_writable fits = record {
+  pub read_writable : IsWritable plan
+  read_writable = record {
     room = read_room;
     group_columns = λ i d h.
         let within : i < 8 = omega (arith, groups_length, is.groups) in
         rw (get_or_default plan.groups i d 0 h) (rw (group_is i within) (is.group_columns i within));
     item_columns = λ i d h.
         let within : i < 8 = omega (arith, items_length, is.items) in
-        rw (get_or_default plan.items i d unused h) (rw (item_is i) (rw (item_columns i within) (is.columns i within)));
-    filter = fits;
+        rw (get_or_default plan.items i d unused h) (rw (item_is i) (narrow i within));
+    filter = λ f is. ((fits f is).0, (fits f is).2);
   }
+
+  -- version 1 has no places
+  pub read_old : slice_index words 0 ≡ 1 → All (λ item. item.places ≡ 0) plan.items
+  read_old one = λ i d h.
+      let within : i < 8 = omega (arith, items_length, is.items) in
+      rw (get_or_default plan.items i d unused h)
+      (rw (item_is i) (no_places (slice_index_or items i unused).column (slice_index_or items i unused).places (slice_index words (13 + 2 * i)) (item_columns i within) (is.old_columns one i within)))
 
   module _ (hash_is : hash ≡ nat_eq (slice_index words 3) 1) (version : ℕ) (is_version : slice_index words 0 ≡ version)
       (filter_is : (k : ℕ) → k < 4 → 28 + k < size_of version → filter_word filter k ≡ slice_index words (28 + k)) where

@@ -2,7 +2,7 @@
 //!
 //! It is written once, by the holder of a chunk, before the segment is frozen; from then on nobody changes its words,
 //! and everybody reads the same plan. What each word means is said in `specs/Descriptor`. Version 2 is written, and
-//! version 1, which has no filter, is still read.
+//! version 1, which has no filter and no places, is still read.
 
 #![tactic(auto)]
 

@@ -156,6 +156,7 @@ fn items(words: &[u64]) -> [Item; 8]
     ensures size { length result ≡ 8 }
     ensures kinds { (k : ℕ) → k < 8 → kind_word (slice_index_or result k unused).kind ≡ slice_index words.now (12 + 2 * k) }
     ensures columns { (k : ℕ) → k < 8 → column_word (slice_index_or result k unused).column (slice_index_or result k unused).places ≡ slice_index words.now (13 + 2 * k) }
+    ensures narrow { (k : ℕ) → k < 8 → (slice_index_or result k unused).column < 2 ^ 32 }
     ensures places { (k : ℕ) → k < 8 → (slice_index_or result k unused).places ≤ MOST_PLACES }
 {
     let mut items = [Item {
@@ -179,9 +180,10 @@ fn items(words: &[u64]) -> [Item; 8]
 fn column_of(word: u64) -> (u32, u32)
     requires { word < 2 ^ 32 * (MOST_PLACES + 1) }
     ensures word { column_word result.0 result.1 ≡ word }
+    ensures narrow { result.0 < 2 ^ 32 }
     ensures places { result.1 ≤ MOST_PLACES }
 {
-    (word as u32, (word >> 32) as u32)
+    ((word % (1 << 32)) as u32, (word >> 32) as u32)
 }
 
 fn kind_of(word: u64) -> ItemKind

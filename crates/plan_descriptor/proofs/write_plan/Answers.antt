@@ -1,6 +1,7 @@
-use Rattle.std.proofs.Common.{◌≡◌, ◌≢◌, ◌<◌, ◌+◌, ◌∙◌, Some, inl, inr, ◌^◌, ap, arith, subst, sym, unwrap_or}
+use Rattle.std.proofs.Common.{◌≡◌, ◌≢◌, ◌<◌, ◌+◌, ◌-◌, ◌*◌, ◌/◌, ◌∙◌, slice_index_or, Some, inl, inr, ◌^◌, ap, arith, subst, sym, unwrap_or}
 use Rattle.std.proofs.lemmas.Bool.{cases_lt, cases_order}
 use Rattle.std.specs.FinMap as fin
+use Rattle.par_model.specs.PlanLayout.{unused}
 use Rattle.plan_descriptor.proofs.Values.{values_from-is}
 use Rattle.plan_descriptor.proofs.Writable.{writable}
 use Rattle.plan_descriptor.specs.Descriptor.{plan_word, plan_words}
@@ -33,6 +34,12 @@ words-preserved c =
             let same : c.words.place ≡ k = omega arith in
             subst (λ n. plan_word 2 c.args.plan.now n < 2 ^ 32) same (rw (← c.plan_word-word.ensures.word) (c.plan_word-word.ensures.narrow (omega arith)))
       ];
+      columns = λ i low few. elim (cases_lt (12 + 2 * i) c.words.place) [
+        | inl before ↦ inv.columns i before few
+        | inr past ↦
+            let same : (c.words.place - 12) / 2 ≡ i = omega arith in
+            subst (λ n. (slice_index_or c.args.plan.now.items n unused).column < 2 ^ 32) same (c.plan_word-word.ensures.item (omega arith) (omega arith))
+      ];
       value = λ past. elim (cases_lt 28 c.words.place) [ inl before ↦ inv.value before | inr now ↦ c.plan_word-word.ensures.value (omega arith) ];
       place = place ∙ inv.place;
       bytes = c.store.ensures.place.1 ∙ inv.bytes;
@@ -51,4 +58,4 @@ returns-clause-words c =
 pub returns-clause-plan : goal.returns-clause-plan
 returns-clause-plan c =
     let inv = c.words.invariant in
-    writable c.args.plan.now c.has_room.ensures (λ k low. inv.narrow k (omega arith) low) (inv.value (omega arith))
+    writable c.args.plan.now c.has_room.ensures (λ k low. inv.narrow k (omega arith) low) (λ i low. inv.columns i (omega arith) low) (inv.value (omega arith))

@@ -1,5 +1,7 @@
-use Rattle.std.proofs.Common.{◌≡◌, ◌+◌, ◌-◌, ◌*◌, ◌/◌, ◌%◌, ◌∙◌, ap, arith, sym}
+use Rattle.std.proofs.Common.{◌≡◌, ◌<◌, ◌+◌, ◌-◌, ◌*◌, ◌/◌, ◌%◌, ◌^◌, ◌∙◌, FitsSigned, Option, ap, arith, subst, sym, w64}
 use Rattle.par_model.specs.PlanLayout.{unused}
+use Rattle.std.specs.Option.{ForSome}
+use Rattle.par_model.specs.declared.plan.Filter.{Filter}
 use Rattle.plan_descriptor.proofs.Padded.{padded}
 use Rattle.plan_descriptor.proofs.Sections.{word_of_group, word_of_item}
 use Rattle.plan_descriptor.specs.Descriptor.{item_word}
@@ -21,3 +23,12 @@ returns-then-place-lt28-clause-word c =
     let same : 12 + 2 * i + k ≡ c.args.place = omega arith in
     let front = padded inside.items c.args.plan.now.items inside.item_count (8 - inside.item_count) i unused (sym (ap (λ p. p.items) c.plan.view_is)) c.plan.invariant.items_end in
     c.item_word.ensures.word ∙ ap (λ item. item_word item k) (sym front) ∙ sym (rw same at (word_of_item 2 c.args.plan.now i k (omega arith) (omega arith)))
+
+pub returns-then-place-lt28-clause-item : goal.returns-then-place-lt28-clause-item
+returns-then-place-lt28-clause-item c = λ _ _.
+    let i = (c.args.place - 12) / 2 in
+    let inside = c.plan.inside in
+    rw (padded inside.items c.args.plan.now.items inside.item_count (8 - inside.item_count) i unused (sym (ap (λ p. p.items) c.plan.view_is)) c.plan.invariant.items_end) c.item_word.ensures.column
+
+pub returns-clause-value : goal.returns-clause-value
+returns-clause-value c = λ _. subst (λ (o : Option Filter). ForSome o (λ filter. (filter.column < 2 ^ 32) × FitsSigned w64 filter.value)) (ap (λ p. p.filter) c.plan.view_is) c.filter_word.ensures.value
