@@ -1,7 +1,8 @@
 -- The status and the line of a reason to have no table.
 use Rattle.std.proofs.Common.{◌≡◌, ◌≢◌, ◌⊎◌, Contains, arith, inl, inr, ℕ, List, refl, None, Some, Option, IfSome, ◌++◌, ◌∙◌, append_assoc, decimal, codes, ap, sym}
 use Rattle.std.proofs.lemmas.Bool.{eqb-false}
-use Rattle.std.specs.Prelude.{eqb, false}
+use Rattle.std.specs.Global.{Global}
+use Rattle.std.specs.Prelude.{String, eqb, false, string_bytes}
 use Rattle.par_model.specs.declared.refusal.Refusal.{Refusal}
 use Rattle.par_model.specs.Named.{NamedPlan}
 use Rattle.par_model.specs.Outcome.{Outcome, Usage, TooManyBytes, NoHeader, TooManyRows, NoColumn, Refused, Table}
@@ -9,10 +10,9 @@ use Rattle.table_query.specs.Answers.{IsOutcome, outcome_over, status_of}
 use Rattle.answer_text.specs.Lines.{line, statuses}
 use Rattle.table_query.specs.Asked.{usage_in}
 use Rattle.table_query.specs.Lines.{IsLine, NamesFirst, NamesRow, outcome_text, refusal_text, refused_of, row_text}
-use Rattle.table_query.specs.Stops.{Explains, IsExplained, IsFirstStop, cause_text, stop_status, stop_text}
+use Rattle.table_query.specs.Stops.{Explains, IsExplained, IsFirstStop, stop_status, stop_text}
 use Rattle.table_query.specs.declared.wanted.Wanted.{Wanted}
 use Rattle.answer_text.specs.declared.status.TheConstants.{NO_MEMORY, READ_FAULT, REFUSED, TABLE, WRITE_FAULT}
-use Rattle.table_query.specs.declared.stop.Cause.{Cause}
 use Rattle.table_query.specs.declared.stop.Stop.{Stop}
 use Rattle.table_query.specs.declared.stop.Stop.TheVariants as stop
 
@@ -25,14 +25,14 @@ row-text : (row : ℕ) (text : List ℕ) → (codes "row " ++ (decimal row ++ co
 row-text row text = append_assoc (codes "row ") (decimal row ++ codes ": ") text ∙ ap (λ l. codes "row " ++ l) (append_assoc (decimal row) (codes ": ") text)
 
 -- the line of a refused row is that of the first row that the outcome refuses
-says-row : (wanted : Wanted) (plan : NamedPlan) (row : ℕ) (cause : Cause) (refusal : Refusal) → cause_text cause ≡ refusal_text plan refusal → line (stop_text wanted (stop.Refused row cause)) ≡ line (row_text plan (row, refusal))
+says-row : (wanted : Wanted) (plan : NamedPlan) (row : ℕ) (cause : String Global) (refusal : Refusal) → string_bytes cause ≡ refusal_text plan refusal → line (stop_text wanted (stop.Refused row cause)) ≡ line (row_text plan (row, refusal))
 says-row wanted plan row cause refusal same = ap line (ap (λ l. (codes "row " ++ (decimal row ++ codes ": ")) ++ l) same ∙ row-text row (refusal_text plan refusal))
 
-NamesRow-refused : (wanted : Wanted) (plan : Option NamedPlan) (row : ℕ) (cause : Cause) (o : Outcome) → Explains plan (stop.Refused row cause) o → NamesRow plan o (line (stop_text wanted (stop.Refused row cause)))
+NamesRow-refused : (wanted : Wanted) (plan : Option NamedPlan) (row : ℕ) (cause : String Global) (o : Outcome) → Explains plan (stop.Refused row cause) o → NamesRow plan o (line (stop_text wanted (stop.Refused row cause)))
 NamesRow-refused wanted None row cause o explains = explains
 NamesRow-refused wanted (Some plan) row cause o explains = ((row, explains.refusal), explains.has, says-row wanted plan row cause explains.refusal explains.says)
 
-NamesFirst-refused : (wanted : Wanted) (plan : Option NamedPlan) (row : ℕ) (cause : Cause) (o : Outcome) → IsFirstStop plan (stop.Refused row cause) o → NamesFirst plan o (line (stop_text wanted (stop.Refused row cause)))
+NamesFirst-refused : (wanted : Wanted) (plan : Option NamedPlan) (row : ℕ) (cause : String Global) (o : Outcome) → IsFirstStop plan (stop.Refused row cause) o → NamesFirst plan o (line (stop_text wanted (stop.Refused row cause)))
 NamesFirst-refused wanted None row cause o first = first
 NamesFirst-refused wanted (Some plan) row cause o first = ((row, first.refusal), first.first, says-row wanted plan row cause first.refusal first.says)
 
@@ -91,7 +91,7 @@ refused_status (NoColumn name) row has = absurd (omega (arith, has.1))
 refused_status (Refused rows) row has = refl
 refused_status Table row has = absurd (omega (arith, has.1))
 
-refused_told : (plan : Option NamedPlan) (row : ℕ) (cause : Cause) (o : Outcome) → Explains plan (stop.Refused row cause) o → status_of o ≡ REFUSED
+refused_told : (plan : Option NamedPlan) (row : ℕ) (cause : String Global) (o : Outcome) → Explains plan (stop.Refused row cause) o → status_of o ≡ REFUSED
 refused_told None row cause o explains = absurd explains
 refused_told (Some plan) row cause o explains = refused_status o (row, explains.refusal) explains.has
 

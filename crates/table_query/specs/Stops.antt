@@ -1,5 +1,6 @@
 -- What a reason to have no table says of the outcome.
 use Rattle.std.specs.Prelude.{[], ◌≡◌, ⊤, ℕ, List, Option, Some, Contains, slice_get, codes, decimal, ◌++◌, IsSomeAnd, String, string_bytes}
+use Rattle.std.specs.Global.{Global}
 use Rattle.csv_rows.specs.declared.input.ReadAnswer.{ReadAnswer}
 use Rattle.csv_rows.specs.declared.input.ReadAnswer.TheVariants as reading
 use Rattle.csv_rows.specs.declared.records.RowsAnswer.{RowsAnswer}
@@ -58,16 +59,16 @@ abbrev pub stop_text : Wanted → Stop → List ℕ
 stop_text wanted why = front_of why ++ text_of wanted why
 
 -- the outcome refuses this row, and this says why
-pub record RefusesRow (plan : NamedPlan) (row : ℕ) (why : String) (o : Outcome) : Type 0 where
+pub record RefusesRow (plan : NamedPlan) (row : ℕ) (why : List ℕ) (o : Outcome) : Type 0 where
   pub refusal : Refusal
   pub has : Contains (refused_of o) (row, refusal)
-  pub says : string_bytes why ≡ refusal_text plan refusal
+  pub says : why ≡ refusal_text plan refusal
 
 -- the outcome refuses this row first, and this says why
-pub record RefusesFirst (plan : NamedPlan) (row : ℕ) (why : String) (o : Outcome) : Type 0 where
+pub record RefusesFirst (plan : NamedPlan) (row : ℕ) (why : List ℕ) (o : Outcome) : Type 0 where
   pub refusal : Refusal
   pub first : slice_get (refused_of o) 0 ≡ Some (row, refusal)
-  pub says : string_bytes why ≡ refusal_text plan refusal
+  pub says : why ≡ refusal_text plan refusal
 
 -- what a reason says of the outcome
 abbrev pub Explains : Option NamedPlan → Stop → Outcome → Type 0
@@ -77,7 +78,7 @@ Explains plan stop.TooManyBytes o = o ≡ TooManyBytes
 Explains plan stop.NoHeader o = o ≡ NoHeader
 Explains plan stop.TooManyRows o = o ≡ TooManyRows
 Explains plan (stop.NoColumn name) o = o ≡ NoColumn (string_bytes name)
-Explains plan (stop.Refused row why) o = IsSomeAnd plan (λ plan. RefusesRow plan row why o)
+Explains plan (stop.Refused row why) o = IsSomeAnd plan (λ plan. RefusesRow plan row (string_bytes why) o)
 Explains plan stop.WriteFault o = o ≡ Table
 Explains plan stop.Memory o = ⊤
 
@@ -89,7 +90,7 @@ IsFirstStop plan stop.TooManyBytes o = ⊤
 IsFirstStop plan stop.NoHeader o = ⊤
 IsFirstStop plan stop.TooManyRows o = ⊤
 IsFirstStop plan (stop.NoColumn name) o = ⊤
-IsFirstStop plan (stop.Refused row why) o = IsSomeAnd plan (λ plan. RefusesFirst plan row why o)
+IsFirstStop plan (stop.Refused row why) o = IsSomeAnd plan (λ plan. RefusesFirst plan row (string_bytes why) o)
 IsFirstStop plan stop.WriteFault o = ⊤
 IsFirstStop plan stop.Memory o = ⊤
 
@@ -128,4 +129,4 @@ stop_of_parsing parsing.Memory = stop.Memory
 
 -- the reason is that this row is refused, and has the text of the refusal
 abbrev pub IsRefusedRow : NamedPlan → ℕ → Refusal → Stop → Type 0
-IsRefusedRow plan row refusal why = (cause : String) × (why ≡ stop.Refused row cause) × (string_bytes cause ≡ refusal_text plan refusal)
+IsRefusedRow plan row refusal why = (cause : String Global) × (why ≡ stop.Refused row cause) × (string_bytes cause ≡ refusal_text plan refusal)

@@ -56,13 +56,14 @@ fn no_number(alloc: Global, front: &str, name: &str, places: u32) -> Result<Stri
 fn push_kind(text: &mut String, places: u32) -> Result<(), AllocError>
     ensures { OnOk result (string_bytes text.new ≡ string_bytes text.old ++ number_kind places) }
 {
-    match places {
-        0 => text.push_str(" is not an integer"),
-        1 => text.push_str(" is not a decimal with at most 1 place"),
-        _ => {
-            text.push_str(" is not a decimal with at most ")?;
-            text.push_str(itoa::Buffer::new().format(places))?;
-            text.push_str(" places")
-        }
+    if places == 0 {
+        return text.push_str(" is not an integer");
     }
+    if places == 1 {
+        return text.push_str(" is not a decimal with at most 1 place");
+    }
+    text.push_str(" is not a decimal with at most ")?;
+    text.push_str(itoa::Buffer::new().format(places))?;
+    text.push_str(" places")?;
+    Ok(())
 }
