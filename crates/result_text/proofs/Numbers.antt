@@ -1,5 +1,5 @@
 -- The text of a number in the pieces that are written.
-use Rattle.std.proofs.Common.{◌≡◌, ◌<◌, ◌≤◌, ◌/◌, ◌^◌, ◌++◌, ◌∷◌, [], append_assoc, append-nil, arith, Bool, decimal, false, nat_lt, ℕ, suc, ℤ, pos, negsuc, List, length, unsigned_abs}
+use Rattle.std.proofs.Common.{◌≡◌, ◌<◌, ◌≤◌, ◌/◌, ◌^◌, ◌++◌, ◌∷◌, append_assoc, append-nil, arith, Bool, decimal, false, nat_lt, ℕ, suc, ℤ, pos, negsuc, List, length, unsigned_abs}
 use Rattle.std.proofs.lemmas.Bool.Decides.{nat_tests}
 use Rattle.std.proofs.lemmas.Fmt.{decimal_is_IsNumeral_wide}
 use Rattle.std.specs.Fmt.{sign_text, signed_decimal}

@@ -34,12 +34,7 @@ fn push_sign(text: &mut Vec<u8>, minus: bool) -> Result<(), AllocError>
 
 /// Puts a point and the places of a number at the end of a text, or nothing if there are none. With the unit added they
 /// are the digits after the first one, with all their zeros.
-fn push_places(
-    text: &mut Vec<u8>,
-    size: u128,
-    places: u32,
-    unit: u128,
-) -> Result<(), AllocError>
+fn push_places(text: &mut Vec<u8>, size: u128, places: u32, unit: u128) -> Result<(), AllocError>
     requires few { places ≤ MOST_TEXT_PLACES }
     requires unit { unit ≡ 10 ^ places }
     requires within { unit ≤ 10 ^ MOST_TEXT_PLACES }

@@ -1,4 +1,4 @@
-use Rattle.std.proofs.Common.{◌≤◌, ◌<◌, ◌^◌, arith}
+use Rattle.std.proofs.Common.{arith}
 use Rattle.par_model.proofs.Runs.{pow-some, pow-up}
 use Rattle.result_text.proofs.decimal.power_of_ten.Goals as goal
 

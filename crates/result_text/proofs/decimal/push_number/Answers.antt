@@ -1,4 +1,4 @@
-use Rattle.std.proofs.Common.{◌≡◌, ◌∙◌, ◌/◌, ◌++◌, decimal, ℕ, List, ap, sym, unsigned_abs}
+use Rattle.std.proofs.Common.{◌∙◌, ◌/◌, ◌++◌, decimal, ℕ, ap, unsigned_abs}
 use Rattle.std.proofs.lemmas.Int.{to_z-of_z}
 use Rattle.std.proofs.lemmas.Result.{on_ok_weaker}
 use Rattle.std.specs.Int.{is_negative, w128}

@@ -1,4 +1,4 @@
-use Rattle.std.proofs.Common.{◌≡◌, ◌<◌, ◌+◌, ◌%◌, ◌^◌, arith, decimal, ℕ}
+use Rattle.std.proofs.Common.{◌<◌, ◌+◌, ◌%◌, ◌^◌, arith}
 use Rattle.std.proofs.Math.Nat.{mod-lt}
 use Rattle.result_text.proofs.Numbers.{some_digit}
 use Rattle.result_text.proofs.decimal.push_places.Goals as goal
