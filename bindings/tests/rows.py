@@ -29,15 +29,16 @@ STREAMS = [
         "--where g=\x1b[1m --agg count",
         b"g\n1\n",
         b"",
-        b'parstream: "g=\\x1b[1m" is not understood: --where takes a column, one of = != < <= > >=, and an integer, as in'
-        b" 'qty>=10'; see parstream --help\n",
+        b'parstream: "g=\\x1b[1m" is not understood: --where takes a column, one of = != < <= > >=, and an integer, or a'
+        b" decimal with --decimals, as in 'qty>=10'; see parstream --help\n",
         2,
     ),
     (
         "--agg count --plan hash",
         b"g\n1\n",
         b"",
-        b'parstream: "--plan" is not understood: the options are --group, --agg, --where and --workers; see parstream --help\n',
+        b'parstream: "--plan" is not understood: the options are --group, --agg, --where, --decimals and --workers; see'
+        b" parstream --help\n",
         2,
     ),
     (
@@ -55,10 +56,18 @@ STREAMS = [
         2,
     ),
     (
+        "--agg sum:v --decimals two",
+        b"v\n1\n",
+        b"",
+        b'parstream: "two" is not understood: --decimals takes a number from 0 to 18, or one for each column, as in'
+        b" 'price=2,weight=3'; see parstream --help\n",
+        2,
+    ),
+    (
         "--agg \udcff",
         b"v\n1\n",
         b"",
-        b"parstream: usage: parstream [--group COLUMNS] --agg ITEMS [--where FILTER] [--workers N]\n",
+        b"parstream: usage: parstream [--group COLUMNS] --agg ITEMS [--where FILTER] [--decimals PLACES] [--workers N]\n",
         2,
     ),
     (
@@ -106,6 +115,20 @@ STREAMS = [
         2,
     ),
     ("--agg count --where PAR1=1", b"PAR1,PK\n1,2\n3,4\n", b"count\n1\n", b"", 0),
+    (
+        "--agg sum:price,avg:price --where price>=-2.0 --decimals price=2",
+        b"price\n1.50\n-2\n+.5\n\n",
+        b"sum(price),avg(price)\n0.00,0.000000\n",
+        b"",
+        0,
+    ),
+    (
+        "--agg sum:price --decimals 1",
+        b"price\n1.5\n1.50\n",
+        b"",
+        b"parstream: row 2: column price is not a decimal with at most 1 place\n",
+        1,
+    ),
 ]
 
 

@@ -35,8 +35,8 @@ header, and writes a table with a row for each group.
 A number has no comma and no unit, and without its point it fits 64 bits. Sums
 are exact. An average has four digits more after the point than the numbers. An
 empty field is left out of sums, minima, maxima and averages. The input may have
-any length, a record at most 67108864 bytes, and the columns of a group 248, four
-of them for each column.
+any length, a record at most 67108864 bytes, and the columns of a group 248,
+four of them for each column.
 
 Examples:
   parstream --agg count < orders.csv

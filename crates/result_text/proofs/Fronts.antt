@@ -23,7 +23,7 @@ zip-front (item ∷ items) (x ∷ xs) (y ∷ ys) (suc n) few same =
 
 pub values-front : (plan : Plan) (n : ℕ) (read state : AggState) → length plan.items ≤ n → read.rows ≡ state.rows → take n read.slots ≡ take n state.slots → values_text plan read ≡ values_text plan state
 values-front plan n read state few rows front =
-    λ i. map (λ p. value_text p.0.kind (rows i) p.1) (zip-front plan.items read.slots state.slots n few front i)
+    λ i. map (λ p. value_text p.0.kind p.0.places (rows i) p.1) (zip-front plan.items read.slots state.slots n few front i)
 
 -- slots are small where those of the front and the others are
 pub front-small : (n : ℕ) (read state old : List SlotState) → take n read ≡ take n state → drop n read ≡ drop n old → All IsSmallSlot state → All IsSmallSlot old → All IsSmallSlot read

@@ -1,9 +1,9 @@
 mod Answering
-mod Averages
 pub mod Columns
 mod Even
 mod Fronts
 mod KeyColumns
+mod Numbers
 pub mod Occurring
 mod Small
 mod Sorting

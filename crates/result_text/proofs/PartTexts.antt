@@ -10,10 +10,9 @@ use Rattle.std.specs.Global.{Vec}
 use Rattle.std.specs.declared.alloc.AllocError.{AllocError}
 use Rattle.std.specs.List.{AllByRecursion, concat}
 use Rattle.std.specs.List.Sorted.{IsPermutation, IsStrictlySortedBy}
-use Rattle.std.specs.declared.cmp.Ordering.{Ordering}
 use Rattle.std.specs.declared.cmp.Ordering.TheVariants.{Less}
 use Rattle.csv.specs.Writing.{default_writer, row_text}
-use Rattle.par_model.specs.Key.{columns_of, encoded}
+use Rattle.par_model.specs.Key.{encoded}
 use Rattle.par_model.specs.Named.{NamedPlan, bound_plan}
 use Rattle.par_model.specs.Outcome.{IsAnswer}
 use Rattle.par_model.specs.Plan.{Plan}
@@ -27,8 +26,8 @@ use Rattle.partial_agg.proofs.Entries.{All-found, Contains-found, behind}
 use Rattle.result_text.specs.KeyColumns.{columns_in}
 use Rattle.result_text.specs.Pieces.{joined}
 use Rattle.result_text.specs.PartTexts.{ArePartGroups, IsPartText, PartsAnswer, RisesBy}
-use Rattle.result_text.specs.Text.{AreLinesOf, Line, group_of_line, line_record, shown}
-use Rattle.result_text.proofs.Answering.{AreShown, Contains-map, HaveAll, IsGroupOf, IsLineOf, Rows, all_lines, answered, grouped, row_of_line}
+use Rattle.result_text.specs.Text.{Line, group_of_line, line_record}
+use Rattle.result_text.proofs.Answering.{Contains-map, HaveAll, IsLineOf, Rows, all_lines, answered, grouped, row_of_line}
 use Rattle.result_text.proofs.KeyColumns.{columns_in-encoded}
 use Rattle.result_text.proofs.Ranges.{at_ok, many_ok, ok_same, shown-all}
 use Rattle.result_text.proofs.Tables.{table_text-append, table_text-cons, table_text-nil}

@@ -125,9 +125,12 @@ fn shows(rt: HostRuntime) -> Result<(), Fail> {
 }
 
 /// Words, and which of them is not understood, by its place, and what may come there.
-const WRONG: [(&str, Option<(usize, Expected)>); 20] = [
+const WRONG: [(&str, Option<(usize, Expected)>); 27] = [
     ("--agg count", None),
-    ("--group g --agg count --where v>1 --workers 1 --", None),
+    (
+        "--group g --agg count --where v>1.5 --workers 1 --decimals 1 --",
+        None,
+    ),
     ("", Some((0, Expected::Name))),
     ("orders.csv", Some((0, Expected::Name))),
     ("--agg count orders.csv", Some((2, Expected::Name))),
@@ -161,6 +164,29 @@ const WRONG: [(&str, Option<(usize, Expected)>); 20] = [
     ),
     ("--agg count --agg sum:v", Some((2, Expected::Other))),
     ("--agg count --plan gather", Some((2, Expected::Name))),
+    ("--agg count --area-pages=9", Some((2, Expected::Name))),
+    (
+        "--agg count --decimals 19",
+        Some((3, Expected::Value(Name::Decimals))),
+    ),
+    (
+        "--decimals=v=2,w --agg sum:v",
+        Some((0, Expected::Value(Name::Decimals))),
+    ),
+    (
+        "--decimals 2 --agg sum:v --decimals 3",
+        Some((4, Expected::Other)),
+    ),
+    // places that come after the filter count for it
+    (
+        "--agg count --where v>1.5",
+        Some((3, Expected::Value(Name::Where))),
+    ),
+    ("--agg count --where v>1.5 --decimals v=1", None),
+    (
+        "--agg count --where v>1.55 --decimals v=1",
+        Some((3, Expected::Value(Name::Where))),
+    ),
     ("-g g --agg count", Some((0, Expected::Name))),
     ("--agg count, sum:v", Some((1, Expected::Value(Name::Agg)))),
     (
@@ -181,11 +207,11 @@ fn wrong_words(rt: HostRuntime) -> Result<(), Fail> {
 }
 
 /// Words, and the line that they are answered with; none if they are a query.
-const REFUSED: [(&str, &str); 7] = [
+const REFUSED: [(&str, &str); 8] = [
     ("--agg count", ""),
     (
         "--agg count orders.csv",
-        "parstream: \"orders.csv\" is not understood: the options are --group, --agg, --where and --workers; see parstream --help\n",
+        "parstream: \"orders.csv\" is not understood: the options are --group, --agg, --where, --decimals and --workers; see parstream --help\n",
     ),
     (
         "--agg sum(v)",
@@ -193,7 +219,7 @@ const REFUSED: [(&str, &str); 7] = [
     ),
     (
         "--where=gr\u{f6}\u{df}e>\u{1b}[31m01234567890123456789 --agg count",
-        "parstream: \"--where=gr\u{f6}\u{df}e>\\x1b[31m0123456789012345678\".. is not understood: --where takes a column, one of = != < <= > >=, and an integer, as in 'qty>=10'; see parstream --help\n",
+        "parstream: \"--where=gr\u{f6}\u{df}e>\\x1b[31m0123456789012345678\".. is not understood: --where takes a column, one of = != < <= > >=, and an integer, or a decimal with --decimals, as in 'qty>=10'; see parstream --help\n",
     ),
     (
         "--agg count --agg sum:v",
@@ -202,6 +228,10 @@ const REFUSED: [(&str, &str); 7] = [
     (
         "--agg count --workers",
         "parstream: a word is missing at the end: --workers takes a number from 0 to 64; see parstream --help\n",
+    ),
+    (
+        "--agg sum:v --decimals two",
+        "parstream: \"two\" is not understood: --decimals takes a number from 0 to 18, or one for each column, as in 'price=2,weight=3'; see parstream --help\n",
     ),
     (
         "--group g",

@@ -1,5 +1,7 @@
+use Rattle.std.proofs.Common.{◌≤◌}
 use Rattle.std.proofs.lemmas.List.Elements.{All-rest}
 use Rattle.std.proofs.lemmas.Slice.Zip.{Zip-more, either_empty_from_Zip}
+use Rattle.par_model.specs.declared.plan.TheConstants.{MOST_PLACES}
 use Rattle.result_text.specs.Printable.{IsSmallSlot}
 use Rattle.result_text.proofs.Zipped.{value-more, values-end}
 use Rattle.result_text.proofs.values.push_values.Goals as goal
@@ -11,6 +13,7 @@ loop-item-preserved c =
       fields = value-more _ _ _ _ _ _ _ _ _ _ steps.0 steps.1 c.in_ok-push_value.ensures.fields c.loop-item.invariant.fields;
       whole = c.in_ok-push_value.ensures.whole;
       small = All-rest IsSmallSlot _ _ _ steps.1 c.loop-item.invariant.small;
+      places = All-rest (λ item. item.places ≤ MOST_PLACES) _ _ _ steps.0 c.loop-item.invariant.places;
     }
 
 pub returns : goal.returns
