@@ -29,15 +29,15 @@ STREAMS = [
         "--where g=\x1b[1m --agg count",
         b"g\n1\n",
         b"",
-        b'parstream: "g=\\x1b[1m" is not understood: --where takes a column, one of = != < <= > >=, and an integer, as in'
-        b" 'qty>=10'; see parstream --help\n",
+        b'parstream: "g=\\x1b[1m" is not understood: --where takes a column, one of = != < <= > >=, and a number, as in'
+        b" 'qty>=10'; with --decimals it may have a point; see parstream --help\n",
         2,
     ),
     (
         "--agg count --plan hash",
         b"g\n1\n",
         b"",
-        b'parstream: "--plan" is not understood: the options are --group, --agg, --where and --workers; see parstream --help\n',
+        b'parstream: "--plan" is not understood: the options are --group, --agg, --where, --decimals and --workers; see parstream --help\n',
         2,
     ),
     (

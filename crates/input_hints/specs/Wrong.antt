@@ -1,7 +1,7 @@
 -- The first word of a command line of parstream that is not understood.
 use Rattle.std.specs.Prelude.{[], ◌==◌, ◌||◌, ◌+◌, ◌∷◌, ℕ, Bool, zero, suc, List, Option, None, Some, bytes_eq, codes, if◌then◌else◌, is_some, length, min, slice_index_or, take}
-use Rattle.std.specs.List.{before_first, list_any, starts_with}
-use Rattle.plan_spec.specs.Query as plan
+use Rattle.std.specs.List.{before_first, list_any}
+use Rattle.plan_spec.specs.Query.{stream_query_of}
 use Rattle.input_hints.specs.declared.wrong.Expected.{Expected}
 use Rattle.input_hints.specs.declared.wrong.Expected.TheVariants as may
 use Rattle.input_hints.specs.declared.wrong.Name.{Name}
@@ -9,21 +9,11 @@ use Rattle.input_hints.specs.declared.wrong.Name.TheVariants as opt
 use Rattle.input_hints.specs.declared.wrong.Wrong.{Wrong}
 use Rattle.input_hints.specs.declared.wrong.TheConstants.{MOST_WORDS}
 
--- ---- the query of words
-
--- whether a word names an option that speaks of a shared table of groups
-abbrev pub is_of_table : List ℕ → Bool
-is_of_table word = starts_with (λ a b. a == b) word (codes "--plan") || starts_with (λ a b. a == b) word (codes "--area-pages")
-
--- the query of words of parstream, if they are one: it has no option that speaks of a shared table
-abbrev pub query_in : List (List ℕ) → Option plan.Query
-query_in words = if list_any is_of_table words then None else plan.query_of words
-
 -- ---- the words that are understood
 
 -- words are a query, or are one once `--agg=count` comes before them
 abbrev pub is_begun : List (List ℕ) → Bool
-is_begun words = is_some (query_in words) || is_some (query_in (codes "--agg=count" ∷ words))
+is_begun words = is_some (stream_query_of words) || is_some (stream_query_of (codes "--agg=count" ∷ words))
 
 -- the greatest number, up to some number, of first words that begin a query
 abbrev pub most_begun : ℕ → List (List ℕ) → ℕ
@@ -48,6 +38,7 @@ abbrev pub name_text : Name → List ℕ
 name_text opt.Group = codes "--group"
 name_text opt.Agg = codes "--agg"
 name_text opt.Where = codes "--where"
+name_text opt.Decimals = codes "--decimals"
 name_text opt.Workers = codes "--workers"
 
 -- the option of this name
@@ -56,7 +47,8 @@ name_in text =
     if bytes_eq text (codes "--group") then Some opt.Group
     else (if bytes_eq text (codes "--agg") then Some opt.Agg
     else (if bytes_eq text (codes "--where") then Some opt.Where
-    else (if bytes_eq text (codes "--workers") then Some opt.Workers else None)))
+    else (if bytes_eq text (codes "--decimals") then Some opt.Decimals
+    else (if bytes_eq text (codes "--workers") then Some opt.Workers else None))))
 
 -- the option that a word names
 abbrev pub name_of : List ℕ → Option Name
@@ -95,12 +87,13 @@ wrong_in words = wrong_after words (understood words)
 abbrev pub values_text : Name → List ℕ
 values_text opt.Group = codes "--group takes one to eight names between commas"
 values_text opt.Agg = codes "--agg takes one to eight of count, count:C, sum:C, min:C, max:C and avg:C between commas"
-values_text opt.Where = codes "--where takes a column, one of = != < <= > >=, and an integer, as in 'qty>=10'"
+values_text opt.Where = codes "--where takes a column, one of = != < <= > >=, and a number, as in 'qty>=10'; with --decimals it may have a point"
+values_text opt.Decimals = codes "--decimals takes places from 0 to 18, as in 2 or in price=2,weight=3"
 values_text opt.Workers = codes "--workers takes a number from 0 to 64"
 
 -- what may come
 abbrev pub expected_text : Expected → List ℕ
-expected_text may.Name = codes "the options are --group, --agg, --where and --workers"
+expected_text may.Name = codes "the options are --group, --agg, --where, --decimals and --workers"
 expected_text may.Other = codes "an option may be given once"
 expected_text (may.Value name) = values_text name
 expected_text may.Items = codes "--agg ITEMS is missing"

@@ -6,10 +6,11 @@ ghost use Rattle.std.specs.Io.KnownBytes.{Keeps};
 ghost use Rattle.par_io.specs.Faults.{Rose};
 ghost use Rattle.answer_text.specs.Lines.{IsSaid};
 ghost use Rattle.answer_text.specs.Words.{texts};
+ghost use Rattle.plan_spec.specs.Query.{stream_query_of};
 ghost use Rattle.input_hints.specs.Kinds.{kind_in, kind_text};
 ghost use Rattle.input_hints.specs.Peeking.{peeked_faults, peeked_left};
 ghost use Rattle.input_hints.specs.Refused.{line, place_text, refused_text, wrong_text};
-ghost use Rattle.input_hints.specs.Wrong.{query_in, wrong_in};
+ghost use Rattle.input_hints.specs.Wrong.{wrong_in};
 ghost use Rattle.input_hints.specs.declared.kind.Kind.{Kind};
 
 use crate::escaped::put_shown;
@@ -25,11 +26,11 @@ pub fn refuse_words<E: Sink>(alloc: Global, words: &[String], err: &mut E) -> Op
     ensures statuses { IfSome result (λ status. (status ≡ MISUSED) ⊎ (status ≡ NO_MEMORY)) }
 
     // None: the words are a query, and `err` receives nothing.
-    ensures query { result ≡ None → is_some (query_in (texts words.now)) ≡ true }
+    ensures query { result ≡ None → is_some (stream_query_of (texts words.now)) ≡ true }
     ensures quiet { result ≡ None → err.new ≡ err.old }
 
     // Otherwise they are none, and the line names the word, or memory ran out, and the line says so.
-    ensures none { result ≡ Some MISUSED → query_in (texts words.now) ≡ None }
+    ensures none { result ≡ Some MISUSED → stream_query_of (texts words.now) ≡ None }
     ensures wrong { result ≡ Some MISUSED → IsSaid (E.taken err.old) (E.taken err.new) (E.faults err.old) (E.faults err.new) (line (refused_text (texts words.now))) }
     ensures memory { result ≡ Some NO_MEMORY → IsSaid (E.taken err.old) (E.taken err.new) (E.faults err.old) (E.faults err.new) (line (codes "out of memory")) }
 {
@@ -84,7 +85,7 @@ fn say<E: Sink>(err: &mut E, text: &str)
 
 /// What is said of words that are no query.
 fn refusal_of(alloc: Global, words: &[String]) -> Result<Option<String>, AllocError>
-    ensures none { IfOk result (λ text. is_none text ≡ is_some (query_in (texts words.now))) }
+    ensures none { IfOk result (λ text. is_none text ≡ is_some (stream_query_of (texts words.now))) }
     ensures text { IfOk result (λ text. IfSome text (λ text. string_bytes text ≡ refused_text (texts words.now))) }
 {
     match wrong_word(alloc, words)? {

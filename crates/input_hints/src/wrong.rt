@@ -1,19 +1,20 @@
 //! The first word of a command line of `parstream` that is not understood, and what may come in its place.
 //!
 //! Which words are a query is known to `plan_spec` only. So the words that are understood are found by asking it: the
-//! first few words are, if they are a query, or are one once `--agg=count` comes before them. A query has at most nine
-//! words, four options with their values and `--`, so a longer line is asked about no further than that.
+//! first few words are, if they are a query, or are one once `--agg=count` comes before them. A query has at most eleven
+//! words, five options with their values and `--`, so a longer line is asked about no further than that.
 
 ghost use Rattle.std.specs.Prelude.{◌≡◌, ◌<◌, ◌≤◌, ◌∷◌, [], IfOk, IfSome, bytes_eq, codes, is_none, is_some, length, slice_index_or, string_bytes, take};
 ghost use Rattle.std.specs.List.{list_any, position_or_len};
 ghost use Rattle.answer_text.specs.Words.{texts};
-ghost use Rattle.input_hints.specs.Wrong.{expected_text, front_of, is_begun, is_equals, is_named, is_of_table, name_of, name_text, query_in, understood, values_text, wrong_after, wrong_in, wrong_option};
+ghost use Rattle.plan_spec.specs.Query.{stream_query_of};
+ghost use Rattle.input_hints.specs.Wrong.{expected_text, front_of, is_begun, is_equals, is_named, name_of, name_text, understood, values_text, wrong_after, wrong_in, wrong_option};
 
 use plan_spec::{Plan, PlanAnswer};
 use std::alloc::{AllocError, Global};
 
 /// The most words that a query has.
-pub const MOST_WORDS: usize = 9;
+pub const MOST_WORDS: usize = 11;
 
 /// An option of `parstream`.
 #[derive(Clone, Copy, Debug, PartialEq, Eq)]
@@ -21,6 +22,7 @@ pub enum Name {
     Group,
     Agg,
     Where,
+    Decimals,
     Workers,
 }
 
@@ -47,7 +49,7 @@ pub struct Wrong {
 /// The first word that is not understood, if the words are no query of `parstream`. The time and the memory are linear in
 /// the words.
 pub fn wrong_word(alloc: Global, words: &[String]) -> Result<Option<Wrong>, AllocError>
-    ensures none { IfOk result (λ wrong. is_none wrong ≡ is_some (query_in (texts words.now))) }
+    ensures none { IfOk result (λ wrong. is_none wrong ≡ is_some (stream_query_of (texts words.now))) }
     ensures first { IfOk result (λ wrong. IfSome wrong (λ wrong. wrong ≡ wrong_in (texts words.now))) }
 {
     if is_query(alloc, words)? {
@@ -58,12 +60,9 @@ pub fn wrong_word(alloc: Global, words: &[String]) -> Result<Option<Wrong>, Allo
 
 /// Whether words are a query of `parstream`.
 fn is_query(alloc: Global, words: &[String]) -> Result<bool, AllocError>
-    ensures { IfOk result (λ is. is ≡ is_some (query_in (texts words.now))) }
+    ensures { IfOk result (λ is. is ≡ is_some (stream_query_of (texts words.now))) }
 {
-    if has_of_table(words) {
-        return Ok(false);
-    }
-    match Plan::of_words(alloc, words) {
+    match Plan::of_stream_words(alloc, words) {
         Ok(_) => Ok(true),
         Err(PlanAnswer::Usage) => Ok(false),
         Err(PlanAnswer::Memory) => Err(AllocError),
@@ -208,6 +207,8 @@ fn name_of(word: &str) -> Option<Name>
         Some(Name::Agg)
     } else if front == "--where" {
         Some(Name::Where)
+    } else if front == "--decimals" {
+        Some(Name::Decimals)
     } else if front == "--workers" {
         Some(Name::Workers)
     } else {
@@ -236,27 +237,6 @@ fn is_equals(byte: u8) -> bool
     byte == b'='
 }
 
-/// Whether some word names an option that speaks of a shared table, which `parstream` doesn't have.
-#[tactic(auto, using(crate::proofs::Words::any_of_table))]
-fn has_of_table(words: &[String]) -> bool
-    ensures { result ≡ list_any is_of_table (texts words.now) }
-{
-    any_of_table(words)
-}
-
-fn any_of_table(words: &[String]) -> bool
-    ensures { result ≡ list_any (λ word. is_of_table (string_bytes word)) words.now }
-{
-    words.iter().any(|word| is_of_table(word.as_bytes()))
-}
-
-/// Whether a word names an option that speaks of a shared table.
-fn is_of_table(word: &[u8]) -> bool
-    ensures { result ≡ is_of_table word.now }
-{
-    word.starts_with(b"--plan") || word.starts_with(b"--area-pages")
-}
-
 impl Name {
     /// How it is written.
     pub fn text(self) -> &'static str
@@ -266,6 +246,7 @@ impl Name {
             Name::Group => "--group",
             Name::Agg => "--agg",
             Name::Where => "--where",
+            Name::Decimals => "--decimals",
             Name::Workers => "--workers",
         }
     }
@@ -280,8 +261,10 @@ impl Name {
                 "--agg takes one to eight of count, count:C, sum:C, min:C, max:C and avg:C between commas"
             }
             Name::Where => {
-                "--where takes a column, one of = != < <= > >=, and an integer, as in 'qty>=10'"
+                "--where takes a column, one of = != < <= > >=, and a number, as in 'qty>=10'; with --decimals it may have a point"
             }
+            Name::Decimals =>
+                "--decimals takes places from 0 to 18, as in 2 or in price=2,weight=3",
             Name::Workers => "--workers takes a number from 0 to 64",
         }
     }
@@ -293,7 +276,7 @@ impl Expected {
         ensures { result.now ≡ expected_text self }
     {
         match self {
-            Expected::Name => "the options are --group, --agg, --where and --workers",
+            Expected::Name => "the options are --group, --agg, --where, --decimals and --workers",
             Expected::Other => "an option may be given once",
             Expected::Value(name) => name.values(),
             Expected::Items => "--agg ITEMS is missing",

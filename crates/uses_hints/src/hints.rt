@@ -125,9 +125,12 @@ fn shows(rt: HostRuntime) -> Result<(), Fail> {
 }
 
 /// Words, and which of them is not understood, by its place, and what may come there.
-const WRONG: [(&str, Option<(usize, Expected)>); 20] = [
+const WRONG: [(&str, Option<(usize, Expected)>); 22] = [
     ("--agg count", None),
-    ("--group g --agg count --where v>1 --workers 1 --", None),
+    (
+        "--group g --agg count --where v>1.5 --decimals v=1 --workers 1 --",
+        None,
+    ),
     ("", Some((0, Expected::Name))),
     ("orders.csv", Some((0, Expected::Name))),
     ("--agg count orders.csv", Some((2, Expected::Name))),
@@ -159,6 +162,14 @@ const WRONG: [(&str, Option<(usize, Expected)>); 20] = [
         "--group g,,h --agg count",
         Some((1, Expected::Value(Name::Group))),
     ),
+    (
+        "--agg count --where v>1.5",
+        Some((3, Expected::Value(Name::Where))),
+    ),
+    (
+        "--where v>1.5 --decimals 19 --agg count",
+        Some((1, Expected::Value(Name::Where))),
+    ),
     ("--agg count --agg sum:v", Some((2, Expected::Other))),
     ("--agg count --plan gather", Some((2, Expected::Name))),
     ("-g g --agg count", Some((0, Expected::Name))),
@@ -185,7 +196,7 @@ const REFUSED: [(&str, &str); 7] = [
     ("--agg count", ""),
     (
         "--agg count orders.csv",
-        "parstream: \"orders.csv\" is not understood: the options are --group, --agg, --where and --workers; see parstream --help\n",
+        "parstream: \"orders.csv\" is not understood: the options are --group, --agg, --where, --decimals and --workers; see parstream --help\n",
     ),
     (
         "--agg sum(v)",
@@ -193,7 +204,7 @@ const REFUSED: [(&str, &str); 7] = [
     ),
     (
         "--where=gr\u{f6}\u{df}e>\u{1b}[31m01234567890123456789 --agg count",
-        "parstream: \"--where=gr\u{f6}\u{df}e>\\x1b[31m0123456789012345678\".. is not understood: --where takes a column, one of = != < <= > >=, and an integer, as in 'qty>=10'; see parstream --help\n",
+        "parstream: \"--where=gr\u{f6}\u{df}e>\\x1b[31m0123456789012345678\".. is not understood: --where takes a column, one of = != < <= > >=, and a number, as in 'qty>=10'; with --decimals it may have a point; see parstream --help\n",
     ),
     (
         "--agg count --agg sum:v",
