@@ -4,7 +4,7 @@ use Rattle.std.specs.List.{position_from}
 use Rattle.csv_rows.specs.Records.{record_at}
 use Rattle.row_blocks.specs.Blocks.{Table}
 use Rattle.par_model.specs.Plan.{Plan}
-use Rattle.par_model.specs.Refuse.{filter_cause, is_unreadable, key_cause, reads_integers, refusal, refused_at, refused_for, width_cause}
+use Rattle.par_model.specs.Refuse.{filter_cause, is_unreadable, key_cause, reads_numbers, refusal, refused_at, refused_for, width_cause}
 use Rattle.par_model.specs.declared.plan.Item.{Item}
 use Rattle.par_model.specs.declared.plan.ItemKind.TheVariants as kind
 use Rattle.par_model.specs.declared.refusal.Refusal.{Refusal}
@@ -29,7 +29,7 @@ by_cases false false false true last cause item n e = item_is (record { cause = 
 by_cases false false false false last cause item n e = absurd (none_some (record { cause = cause; item = item }) (sym n ∙ e))
 
 no_item : (row : List (List ℕ)) (item : Item) → item.kind ≡ kind.Rows → option_map refused_at (position_from (is_unreadable row) 0 (item ∷ [])) ≡ None
-no_item row item e = rw (ap reads_integers e) refl
+no_item row item e = rw (ap reads_numbers e) refl
 
 pub no_cause : (plan : Plan) (records : Table) (row cause item : ℕ) → OrdersRows plan → IsRefused plan records row cause item → item ≡ 0
 unfolding refusal

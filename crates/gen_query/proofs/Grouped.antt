@@ -10,7 +10,7 @@ use Rattle.std.specs.FinMap as finite
 use Rattle.std.specs.List.{AllByRecursion, IsDistinct, filter_map}
 use Rattle.std.specs.Prelude.{◌==◌, if◌then◌else◌}
 use Rattle.par_model.specs.Aggregate.{no_values, rows_of, state_of, state_of_rows, total, values_of}
-use Rattle.par_model.specs.Integer.{integer_of}
+use Rattle.par_model.specs.Number.{integer_of}
 use Rattle.par_model.specs.Keep.{is_kept}
 use Rattle.par_model.specs.Key.{encoded, key_of}
 use Rattle.par_model.specs.declared.state.AggState.{AggState}

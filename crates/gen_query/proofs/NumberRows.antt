@@ -11,8 +11,8 @@ use Rattle.std.specs.List.{list_all, list_any}
 use Rattle.std.specs.Prelude.{◌==◌, ⊤, decimal, nat_lt}
 use Rattle.std.specs.Str.Parse.{AllDigits, digits_value, starts_with_minus}
 use Rattle.csv.specs.Writing.{default_writer, fields_text, is_blank, needs_byte, row_text}
-use Rattle.par_model.proofs.ShortIntegers.{short-integer}
-use Rattle.par_model.specs.Integer.{integer_of}
+use Rattle.par_model.proofs.ShortNumbers.{short-integer}
+use Rattle.par_model.specs.Number.{integer_of}
 use Rattle.par_model.specs.Key.{encoded, key_of}
 use Rattle.par_model.specs.Keep.{is_kept}
 use Rattle.par_model.specs.Magnitude.{short_magnitude_of, with_sign}
