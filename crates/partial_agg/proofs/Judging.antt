@@ -1,6 +1,7 @@
 -- The verdict of a plan's filters, one after the other.
 use Rattle.std.proofs.Common.{◌≡◌, ◌∙◌, ◌<◌, ◌≤◌, ◌+◌, ◌&&◌, ℕ, ℤ, Bool, true, false, not, List, length, take, get_or, slice_get, Option, Some, None, Ok, Err, is_none, if◌then◌else◌, ap, sym, refl, arith}
-use Rattle.std.proofs.lemmas.List.{slice_get-in, take-all}
+use Rattle.std.proofs.lemmas.List.{take_all}
+use Rattle.std.proofs.lemmas.Option.{slice_get-get_or}
 use Rattle.std.specs.List.{position_from}
 use Rattle.std.specs.Option.{option_map_or}
 use Rattle.par_model.specs.Keep.{deciding, keeps, passes, stands}
@@ -44,7 +45,7 @@ module _ (plan : Plan) (row : List (List ℕ)) (i : ℕ) (d : Filter) where
     at_place : keeps (get_or plan.filters i d) row ≡ false → verdict plan row ≡ (if is_misread row (get_or plan.filters i d) then Err i else Ok false)
     at_place out =
         ap (verdict_by plan row) (position_here (λ (filter : Filter). not (keeps filter row)) plan.filters 0 i d before inside (ap not out))
-        ∙ ap (λ o. if option_map_or (is_misread row) o false then Err i else Ok false) (slice_get-in plan.filters i d inside)
+        ∙ ap (λ o. if option_map_or (is_misread row) o false then Err i else Ok false) (slice_get-get_or plan.filters i d inside)
 
     pub verdict_left_out : judged (get_or plan.filters i d) (field_of row (get_or plan.filters i d).column) ≡ Some false → verdict plan row ≡ Ok false
     verdict_left_out e = let both = says_some _ _ false e in
@@ -61,4 +62,4 @@ module _ (plan : Plan) (row : List (List ℕ)) (i : ℕ) (d : Filter) where
 
   -- all filters keep it
   pub verdict_kept : AreKept → length plan.filters ≤ i → verdict plan row ≡ Ok true
-  verdict_kept before all = ap (verdict_by plan row) (ap (position_from (λ filter. not (keeps filter row)) 0) (sym (take-all i plan.filters all)) ∙ before)
+  verdict_kept before all = ap (verdict_by plan row) (ap (position_from (λ filter. not (keeps filter row)) 0) (sym (take_all i plan.filters all)) ∙ before)
