@@ -48,7 +48,7 @@ fn merge_plan(alloc: Global, columns: &str, workers: &str) -> Result<Plan, PlanA
     Ok(Plan {
         groups,
         items,
-        filter: None,
+        filters: Vec::new(alloc),
         hash: false,
         workers,
         area_pages: 0,
