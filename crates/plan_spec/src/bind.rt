@@ -4,6 +4,7 @@ ghost use Rattle.std.specs.Prelude.{◌≡◌, ◌<◌, ◌≤◌, ◌-◌, ◌^
 ghost use Rattle.csv_rows.specs.Records.{record_at};
 ghost use Rattle.par_model.specs.Columns.{HasColumns, reads_column};
 ghost use Rattle.par_model.specs.Named.{bound_column, bound_filter, bound_item, bound_plan, column_of, missing_name, names_of};
+ghost use Rattle.par_model.specs.Plain.{is_plain, is_plain_named};
 ghost use Rattle.par_model.specs.PlanLayout.{unused};
 ghost use Rattle.par_model.specs.declared.plan.TheConstants.{MOST_PLACES};
 ghost use Rattle.plan_spec.specs.Binding.{missing_from, missing_place};
@@ -27,6 +28,7 @@ impl Plan {
 
         // Each column that it reads is one of the header.
         ensures columns { IfOk result (λ bound. HasColumns bound (length (record_at rows.now 0))) }
+        ensures plain { IfOk result (λ bound. is_plain bound ≡ is_plain_named self.now.plan) }
 
         // The first name that the header lacks, by its place.
         ensures place { IfErr result (λ e. missing_place (record_at rows.now 0) self.now.plan ≡ Some e.at) }

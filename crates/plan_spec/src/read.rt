@@ -1,6 +1,7 @@
 //! The plan of the words of a command line.
 
-ghost use Rattle.std.specs.Prelude.{◌≡◌, ◌≤◌, None, Some, All, IfOk, map, string_bytes, vec_len};
+ghost use Rattle.std.specs.Prelude.{◌≡◌, ◌≤◌, None, Some, All, IfOk, map, string_bytes, true, vec_len};
+ghost use Rattle.par_model.specs.Plain.{is_plain_named};
 ghost use Rattle.plan_spec.specs.Query.{groups_given, hash_given, items_given, number_given, places_given, query_of, stream_query_of, text_of};
 ghost use Rattle.plan_spec.specs.Given.{entry_of, query_given};
 ghost use Rattle.plan_spec.specs.Grammar.{filters_in};
@@ -24,6 +25,7 @@ impl Plan {
     /// value, and each value by its grammar. Asking for help is no plan.
     pub fn of_words(alloc: Global, words: &[String]) -> Result<Plan, PlanAnswer>
         ensures plan { IfOk result (λ plan. query_of (map string_bytes words.now) ≡ Some plan) }
+        ensures plain { IfOk result (λ plan. is_plain_named plan.plan ≡ true) }
         ensures usage { result ≡ Err answer.Usage → query_of (map string_bytes words.now) ≡ None }
     {
         match option_values(alloc, words) {
