@@ -61,7 +61,7 @@ fn reads_below(bound: &BoundPlan, width: u32) -> bool
 {
     let groups = &bound.groups[..bound.group_count as usize];
     let items = &bound.items[..bound.item_count as usize];
-    bound.filter.is_none()
+    bound.filter_count == 0
         && groups.iter().all(|column| *column < width)
         && items.iter().all(|item| item.column < width)
 }
