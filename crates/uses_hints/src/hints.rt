@@ -223,7 +223,7 @@ const REFUSED: [(&str, &str); 8] = [
     ),
     (
         "--agg count --agg sum:v",
-        "parstream: \"--agg\" is not understood: an option may be given once; see parstream --help\n",
+        "parstream: \"--agg\" is not understood: this option may be given once; see parstream --help\n",
     ),
     (
         "--agg count --workers",
