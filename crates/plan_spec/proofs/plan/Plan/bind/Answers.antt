@@ -1,8 +1,10 @@
-use Rattle.std.proofs.Common.{◌≡◌, ◌+◌, ℕ, List, [], Bool, arith, length, map, string_bytes}
+use Rattle.std.proofs.Common.{◌≡◌, ◌∙◌, ◌+◌, ap, ℕ, List, [], Bool, arith, length, map, string_bytes}
 use Rattle.std.proofs.lemmas.List.{length-map}
 use Rattle.std.specs.Prelude.{filter_map, is_none}
 use Rattle.csv_rows.specs.Records.{record_at}
 use Rattle.par_model.specs.Named.{column_of, missing_name, names_of}
+use Rattle.par_model.specs.Plain.{is_plain}
+use Rattle.plan_spec.proofs.Plain.{bound_is_plain}
 use Rattle.plan_spec.proofs.Places.{IsFirst, first-of-three, none-of-three, second-of-three, third-of-three}
 use Rattle.plan_spec.proofs.plan.Plan.bind.Goals as goal
 
@@ -86,3 +88,6 @@ returns-clause-whole c =
     let plan = c.self.inside in
     rw (← c.self.view_is) (none-of-three (lacks (record_at c.args.rows.now 0)) (map string_bytes plan.groups.items) (filter_map (λ i. i.column) plan.items.items) (map (λ f. f.column) plan.filters.items)
     (rw c.as_slice.ensures.value at c.in-Ok.ensures.whole) (rw c.as_slice-2.ensures.value at c.in-Ok-bind_items.ensures.whole) (rw c.as_slice-3.ensures.value at c.in-Ok-bind_filters.ensures.whole))
+
+pub returns-clause-plain : goal.returns-clause-plain
+returns-clause-plain c = ap is_plain c.returns.bound ∙ bound_is_plain (record_at c.args.rows.now 0) c.args.self.now.plan

@@ -2,7 +2,7 @@ use Rattle.std.proofs.Common.{◌≡◌, ap, refl}
 use Rattle.std.specs.Prelude.{Err}
 use Rattle.plan_spec.specs.declared.plan.PlanAnswer.TheVariants as answer
 use Rattle.plan_spec.specs.Query.{query_of}
-use Rattle.plan_spec.proofs.Plain.{plain_query}
+use Rattle.plan_spec.proofs.Plain.{plain_filters, plain_query}
 use Rattle.plan_spec.proofs.Values.{without-places}
 use Rattle.plan_spec.proofs.plan.Plan.of_words.Goals as goal
 
@@ -27,4 +27,4 @@ returns-in-Ok-clause-usage c =
 pub returns-in-Ok-clause-plain : goal.returns-in-Ok-clause-plain
 returns-in-Ok-clause-plain c =
     let g = c.in-Ok.ensures in
-    plain_query _ _ (rw (without-places c.in-Ok.given g.decimals g.texts, g.filters) at c.read_values.ensures.plan)
+    plain_query _ _ _ _ _ _ _ (plain_filters _) (rw (without-places c.in-Ok.given g.decimals g.texts, g.filters) at c.read_values.ensures.plan)
