@@ -36,6 +36,6 @@ filters-preserved c =
       filters = rw (set_is, take_more c.args.filters.now c.filters.at filter c.filters-test.true, ← c.index-filters-at.is, map-append (bound_filter header) (take c.filters.at c.args.filters.now) (filter ∷ []), inv.filters, c.in-Some.ensures.filter) refl;
       size = length-set c.filters.bound c.filters.at c.in-Some.one ∙ inv.size;
       below = rw set_is (All-append (λ (f : Filter). f.column < length header) (take c.filters.at c.filters.bound) _ inv.below (All-cons (λ (f : Filter). f.column < length header) c.in-Some.one [] c.in-Some.ensures.below (All-nil (λ (f : Filter). f.column < length header))));
-      places = All-set (λ (f : Filter). f.places ≤ MOST_PLACES) c.filters.bound c.filters.at c.in-Some.one inv.places c.in-Some.ensures.places;
+      places = All-set (λ (f : Filter). f.places ≤ MOST_PLACES) c.filters.bound c.filters.at c.in-Some.one c.in-Some.ensures.places inv.places;
       present = rw same (place-more (λ n. is_none (column_of header n)) 0 (map name c.args.filters.now) c.filters.at (name filter) lt inv.present (rw (at, c.in-Some.ensures.whole) refl));
     }
