@@ -10,7 +10,7 @@ use Rattle.region_rule.specs.View.{View}
 use Rattle.region_rule.proofs.Rows.{AreNext, row_values}
 use Rattle.region_words.proofs.Seats.{Mine}
 use Rattle.mq_ring.specs.Bursts.{words_from}
-use Rattle.mq_ring.proofs.Runs.{next_word}
+use Rattle.mq_ring.proofs.Runs.{append_nothing}
 
 -- a remainder grows with its number as long as it stays below the divisor
 mod_more : (a i m : ℕ) → a % m + i < m → (a + i) % m ≡ a % m + i
@@ -92,10 +92,6 @@ fits_more (y ∷ ys) x a b = (a.0, fits_more ys x a.1 b)
 pub all_back : (me : Mine) (t : Token) (at k words : ℕ) (ys : List ℕ) (back : List (ℕ × ℕ)) → length ys + k ≡ words → k ≡ words → me ≡ (t, row (at + k) ys ++ back) → (ys ≡ []) × (me ≡ (t, back))
 all_back me t at k words [] back count done e = (refl, e)
 all_back me t at k words (y ∷ ys) back count done e = absurd (omega arith)
-
-append_nothing : {A : Type 0} (xs : List A) → xs ++ [] ≡ xs
-append_nothing [] = refl
-append_nothing (x ∷ xs) = ap (λ ys. x ∷ ys) (append_nothing xs)
 
 -- a row that was just taken out
 pub begun : (me : Mine) (at : ℕ) (xs : List ℕ) → me.1 ≡ row at xs → me ≡ (me.0, row (at + 0) xs ++ [])

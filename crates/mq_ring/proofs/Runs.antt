@@ -13,7 +13,7 @@ use Rattle.ring_rule.specs.Ends.{puts, takes}
 use Rattle.ring_rule.proofs.Messages.{framed_front}
 use Rattle.mq_ring.specs.Bursts.{words_from, HasWords}
 
-append_nothing : {A : Type 0} (xs : List A) → xs ++ [] ≡ xs
+pub append_nothing : {A : Type 0} (xs : List A) → xs ++ [] ≡ xs
 append_nothing [] = refl
 append_nothing (x ∷ xs) = ap (λ ys. x ∷ ys) (append_nothing xs)
 

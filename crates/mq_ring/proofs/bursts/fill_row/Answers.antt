@@ -15,13 +15,13 @@ pub loop-k-preserved : goal.loop-k-preserved
 loop-k-preserved c =
     let o = c.loop-k.invariant.out in
     let m = c.args.bytes.now in
-    let next = next_word c.args.from c.loop-k.k c.pack-word.result m (omega (arith, c.requires.inside, c.loop-k-test.true)) c.pack-word.ensures.word in
+    let next = next_word c.args.from c.loop-k.k c.whole_word-word.result m (omega (arith, c.requires.inside, c.loop-k-test.true)) c.whole_word-word.ensures in
     let count = length-words c.args.from c.loop-k.k m (omega (arith, c.requires.inside, c.loop-k-test.true)) in
-    let g = filled_more c.loop-k.seat.me c.write_front.new.seat.me _ c.args.at c.loop-k.k c.args.words c.pack-word.result (words_from c.args.from c.loop-k.k m) o.0 count o.1 (omega (arith, c.loop-k-test.true)) o.2 c.write_front.ensures.turned in
+    let g = filled_more c.loop-k.seat.me c.write_front.new.seat.me _ c.args.at c.loop-k.k c.args.words c.whole_word-word.result (words_from c.args.from c.loop-k.k m) o.0 count o.1 (omega (arith, c.loop-k-test.true)) o.2 c.write_front.ensures.turned in
     record {
       same = (c.write_front.ensures.seat.0 ∙ c.loop-k.invariant.same.0, c.write_front.ensures.seat.1 ∙ c.loop-k.invariant.same.1);
       out = (g.0, g.1, g.2 ∙ ap (λ (l : List ℕ). (c.args.seat.now.me.0, row (c.args.at + (c.loop-k.k + 1)) g.0 ++ row c.args.at l)) next);
-      fits = subst (AllByRecursion (λ y. y < 18446744073709551616)) next (fits_more (words_from c.args.from c.loop-k.k m) c.pack-word.result c.loop-k.invariant.fits c.pack-word.type_inv);
+      fits = subst (AllByRecursion (λ y. y < 18446744073709551616)) next (fits_more (words_from c.args.from c.loop-k.k m) c.whole_word-word.result c.loop-k.invariant.fits c.whole_word-word.type_inv);
     }
 
 pub loop-k-init : goal.loop-k-init

@@ -27,9 +27,9 @@ loop-k-preserved c =
         g.1,
         o.4 ∙ ap (row c.args.at) g.3,
         g.2,
-        word_more c.args.out.now c.loop-k.out c.unpack.new.out c.args.from c.loop-k.k word o.0 c.loop-k.invariant.len o.2 (omega (arith, c.requires.inside, c.loop-k-test.true)) o.6 c.unpack.ensures.bytes,
+        word_more c.args.out.now c.loop-k.out c.write_whole.new.out c.args.from c.loop-k.k word o.0 c.loop-k.invariant.len o.2 (omega (arith, c.requires.inside, c.loop-k-test.true)) o.6 c.write_whole.ensures.bytes,
       );
-      len = c.unpack.ensures.len ∙ c.loop-k.invariant.len;
+      len = c.write_whole.ensures.len ∙ c.loop-k.invariant.len;
     }
 
 pub returns-clause-same : goal.returns-clause-same
