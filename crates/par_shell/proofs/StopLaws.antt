@@ -2,7 +2,7 @@
 use Rattle.std.proofs.Common.{◌≡◌, ◌≢◌, ◌≤◌, ◌+◌, ◌⊎◌, inl, ℕ, List, length, Option, None, Some, IfSome, IsNone, Contains, refl, sym, subst, ap, ◌∙◌, arith}
 use Rattle.std.proofs.lemmas.List.{length-append}
 use Rattle.par_io.specs.Reads.{ReadsCount}
-use Rattle.par_shell.specs.declared.status.TheConstants.{ANSWERED, NO_MEMORY}
+use Rattle.par_shell.specs.declared.status.TheConstants.{ANSWERED, NO_MEMORY, TOO_LARGE}
 use Rattle.par_shell.specs.Scripts.{statuses}
 use Rattle.par_shell.specs.Stops.{status_of}
 use Rattle.par_shell.specs.declared.stop.Stop.{Stop}
@@ -41,3 +41,11 @@ is-memory ReadFault (Some script) new usage read write long n e = absurd (read r
 is-memory WriteFault (Some script) new usage read write long n e = absurd (write refl)
 is-memory Memory (Some script) new usage read write long n e = λ short. inl e
 is-memory TooLong (Some script) new usage read write long n e = λ short. let x = no-longer script new 1048577 (long refl) in absurd (omega (arith, short, x))
+
+-- only a script above the limit has the status of one
+pub is-long : (w : Stop) (n : ℕ) → n ≡ status_of w → n ≡ TOO_LARGE → w ≡ TooLong
+is-long Usage n e t = absurd (omega (arith, e, t))
+is-long ReadFault n e t = absurd (omega (arith, e, t))
+is-long WriteFault n e t = absurd (omega (arith, e, t))
+is-long Memory n e t = absurd (omega (arith, e, t))
+is-long TooLong n e t = refl

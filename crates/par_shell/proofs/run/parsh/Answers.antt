@@ -1,6 +1,7 @@
-use Rattle.std.proofs.Common.{refl}
+use Rattle.std.proofs.Common.{◌≡◌, refl}
 use Rattle.par_shell.specs.Scripts.{pages_in, texts}
-use Rattle.par_shell.proofs.StopLaws.{if-some, is-memory, is-status, none-is}
+use Rattle.par_shell.specs.declared.stop.Stop.TheVariants.{TooLong}
+use Rattle.par_shell.proofs.StopLaws.{if-some, is-long, is-memory, is-status, none-is}
 use Rattle.par_shell.proofs.run.parsh.Goals as goal
 
 pub returns-in-Ok-clause-answered : goal.returns-in-Ok-clause-answered
@@ -19,3 +20,8 @@ returns-in-Err-clause-complete g c = λ read write pages.
     (λ e. c.in-Err.ensures.too_long (cc e))
     c.end.result
     c.end.ensures.status
+
+pub returns-in-Err-clause-too_large : goal.returns-in-Err-clause-too_large
+returns-in-Err-clause-too_large g c = λ t.
+    let e : c.in-Err.stop ≡ TooLong = is-long c.in-Err.stop c.end.result c.end.ensures.status t in
+    c.in-Err.ensures.too_long (cc e)
