@@ -32,17 +32,6 @@ enum {
 
 enum { LK_AT_BYTES = 8192, LK_AT_ALIGNMENT = 16, LK_AT_MESSAGE = 240 };
 
-/* Memory that the program gives away. */
-typedef struct lk_given {
-    void *at;
-    size_t size;
-} lk_given;
-
-/* A queue's address in this process. */
-typedef struct lk_site {
-    void *at;
-} lk_site;
-
 /* What liblk_placed.a exports. Each pointer has to be good. */
 int32_t lk_raw_queue_new_at(lk_given memory, lk_site *site);
 int32_t lk_raw_queue_sender_at(lk_site site, lk_handle *tx);

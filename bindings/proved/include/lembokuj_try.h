@@ -75,6 +75,7 @@ enum {
     LK_SHORT_BUFFER = -18, /* the program's bytes have no room for the queue's greatest message */
     LK_IN_USE = -19,       /* a handle is not blank, or both pointers are one */
     LK_STILL_IN = -20,     /* lk_raw_queue_close: this side has not left yet */
+    LK_SIDE_TAKEN = -21,   /* somebody else has this side of a queue in given memory */
 };
 
 #define LK_BLANK {NULL, 0}
@@ -276,6 +277,94 @@ static inline int lk_queue_close_park(lk_handle *handle, lk_bell *bell) {
     int code = lk_queue_close_try(handle);
     lk_bell_ring(&bell->sender);
     lk_bell_ring(&bell->receiver);
+    return code;
+}
+
+/* ---- Queues in memory that the program brings ----
+ *
+ * The program gives memory once, for good, at an address that 16 divides, and the library makes a queue in it. Nothing
+ * that it stores there is an address. So processes may map this memory at different addresses: each calls with a place,
+ * which is its three addresses of the queue's parts.
+ *
+ * A process takes a side of the queue into a handle in its memory, and that is a handle as any other: all calls above
+ * serve it. The side that receives is taken first, and the side that sends once a receiver has come; each is taken once.
+ *
+ * What the program owes: the memory is its own, is used for nothing else, and is mapped as long as there are handles; a
+ * place is that of a queue which was made there. No call finds out if it is otherwise. */
+
+enum { LK_HEAD_BYTES = 1024, LK_PLACE_ALIGNMENT = 16 };
+
+/* Memory that the program gives away. */
+typedef struct lk_given {
+    void *at;
+    size_t size;
+} lk_given;
+
+/* A queue in this process: the addresses of its head, and of the words and the slots of its ring. */
+typedef struct lk_site {
+    void *at;
+} lk_site;
+
+typedef struct lk_rows {
+    void *words;
+    void *slots;
+} lk_rows;
+
+typedef struct lk_place {
+    lk_site site;
+    lk_rows rows;
+} lk_place;
+
+/* What liblk_queue.a exports for it. */
+int32_t lk_raw_queue_given(lk_given head, lk_given words, lk_given slots, uint64_t ring_words, uint32_t max_bytes, lk_site *site, lk_rows *rows);
+int32_t lk_raw_queue_receiver(lk_site site, lk_rows rows, lk_handle *rx);
+int32_t lk_raw_queue_sender(lk_site site, lk_rows rows, lk_handle *tx);
+
+/* The bytes of one row, and of all that a queue takes. */
+static inline size_t lk_row_bytes(uint64_t ring_words) {
+    return (((size_t)ring_words + 4) * 8 + 15) & ~(size_t)15;
+}
+
+static inline size_t lk_place_bytes(uint64_t ring_words) {
+    return LK_HEAD_BYTES + 2 * lk_row_bytes(ring_words);
+}
+
+/* The place of the queue that was made at the front of this memory, which may be another process's mapping of it. */
+static inline lk_place lk_place_at(void *memory, uint64_t ring_words) {
+    uint8_t *head = (uint8_t *)memory, *words = head + LK_HEAD_BYTES, *slots = words + lk_row_bytes(ring_words);
+    lk_place place = {{head}, {words, slots}};
+    return place;
+}
+
+/* Makes a queue in lk_place_bytes(ring_words) bytes of memory. One process does it, before any other takes a side. The
+ * sizes are those of lk_queue_new_try. LK_NULL, LK_BAD_SIZE, LK_NO_MEMORY. */
+static inline int lk_queue_new_in(void *memory, size_t bytes, uint64_t ring_words, uint32_t max_bytes) {
+    if (!memory) return LK_NULL;
+    if ((uintptr_t)memory % LK_PLACE_ALIGNMENT || ring_words > 1u << 20 || bytes < lk_place_bytes(ring_words)) return LK_BAD_SIZE;
+    lk_place place = lk_place_at(memory, ring_words), made = {{NULL}, {NULL, NULL}};
+    lk_given head = {place.site.at, LK_HEAD_BYTES};
+    lk_given words = {place.rows.words, lk_row_bytes(ring_words)}, slots = {place.rows.slots, lk_row_bytes(ring_words)};
+    int code = lk_raw_queue_given(head, words, slots, ring_words, max_bytes, &made.site, &made.rows);
+    if (code != LK_OK) return code;
+    bool there = made.site.at == place.site.at && made.rows.words == place.rows.words && made.rows.slots == place.rows.slots;
+    return there ? LK_OK : LK_BAD_SIZE;
+}
+
+/* The side that receives, into a blank handle. LK_SIDE_TAKEN, LK_IN_USE, LK_NO_MEMORY. */
+static inline int lk_queue_receiver_try(lk_place place, lk_handle *rx) {
+    return place.site.at && rx ? lk_raw_queue_receiver(place.site, place.rows, rx) : LK_NULL;
+}
+
+/* The side that sends, into a blank handle. LK_WOULD_BLOCK while no receiver has come, or while another process is just at
+ * the queue's head; LK_SIDE_TAKEN, LK_IN_USE, LK_NO_MEMORY. */
+static inline int lk_queue_sender_try(lk_place place, lk_handle *tx) {
+    return place.site.at && tx ? lk_raw_queue_sender(place.site, place.rows, tx) : LK_NULL;
+}
+
+/* The same, and waits for a receiver. */
+static inline int lk_queue_sender_wait(lk_place place, lk_handle *tx) {
+    int code;
+    for (unsigned tries = 0; (code = lk_queue_sender_try(place, tx)) == LK_WOULD_BLOCK; tries++) lk_between(tries);
     return code;
 }
 

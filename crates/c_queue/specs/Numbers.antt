@@ -1,7 +1,7 @@
 -- The numbers of the codes in C.
 use Rattle.std.specs.Prelude.{ℤ, pos, neg_ℤ}
 use Rattle.c_queue.specs.declared.code.Code.{Code}
-use Rattle.c_queue.specs.declared.code.Code.TheVariants.{Done, WouldBlock, Detached, Blank, OtherKind, NoMemory, BadSize, TooLong, OtherMessage, Gone, ShortBuffer, InUse, StillIn}
+use Rattle.c_queue.specs.declared.code.Code.TheVariants.{Done, WouldBlock, Detached, Blank, OtherKind, NoMemory, BadSize, TooLong, OtherMessage, Gone, ShortBuffer, InUse, StillIn, Taken}
 
 -- 0 is done, above 0 is an answer, below 0 nothing was changed
 abbrev pub number_of : Code → ℤ
@@ -18,3 +18,4 @@ number_of Gone = neg_ℤ (pos 17)
 number_of ShortBuffer = neg_ℤ (pos 18)
 number_of InUse = neg_ℤ (pos 19)
 number_of StillIn = neg_ℤ (pos 20)
+number_of Taken = neg_ℤ (pos 21)

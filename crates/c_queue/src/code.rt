@@ -32,6 +32,8 @@ pub enum Code {
     InUse,
     /// This side has not left yet.
     StillIn,
+    /// Somebody else has this side.
+    Taken,
 }
 
 impl Code {
@@ -53,6 +55,7 @@ impl Code {
             Code::ShortBuffer => -18,
             Code::InUse => -19,
             Code::StillIn => -20,
+            Code::Taken => -21,
         }
     }
 }

@@ -103,7 +103,7 @@ impl Handle {
     }
 
     /// Puts a side into it, which has to be blank.
-    fn put(&mut self, side: Box<End>)
+    pub fn put(&mut self, side: Box<End>)
         requires { self.old.value ≡ None }
         ensures { self.new.value ≡ Some (box_value side) }
     {
@@ -111,7 +111,7 @@ impl Handle {
     }
 
     /// Whether it has nothing.
-    fn is_blank(&mut self, alloc: Global) -> bool
+    pub fn is_blank(&mut self, alloc: Global) -> bool
         ensures same { self.new.value ≡ self.old.value }
         ensures blank { result ≡ is_none self.old.value }
     {

@@ -36,7 +36,7 @@ impl Model for Inbox {
 
 impl Inbox {
     /// The side over an end.
-    pub(crate) fn new(region: Arc<Region>, receiver: Receiver, max: u32) -> Inbox
+    pub fn new(region: Arc<Region>, receiver: Receiver, max: u32) -> Inbox
         requires here { receiver.region ≡ arc_value region }
         requires max { max ≡ receiver.end.ring.max }
         requires stays { receiver.end.gone ≡ false }

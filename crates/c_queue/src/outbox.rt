@@ -53,13 +53,32 @@ impl Outbox {
         ensures { IfOk result (λ o. o ≡ outgoing sender None) }
     {
         let buffer = vec![in alloc; 0u8; max as usize]?;
-        Ok(Outbox {
+        Ok(Outbox::over(region, sender, buffer))
+    }
+
+    /// The same with bytes that the caller brings, as many as the greatest message has. It takes no memory.
+    pub fn over(region: Arc<Region>, sender: Sender, buffer: Vec<u8>) -> Outbox
+        requires here { sender.region ≡ arc_value region }
+        requires room { length buffer.items ≡ sender.end.ring.max }
+        requires stays { sender.end.gone ≡ false }
+        requires fresh { left_of sender.end.put ≡ [] }
+        ensures { result ≡ outgoing sender None }
+    {
+        Outbox {
             region,
             sender,
             buffer,
             begun: None,
             gone: false,
-        })
+        }
+    }
+
+    /// Its end of the queue again.
+    pub fn into_sender(self) -> Sender
+        ensures { result ≡ self.sender }
+    {
+        let Outbox { sender, .. } = self;
+        sender
     }
 
     /// Puts the message on the ring as far as there is room. The costs are those of `mq_handle::Sender::try_send`, and

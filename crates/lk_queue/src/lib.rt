@@ -10,6 +10,10 @@
 //! them. It says nothing of the other handle. That what was received is a beginning of what was sent holds of every two
 //! sides of one queue at any time (`c_queue::meet`); an export can't say it, since nothing at run time says which two
 //! handles were made together.
+//!
+//! A queue may also lie in memory that C brings (`c_given`), which processes may map at different addresses: one call
+//! makes it, and a process takes a side of it into a handle of its own. All other calls of that handle are those of
+//! every queue. Of these three calls C owes more: that a site and rows are its addresses of a queue that was made.
 
 #![tactic(auto)]
 
@@ -17,8 +21,11 @@ ghost use Rattle.std.specs.Prelude.{◌≡◌};
 ghost use Rattle.c_queue.specs.Numbers.{number_of};
 ghost use Rattle.c_queue.specs.Calls.{Opens, Sends, SendsWhole, Flushes, Receives, Leaves, Closes};
 ghost use Rattle.c_queue.specs.declared.code.Code.{Code as TheCode};
+ghost use Rattle.c_given.specs.Calls.{IsPlaced, Opens as OpensAt, OpensSender, OpensReceiver};
 
+use c_given::{Rows, Site, open_at, open_receiver, open_sender};
 use c_queue::{Handle, open};
+use given_heap::Given;
 use std::alloc::Global;
 
 /// Makes a queue over a ring of that many words, for messages of at most `max` bytes, in two blank handles. It takes
@@ -103,4 +110,47 @@ pub extern "C" fn lk_raw_queue_close(alloc: Global, handle: &mut Handle) -> i32
     ensures { (code : TheCode) × (result ≡ number_of code) × Closes handle.old.value handle.new.value code }
 {
     handle.close(alloc).number()
+}
+
+/// Makes a queue in memory of C's, for good. The head has to have 1,024 bytes, and each of the two rows 8 bytes for each
+/// of `ring_words + 4` words; all three have to be aligned to 16.
+#[unsafe(no_mangle)]
+pub extern "C" fn lk_raw_queue_given(
+    alloc: Global,
+    head: Given,
+    words_at: Given,
+    slots_at: Given,
+    words: u64,
+    max: u32,
+    site: &mut Site,
+    rows: &mut Rows,
+) -> i32
+    ensures { (code : TheCode) × (result ≡ number_of code) × OpensAt head.size words max site.old.queue rows.old.table site.new.queue rows.new.table code }
+{
+    open_at(alloc, head, words_at, slots_at, words, max, site, rows).number()
+}
+
+/// The side that receives, into a blank handle, if nobody has taken it. One compare-exchange, and memory of the process's
+/// own for the greatest message.
+#[unsafe(no_mangle)]
+pub extern "C" fn lk_raw_queue_receiver(
+    alloc: Global,
+    site: Site,
+    rows: Rows,
+    rx: &mut Handle,
+) -> i32
+    requires { IsPlaced site.queue rows.table }
+    ensures { (code : TheCode) × (result ≡ number_of code) × OpensReceiver site.queue rx.old.value rx.new.value code }
+{
+    open_receiver(alloc, site, rows, rx).number()
+}
+
+/// The side that sends, into a blank handle, once a receiver has come and if nobody has taken it. One compare-exchange,
+/// and memory of the process's own for the greatest message.
+#[unsafe(no_mangle)]
+pub extern "C" fn lk_raw_queue_sender(alloc: Global, site: Site, rows: Rows, tx: &mut Handle) -> i32
+    requires { IsPlaced site.queue rows.table }
+    ensures { (code : TheCode) × (result ≡ number_of code) × OpensSender site.queue tx.old.value tx.new.value code }
+{
+    open_sender(alloc, site, rows, tx).number()
 }

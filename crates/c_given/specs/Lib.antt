@@ -1,0 +1,4 @@
+pub mod Which
+pub mod Takes
+pub mod Owned
+pub mod Calls
