@@ -1,6 +1,6 @@
 -- Words of bytes that are copied to a buffer first, and the bytes of parts.
 use Rattle.std.proofs.Common.{◌≡◌, ℕ, zero, suc, ◌+◌, ◌-◌, ◌*◌, ◌<◌, ◌≤◌, ◌⊎◌, ⊎_elim, min, Bor, List, [], ◌∷◌, ◌++◌, length, take, drop, get_or, refl, sym, ap, ◌∙◌, arith, drop-drop, length-drop}
-use Rattle.std.proofs.Math.Seq.{take-length, take-add}
+use Rattle.std.proofs.Math.Seq.{take-length}
 use Rattle.std.proofs.lemmas.Bool.{cases_lt}
 use Rattle.std.proofs.lemmas.Grind.{flat_map-append}
 use Rattle.std.proofs.lemmas.List.{append-nil, take_all, take_more, take_min, take-take, drop-take, drop_min, length-take-le}
@@ -51,12 +51,6 @@ burst_words m from words start count inside start_is count_is =
     ∙ same
     ∙ sym (words_front words (all - from) rest (omega arith))
     ∙ sym (ap (take words) tail)
-
--- a run of words, and the run after it
-pub words_then : (from k run : ℕ) (m : List ℕ) → words_from from k m ++ words_from (from + k) run m ≡ words_from from (k + run) m
-words_then from k run m =
-    let all = packed_words (word_count (length m)) m in
-    ap (λ (ws : List ℕ). take k (drop from all) ++ take run ws) (sym (drop-drop k from all)) ∙ sym (take-add k run (drop from all))
 
 take_both : (n : ℕ) (xs ys : List ℕ) → take n (xs ++ ys) ≡ take n xs ++ take (n - length xs) ys
 take_both zero xs ys = ap (λ (k : ℕ). take k ys) (let e : 0 ≡ 0 - length xs = omega arith in e)

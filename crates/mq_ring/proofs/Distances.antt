@@ -1,5 +1,5 @@
 -- How far one count is behind another, from their words; and where in the region a ring's words are.
-use Rattle.std.proofs.Common.{◌≡◌, ℕ, ◌+◌, ◌-◌, ◌%◌, ◌^◌, ◌<◌, ◌≤◌, sym, ap, subst, ◌∙◌, arith, pow_mono, mod-lt}
+use Rattle.std.proofs.Common.{◌≡◌, ℕ, ◌+◌, ◌-◌, ◌%◌, ◌^◌, ◌<◌, ◌≤◌, sym, ap, subst, ◌∙◌, arith, pow_mono, pow_pos, mod-lt}
 use Rattle.std.proofs.lemmas.Nat.{and_mask}
 use Rattle.std.specs.Int.Bits.{bit_and}
 use Rattle.atomic_table.specs.Seated.{TableId}
@@ -14,6 +14,9 @@ behind start put r position n e f low near = omega arith
 
 pub masked : (position size e : ℕ) → size ≡ 2 ^ e → bit_and position (size - 1) ≡ position % size
 masked position size e is = subst (λ (n : ℕ). bit_and position (n - 1) ≡ position % n) (sym is) (and_mask position e)
+
+pub below_power : (position size e : ℕ) → size ≡ 2 ^ e → position % size < size
+below_power position size e is = mod-lt position (subst (λ (n : ℕ). 0 < n) (sym is) (pow_pos e))
 
 -- a word of the ring is one of the region
 pub in_region : (t z : TableId) (r : Ring) (base size max k : ℕ) → LiesIn t r base size max → t ≡ z → k < base + 3 + size → k < z.words

@@ -4,3 +4,5 @@ pub mod ReceiverSteps
 pub mod Meetings
 pub mod Makings
 pub mod Runs
+pub mod Rows
+pub mod RowSteps

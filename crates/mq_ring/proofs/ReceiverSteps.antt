@@ -1,5 +1,5 @@
 -- The rule allows each step of a receiver's end, over plain values.
-use Rattle.std.proofs.Common.{◌≡◌, ℕ, ◌+◌, ◌-◌, ◌%◌, ◌<◌, ◌≤◌, false, length, Bool, true, cond, ◌==◌, refl, le_trans, sym, ap, subst, ◌∙◌, arith}
+use Rattle.std.proofs.Common.{◌≡◌, ℕ, ◌+◌, ◌-◌, ◌%◌, ◌<◌, ◌≤◌, false, length, Bool, true, cond, ◌==◌, refl, le_refl, le_trans, sym, ap, subst, ◌∙◌, arith}
 use Rattle.atomic_table.specs.Table.{Allows}
 use Rattle.atomic_table.specs.Seated.{TableId}
 use Rattle.ring_rule.specs.Ring.{Receiving, count_word, place_of}
@@ -37,7 +37,7 @@ may_take t k me base size max position o p v more is =
     let q = rx_of me.0.view in
     let e = ends_same t me o v in
     subst (λ (x : Mine). MayTake x.0.view k) (sym p.receives)
-    (place_is t q.ring base size max position (length q.taken) k p.lies p.position_is is, subst (λ (x : Receiving). length x.taken < x.avail) e more)
+    (length q.taken, place_is t q.ring base size max position (length q.taken) k p.lies p.position_is is, le_refl (length q.taken), subst (λ (x : Receiving). length x.taken < x.avail) e more)
 
 pub take_inside : (t z : TableId) (k : ℕ) (me : Mine) (base size max position : ℕ) (o : ReceivingEnd) → IsReceiver t me base size max position
     → receiving_end t (rx_of me.0.view) (rx_told me.0.view) ≡ o → o.region ≡ z → k ≡ base + 3 + position % size → k < z.words

@@ -1,6 +1,7 @@
 -- What a run of steps leaves of an end, and the words and bytes of a run.
-use Rattle.std.proofs.Common.{◌≡◌, ℕ, ◌+◌, ◌-◌, ◌*◌, ◌<◌, ◌≤◌, ⊎_elim, Bool, true, false, cond, List, [], ◌∷◌, ◌++◌, length, take, drop, get_or, slice_index, refl, sym, ap, subst, ◌∙◌, arith, length-append, append_assoc}
+use Rattle.std.proofs.Common.{◌≡◌, ℕ, ◌+◌, ◌-◌, ◌*◌, ◌<◌, ◌≤◌, ⊎_elim, Bool, true, false, cond, List, [], ◌∷◌, ◌++◌, length, take, drop, get_or, slice_index, refl, sym, ap, subst, ◌∙◌, arith, length-append, append_assoc, drop-drop}
 use Rattle.std.specs.List.{fold}
+use Rattle.std.proofs.Math.Seq.{take-add}
 use Rattle.std.proofs.lemmas.Bool.{cases_lt}
 use Rattle.std.proofs.lemmas.Bool.Decides.{nat_tests}
 use Rattle.std.proofs.lemmas.List.{take_more, take-append-drop, get_or-drop, get_or_append_left, get_or-append_right, take-take, length-take-le, length-drop}
@@ -12,7 +13,7 @@ use Rattle.ring_rule.specs.Ends.{puts, takes}
 use Rattle.ring_rule.proofs.Messages.{framed_front}
 use Rattle.mq_ring.specs.Bursts.{words_from, HasWords}
 
-append_nothing : {A : Type 0} (xs : List A) → xs ++ [] ≡ xs
+pub append_nothing : {A : Type 0} (xs : List A) → xs ++ [] ≡ xs
 append_nothing [] = refl
 append_nothing (x ∷ xs) = ap (λ ys. x ∷ ys) (append_nothing xs)
 
@@ -72,6 +73,12 @@ length-words from count bytes low =
     let all = packed_words (word_count (length bytes)) bytes in
     length-take-le count (drop from all) (omega (arith, length-drop from all, length-packed_words (word_count (length bytes)) bytes))
 
+-- a run of words, and the run after it
+pub words_then : (from k run : ℕ) (m : List ℕ) → words_from from k m ++ words_from (from + k) run m ≡ words_from from (k + run) m
+words_then from k run m =
+    let all = packed_words (word_count (length m)) m in
+    ap (λ (ws : List ℕ). take k (drop from all) ++ take run ws) (sym (drop-drop k from all)) ∙ sym (take-add k run (drop from all))
+
 -- the first words of a run are a beginning of what is framed
 pub run_framed : (max k words : ℕ) (put rest : List ℕ) → k ≤ words → IsFramed max (put ++ take words rest) → IsFramed max (put ++ take k rest)
 run_framed max k words put rest low f =
@@ -79,6 +86,10 @@ run_framed max k words put rest low f =
     framed_front max (put ++ take words rest) (put ++ take k rest) (drop k (take words rest)) f
     (ap (λ (z : List ℕ). put ++ z) (sym (take-append-drop k (take words rest)) ∙ ap (λ (z : List ℕ). z ++ drop k (take words rest)) front)
     ∙ sym (append_assoc put (take k rest) (drop k (take words rest))))
+
+-- the bytes of a word
+word_bounds : (p i : ℕ) → is_of_word p i ≡ true → (8 * p ≤ i) × (i < 8 * p + 8)
+word_bounds p i e = (grind (arith, nat_tests), grind (arith, nat_tests))
 
 -- the bytes of a run and one word more
 pub word_more : (old mid new : List ℕ) (from k word : ℕ) (xs : List ℕ) → length mid ≡ length old → length xs ≡ k → from + k < word_count (length old) → HasWords old mid from xs
@@ -94,9 +105,6 @@ word_more old mid new from k word xs same count room h bytes = record { written 
     mine : (i : ℕ) → is_of_word (from + k) i ≡ true → i < length old → slice_index new i ≡ byte_of word i
     mine i on inside = bytes i (omega (arith, same)) ∙ ap (λ (b : Bool). cond b (byte_of word i) (slice_index mid i)) on
 
-    low_of : (p i : ℕ) → is_of_word p i ≡ true → (8 * p ≤ i) × (i < 8 * p + 8)
-    low_of p i e = (grind (arith, nat_tests), grind (arith, nat_tests))
-
     below : (p i : ℕ) → i < 8 * p → is_of_word p i ≡ false
     below p i l = grind (arith, nat_tests)
 
@@ -106,7 +114,7 @@ word_more old mid new from k word xs same count room h bytes = record { written 
     written : (j i : ℕ) → j < length (xs ++ (word ∷ [])) → i < length old → is_of_word (from + j) i ≡ true → slice_index new i ≡ byte_of (slice_index (xs ++ (word ∷ [])) j) i
     written j i l inside of = ⊎_elim
         (λ (low : j < k).
-        let at = low_of (from + j) i of in
+        let at = word_bounds (from + j) i of in
         other i (below (from + k) i (omega (arith, at.1))) inside ∙ h.written j i (omega (arith, count)) inside of
         ∙ ap (λ (w : ℕ). byte_of w i) (sym (get_or_append_left xs (word ∷ []) 0 j (omega (arith, count)))))
         (λ (high : k ≤ j).
@@ -120,6 +128,30 @@ word_more old mid new from k word xs same count room h bytes = record { written 
 
     behind : (i : ℕ) → i < length old → 8 * (from + length (xs ++ (word ∷ []))) ≤ i → slice_index new i ≡ slice_index old i
     behind i inside l = other i (above (from + k) i (omega (arith, more))) inside ∙ h.behind i inside (omega (arith, more, count))
+
+-- the bytes of a run and of the run after it
+pub words_both : (old mid new : List ℕ) (from k : ℕ) (xs ys : List ℕ) → length mid ≡ length old → length xs ≡ k → HasWords old mid from xs → HasWords mid new (from + k) ys → HasWords old new from (xs ++ ys)
+words_both old mid new from k xs ys same count first second = record { written = written; before = before; behind = behind }
+  where
+    more : length (xs ++ ys) ≡ k + length ys
+    more = length-append xs ys ∙ ap (λ (n : ℕ). n + length ys) count
+
+    written : (j i : ℕ) → j < length (xs ++ ys) → i < length old → is_of_word (from + j) i ≡ true → slice_index new i ≡ byte_of (slice_index (xs ++ ys) j) i
+    written j i l inside of = ⊎_elim
+        (λ (low : j < k).
+        let at = word_bounds (from + j) i of in
+        second.before i (omega (arith, at.1)) ∙ first.written j i (omega (arith, count)) inside of ∙ ap (λ (w : ℕ). byte_of w i) (sym (get_or_append_left xs ys 0 j (omega (arith, count)))))
+        (λ (high : k ≤ j).
+        let place : from + j ≡ from + k + (j - k) = omega arith in
+        second.written (j - k) i (omega (arith, more)) (omega (arith, same)) (subst (λ (n : ℕ). is_of_word n i ≡ true) place of)
+        ∙ ap (λ (w : ℕ). byte_of w i) (sym (get_or-append_right xs ys k j 0 count high)))
+        (cases_lt j k)
+
+    before : (i : ℕ) → i < 8 * from → slice_index new i ≡ slice_index old i
+    before i l = second.before i (omega arith) ∙ first.before i l
+
+    behind : (i : ℕ) → i < length old → 8 * (from + length (xs ++ ys)) ≤ i → slice_index new i ≡ slice_index old i
+    behind i inside l = second.behind i (omega (arith, same)) (omega (arith, more)) ∙ first.behind i inside (omega (arith, more, count))
 
 -- a run of no words leaves the bytes as they are
 pub no_words : (bytes : List ℕ) (from : ℕ) → HasWords bytes bytes from []

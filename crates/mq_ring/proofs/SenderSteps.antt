@@ -1,5 +1,5 @@
 -- The rule allows each step of a sender's end, over plain values.
-use Rattle.std.proofs.Common.{◌≡◌, ℕ, ◌+◌, ◌%◌, ◌<◌, false, [], ◌∷◌, ◌++◌, length, sym, ap, subst, ◌∙◌, arith}
+use Rattle.std.proofs.Common.{◌≡◌, ℕ, ◌+◌, ◌%◌, ◌<◌, false, [], ◌∷◌, ◌++◌, length, le_refl, sym, ap, subst, ◌∙◌, arith}
 use Rattle.atomic_table.specs.Table.{Allows}
 use Rattle.atomic_table.specs.Seated.{TableId}
 use Rattle.word_map.specs.WordMap.{WordMap}
@@ -25,7 +25,7 @@ may_put t u k me base size max position rest bytes o p v room is =
     let s = tx_of me.0.view in
     let e = ends_same t me rest bytes o v in
     subst (λ (x : Mine). MayTake x.0.view k) (sym p.sends)
-    (place_is t s.ring base size max position (length s.put) k p.lies p.position_is is, subst (λ (x : Sending). length x.put < x.room + x.ring.size) e room)
+    (length s.put, place_is t s.ring base size max position (length s.put) k p.lies p.position_is is, le_refl (length s.put), subst (λ (x : Sending). length x.put < x.room + x.ring.size) e room)
 
 pub put_inside : (t u z : TableId) (k : ℕ) (me : Mine) (base size max position : ℕ) (rest : WordMap) (bytes : ℕ) (o : SendingEnd) → IsSender t u me base size max position
     → sending_end t (tx_of me.0.view) (tx_told me.0.view) rest bytes ≡ o → o.region ≡ z → k ≡ base + 3 + position % size → k < z.words

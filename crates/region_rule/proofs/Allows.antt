@@ -1,6 +1,7 @@
 -- What a table under the rule asks of a step. To take a slot out, and to copy a word, is no event of the region; each
 -- other step is one. Once for each way to step.
-use Rattle.std.proofs.Common.{◌≡◌, ◌≢◌, ◌⊎◌, ℕ, zero, suc, ◌+◌, ◌<◌, ◌≤◌, List, [], ◌∷◌, ◌++◌, set, get_or, length, Some, None, refl, sym, ap, subst, ◌∙◌, ⊎_elim, arith, length-set}
+use Rattle.std.proofs.Common.{◌≡◌, ◌≢◌, ◌⊎◌, ℕ, zero, suc, ◌+◌, ◌<◌, ◌≤◌, List, [], ◌∷◌, ◌++◌, set, get_or, length, Some, refl, sym, ap, subst, ◌∙◌, ⊎_elim, arith, length-set}
+use Rattle.std.specs.List.{AllByRecursion}
 use mathlib.Core.Option as opt
 use mathlib.Core.Option.{some, none, some-injective}
 use mathlib.Core.Logic.{dite}
@@ -14,12 +15,12 @@ use Rattle.ring_rule.proofs.Stored.{has_at}
 use Rattle.region_rule.specs.View.{View, Own, Frozen, Sender, Receiver, Done, Spent, Holds, MayShare, Olds}
 use Rattle.region_rule.specs.Sound.{World, Sees, Sound}
 use Rattle.region_rule.specs.Steps.{Event, Happens, Finds, Reached, seen_anew, written_anew, cut_anew, joined_anew}
-use Rattle.region_rule.specs.Places.{Token, idle, copying, taking, views_of, InSlot, InWord, MayTake, Copied, Nobody, Placed, Ruled}
+use Rattle.region_rule.specs.Places.{Token, idle, holding, copying, taking, views_of, InSlot, InWord, MayTake, Copied, MayHave, Clear, Nobody, Placed, Ruled}
 use Rattle.region_rule.proofs.Runs.{reaches, reached_sound, reached-length}
 use Rattle.region_rule.proofs.Takers.{take_holds, word_holds, slot_holds, sole_holds, one_taker, word_free, slot_free, one_place, sole_free}
-use Rattle.region_rule.proofs.Moves.{map_set, map_snoc, Away, copied_moves, nothing_out, nothing_copied, touched, viewed, appended, free_back}
+use Rattle.region_rule.proofs.Moves.{map_set, map_snoc, Away, copied_moves, not_out, nothing_out, nothing_copied, touched, viewed, appended, free_back}
 
-set_same : (l : List ℕ) (i : ℕ) → set l i (get_or l i 0) ≡ l
+pub set_same : (l : List ℕ) (i : ℕ) → set l i (get_or l i 0) ≡ l
 set_same [] i = refl
 set_same (x ∷ xs) zero = refl
 set_same (x ∷ xs) (suc i) = ap (λ l. x ∷ l) (set_same xs i)
@@ -64,40 +65,35 @@ taker_alone words s id k h sound here may single i g its c = dite (ℕ_discrete 
     word_free words h.view g.view k may c (shared words s id i k h g sound here its other (take_holds words h.view k honest may) (word_holds words g.view k its_honest c)))
 
 -- nobody has out what a token may take and has not
-taker_free : (count : ℕ) (words : List ℕ) (s : State ℕ Token) (id k : ℕ) (h : Token) → Sound (world_of words s.views) → Placed count words s → get_elem? s.views id ≡ some h → MayTake h.view k → h.out ≡ None → Nobody s.views k
-taker_free count words s id k h sound t here may empty j f p e o z = dite (ℕ_discrete j id)
-    (λ (y : j ≡ id). let same : f ≡ h = some-injective f h (sym e ∙ ap (get_elem? s.views) y ∙ here) in no_out p (sym empty ∙ (ap (λ (g : Token). g.out) (sym same) ∙ o)))
-    (λ (y : j ≢ id). (taker_away count words s id k h sound t here may j f y e).0 (subst (MayTake f.view) z (t.outs j f e p o).0))
-  where
-    no_out : (p : ℕ × ℕ) → None ≡ Some p → ⊥
-    no_out p e = cc
-
-pair_value : (k x : ℕ) (p : ℕ × ℕ) → Some (k, x) ≡ Some p → (k, x) ≡ p
-pair_value k x p e = cc
+taker_free : (count : ℕ) (words : List ℕ) (s : State ℕ Token) (id k : ℕ) (h : Token) → Sound (world_of words s.views) → Placed count words s → get_elem? s.views id ≡ some h → MayTake h.view k → Clear h.out k → Nobody s.views k
+taker_free count words s id k h sound t here may clear j f e = dite (ℕ_discrete j id)
+    (λ (y : j ≡ id). let same : f ≡ h = some-injective f h (sym e ∙ ap (get_elem? s.views) y ∙ here) in subst (λ (g : Token). Clear g.out k) (sym same) clear)
+    (λ (y : j ≢ id). not_out words f.view k f.out (taker_away count words s id k h sound t here may j f y e).0 (t.outs j f e))
 
 some_home : (x y : ℕ) → some (some x) ≡ some (some y) → x ≡ y
 some_home x y e = some-injective x y (some-injective (some x) (some y) e)
 
--- TO TAKE A SLOT OUT IS NO EVENT
-pub take_allows : (count slots id i k : ℕ) (u : View) (from n : ℕ) → MayTake u k → k < count → (from ≤ k → k < from + n → ⊥)
-    → Allows (Ruled count) slots id (copying u from n, []) i (λ f. f) (λ f after. (x : ℕ) × (after ≡ (taking u k x from n, (k, x) ∷ [])))
-take_allows count slots id i k u from n may inside fresh s r more here fits =
-    let table = subst (λ (ws : List ℕ). Placed count r.0 record { words = ws; homes = set s.homes k none; views = set s.views id (taking u k x from n) }) (sym (set_same s.words i))
-    (touched count r.0 r.0 s.words (set s.homes k none) s id k (copying u from n) (taking u k x from n) t here t.counted (λ q z. refl) (λ q z. refl) (λ q z. set_else s.homes k q none z)
-    (λ q c. c) (λ q c. c) (λ p e. absurd (no_out p e))
-    (λ p e. subst (λ (z : ℕ × ℕ). MayTake u z.0 × (InSlot u z.0 → get_elem? r.0 z.0 ≡ some z.1)) (pair_value k x p e) (may, found))
-    (λ q low high. let old = t.copies id (copying u from n) here q low high in
-    (old.0, λ y f. copied_moves u s.words s.words s.homes (set s.homes k none) q y refl (set_else s.homes k q none (λ z. fresh (subst (λ (b : ℕ). from ≤ b) z low) (subst (λ (b : ℕ). b < from + n) z high))) (old.1 y f)))
-    (taker_away count r.0 s id k (copying u from n) sound t here may)
-    (λ j g y e c f. t.in_word j g k y e c f)
-    (λ j g y rests e c f. absurd (rests (k, x) refl refl))
-    (λ rests low. absurd (rests (k, x) refl refl))) in (
-      taking u k x from n,
-      takes k x,
-      home.1,
-      (r.0, subst (Reached count r.0) (sym (map_set s.views id (taking u k x from n) ∙ set_again (views_of s.views) id u (sees s.views r.0 id (copying u from n) here))) r.1, table),
-      (x, refl),
-    )
+-- a token takes one more slot out
+pub takes_one : (count id k : ℕ) (u : View) (out : List (ℕ × ℕ)) (from n : ℕ) (s : State ℕ Token) → Ruled count s → get_elem? s.views id ≡ some (holding u out from n) → MayTake u k → k < count → Clear out k
+    → (from ≤ k → k < from + n → ⊥)
+    → (x : ℕ) × (get_elem? s.homes k ≡ some (some x)) × Ruled count record { words = s.words; homes = set s.homes k none; views = set s.views id (holding u ((k, x) ∷ out) from n) }
+takes_one count id k u out from n s r here may inside clear fresh = (
+  x,
+  home.1,
+  (
+  r.0,
+  subst (Reached count r.0) (sym (map_set s.views id (holding u ((k, x) ∷ out) from n) ∙ set_again (views_of s.views) id u (sees s.views r.0 id (holding u out from n) here))) r.1,
+  touched count r.0 r.0 s.words (set s.homes k none) s id k (holding u out from n) (holding u ((k, x) ∷ out) from n) t here t.counted (λ q z. refl) (λ q z. refl) (λ q z. set_else s.homes k q none z)
+      (λ q c. c) (λ q c. c) (λ q z c. c.1)
+      ((may, found), t.outs id (holding u out from n) here)
+      (λ q low high. let old = t.copies id (holding u out from n) here q low high in
+      (old.0, λ y f. copied_moves u s.words s.words s.homes (set s.homes k none) q y refl (set_else s.homes k q none (λ z. fresh (subst (λ (b : ℕ). from ≤ b) z low) (subst (λ (b : ℕ). b < from + n) z high))) (old.1 y f)))
+      (taker_away count r.0 s id k (holding u out from n) sound t here may)
+      (λ j g y e c f. t.in_word j g k y e c f)
+      (λ j g y rests e c f. absurd (rests.0 refl))
+      (λ rests low. absurd (rests.0 refl)),
+  ),
+)
   where
     sound : Sound (world_of r.0 s.views)
     sound = reached_sound count r.0 (views_of s.views) r.1
@@ -106,22 +102,31 @@ take_allows count slots id i k u from n may inside fresh s r more here fits =
     t = r.2
 
     free : Nobody s.views k
-    free = taker_free count r.0 s id k (copying u from n) (reached_sound count r.0 (views_of s.views) r.1) r.2 here may refl
+    free = taker_free count r.0 s id k (holding u out from n) (reached_sound count r.0 (views_of s.views) r.1) r.2 here may clear
 
     home : (x : ℕ) × (get_elem? s.homes k ≡ some (some x))
-    home = r.2.filled k inside (taker_free count r.0 s id k (copying u from n) (reached_sound count r.0 (views_of s.views) r.1) r.2 here may refl)
+    home = r.2.filled k inside (taker_free count r.0 s id k (holding u out from n) (reached_sound count r.0 (views_of s.views) r.1) r.2 here may clear)
 
     x : ℕ
-    x = (r.2.filled k inside (taker_free count r.0 s id k (copying u from n) (reached_sound count r.0 (views_of s.views) r.1) r.2 here may refl)).0
-
-    no_out : (p : ℕ × ℕ) → None ≡ Some p → ⊥
-    no_out p e = cc
+    x = (r.2.filled k inside (taker_free count r.0 s id k (holding u out from n) (reached_sound count r.0 (views_of s.views) r.1) r.2 here may clear)).0
 
     found : InSlot u k → get_elem? r.0 k ≡ some x
     found c =
         let y = has_at r.0 k (subst (λ (b : ℕ). k < b) (sym (reached-length count r.0 (views_of s.views) r.1)) inside) in
-        let same = some_home y.0 x (sym (t.at_home id (copying u from n) k y.0 here c free y.1) ∙ home.1) in
+        let same = some_home y.0 x (sym (t.at_home id (holding u out from n) k y.0 here c free y.1) ∙ home.1) in
         y.1 ∙ ap some same
+
+-- TO TAKE A SLOT OUT IS NO EVENT
+pub take_allows : (count slots id i k : ℕ) (u : View) (from n : ℕ) → MayTake u k → k < count → (from ≤ k → k < from + n → ⊥)
+    → Allows (Ruled count) slots id (copying u from n, []) i (λ f. f) (λ f after. (x : ℕ) × (after ≡ (taking u k x from n, (k, x) ∷ [])))
+take_allows count slots id i k u from n may inside fresh s r more here fits =
+    let g = takes_one count id k u [] from n s r here may inside tt fresh in (
+      taking u k g.0 from n,
+      takes k g.0,
+      g.1,
+      subst (λ (ws : List ℕ). Ruled count record { words = ws; homes = set s.homes k none; views = set s.views id (taking u k g.0 from n) }) (sym (set_same s.words i)) g.2,
+      (g.0, refl),
+    )
 
 -- TO BEGIN TO COPY IS NONE EITHER
 pub begin_allows : (count slots id i from : ℕ) (u : View) → Allows (Ruled count) slots id (idle u, []) i (λ f. f) (λ f after. after ≡ (copying u from 0, []))
@@ -141,35 +146,78 @@ abbrev pub Under : View → View → Type 0
 Under v u = ((q : ℕ) → InSlot v q → InSlot u q) × ((q : ℕ) → InWord v q → InWord u q)
 
 -- the value of an owned slot, or of a cell, that is out
-out_value : (count : ℕ) (words : List ℕ) (s : State ℕ Token) (id k x from n : ℕ) (u : View) → Placed count words s → get_elem? s.views id ≡ some (taking u k x from n) → MayTake u k × (InSlot u k → get_elem? words k ≡ some x)
-out_value count words s id k x from n u t here = t.outs id (taking u k x from n) here (k, x) refl
+out_value : (count : ℕ) (words : List ℕ) (s : State ℕ Token) (id k x from n : ℕ) (u : View) (out : List (ℕ × ℕ)) → Placed count words s → get_elem? s.views id ≡ some (holding u ((k, x) ∷ out) from n) → MayTake u k × (InSlot u k → get_elem? words k ≡ some x)
+out_value count words s id k x from n u out t here = (t.outs id (holding u ((k, x) ∷ out) from n) here).0
 
-had_out : (k x : ℕ) (p : ℕ × ℕ) → Some (k, x) ≡ Some p → p.0 ≡ k
-had_out k x p e = ap (λ (z : ℕ × ℕ). z.0) (sym (pair_value k x p e))
+-- what is out but not at k
+clear_front : (k x : ℕ) (out : List (ℕ × ℕ)) (q : ℕ) → q ≢ k → Clear out q → Clear ((k, x) ∷ out) q
+clear_front k x out q n c = ((λ e. n (sym e)), c)
+
+-- a token gives the slot in front back as it was: a load
+pub loads_one : (count id k x : ℕ) (u : View) (out : List (ℕ × ℕ)) (Then : View → Type 0) (s : State ℕ Token) → Ruled count s → length s.homes ≡ count → get_elem? s.views id ≡ some (holding u ((k, x) ∷ out) 0 0) → InSlot u k → k < count
+    → ((w : World) → Sound w → Sees w id u → Finds w k x
+    → (v : View) × (e : Event) × Happens e w (seen_anew w id v) × Under v u × (AllByRecursion (MayHave w.words u) out → AllByRecursion (MayHave w.words v) out) × Then v)
+    → (v : View) × Then v × Ruled count record { words = s.words; homes = set s.homes k (some x); views = set s.views id (holding v out 0 0) }
+loads_one count id k x u out Then s r wide here slot inside go =
+    let sound = reached_sound count r.0 (views_of s.views) r.1 in
+    let t : Placed count r.0 s = r.2 in
+    let old : Token = holding u ((k, x) ∷ out) 0 0 in
+    let had = out_value count r.0 s id k x 0 0 u out t here in
+    let is = had.1 slot in
+    let g = go (world_of r.0 s.views) sound (sees s.views r.0 id old here) is in
+    let deep : k < length s.homes = subst (λ (b : ℕ). k < b) (sym wide) inside in (
+      g.0,
+      g.5,
+      (
+      r.0,
+      subst (Reached count r.0) (sym (map_set s.views id (holding g.0 out 0 0))) (reaches count r.0 (views_of s.views) g.1 r.0 _ r.1 g.2),
+      touched count r.0 r.0 s.words (set s.homes k (some x)) s id k old (holding g.0 out 0 0) t here t.counted (λ q z. refl) (λ q z. refl) (λ q z. set_else s.homes k q (some x) z)
+          g.3.0 g.3.1 (clear_front k x out) (g.4 (t.outs id old here).1) (λ q low high. absurd (omega arith))
+          (taker_away count r.0 s id k old sound t here had.0)
+          (λ j h y e c f. t.in_word j h k y e c f)
+          (λ j h y rests e c f. set_here s.homes k (some x) deep ∙ ap some (sym is ∙ f))
+          (λ rests low. (x, set_here s.homes k (some x) deep)),
+      ),
+    )
+
+-- a token gives the slot in front back with another value: a store
+pub stores_one : (count id k x y : ℕ) (u : View) (out : List (ℕ × ℕ)) (Then : View → Type 0) (s : State ℕ Token) → Ruled count s → length s.homes ≡ count → get_elem? s.views id ≡ some (holding u ((k, x) ∷ out) 0 0) → InSlot u k → k < count
+    → ((w : World) → Sound w → Sees w id u
+    → (v : View) × (e : Event) × Happens e w (written_anew w k y id v) × Under v u × (AllByRecursion (MayHave w.words u) out → AllByRecursion (MayHave (set w.words k y) v) out) × Then v)
+    → (v : View) × Then v × Ruled count record { words = s.words; homes = set s.homes k (some y); views = set s.views id (holding v out 0 0) }
+stores_one count id k x y u out Then s r wide here slot inside go =
+    let sound = reached_sound count r.0 (views_of s.views) r.1 in
+    let t : Placed count r.0 s = r.2 in
+    let old : Token = holding u ((k, x) ∷ out) 0 0 in
+    let had = out_value count r.0 s id k x 0 0 u out t here in
+    let g = go (world_of r.0 s.views) sound (sees s.views r.0 id old here) in
+    let deep : k < length s.homes = subst (λ (b : ℕ). k < b) (sym wide) inside in
+    let low : k < length r.0 = subst (λ (b : ℕ). k < b) (sym (reached-length count r.0 (views_of s.views) r.1)) inside in (
+      g.0,
+      g.5,
+      (
+      set r.0 k y,
+      subst (Reached count (set r.0 k y)) (sym (map_set s.views id (holding g.0 out 0 0))) (reaches count r.0 (views_of s.views) g.1 (set r.0 k y) _ r.1 g.2),
+      touched count r.0 (set r.0 k y) s.words (set s.homes k (some y)) s id k old (holding g.0 out 0 0) t here t.counted (λ q z. set_else r.0 k q y z) (λ q z. refl) (λ q z. set_else s.homes k q (some y) z)
+          g.3.0 g.3.1 (clear_front k x out) (g.4 (t.outs id old here).1) (λ q a b. absurd (omega arith))
+          (taker_away count r.0 s id k old sound t here had.0)
+          (λ j h z e c f. absurd (taker_alone r.0 s id k old sound here had.0 (λ w. one_place u k slot w) j h e c))
+          (λ j h z rests e c f. set_here s.homes k (some y) deep ∙ ap some (sym (set_here r.0 k y low) ∙ f))
+          (λ rests a. (y, set_here s.homes k (some y) deep)),
+      ),
+    )
 
 -- TO GIVE A SLOT BACK AS IT WAS IS A LOAD
 pub load_back_allows : (count slots id i k x : ℕ) (u : View) (Then : View → Type 0) → InSlot u k → k < count → slots ≡ count
     → ((w : World) → Sound w → Sees w id u → Finds w k x → (v : View) × (e : Event) × Happens e w (seen_anew w id v) × Under v u × Then v)
     → Allows (Ruled count) slots id (taking u k x 0 0, (k, x) ∷ []) i (λ f. f) (λ f after. Then after.0.view × (after ≡ (idle after.0.view, [])))
 load_back_allows count slots id i k x u Then slot inside even go s r more here fits =
-    let sound = reached_sound count r.0 (views_of s.views) r.1 in
-    let t : Placed count r.0 s = r.2 in
-    let out = out_value count r.0 s id k x 0 0 u t here in
-    let is = out.1 slot in
-    let g = go (world_of r.0 s.views) sound (sees s.views r.0 id (taking u k x 0 0) here) is in
-    let wide : k < length s.homes = subst (λ (b : ℕ). k < b) (sym (more ∙ even)) inside in
-    let table = subst (λ (ws : List ℕ). Placed count r.0 record { words = ws; homes = set s.homes k (some x); views = set s.views id (idle g.0) }) (sym (set_same s.words i))
-    (touched count r.0 r.0 s.words (set s.homes k (some x)) s id k (taking u k x 0 0) (idle g.0) t here t.counted (λ q z. refl) (λ q z. refl) (λ q z. set_else s.homes k q (some x) z)
-    g.3.0 g.3.1 (had_out k x) (nothing_out r.0 g.0 0) (nothing_copied r.0 s.words (set s.homes k (some x)) g.0 0)
-    (taker_away count r.0 s id k (taking u k x 0 0) sound t here out.0)
-    (λ j h y e c f. t.in_word j h k y e c f)
-    (λ j h y rests e c f. set_here s.homes k (some x) wide ∙ ap some (sym is ∙ f))
-    (λ rests low. (x, set_here s.homes k (some x) wide))) in (
+    let g = loads_one count id k x u [] Then s r (more ∙ even) here slot inside (λ w sound sees found. let h = go w sound sees found in (h.0, h.1, h.2, h.3, (λ a. a), h.4)) in (
       idle g.0,
       gives,
       tt,
-      (r.0, subst (Reached count r.0) (sym (map_set s.views id (idle g.0))) (reaches count r.0 (views_of s.views) g.1 r.0 _ r.1 g.2), table),
-      (g.4, refl),
+      subst (λ (ws : List ℕ). Ruled count record { words = ws; homes = set s.homes k (some x); views = set s.views id (idle g.0) }) (sym (set_same s.words i)) g.2,
+      (g.1, refl),
     )
 
 -- TO GIVE IT BACK WITH ANOTHER VALUE IS A STORE
@@ -177,24 +225,12 @@ pub store_back_allows : (count slots id i k x y : ℕ) (u : View) (Then : View �
     → ((w : World) → Sound w → Sees w id u → (v : View) × (e : Event) × Happens e w (written_anew w k y id v) × Under v u × Then v)
     → Allows (Ruled count) slots id (taking u k x 0 0, (k, y) ∷ []) i (λ f. f) (λ f after. Then after.0.view × (after ≡ (idle after.0.view, [])))
 store_back_allows count slots id i k x y u Then slot inside even go s r more here fits =
-    let sound = reached_sound count r.0 (views_of s.views) r.1 in
-    let t : Placed count r.0 s = r.2 in
-    let out = out_value count r.0 s id k x 0 0 u t here in
-    let g = go (world_of r.0 s.views) sound (sees s.views r.0 id (taking u k x 0 0) here) in
-    let wide : k < length s.homes = subst (λ (b : ℕ). k < b) (sym (more ∙ even)) inside in
-    let deep : k < length r.0 = subst (λ (b : ℕ). k < b) (sym (reached-length count r.0 (views_of s.views) r.1)) inside in
-    let table = subst (λ (ws : List ℕ). Placed count (set r.0 k y) record { words = ws; homes = set s.homes k (some y); views = set s.views id (idle g.0) }) (sym (set_same s.words i))
-    (touched count r.0 (set r.0 k y) s.words (set s.homes k (some y)) s id k (taking u k x 0 0) (idle g.0) t here t.counted (λ q z. set_else r.0 k q y z) (λ q z. refl) (λ q z. set_else s.homes k q (some y) z)
-    g.3.0 g.3.1 (had_out k x) (nothing_out (set r.0 k y) g.0 0) (nothing_copied (set r.0 k y) s.words (set s.homes k (some y)) g.0 0)
-    (taker_away count r.0 s id k (taking u k x 0 0) sound t here out.0)
-    (λ j h z e c f. absurd (taker_alone r.0 s id k (taking u k x 0 0) sound here out.0 (λ w. one_place u k slot w) j h e c))
-    (λ j h z rests e c f. set_here s.homes k (some y) wide ∙ ap some (sym (set_here r.0 k y deep) ∙ f))
-    (λ rests low. (y, set_here s.homes k (some y) wide))) in (
+    let g = stores_one count id k x y u [] Then s r (more ∙ even) here slot inside (λ w sound sees. let h = go w sound sees in (h.0, h.1, h.2, h.3, (λ a. a), h.4)) in (
       idle g.0,
       gives,
       tt,
-      (set r.0 k y, subst (Reached count (set r.0 k y)) (sym (map_set s.views id (idle g.0))) (reaches count r.0 (views_of s.views) g.1 (set r.0 k y) _ r.1 g.2), table),
-      (g.4, refl),
+      subst (λ (ws : List ℕ). Ruled count record { words = ws; homes = set s.homes k (some y); views = set s.views id (idle g.0) }) (sym (set_same s.words i)) g.2,
+      (g.1, refl),
     )
 
 -- A LOAD OF A TABLE'S WORD IN WHICH THE REGION'S WORD LIES
@@ -289,7 +325,7 @@ store_allows count slots id k n u Then word inside go s r more here fits =
     let deep : k < length r.0 = subst (λ (b : ℕ). k < b) (sym (reached-length count r.0 (views_of s.views) r.1)) inside in
     let table = touched count r.0 (set r.0 k n) (set s.words k n) s.homes s id k (idle u) (idle g.0) t here (length-set {A = ℕ} s.words k n ∙ t.counted)
     (λ q z. set_else r.0 k q n z) (λ q z. set_else s.words k q n z) (λ q z. refl)
-    g.3.0 g.3.1 (λ p e. absurd (no_out p e)) (nothing_out (set r.0 k n) g.0 0) (nothing_copied (set r.0 k n) (set s.words k n) s.homes g.0 0)
+    g.3.0 g.3.1 (λ q z c. c) (nothing_out (set r.0 k n) g.0 0) (nothing_copied (set r.0 k n) (set s.words k n) s.homes g.0 0)
     (λ j h other e. (
       λ m. let its = sound.honest j h.view (sees s.views r.0 j h e) in
           word_free r.0 h.view u k m word (shared r.0 s j id k h (idle u) sound e here (λ z. other (sym z)) (take_holds r.0 h.view k its m) mine),
@@ -314,9 +350,6 @@ store_allows count slots id k n u Then word inside go s r more here fits =
     mine : Holds u k
     mine = word_holds r.0 u k ((reached_sound count r.0 (views_of s.views) r.1).honest id u (sees s.views r.0 id (idle u) here)) word
 
-    no_out : (p : ℕ × ℕ) → None ≡ Some p → ⊥
-    no_out p e = cc
-
     nowhere : (j : ℕ) (h : Token) → get_elem? s.views j ≡ some h → InSlot h.view k → ⊥
     nowhere j h e c = dite (ℕ_discrete j id)
         (λ (z : j ≡ id). one_place u k (subst (λ (y : Token). InSlot y.view k) (some-injective h (idle u) (sym e ∙ ap (get_elem? s.views) z ∙ here)) c) word)
@@ -324,12 +357,11 @@ store_allows count slots id k n u Then word inside go s r more here fits =
         let its = sound.honest j h.view (sees s.views r.0 j h e) in slot_free r.0 u h.view k word c (shared r.0 s id j k (idle u) h sound here e other mine (slot_holds r.0 h.view k its c)))
 
     nobody : Nobody s.views k
-    nobody j f p e o z = dite (ℕ_discrete j id)
-        (λ (y : j ≡ id). let same : f ≡ idle u = some-injective f (idle u) (sym e ∙ ap (get_elem? s.views) y ∙ here) in no_out p (ap (λ (g : Token). g.out) (sym same) ∙ o))
+    nobody j f e = dite (ℕ_discrete j id)
+        (λ (y : j ≡ id). let same : f ≡ idle u = some-injective f (idle u) (sym e ∙ ap (get_elem? s.views) y ∙ here) in subst (λ (g : Token). Clear g.out k) (sym same) tt)
         (λ (other : j ≢ id).
         let its = sound.honest j f.view (sees s.views r.0 j f e) in
-        let m : MayTake f.view k = subst (MayTake f.view) z (t.outs j f e p o).0 in
-        word_free r.0 f.view u k m word (shared r.0 s j id k f (idle u) sound e here (λ v. other (sym v)) (take_holds r.0 f.view k its m) mine))
+        not_out r.0 f.view k f.out (λ m. word_free r.0 f.view u k m word (shared r.0 s j id k f (idle u) sound e here (λ v. other (sym v)) (take_holds r.0 f.view k its m) mine)) (t.outs j f e))
 
 -- AN OWNER COPIES THE WORD THAT IT HAS OUT
 pub copy_allows : (count slots id k x : ℕ) (m : WordMap) (o : Olds) (from n : ℕ) → k ≡ from + n → Has m k → k < count → slots ≡ count
@@ -339,13 +371,13 @@ copy_allows count slots id k x m o from n next has inside even s r more here fit
     let t : Placed count r.0 s = r.2 in
     let u : View = Own m o in
     let old : Token = taking u k x from n in
-    let out = out_value count r.0 s id k x from n u t here in
+    let out = out_value count r.0 s id k x from n u [] t here in
     let is = out.1 has in
     let wide : k < length s.homes = subst (λ (b : ℕ). k < b) (sym (more ∙ even)) inside in
     let low : k < length s.words = subst (λ (b : ℕ). k < b) (sym t.counted) inside in
     let table = touched count r.0 r.0 (set s.words k x) (set s.homes k (some x)) s id k old (copying u from (suc n)) t here (length-set {A = ℕ} s.words k x ∙ t.counted)
     (λ q z. refl) (λ q z. set_else s.words k q x z) (λ q z. set_else s.homes k q (some x) z)
-    (λ q c. c) (λ q c. c) (had_out k x) (λ p e. absurd (no_out p e))
+    (λ q c. c) (λ q c. c) (clear_front k x []) tt
     (λ q a b. dite (ℕ_discrete q k)
     (λ (z : q ≡ k). (subst (Has m) (sym z) has, λ y f. ap (get_elem? (set s.words k x)) z ∙ (set_here s.words k x low ∙ (sym is ∙ (ap (get_elem? r.0) (sym z) ∙ f)))))
     (λ (z : q ≢ k). let c = t.copies id old here q a (shorter q z a b) in (c.0, λ y f. set_else s.words k q x z ∙ c.1 y f)))
@@ -360,9 +392,6 @@ copy_allows count slots id k x m o from n next has inside even s r more here fit
       refl,
     )
   where
-    no_out : (p : ℕ × ℕ) → None ≡ Some p → ⊥
-    no_out p e = cc
-
     shorter : (q : ℕ) → q ≢ k → from ≤ q → q < from + suc n → q < from + n
     shorter q z a b = omega arith
 
@@ -374,13 +403,13 @@ restore_allows count slots id i k x y m a b from n next value inside even s r mo
     let t : Placed count r.0 s = r.2 in
     let u : View = Done m a b in
     let old : Token = taking u k x from n in
-    let out = out_value count r.0 s id k x from n u t here in
+    let out = out_value count r.0 s id k x from n u [] t here in
     let is : get_elem? r.0 k ≡ some y = (sound.honest id u (sees s.views r.0 id old here)).0 k y value in
     let wide : k < length s.homes = subst (λ (c : ℕ). k < c) (sym (more ∙ even)) inside in
     let table = subst (λ (ws : List ℕ). Placed count r.0 record { words = ws; homes = set s.homes k (some y); views = set s.views id (copying u from (suc n)) }) (sym (set_same s.words i))
     (touched count r.0 r.0 s.words (set s.homes k (some y)) s id k old (copying u from (suc n)) t here t.counted
     (λ q z. refl) (λ q z. refl) (λ q z. set_else s.homes k q (some y) z)
-    (λ q c. c) (λ q c. c) (had_out k x) (λ p e. absurd (no_out p e))
+    (λ q c. c) (λ q c. c) (clear_front k x []) tt
     (λ q l h. dite (ℕ_discrete q k)
     (λ (z : q ≡ k). (subst (Has m) (sym z) (y, value), λ v f. ap (get_elem? (set s.homes k (some y))) z ∙ (set_here s.homes k (some y) wide ∙ ap some (sym is ∙ (ap (get_elem? r.0) (sym z) ∙ f)))))
     (λ (z : q ≢ k). let c = t.copies id old here q l (shorter q z l h) in (c.0, λ v f. set_else s.homes k q (some y) z ∙ c.1 v f)))
@@ -395,9 +424,6 @@ restore_allows count slots id i k x y m a b from n next value inside even s r mo
       refl,
     )
   where
-    no_out : (p : ℕ × ℕ) → None ≡ Some p → ⊥
-    no_out p e = cc
-
     shorter : (q : ℕ) → q ≢ k → from ≤ q → q < from + suc n → q < from + n
     shorter q z l h = omega arith
 

@@ -5,6 +5,7 @@ pub mod Partners
 pub mod Rings
 pub mod Meets
 pub mod Keeps
+pub mod Rows
 pub mod Runs
 pub mod Takers
 pub mod Moves

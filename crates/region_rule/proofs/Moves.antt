@@ -1,6 +1,7 @@
 -- The words of a region stay where their tokens look for them: when a token steps and touches the words and the slot of
 -- one number, when only its view changes, and when a new token comes.
-use Rattle.std.proofs.Common.{◌≡◌, ◌≢◌, ℕ, zero, suc, ◌+◌, ◌<◌, ◌≤◌, List, [], ◌∷◌, ◌++◌, set, length, Some, None, refl, sym, ap, subst, ◌∙◌, ⊎_elim, arith}
+use Rattle.std.proofs.Common.{◌≡◌, ◌≢◌, ℕ, zero, suc, ◌+◌, ◌<◌, ◌≤◌, List, [], ◌∷◌, ◌++◌, set, length, refl, sym, ap, subst, ◌∙◌, ⊎_elim, arith}
+use Rattle.std.specs.List.{AllByRecursion}
 use mathlib.Core.Option as opt
 use mathlib.Core.Option.{some, none, some-injective, some-ne-none}
 use mathlib.Core.Logic.{dite}
@@ -10,7 +11,7 @@ use Rattle.atomic_table.specs.Table.{State}
 use Rattle.atomic_table.proofs.Lists.{at_set, set_here, set_else}
 use Rattle.ring_rule.proofs.Stored.{in_list, snoc_place}
 use Rattle.region_rule.specs.View.{View, Own, Frozen, Sender, Receiver, Done, Spent}
-use Rattle.region_rule.specs.Places.{Token, idle, copying, views_of, InSlot, InWord, MayTake, Copied, IsOut, IsCopied, Nobody, Placed}
+use Rattle.region_rule.specs.Places.{Token, idle, holding, copying, views_of, InSlot, InWord, MayTake, Copied, MayHave, IsOut, IsCopied, Clear, Nobody, Placed}
 
 pub map_set : (ts : List Token) (i : ℕ) (t : Token) → views_of (set ts i t) ≡ set (views_of ts) i t.view
 map_set [] i t = refl
@@ -29,9 +30,18 @@ Same l m k = (q : ℕ) → q ≢ k → get_elem? m q ≡ get_elem? l q
 abbrev pub Away : Token → ℕ → Type 0
 Away t k = (MayTake t.view k → ⊥) × (t.from ≤ k → k < t.from + t.copied → ⊥)
 
--- the token has not slot k out
-abbrev pub Rests : Token → ℕ → Type 0
-Rests t k = (p : ℕ × ℕ) → t.out ≡ Some p → p.0 ≢ k
+-- what holds of each slot holds of it in another way too
+pub each_too : (P Q : ℕ × ℕ → Type 0) (out : List (ℕ × ℕ)) → ((p : ℕ × ℕ) → P p → Q p) → AllByRecursion P out → AllByRecursion Q out
+each_too P Q [] f a = tt
+each_too P Q (p ∷ ps) f a = (f p a.0, each_too P Q ps f a.1)
+
+-- a token that may not take a slot has it not out
+pub not_out : (words : List ℕ) (v : View) (k : ℕ) (out : List (ℕ × ℕ)) → (MayTake v k → ⊥) → AllByRecursion (MayHave words v) out → Clear out k
+not_out words v k out never a = each_too (MayHave words v) (λ (p : ℕ × ℕ). p.0 ≢ k) out (λ p h e. never (subst (MayTake v) e h.0)) a
+
+-- what a token has out are still the region's words if only another word changes
+still_out : (words words' : List ℕ) (v : View) (k : ℕ) (out : List (ℕ × ℕ)) → Same words words' k → (MayTake v k → ⊥) → AllByRecursion (MayHave words v) out → AllByRecursion (MayHave words' v) out
+still_out words words' v k out ws never a = each_too (MayHave words v) (MayHave words' v) out (λ p h. (h.0, λ c. ws p.0 (λ e. never (subst (MayTake v) e h.0)) ∙ h.1 c)) a
 
 pub copied_moves : (v : View) (l m : List ℕ) (hs gs : List (opt.Option ℕ)) (k x : ℕ) → get_elem? m k ≡ get_elem? l k → get_elem? gs k ≡ get_elem? hs k → Copied v l hs k x → Copied v m gs k x
 copied_moves (Own a o) l m hs gs k x e f c = e ∙ c
@@ -45,21 +55,18 @@ copied_moves Spent l m hs gs k x e f c = c
 pub touched : (count : ℕ) (words words' table : List ℕ) (homes : List (opt.Option ℕ)) (s : State ℕ Token) (id k : ℕ) (h w : Token) → Placed count words s → get_elem? s.views id ≡ some h
     → length table ≡ count → Same words words' k → Same s.words table k → Same s.homes homes k
     → ((q : ℕ) → InSlot w.view q → InSlot h.view q) → ((q : ℕ) → InWord w.view q → InWord h.view q)
-    → ((p : ℕ × ℕ) → h.out ≡ Some p → p.0 ≡ k)
+    → ((q : ℕ) → q ≢ k → Clear w.out q → Clear h.out q)
     → IsOut words' w → IsCopied words' table homes w
     → ((i : ℕ) (g : Token) → i ≢ id → get_elem? s.views i ≡ some g → Away g k)
     → ((i : ℕ) (g : Token) (x : ℕ) → get_elem? s.views i ≡ some g → InWord g.view k → get_elem? words' k ≡ some x → get_elem? table k ≡ some x)
-    → ((i : ℕ) (g : Token) (x : ℕ) → Rests w k → get_elem? s.views i ≡ some g → InSlot g.view k → get_elem? words' k ≡ some x → get_elem? homes k ≡ some (some x))
-    → (Rests w k → k < count → (x : ℕ) × (get_elem? homes k ≡ some (some x)))
+    → ((i : ℕ) (g : Token) (x : ℕ) → Clear w.out k → get_elem? s.views i ≡ some g → InSlot g.view k → get_elem? words' k ≡ some x → get_elem? homes k ≡ some (some x))
+    → (Clear w.out k → k < count → (x : ℕ) × (get_elem? homes k ≡ some (some x)))
     → Placed count words' record { words = table; homes = homes; views = set s.views id w }
 touched count words words' table homes s id k h w t here long ws ts hs slots counts had out copied away word_k home_k filled_k = record {
   counted = long;
   outs = λ i g e. ⊎_elim
       (λ (p : (i ≡ id) × (w ≡ g)). subst (IsOut words') p.1 out)
-      (λ (p : (i ≢ id) × (get_elem? s.views i ≡ some g)). λ o f.
-      let old = t.outs i g p.1 o f in
-      let other : o.0 ≢ k = λ z. (away i g p.0 p.1).0 (subst (MayTake g.view) z old.0) in
-      (old.0, λ c. ws o.0 other ∙ old.1 c))
+      (λ (p : (i ≢ id) × (get_elem? s.views i ≡ some g)). still_out words words' g.view k g.out ws (away i g p.0 p.1).0 (t.outs i g p.1))
       (at_set s.views id i w g e);
   copies = λ i g e. ⊎_elim
       (λ (p : (i ≡ id) × (w ≡ g)). subst (IsCopied words' table homes) p.1 copied)
@@ -97,35 +104,32 @@ touched count words words' table homes s id k h w t here long ws ts hs slots cou
         (λ (p : (i ≢ id) × (get_elem? s.views i ≡ some g)). (i, g, p.1, c))
         (at_set s.views id i w g e)
 
-    rests : (q : ℕ) → q ≡ k → Nobody (set s.views id w) q → Rests w k
-    rests q e free p o z = free id w p (set_here s.views id w (in_list s.views id h here)) o (z ∙ sym e)
+    rests : (q : ℕ) → q ≡ k → Nobody (set s.views id w) q → Clear w.out k
+    rests q e free = subst (Clear w.out) e (free id w (set_here s.views id w (in_list s.views id h here)))
 
     back : (q : ℕ) → q ≢ k → Nobody (set s.views id w) q → Nobody s.views q
-    back q n free j f p e o z = dite (ℕ_discrete j id)
+    back q n free j f e = dite (ℕ_discrete j id)
         (λ (y : j ≡ id).
         let same : f ≡ h = some-injective f h (sym e ∙ ap (get_elem? s.views) y ∙ here) in
-        n (sym z ∙ had p (ap (λ (g : Token). g.out) (sym same) ∙ o)))
-        (λ (y : j ≢ id). free j f p (set_else s.views id j w y ∙ e) o z)
+        subst (λ (g : Token). Clear g.out q) (sym same) (had q n (free id w (set_here s.views id w (in_list s.views id h here)))))
+        (λ (y : j ≢ id). free j f (set_else s.views id j w y ∙ e))
 
 -- ONLY A VIEW CHANGES
-pub free_back : (ts : List Token) (id q : ℕ) (h w : Token) → get_elem? ts id ≡ some h → h.out ≡ None → Nobody (set ts id w) q → Nobody ts q
-free_back ts id q h w here empty free j f p e o z = dite (ℕ_discrete j id)
+pub free_back : (ts : List Token) (id q : ℕ) (h w : Token) → get_elem? ts id ≡ some h → h.out ≡ [] → Nobody (set ts id w) q → Nobody ts q
+free_back ts id q h w here empty free j f e = dite (ℕ_discrete j id)
     (λ (y : j ≡ id).
     let same : f ≡ h = some-injective f h (sym e ∙ ap (get_elem? ts) y ∙ here) in
-    no_out p (sym empty ∙ (ap (λ (g : Token). g.out) (sym same) ∙ o)))
-    (λ (y : j ≢ id). free j f p (set_else ts id j w y ∙ e) o z)
-  where
-    no_out : (p : ℕ × ℕ) → None ≡ Some p → ⊥
-    no_out p e = cc
+    subst (λ (out : List (ℕ × ℕ)). Clear out q) (sym (ap (λ (g : Token). g.out) same ∙ empty)) tt)
+    (λ (y : j ≢ id). free j f (set_else ts id j w y ∙ e))
 
 -- a token that has no slot out and has copied nothing claims none of either
 pub nothing_out : (words : List ℕ) (v : View) (from : ℕ) → IsOut words (copying v from 0)
-nothing_out words v from p e = cc
+nothing_out words v from = tt
 
 pub nothing_copied : (words table : List ℕ) (homes : List (opt.Option ℕ)) (v : View) (from : ℕ) → IsCopied words table homes (copying v from 0)
 nothing_copied words table homes v from q low high = absurd (omega arith)
 
-pub viewed : (count : ℕ) (words : List ℕ) (s : State ℕ Token) (id from : ℕ) (h : Token) (v : View) → Placed count words s → get_elem? s.views id ≡ some h → h.out ≡ None
+pub viewed : (count : ℕ) (words : List ℕ) (s : State ℕ Token) (id from : ℕ) (h : Token) (v : View) → Placed count words s → get_elem? s.views id ≡ some h → h.out ≡ []
     → ((q x : ℕ) → InSlot v q → Nobody s.views q → get_elem? words q ≡ some x → get_elem? s.homes q ≡ some (some x))
     → ((q x : ℕ) → InWord v q → get_elem? words q ≡ some x → get_elem? s.words q ≡ some x)
     → Placed count words record { words = s.words; homes = s.homes; views = set s.views id (copying v from 0) }
@@ -154,7 +158,7 @@ viewed count words s id from h v t here empty slots counts = record {
 
 -- A NEW TOKEN COMES
 pub free_front : (ts : List Token) (q : ℕ) (t : Token) → Nobody (ts ++ t ∷ []) q → Nobody ts q
-free_front ts q t free j f p e o z = free j f p (at_longer_one ts j f e) o z
+free_front ts q t free j f e = free j f (at_longer_one ts j f e)
   where
     at_longer_one : (l : List Token) (j : ℕ) (f : Token) → get_elem? l j ≡ some f → get_elem? (l ++ t ∷ []) j ≡ some f
     at_longer_one [] j f e = absurd (some-ne-none f (sym e))

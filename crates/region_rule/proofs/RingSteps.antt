@@ -16,7 +16,7 @@ use Rattle.ring_rule.proofs.Messages.{framed_front}
 use Rattle.ring_rule.proofs.Receives.{receiver_finds, next_is, takes_paired}
 use Rattle.region_rule.specs.RingMap.{IsFresh, ring_map}
 use Rattle.region_rule.specs.View.{Own, Sender, Receiver, Done, Spent, Olds}
-use Rattle.region_rule.specs.Sound.{World, Sees}
+use Rattle.region_rule.specs.Sound.{World, Sees, Sound}
 use Rattle.region_rule.specs.Steps.{Event, Happens, Finds, MakeRing, LoadRead, StoreData, StoreWritten, LoadWritten, LoadData, StoreRead, StoreSenderFlag, StoreReceiverFlag, LoadSenderFlag, LoadReceiverFlag, LoadWrittenLast, JoinEnds, LoadDone, EndDone, PartAgain, seen_anew}
 use Rattle.region_rule.specs.Places.{idle, copying, taking, Ruled, IsCell, IsCount}
 use Rattle.region_rule.specs.Tells.{sender_view, receiver_view, done_view, sender_again, receiver_again, TellsLookRead, TellsPut, TellsPublish, TellsLookWritten, TellsTake, TellsGiveBack, TellsLeave, TellsFlag, TellsDone, TellsCount, TellsEnd}
@@ -39,7 +39,7 @@ make_ring_allowed count id r m o fresh = split_allows count id (Own m o) r.base 
     ))
 
 -- the cell of a word is one of the ring
-next_is_cell : (r : Ring) (n : ℕ) → IsRing r → IsCell r (place_of r n)
+pub next_is_cell : (r : Ring) (n : ℕ) → IsRing r → IsCell r (place_of r n)
 next_is_cell r n ring = let below : cell_of r n < r.size = mod-lt (r.start + n) (some_cells r ring) in (omega arith, omega arith)
 
 -- the steps of the sender
@@ -122,15 +122,20 @@ look_written_allowed count slots id q u stays inside = load_allows count slots i
     let e = written_event w id x n q u stays here found count_is in
     (Receiver (sees_written q n) u, e.0, e.1, seen_under q n u, (n, refl, count_is, o.paired.tied.avail, told_published u o.end o.paired.told_receiver)))
 
-pub take_allowed : (count slots id i x : ℕ) (q : Receiving) (u : Option Sending) → IsRing q.ring → q.gone ≡ false → length q.taken < q.avail → place_of q.ring (length q.taken) < count → slots ≡ count
-    → Allows (Ruled count) slots id (taking (Receiver q u) (place_of q.ring (length q.taken)) x 0 0, (place_of q.ring (length q.taken), x) ∷ []) i (λ n. n) (λ n after. TellsTake (Receiver q u) x after.0.view × (after ≡ (idle after.0.view, [])))
-take_allowed count slots id i x q u ring stays more inside even = load_back_allows count slots id i (place_of q.ring (length q.taken)) x (Receiver q u) (TellsTake (Receiver q u) x) (next_is_cell q.ring (length q.taken) ring) inside even
-    (λ w sound here found.
+-- a load of the next word's cell is one, and what is taken is framed
+pub take_event : (w : World) (id x : ℕ) (q : Receiving) (u : Option Sending) → q.gone ≡ false → length q.taken < q.avail → Sound w → Sees w id (Receiver q u) → Finds w (place_of q.ring (length q.taken)) x
+    → Happens (LoadData id x) w (seen_anew w id (Receiver (takes q x) u)) × IsFramed q.ring.max (q.taken ++ x ∷ [])
+take_event w id x q u stays more sound here found =
     let o = sender_of w id q u sound here in
     let next = next_is w.words o.end o.told q u x o.sending (sound.honest id (Receiver q u) here).own o.paired more found in
     let front = (takes_paired w.words o.end o.told q u x next o.paired).tied.taken in
     let framed = framed_front o.end.ring.max o.end.put (q.taken ++ x ∷ []) front.0 o.sending.own.framed front.1 in
-    (Receiver (takes q x) u, LoadData id x, (q, u, here, stays, more, found, refl), (λ q c. c, λ q c. c), (refl, subst (λ (r : Ring). IsFramed r.max (q.taken ++ x ∷ [])) o.paired.tied.same framed)))
+    ((q, u, here, stays, more, found, refl), subst (λ (r : Ring). IsFramed r.max (q.taken ++ x ∷ [])) o.paired.tied.same framed)
+
+pub take_allowed : (count slots id i x : ℕ) (q : Receiving) (u : Option Sending) → IsRing q.ring → q.gone ≡ false → length q.taken < q.avail → place_of q.ring (length q.taken) < count → slots ≡ count
+    → Allows (Ruled count) slots id (taking (Receiver q u) (place_of q.ring (length q.taken)) x 0 0, (place_of q.ring (length q.taken), x) ∷ []) i (λ n. n) (λ n after. TellsTake (Receiver q u) x after.0.view × (after ≡ (idle after.0.view, [])))
+take_allowed count slots id i x q u ring stays more inside even = load_back_allows count slots id i (place_of q.ring (length q.taken)) x (Receiver q u) (TellsTake (Receiver q u) x) (next_is_cell q.ring (length q.taken) ring) inside even
+    (λ w sound here found. let e = take_event w id x q u stays more sound here found in (Receiver (takes q x) u, LoadData id x, e.0, (λ q c. c, λ q c. c), (refl, e.1)))
 
 pub give_back_allowed : (count slots id : ℕ) (q : Receiving) (u : Option Sending) → q.gone ≡ false → q.ring.base + 1 < count
     → Allows (Ruled count) slots id (idle (Receiver q u), []) (q.ring.base + 1) (λ _. count_word q.ring (length q.taken)) (λ _ after. TellsGiveBack (Receiver q u) after.0.view × (after ≡ (idle after.0.view, [])))

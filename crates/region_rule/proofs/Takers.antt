@@ -1,22 +1,22 @@
 -- No two tokens take one slot, and none takes a slot whose word another looks for in the table's words.
-use Rattle.std.proofs.Common.{◌≡◌, ℕ, ◌+◌, ◌<◌, ◌≤◌, List, length, Option, sym, ap, subst, arith, mod-lt}
+use Rattle.std.proofs.Common.{◌≡◌, ℕ, ◌+◌, ◌<◌, ◌≤◌, List, length, Option, sym, ap, subst, ◌∙◌, arith, mod-lt}
+use Rattle.atomic_table.proofs.Lists.{one_turn}
 use Rattle.word_map.specs.WordMap.{WordMap, Has}
 use Rattle.ring_rule.specs.Ring.{Ring, IsRing, Sending, Receiving, IsSendingEnd, ArePaired, cell_of}
 use Rattle.ring_rule.proofs.Counts.{some_cells}
-use Rattle.ring_rule.proofs.Sends.{apart_cells, next_cell}
 use Rattle.region_rule.specs.View.{View, Own, Frozen, Sender, Receiver, Done, Spent, Holds, MayShare}
 use Rattle.region_rule.specs.Sound.{Honest}
 use Rattle.region_rule.specs.Places.{InSlot, InWord, MayTake, Sole}
 use Rattle.region_rule.proofs.Meets.{covers}
 
-taken_cell : (q : Receiving) → IsRing q.ring → cell_of q.ring (length q.taken) < q.ring.size
-taken_cell q r = mod-lt (q.ring.start + length q.taken) (some_cells q.ring r)
+a_cell : (r : Ring) (n : ℕ) → IsRing r → cell_of r n < r.size
+a_cell r n ring = mod-lt (r.start + n) (some_cells r ring)
 
 pub take_holds : (words : List ℕ) (u : View) (k : ℕ) → Honest words u → MayTake u k → Holds u k
 take_holds words (Own m o) k h p = p
 take_holds words (Frozen m) k h p = absurd p
-take_holds words (Sender s t) k h p = let c = next_cell s h.own in let e = p.0 in (omega arith, omega arith)
-take_holds words (Receiver q u) k h p = let c = taken_cell q h.own.ring in let e = p.0 in (omega arith, omega arith)
+take_holds words (Sender s t) k h p = let c = a_cell s.ring p.0 h.own.ring in let e = p.1 in (omega arith, omega arith)
+take_holds words (Receiver q u) k h p = let c = a_cell q.ring p.0 h.own.ring in let e = p.1 in (omega arith, omega arith)
 take_holds words (Done m s q) k h p = p
 take_holds words Spent k h p = absurd p
 
@@ -50,19 +50,24 @@ sole_holds (Receiver q u) k p = absurd p
 sole_holds (Done m s q) k p = p
 sole_holds Spent k p = absurd p
 
--- the next word's cell is not the one of a word that stands there
+-- the cell of a word to come is not the one of a word that lies there
 next_apart : (words : List ℕ) (s : Sending) (t : Option Receiving) (q : Receiving) (u : Option Sending) (k : ℕ) → IsSendingEnd s → ArePaired words s t q u → MayTake (Sender s t) k → MayTake (Receiver q u) k
     → q.returned ≤ length q.taken → ⊥
 next_apart words s t q u k own pair a b back =
-    let put = a.1 in
-    let there = b.1 in
+    let put = a.2 in
+    let room = a.3 in
+    let there = b.2 in
+    let ready = b.3 in
     let seen = pair.tied.avail in
     let most = own.published in
-    let same : cell_of s.ring (length q.taken) ≡ cell_of q.ring (length q.taken) = ap (λ (r : Ring). cell_of r (length q.taken)) pair.tied.same in
+    let given = pair.tied.room in
+    let same : cell_of s.ring b.0 ≡ cell_of q.ring b.0 = ap (λ (r : Ring). cell_of r b.0) pair.tied.same in
     let base : s.ring.base ≡ q.ring.base = ap (λ (r : Ring). r.base) pair.tied.same in
-    let mine = a.0 in
-    let yours = b.0 in
-    apart_cells s q (length q.taken) (some_cells s.ring own.ring) put pair.tied.room back (omega arith) (omega arith)
+    let mine = a.1 in
+    let yours = b.1 in
+    let one : cell_of s.ring b.0 ≡ cell_of s.ring a.0 = omega arith in
+    let turn : s.ring.start + b.0 ≡ s.ring.start + a.0 = one_turn (s.ring.start + b.0) (s.ring.start + a.0) s.ring.size (omega arith) (omega arith) one in
+    omega arith
 
 pub one_taker : (words : List ℕ) (u v : View) (k : ℕ) → Honest words u → Honest words v → MayTake u k → MayTake v k → MayShare words u v k → ⊥
 one_taker words (Own m o) v k h g a b c = c
@@ -79,10 +84,10 @@ pub word_free : (words : List ℕ) (u v : View) (k : ℕ) → MayTake u k → In
 word_free words (Own m o) v k a b c = c
 word_free words (Frozen m) v k a b c = a
 word_free words (Sender s t) (Receiver q u) k a b c =
-    let base : s.ring.base ≡ q.ring.base = ap (λ (r : Ring). r.base) c.tied.same in let mine = a.0 in let yours = b.1 in omega arith
+    let base : s.ring.base ≡ q.ring.base = ap (λ (r : Ring). r.base) c.tied.same in let mine = a.1 in let yours = b.1 in omega arith
 word_free words (Sender s t) v k a b c = c
 word_free words (Receiver q u) (Sender s t) k a b c =
-    let base : s.ring.base ≡ q.ring.base = ap (λ (r : Ring). r.base) c.tied.same in let mine = a.0 in let yours = b.1 in omega arith
+    let base : s.ring.base ≡ q.ring.base = ap (λ (r : Ring). r.base) c.tied.same in let mine = a.1 in let yours = b.1 in omega arith
 word_free words (Receiver q u) v k a b c = c
 word_free words (Done m s q) v k a b c = c
 word_free words Spent v k a b c = c

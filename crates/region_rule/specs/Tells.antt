@@ -1,6 +1,7 @@
 -- What a token learns by each of its steps, and the views that a cut and a join leave. A token of another kind than the
 -- step's learns nothing.
-use Rattle.std.specs.Prelude.{◌≡◌, ℕ, ◌+◌, ◌≤◌, ◌∷◌, ◌++◌, [], true, Some, None, IfSome}
+use Rattle.std.specs.Prelude.{◌≡◌, ℕ, ◌+◌, ◌<◌, ◌≤◌, List, ◌∷◌, ◌++◌, [], length, true, Some, None, IfSome}
+use Rattle.std.specs.List.{fold}
 use Rattle.std.specs.FinMap as fin
 use Rattle.word_map.specs.WordMap.{at, range_of, rest_of, union, values_from}
 use Rattle.ring_rule.specs.Frames.{IsFramed}
@@ -77,6 +78,11 @@ abbrev pub TellsPut : View → ℕ → View → Type 0
 TellsPut (Sender s t) x after = after ≡ Sender (puts s x) t
 TellsPut u x after = ⊥
 
+-- a sender stores a row of words
+abbrev pub TellsPutRow : View → List ℕ → View → Type 0
+TellsPutRow (Sender s t) xs after = after ≡ Sender (fold puts s xs) t
+TellsPutRow u xs after = ⊥
+
 -- a sender stores the written count
 abbrev pub TellsPublish : View → View → Type 0
 TellsPublish (Sender s t) after = after ≡ Sender (publishes s) t
@@ -92,6 +98,11 @@ TellsLookWritten v x after = ⊥
 abbrev pub TellsTake : View → ℕ → View → Type 0
 TellsTake (Receiver q u) x after = (after ≡ Receiver (takes q x) u) × IsFramed q.ring.max (q.taken ++ x ∷ [])
 TellsTake v x after = ⊥
+
+-- a receiver takes a row of words
+abbrev pub TellsTakeRow : View → List ℕ → View → Type 0
+TellsTakeRow (Receiver q u) xs after = (after ≡ Receiver (fold takes q xs) u) × (0 < length xs → IsFramed q.ring.max (q.taken ++ xs))
+TellsTakeRow v xs after = ⊥
 
 -- a receiver stores the read count
 abbrev pub TellsGiveBack : View → View → Type 0

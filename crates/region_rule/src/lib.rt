@@ -26,6 +26,6 @@ pub use laws::{
 pub use plays::{
     Begins, Copies, Cuts, Ends, Freezes, Gathers, GivesBack, Glues, Learns, Leaves, Loads,
     LoadsCount, LoadsDone, LoadsFlag, LoadsFrozen, LooksRead, LooksWritten, Makes, Meeting,
-    Publishes, Puts, Range, Shape, Shares, Stores, Takes, TakesOut,
+    Publishes, Puts, PutsRow, Range, Shape, Shares, Stores, Takes, TakesOut, TakesRow, TakesRowOut,
 };
 pub use rule::{Known, RegionRule};

@@ -3,13 +3,14 @@
 //!
 //! A word in a slot is loaded or stored in two steps of the table: `TakesOut` takes the slot, which is no step of the
 //! region, and a second step gives it back, which is the region's load or store. Between the two the slot is plain
-//! memory.
+//! memory. `TakesRowOut` takes the slots of a row by one step, and a second one gives all of them back, which is as many
+//! loads or stores.
 
-ghost use Rattle.std.specs.Prelude.{◌≡◌, ℕ, suc, [], ◌∷◌};
+ghost use Rattle.std.specs.Prelude.{◌≡◌, ℕ, suc, List, [], ◌∷◌, length};
 ghost use Rattle.ring_rule.specs.Ring.{Ring};
 ghost use Rattle.region_rule.specs.View.{Spent};
-ghost use Rattle.region_rule.specs.Places.{idle, copying, taking, front_place, front_value, IsIdle};
-ghost use Rattle.region_rule.specs.Tells.{TellsApart, TellsCount, TellsLoad, TellsStore, TellsLookRead, TellsPut, TellsPublish, TellsLookWritten, TellsTake, TellsGiveBack, TellsFreeze, TellsFrozen, TellsDone, TellsEnd, TellsLeave, TellsFlag, sender_view, receiver_view, done_view, gathered_view, sender_again, receiver_again, rest_view, range_view, both_view};
+ghost use Rattle.region_rule.specs.Places.{idle, copying, taking, row_out, front_place, front_value, values, IsIdle};
+ghost use Rattle.region_rule.specs.Tells.{TellsApart, TellsCount, TellsLoad, TellsStore, TellsLookRead, TellsPut, TellsPutRow, TellsPublish, TellsLookWritten, TellsTake, TellsTakeRow, TellsGiveBack, TellsFreeze, TellsFrozen, TellsDone, TellsEnd, TellsLeave, TellsFlag, sender_view, receiver_view, done_view, gathered_view, sender_again, receiver_again, rest_view, range_view, both_view};
 
 use crate::rule::Known;
 use atomic_table::{Join, Play, Split};
@@ -35,6 +36,15 @@ pub struct TakesOut<J> {
 
 impl<J: Range> Play<u64, Known> for TakesOut<J> {
     ghost then = { λ step before found after. (x : ℕ) × (after ≡ (taking before.0.view J.from x before.0.from before.0.copied, (J.from, x) ∷ [])) };
+}
+
+/// A load that takes out the `len` slots from `from` on, which are then the seat's, the first of them in front.
+pub struct TakesRowOut<J> {
+    range: PhantomData<J>,
+}
+
+impl<J: Range> Play<u64, Known> for TakesRowOut<J> {
+    ghost then = { λ step before found after. (xs : List ℕ) × (length xs ≡ J.len) × (after ≡ row_out before.0.view J.from xs xs) };
 }
 
 /// A load of a word by its owner: a step that gives its slot back as it was.
@@ -109,6 +119,13 @@ impl Play<u64, Known> for Puts {
     ghost then = { λ step before found after. TellsPut before.0.view (front_value before.1) after.0.view × IsIdle after after.0.view };
 }
 
+/// A store of several words of the ring by the sender: a step that gives the slots of their cells back.
+pub struct PutsRow;
+
+impl Play<u64, Known> for PutsRow {
+    ghost then = { λ step before found after. TellsPutRow before.0.view (values before.1) after.0.view × IsIdle after after.0.view };
+}
+
 /// A store of the written count by the sender.
 pub struct Publishes;
 
@@ -128,6 +145,13 @@ pub struct Takes;
 
 impl Play<u64, Known> for Takes {
     ghost then = { λ step before found after. TellsTake before.0.view (front_value before.1) after.0.view × IsIdle after after.0.view };
+}
+
+/// A load of several words of the ring by the receiver: a step that gives the slots of their cells back as they were.
+pub struct TakesRow;
+
+impl Play<u64, Known> for TakesRow {
+    ghost then = { λ step before found after. TellsTakeRow before.0.view (values before.1) after.0.view × IsIdle after after.0.view };
 }
 
 /// A store of the read count by the receiver.

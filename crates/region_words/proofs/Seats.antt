@@ -1,11 +1,12 @@
 -- A seat between two calls: it has no slot out and has copied nothing.
-use Rattle.std.proofs.Common.{◌≡◌, ℕ, suc, ◌+◌, ◌<◌, ◌≤◌, List, [], ◌∷◌, None, refl, sym, ap, subst, ◌∙◌, arith}
+use Rattle.std.proofs.Common.{◌≡◌, ℕ, suc, ◌+◌, ◌<◌, ◌≤◌, List, [], ◌∷◌, length, None, refl, sym, ap, subst, ◌∙◌, arith}
 use Rattle.atomic_table.specs.Table.{Me, Allows, rest}
 use Rattle.atomic_table.specs.Seated.{TableId}
 use Rattle.word_map.specs.WordMap.{WordMap, Has}
 use Rattle.region_rule.specs.View.{View, Own}
-use Rattle.region_rule.specs.Places.{Token, idle, copying, taking, IsIdle, MayTake, Ruled}
+use Rattle.region_rule.specs.Places.{Token, idle, copying, taking, row_out, IsIdle, MayTake, Ruled}
 use Rattle.region_rule.proofs.Allows.{take_allows, copy_allows}
+use Rattle.region_rule.proofs.Rows.{take_row_allows}
 use Rattle.region_words.specs.Parts.{IsSized}
 
 abbrev pub Mine : Type 0
@@ -30,6 +31,16 @@ take_asks t y key id k at me sized same here e may inside fresh is = (
   subst (λ (u : Mine). Allows (Ruled key) y.slots id u 0 (λ n. n) (λ n after. (x : ℕ) × (after ≡ (taking me.0.view k x me.0.from me.0.copied, (k, x) ∷ [])))) (sym e)
       (take_allows key y.slots id 0 k me.0.view me.0.from me.0.copied (subst (MayTake me.0.view) (sym is) may) (subst (λ (n : ℕ). n < key) (sym is) (subst (λ (n : ℕ). at < n) (sym same) inside))
       (subst (λ (n : ℕ). me.0.from ≤ n → n < me.0.from + me.0.copied → ⊥) (sym is) fresh)),
+)
+
+-- to take out a row of slots, the one that `at` and `words` name
+pub take_row_asks : (t y : TableId) (key id k len at words : ℕ) (me : Mine) → IsSized y → key ≡ y.words → t ≡ y → IsIdle me me.0.view → ((q : ℕ) → at ≤ q → q < at + words → MayTake me.0.view q) → at + words ≤ y.words → k ≡ at → len ≡ words
+    → (t ≡ y) × (0 < y.words) × Allows (Ruled key) y.slots id me 0 (λ n. n) (λ n after. (xs : List ℕ) × (length xs ≡ len) × (after ≡ row_out me.0.view k xs xs))
+take_row_asks t y key id k len at words me sized same here e may inside is long = (
+  here,
+  sized.0,
+  subst (λ (u : Mine). Allows (Ruled key) y.slots id u 0 (λ n. n) (λ n after. (xs : List ℕ) × (length xs ≡ len) × (after ≡ row_out me.0.view k xs xs))) (sym e)
+      (take_row_allows key y.slots id 0 k len me.0.view (λ q low high. may q (omega arith) (omega arith)) (omega arith)),
 )
 
 head_is : (x y a b : ℕ) (l : List (ℕ × ℕ)) → (a, x) ∷ [] ≡ (b, y) ∷ l → x ≡ y

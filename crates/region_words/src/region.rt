@@ -3,20 +3,20 @@
 //!
 //! The table has a slot and a word for each word of the region. A word that one token owns, and a cell of a ring, lies
 //! in its slot, which is plain memory: a token takes the slot out by a load of word 0, reads or writes it, and gives it
-//! back by another load. What several tokens read at once, frozen words and the counts and flags of rings, lies in the
+//! back by another load. The same two loads do for a row of slots, however long it is. What several tokens read at once, frozen words and the counts and flags of rings, lies in the
 //! table's words. Word 0 is hardly ever stored: it is no ring's count, since a chunk begins at word 1 or later.
 
-ghost use Rattle.std.specs.Prelude.{[], ◌≡◌, ℕ, suc, ◌+◌, ◌<◌, ◌≤◌, ◌^◌, cond, Option, Some, None, IfOk, IsSome, replicate};
+ghost use Rattle.std.specs.Prelude.{List, [], ◌∷◌, ◌++◌, ◌≡◌, ℕ, suc, ◌+◌, ◌<◌, ◌≤◌, ◌^◌, cond, length, Option, Some, None, IfOk, IsSome, replicate};
 ghost use mathlib.Core.Option.{none};
-ghost use Rattle.atomic_table.specs.Table.{step, Allows, Splits, Joins};
+ghost use Rattle.atomic_table.specs.Table.{step, rest, turned, Allows, Splits, Joins};
 ghost use Rattle.word_map.specs.WordMap.{at as word_at, is_within};
 ghost use Rattle.region_rule.specs.View.{Own};
-ghost use Rattle.region_rule.specs.Places.{Ruled, MayTake, copying, out_of};
+ghost use Rattle.region_rule.specs.Places.{Ruled, MayTake, IsIdle, copying, out_of, row_out};
 ghost use Rattle.region_words.specs.Parts.{own_map};
 
 use crate::part::Part;
 use atomic_table::{Join, Play, Refused, Seat, Split, Table};
-use region_rule::{Copies, Known, Range, RegionRule, TakesOut};
+use region_rule::{Copies, Known, Range, RegionRule, TakesOut, TakesRowOut};
 use std::alloc::{AllocError, Global};
 use std::marker::{Brand, Model};
 
@@ -172,6 +172,61 @@ impl Region {
         self.table.shared.load::<TakesOut<J>>(seat, 0);
         self.table.shared.exchange(seat, at as usize, value);
         self.table.shared.load::<M>(seat, 0);
+    }
+
+    /// Takes out a row of slots, by a token of any kind that has none out: one load of word 0, however many they are. The
+    /// token may take them. The first is in front, and a step of the token's own gives them back.
+    #[inline]
+    pub fn take_row(&self, seat: &mut Seat<u64, Known>, at: u64, words: u64)
+        requires here { seat.old.table_id ≡ self.now }
+        requires inside { at + words ≤ self.now.words }
+        requires rests { IsIdle seat.old.me seat.old.me.0.view }
+        requires may { (k : ℕ) → at ≤ k → k < at + words → MayTake seat.old.me.0.view k }
+        ensures seat { (seat.new.table_id ≡ seat.old.table_id) × (seat.new.id ≡ seat.old.id) }
+        ensures out { (xs : List ℕ) × (length xs ≡ words) × (seat.new.me ≡ row_out seat.old.me.0.view at xs xs) }
+    {
+        self.take_row_at::<Brand>(seat, at, words);
+    }
+
+    /// The same for the row that `J` names, since a step can't take it as an argument.
+    #[inline]
+    fn take_row_at<J: Range>(&self, seat: &mut Seat<u64, Known>, at: u64, words: u64)
+        requires here { seat.old.table_id ≡ self.now }
+        requires inside { at + words ≤ self.now.words }
+        requires rests { IsIdle seat.old.me seat.old.me.0.view }
+        requires may { (k : ℕ) → at ≤ k → k < at + words → MayTake seat.old.me.0.view k }
+        requires range { (J.from ≡ at) × (J.len ≡ words) }
+        ensures seat { (seat.new.table_id ≡ seat.old.table_id) × (seat.new.id ≡ seat.old.id) }
+        ensures out { (xs : List ℕ) × (length xs ≡ words) × (seat.new.me ≡ row_out seat.old.me.0.view at xs xs) }
+    {
+        let _ = (at, words);
+        self.table.shared.load::<TakesRowOut<J>>(seat, 0);
+    }
+
+    /// The value of the slot in front, which then goes behind the others: a plain load.
+    #[inline]
+    pub fn read_front(&self, seat: &mut Seat<u64, Known>, at: u64) -> u64
+        requires here { seat.old.table_id ≡ self.now }
+        requires front { (x : ℕ) × (seat.old.me.1 ≡ (at, x) ∷ rest seat.old.me.1) }
+        ensures seat { (seat.new.table_id ≡ seat.old.table_id) × (seat.new.id ≡ seat.old.id) }
+        ensures found { seat.old.me.1 ≡ (at, result) ∷ rest seat.old.me.1 }
+        ensures turned { seat.new.me ≡ (seat.old.me.0, turned seat.old.me.1) }
+    {
+        let value = *seat.slot_mut(&self.table.shared, at as usize);
+        seat.turn();
+        value
+    }
+
+    /// Changes the slot in front, which then goes behind the others: a plain store.
+    #[inline]
+    pub fn write_front(&self, seat: &mut Seat<u64, Known>, at: u64, word: u64)
+        requires here { seat.old.table_id ≡ self.now }
+        requires front { (x : ℕ) × (seat.old.me.1 ≡ (at, x) ∷ rest seat.old.me.1) }
+        ensures seat { (seat.new.table_id ≡ seat.old.table_id) × (seat.new.id ≡ seat.old.id) }
+        ensures turned { seat.new.me ≡ (seat.old.me.0, rest seat.old.me.1 ++ (at, word) ∷ []) }
+    {
+        self.table.shared.exchange(seat, at as usize, word);
+        seat.turn();
     }
 
     /// Copies the next word of an owner from its slot to the table's word of its number. `J` names the slot.

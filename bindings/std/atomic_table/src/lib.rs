@@ -84,6 +84,10 @@ impl<S, V> Seat<S, V> {
         unsafe { &mut *table.place.slot(slot) }
     }
 
+    /// The slot that was taken last goes behind the others: a matter of the proof alone.
+    #[inline]
+    pub fn turn(&mut self) {}
+
     /// The values of some slots in a row, all of which this seat holds. They are words, which lie side by side. The
     /// toolchain's table has no such call: it is for the words of a chunk as a slice.
     #[inline]

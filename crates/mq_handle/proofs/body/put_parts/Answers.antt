@@ -7,9 +7,8 @@ use Rattle.ring_rule.specs.Ring.{Ring, Sending}
 use Rattle.ring_rule.specs.Ends.{puts}
 use Rattle.mq_ring.specs.Ends.{SendingEnd}
 use Rattle.mq_ring.specs.Bursts.{words_from}
-use Rattle.mq_ring.proofs.Runs.{HasPut, has_put, length-words, run_framed}
+use Rattle.mq_ring.proofs.Runs.{HasPut, has_put, length-words, run_framed, words_then}
 use Rattle.mq_handle.specs.Parts.{joined}
-use Rattle.mq_handle.proofs.Gathered.{words_then}
 use Rattle.mq_handle.proofs.body.put_parts.Goals as goal
 
 -- what the words that are put so far leave

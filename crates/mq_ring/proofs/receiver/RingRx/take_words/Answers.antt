@@ -4,7 +4,7 @@ use Rattle.ring_rule.specs.Frames.{IsFramed}
 use Rattle.ring_rule.specs.Ring.{Ring, Receiving}
 use Rattle.ring_rule.specs.Ends.{takes}
 use Rattle.mq_ring.specs.Ends.{ReceivingEnd}
-use Rattle.mq_ring.proofs.Runs.{HasTaken, has_taken, take_next, word_more, no_words}
+use Rattle.mq_ring.proofs.Runs.{HasTaken, has_taken, take_next, word_more}
 use Rattle.mq_ring.proofs.receiver.RingRx.take_words.Goals as goal
 
 -- what the words that are taken so far leave
@@ -42,5 +42,8 @@ loop-k-preserved c =
       len = c.unpack.ensures.len ∙ c.loop-k.invariant.len;
     }
 
-pub loop-k-init : goal.loop-k-init
-loop-k-init c = record { taken = ([], refl, refl, no_words c.args.out.now c.args.from); framed = λ some. absurd (omega arith); len = refl }
+pub returns-clause-taken : goal.returns-clause-taken
+returns-clause-taken c =
+    let t = c.loop-k.invariant.taken in
+    let all : c.loop-k.k ≡ c.args.words = omega (arith, c.loop-k-test.false, c.loop-k.auto.k-end, c.whole_words-whole.ensures.few) in
+    (t.0, t.1 ∙ all, t.2, t.3)

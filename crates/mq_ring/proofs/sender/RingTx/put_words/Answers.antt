@@ -23,7 +23,7 @@ pub put-requires-clause-room : goal.put-requires-clause-room
 put-requires-clause-room c =
     let xs = words_from c.args.from c.loop-k.k c.args.bytes.now in
     let h = so_far c.args.self.now c.loop-k.self xs c.loop-k.invariant in
-    let count = length-words c.args.from c.loop-k.k c.args.bytes.now (omega (arith, c.requires.inside, c.loop-k.auto.k-end)) in
+    let count = length-words c.args.from c.loop-k.k c.args.bytes.now (omega (arith, c.requires.inside, c.loop-k-test.true)) in
     let size = ap (λ (r : Ring). r.size) h.ring in
     omega (arith, ap length h.put, length-append c.args.self.now.end.put xs, count, h.room, size, c.requires.room, c.loop-k-test.true)
 
@@ -47,3 +47,12 @@ loop-k-preserved c =
     c.put.ensures
     ∙ ap (λ (o : SendingEnd). record o { end = puts o.end c.pack.result }) c.loop-k.invariant
     ∙ ap (λ (s : Sending). record old { end = s }) (put_next old.end xs c.pack.result ∙ ap (fold puts old.end) next)
+
+pub put_whole-requires-clause-framed : goal.put_whole-requires-clause-framed
+put_whole-requires-clause-framed c =
+    run_framed c.args.self.now.end.ring.max c.whole_words-whole.result c.args.words c.args.self.now.end.put (drop c.args.from (packed_words (word_count (length c.args.bytes.now)) c.args.bytes.now)) c.whole_words-whole.ensures.few c.requires.framed
+
+pub returns : goal.returns
+returns c =
+    let all : c.loop-k.k ≡ c.args.words = omega (arith, c.loop-k-test.false, c.loop-k.auto.k-end, c.whole_words-whole.ensures.few) in
+    c.loop-k.invariant ∙ ap (λ (n : ℕ). record c.args.self.now { end = fold puts c.args.self.now.end (words_from c.args.from n c.args.bytes.now) }) all
