@@ -1,5 +1,5 @@
 //! A region that lies in a mapping, as each process has it. Not proved.
-use super::Region;
+use super::{Place, Region};
 use crate::Frozen;
 use atomic_table::{Badge, Mapping, Site, Table};
 use std::sync::Arc;
@@ -8,12 +8,12 @@ use std::sync::atomic::AtomicU64;
 impl Region {
     /// Where it lies.
     pub fn site(&self) -> Site {
-        self.table.shared.site()
+        self.shared().site()
     }
 
     /// A word, whoever owns it.
     pub fn word(&self, at: u64) -> &AtomicU64 {
-        self.table.shared.word(at as usize)
+        self.shared().word(at as usize)
     }
 
     /// The region at a site.
@@ -24,7 +24,9 @@ impl Region {
     pub unsafe fn attach(mapping: &Arc<Mapping>, site: Site) -> Region {
         // SAFETY: as the caller says.
         let table = unsafe { Table::attach(mapping, site) };
-        Region { table }
+        Region {
+            place: Place::Own(table),
+        }
     }
 }
 

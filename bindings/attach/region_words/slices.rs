@@ -8,13 +8,13 @@ impl Chunk {
     /// Its words.
     pub fn as_words<'a>(&'a self, r: &'a Region) -> &'a [u64] {
         let (first, count) = (self.at.word() as usize, (self.bytes / 8) as usize);
-        self.part.seat.slots(&r.table.shared, first, count)
+        self.part.seat.slots(r.shared(), first, count)
     }
 
     /// The same, to be changed.
     pub fn as_words_mut<'a>(&'a mut self, r: &'a Region) -> &'a mut [u64] {
         let (first, count) = (self.at.word() as usize, (self.bytes / 8) as usize);
-        self.part.seat.slots_mut(&r.table.shared, first, count)
+        self.part.seat.slots_mut(r.shared(), first, count)
     }
 
     /// The bytes of its words, as the machine lays them out.

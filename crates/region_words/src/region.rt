@@ -3,8 +3,9 @@
 //!
 //! The table has a slot and a word for each word of the region. A word that one token owns, and a cell of a ring, lies
 //! in its slot, which is plain memory: a token takes the slot out by a load of word 0, reads or writes it, and gives it
-//! back by another load. The same two loads do for a row of slots, however long it is. What several tokens read at once, frozen words and the counts and flags of rings, lies in the
-//! table's words. Word 0 is hardly ever stored: it is no ring's count, since a chunk begins at word 1 or later.
+//! back by another load. The same two loads do for a row of slots, however long it is. What several tokens read at once,
+//! frozen words and the counts and flags of rings, lies in the table's words. Word 0 is hardly ever stored: it is no
+//! ring's count, since a chunk begins at word 1 or later.
 
 ghost use Rattle.std.specs.Prelude.{List, [], ◌∷◌, ◌++◌, ◌≡◌, ℕ, suc, ◌+◌, ◌<◌, ◌≤◌, ◌^◌, cond, length, Option, Some, None, IfOk, IsSome, replicate};
 ghost use mathlib.Core.Option.{none};
@@ -12,32 +13,43 @@ ghost use Rattle.atomic_table.specs.Table.{step, rest, turned, Allows, Splits, J
 ghost use Rattle.word_map.specs.WordMap.{at as word_at, is_within};
 ghost use Rattle.region_rule.specs.View.{Own};
 ghost use Rattle.region_rule.specs.Places.{Ruled, MayTake, IsIdle, copying, out_of, row_out};
-ghost use Rattle.region_words.specs.Parts.{own_map};
+ghost use Rattle.region_words.specs.Parts.{own_map, IsSized};
 
 use crate::part::Part;
-use atomic_table::{Join, Play, Refused, Seat, Split, Table};
+use atomic_table::{Join, Play, Refused, Seat, Shared, Split, Table};
 use region_rule::{Copies, Known, Range, RegionRule, TakesOut, TakesRowOut};
 use std::alloc::{AllocError, Global};
 use std::marker::{Brand, Model};
+use twin_table::Twin;
 
 /// A fixed array of words that all threads see. Contracts see which one it is, with the number of its words.
 #[derive(Drop)]
 pub struct Region {
-    table: Table<u64, Known, usize, RegionRule, Global>,
+    place: Place,
+}
+
+/// Where a region's table lies: in memory of its own, or in memory that was given to it for good.
+#[derive(Drop)]
+pub(crate) enum Place {
+    /// Its own memory, which is freed with it.
+    Own(Table<u64, Known, usize, RegionRule, Global>),
+    /// Given memory, at this process's address of it.
+    Given(Twin<u64, Known, usize, RegionRule>),
 }
 
 impl Model for Region {
     ghost use Rattle.std.specs.Prelude.{◌≡◌};
     ghost use Rattle.atomic_table.specs.Seated.{TableId, table_id_coded};
     ghost use Rattle.region_words.specs.Parts.{IsSized};
+    ghost use Rattle.region_words.specs.Places.{place_id, place_key};
 
     ghost Value = { TableId };
 
     ghost coded = { table_id_coded };
 
-    ghost view = { λ r. r.table.shared.table_id };
+    ghost view = { λ r. place_id r.place };
 
-    ghost invariant = { λ r. IsSized r.table.shared.table_id × (r.table.shared.key ≡ r.table.shared.table_id.words) };
+    ghost invariant = { λ r. IsSized (place_id r.place) × (place_key r.place ≡ (place_id r.place).words) };
 }
 
 /// The given number of zeros.
@@ -48,6 +60,19 @@ fn zeros(alloc: Global, count: usize) -> Result<Vec<u64>, AllocError>
 }
 
 impl Region {
+    /// The table.
+    #[inline]
+    fn shared(&self) -> &Shared<u64, Known, usize, RegionRule>
+        ensures id { result.now.table_id ≡ self.now }
+        ensures sized { IsSized result.now.table_id }
+        ensures key { result.now.key ≡ result.now.table_id.words }
+    {
+        match &self.place {
+            Place::Own(table) => &table.shared,
+            Place::Given(twin) => twin.shared(),
+        }
+    }
+
     /// A region of the given number of words, all 0, and the part that owns all of them. It takes 16 bytes a word, and
     /// 16 more a word while it is made.
     pub fn new(alloc: Global, words: usize) -> Result<(Region, Part), AllocError>
@@ -62,7 +87,23 @@ impl Region {
             Ok(made) => made,
             Err(Refused { slots: _ }) => return Err(AllocError),
         };
-        Ok((Region { table }, Part { seat }))
+        Ok((
+            Region {
+                place: Place::Own(table),
+            },
+            Part { seat },
+        ))
+    }
+
+    /// The region whose words lie there. Letting it go changes nothing of them.
+    pub fn at(table: Twin<u64, Known, usize, RegionRule>) -> Region
+        requires sized { IsSized table.table_id }
+        requires key { table.key ≡ table.table_id.words }
+        ensures { result ≡ table.table_id }
+    {
+        Region {
+            place: Place::Given(table),
+        }
     }
 
     /// A load of the table's word by a token of any kind, for the crates that have their own kinds, such as the ends of
@@ -75,7 +116,7 @@ impl Region {
         ensures seat { (seat.new.table_id ≡ seat.old.table_id) × (seat.new.id ≡ seat.old.id) }
         ensures told { M.then (step self.now.slots at 0 0 none) seat.old.me result seat.new.me }
     {
-        self.table.shared.load::<M>(seat, at as usize)
+        self.shared().load::<M>(seat, at as usize)
     }
 
     /// A store in the table's word by a token of any kind.
@@ -87,7 +128,7 @@ impl Region {
         ensures seat { (seat.new.table_id ≡ seat.old.table_id) × (seat.new.id ≡ seat.old.id) }
         ensures told { M.then (step self.now.slots at value 0 none) seat.old.me value seat.new.me }
     {
-        self.table.shared.store::<M>(seat, at as usize, value);
+        self.shared().store::<M>(seat, at as usize, value);
     }
 
     /// The value of a word that lies in its slot, by a token of any kind: two loads of word 0, of which the second
@@ -124,9 +165,10 @@ impl Region {
         ensures seat { (seat.new.table_id ≡ seat.old.table_id) × (seat.new.id ≡ seat.old.id) }
         ensures told { (n : ℕ) × M.then (step self.now.slots 0 0 0 none) (out_of seat.old.me.0 at result result) n seat.new.me }
     {
-        self.table.shared.load::<TakesOut<J>>(seat, 0);
-        let value = *seat.slot_mut(&self.table.shared, at as usize);
-        self.table.shared.load::<M>(seat, 0);
+        let table = self.shared();
+        table.load::<TakesOut<J>>(seat, 0);
+        let value = *seat.slot_mut(table, at as usize);
+        table.load::<M>(seat, 0);
         value
     }
 
@@ -169,9 +211,10 @@ impl Region {
         ensures seat { (seat.new.table_id ≡ seat.old.table_id) × (seat.new.id ≡ seat.old.id) }
         ensures told { (n : ℕ) × (x : ℕ) × M.then (step self.now.slots 0 0 0 none) (out_of seat.old.me.0 at x value) n seat.new.me }
     {
-        self.table.shared.load::<TakesOut<J>>(seat, 0);
-        self.table.shared.exchange(seat, at as usize, value);
-        self.table.shared.load::<M>(seat, 0);
+        let table = self.shared();
+        table.load::<TakesOut<J>>(seat, 0);
+        table.exchange(seat, at as usize, value);
+        table.load::<M>(seat, 0);
     }
 
     /// Takes out a row of slots, by a token of any kind that has none out: one load of word 0, however many they are. The
@@ -200,7 +243,8 @@ impl Region {
         ensures out { (xs : List ℕ) × (length xs ≡ words) × (seat.new.me ≡ row_out seat.old.me.0.view at xs xs) }
     {
         let _ = (at, words);
-        self.table.shared.load::<TakesRowOut<J>>(seat, 0);
+        let table = self.shared();
+        table.load::<TakesRowOut<J>>(seat, 0);
     }
 
     /// The value of the slot in front, which then goes behind the others: a plain load.
@@ -212,7 +256,7 @@ impl Region {
         ensures found { seat.old.me.1 ≡ (at, result) ∷ rest seat.old.me.1 }
         ensures turned { seat.new.me ≡ (seat.old.me.0, turned seat.old.me.1) }
     {
-        let value = *seat.slot_mut(&self.table.shared, at as usize);
+        let value = *seat.slot_mut(self.shared(), at as usize);
         seat.turn();
         value
     }
@@ -225,7 +269,7 @@ impl Region {
         ensures seat { (seat.new.table_id ≡ seat.old.table_id) × (seat.new.id ≡ seat.old.id) }
         ensures turned { seat.new.me ≡ (seat.old.me.0, rest seat.old.me.1 ++ (at, word) ∷ []) }
     {
-        self.table.shared.exchange(seat, at as usize, word);
+        self.shared().exchange(seat, at as usize, word);
         seat.turn();
     }
 
@@ -241,9 +285,10 @@ impl Region {
         ensures seat { (seat.new.table_id ≡ seat.old.table_id) × (seat.new.id ≡ seat.old.id) }
         ensures copied { seat.new.me ≡ (copying seat.old.me.0.view seat.old.me.0.from (suc seat.old.me.0.copied), []) }
     {
-        self.table.shared.load::<TakesOut<J>>(seat, 0);
-        let value = *seat.slot_mut(&self.table.shared, at as usize);
-        self.table.shared.store::<Copies>(seat, at as usize, value);
+        let table = self.shared();
+        table.load::<TakesOut<J>>(seat, 0);
+        let value = *seat.slot_mut(table, at as usize);
+        table.store::<Copies>(seat, at as usize, value);
     }
 
     /// Cuts a new token off one of any kind.
@@ -255,7 +300,7 @@ impl Region {
         ensures left { seat.new.me ≡ (M.left seat.old.me.0, seat.old.me.1) }
         ensures right { (result.table_id ≡ seat.old.table_id) × (result.me ≡ (M.right seat.old.me.0, [])) }
     {
-        self.table.shared.split_seat::<M>(seat)
+        self.shared().split_seat::<M>(seat)
     }
 
     /// Joins a token of any kind to another.
@@ -267,6 +312,6 @@ impl Region {
         ensures seat { (seat.new.table_id ≡ seat.old.table_id) × (seat.new.id ≡ seat.old.id) }
         ensures both { seat.new.me ≡ (M.both seat.old.me.0 other.me.0, seat.old.me.1) }
     {
-        self.table.shared.join_seat::<M>(seat, other);
+        self.shared().join_seat::<M>(seat, other);
     }
 }
