@@ -1,0 +1,3 @@
+pub mod Cover
+pub mod Head
+pub mod Words
