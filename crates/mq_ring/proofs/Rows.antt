@@ -75,8 +75,8 @@ read_more me after t at k words word xs (y ∷ ys) long count low e found told =
     let is : word ≡ y = head_value word y (at + k) (at + k) (rest me.1) (row (at + k + 1) ys ++ row at xs) (sym found ∙ ap (λ (z : Mine). z.1) e) in
     let back : row at xs ++ ((at + k, y) ∷ []) ≡ row at (xs ++ (y ∷ [])) = ap (λ (n : ℕ). row at xs ++ ((at + n, y) ∷ [])) (sym long) ∙ row_more at y xs in
     let all : after ≡ (t, row (at + (k + 1)) ys ++ row at (xs ++ (y ∷ []))) = told
-        ∙ ap (λ (z : Mine). (z.0, turned z.1)) e
-        ∙ ap (λ (l : List (ℕ × ℕ)). (t, l)) (append_assoc (row (at + k + 1) ys) (row at xs) ((at + k, y) ∷ []) ∙ ap (λ (l : List (ℕ × ℕ)). row (at + k + 1) ys ++ l) back ∙ ap (λ (n : ℕ). row n ys ++ row at (xs ++ (y ∷ []))) (place_next at k)) in (
+    ∙ ap (λ (z : Mine). (z.0, turned z.1)) e
+    ∙ ap (λ (l : List (ℕ × ℕ)). (t, l)) (append_assoc (row (at + k + 1) ys) (row at xs) ((at + k, y) ∷ []) ∙ ap (λ (l : List (ℕ × ℕ)). row (at + k + 1) ys ++ l) back ∙ ap (λ (n : ℕ). row n ys ++ row at (xs ++ (y ∷ []))) (place_next at k)) in (
       ys,
       omega arith,
       all ∙ ap (λ (n : ℕ). (t, row (at + (k + 1)) ys ++ row at (xs ++ (n ∷ [])))) (sym is),

@@ -185,14 +185,7 @@ fn write_whole(word: u64, out: &mut [u8], at: u64)
 }
 
 /// Stores words of the bytes, from word `from` on, in the row of slots that the token has out.
-fn fill_row(
-    r: &Region,
-    seat: &mut Seat<u64, Known>,
-    at: u64,
-    bytes: &[u8],
-    from: u64,
-    words: u64,
-)
+fn fill_row(r: &Region, seat: &mut Seat<u64, Known>, at: u64, bytes: &[u8], from: u64, words: u64)
     requires here { seat.old.table_id ≡ r.now }
     requires inside { from + words ≤ word_count (length bytes.now) }
     requires whole { 8 * (from + words) ≤ length bytes.now }
@@ -209,14 +202,7 @@ fn fill_row(
 }
 
 /// Writes the words in the row of slots that the token has out to `out`, from word `from` on.
-fn read_row(
-    r: &Region,
-    seat: &mut Seat<u64, Known>,
-    at: u64,
-    out: &mut [u8],
-    from: u64,
-    words: u64,
-)
+fn read_row(r: &Region, seat: &mut Seat<u64, Known>, at: u64, out: &mut [u8], from: u64, words: u64)
     requires here { seat.old.table_id ≡ r.now }
     requires inside { from + words ≤ word_count (length out.old) }
     requires whole { 8 * (from + words) ≤ length out.old }

@@ -81,17 +81,17 @@ takes_one count id k u out from n s r here may inside clear fresh = (
   x,
   home.1,
   (
-  r.0,
-  subst (Reached count r.0) (sym (map_set s.views id (holding u ((k, x) ∷ out) from n) ∙ set_again (views_of s.views) id u (sees s.views r.0 id (holding u out from n) here))) r.1,
-  touched count r.0 r.0 s.words (set s.homes k none) s id k (holding u out from n) (holding u ((k, x) ∷ out) from n) t here t.counted (λ q z. refl) (λ q z. refl) (λ q z. set_else s.homes k q none z)
-      (λ q c. c) (λ q c. c) (λ q z c. c.1)
-      ((may, found), t.outs id (holding u out from n) here)
-      (λ q low high. let old = t.copies id (holding u out from n) here q low high in
-      (old.0, λ y f. copied_moves u s.words s.words s.homes (set s.homes k none) q y refl (set_else s.homes k q none (λ z. fresh (subst (λ (b : ℕ). from ≤ b) z low) (subst (λ (b : ℕ). b < from + n) z high))) (old.1 y f)))
-      (taker_away count r.0 s id k (holding u out from n) sound t here may)
-      (λ j g y e c f. t.in_word j g k y e c f)
-      (λ j g y rests e c f. absurd (rests.0 refl))
-      (λ rests low. absurd (rests.0 refl)),
+    r.0,
+    subst (Reached count r.0) (sym (map_set s.views id (holding u ((k, x) ∷ out) from n) ∙ set_again (views_of s.views) id u (sees s.views r.0 id (holding u out from n) here))) r.1,
+    touched count r.0 r.0 s.words (set s.homes k none) s id k (holding u out from n) (holding u ((k, x) ∷ out) from n) t here t.counted (λ q z. refl) (λ q z. refl) (λ q z. set_else s.homes k q none z)
+        (λ q c. c) (λ q c. c) (λ q z c. c.1)
+        ((may, found), t.outs id (holding u out from n) here)
+        (λ q low high. let old = t.copies id (holding u out from n) here q low high in
+        (old.0, λ y f. copied_moves u s.words s.words s.homes (set s.homes k none) q y refl (set_else s.homes k q none (λ z. fresh (subst (λ (b : ℕ). from ≤ b) z low) (subst (λ (b : ℕ). b < from + n) z high))) (old.1 y f)))
+        (taker_away count r.0 s id k (holding u out from n) sound t here may)
+        (λ j g y e c f. t.in_word j g k y e c f)
+        (λ j g y rests e c f. absurd (rests.0 refl))
+        (λ rests low. absurd (rests.0 refl)),
   ),
 )
   where
@@ -169,14 +169,14 @@ loads_one count id k x u out Then s r wide here slot inside go =
       g.0,
       g.5,
       (
-      r.0,
-      subst (Reached count r.0) (sym (map_set s.views id (holding g.0 out 0 0))) (reaches count r.0 (views_of s.views) g.1 r.0 _ r.1 g.2),
-      touched count r.0 r.0 s.words (set s.homes k (some x)) s id k old (holding g.0 out 0 0) t here t.counted (λ q z. refl) (λ q z. refl) (λ q z. set_else s.homes k q (some x) z)
-          g.3.0 g.3.1 (clear_front k x out) (g.4 (t.outs id old here).1) (λ q low high. absurd (omega arith))
-          (taker_away count r.0 s id k old sound t here had.0)
-          (λ j h y e c f. t.in_word j h k y e c f)
-          (λ j h y rests e c f. set_here s.homes k (some x) deep ∙ ap some (sym is ∙ f))
-          (λ rests low. (x, set_here s.homes k (some x) deep)),
+        r.0,
+        subst (Reached count r.0) (sym (map_set s.views id (holding g.0 out 0 0))) (reaches count r.0 (views_of s.views) g.1 r.0 _ r.1 g.2),
+        touched count r.0 r.0 s.words (set s.homes k (some x)) s id k old (holding g.0 out 0 0) t here t.counted (λ q z. refl) (λ q z. refl) (λ q z. set_else s.homes k q (some x) z)
+            g.3.0 g.3.1 (clear_front k x out) (g.4 (t.outs id old here).1) (λ q low high. absurd (omega arith))
+            (taker_away count r.0 s id k old sound t here had.0)
+            (λ j h y e c f. t.in_word j h k y e c f)
+            (λ j h y rests e c f. set_here s.homes k (some x) deep ∙ ap some (sym is ∙ f))
+            (λ rests low. (x, set_here s.homes k (some x) deep)),
       ),
     )
 
@@ -196,14 +196,14 @@ stores_one count id k x y u out Then s r wide here slot inside go =
       g.0,
       g.5,
       (
-      set r.0 k y,
-      subst (Reached count (set r.0 k y)) (sym (map_set s.views id (holding g.0 out 0 0))) (reaches count r.0 (views_of s.views) g.1 (set r.0 k y) _ r.1 g.2),
-      touched count r.0 (set r.0 k y) s.words (set s.homes k (some y)) s id k old (holding g.0 out 0 0) t here t.counted (λ q z. set_else r.0 k q y z) (λ q z. refl) (λ q z. set_else s.homes k q (some y) z)
-          g.3.0 g.3.1 (clear_front k x out) (g.4 (t.outs id old here).1) (λ q a b. absurd (omega arith))
-          (taker_away count r.0 s id k old sound t here had.0)
-          (λ j h z e c f. absurd (taker_alone r.0 s id k old sound here had.0 (λ w. one_place u k slot w) j h e c))
-          (λ j h z rests e c f. set_here s.homes k (some y) deep ∙ ap some (sym (set_here r.0 k y low) ∙ f))
-          (λ rests a. (y, set_here s.homes k (some y) deep)),
+        set r.0 k y,
+        subst (Reached count (set r.0 k y)) (sym (map_set s.views id (holding g.0 out 0 0))) (reaches count r.0 (views_of s.views) g.1 (set r.0 k y) _ r.1 g.2),
+        touched count r.0 (set r.0 k y) s.words (set s.homes k (some y)) s id k old (holding g.0 out 0 0) t here t.counted (λ q z. set_else r.0 k q y z) (λ q z. refl) (λ q z. set_else s.homes k q (some y) z)
+            g.3.0 g.3.1 (clear_front k x out) (g.4 (t.outs id old here).1) (λ q a b. absurd (omega arith))
+            (taker_away count r.0 s id k old sound t here had.0)
+            (λ j h z e c f. absurd (taker_alone r.0 s id k old sound here had.0 (λ w. one_place u k slot w) j h e c))
+            (λ j h z rests e c f. set_here s.homes k (some y) deep ∙ ap some (sym (set_here r.0 k y low) ∙ f))
+            (λ rests a. (y, set_here s.homes k (some y) deep)),
       ),
     )
 

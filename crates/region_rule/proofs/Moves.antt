@@ -11,7 +11,7 @@ use Rattle.atomic_table.specs.Table.{State}
 use Rattle.atomic_table.proofs.Lists.{at_set, set_here, set_else}
 use Rattle.ring_rule.proofs.Stored.{in_list, snoc_place}
 use Rattle.region_rule.specs.View.{View, Own, Frozen, Sender, Receiver, Done, Spent}
-use Rattle.region_rule.specs.Places.{Token, idle, holding, copying, views_of, InSlot, InWord, MayTake, Copied, MayHave, IsOut, IsCopied, Clear, Nobody, Placed}
+use Rattle.region_rule.specs.Places.{Token, idle, copying, views_of, InSlot, InWord, MayTake, Copied, MayHave, IsOut, IsCopied, Clear, Nobody, Placed}
 
 pub map_set : (ts : List Token) (i : ℕ) (t : Token) → views_of (set ts i t) ≡ set (views_of ts) i t.view
 map_set [] i t = refl

@@ -16,7 +16,7 @@ use Rattle.ring_rule.proofs.Stored.{in_list}
 use Rattle.ring_rule.proofs.Messages.{framed_front}
 use Rattle.region_rule.specs.View.{View, Sender, Receiver}
 use Rattle.region_rule.specs.Steps.{StoreData, LoadData, written_anew}
-use Rattle.region_rule.specs.Places.{Token, idle, holding, copying, row, row_out, values, IsCell, InSlot, MayTake, MayHave, Clear, Ruled}
+use Rattle.region_rule.specs.Places.{Token, idle, holding, row, row_out, values, IsCell, InSlot, MayTake, MayHave, Clear, Ruled}
 use Rattle.region_rule.specs.Tells.{TellsPutRow, TellsTakeRow}
 use Rattle.region_rule.proofs.Allows.{set_same, takes_one, loads_one, stores_one}
 use Rattle.region_rule.proofs.RingSteps.{next_is_cell, take_event}

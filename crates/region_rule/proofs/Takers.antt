@@ -1,5 +1,5 @@
 -- No two tokens take one slot, and none takes a slot whose word another looks for in the table's words.
-use Rattle.std.proofs.Common.{◌≡◌, ℕ, ◌+◌, ◌<◌, ◌≤◌, List, length, Option, sym, ap, subst, ◌∙◌, arith, mod-lt}
+use Rattle.std.proofs.Common.{◌≡◌, ℕ, ◌+◌, ◌<◌, ◌≤◌, List, length, Option, sym, ap, subst, arith, mod-lt}
 use Rattle.atomic_table.proofs.Lists.{one_turn}
 use Rattle.word_map.specs.WordMap.{WordMap, Has}
 use Rattle.ring_rule.specs.Ring.{Ring, IsRing, Sending, Receiving, IsSendingEnd, ArePaired, cell_of}

@@ -3,7 +3,6 @@ use Rattle.std.specs.List.{AllByRecursion}
 use Rattle.mq_ring.specs.Bursts.{words_from}
 use Rattle.region_rule.specs.Places.{row}
 use Rattle.mq_ring.proofs.Runs.{next_word, length-words}
-
 use Rattle.mq_ring.proofs.Rows.{has_front, filled_more, fits_more, begun, filled_all}
 use Rattle.mq_ring.proofs.bursts.fill_row.Goals as goal
 

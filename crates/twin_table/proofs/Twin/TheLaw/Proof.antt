@@ -1,11 +1,11 @@
 -- A `&` to a `Twin` holds the table's invariant, as the `Twin` does for good.
 use Rattle.std.proofs.Common.{[], ◌∷◌}
 use seplogic.Ra.Ura.{Ura}
-use base.Logic.{ent, sep, wand, apply∗}
-use base.Fml.{Lft, Fml, Incl, fsep, fbor}
+use base.Logic.{sep, wand, apply∗}
+use base.Fml.{Lft, Fml, fbor}
 use base.Before.{before}
 use types.Logic.{Logic, sem, lfts}
-use types.Kit.{‵, raw, ◌⊛◌, later, ◌$◌, ◌∵◌, !, qed, move, drop, split, use0, use1, use2, updating, await, now, done}
+use types.Kit.{‵, raw, ◌⊛◌, later, ◌$◌, !, qed, move, drop, split, use0, use1, use2, updating, await, now, done}
 use contract.BorrowLft.{⊑_static}
 use types.Na.{before-Incl}
 use denote.Sharing.{ShrLaws}

@@ -1,5 +1,5 @@
 -- `of` reads the two addresses of a table that is shared for good.
-use Rattle.atomic_table.proofs.Names.{◌≡◌, ℕ, List, [], ◌∷◌, sym, subst, refl, a_type, dcons, dnil, Val, vptr, inst_fn, SProp, Fml, ftrue, fsep, flft, full_share, ‵, raw, ◌⊛◌, given, at_ret, ◌$◌, ◌∵◌, !, qed, by, move, keep, drop, split, join, fsplit, fjoin, learn, use0, use1, rewrite, emp, fact_i, feq_i, stop, fld, load, of_opd, addr, no_more, and_then, first, blocks, exec, returns, enter, alloc_all, pass_all, free_all, look_at, get, through, sets, sets_last, env, agg, sub, whole, look_in, tables, yes, RattleType, owns, types_at, plain, Ptr, block_ptr, InBlock, nothing, param, bounded, alive, Stays, stay_dropped, walk_of, Goes-dropped, fact, fact_use, guard_i, Coded, sem, Is, shows, cell_at, peeks, RefOf, shr_vals, shr_Tells, unhide, hidden_shr, looks, shuts, lent_out, Tuple}
+use Rattle.atomic_table.proofs.Names.{◌≡◌, ℕ, List, [], ◌∷◌, sym, subst, refl, a_type, dcons, dnil, Val, vptr, inst_fn, SProp, Fml, flft, full_share, ‵, raw, ◌⊛◌, given, at_ret, ◌$◌, ◌∵◌, !, qed, by, move, keep, split, fsplit, fjoin, learn, use0, use1, rewrite, emp, fact_i, stop, fld, load, of_opd, addr, no_more, and_then, first, blocks, exec, returns, enter, alloc_all, pass_all, free_all, look_at, get, through, sets, sets_last, env, agg, sub, whole, look_in, tables, yes, RattleType, owns, types_at, plain, Ptr, block_ptr, InBlock, nothing, param, bounded, alive, Stays, stay_dropped, walk_of, Goes-dropped, fact, fact_use, guard_i, Coded, sem, Is, shows, cell_at, peeks, RefOf, shr_vals, shr_Tells, unhide, hidden_shr, looks, shuts, lent_out, Tuple}
 use mir.Syntax.{static}
 use Rattle.atomic_table.proofs.Walks.{proved, leaves}
 use Rattle.std_alloc.proofs.VecSteps.Shapes.{after}

@@ -1,5 +1,5 @@
 -- `shared` reads the two addresses as the table's own handle.
-use Rattle.atomic_table.proofs.Names.{◌≡◌, ℕ, List, [], ◌∷◌, sym, refl, a_type, dcons, dnil, named, Val, vptr, inst_fn, SProp, Lft, Fml, ftrue, fsep, flft, ‵, raw, ◌⊛◌, at_ret, ◌$◌, ◌∵◌, !, qed, by, move, keep, drop, split, join, fsplit, fjoin, use0, use1, emp, fact_i, feq_i, stop, of_opd, addr, first, blocks, exec, returns, enter, alloc_all, pass_all, free_all, look_at, get, through, sets, sets_last, env, tables, yes, RattleType, owns, types_at, plain, nothing, param, bounded, Stays, stay_dropped, walk_of, Goes-dropped, fact, id⊢, RefOf, shr_vals, shr_Tells, hidden_shr, type_at}
+use Rattle.atomic_table.proofs.Names.{◌≡◌, ℕ, List, [], ◌∷◌, refl, a_type, dcons, dnil, named, Val, vptr, inst_fn, SProp, Lft, Fml, ftrue, fsep, flft, ‵, raw, ◌⊛◌, at_ret, ◌$◌, ◌∵◌, !, qed, by, move, keep, drop, split, join, fsplit, fjoin, use0, use1, emp, fact_i, feq_i, stop, of_opd, addr, first, blocks, exec, returns, enter, alloc_all, pass_all, free_all, look_at, get, through, sets, sets_last, env, tables, yes, RattleType, owns, types_at, plain, nothing, param, bounded, Stays, stay_dropped, walk_of, Goes-dropped, fact, id⊢, RefOf, shr_vals, shr_Tells, hidden_shr}
 use Rattle.atomic_table.proofs.Walks.{proved, leaves}
 use Rattle.std_alloc.proofs.VecSteps.Shapes.{after}
 use Rattle.atomic_table.specs.contracts.shared.Shared as table

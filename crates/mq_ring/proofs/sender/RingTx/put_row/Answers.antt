@@ -34,10 +34,10 @@ load_as-self-inside-requires-clause-allowed c =
 
 pub invariant_of-self : goal.invariant_of-self
 invariant_of-self c = (
-    (row_is_put c.self.inside.seat.table_id _ _ c.self.inside.seat.me _ _ _ _ _ _ _ c.self.invariant.0 c.self.view_is c.requires.here c.load_as-self-inside.new.seat.table_id c.place_at-place.result c.args.words (words_from c.args.from c.args.words c.args.bytes.now) c.fill_row.new.seat.me c.load_as-self-inside.new.seat.me
-    (length-words c.args.from c.args.words c.args.bytes.now c.requires.inside) (c.load_as-self-inside.ensures.seat.0 ∙ c.fill_row.ensures.seat.0 ∙ c.take_row.ensures.seat.0)
-    (out_filled c.self.inside.seat.me.0.view c.place_at-place.result c.args.words _ c.take_row.new.seat.me c.fill_row.new.seat.me c.take_row.ensures.out c.fill_row.ensures.filled) c.load_as-self-inside.ensures.told).0,
-    c.self.invariant.1,
+  (row_is_put c.self.inside.seat.table_id _ _ c.self.inside.seat.me _ _ _ _ _ _ _ c.self.invariant.0 c.self.view_is c.requires.here c.load_as-self-inside.new.seat.table_id c.place_at-place.result c.args.words (words_from c.args.from c.args.words c.args.bytes.now) c.fill_row.new.seat.me c.load_as-self-inside.new.seat.me
+      (length-words c.args.from c.args.words c.args.bytes.now c.requires.inside) (c.load_as-self-inside.ensures.seat.0 ∙ c.fill_row.ensures.seat.0 ∙ c.take_row.ensures.seat.0)
+      (out_filled c.self.inside.seat.me.0.view c.place_at-place.result c.args.words _ c.take_row.new.seat.me c.fill_row.new.seat.me c.take_row.ensures.out c.fill_row.ensures.filled) c.load_as-self-inside.ensures.told).0,
+  c.self.invariant.1,
 )
 
 pub returns : goal.returns
