@@ -8,7 +8,7 @@ mod stopped;
 
 use csv_rows::{RowStore, rows};
 use gather_run::{GatherAnswer, Gathered, gather};
-use par_model::{BoundPlan, Item, ItemKind};
+use par_model::{BoundPlan, Item, ItemKind, NO_FILTER};
 use std::alloc::{AllocError, Global};
 use std::sync::Wait;
 use std::test::Fail;
@@ -54,7 +54,8 @@ fn query(alloc: Global, text: &[u8]) -> Result<(RowStore, BoundPlan), Fail>
         items: [unused, sum, unused, unused, unused, unused, unused, unused],
         item_count: 2,
         hash: false,
-        filter: None,
+        filters: [NO_FILTER; 8],
+        filter_count: 0,
     };
     Ok((store, plan))
 }

@@ -3,7 +3,7 @@
 ghost use Rattle.std.specs.Prelude.{◌≡◌, ◌<◌, ℕ, IsSome, Some};
 ghost use Rattle.word_map.specs.WordMap.{at as word_at, HasJust};
 
-use par_model::{BoundPlan, Filter, FilterOp, Item, ItemKind};
+use par_model::{BoundPlan, Filter, FilterOp, FilterTest, Item, ItemKind, NO_FILTER};
 use plan_descriptor::{BadDescriptor, PLAN_KEY, plan_in, read_plan, write_plan};
 use region_words::{Chunk, Part, Region};
 use shm_toc::Toc;
@@ -101,12 +101,21 @@ fn plan_with(op: FilterOp, value: i64) -> BoundPlan {
         ],
         item_count: 3,
         hash: true,
-        filter: Some(Filter {
-            column: 7,
-            op,
-            value,
-            places: 0,
-        }),
+        filters: [
+            Filter {
+                column: 7,
+                test: FilterTest::Number(op, value),
+                places: 0,
+            },
+            NO_FILTER,
+            NO_FILTER,
+            NO_FILTER,
+            NO_FILTER,
+            NO_FILTER,
+            NO_FILTER,
+            NO_FILTER,
+        ],
+        filter_count: 1,
     }
 }
 
@@ -167,7 +176,21 @@ fn are_same(one: &BoundPlan, other: &BoundPlan) -> bool {
         && one.items == other.items
         && one.item_count == other.item_count
         && one.hash == other.hash
-        && one.filter == other.filter
+        && one.filter_count == other.filter_count
+        && is_same(&one.filters[0], &other.filters[0])
+}
+
+/// Whether two filters of numbers are the same.
+fn is_same(one: &Filter, other: &Filter) -> bool {
+    match (&one.test, &other.test) {
+        (FilterTest::Number(op, value), FilterTest::Number(other_op, other_value)) => {
+            one.column == other.column
+                && one.places == other.places
+                && op == other_op
+                && value == other_value
+        }
+        _ => false,
+    }
 }
 
 #[test]
@@ -194,7 +217,8 @@ fn both_versions_are_read(rt: HostRuntime) -> Result<(), Fail> {
         words[0] = version;
         let mut plan = plan_with(FilterOp::LessEqual, -2);
         if version == 1 {
-            plan.filter = None;
+            plan.filters = [NO_FILTER; 8];
+            plan.filter_count = 0;
         }
         let read = read_words(rt.alloc(), &words)?.ok().ok_or("no plan")?;
         assert!(rt; are_same(&read, &plan));
