@@ -223,7 +223,8 @@ fn both_versions_are_read(rt: HostRuntime) -> Result<(), Fail> {
         words[0] = version;
         let mut plan = plan_with(FilterOp::LessEqual, -2);
         if version == 1 {
-            plan.filters = [NO_FILTER; 8];
+            let none = [NO_FILTER; 8];
+            plan.filters = none;
             plan.filter_count = 0;
         }
         let read = read_words(rt.alloc(), &words)?.ok().ok_or("no plan")?;
