@@ -51,3 +51,7 @@ impl<S, V, K, P: TableRule<S, V, K>> Twin<S, V, K, P> {
         }
     }
 }
+
+unsafe impl<S: Send, V, K, P: TableRule<S, V, K>> Send for Twin<S, V, K, P> {}
+
+unsafe impl<S: Send, V, K, P: TableRule<S, V, K>> Sync for Twin<S, V, K, P> {}
