@@ -14,19 +14,19 @@ use Rattle.par_exchange.specs.declared.history.ExchangeState.{ExchangeState}
 use Rattle.par_exchange.specs.declared.history.ExchangeCall.{ExchangeCall}
 use Rattle.par_exchange.specs.declared.history.ExchangeCall.TheVariants.{Bring, Give, Leave, Take}
 use Rattle.par_exchange.specs.declared.history.ExchangeReply.{ExchangeReply}
-use Rattle.par_exchange.specs.declared.history.ExchangeReply.TheVariants.{Waiting, Collected, Given, Taken, Nothing, Refused, Left, Leaving, Gone as GoneReply}
+use Rattle.par_exchange.specs.declared.history.ExchangeReply.TheVariants.{Waiting, Collected, Given, Taken, Refused, Left, Leaving, Gone as GoneReply}
 use Rattle.par_exchange.specs.declared.history.PartyStage.{PartyStage}
 use Rattle.par_exchange.specs.declared.history.PartyStage.TheVariants as stage
 use Rattle.par_exchange.specs.declared.history.PartyStage.TheVariants.{Free}
 use Rattle.par_exchange.specs.declared.history.ExchangeName.{ExchangeName}
 use Rattle.par_exchange.specs.States.{TokensView, at, fresh, is_busy, is_elected, takes_part, who}
-use Rattle.par_exchange.specs.Legal.{AreMissing, Brings, Each, ExchangeLegal, MayCall, with_token, without}
+use Rattle.par_exchange.specs.Legal.{AreMissing, Each, ExchangeLegal, MayCall, with_token, without}
 use Rattle.par_exchange.specs.Phases.{HasCollected, HasTaken, HasToGive, IsHandedOut, IsHistory, IsOfAllLeft, Step, ends_with, stage_after, stage_from, this_phase}
 use Rattle.par_exchange.specs.Turns.{Turned}
 use Rattle.par_exchange.proofs.PlaceLaws.{all_there, at_cleared, at_fresh, at_other, at_same, at_within, is_missing, left_other, some-none, true-false}
 use Rattle.par_exchange.proofs.Stages.{StandsAt, stands_at}
 use Rattle.par_exchange.proofs.Present.{ends_with_all, last-snoc}
-use Rattle.par_exchange.proofs.Tracks.{by_marks, ends_by, free_at, gathers_each, gives_each, takes_given, tracks_all, tracks_fresh}
+use Rattle.par_exchange.proofs.Tracks.{by_marks, ends_by, gathers_each, gives_each, takes_given, tracks_all, tracks_fresh}
 
 -- what was taken out is not there any more
 emptied : {T : Type 0} (ps : List (Option T)) (n : ℕ) (y : T) → at ps n ≡ Some y → at (slice_set ps n None) n ≡ None

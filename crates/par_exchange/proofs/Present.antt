@@ -1,18 +1,18 @@
 -- Who takes part is who has not left.
-use Rattle.std.proofs.Common.{◌≡◌, ◌≢◌, ℕ, ◌<◌, ◌==◌, Bool, true, false, not, ◌&&◌, ◌||◌, List, [], ◌∷◌, ◌++◌, refl, sym, ap, ◌∙◌, subst, append_assoc, append-nil, eq-eqb, ne_eqb}
-use Rattle.std.specs.Prelude.{Option, Some, None, is_some}
+use Rattle.std.proofs.Common.{◌≡◌, ℕ, ◌<◌, ◌==◌, Bool, true, false, not, ◌&&◌, ◌||◌, List, [], ◌∷◌, ◌++◌, refl, sym, ap, ◌∙◌, append_assoc, append-nil, eq-eqb, ne_eqb}
+use Rattle.std.specs.Prelude.{Option, Some, None}
 use Rattle.std.specs.List.{list_any}
 use Rattle.std.proofs.lemmas.List.Folds.{list_any-append}
 use native.Mathlib.Decide.{ℕ_discrete}
 use mathlib.Core.Logic.{dite}
-use Rattle.lock_book.specs.History.{entry, last_of, IsLegal}
+use Rattle.lock_book.specs.History.{last_of, IsLegal}
 use Rattle.par_exchange.specs.declared.history.ExchangeState.{ExchangeState}
 use Rattle.par_exchange.specs.declared.history.ExchangeCall.{ExchangeCall}
 use Rattle.par_exchange.specs.declared.history.ExchangeCall.TheVariants.{Bring, Give, Leave, Take}
 use Rattle.par_exchange.specs.declared.history.ExchangeReply.{ExchangeReply}
 use Rattle.par_exchange.specs.States.{at, fresh, is_busy, is_elected, takes_part, who}
 use Rattle.par_exchange.specs.Legal.{ExchangeLegal, with_token, without}
-use Rattle.par_exchange.specs.Phases.{EndsWithAll, Step, ends_with, has_left, is_leave}
+use Rattle.par_exchange.specs.Phases.{EndsWithAll, Step, has_left, is_leave}
 use Rattle.par_exchange.proofs.PlaceLaws.{all_there, left_other, left_same, who_at}
 use Rattle.par_exchange.proofs.Tracks.{by_marks, ends_now}
 

@@ -13,7 +13,7 @@ use Rattle.par_exchange.specs.declared.history.ExchangeReply.TheVariants as repl
 use Rattle.par_exchange.specs.declared.history.PartyStage.{PartyStage}
 use Rattle.par_exchange.specs.declared.history.PartyStage.TheVariants.{Free, Waits, Elected, Leaving, Gone}
 use Rattle.par_exchange.specs.States.{at, fresh, is_busy, is_elected, takes_part, who}
-use Rattle.par_exchange.specs.Legal.{ExchangeLegal, Takes, with_token, without}
+use Rattle.par_exchange.specs.Legal.{ExchangeLegal, with_token, without}
 use Rattle.par_exchange.specs.Phases.{Step, is_end, stage_after, stage_from, stage_given}
 use Rattle.par_exchange.proofs.PlaceLaws.{all_there, at_fresh, at_other, at_same, at_within, left_other, left_same, not_missing, some-none, true-false}
 use Rattle.par_exchange.proofs.Tracks.{IsFreeAt, Tracks, busy_not, by_marks, elected_some, free_at, nobody-elected, tracks, tracks_fresh}

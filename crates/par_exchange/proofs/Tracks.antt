@@ -16,7 +16,7 @@ use Rattle.par_exchange.specs.declared.history.ExchangeReply.TheVariants.{Waitin
 use Rattle.par_exchange.specs.States.{at, cleared, fresh, is_busy, is_elected, takes_part, who}
 use Rattle.par_exchange.specs.Legal.{Brings, ExchangeLegal, Gives, Leaves, Takes, with_token, without}
 use Rattle.par_exchange.specs.Phases.{GathersEach, GivesEach, IsCollected, IsHandedOut, Step, brought_by, brought_of, ends_with, given_in, given_of, is_end, is_refused, taken_by, taken_of, this_phase}
-use Rattle.par_exchange.proofs.PlaceLaws.{all_there, at_cleared, at_fresh, at_other, at_same, at_within, is_here, is_none-some, left_other, left_same, not_missing, some-none}
+use Rattle.par_exchange.proofs.PlaceLaws.{at_cleared, at_fresh, at_other, at_same, at_within, is_here, is_none-some, left_other, not_missing, some-none}
 
 -- what was given to the party k by the first giving
 abbrev pub given_to : {T : Type 0} → ℕ → List (List (Option T)) → List T

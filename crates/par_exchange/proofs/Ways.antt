@@ -4,7 +4,7 @@ use Rattle.std.specs.Prelude.{Option, Some, None, is_some}
 use Rattle.std.specs.List.{list_any}
 use Rattle.std.proofs.lemmas.List.{length-map}
 use Rattle.par_exchange.specs.declared.history.ExchangeState.{ExchangeState}
-use Rattle.par_exchange.specs.declared.history.ExchangeReply.TheVariants.{Waiting, Collected, Given, Taken, Nothing, Refused, Left, Leaving, Gone}
+use Rattle.par_exchange.specs.declared.history.ExchangeReply.TheVariants.{Waiting, Collected, Given, Refused, Left, Leaving, Gone}
 use Rattle.par_exchange.specs.States.{TokensView, cleared, is_busy, is_elected, takes_part, who}
 use Rattle.par_exchange.specs.Legal.{Brings, Gives, Leaves, with_token, without}
 use Rattle.par_exchange.proofs.PlaceLaws.{after_all, cleared_all, cleared_put, true-false}

@@ -1,5 +1,5 @@
 -- The states of an exchange: what each party has brought, what was given to it, and whether it takes part.
-use Rattle.std.specs.Prelude.{ℕ, Bool, true, false, not, ◌==◌, ◌||◌, List, [], ◌∷◌, map, replicate, slice_index_or, Option, Some, None, is_some, refl}
+use Rattle.std.specs.Prelude.{ℕ, Bool, true, false, not, ◌==◌, ◌||◌, List, map, replicate, slice_index_or, Option, Some, None, is_some, refl}
 use Rattle.std.specs.Coded.{Coded, code_by, coded×, coded_ℕ, coded_bool, coded_list, coded_option}
 use Rattle.par_exchange.specs.declared.history.ExchangeState.{ExchangeState}
 

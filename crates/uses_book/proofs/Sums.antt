@@ -1,5 +1,5 @@
 -- The counter after a legal history.
-use Rattle.std.proofs.Common.{◌≡◌, ℕ, ◌+◌, ◌*◌, ◌%◌, ◌<◌, ◌≤◌, List, [], ◌∷◌, ◌++◌, map, length, length-append, sym, refl, ap, ◌∙◌, subst, arith}
+use Rattle.std.proofs.Common.{◌≡◌, ℕ, ◌+◌, ◌*◌, ◌%◌, ◌<◌, ◌≤◌, List, [], ◌∷◌, ◌++◌, map, length, sym, refl, ap, ◌∙◌, subst, arith}
 use Rattle.std.specs.Prelude.{Option as Maybe, Some, IsSome}
 use mathlib.Core.Option.{some, some-injective}
 use lib.ListN.{get_elem?}

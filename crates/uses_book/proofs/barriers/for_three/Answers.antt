@@ -1,7 +1,6 @@
 use Rattle.std.proofs.Common.{◌≡◌, ◌∙◌, ℕ, List, ◌++◌, drop, length, take, ap, sym, subst}
 use Rattle.std.proofs.Math.Seq.{take-append_seam}
 use Rattle.par_barrier.specs.Shown.{AreAll}
-use Rattle.par_barrier.specs.declared.barrier.BarrierPass.{BarrierPass}
 use Rattle.uses_book.proofs.Popped.{three}
 use Rattle.uses_book.proofs.barriers.for_three.Goals as goal
 
