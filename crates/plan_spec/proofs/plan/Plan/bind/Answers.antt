@@ -98,5 +98,6 @@ pub returns-clause-plain : goal.returns-clause-plain
 returns-clause-plain c =
     let header = record_at c.args.rows.now 0 in
     let own = c.self.inside.filters.items in
-    let filters : take c.len-2.result c.in-Ok-bind_filters.filters ≡ map (bound_filter header) own = rw c.len-2.ensures (rw c.as_slice-3.ensures.value at c.in-Ok-bind_filters.ensures.filters) in
+    let count : c.len-2.result ≡ length c.as_slice-3.result.now = omega (arith, c.len-2.ensures, c.as_slice-3.ensures.len) in
+    let filters : take c.len-2.result c.in-Ok-bind_filters.filters ≡ map (bound_filter header) own = rw c.as_slice-3.ensures.value at (rw (← count) at c.in-Ok-bind_filters.ensures.filters) in
     ap (λ (fs : List Filter). are_plain (map (λ filter. filter.test) fs)) filters ∙ ap are_plain (bound_tests header own) ∙ ap (λ (q : Query). is_plain_named q.plan) c.self.view_is
