@@ -44,7 +44,7 @@ if-some true x y e = e
 if-some false x y e = cc e
 
 -- the parts of a query that has a number of workers
-has_parts : (items : List NamedItem) (groups : Option (List (List ℕ))) (workers : Option ℕ) (query : Query) → query_by groups (Some items) (Some None) (Some false) workers (Some 0) ≡ Some query
+has_parts : (items : List NamedItem) (groups : Option (List (List ℕ))) (workers : Option ℕ) (query : Query) → query_by groups (Some items) (Some []) (Some false) workers (Some 0) ≡ Some query
     → (names : List (List ℕ)) × (groups ≡ Some names) × (query.plan ≡ record { groups = names; items = items; hash = false; filters = [] })
 has_parts items None workers query e = cc e
 has_parts items (Some names) None query e = cc e

@@ -8,7 +8,10 @@ ghost use Rattle.partial_agg.specs.Groups.{AreGroups};
 ghost use Rattle.partial_agg.specs.Rows.{IsAccepted, header_width};
 
 use csv_rows::{RowStore, rows};
-use par_model::{AggState, BoundPlan, Filter, FilterOp, FilterTest, Item, ItemKind, NO_FILTER, NO_VALUES, Refusal, SlotState};
+use par_model::{
+    AggState, BoundPlan, Filter, FilterOp, FilterTest, Item, ItemKind, NO_FILTER, NO_VALUES,
+    Refusal, SlotState,
+};
 use partial_agg::{
     BLOCK_ROWS, BlockAnswer, Group, GroupKey, GroupMap, Groups, add_row, combine, empty, kept,
     key_of, refusal,

@@ -4,7 +4,10 @@ ghost use Rattle.std.specs.Prelude.{◌≡◌, ◌∷◌, [], false, All, IfOk, 
 ghost use Rattle.par_model.specs.Columns.{HasColumns};
 ghost use Rattle.par_model.specs.declared.plan.ItemKind.TheVariants as kind;
 
-use par_model::{AggState, BoundPlan, Field, Filter, FilterOp, FilterTest, Item, ItemKind, NO_FILTER, Refusal, Row, SlotState, read_integer, read_number};
+use par_model::{
+    AggState, BoundPlan, Field, Filter, FilterOp, FilterTest, Item, ItemKind, NO_FILTER, Refusal,
+    Row, SlotState, read_integer, read_number,
+};
 use slow_model::{slow_refusal, slow_state};
 use std::alloc::{AllocError, Global};
 use std::test::Fail;
