@@ -1,4 +1,4 @@
-use Rattle.std.proofs.Common.{◌≡◌, ◌<◌, ◌∷◌, [], ℕ, IsTrue, ap, arith, lit<}
+use Rattle.std.proofs.Common.{◌<◌, ◌∷◌, [], ℕ, pos, IsTrue, lit<}
 use Rattle.std.proofs.lemmas.List.Elements.{All-from_recursion}
 use Rattle.par_model.specs.Columns.{reads_column}
 use Rattle.par_model.specs.declared.plan.Filter.{Filter}
