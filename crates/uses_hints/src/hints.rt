@@ -125,7 +125,7 @@ fn shows(rt: HostRuntime) -> Result<(), Fail> {
 }
 
 /// Words, and which of them is not understood, by its place, and what may come there.
-const WRONG: [(&str, Option<(usize, Expected)>); 27] = [
+const WRONG: [(&str, Option<(usize, Expected)>); 28] = [
     ("--agg count", None),
     (
         "--group g --agg count --where v>1.5 --workers 1 --decimals 1 --",
@@ -143,7 +143,7 @@ const WRONG: [(&str, Option<(usize, Expected)>); 27] = [
         Some((3, Expected::Value(Name::Agg))),
     ),
     (
-        "--agg count --where g=a",
+        "--agg count --where g<a",
         Some((3, Expected::Value(Name::Where))),
     ),
     (
@@ -183,6 +183,11 @@ const WRONG: [(&str, Option<(usize, Expected)>); 27] = [
         Some((3, Expected::Value(Name::Where))),
     ),
     ("--agg count --where v>1.5 --decimals v=1", None),
+    // and for a later word that is not understood
+    (
+        "--agg count --where v>1.5 --workers auto --decimals v=1",
+        Some((5, Expected::Value(Name::Workers))),
+    ),
     (
         "--agg count --where v>1.55 --decimals v=1",
         Some((3, Expected::Value(Name::Where))),
