@@ -2,9 +2,10 @@
 
 use input_hints::{
     Asked, Expected, Kind, Name, Peeked, Wrong, asked_of, kind_of, refuse_input, refuse_words,
-    shown, tell, wrong_word,
+    tell, wrong_word,
 };
 use par_io::{MemSink, MemSource, read_whole};
+use shown_text::shown;
 use std::alloc::{AllocError, Global};
 use std::test::Fail;
 
