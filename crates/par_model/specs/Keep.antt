@@ -1,6 +1,6 @@
 -- Which rows the filters keep: the WHERE clause of SQL, with comparisons between ANDs, of which the first that does not
 -- hold decides.
-use Rattle.std.specs.Prelude.{◌&&◌, ℕ, ℤ, Bool, true, false, not, List, Option, bytes_eq, int_le, int_lt, is_none}
+use Rattle.std.specs.Prelude.{◌&&◌, ℕ, ℤ, Bool, false, not, List, Option, bytes_eq, int_le, int_lt, is_none}
 use Rattle.std.specs.List.{position_from}
 use Rattle.std.specs.Ordering.{int_eq}
 use Rattle.std.specs.Option.{option_map_or}

@@ -29,7 +29,7 @@ impl Model for Text {
 
     ghost inverse_ok = { λ t h i. record {
       bytes = (ap (λ n. take t.len t.bytes ++ replicate (LONGEST_TEXT - n) 0) (length-take-le t.len t.bytes (omega (arith, h.0, h.1)))
-        ∙ ap (λ rest. take t.len t.bytes ++ rest) (sym h.2) ∙ take-append-drop t.len t.bytes) i;
+          ∙ ap (λ rest. take t.len t.bytes ++ rest) (sym h.2) ∙ take-append-drop t.len t.bytes) i;
       len = length-take-le t.len t.bytes (omega (arith, h.0, h.1)) i;
     } };
 }

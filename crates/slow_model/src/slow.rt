@@ -56,10 +56,10 @@ fn deciding(row: &Row, plan: &BoundPlan) -> Option<u32>
     ensures place { result ≡ deciding plan.now row.now }
     ensures within { IfSome result (λ at. at < length plan.now.filters) }
 {
-    'filters: for at in 0..plan.filter_count {
-        let filter = plan.filters[at as usize];
-        if !keeps_row(&filter, row) {
-            return Some(at);
+    let filters = plan.filters();
+    'filters: for at in 0..filters.len() {
+        if !keeps_row(&filters[at], row) {
+            return Some(at as u32);
         }
     }
     None
@@ -71,8 +71,7 @@ fn refused_by(row: &Row, plan: &BoundPlan, at: u32) -> Option<Refusal>
     requires place { at < length plan.now.filters }
     ensures { result ≡ refused_by plan.now row.now at }
 {
-    let filter = plan.filters[at as usize];
-    if !is_misread(&filter, row) {
+    if !is_misread(&plan.filters()[at as usize], row) {
         return None;
     }
     Some(Refusal {
@@ -128,8 +127,9 @@ fn has_long_key(row: &Row, plan: &BoundPlan) -> bool
     ensures { result ≡ nat_lt longest_key (length (key_of plan.now row.now)) }
 {
     let mut room = LONGEST_KEY;
-    'groups: for at in 0..plan.group_count {
-        let length = row.field(plan.groups[at as usize]).len();
+    let groups = plan.group_columns();
+    'groups: for at in 0..groups.len() {
+        let length = row.field(groups[at]).len();
         if room < 4 || room - 4 < length {
             return true;
         }
@@ -143,10 +143,10 @@ fn first_unreadable(row: &Row, plan: &BoundPlan) -> Option<u32>
     requires { HasColumns plan.now (length row.now) }
     ensures { result ≡ position_from (is_unreadable row.now) 0 plan.now.items }
 {
-    'items: for at in 0..plan.item_count {
-        let item = plan.items[at as usize];
-        if is_unreadable(row, item) {
-            return Some(at);
+    let items = plan.items();
+    'items: for at in 0..items.len() {
+        if is_unreadable(row, items[at]) {
+            return Some(at as u32);
         }
     }
     None
