@@ -39,26 +39,26 @@ const ROWS: [Row; 19] = [
         "--agg count --where w<7 --where g=a",
         ROWS_OF_G,
         1,
-        ": row 2: filter column w is not an integer\n",
+        ": row 2: filter column \"w\" is not an integer: \"x\"\n",
     ),
     (
         "--agg count --where v>0 --where w<7",
         ROWS_OF_G,
         1,
-        ": row 2: filter column w is not an integer\n",
+        ": row 2: filter column \"w\" is not an integer: \"x\"\n",
     ),
     (
         "--agg count --where g=a --where u=1",
         ROWS_OF_G,
         2,
-        ": no column u\n",
+        ": no column \"u\"; the header has 3: \"g\" \"v\" \"w\"\n",
     ),
     // a number is compared as one, unless it is between quotes
     (
         "--agg count --where zip=1234",
         ZIPS,
         1,
-        ": row 3: filter column zip is not an integer\n",
+        ": row 3: filter column \"zip\" is not an integer: \"N/A\"\n",
     ),
     (
         "--agg count --where zip=\"01234\"",
