@@ -111,7 +111,10 @@ fn each_seam(rt: HostRuntime) -> Result<(), Fail> {
             let (status, table) = wanted(alloc, plan, input.as_bytes())?;
             let source = source_of(alloc, input.as_bytes())?;
             let whole = answered(&rt, alloc, plan, source, sink(alloc)?, 1_000)?;
-            assert!(rt; whole.status == status && whole.out == table, "{plan} of {input}");
+            assert!(rt;
+                whole.status == status && whole.out == table,
+                "{plan} of {input}"
+            );
             for workers in ["0", "1", "3"] {
                 let words = format!(in alloc; "{plan} --workers {workers}")?;
                 for size in [1usize, 2, 3, 5, 8, 100] {
