@@ -98,8 +98,10 @@ stop_of_words words.Usage = stop.Usage
 stop_of_words words.Memory = stop.Memory
 
 -- a text says of a plan that a header lacks a name of it
-abbrev pub SaysMissing : NamedPlan → List (List ℕ) → List ℕ → Type 0
-SaysMissing plan header said = (name : List ℕ) × (missing_name header plan ≡ Some name) × (said ≡ missing_text name header)
+pub record SaysMissing (plan : NamedPlan) (header : List (List ℕ)) (said : List ℕ) : Type 0 where
+  pub name : List ℕ
+  pub lacks : missing_name header plan ≡ Some name
+  pub says : said ≡ missing_text name header
 
 -- a table has a header, and at a place the record of this number of some records, of which the first is that header
 abbrev pub IsRow : Records → ℕ → Records → ℕ → Type 0

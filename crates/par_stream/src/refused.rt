@@ -1,6 +1,6 @@
 //! The row that is refused, found again in the pieces of its batch, and what the line says of it.
 
-ghost use Rattle.std.specs.Prelude.{◌≡◌, ◌<◌, ◌≤◌, ◌∷◌, ℕ, List, IfOk, length, string_bytes};
+ghost use Rattle.std.specs.Prelude.{◌≡◌, ◌<◌, ◌≤◌, ◌+◌, ◌∷◌, ℕ, List, IfOk, IfSome, length, string_bytes};
 ghost use Rattle.csv_rows.specs.Records.{record_at};
 ghost use Rattle.par_model.specs.Record.{field_of};
 ghost use Rattle.split_run.specs.Pieces.{AreUnder, rows_of};
@@ -24,7 +24,7 @@ pub(crate) struct Found {
 /// Finds a row by its number over all pieces. It reads the pieces up to it anew: so nothing is kept of a row until one is
 /// refused. It takes the memory of one piece's store.
 pub(crate) fn find_row(alloc: Global, pieces: &[Window], row: u64) -> Result<Found, AllocError>
-    requires few { length pieces.now ≤ 64 }
+    requires { length pieces.now ≤ 64 }
     ensures within { IfOk result (λ f. f.at < length f.store) }
     ensures row { IfOk result (λ f. (header : List (List ℕ)) → AreUnder header pieces.now → IsRow (header ∷ rows_of pieces.now) row f.store f.at) }
 {
@@ -33,14 +33,25 @@ pub(crate) fn find_row(alloc: Global, pieces: &[Window], row: u64) -> Result<Fou
         let Ok(store) = rows(alloc, piece.table()) else {
             return Err(AllocError);
         };
-        let count = store.count();
-        if before < row && row - before <= count {
-            let at = row - before;
-            return Ok(Found { store, at });
+        match place_in(row, before, store.count()) {
+            Some(at) => return Ok(Found { store, at }),
+            None => before += store.count(),
         }
-        before += count;
     }
     Err(AllocError)
+}
+
+/// The place of a row in a piece of so many rows, before which there are others, if it is there.
+fn place_in(row: u64, before: u64, count: u64) -> Option<u64>
+    ensures place { IfSome result (λ at. before + at ≡ row) }
+    ensures some { IfSome result (λ at. 1 ≤ at) }
+    ensures within { IfSome result (λ at. at ≤ count) }
+{
+    if before < row && row - before <= count {
+        Some(row - before)
+    } else {
+        None
+    }
 }
 
 /// What the line says of a row that is refused.

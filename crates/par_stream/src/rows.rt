@@ -1,14 +1,16 @@
 //! What the records of a window say of a plan: its columns, and the row that is refused.
 
-ghost use Rattle.std.specs.Prelude.{◌≡◌, ◌≤◌, ◌⊎◌, ℕ, List, IfErr, IfOk, Some, length, string_bytes};
+ghost use Rattle.std.specs.Prelude.{◌≡◌, ◌<◌, ◌≤◌, ◌⊎◌, [], IfErr, IfOk, length, slice_index_or, string_bytes};
 ghost use Rattle.csv_rows.specs.Records.{record_at};
+ghost use Rattle.par_model.specs.Named.{names_of};
+ghost use Rattle.shown_text.specs.Header.{missing_text};
 ghost use Rattle.par_stream.specs.Reading.{IsBound};
-ghost use Rattle.par_stream.specs.Stops.{Restates, SaysMissing, SaysOfRow};
+ghost use Rattle.par_stream.specs.Stops.{IsRefusedRow, Restates, SaysMissing, SaysOfRow};
 ghost use Rattle.par_stream.specs.declared.stop.Stop.TheVariants as stop;
 
 use crate::refused::{find_row, row_says};
 use crate::stop::Stop;
-use csv_rows::RowStore;
+use csv_rows::{Record, RowStore};
 use par_model::{BoundPlan, Refusal};
 use partial_agg::BlockAnswer;
 use plan_spec::Plan;
@@ -25,8 +27,7 @@ pub(crate) fn bind(alloc: Global, plan: &Plan, store: &RowStore) -> Result<Bound
     match plan.bind(store) {
         Ok(bound) => Ok(bound),
         Err(missing) => {
-            let name = plan.name(missing.at);
-            let said = missing_text(alloc, name.as_bytes(), &store.find(0))?;
+            let said = says_missing(alloc, plan, missing.at, &store.find(0))?;
             Err(Stop::NoColumn(said))
         }
     }
@@ -46,13 +47,47 @@ pub(crate) fn stop_of_block(
 {
     match answer {
         BlockAnswer::Memory => Stop::Memory,
-        BlockAnswer::Row { row, cause, item } => {
-            let why = Refusal { cause, item };
-            match says_of_row(alloc, plan, bound, pieces, row, why) {
-                Ok(said) => Stop::Refused(before.saturating_add(row), said),
-                Err(AllocError) => Stop::Memory,
-            }
-        }
+        BlockAnswer::Row { row, cause, item } => stop_of_row(
+            alloc,
+            plan,
+            bound,
+            pieces,
+            before.saturating_add(row),
+            row,
+            Refusal { cause, item },
+        ),
+    }
+}
+
+/// What the line says of a name of the plan that the header lacks.
+fn says_missing(
+    alloc: Global,
+    plan: &Plan,
+    at: u32,
+    header: &Record<'_>,
+) -> Result<String, AllocError>
+    requires { at < length (names_of plan.now.plan) }
+    ensures { IfOk result (λ said. string_bytes said ≡ missing_text (slice_index_or (names_of plan.now.plan) at []) header.now) }
+{
+    missing_text(alloc, plan.name(at).as_bytes(), header)
+}
+
+/// The reason that the row of this number is refused, which is this row of some windows, or out of memory.
+fn stop_of_row(
+    alloc: Global,
+    plan: &Plan,
+    bound: &BoundPlan,
+    pieces: &[Window],
+    number: u64,
+    row: u64,
+    why: Refusal,
+) -> Stop
+    requires { length pieces.now ≤ 64 }
+    ensures { IsRefusedRow plan.now.plan bound.now pieces.now number row why result ⊎ (result ≡ stop.Memory) }
+{
+    match says_of_row(alloc, plan, bound, pieces, row, why) {
+        Ok(said) => Stop::Refused(number, said),
+        Err(AllocError) => Stop::Memory,
     }
 }
 
@@ -70,6 +105,7 @@ fn says_of_row(
 {
     let found = find_row(alloc, pieces, row)?;
     let header = found.store.find(0);
-    let row = found.store.find(found.at);
-    row_says(alloc, plan, bound, &header, &row, why)
+    let fields = found.store.find(found.at);
+    let said = row_says(alloc, plan, bound, &header, &fields, why)?;
+    Ok(said)
 }
