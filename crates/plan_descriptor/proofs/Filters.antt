@@ -2,11 +2,13 @@
 use Rattle.std.proofs.Common.{◌≡◌, ◌==◌, ◌≤◌, ◌<◌, ◌+◌, ◌^◌, ◌∙◌, ℕ, ℤ, true, zero, suc, FitsSigned, List, [], ◌∷◌, map, Option, Some, None, ap, if◌then◌else◌, length, arith, nat_le, not, of_z, refl, subst, sym, to_z, w64}
 use Rattle.std.proofs.lemmas.Bool.Decides.{nat_tests}
 use Rattle.std.proofs.lemmas.Int.{of_z-to_z, to_z-of_z}
-use Rattle.std.specs.Option.{ForSome}
+use Rattle.std.specs.Option.{ForSome, option_map_or}
 use Rattle.std.specs.Prelude.{All, option_and_then, slice_get, slice_index}
 use Rattle.par_model.specs.Plain.{are_plain, is_plain}
 use Rattle.par_model.specs.Plan.{Plan}
+use Rattle.par_model.specs.Refuse.{is_of_numbers}
 use Rattle.par_model.specs.declared.plan.Filter.{Filter as AnyFilter}
+use Rattle.par_model.specs.declared.plan.FilterTest.{FilterTest}
 use Rattle.par_model.specs.declared.plan.FilterTest.TheVariants as test
 use Rattle.plan_descriptor.specs.declared.words.NumberFilter.{NumberFilter as Filter}
 use Rattle.par_model.specs.declared.plan.FilterOp.{FilterOp}
@@ -100,12 +102,15 @@ filter_allowed words (Some f) fits few new relation =
 abbrev front_of : List AnyFilter → Option Filter
 front_of filters = option_and_then (λ filter. number_filter filter.column filter.places filter.test) (slice_get filters 0)
 
+plain_one : (column places : ℕ) (test : FilterTest) → is_of_numbers test ≡ true → (record { column = column; test = test; places = places } ∷ []) ≡ plain_filters (number_filter column places test)
+plain_one column places (test.Number op value) e = refl
+plain_one column places (test.Is text) e = cc e
+plain_one column places (test.IsNot text) e = cc e
+
 plain_list : (filters : List AnyFilter) → are_plain (map (λ filter. filter.test) filters) ≡ true → filters ≡ plain_filters (front_of filters)
 plain_list [] e = refl
-plain_list (record { column = c; test = test.Number o v; places = p } ∷ []) e = refl
-plain_list (record { column = c; test = test.Is t; places = p } ∷ []) e = cc e
-plain_list (record { column = c; test = test.IsNot t; places = p } ∷ []) e = cc e
-plain_list (f ∷ g ∷ more) e = cc e
+plain_list (f ∷ []) e = plain_one f.column f.places f.test e
+plain_list (f ∷ (g ∷ more)) e = cc e
 
 pub plain_is : (plan : Plan) → is_plain plan ≡ true → plan.filters ≡ plain_filters (filter_of plan)
 plain_is plan e = plain_list plan.filters e
@@ -125,11 +130,14 @@ filter_back plan filter e = ap front_of e ∙ front_back filter
 pub is_plain_back : (plan : Plan) (filter : Option Filter) → plan.filters ≡ plain_filters filter → is_plain plan ≡ true
 is_plain_back plan filter e = ap (λ (fs : List AnyFilter). are_plain (map (λ filter. filter.test) fs)) e ∙ plain_back filter
 
+few_places : (column places : ℕ) (test : FilterTest) → places ≤ MOST_PLACES → ForSome (number_filter column places test) (λ filter. filter.places ≤ MOST_PLACES)
+few_places column places (test.Number op value) few f is = subst (λ (n : ℕ). n ≤ MOST_PLACES) (ap (λ (o : Option Filter). option_map_or (λ g. g.places) o 0) is) few
+few_places column places (test.Is text) few f is = cc is
+few_places column places (test.IsNot text) few f is = cc is
+
 front_places : (filters : List AnyFilter) → All (λ filter. filter.places ≤ MOST_PLACES) filters → ForSome (front_of filters) (λ filter. filter.places ≤ MOST_PLACES)
 front_places [] few f is = cc is
-front_places (record { column = c; test = test.Number o v; places = p } ∷ more) few f is = subst (λ (g : Filter). g.places ≤ MOST_PLACES) (cc is) (few 0 _ (omega arith))
-front_places (record { column = c; test = test.Is t; places = p } ∷ more) few f is = cc is
-front_places (record { column = c; test = test.IsNot t; places = p } ∷ more) few f is = cc is
+front_places (g ∷ more) few = few_places g.column g.places g.test (few 0 g (omega arith))
 
 pub places_of_filter : (plan : Plan) → All (λ filter. filter.places ≤ MOST_PLACES) plan.filters → ForSome (filter_of plan) (λ filter. filter.places ≤ MOST_PLACES)
 places_of_filter plan few = front_places plan.filters few

@@ -1,6 +1,6 @@
 //! The plan of a descriptor's words, if each of them is allowed.
 
-ghost use Rattle.std.specs.Prelude.{◌≡◌, ◌+◌, ◌*◌, ◌<◌, ◌≤◌, ◌^◌, ℕ, All, FitsSigned, IfErr, IfOk, None, OnOk, Some, length, option_to_list, slice_index, slice_index_or, take};
+ghost use Rattle.std.specs.Prelude.{◌≡◌, ◌+◌, ◌*◌, ◌<◌, ◌≤◌, ◌^◌, ℕ, All, FitsSigned, IfErr, IfOk, None, OnOk, Some, length, slice_index, slice_index_or, take};
 ghost use Rattle.std.specs.Int.{w64};
 ghost use Rattle.std.specs.Option.{ForSome, option_map_or};
 ghost use Rattle.par_model.specs.Plan.{Plan};
@@ -127,34 +127,37 @@ fn allowed_plan(words: &[u64]) -> BoundPlan
     ensures descriptor { IsDescriptor words.now result }
     ensures plan { IsWritable result }
 {
-    let filter = filter(words);
+    let (filters, filter_count) = filters_of(filter(words));
     BoundPlan {
         groups: groups(words),
         group_count: words[1] as u32,
         items: items(words),
         item_count: words[2] as u32,
         hash: words[3] == 1,
-        filters: filters_of(filter),
-        filter_count: u32::from(filter.is_some()),
+        filters,
+        filter_count,
     }
 }
 
-/// The filters of a plan that has this one, or none.
-fn filters_of(filter: Option<NumberFilter>) -> [Filter; 8]
+/// The filters of a plan that has this one, or none, and how many they are.
+fn filters_of(filter: Option<NumberFilter>) -> ([Filter; 8], u32)
     requires { ForSome filter (λ filter. filter.places ≤ MOST_PLACES) }
-    ensures size { length result ≡ 8 }
-    ensures filters { take (length (option_to_list filter)) result ≡ plain_filters filter }
-    ensures places { All (λ filter. filter.places ≤ MOST_PLACES) result }
+    ensures filters { take result.1 result.0 ≡ plain_filters filter }
+    ensures few { result.1 ≤ 8 }
+    ensures places { All (λ filter. filter.places ≤ MOST_PLACES) result.0 }
 {
     let mut filters = [NO_FILTER; 8];
-    if let Some(filter) = filter {
-        filters[0] = Filter {
-            column: filter.column,
-            test: FilterTest::Number(filter.op, filter.value),
-            places: filter.places,
-        };
+    match filter {
+        None => (filters, 0),
+        Some(filter) => {
+            filters[0] = Filter {
+                column: filter.column,
+                test: FilterTest::Number(filter.op, filter.value),
+                places: filter.places,
+            };
+            (filters, 1)
+        }
     }
-    filters
 }
 
 /// The columns to group by, each at its place.

@@ -9,6 +9,11 @@ pub never : {A B : Type 0} (f : A → Option B) (o : Option A) → ((x : A) → 
 never f None none = refl
 never f (Some x) none = none x
 
+pub no_filters : (groups : Option (List (List ℕ))) (items : Option (List NamedItem)) (hash : Option Bool) (workers pages : Option ℕ) → query_by groups items None hash workers pages ≡ None
+no_filters None items hash workers pages = refl
+no_filters (Some g) None hash workers pages = refl
+no_filters (Some g) (Some i) hash workers pages = refl
+
 pub no_hash : (workers pages : Option ℕ) (groups : Option (List (List ℕ))) (items : Option (List NamedItem)) (filters : Option (List NamedFilter)) → query_by groups items filters None workers pages ≡ None
 no_hash workers pages None items filter = refl
 no_hash workers pages (Some g) None filter = refl

@@ -1,13 +1,14 @@
 -- The plans of pargather have at most one filter, which is of numbers.
 use Rattle.std.proofs.Common.{◌≡◌, ◌∷◌, ◌∙◌, [], ℕ, ℤ, Bool, true, false, List, Option, Some, None, if◌then◌else◌, map, refl, sym, ap}
-use Rattle.std.specs.Prelude.{option_and_then, option_map, option_to_list}
+use Rattle.std.specs.List.{before_first, position_or_len}
+use Rattle.std.specs.Prelude.{◌==◌, drop, option_and_then, option_map, option_to_list}
 use Rattle.par_model.specs.Named.{NamedFilter, NamedItem, NamedPlan, bound_filter, bound_plan}
 use Rattle.par_model.specs.Plain.{are_plain, is_plain, is_plain_named}
 use Rattle.par_model.specs.Refuse.{is_of_numbers}
 use Rattle.par_model.specs.declared.plan.FilterOp.{FilterOp}
 use Rattle.par_model.specs.declared.plan.FilterTest.{FilterTest}
 use Rattle.par_model.specs.declared.plan.FilterTest.TheVariants as test
-use Rattle.plan_spec.specs.Grammar.{Places, all_some, bare_number_in, filter_in, filter_over, filters_in, test_by, test_in}
+use Rattle.plan_spec.specs.Grammar.{Places, all_some, bare_number_in, filter_in, filter_over, filters_in, is_relation_byte, places_of, relation_in, test_by, test_in}
 use Rattle.plan_spec.specs.Query.{Query, query_by}
 
 some_inj : {A : Type 0} (a b : A) → Some a ≡ Some b → a ≡ b
@@ -32,7 +33,12 @@ by_place true o f h e = cc e
 by_place false o f h e = h f e
 
 number_filter : (places : Places) (text : List ℕ) (f : NamedFilter) → filter_in false places text ≡ Some f → is_of_numbers f.test ≡ true
-number_filter places text f e = by_place _ _ f (λ f e. by_test _ _ _ f (λ t e. by_relation _ _ t e) e) e
+number_filter places text f e =
+    let at = position_or_len is_relation_byte text in
+    let name = before_first is_relation_byte text in
+    let rest = drop at text in
+    by_place (at == 0) (filter_over false places name rest) f
+    (λ f e. by_test name (places_of places name) (test_in false (places_of places name) rest) f (λ t e. by_relation (places_of places name) (relation_in rest) t e) e) e
 
 one_filter : (o : Option NamedFilter) (fs : List NamedFilter) → ((f : NamedFilter) → o ≡ Some f → is_of_numbers f.test ≡ true) → all_some (o ∷ []) ≡ Some fs → are_plain (map (λ f. f.test) fs) ≡ true
 one_filter None fs h e = cc e
@@ -57,7 +63,7 @@ plain_query (Some g) (Some i) (Some f) (Some b) (Some w) (Some p) q h e =
     ap (λ (q : Query). is_plain_named q.plan) (sym (some_inj (record { plan = record { groups = g; items = i; hash = b; filters = f }; workers = w; area_pages = p }) q e)) ∙ h f refl
 
 -- a plan over the columns of a header is as plain as the plan by names
-bound_tests : (header : List (List ℕ)) (filters : List NamedFilter) → map (λ filter. filter.test) (map (bound_filter header) filters) ≡ map (λ filter. filter.test) filters
+pub bound_tests : (header : List (List ℕ)) (filters : List NamedFilter) → map (λ filter. filter.test) (map (bound_filter header) filters) ≡ map (λ filter. filter.test) filters
 bound_tests header [] = refl
 bound_tests header (filter ∷ more) = ap (λ tests. filter.test ∷ tests) (bound_tests header more)
 

@@ -350,13 +350,7 @@ fn test(bytes: &[u8], places: u32, texts: bool) -> Option<FilterTest>
     let (op, text) = relation(bytes)?;
     match bare_number(text, places) {
         Some(value) => Some(FilterTest::Number(op, value)),
-        None => {
-            if texts {
-                text_test(op, text)
-            } else {
-                None
-            }
-        }
+        None => { if texts { text_test(op, text) } else { None } }
     }
 }
 

@@ -1,7 +1,7 @@
-use Rattle.std.proofs.Common.{◌≡◌, ◌<◌, ◌≤◌, ◌+◌, ◌∙◌, ℕ, [], suc, take, length, List, ◌∷◌, map, refl, sym, arith, length-set}
+use Rattle.std.proofs.Common.{◌≡◌, ◌<◌, ◌≤◌, ◌+◌, ◌∙◌, ℕ, [], suc, take, length, List, ◌∷◌, map, refl, arith, length-set}
 use Rattle.std.proofs.lemmas.List.{length-map, map-append, take_more, take_more_set}
 use Rattle.std.proofs.lemmas.List.Elements.{All-append, All-cons, All-nil, All-set}
-use Rattle.std.specs.Prelude.{None, Some, is_none}
+use Rattle.std.specs.Prelude.{is_none}
 use Rattle.csv_rows.specs.Records.{record_at}
 use Rattle.par_model.specs.Named.{NamedFilter, bound_filter, column_of}
 use Rattle.par_model.specs.declared.plan.Filter.{Filter}

@@ -19,13 +19,13 @@ returns-clause-group c = c.get_str.ensures ∙ first_value-rows (found_of c.in_o
 pub returns-clause-agg : goal.returns-clause-agg
 returns-clause-agg c = c.get_str-2.ensures ∙ first_value-rows (found_of c.in_ok-matches.matches) (codes "agg") ∙ ap (first_of (codes "agg")) c.in_ok-matches.ensures.rows ∙ ap (λ (a : App). value_of a (codes "agg") (map string_bytes c.args.words.now)) c.in-Ok.ensures
 
-given : (o : Option (Bor (List (Bor (List ℕ))))) → map (λ s. s.now) (unwrap_or (option_map (λ s. s.now) o) []) ≡ unwrap_or (option_map (λ s. map (λ v. v.now) s.now) o) []
-given None = refl
-given (Some s) = refl
+given : (o : Option (Bor (List (Bor (List ℕ))))) (d : Bor (List (Bor (List ℕ)))) → d.now ≡ [] → map (λ s. s.now) (unwrap_or o d).now ≡ unwrap_or (option_map (λ s. map (λ v. v.now) s.now) o) []
+given None d none = ap (map (λ s. s.now)) none
+given (Some s) d none = refl
 
 pub returns-clause-filters : goal.returns-clause-filters
 returns-clause-filters c =
-    c.in-Ok-copied.ensures ∙ given c.get_strs.result
+    c.in-Ok-copied.ensures ∙ ap (λ (s : Bor (List (Bor (List ℕ)))). map (λ v. v.now) s.now) c.unwrap_or.ensures ∙ given c.get_strs.result _ refl
     ∙ ap (λ (o : Option (List (List ℕ))). unwrap_or o []) (c.get_strs.ensures ∙ raw_values-rows (found_of c.in_ok-matches.matches) (codes "where") ∙ ap (all_of (codes "where")) c.in_ok-matches.ensures.rows)
     ∙ ap (λ (a : App). values_of a (codes "where") (map string_bytes c.args.words.now)) c.in-Ok.ensures
 

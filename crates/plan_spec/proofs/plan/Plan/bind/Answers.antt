@@ -1,10 +1,12 @@
-use Rattle.std.proofs.Common.{◌≡◌, ◌∙◌, ◌+◌, ap, ℕ, List, [], Bool, arith, length, map, string_bytes}
+use Rattle.std.proofs.Common.{◌≡◌, ◌∙◌, ◌+◌, ap, ℕ, List, [], Bool, arith, length, map, string_bytes, take}
 use Rattle.std.proofs.lemmas.List.{length-map}
 use Rattle.std.specs.Prelude.{filter_map, is_none}
 use Rattle.csv_rows.specs.Records.{record_at}
-use Rattle.par_model.specs.Named.{column_of, missing_name, names_of}
-use Rattle.par_model.specs.Plain.{is_plain}
-use Rattle.plan_spec.proofs.Plain.{bound_is_plain}
+use Rattle.par_model.specs.Named.{bound_filter, column_of, missing_name, names_of}
+use Rattle.par_model.specs.Plain.{are_plain, is_plain_named}
+use Rattle.par_model.specs.declared.plan.Filter.{Filter}
+use Rattle.plan_spec.proofs.Plain.{bound_tests}
+use Rattle.plan_spec.specs.Query.{Query}
 use Rattle.plan_spec.proofs.Places.{IsFirst, first-of-three, none-of-three, second-of-three, third-of-three}
 use Rattle.plan_spec.proofs.plan.Plan.bind.Goals as goal
 
@@ -56,8 +58,11 @@ returns-in-Err-bind_items-clause-name c = (second c).value
 
 -- ---- one of the filters
 
-pub overflow_add-in-Err-bind_filters : goal.overflow_add-in-Err-bind_filters
-overflow_add-in-Err-bind_filters c = omega (arith, c.len-before_items.ensures, c.self.invariant.groups_fit, c.in-Ok-bind_items.ensures.few, c.in-Err-bind_filters.ensures.near)
+pub overflow_add-result-in-Err-bind_filters : goal.overflow_add-result-in-Err-bind_filters
+overflow_add-result-in-Err-bind_filters c = omega (arith, c.len-before_items.ensures, c.self.invariant.groups_fit, c.in-Ok-bind_items.ensures.few)
+
+pub overflow_add-result-in-Err-bind_filters-2 : goal.overflow_add-result-in-Err-bind_filters-2
+overflow_add-result-in-Err-bind_filters-2 c = omega (arith, c.len-before_items.ensures, c.self.invariant.groups_fit, c.in-Ok-bind_items.ensures.few, c.in-Err-bind_filters.ensures.near)
 
 third : (c : goal.In-Err-bind_filters) → IsFirst (lacks (record_at c.args.rows.now 0)) (names_of c.args.self.now.plan) (c.len-before_items.result + c.in-Ok-bind_items.bound.1 + c.in-Err-bind_filters.at) []
 third c =
@@ -90,4 +95,9 @@ returns-clause-whole c =
     (rw c.as_slice.ensures.value at c.in-Ok.ensures.whole) (rw c.as_slice-2.ensures.value at c.in-Ok-bind_items.ensures.whole) (rw c.as_slice-3.ensures.value at c.in-Ok-bind_filters.ensures.whole))
 
 pub returns-clause-plain : goal.returns-clause-plain
-returns-clause-plain c = ap is_plain c.returns.bound ∙ bound_is_plain (record_at c.args.rows.now 0) c.args.self.now.plan
+returns-clause-plain c =
+    let header = record_at c.args.rows.now 0 in
+    let own = c.self.inside.filters.items in
+    let count : c.len-2.result ≡ length c.as_slice-3.result.now = omega (arith, c.len-2.ensures, c.as_slice-3.ensures.len) in
+    let filters : take c.len-2.result c.in-Ok-bind_filters.filters ≡ map (bound_filter header) own = rw c.as_slice-3.ensures.value at (rw (← count) at c.in-Ok-bind_filters.ensures.filters) in
+    ap (λ (fs : List Filter). are_plain (map (λ filter. filter.test) fs)) filters ∙ ap are_plain (bound_tests header own) ∙ ap (λ (q : Query). is_plain_named q.plan) c.self.view_is
