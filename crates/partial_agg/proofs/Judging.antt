@@ -35,31 +35,34 @@ says_none : (misread passes : Bool) → (if misread then None else Some passes) 
 says_none true passes e = refl
 says_none false passes e = cc
 
-module _ (plan : Plan) (row : List (List ℕ)) (i : ℕ) (d : Filter) where
+module _ (plan : Plan) (row : List (List ℕ)) (i : ℕ) where
   -- the filters before a place keep the row
   abbrev pub AreKept : Type 0
   AreKept = position_from (λ filter. not (keeps filter row)) 0 (take i plan.filters) ≡ None
 
-  module _ (before : AreKept) (inside : i < length plan.filters) where
-    -- the filter at the place decides
-    at_place : keeps (get_or plan.filters i d) row ≡ false → verdict plan row ≡ (if is_misread row (get_or plan.filters i d) then Err i else Ok false)
-    at_place out =
-        ap (verdict_by plan row) (position_here (λ (filter : Filter). not (keeps filter row)) plan.filters 0 i d before inside (ap not out))
-        ∙ ap (λ o. if option_map_or (is_misread row) o false then Err i else Ok false) (slice_get-get_or plan.filters i d inside)
-
-    pub verdict_left_out : judged (get_or plan.filters i d) (field_of row (get_or plan.filters i d).column) ≡ Some false → verdict plan row ≡ Ok false
-    verdict_left_out e = let both = says_some _ _ false e in
-        at_place both.1 ∙ ap (λ (b : Bool). if b then Err i else Ok false) both.0
-
-    pub verdict_misread : judged (get_or plan.filters i d) (field_of row (get_or plan.filters i d).column) ≡ None → verdict plan row ≡ Err i
-    verdict_misread e =
-        let filter = get_or plan.filters i d in
-        let bad : is_misread row filter ≡ true = says_none _ _ e in
-        at_place (fails filter.places filter.test (field_of row filter.column) bad) ∙ ap (λ (b : Bool). if b then Err i else Ok false) bad
-
-    pub verdict_goes_on : judged (get_or plan.filters i d) (field_of row (get_or plan.filters i d).column) ≡ Some true → position_from (λ filter. not (keeps filter row)) 0 (take (i + 1) plan.filters) ≡ None
-    verdict_goes_on e = position_more (λ (filter : Filter). not (keeps filter row)) plan.filters 0 i d before inside (ap not (says_some _ _ true e).1)
-
   -- all filters keep it
   pub verdict_kept : AreKept → length plan.filters ≤ i → verdict plan row ≡ Ok true
   verdict_kept before all = ap (verdict_by plan row) (ap (position_from (λ filter. not (keeps filter row)) 0) (sym (take_all i plan.filters all)) ∙ before)
+
+  module _ (filter : Filter) (is : filter ≡ get_or plan.filters i filter) (before : AreKept) (inside : i < length plan.filters) where
+    -- the filter at the place decides
+    at_place : keeps filter row ≡ false → verdict plan row ≡ (if is_misread row filter then Err i else Ok false)
+    at_place out =
+        let start : 0 + i ≡ i = omega arith in
+        let here : not (keeps (get_or plan.filters i filter) row) ≡ true = rw (← is) (ap not out) in
+        let place = position_here (λ (filter : Filter). not (keeps filter row)) plan.filters 0 i filter before inside here ∙ ap Some start in
+        ap (verdict_by plan row) place ∙ ap (λ o. if option_map_or (is_misread row) o false then Err i else Ok false) (slice_get-get_or plan.filters i filter inside ∙ ap Some (sym is))
+
+    pub verdict_left_out : judged filter (field_of row filter.column) ≡ Some false → verdict plan row ≡ Ok false
+    verdict_left_out e = let both = says_some _ _ false e in
+        at_place both.1 ∙ ap (λ (b : Bool). if b then Err i else Ok false) both.0
+
+    pub verdict_misread : judged filter (field_of row filter.column) ≡ None → verdict plan row ≡ Err i
+    verdict_misread e =
+        let bad : is_misread row filter ≡ true = says_none _ _ e in
+        at_place (fails filter.places filter.test (field_of row filter.column) bad) ∙ ap (λ (b : Bool). if b then Err i else Ok false) bad
+
+    pub goes_on : judged filter (field_of row filter.column) ≡ Some true → position_from (λ filter. not (keeps filter row)) 0 (take (i + 1) plan.filters) ≡ None
+    goes_on e =
+        let misses : not (keeps (get_or plan.filters i filter) row) ≡ false = rw (← is) (ap not (says_some _ _ true e).1) in
+        position_more (λ (filter : Filter). not (keeps filter row)) plan.filters 0 i filter before inside misses
