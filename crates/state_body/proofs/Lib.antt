@@ -1,0 +1,4 @@
+mod Bodies
+mod Ends
+mod Indexes
+mod Taking

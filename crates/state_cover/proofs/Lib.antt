@@ -1,0 +1,4 @@
+mod Counts
+mod Gaps
+mod Runs
+mod Settled
