@@ -1,4 +1,4 @@
 mod Bodies
 mod Ends
-mod Indexes
+pub mod Indexes
 mod Taking

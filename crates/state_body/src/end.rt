@@ -11,14 +11,14 @@ use state_file::{push_section, read_bytes, read_section, read_u32};
 use std::alloc::AllocError;
 
 /// The most bytes of a foot.
-pub(crate) const MOST_FOOT: u32 = 1 << 28;
+pub const MOST_FOOT: u32 = 1 << 28;
 
 /// The last bytes of a file.
 const LAST: [u8; 8] = *b"\nstates\n";
 
 /// Puts a foot, its length and the last bytes at the end of some bytes.
 #[tactic(auto, unfolding(crate::specs::Body::end_bytes))]
-pub(crate) fn push_end(out: &mut Vec<u8>, foot: &[u8]) -> Result<(), AllocError>
+pub fn push_end(out: &mut Vec<u8>, foot: &[u8]) -> Result<(), AllocError>
     requires { length foot.now ≤ 2 ^ 28 }
     ensures { OnOk result (out.new.items ≡ out.old.items ++ end_bytes foot.now) }
 {

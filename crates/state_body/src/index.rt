@@ -12,18 +12,18 @@ const SECTION_BYTES: u64 = 8;
 
 /// The blocks so far.
 #[derive(Drop)]
-pub(crate) struct Index {
+pub struct Index {
     /// For each block where it begins, and the key of its first group, as in the foot.
     pub(crate) places: Vec<u8>,
     /// Where the next block begins.
-    pub(crate) at: u64,
-    pub(crate) blocks: u64,
-    pub(crate) groups: u64,
+    pub at: u64,
+    pub blocks: u64,
+    pub groups: u64,
 }
 
 impl Index {
     /// No blocks; the first one will begin at this place.
-    pub(crate) fn new(alloc: Global, at: u64) -> Index
+    pub fn new(alloc: Global, at: u64) -> Index
         ensures none { (kinds : List Bool) → IsIndex kinds at [] result }
         ensures at { result.at ≡ at }
     {
@@ -36,7 +36,7 @@ impl Index {
     }
 
     /// Takes in a block of so many groups and bytes, the first group of which has this key.
-    pub(crate) fn add(&mut self, first: &[u8], groups: u64, bytes: u64) -> Result<(), AllocError>
+    pub fn add(&mut self, first: &[u8], groups: u64, bytes: u64) -> Result<(), AllocError>
         requires at { self.old.at + bytes + 8 < 2 ^ 64 }
         requires blocks { self.old.blocks + 1 < 2 ^ 64 }
         requires groups { self.old.groups + groups < 2 ^ 64 }
@@ -56,7 +56,7 @@ impl Index {
 
     /// The foot of these blocks.
     #[tactic(auto, unfolding(crate::specs::Body::foot_bytes))]
-    pub(crate) fn foot(&self, alloc: Global) -> Result<Vec<u8>, AllocError>
+    pub fn foot(&self, alloc: Global) -> Result<Vec<u8>, AllocError>
         ensures { (kinds : List Bool) (start : ℕ) (blocks : List (List Group)) → IsIndex kinds start blocks self.now → IfOk result (λ foot. foot.items ≡ foot_bytes kinds start blocks) }
     {
         let mut foot = Vec::new(alloc);

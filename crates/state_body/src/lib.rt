@@ -9,3 +9,5 @@ mod index;
 mod tests;
 
 pub use body::{BodyFault, BodyRead, read_body};
+pub use end::{MOST_FOOT, push_end};
+pub use index::Index;

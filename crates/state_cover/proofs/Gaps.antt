@@ -1,5 +1,5 @@
 -- Bytes that a cover lacks.
-use Rattle.std.proofs.Common.{◌≡◌, ◌≢◌, ◌<◌, ◌≤◌, ◌+◌, ◌^◌, ◌++◌, ◌∙◌, ◌⊎◌, inl, inr, ℕ, zero, suc, List, [], ◌∷◌, None, Option, Some, ap, append_assoc, append-nil, arith, length, length-append, refl, subst, sym}
+use Rattle.std.proofs.Common.{◌≡◌, ◌≢◌, ◌<◌, ◌≤◌, ◌+◌, ◌^◌, ◌++◌, ◌∙◌, ◌⊎◌, inl, inr, ℕ, zero, suc, List, [], ◌∷◌, None, Option, Some, ap, append_assoc, append-nil, arith, drop, length, length-append, refl, subst, sym}
 use Rattle.state_cover.specs.Bytes.{AreFrom, AreSome, AreWhole, AreWholeFrom, BeginWhole, IsEndOf, IsGap, IsMissing, IsWhole, IsWithin, had}
 use Rattle.state_cover.specs.declared.missing.Missing.{Missing}
 use Rattle.state_cover.proofs.Counts.{HasIt, IsBeyond, far, had-append, had-cons, none_or_some, one, which}
@@ -44,7 +44,7 @@ none_before sources before s more source at are same less = none_of sources befo
 
 -- no stretch is left
 pub gap_none : (source : ℕ) (stretches : List Stretch) (gap : Missing) → stretches ≡ [] → gap ≡ record { source = source; from = 0; to = None } → IsGap source stretches gap
-gap_none source stretches gap e is = subst (λ (g : Missing). IsGap source stretches g) (sym is) (record { source_is = refl; some = refl; none = λ at within. ap (had source at) e })
+gap_none source stretches gap e is = subst (λ (g : Missing). IsGap source stretches g) (sym is) (record { source_is = refl; some = refl; none = λ at within. ap (λ (ss : List Stretch). had source at ss) e })
 
 -- the first one is of another source
 pub gap_other : (sources : ℕ) (before : Option Place) (source : ℕ) (s : Stretch) (more : List Stretch) → AreStretches sources before (s ∷ more) → source ≤ s.place.source → s.place.source ≢ source
@@ -117,8 +117,12 @@ pub whole_none : (sources : ℕ) (cover : List Stretch) → IsCover sources cove
 whole_none sources cover is = record { front = []; is = refl; whole = (tt, refl); from = from_none cover; before = None; are = is.stretches }
 
 whole-push : (start : ℕ) (front : List Stretch) (s : Stretch) → AreWholeFrom start front → IsWhole (start + length front) s → AreWholeFrom start (front ++ s ∷ [])
-whole-push start [] s are is = (subst (λ (n : ℕ). IsWhole n s) (omega arith) is, tt)
-whole-push start (f ∷ front) s are is = (are.0, whole-push (start + 1) front s are.1 (subst (λ (n : ℕ). IsWhole n s) (omega arith) is))
+whole-push start [] s are is =
+    let here : start + 0 ≡ start = omega arith in
+    (subst (λ (n : ℕ). IsWhole n s) here is, tt)
+whole-push start (f ∷ front) s are is =
+    let there : start + length (f ∷ front) ≡ start + 1 + length front = omega arith in
+    (are.0, whole-push (start + 1) front s are.1 (subst (λ (n : ℕ). IsWhole n s) there is))
 
 from_next : (sources source : ℕ) (s : Stretch) (more : List Stretch) → IsWhole source s → AreStretches sources (Some s.place) more → AreFrom (source + 1) more
 from_next sources source s [] is are = tt
@@ -179,7 +183,7 @@ is_missing sources cover rest source gap less is lacks = record {
         let here = lacks.none at within in
         let long = is.whole.1 in
         let there = front_none 0 is.front source at is.whole.0 (omega (arith, long)) in
-        omega (arith, here, there, ap (had source at) is.is, had-append source at is.front rest)
+        omega (arith, here, there, ap (λ (ss : List Stretch). had source at ss) is.is, had-append source at is.front rest)
 
 -- all sources are had
 pub all_whole : (sources : ℕ) (cover rest : List Stretch) (source : ℕ) → source ≡ sources → IsWholeTo sources cover rest source → AreWhole sources cover
@@ -189,3 +193,7 @@ all_whole sources cover rest source end is = go rest is.is is.from is.are
     go [] e from are =
         subst (λ (n : ℕ). AreWhole n cover) end (subst (λ (ss : List Stretch). AreWhole source ss) (sym (e ∙ append-nil is.front)) is.whole)
     go (s ∷ more) e from are = let less = are.0.is_stretch.is_place.source in absurd (omega (arith, from, less, end))
+
+-- without the first one
+pub rest_is : (source : ℕ) (rest : List Stretch) → (b : BeginWhole source rest) → drop 1 rest ≡ b.more
+rest_is source rest b = ap (λ (ss : List Stretch). drop 1 ss) b.is

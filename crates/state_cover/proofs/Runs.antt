@@ -200,13 +200,13 @@ pub record IsPartOf (done : List Stretch) (next : Stretch) (stretches : List Str
 twice : (sources : ℕ) (done cover stretches : List Stretch) (last next : Stretch) (source at : ℕ) → IsJoinedTo sources done cover last → IsPartOf done next stretches → one source at last ≡ 1 → one source at next ≡ 1 → 2 ≤ had source at stretches
 twice sources done cover stretches last next source at is part first second =
     let so_far = is.had_is source at in
-    omega (arith, so_far, first, second, ap (had source at) part.is, had-append source at (done ++ next ∷ []) part.rest, had-push source at done next, had-push source at cover last)
+    omega (arith, so_far, first, second, ap (λ (ss : List Stretch). had source at ss) part.is, had-append source at (done ++ next ∷ []) part.rest, had-push source at done next, had-push source at cover last)
 
 too_many_rows : (sources : ℕ) (done cover stretches : List Stretch) (last next : Stretch) (source : ℕ) → IsJoinedTo sources done cover last → IsPartOf done next stretches → last.place.source ≡ source → next.place.source ≡ source
     → 2 ^ 50 < rows_of last.rows + rows_of next.rows → 2 ^ 50 < rows_in source stretches
 too_many_rows sources done cover stretches last next source is part first second many =
     let so_far = is.rows_few source in
-    omega (arith, so_far, many, rows_one_is source last first, rows_one_is source next second, ap (rows_in source) part.is, sum_by-append (rows_one source) (done ++ next ∷ []) part.rest, rows-push source done next, rows-push source cover last)
+    omega (arith, so_far, many, rows_one_is source last first, rows_one_is source next second, ap (λ (ss : List Stretch). rows_in source ss) part.is, sum_by-append (rows_one source) (done ++ next ∷ []) part.rest, rows-push source done next, rows-push source cover last)
 
 differ : (sources : ℕ) (done cover stretches : List Stretch) (last next : Stretch) (source : ℕ) → IsJoinedTo sources done cover last → IsPartOf done next stretches → last.place.source ≡ source → next.place.source ≡ source
     → last.place.size ≢ next.place.size → DifferInSize source stretches

@@ -1,15 +1,15 @@
 -- Stretches in order, put together up to a place.
-use Rattle.std.proofs.Common.{◌≡◌, ◌<◌, ◌≤◌, ◌+◌, ◌-◌, ◌^◌, ◌++◌, ◌∙◌, ◌⊎◌, inl, inr, ℕ, List, [], ◌∷◌, All, Contains, None, Ordering, ap, append_assoc, arith, drop, false, get_or, length, refl, subst, sum_by, sym, take}
+use Rattle.std.proofs.Common.{◌≡◌, ◌<◌, ◌≤◌, ◌+◌, ◌-◌, ◌^◌, ◌++◌, ◌∙◌, ◌⊎◌, inl, inr, ℕ, List, [], ◌∷◌, All, Contains, None, Ordering, ap, append_assoc, arith, drop, false, get_or, length, length-append, refl, subst, sum_by, sym, take}
 use Rattle.std.specs.List.Sorted.{IsPermutation}
 use Rattle.std.specs.Ordering.{is_lt, nat_cmp, ordering_then}
 use Rattle.std.proofs.Math.Seq.{take-length}
 use Rattle.std.proofs.lemmas.Bool.Decides.{nat_tests}
 use Rattle.std.proofs.lemmas.List.{take-append-drop, take_more}
-use Rattle.std.proofs.lemmas.List.Elements.{All-get_or, All-head}
+use Rattle.std.proofs.lemmas.List.Elements.{All-get_or, All-head, All-nil}
 use Rattle.std.proofs.lemmas.List.Sorted.{Contains-permutation, IsPermutation-sym, length_permutation, sum_by-IsPermutation}
 use Rattle.state_cover.specs.Bytes.{DifferInSize, had, has_byte, rows_in, rows_of}
 use Rattle.state_cover.specs.Faults.{IsFull, IsNoCover, IsNoPair}
-use Rattle.state_cover.specs.Joined.{AreSorted, IsBefore, IsJoinOf, IsPutTo, joined}
+use Rattle.state_cover.specs.Joined.{AreSorted, IsBefore, IsJoinOf, IsPutTo, IsRun}
 use Rattle.state_cover.specs.declared.joining.CoverFault.{CoverFault}
 use Rattle.state_cover.specs.declared.joining.CoverFault.TheVariants.{Many, Memory, Size, Twice}
 use Rattle.state_cover.specs.declared.joining.CoverFault.TheVariants as fault
@@ -123,3 +123,28 @@ moved_not xs ys h (Size source) none = record {
 }
 moved_not xs ys h (fault.Rows source) none = let same = sum_by-IsPermutation (rows_one source) xs ys h in omega (arith, none, same)
 moved_not xs ys h Many none = let same = length_permutation xs ys h in omega (arith, none, same)
+
+-- no stretches have no cover's stretch
+none_is : (ss : List Stretch) → length ss ≡ 0 → ss ≡ []
+none_is [] e = refl
+none_is (s ∷ ss) e = absurd (omega (arith, e))
+
+pub none_cover : (sources : ℕ) (cover : List Stretch) → cover ≡ [] → IsCover sources cover
+none_cover sources cover e = subst (λ (ss : List Stretch). IsCover sources ss) (sym e) (record { stretches = tt; few = omega arith })
+
+pub none_joined : (cover stretches : List Stretch) → cover ≡ [] → length stretches ≡ 0 → IsJoinOf cover stretches
+none_joined cover stretches e f = record { runs = []; each = All-nil IsRun; all = none_is stretches f; is = e }
+
+pub none_had : (cover stretches : List Stretch) (source at : ℕ) → cover ≡ [] → length stretches ≡ 0 → had source at cover ≡ had source at stretches
+none_had cover stretches source at e f = ap (λ (ss : List Stretch). had source at ss) (e ∙ sym (none_is stretches f))
+
+-- the whole cover
+pub all_cover : (sources : ℕ) (stretches old cover : List Stretch) (last : Stretch) → IsJoinedTo sources stretches old last → cover ≡ old ++ last ∷ [] → length old + 1 < 2 ^ 32 → IsCover sources cover
+all_cover sources stretches old cover last is e few =
+    subst (λ (ss : List Stretch). IsCover sources ss) (sym e) (record { stretches = is.are; few = omega (arith, few, length-append old (last ∷ [])) })
+
+pub all_join : (sources : ℕ) (stretches old cover : List Stretch) (last : Stretch) → IsJoinedTo sources stretches old last → cover ≡ old ++ last ∷ [] → IsJoinOf cover stretches
+all_join sources stretches old cover last is e = subst (λ (ss : List Stretch). IsJoinOf ss stretches) (sym e) (all_joined sources stretches old last is)
+
+pub all_had : (sources : ℕ) (stretches old cover : List Stretch) (last : Stretch) (source at : ℕ) → IsJoinedTo sources stretches old last → cover ≡ old ++ last ∷ [] → had source at cover ≡ had source at stretches
+all_had sources stretches old cover last source at is e = ap (λ (ss : List Stretch). had source at ss) e ∙ is.had_is source at

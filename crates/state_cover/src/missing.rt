@@ -75,7 +75,13 @@ fn end_of(place: Place, more: &[Stretch]) -> u64
     ensures { IsEndOf place more.now result }
 {
     match more {
-        [next, ..] => { if next.place.source == place.source { next.place.from } else { place.size } }
+        [next, ..] => {
+            if next.place.source == place.source {
+                next.place.from
+            } else {
+                place.size
+            }
+        }
         [] => place.size,
     }
 }
