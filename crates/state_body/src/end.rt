@@ -55,7 +55,13 @@ fn read_length(bytes: &[u8], size: usize) -> Result<&[u8], BodyFault>
     ensures end { IfErr result (λ why. why ≡ fault.End) }
 {
     match read_last(bytes) {
-        Some((found, rest)) => { if found as usize == size { Ok(rest) } else { Err(BodyFault::End) } }
+        Some((found, rest)) => {
+            if found as usize == size {
+                Ok(rest)
+            } else {
+                Err(BodyFault::End)
+            }
+        }
         None => Err(BodyFault::End),
     }
 }

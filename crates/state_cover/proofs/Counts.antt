@@ -93,14 +93,14 @@ beyond_more source at p s (inr next) order (inr here) = inr (omega (arith, next.
 -- the stretches after a place have bytes beyond it only
 pub far : (sources : ℕ) (p : Place) (cover : List Stretch) (source at : ℕ) → AreStretches sources (Some p) cover → 0 < had source at cover → IsBeyond p source at
 far sources p [] source at are some = absurd (omega (arith, some))
-far sources p (s ∷ more) source at are some = go (which source at s)
+far sources p (s ∷ more) source at are some = go (which source at s) (far sources s.place more source at are.1)
   where
     later : one source at s ≡ 0 → 0 < had source at more
     later none = omega (arith, none, some, had-cons source at s more)
 
-    go : (HasIt source at s × (one source at s ≡ 1)) ⊎ (one source at s ≡ 0) → IsBeyond p source at
-    go (inl has) = beyond_one source at p s are.0.is_after has.0
-    go (inr none) = beyond_more source at p s are.0.is_after are.0.is_stretch.is_place.order (far sources s.place more source at are.1 (later none))
+    go : (HasIt source at s × (one source at s ≡ 1)) ⊎ (one source at s ≡ 0) → (0 < had source at more → IsBeyond s.place source at) → IsBeyond p source at
+    go (inl has) rest = beyond_one source at p s are.0.is_after has.0
+    go (inr none) rest = beyond_more source at p s are.0.is_after are.0.is_stretch.is_place.order (rest (later none))
 
 pub none_or_some : (n : ℕ) → (n ≡ 0) ⊎ (0 < n)
 none_or_some zero = inl refl
@@ -113,15 +113,12 @@ not_beyond source at s is (inr here) = let to = is.to in omega (arith, here.1, t
 -- each byte is had once at most
 pub once : (sources : ℕ) (before : Option Place) (cover : List Stretch) (source at : ℕ) → AreStretches sources before cover → had source at cover ≤ 1
 once sources before [] source at are = omega arith
-once sources before (s ∷ more) source at are = go (which source at s) (none_or_some (had source at more))
+once sources before (s ∷ more) source at are = go (which source at s) (none_or_some (had source at more)) (once sources (Some s.place) more source at are.1)
   where
-    rest : had source at more ≤ 1
-    rest = once sources (Some s.place) more source at are.1
-
     all : had source at (s ∷ more) ≡ one source at s + had source at more
     all = had-cons source at s more
 
-    go : (HasIt source at s × (one source at s ≡ 1)) ⊎ (one source at s ≡ 0) → (had source at more ≡ 0) ⊎ (0 < had source at more) → had source at (s ∷ more) ≤ 1
-    go (inr none) later = omega (arith, none, rest, all)
-    go (inl has) (inl none) = omega (arith, has.1, none, all)
-    go (inl has) (inr some) = absurd (not_beyond source at s has.0 (far sources s.place more source at are.1 some))
+    go : (HasIt source at s × (one source at s ≡ 1)) ⊎ (one source at s ≡ 0) → (had source at more ≡ 0) ⊎ (0 < had source at more) → had source at more ≤ 1 → had source at (s ∷ more) ≤ 1
+    go (inr none) later rest = omega (arith, none, rest, all)
+    go (inl has) (inl none) rest = omega (arith, has.1, none, all)
+    go (inl has) (inr some) rest = absurd (not_beyond source at s has.0 (far sources s.place more source at are.1 some))

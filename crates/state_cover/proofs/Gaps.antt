@@ -155,17 +155,16 @@ whole_more sources cover rest source is b = record {
 
 front_none : (start : ℕ) (front : List Stretch) (source at : ℕ) → AreWholeFrom start front → start + length front ≤ source → had source at front ≡ 0
 front_none start [] source at are long = refl
-front_none start (s ∷ front) source at are long = go (which source at s)
+front_none start (s ∷ front) source at are long =
+    let fewer : start + 1 + length front ≤ source = omega (arith, long) in
+    go (which source at s) (front_none (start + 1) front source at are.1 fewer)
   where
-    rest : had source at front ≡ 0
-    rest = front_none (start + 1) front source at are.1 (omega (arith, long))
-
-    go : (HasIt source at s × (one source at s ≡ 1)) ⊎ (one source at s ≡ 0) → had source at (s ∷ front) ≡ 0
-    go (inl has) =
+    go : (HasIt source at s × (one source at s ≡ 1)) ⊎ (one source at s ≡ 0) → had source at front ≡ 0 → had source at (s ∷ front) ≡ 0
+    go (inl has) rest =
         let same = has.0.source_is in
         let mine = are.0.source_is in
         absurd (omega (arith, same, mine, long))
-    go (inr none) = omega (arith, none, rest, had-cons source at s front)
+    go (inr none) rest = omega (arith, none, rest, had-cons source at s front)
 
 -- a source that is not had as a whole
 pub is_missing : (sources : ℕ) (cover rest : List Stretch) (source : ℕ) (gap : Missing) → source < sources → IsWholeTo sources cover rest source → IsGap source rest gap → IsMissing sources cover gap

@@ -1,7 +1,8 @@
 //! Covers of two sources, whole, with a stretch twice, and with one that is missing.
 
 use crate::{CoverFault, Missing, join_cover, missing_bytes};
-use state_head::{Place, RefusedRow, Rows, Stretch};
+use state_head::{Place, RefusedRow, Rows, Stretch, push_cover, read_cover};
+use std::alloc::Global;
 use std::test::Fail;
 
 const FIRST: Stretch = Stretch {
@@ -40,11 +41,6 @@ const OTHER: Stretch = Stretch {
 
 #[test]
 fn covers(rt: HostRuntime) -> Result<(), Fail> {
-    let mut all = Vec::new(rt.alloc());
-    all.extend_from_slice(&[OTHER, SECOND, FIRST])?;
-    let Ok(cover) = join_cover(rt.alloc(), &mut all, 2) else {
-        return Err(Fail::new("no cover"));
-    };
     let whole = Stretch {
         place: Place {
             from: 0,
@@ -56,28 +52,56 @@ fn covers(rt: HostRuntime) -> Result<(), Fail> {
             item: 1,
         }),
     };
-    assert!(rt; cover.as_slice() == [whole, OTHER].as_slice());
-    assert!(rt; missing_bytes(&cover, 2).is_none());
+    let cover = joined(rt.alloc(), &[SECOND], &[FIRST, OTHER]);
+    assert!(rt; cover == Ok(2));
+    let twice = CoverFault::Twice { source: 0, at: 0 };
+    let cover = joined(rt.alloc(), &[whole], &[FIRST]);
+    assert!(rt; cover == Err(twice));
     let gap = Missing {
-        source: 2,
+        source: 1,
         from: 0,
         to: None,
     };
-    assert!(rt; missing_bytes(&cover, 3) == Some(gap));
+    assert!(rt; missing(rt.alloc(), &[whole]) == Some(gap));
     let gap = Missing {
         source: 0,
         from: 40,
         to: Some(100),
     };
-    assert!(rt; missing_bytes(&[FIRST, OTHER], 2) == Some(gap));
+    assert!(rt; missing(rt.alloc(), &[FIRST, OTHER]) == Some(gap));
     let gap = Missing {
         source: 0,
         from: 0,
         to: Some(40),
     };
-    assert!(rt; missing_bytes(&[SECOND, OTHER], 2) == Some(gap));
-    all.push(FIRST)?;
-    let twice = CoverFault::Twice { source: 0, at: 0 };
-    assert!(rt; join_cover(rt.alloc(), &mut all, 2).err() == Some(twice));
+    assert!(rt; missing(rt.alloc(), &[SECOND, OTHER]) == Some(gap));
+    assert!(rt; missing(rt.alloc(), &[whole, OTHER]).is_none());
     Ok(())
+}
+
+/// How many stretches the cover of two files of two sources has, whose covers these are.
+fn joined(alloc: Global, a: &[Stretch], b: &[Stretch]) -> Result<usize, CoverFault> {
+    let mut bytes = Vec::new(alloc);
+    let mut more = Vec::new(alloc);
+    if push_cover(&mut bytes, a).is_err() || push_cover(&mut more, b).is_err() {
+        return Err(CoverFault::Memory);
+    }
+    let Ok(Some((mut all, _))) = read_cover(alloc, bytes.as_slice(), 2) else {
+        return Err(CoverFault::Memory);
+    };
+    let Ok(Some((rest, _))) = read_cover(alloc, more.as_slice(), 2) else {
+        return Err(CoverFault::Memory);
+    };
+    if all.extend_from_slice(rest.as_slice()).is_err() {
+        return Err(CoverFault::Memory);
+    }
+    Ok(join_cover(alloc, &mut all, 2)?.len())
+}
+
+/// What a cover of two sources lacks.
+fn missing(alloc: Global, cover: &[Stretch]) -> Option<Missing> {
+    let mut bytes = Vec::new(alloc);
+    push_cover(&mut bytes, cover).ok()?;
+    let (cover, _) = read_cover(alloc, bytes.as_slice(), 2).ok()??;
+    missing_bytes(cover.as_slice(), 2)
 }

@@ -8,12 +8,11 @@ ghost use Rattle.state_front.specs.declared.front.FrontWrite.TheVariants as vari
 ghost use Rattle.state_front.specs.declared.title.FrontFault.TheVariants as fault;
 ghost use Rattle.state_head.specs.Head.{IsHead, Preface, head_bytes, preface_of};
 
+pub use crate::title::FrontFault;
 use crate::title::{NAME, VERSION, read_title};
 use state_file::{push_section, read_section};
 use state_head::{Head, push_head, read_head};
 use std::alloc::{AllocError, Global};
-
-pub use crate::title::FrontFault;
 
 /// The most bytes of a head.
 const MOST_HEAD: u32 = 1 << 28;

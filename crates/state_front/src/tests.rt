@@ -26,7 +26,11 @@ fn fronts(rt: HostRuntime) -> Result<(), Fail> {
     };
     let mut out = Vec::new(rt.alloc());
     push_front(rt.alloc(), &mut out, &head).ok();
-    assert!(rt; out.as_slice().starts_with(b"parstream states 1\n\x13\0\0\0\x01k\x05count\0\0\x04k,v\n\x01\0\0\0"));
+    assert!(rt;
+        out.as_slice().starts_with(
+            b"parstream states 1\n\x13\0\0\0\x01k\x05count\0\0\x04k,v\n\x01\0\0\0"
+        )
+    );
     assert!(rt; out.len() == 46);
     out.extend_from_slice(b"more")?;
     let Ok(read) = read_front(rt.alloc(), out.as_slice()) else {

@@ -30,7 +30,7 @@ cond_yes n x y more = go (nat_le 60_000 n) refl
 
 cut-push : (kinds : List Bool) (groups : List Group) (g : Group) → cut kinds (groups ++ g ∷ []) ≡ cut_more kinds (cut kinds groups) g
 unfolding cut
-cut-push kinds groups g = fold_push (cut_more kinds) (record { full = []; open = [] }) groups g
+cut-push kinds groups g = fold_push (cut_more kinds) (record { full = []; begun = [] }) groups g
 
 block-push : (kinds : List Bool) (block : List Group) (g : Group) → block_bytes kinds (block ++ g ∷ []) ≡ block_bytes kinds block ++ tuple_bytes kinds g
 unfolding block_bytes
@@ -68,13 +68,13 @@ pub record Took (kinds : List Bool) (start : ℕ) (c : Cut) (g : Group) (written
   pub written_is : written ≡ blocks_bytes kinds c.full
   pub each : All (IsShort kinds) c.full
   pub index : IsIndex kinds start c.full w.index
-  pub block : w.block.items ≡ block_bytes kinds (c.open ++ g ∷ [])
-  pub many : w.groups ≡ length (c.open ++ g ∷ [])
-  pub first : w.first.items ≡ first_key (c.open ++ g ∷ [])
+  pub block : w.block.items ≡ block_bytes kinds (c.begun ++ g ∷ [])
+  pub many : w.groups ≡ length (c.begun ++ g ∷ [])
+  pub first : w.first.items ≡ first_key (c.begun ++ g ∷ [])
 
-first_of : (open : List Group) (g : Group) (key old new : List ℕ) (groups : ℕ) → groups ≡ length open → (groups ≡ 0 → new ≡ key) → (0 < groups → new ≡ old) → (0 < groups → old ≡ first_key open) → g.key ≡ key → new ≡ first_key (open ++ g ∷ [])
+first_of : (begun : List Group) (g : Group) (key old new : List ℕ) (groups : ℕ) → groups ≡ length begun → (groups ≡ 0 → new ≡ key) → (0 < groups → new ≡ old) → (0 < groups → old ≡ first_key begun) → g.key ≡ key → new ≡ first_key (begun ++ g ∷ [])
 first_of [] g key old new groups many none some was same = none many ∙ sym same
-first_of (o ∷ open) g key old new groups many none some was same =
+first_of (o ∷ begun) g key old new groups many none some was same =
     let more : 0 < groups = omega (arith, many) in
     some more ∙ was more
 
@@ -85,43 +85,43 @@ took kinds start c written old new key rows slots is same block groups none some
   written_is = is.written_is;
   each = is.each;
   index = subst (λ (i : Index). IsIndex kinds start c.full i) (sym same) is.index;
-  block = block ∙ ap (λ (bs : List ℕ). bs ++ group_bytes kinds key rows slots) is.block ∙ ap (λ (bs : List ℕ). block_bytes kinds c.open ++ bs) (sym (tuple_is kinds key rows slots))
-      ∙ sym (block-push kinds c.open (group_of key rows slots));
-  many = let many = is.many in omega (arith, groups, many, length-append c.open (group_of key rows slots ∷ []));
-  first = first_of c.open (group_of key rows slots) key old.first.items new.first.items old.groups is.many none some is.first refl;
+  block = block ∙ ap (λ (bs : List ℕ). bs ++ group_bytes kinds key rows slots) is.block ∙ ap (λ (bs : List ℕ). block_bytes kinds c.begun ++ bs) (sym (tuple_is kinds key rows slots))
+      ∙ sym (block-push kinds c.begun (group_of key rows slots));
+  many = let many = is.many in omega (arith, groups, many, length-append c.begun (group_of key rows slots ∷ []));
+  first = first_of c.begun (group_of key rows slots) key old.first.items new.first.items old.groups is.many none some is.first refl;
 }
 
 -- the block is not full
 opened : (kinds : List Bool) (start : ℕ) (c : Cut) (g : Group) (written : List ℕ) (w : BodyWriter) → Took kinds start c g written w → length w.block.items < 60_000 → Holds kinds start (cut_more kinds c g) written w
 opened kinds start c g written w is less = subst (λ (d : Cut). Holds kinds start d written w) (sym same) holds
   where
-    short : length (block_bytes kinds (c.open ++ g ∷ [])) < 60_000
+    short : length (block_bytes kinds (c.begun ++ g ∷ [])) < 60_000
     short = omega (arith, less, ap length is.block)
 
-    same : cut_more kinds c g ≡ record { full = c.full; open = c.open ++ g ∷ [] }
-    same = cond_no (length (block_bytes kinds (c.open ++ g ∷ []))) (record { full = c.full ++ (c.open ++ g ∷ []) ∷ []; open = [] }) (record { full = c.full; open = c.open ++ g ∷ [] }) short
+    same : cut_more kinds c g ≡ record { full = c.full; begun = c.begun ++ g ∷ [] }
+    same = cond_no (length (block_bytes kinds (c.begun ++ g ∷ []))) (record { full = c.full ++ (c.begun ++ g ∷ []) ∷ []; begun = [] }) (record { full = c.full; begun = c.begun ++ g ∷ [] }) short
 
-    holds : Holds kinds start (record { full = c.full; open = c.open ++ g ∷ [] }) written w
+    holds : Holds kinds start (record { full = c.full; begun = c.begun ++ g ∷ [] }) written w
     holds = record { written_is = is.written_is; each = is.each; index = is.index; block = is.block; many = is.many; first = λ some. is.first }
 
 -- the block is full, and is written
 filled : (kinds : List Bool) (start : ℕ) (c : Cut) (g : Group) (written : List ℕ) (mid new : BodyWriter) → Took kinds start c g written mid → 60_000 ≤ length mid.block.items → length mid.block.items ≤ 2 ^ 20
-    → IsIndex kinds start (c.full ++ (c.open ++ g ∷ []) ∷ []) new.index → new.block.items ≡ [] → new.groups ≡ 0 → Holds kinds start (cut_more kinds c g) (written ++ section mid.block.items) new
+    → IsIndex kinds start (c.full ++ (c.begun ++ g ∷ []) ∷ []) new.index → new.block.items ≡ [] → new.groups ≡ 0 → Holds kinds start (cut_more kinds c g) (written ++ section mid.block.items) new
 filled kinds start c g written mid new is more short index block groups = subst (λ (d : Cut). Holds kinds start d (written ++ section mid.block.items) new) (sym same) holds
   where
-    long : 60_000 ≤ length (block_bytes kinds (c.open ++ g ∷ []))
+    long : 60_000 ≤ length (block_bytes kinds (c.begun ++ g ∷ []))
     long = omega (arith, more, ap length is.block)
 
-    same : cut_more kinds c g ≡ record { full = c.full ++ (c.open ++ g ∷ []) ∷ []; open = [] }
-    same = cond_yes (length (block_bytes kinds (c.open ++ g ∷ []))) (record { full = c.full ++ (c.open ++ g ∷ []) ∷ []; open = [] }) (record { full = c.full; open = c.open ++ g ∷ [] }) long
+    same : cut_more kinds c g ≡ record { full = c.full ++ (c.begun ++ g ∷ []) ∷ []; begun = [] }
+    same = cond_yes (length (block_bytes kinds (c.begun ++ g ∷ []))) (record { full = c.full ++ (c.begun ++ g ∷ []) ∷ []; begun = [] }) (record { full = c.full; begun = c.begun ++ g ∷ [] }) long
 
-    is_short : IsShort kinds (c.open ++ g ∷ [])
-    is_short = record { some = omega (arith, length-append c.open (g ∷ [])); short = omega (arith, short, ap length is.block) }
+    is_short : IsShort kinds (c.begun ++ g ∷ [])
+    is_short = record { some = omega (arith, length-append c.begun (g ∷ [])); short = omega (arith, short, ap length is.block) }
 
-    holds : Holds kinds start (record { full = c.full ++ (c.open ++ g ∷ []) ∷ []; open = [] }) (written ++ section mid.block.items) new
+    holds : Holds kinds start (record { full = c.full ++ (c.begun ++ g ∷ []) ∷ []; begun = [] }) (written ++ section mid.block.items) new
     holds = record {
-      written_is = ap (λ (bs : List ℕ). bs ++ section mid.block.items) is.written_is ∙ ap (λ (bs : List ℕ). blocks_bytes kinds c.full ++ section bs) is.block ∙ sym (blocks-push kinds c.full (c.open ++ g ∷ []));
-      each = All-push (IsShort kinds) c.full (c.open ++ g ∷ []) is.each is_short;
+      written_is = ap (λ (bs : List ℕ). bs ++ section mid.block.items) is.written_is ∙ ap (λ (bs : List ℕ). blocks_bytes kinds c.full ++ section bs) is.block ∙ sym (blocks-push kinds c.full (c.begun ++ g ∷ []));
+      each = All-push (IsShort kinds) c.full (c.begun ++ g ∷ []) is.each is_short;
       index = index;
       block = block ∙ no_groups kinds;
       many = groups;
@@ -137,7 +137,7 @@ goes_open kinds start groups g written out w is less = record {
 }
 
 pub goes_full : (kinds : List Bool) (start : ℕ) (groups : List Group) (g : Group) (written out put : List ℕ) (mid new : BodyWriter) → Took kinds start (cut kinds groups) g written mid → 60_000 ≤ length mid.block.items → length mid.block.items ≤ 2 ^ 20
-    → IsIndex kinds start ((cut kinds groups).full ++ ((cut kinds groups).open ++ g ∷ []) ∷ []) new.index → new.block.items ≡ [] → new.groups ≡ 0 → put ≡ out ++ section mid.block.items → Goes kinds start (groups ++ g ∷ []) written out put new
+    → IsIndex kinds start ((cut kinds groups).full ++ ((cut kinds groups).begun ++ g ∷ []) ∷ []) new.index → new.block.items ≡ [] → new.groups ≡ 0 → put ≡ out ++ section mid.block.items → Goes kinds start (groups ++ g ∷ []) written out put new
 goes_full kinds start groups g written out put mid new is more short index block many e = record {
   more = section mid.block.items;
   is = e;
@@ -161,8 +161,8 @@ pub record ClosesLast (old new : BodyWriter) (out put : List ℕ) : Type 0 where
   pub index : (kinds : List Bool) (start : ℕ) (blocks : List (List Group)) (block : List Group) → 0 < old.groups → IsIndex kinds start blocks old.index → old.first.items ≡ first_key block → old.groups ≡ length block
       → old.block.items ≡ block_bytes kinds block → IsIndex kinds start (blocks ++ block ∷ []) new.index
 
-pub is_closed : (kinds : List Bool) (start : ℕ) (full : List (List Group)) (open : List Group) (written out put : List ℕ) (old new : BodyWriter) → Holds kinds start (record { full = full; open = open }) written old → ClosesLast old new out put
-    → IsClosed kinds start (closed full open) written out put new.index
+pub is_closed : (kinds : List Bool) (start : ℕ) (full : List (List Group)) (begun : List Group) (written out put : List ℕ) (old new : BodyWriter) → Holds kinds start (record { full = full; begun = begun }) written old → ClosesLast old new out put
+    → IsClosed kinds start (closed full begun) written out put new.index
 is_closed kinds start full [] written out put old new is closes =
     let none = closes.none is.many in
     record {
@@ -172,7 +172,7 @@ is_closed kinds start full [] written out put old new is closes =
       each = is.each;
       index_is = subst (λ (i : Index). IsIndex kinds start full i) (sym none.1) is.index;
     }
-is_closed kinds start full (g ∷ open) written out put old new is closes =
+is_closed kinds start full (g ∷ begun) written out put old new is closes =
     let many = is.many in
     let more : 0 < old.groups = omega (arith, many) in
     let some = closes.some more in
@@ -180,9 +180,9 @@ is_closed kinds start full (g ∷ open) written out put old new is closes =
     record {
       more = section old.block.items;
       is = some.0;
-      written_is = ap (λ (bs : List ℕ). bs ++ section old.block.items) is.written_is ∙ ap (λ (bs : List ℕ). blocks_bytes kinds full ++ section bs) is.block ∙ sym (blocks-push kinds full (g ∷ open));
-      each = All-push (IsShort kinds) full (g ∷ open) is.each (record { some = omega arith; short = omega (arith, short, ap length is.block) });
-      index_is = closes.index kinds start full (g ∷ open) more is.index (is.first more) is.many is.block;
+      written_is = ap (λ (bs : List ℕ). bs ++ section old.block.items) is.written_is ∙ ap (λ (bs : List ℕ). blocks_bytes kinds full ++ section bs) is.block ∙ sym (blocks-push kinds full (g ∷ begun));
+      each = All-push (IsShort kinds) full (g ∷ begun) is.each (record { some = omega arith; short = omega (arith, short, ap length is.block) });
+      index_is = closes.index kinds start full (g ∷ begun) more is.index (is.first more) is.many is.block;
     }
 
 -- the end of the blocks, the foot and the end of the file are written

@@ -8,7 +8,7 @@ use Rattle.state_writer.specs.declared.writer.BodyWriter.{BodyWriter}
 -- the blocks that are full, and the groups of the one that is not
 pub record Cut : Type 0 where
   pub full : List (List Group)
-  pub open : List Group
+  pub begun : List Group
 
 -- a group of these parts
 abbrev pub group_of : List ℕ → ℕ → List SlotState → Group
@@ -17,21 +17,21 @@ group_of key rows slots = record { key = key; rows = rows; slots = slots }
 -- one group more: it ends its block if it takes it to 60,000 bytes or more
 abbrev pub cut_more : List Bool → Cut → Group → Cut
 cut_more kinds c g =
-    if nat_le 60_000 (length (block_bytes kinds (c.open ++ g ∷ []))) then record { full = c.full ++ (c.open ++ g ∷ []) ∷ []; open = [] }
-    else record { full = c.full; open = c.open ++ g ∷ [] }
+    if nat_le 60_000 (length (block_bytes kinds (c.begun ++ g ∷ []))) then record { full = c.full ++ (c.begun ++ g ∷ []) ∷ []; begun = [] }
+    else record { full = c.full; begun = c.begun ++ g ∷ [] }
 
 -- these groups, one after another
 unfoldable pub cut : List Bool → List Group → Cut
-cut kinds groups = fold (cut_more kinds) (record { full = []; open = [] }) groups
+cut kinds groups = fold (cut_more kinds) (record { full = []; begun = [] }) groups
 
 -- the block that is not full is the last one, if it has a group
 abbrev pub closed : List (List Group) → List Group → List (List Group)
 closed full [] = full
-closed full (g ∷ open) = full ++ (g ∷ open) ∷ []
+closed full (g ∷ begun) = full ++ (g ∷ begun) ∷ []
 
 -- the blocks in which a writer puts some groups
 abbrev pub blocks_of : List Bool → List Group → List (List Group)
-blocks_of kinds groups = closed (cut kinds groups).full (cut kinds groups).open
+blocks_of kinds groups = closed (cut kinds groups).full (cut kinds groups).begun
 
 -- a block that a file can have, if rows can give its groups
 pub record IsShort (kinds : List Bool) (block : List Group) : Type 0 where
@@ -43,9 +43,9 @@ pub record Holds (kinds : List Bool) (start : ℕ) (c : Cut) (written : List ℕ
   pub written_is : written ≡ blocks_bytes kinds c.full
   pub each : All (IsShort kinds) c.full
   pub index : IsIndex kinds start c.full w.index
-  pub block : w.block.items ≡ block_bytes kinds c.open
-  pub many : w.groups ≡ length c.open
-  pub first : 0 < w.groups → w.first.items ≡ first_key c.open
+  pub block : w.block.items ≡ block_bytes kinds c.begun
+  pub many : w.groups ≡ length c.begun
+  pub first : 0 < w.groups → w.first.items ≡ first_key c.begun
 
 abbrev pub HasTaken : List Bool → ℕ → List Group → List ℕ → BodyWriter → Type 0
 HasTaken kinds start groups written w = Holds kinds start (cut kinds groups) written w

@@ -98,7 +98,13 @@ impl BodyWriter {
     }
 
     /// Takes a group into the block.
-    fn take(&mut self, kinds: &[bool], key: &[u8], rows: u64, slots: &[SlotState]) -> Result<(), WriteError>
+    fn take(
+        &mut self,
+        kinds: &[bool],
+        key: &[u8],
+        rows: u64,
+        slots: &[SlotState],
+    ) -> Result<(), WriteError>
         requires { length kinds.now ≤ length slots.now }
         ensures index { OnOk result (self.new.index ≡ self.old.index) }
         ensures block { OnOk result (self.new.block.items ≡ self.old.block.items ++ group_bytes kinds.now key.now rows slots.now) }
@@ -138,7 +144,11 @@ impl BodyWriter {
         ensures index { (kinds : List Bool) (start : ℕ) (blocks : List (List Group)) (block : List Group) → 0 < self.old.groups → IsIndex kinds start blocks self.old.index → self.old.first.items ≡ first_key block → self.old.groups ≡ length block
             → self.old.block.items ≡ block_bytes kinds block → OnOk result (IsIndex kinds start (blocks ++ block ∷ []) self.new.index) }
     {
-        if self.groups > 0 { self.close(out) } else { Ok(()) }
+        if self.groups > 0 {
+            self.close(out)
+        } else {
+            Ok(())
+        }
     }
 
     /// Puts the block at the end of `out`, and begins another one.
