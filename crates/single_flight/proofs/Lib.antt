@@ -1,3 +1,4 @@
 pub mod Flights
-pub mod Told
 pub mod Steps
+pub mod Told
+pub mod Uses

@@ -1,6 +1,6 @@
 -- What one step of a cell makes of its value and of its load.
 use Rattle.std.proofs.Common.{◌≡◌, ℕ, ◌==◌, Bool, true, false, cond, ◌&&◌, refl, sym, ap, ◌∙◌, subst, eq-eqb, eqb-true}
-use Rattle.std.specs.Prelude.{Option, Some, None}
+use Rattle.std.specs.Prelude.{Option, Some, None, is_some}
 use Rattle.single_flight.specs.declared.history.CellState.{CellState}
 use Rattle.single_flight.specs.declared.history.CellState.TheVariants.{Empty, Loading, Here}
 use Rattle.single_flight.specs.declared.history.CellCall.{CellCall}
@@ -14,7 +14,7 @@ pub true-false : (b : Bool) → b ≡ true → b ≡ false → ⊥
 true-false b e f = let k : true ≡ false = sym e ∙ f in absurd (cc)
 
 pub none-some : {A : Type 0} (o : Option A) (v : A) → o ≡ None → o ≡ Some v → ⊥
-none-some {A} o v e f = let k : None {A = A} ≡ Some v = sym e ∙ f in absurd (cc)
+none-some o v e f = true-false (is_some o) (ap is_some f) (ap is_some e)
 
 module _ {V : Type 0} where
   -- the value in a cell
@@ -208,21 +208,22 @@ module _ {V : Type 0} where
       let y = yours-stepped n s c k (reply-is n s c r t h ∙ e) in
       (y.0, state-is n s c r t h ∙ y.1)
 
+  is-empty : CellState V → Bool
+  is-empty (Empty load) = true
+  is-empty (Loading load n) = false
+  is-empty (Here load v) = false
+
   pub empty-loading : (k load n : ℕ) (s : CellState V) → s ≡ Empty k → s ≡ Loading load n → ⊥
-  empty-loading k load n s e f = let q : Empty {V = V} k ≡ Loading load n = sym e ∙ f in absurd (cc)
+  empty-loading k load n s e f = true-false (is-empty s) (ap is-empty e) (ap is-empty f)
 
   -- a caller that is told that a load is under way: it is
-  busy-looked : (b : Bool) (load number m k : ℕ) → (cond {A = CellReply V × CellState V} b (Busy load, Loading load m) (Failed, Loading load m)).0 ≡ Busy k → (cond {A = CellReply V × CellState V} b (Busy load, Loading load m) (Failed, Loading load m)).1 ≡ Loading k m
-  busy-looked true load number m k e = let same : load ≡ k = cc in ap (λ (x : ℕ). Loading x m) same
-  busy-looked false load number m k e = absurd (cc)
+  busy-stepped : (n : ℕ) (s : CellState V) (k : ℕ) → (stepped n s Ask).0 ≡ Busy k → (m : ℕ) × ((stepped n s Ask).1 ≡ Loading k m)
+  busy-stepped n (Empty load) k e = absurd (cc)
+  busy-stepped n (Loading load m) k e = let same : load ≡ k = cc in (m, ap (λ (x : ℕ). Loading x m) same)
+  busy-stepped n (Here load v) k e = absurd (cc)
 
   pub busy-asked : (n : ℕ) (s : CellState V) (k : ℕ) (t : CellState V) → CellLegal n s Ask (Busy k) t → (m : ℕ) × (t ≡ Loading k m)
-  busy-asked n (Empty load) k t h = absurd (let e = reply-is n (Empty load) Ask (Busy k) t h in cc)
-  busy-asked n (Loading load m) k t h =
-      let e : Busy {V = V} load ≡ Busy k = reply-is n (Loading load m) Ask (Busy k) t h in
-      let same : load ≡ k = cc in
-      (m, state-is n (Loading load m) Ask (Busy k) t h ∙ ap (λ (x : ℕ). Loading x m) same)
-  busy-asked n (Here load v) k t h = absurd (let e = reply-is n (Here load v) Ask (Busy k) t h in cc)
+  busy-asked n s k t h = let b = busy-stepped n s k (reply-is n s Ask (Busy k) t h) in (b.0, state-is n s Ask (Busy k) t h ∙ b.1)
 
   -- a load that is under way stays so, unless its caller ends it
   looked-stays : (n load : ℕ) (b : Bool) → (cond {A = CellReply V × CellState V} b (Busy load, Loading load n) (Failed, Loading load n)).1 ≡ Loading load n

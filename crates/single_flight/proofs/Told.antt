@@ -129,8 +129,8 @@ known_before {V} n m seen before mine mine' c r t same own ends grows =
     snoc_front (calls_by n before) mine e (sym (calls_by_mine n before c r t) ∙ whole)
 
 -- each of the cells opens with nothing
-pub opens_so : {L V : Type 0} (cells : List (Cell L V)) → ((k : ℕ) (x : Cell L V) → get_elem? cells k ≡ some x → (x.key ≡ k) × (x.state ≡ Empty 0)) → (k : ℕ) (o : ℕ × CellState V) → get_elem? (map (λ (x : Cell L V). let z : ℕ × CellState V = (x.key, x.state) in z) cells) k ≡ some o → o ≡ (k, Empty 0)
+pub opens_so : {L V : Type 0} (cells : List (Cell L V)) → ((k : ℕ) (x : Cell L V) → get_elem? cells k ≡ some x → (x.key ≡ k) × (x.state ≡ Empty 0)) → (k : ℕ) (o : ℕ × CellState V) → get_elem? (map (λ (x : Cell L V). let z : ℕ × CellState V = (x.key, x.state) in z) cells) k ≡ some o → (o.0 ≡ k) × (o.1 ≡ Empty 0)
 opens_so {L} {V} cells each k o e =
     let a = map_at (λ (x : Cell L V). let z : ℕ × CellState V = (x.key, x.state) in z) cells k o e in
     let f = each k a.0 a.1 in
-    sym a.2 ∙ (λ i. (f.0 i, f.1 i))
+    (ap (λ (z : ℕ × CellState V). z.0) (sym a.2) ∙ f.0, ap (λ (z : ℕ × CellState V). z.1) (sym a.2) ∙ f.1)

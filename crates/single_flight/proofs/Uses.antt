@@ -1,23 +1,37 @@
--- For the callers of a loader.
-use Rattle.std.proofs.Common.{◌≡◌, ℕ, ◌∙◌, ap}
+-- Calls of one key, and for the callers of a loader.
+use Rattle.std.proofs.Common.{◌≡◌, ◌≢◌, ℕ, ◌∙◌, [], ◌∷◌, List, ap, sym, subst}
 use Rattle.std.specs.Prelude.{Option, None}
 use Rattle.lock_book.specs.declared.kept.Kept.{Ghosts}
 use Rattle.lock_book.specs.declared.shelf.Pass.{Pass}
-use Rattle.lock_book.proofs.Histories.{at_place}
+use Rattle.lock_book.specs.History.{StartsWith, entry}
+use Rattle.lock_book.specs.Shown.{number_of}
+use Rattle.lock_book.proofs.Histories.{at_place, starts_snoc, starts_trans}
 use Rattle.single_flight.specs.declared.history.CellState.{CellState}
 use Rattle.single_flight.specs.declared.history.CellCall.{CellCall}
 use Rattle.single_flight.specs.declared.history.CellReply.{CellReply}
 use Rattle.single_flight.specs.declared.cell.Ask.{Ask}
 use Rattle.single_flight.specs.declared.cell.Cell.{Cell}
 use Rattle.single_flight.specs.declared.loader.Loader.{Loader}
-use Rattle.single_flight.specs.Laws.{load_in}
-use Rattle.single_flight.specs.Shown.{Called, CallsAt, load_of}
+use Rattle.single_flight.specs.Laws.{Step, load_in}
+use Rattle.single_flight.specs.Shown.{Called, CallsAt, history_of, load_of, own_of}
 
-module _ {L V : Type 0} {g : Ghosts (Cell L V) (Unit {0}) (Ask V) (CellReply V) ℕ (CellState V) (CellCall V) (CellReply V)} (p q : Pass (Cell L V) (Unit {0}) (Ask V) (CellReply V) ℕ (CellState V) (CellCall V) (CellReply V) g) (key : ℕ) where
-  -- a caller that has no load of a key after calls of it has the loads of other keys that it had
-  pub free_after_calls : CallsAt key p q → ((k : ℕ) → load_of p k ≡ None) → load_of q key ≡ None → (k : ℕ) → load_of q k ≡ None
-  free_after_calls a free here = at_place (λ k. load_of q k ≡ None) key here (λ k ne. ap load_in (a.others_own k ne) ∙ free k)
+module _ {L V : Type 0} {g : Ghosts (Cell L V) (Unit {0}) (Ask V) (CellReply V) ℕ (CellState V) (CellCall V) (CellReply V)} where
+  -- one call is calls of its key
+  pub one_call_at : (l : Loader L V) (p q : Pass (Cell L V) (Unit {0}) (Ask V) (CellReply V) ℕ (CellState V) (CellCall V) (CellReply V) g) (key : ℕ) (c : CellCall V) (r : CellReply V) → Called l p q key c r → CallsAt key p q
+  one_call_at l p q key c r a = record {
+    begins = subst (λ (es : List (Step V)). StartsWith es (history_of p key)) (sym a.ends) (starts_snoc a.before (history_of p key) (entry (number_of p) c r a.after ∷ []) a.begins);
+    others_seen = a.others_seen;
+    others_own = a.others_mine;
+  }
 
-  -- the same after one call
-  pub free_after_call : (l : Loader L V) (c : CellCall V) (r : CellReply V) → Called l p q key c r → ((k : ℕ) → load_of p k ≡ None) → load_of q key ≡ None → (k : ℕ) → load_of q k ≡ None
-  free_after_call l c r a free here = at_place (λ k. load_of q k ≡ None) key here (λ k ne. ap load_in (a.others_mine k ne) ∙ free k)
+  -- calls of a key after calls of it
+  pub then_calls_at : (p q r : Pass (Cell L V) (Unit {0}) (Ask V) (CellReply V) ℕ (CellState V) (CellCall V) (CellReply V) g) (key : ℕ) → CallsAt key p q → CallsAt key q r → CallsAt key p r
+  then_calls_at p q r key a b = record {
+    begins = starts_trans (history_of r key) (history_of q key) (history_of p key) b.begins a.begins;
+    others_seen = λ k ne. b.others_seen k ne ∙ a.others_seen k ne;
+    others_own = λ k ne. b.others_own k ne ∙ a.others_own k ne;
+  }
+
+  -- a caller that has no load has none after calls of a key, if it has none of this key
+  pub free_after_calls : (p q : Pass (Cell L V) (Unit {0}) (Ask V) (CellReply V) ℕ (CellState V) (CellCall V) (CellReply V) g) (key : ℕ) → CallsAt key p q → ((k : ℕ) → load_of p k ≡ None) → load_of q key ≡ None → (k : ℕ) → load_of q k ≡ None
+  free_after_calls p q key a free here = at_place (λ k. load_of q k ≡ None) key here (λ k ne. ap load_in (a.others_own k ne) ∙ free k)

@@ -1,7 +1,6 @@
 //! What a caller finds under a key.
 
 ghost use Rattle.std.specs.Prelude.{◌≡◌};
-ghost use Rattle.single_flight.specs.Shown.{key_of, load_number};
 
 /// The caller has to load the value under this key, and nobody else does so meanwhile. It can't be dropped: it goes to
 /// `put` or to `give_up`, with the pass that it came to.
@@ -11,6 +10,8 @@ pub struct Load {
 }
 
 impl Load {
+    ghost use Rattle.single_flight.specs.Shown.{key_of, load_number};
+
     /// The key to load.
     pub fn key(&self) -> u32
         ensures { result ≡ key_of self.now }

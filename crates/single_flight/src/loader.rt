@@ -12,7 +12,6 @@ ghost use Rattle.single_flight.specs.declared.history.CellCall.TheVariants.{Fail
 ghost use Rattle.single_flight.specs.declared.history.CellReply.TheVariants.{Done};
 ghost use Rattle.single_flight.specs.Cells.{CallFits, MayReply};
 ghost use Rattle.single_flight.specs.Laws.{value_in};
-ghost use Rattle.single_flight.specs.Shown.{AreAll, Belongs, Called, CallsAt, HasFailed, HasLoad, IfFailed, IfLoad, IfValue, history_of, key_of, keys_of, load_of, number_found, own_of, removal_reply};
 ghost use Rattle.single_flight.specs.Turns.{Turned};
 
 use crate::cell::{Ask, Cell};
@@ -30,7 +29,7 @@ where
     L::Value: Send,
 {
     pub(crate) shelf: Shelf<Cell<L>>,
-    pub ghost opens: { (k : ℕ) (o : _) → get_elem? (opens_of shelf) k ≡ some o → o ≡ (k, Empty 0) },
+    pub ghost opens: { (k : ℕ) (o : _) → get_elem? (opens_of shelf) k ≡ some o → (o.0 ≡ k) × (o.1 ≡ Empty 0) },
 }
 
 /// One caller's token at a loader, which may go to another thread. For each key it shows the history that the caller has
@@ -56,6 +55,8 @@ impl<L: Values + Send> Loader<L>
 where
     L::Value: Send,
 {
+    ghost use Rattle.single_flight.specs.Shown.{AreAll, Belongs, Called, CallsAt, HasFailed, HasLoad, IfFailed, IfLoad, IfValue, history_of, key_of, keys_of, load_of, number_found, own_of, removal_reply};
+
     /// A loader of values under the keys below `keys`, with none yet, and a pass for each caller, numbered from 0. It
     /// takes some 100 bytes for each key; no other call takes memory.
     pub fn new(
