@@ -16,6 +16,9 @@ true-false b e f = let k : true ≡ false = sym e ∙ f in absurd (cc)
 pub none-some : {A : Type 0} (o : Option A) (v : A) → o ≡ None → o ≡ Some v → ⊥
 none-some o v e f = true-false (is_some o) (ap is_some f) (ap is_some e)
 
+own-end : (n m : ℕ) → (m == n) ≡ true → (q : Bool) → q ≡ true → ((m == n) && q) ≡ false → ⊥
+own-end n m e q f g = true-false ((m == n) && q) (ap (λ (z : Bool × Bool). z.0 && z.1) (λ i. (e i, f i))) g
+
 module _ {V : Type 0} where
   -- the value in a cell
   abbrev pub content : CellState V → Option V
@@ -208,7 +211,7 @@ module _ {V : Type 0} where
       let y = yours-stepped n s c k (reply-is n s c r t h ∙ e) in
       (y.0, state-is n s c r t h ∙ y.1)
 
-  is-empty : CellState V → Bool
+  abbrev is-empty : CellState V → Bool
   is-empty (Empty load) = true
   is-empty (Loading load n) = false
   is-empty (Here load v) = false
@@ -230,14 +233,11 @@ module _ {V : Type 0} where
   looked-stays n load true = refl
   looked-stays n load false = refl
 
-  own-end : (n m : ℕ) → (m == n) ≡ true → (q : Bool) → q ≡ true → ((m == n) && q) ≡ false → ⊥
-  own-end n m e q f g = true-false ((m == n) && q) (ap (λ (z : Bool × Bool). z.0 && z.1) (λ i. (e i, f i))) g
-
-  put-stays : (n m load : ℕ) (v : V) (b : Bool) → (n == m) ≡ b → (r : CellReply V) (t : CellState V) → (r, t) ≡ cond b (Done, Here load v) (Refused, Loading load n) → ((m == n) && is_end (Put v) r) ≡ false → t ≡ Loading load n
+  put-stays : (n m load : ℕ) (v : V) (b : Bool) → (n == m) ≡ b → (r : CellReply V) (t : CellState V) → ◌≡◌ {A = CellReply V × CellState V} (r, t) (cond b (Done, Here load v) (Refused, Loading load n)) → ((m == n) && is_end (Put v) r) ≡ false → t ≡ Loading load n
   put-stays n m load v true e r t h g = absurd (own-end n m (eq-eqb m n (sym (eqb-true n m e))) (is_end (Put v) r) (ap (λ (z : CellReply V × CellState V). is_end (Put v) z.0) h) g)
   put-stays n m load v false e r t h g = ap (λ (z : CellReply V × CellState V). z.1) h
 
-  fail-stays : (n m load : ℕ) (b : Bool) → (n == m) ≡ b → (r : CellReply V) (t : CellState V) → (r, t) ≡ cond b (Done, Empty (next load)) (Refused, Loading load n) → ((m == n) && is_end {V = V} Fail r) ≡ false → t ≡ Loading load n
+  fail-stays : (n m load : ℕ) (b : Bool) → (n == m) ≡ b → (r : CellReply V) (t : CellState V) → ◌≡◌ {A = CellReply V × CellState V} (r, t) (cond b (Done, Empty (next load)) (Refused, Loading load n)) → ((m == n) && is_end {V = V} Fail r) ≡ false → t ≡ Loading load n
   fail-stays n m load true e r t h g = absurd (own-end n m (eq-eqb m n (sym (eqb-true n m e))) (is_end {V = V} Fail r) (ap (λ (z : CellReply V × CellState V). is_end {V = V} Fail z.0) h) g)
   fail-stays n m load false e r t h g = ap (λ (z : CellReply V × CellState V). z.1) h
 
@@ -295,25 +295,26 @@ module _ {V : Type 0} where
   IsOf load (Loading k m) = k ≡ load
   IsOf load (Here k v) = k ≡ load
 
-  -- it stays so while no load fails and no value is removed
-  of-looked : (load k m : ℕ) (b : Bool) → k ≡ load → IsOf load ((cond {A = CellReply V × CellState V} b (Busy k, Loading k m) (Failed, Loading k m)).1)
-  of-looked load k m true i = i
-  of-looked load k m false i = i
+-- it stays so while no load fails and no value is removed
+of-looked : (V : Type 0) (load k m : ℕ) (b : Bool) → k ≡ load → IsOf load ((cond {A = CellReply V × CellState V} b (Busy k, Loading k m) (Failed, Loading k m)).1)
+of-looked V load k m true i = i
+of-looked V load k m false i = i
 
+of-fail : (V : Type 0) (load k m : ℕ) (b : Bool) → k ≡ load → is_loss {V = V} Fail ((cond {A = CellReply V × CellState V} b (Done, Empty (next k)) (Refused, Loading k m)).0) ≡ false → IsOf load ((cond {A = CellReply V × CellState V} b (Done, Empty (next k)) (Refused, Loading k m)).1)
+of-fail V load k m true i e = absurd (cc)
+of-fail V load k m false i e = i
+
+module _ {V : Type 0} where
   of-put : (load k m : ℕ) (v : V) (b : Bool) → k ≡ load → IsOf load ((cond {A = CellReply V × CellState V} b (Done, Here k v) (Refused, Loading k m)).1)
   of-put load k m v true i = i
   of-put load k m v false i = i
 
-  of-fail : (load k m : ℕ) (b : Bool) → k ≡ load → is_loss {V = V} Fail ((cond {A = CellReply V × CellState V} b (Done, Empty (next k)) (Refused, Loading k m)).0) ≡ false → IsOf load ((cond {A = CellReply V × CellState V} b (Done, Empty (next k)) (Refused, Loading k m)).1)
-  of-fail load k m true i e = absurd (cc)
-  of-fail load k m false i e = i
-
   of-stepped : (load n : ℕ) (s : CellState V) (c : CellCall V) → IsOf load s → is_loss c (stepped n s c).0 ≡ false → IsOf load (stepped n s c).1
   of-stepped load n (Empty k) c i e = absurd i
   of-stepped load n (Loading k m) Ask i e = i
-  of-stepped load n (Loading k m) (Look number) i e = of-looked load k m (k == number) i
+  of-stepped load n (Loading k m) (Look number) i e = of-looked V load k m (k == number) i
   of-stepped load n (Loading k m) (Put v) i e = of-put load k m v (m == n) i
-  of-stepped load n (Loading k m) Fail i e = of-fail load k m (m == n) i e
+  of-stepped load n (Loading k m) Fail i e = of-fail V load k m (m == n) i e
   of-stepped load n (Loading k m) Remove i e = i
   of-stepped load n (Here k v) Ask i e = i
   of-stepped load n (Here k v) (Look number) i e = i

@@ -87,7 +87,7 @@ module _ {V : Type 0} {holds : V → Type 0} {n : ℕ} {seen mine seen' mine' : 
 
 module _ {V : Type 0} {holds : V → Type 0} {n k m : ℕ} {seen mine seen' mine' : List (Step V)} (u : Turned holds n seen mine seen' mine' (Look k) Failed) where
   module _ (first : List (Step V)) (on : last_of (Empty 0) first ≡ Loading k m) (grown : StartsWith seen first) where
-    mid : List (Step V)
+    abbrev mid : List (Step V)
     mid = grown.0 ++ u.begins.0
 
     before-is : u.before ≡ first ++ mid

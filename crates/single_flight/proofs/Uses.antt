@@ -5,20 +5,20 @@ use Rattle.lock_book.specs.declared.kept.Kept.{Ghosts}
 use Rattle.lock_book.specs.declared.shelf.Pass.{Pass}
 use Rattle.lock_book.specs.History.{StartsWith, entry}
 use Rattle.lock_book.specs.Shown.{number_of}
+use Rattle.lock_book.specs.Told.{Adds}
 use Rattle.lock_book.proofs.Histories.{at_place, starts_snoc, starts_trans}
 use Rattle.single_flight.specs.declared.history.CellState.{CellState}
 use Rattle.single_flight.specs.declared.history.CellCall.{CellCall}
 use Rattle.single_flight.specs.declared.history.CellReply.{CellReply}
 use Rattle.single_flight.specs.declared.cell.Ask.{Ask}
 use Rattle.single_flight.specs.declared.cell.Cell.{Cell}
-use Rattle.single_flight.specs.declared.loader.Loader.{Loader}
 use Rattle.single_flight.specs.Laws.{Step, load_in}
-use Rattle.single_flight.specs.Shown.{Called, CallsAt, history_of, load_of, own_of}
+use Rattle.single_flight.specs.Shown.{CallsAt, history_of, load_of, own_of}
 
 module _ {L V : Type 0} {g : Ghosts (Cell L V) (Unit {0}) (Ask V) (CellReply V) ℕ (CellState V) (CellCall V) (CellReply V)} where
   -- one call is calls of its key
-  pub one_call_at : (l : Loader L V) (p q : Pass (Cell L V) (Unit {0}) (Ask V) (CellReply V) ℕ (CellState V) (CellCall V) (CellReply V) g) (key : ℕ) (c : CellCall V) (r : CellReply V) → Called l p q key c r → CallsAt key p q
-  one_call_at l p q key c r a = record {
+  pub one_call_at : {legal : ℕ → ℕ → CellState V → CellCall V → CellReply V → CellState V → Type 0} {opens : List (ℕ × CellState V)} (p q : Pass (Cell L V) (Unit {0}) (Ask V) (CellReply V) ℕ (CellState V) (CellCall V) (CellReply V) g) (key : ℕ) (c : CellCall V) (r : CellReply V) → Adds legal opens (number_of p) (history_of p) (own_of p) (history_of q) (own_of q) key c r → CallsAt key p q
+  one_call_at p q key c r a = record {
     begins = subst (λ (es : List (Step V)). StartsWith es (history_of p key)) (sym a.ends) (starts_snoc a.before (history_of p key) (entry (number_of p) c r a.after ∷ []) a.begins);
     others_seen = a.others_seen;
     others_own = a.others_mine;

@@ -7,6 +7,6 @@ use Rattle.single_flight.proofs.loader.empty_cells.Given as goal
 
 abbrev pub invariant-loop-key : goal.invariant-loop-key
 invariant-loop-key g l = record {
-  count : length l.cells.items ≡ l.counter;
+  count : length l.cells.items ≡ l.key;
   empty : (k : ℕ) (c : Cell g.row.L.Denot g.row.L-Value.Denot) → get_elem? l.cells.items k ≡ some c → (c.key ≡ k) × (c.state ≡ Empty 0);
 }

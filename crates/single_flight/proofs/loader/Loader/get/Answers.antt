@@ -4,7 +4,7 @@ use Rattle.single_flight.proofs.Uses.{one_call_at}
 use Rattle.single_flight.proofs.loader.Loader.get.Goals as goal
 
 pub returns-in-Value-clause-calls : goal.returns-in-Value-clause-calls
-returns-in-Value-clause-calls g c = one_call_at _ _ _ _ _ _ c.in-Value.ensures.called
+returns-in-Value-clause-calls g c = one_call_at _ _ _ _ _ c.in-Value.ensures.called
 
 pub returns-in-Value-clause-load : goal.returns-in-Value-clause-load
 returns-in-Value-clause-load g c = turned_load c.in-Value.ensures.turned ∙ c.requires.free
@@ -16,7 +16,7 @@ pub returns-in-Value-clause-holds : goal.returns-in-Value-clause-holds
 returns-in-Value-clause-holds g c = turned_holds c.in-Value.ensures.turned
 
 pub returns-in-Yours-clause-calls : goal.returns-in-Yours-clause-calls
-returns-in-Yours-clause-calls g c = one_call_at _ _ _ _ _ _ c.in-Yours.ensures.called
+returns-in-Yours-clause-calls g c = one_call_at _ _ _ _ _ c.in-Yours.ensures.called
 
 pub returns-in-Yours-clause-load : goal.returns-in-Yours-clause-load
 returns-in-Yours-clause-load g c = turned_load c.in-Yours.ensures.turned

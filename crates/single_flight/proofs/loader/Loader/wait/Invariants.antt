@@ -2,7 +2,7 @@ use Rattle.std.proofs.Common.{◌≡◌}
 use Rattle.std.specs.Prelude.{None}
 use Rattle.lock_book.specs.Shown.{number_of}
 use Rattle.single_flight.specs.Shown.{Belongs, CallsAt, load_of}
-use Rattle.single_flight.proofs.waiting.Loader.wait.Given as goal
+use Rattle.single_flight.proofs.loader.Loader.wait.Given as goal
 
 abbrev pub invariant-loop : goal.invariant-loop
 invariant-loop g l = record {
