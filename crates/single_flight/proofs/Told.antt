@@ -17,6 +17,9 @@ use Rattle.single_flight.specs.declared.history.CellReply.{CellReply}
 use Rattle.single_flight.specs.declared.history.CellReply.TheVariants.{Value, Yours, Busy, Failed, Done, Refused}
 use Rattle.single_flight.specs.Cells.{MayCall, next, stepped}
 use Rattle.single_flight.specs.Laws.{CellLegal, IsHistory, Step, is_loss, load_after, load_in, value_after, value_in}
+use Rattle.single_flight.specs.declared.found.Found.{Found}
+use Rattle.single_flight.specs.declared.found.Found.TheVariants as found
+use Rattle.single_flight.specs.Shown.{HasFailed, IfFailed}
 use Rattle.single_flight.specs.Turns.{Turned, WasLostSince}
 use Rattle.single_flight.proofs.Flights.{content-all, holds-all, load-all, load-snoc, of-all, plain}
 use Rattle.single_flight.proofs.Steps.{IsOf, busy-asked, content, content-step, look-of, none-some, removed-none, reply-is, value-stays, value-there, yours-step}
@@ -134,3 +137,25 @@ opens_so {L} {V} cells each k o e =
     let a = map_at (λ (x : Cell L V). let z : ℕ × CellState V = (x.key, x.state) in z) cells k o e in
     let f = each k a.0 a.1 in
     (ap (λ (z : ℕ × CellState V). z.0) (sym a.2) ∙ f.0, ap (λ (z : ℕ × CellState V). z.1) (sym a.2) ∙ f.1)
+
+module _ {V : Type 0} {holds : V → Type 0} {n k : ℕ} {seen mine seen' mine' : List (Step V)} (u : Turned holds n seen mine seen' mine' Ask (Busy k)) where
+  -- a caller that asked, waited, and was told that there is no value of the load
+  pub turned_failed : (final : List (Step V)) → WasLostSince seen' final → HasFailed n seen final
+  turned_failed final w =
+      let waited : Step V = entry n Ask (Busy k) u.after in record {
+        before = u.before;
+        waited = waited;
+        since = w.since;
+        number = k;
+        ends = w.ends ∙ (ap (λ (es : List (Step V)). es ++ w.since) u.ends ∙ append_assoc u.before (waited ∷ []) w.since);
+        begins = u.begins;
+        own = refl;
+        busy = refl;
+        lost = w.lost;
+      }
+
+-- a fact of a wait that brought nothing, from another
+pub if_failed : {V : Type 0} {P Q : Type 0} (f : Found V) → (P → Q) → IfFailed f P → IfFailed f Q
+if_failed (found.Value v) h p = tt
+if_failed (found.Load load) h p = tt
+if_failed found.Failed h p = h p

@@ -32,6 +32,14 @@ module _ {L V : Type 0} {g : Ghosts (Cell L V) (Unit {0}) (Ask V) (CellReply V) 
     others_own = λ k ne. b.others_own k ne ∙ a.others_own k ne;
   }
 
+  -- what was seen and called stays
+  pub then_same_at : (p q r : Pass (Cell L V) (Unit {0}) (Ask V) (CellReply V) ℕ (CellState V) (CellCall V) (CellReply V) g) (key : ℕ) → CallsAt key p q → ((k : ℕ) → history_of r k ≡ history_of q k) → ((k : ℕ) → own_of r k ≡ own_of q k) → CallsAt key p r
+  then_same_at p q r key a seen own = record {
+    begins = subst (λ (es : List (Step V)). StartsWith es (history_of p key)) (sym (seen key)) a.begins;
+    others_seen = λ k ne. seen k ∙ a.others_seen k ne;
+    others_own = λ k ne. own k ∙ a.others_own k ne;
+  }
+
   -- a caller that has no load has none after calls of a key, if it has none of this key
   pub free_after_calls : (p q : Pass (Cell L V) (Unit {0}) (Ask V) (CellReply V) ℕ (CellState V) (CellCall V) (CellReply V) g) (key : ℕ) → CallsAt key p q → ((k : ℕ) → load_of p k ≡ None) → load_of q key ≡ None → (k : ℕ) → load_of q k ≡ None
   free_after_calls p q key a free here = at_place (λ k. load_of q k ≡ None) key here (λ k ne. ap load_in (a.others_own k ne) ∙ free k)

@@ -1,6 +1,6 @@
-use Rattle.std.proofs.Common.{◌∙◌, ap, refl}
-use Rattle.single_flight.proofs.Told.{turned_busy, turned_holds, turned_load, turned_none, turned_value}
-use Rattle.single_flight.proofs.Uses.{one_call_at}
+use Rattle.std.proofs.Common.{◌∙◌, refl, sym}
+use Rattle.single_flight.proofs.Told.{if_failed, turned_busy, turned_failed, turned_holds, turned_load, turned_none, turned_value}
+use Rattle.single_flight.proofs.Uses.{one_call_at, then_calls_at}
 use Rattle.single_flight.proofs.loader.Loader.get.Goals as goal
 
 pub returns-in-Value-clause-calls : goal.returns-in-Value-clause-calls
@@ -26,3 +26,18 @@ returns-in-Yours-clause-key g c = ((c.requires.key, turned_load c.in-Yours.ensur
 
 pub returns-in-Yours-clause-none : goal.returns-in-Yours-clause-none
 returns-in-Yours-clause-none g c = turned_none c.in-Yours.ensures.turned
+
+pub wait-requires-clause-free : goal.wait-requires-clause-free
+wait-requires-clause-free g c κs within = turned_load c.in-Busy.ensures.turned ∙ c.requires.free
+
+pub wait-requires-clause-loading : goal.wait-requires-clause-loading
+wait-requires-clause-loading g c κs within = turned_busy c.in-Busy.ensures.turned
+
+pub returns-in-Busy-clause-calls : goal.returns-in-Busy-clause-calls
+returns-in-Busy-clause-calls g c = then_calls_at _ _ _ _ (one_call_at _ _ _ _ _ c.in-Busy.ensures.called) c.wait.ensures.calls
+
+pub returns-in-Busy-clause-load : goal.returns-in-Busy-clause-load
+returns-in-Busy-clause-load g c = c.wait.ensures.load.0 ∙ sym c.wait.ensures.load.1
+
+pub returns-in-Busy-clause-failed : goal.returns-in-Busy-clause-failed
+returns-in-Busy-clause-failed g c = if_failed c.wait.result (turned_failed c.in-Busy.ensures.turned _) c.wait.ensures.failed
