@@ -22,11 +22,7 @@ pub struct Cell<L: Values> {
 }
 
 /// What the call of the caller `n` is answered in the state `s`, and the state after it.
-fn step<V: Copy>(
-    n: u32,
-    s: CellState<V>,
-    call: CellCall<V>,
-) -> (CellReply<V>, CellState<V>)
+fn step<V: Copy>(n: u32, s: CellState<V>, call: CellCall<V>) -> (CellReply<V>, CellState<V>)
     ensures stepped { result ≡ stepped n s call }
     ensures fits { MayReply call result.0 }
 {

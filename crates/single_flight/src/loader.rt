@@ -93,7 +93,8 @@ where
         ensures fits { MayReply call result }
     {
         let by = pass.number();
-        self.shelf.call(rt, &(), pass, key as usize, Ask { by, call })
+        self.shelf
+            .call(rt, &(), pass, key as usize, Ask { by, call })
     }
 
     /// One turn at the key's cell that callers may wait for, and news of it.

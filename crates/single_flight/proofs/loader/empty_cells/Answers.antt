@@ -18,5 +18,5 @@ loop-key-preserved g c =
     let more = c.in_ok-push.ensures.items in record {
       count = omega (arith, ap length more, length-append {A = Cell g.row.L.Denot g.row.L-Value.Denot}, i.count);
       empty = subst (λ (xs : List (Cell g.row.L.Denot g.row.L-Value.Denot)). (k : ℕ) (x : Cell g.row.L.Denot g.row.L-Value.Denot) → get_elem? xs k ≡ some x → (x.key ≡ k) × (x.state ≡ Empty 0)) (sym more)
-        (each_snoc (λ (k : ℕ) (x : Cell g.row.L.Denot g.row.L-Value.Denot). (x.key ≡ k) × (x.state ≡ Empty 0)) _ _ i.empty (sym i.count, refl));
+          (each_snoc (λ (k : ℕ) (x : Cell g.row.L.Denot g.row.L-Value.Denot). (x.key ≡ k) × (x.state ≡ Empty 0)) _ _ i.empty (sym i.count, refl));
     }
