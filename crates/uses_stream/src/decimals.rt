@@ -8,7 +8,7 @@ use std::test::Fail;
 use std::thread::Threads;
 
 /// Words, the input, and the status with what was written: the table, or the line after the program's name.
-type Row = (&'static str, &'static str, u8, &'static str);
+pub(crate) type Row = (&'static str, &'static str, u8, &'static str);
 
 /// A table of prices in every form that a number with two places may have.
 const PRICES: &str = "g,price,w\na,1.50,0.125\nb,-2,1\na, +0.05 ,-.5\na,.5,\nb,,2.5\n";
@@ -72,38 +72,38 @@ const ROWS: [Row; 18] = [
         "--agg sum:w --decimals price=2",
         PRICES,
         1,
-        ": row 1: column w is not an integer\n",
+        ": row 1: column \"w\" is not an integer: \"0.125\"; see --decimals\n",
     ),
     (
         "--agg sum:price --decimals 0",
         PRICES,
         1,
-        ": row 1: column price is not an integer\n",
+        ": row 1: column \"price\" is not an integer: \"1.50\"; see --decimals\n",
     ),
     // what doesn't fit
     (
         "--agg sum:w --decimals 2",
         PRICES,
         1,
-        ": row 1: column w is not a decimal with at most 2 places\n",
+        ": row 1: column \"w\" is not a decimal with at most 2 places: \"0.125\"\n",
     ),
     (
         "--agg sum:price --decimals 1",
         PRICES,
         1,
-        ": row 1: column price is not a decimal with at most 1 place\n",
+        ": row 1: column \"price\" is not a decimal with at most 1 place: \"1.50\"\n",
     ),
     (
         "--agg count --where w>0 --decimals w=2",
         PRICES,
         1,
-        ": row 1: filter column w is not a decimal with at most 2 places\n",
+        ": row 1: filter column \"w\" is not a decimal with at most 2 places: \"0.125\"\n",
     ),
     (
         "--agg sum:v --decimals 2",
         "v\n92233720368547758.08\n",
         1,
-        ": row 1: column v is not a decimal with at most 2 places\n",
+        ": row 1: column \"v\" is not a decimal with at most 2 places: \"92233720368547758.08\"\n",
     ),
     // words that are no query
     (
@@ -117,11 +117,11 @@ const ROWS: [Row; 18] = [
     ("--agg count --decimals 2,", PRICES, 2, USAGE),
 ];
 
-const USAGE: &str =
-    ": usage: parstream [--group COLUMNS] --agg ITEMS [--where FILTER] [--decimals PLACES] [--workers N]\n";
+pub(crate) const USAGE: &str =
+    ": usage: parstream [--group COLUMNS] --agg ITEMS [--where FILTER].. [--decimals PLACES] [--workers N]\n";
 
 /// Whether the answer to a row is the one that it has, for each of several numbers of workers.
-fn is_answered<R: Threads + Wait + Sync>(
+pub(crate) fn is_answered<R: Threads + Wait + Sync>(
     rt: &R,
     alloc: Global,
     row: Row,
