@@ -26,11 +26,11 @@ STREAMS = [
         2,
     ),
     (
-        "--where g=\x1b[1m --agg count",
+        "--where g<\x1b[1m --agg count",
         b"g\n1\n",
         b"",
-        b'parstream: "g=\\x1b[1m" is not understood: --where takes a column, one of = != < <= > >=, and an integer, or a'
-        b" decimal with --decimals, as in 'qty>=10'; see parstream --help\n",
+        b'parstream: "g<\\x1b[1m" is not understood: --where takes a column, one of = != < <= > >=, and an integer, or a'
+        b" decimal with --decimals, as in 'qty>=10'; after = and != also a text, as in region=north; see parstream --help\n",
         2,
     ),
     (
@@ -45,7 +45,7 @@ STREAMS = [
         "--agg count --agg=sum:v",
         b"v\n1\n",
         b"",
-        b'parstream: "--agg=sum:v" is not understood: an option may be given once; see parstream --help\n',
+        b'parstream: "--agg=sum:v" is not understood: this option may be given once; see parstream --help\n',
         2,
     ),
     (
@@ -67,7 +67,7 @@ STREAMS = [
         "--agg \udcff",
         b"v\n1\n",
         b"",
-        b"parstream: usage: parstream [--group COLUMNS] --agg ITEMS [--where FILTER] [--decimals PLACES] [--workers N]\n",
+        b"parstream: usage: parstream [--group COLUMNS] --agg ITEMS [--where FILTER].. [--decimals PLACES] [--workers N]\n",
         2,
     ),
     (
@@ -115,6 +115,9 @@ STREAMS = [
         2,
     ),
     ("--agg count --where PAR1=1", b"PAR1,PK\n1,2\n3,4\n", b"count\n1\n", b"", 0),
+    ("--agg count --where g=a --where v!= --where=v<2", b"g,v\na,1\na,\nb,x\na,2\n", b"count\n1\n", b"", 0),
+    ('--agg count --where g="1"', b"g\n1\n01\n", b"count\n1\n", b"", 0),
+    ("--agg count --where g=a --where v<2", b"g,v\nb,x\na,x\n", b"", b"parstream: row 2: filter column v is not an integer\n", 1),
     (
         "--agg sum:price,avg:price --where price>=-2.0 --decimals price=2",
         b"price\n1.50\n-2\n+.5\n\n",

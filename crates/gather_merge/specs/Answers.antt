@@ -16,7 +16,7 @@ pub record OrdersRows (plan : Plan) : Type 0 where
   pub items : plan.items ≡ item ∷ []
   pub counts : item.kind ≡ Rows
   pub gather : plan.hash ≡ false
-  pub whole : plan.filter ≡ None
+  pub whole : plan.filters ≡ []
 
 -- an answer that names a row names a refused one, for its cause, which is no aggregate's; a lack of memory says nothing
 abbrev pub IsCause : Plan → Table → MergeAnswer → Type 0

@@ -12,7 +12,8 @@
 
 #![tactic(auto)]
 
-ghost use Rattle.std.specs.Prelude.{◌≡◌, ◌≤◌, IfErr, IfOk, IfSome, List, OnOk, length, option_map};
+ghost use Rattle.std.specs.Prelude.{◌≡◌, ◌≤◌, IfErr, IfOk, IfSome, List, OnOk, length, option_map, true};
+ghost use Rattle.par_model.specs.Plain.{is_plain};
 ghost use Rattle.agg_table.specs.Calls.{Group};
 ghost use Rattle.agg_table.specs.Drained.{HoldsAll};
 ghost use Rattle.agg_table.specs.declared.part.HashPart.{HashPart};
@@ -110,6 +111,7 @@ pub fn gather<G: Gate + Sync, R: Threads + Wait + Sync>(
     gate: &G,
 ) -> Result<Gathered, GatherAnswer>
     requires columns { HasColumns plan.now (header_width rows.now) }
+    requires plain { is_plain plan.now ≡ true }
     requires workers { workers ≤ 64 }
     requires pages { area_pages ≤ MOST_AREA_PAGES }
     ensures groups { IfOk result (λ g. AreAllGroups plan.now rows.now g.groups) }

@@ -12,7 +12,7 @@ ghost use Rattle.gen_query.specs.Used.{IsGatheredOf};
 use crate::generator::generated_text;
 use csv_rows::{RowStore, RowsAnswer, rows_in_threads};
 use gather_run::{GatherAnswer, Gathered, gather};
-use par_model::{BoundPlan, Item, ItemKind};
+use par_model::{BoundPlan, Item, ItemKind, NO_FILTER};
 use std::alloc::{AllocError, Global};
 use std::sync::Wait;
 use std::thread::Threads;
@@ -45,7 +45,8 @@ fn plan() -> BoundPlan
         items: [unused, sum, unused, unused, unused, unused, unused, unused],
         item_count: 2,
         hash: false,
-        filter: None,
+        filters: [NO_FILTER; 8],
+        filter_count: 0,
     }
 }
 

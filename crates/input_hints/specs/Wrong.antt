@@ -1,5 +1,5 @@
 -- The first word of a command line of parstream that is not understood.
-use Rattle.std.specs.Prelude.{[], ◌==◌, ◌||◌, ◌+◌, ◌∷◌, ℕ, Bool, zero, suc, List, Option, None, Some, bytes_eq, codes, if◌then◌else◌, is_some, length, min, slice_index_or, take}
+use Rattle.std.specs.Prelude.{[], ◌==◌, ◌||◌, ◌&&◌, ◌+◌, ◌∷◌, ℕ, Bool, true, false, not, zero, suc, List, Option, None, Some, bytes_eq, codes, if◌then◌else◌, is_some, length, min, slice_index_or, take}
 use Rattle.std.specs.List.{before_first, list_any}
 use Rattle.plan_spec.specs.Query.{stream_query_of}
 use Rattle.input_hints.specs.declared.wrong.Expected.{Expected}
@@ -54,15 +54,23 @@ name_in text =
 abbrev pub name_of : List ℕ → Option Name
 name_of word = name_in (front_of word)
 
+-- whether an option may be given more than once
+abbrev pub may_repeat : Name → Bool
+may_repeat opt.Group = false
+may_repeat opt.Agg = false
+may_repeat opt.Where = true
+may_repeat opt.Workers = false
+may_repeat opt.Decimals = false
+
 -- one of some words names an option
 abbrev pub is_named : Name → List (List ℕ) → Bool
 is_named name words = list_any (λ word. bytes_eq (front_of word) (name_text name)) words
 
--- what is wrong at a word that names an option, after some words that are understood: it is there already, or its value is
--- not understood, which is in this word or is the next
+-- what is wrong at a word that names an option, after some words that are understood: it is there already and may be given
+-- once, or its value is not understood, which is in this word or is the next
 abbrev pub wrong_option : List (List ℕ) → ℕ → Name → Wrong
 wrong_option words count name =
-    if is_named name (take count words) then record { at = count; expected = may.Other }
+    if not (may_repeat name) && is_named name (take count words) then record { at = count; expected = may.Other }
     else (if list_any is_equals (slice_index_or words count []) then record { at = count; expected = may.Value name }
     else record { at = count + 1; expected = may.Value name })
 
@@ -87,13 +95,13 @@ wrong_in words = wrong_after words (understood words)
 abbrev pub values_text : Name → List ℕ
 values_text opt.Group = codes "--group takes one to eight names between commas"
 values_text opt.Agg = codes "--agg takes one to eight of count, count:C, sum:C, min:C, max:C and avg:C between commas"
-values_text opt.Where = codes "--where takes a column, one of = != < <= > >=, and an integer, or a decimal with --decimals, as in 'qty>=10'"
+values_text opt.Where = codes "--where takes a column, one of = != < <= > >=, and an integer, or a decimal with --decimals, as in 'qty>=10'; after = and != also a text, as in region=north"
 values_text opt.Workers = codes "--workers takes a number from 0 to 64"
 values_text opt.Decimals = codes "--decimals takes a number from 0 to 18, or one for each column, as in 'price=2,weight=3'"
 
 -- what may come
 abbrev pub expected_text : Expected → List ℕ
 expected_text may.Name = codes "the options are --group, --agg, --where, --decimals and --workers"
-expected_text may.Other = codes "an option may be given once"
+expected_text may.Other = codes "this option may be given once"
 expected_text (may.Value name) = values_text name
 expected_text may.Items = codes "--agg ITEMS is missing"

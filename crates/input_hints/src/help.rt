@@ -11,7 +11,7 @@ use par_io::{Sink, write_whole};
 
 /// What `--help` and `-h` are answered.
 pub const HELP: &str = "\
-usage: parstream [--group COLUMNS] --agg ITEMS [--where FILTER]
+usage: parstream [--group COLUMNS] --agg ITEMS [--where FILTER]..
                  [--decimals PLACES] [--workers N]
 
 Reads comma-separated records from the standard input, of which the first is the
@@ -22,8 +22,10 @@ header, and writes a table with a row for each group.
   --agg ITEMS      one to eight items between commas: count, the number of rows;
                    count:C, that of the fields of column C that are not empty;
                    sum:C, min:C, max:C and avg:C of the numbers of column C
-  --where FILTER   only rows for which it holds: a column, one of = != < <= >
-                   >=, and a number; quote it for the shell
+  --where FILTER   only rows for which it holds, and all others if it is given
+                   up to eight times: a column, one of = != < <= > >=, and a
+                   number; after = and != also a text, and nothing for a null;
+                   quote it for the shell, as in 'zip=\"01234\"' for a text
   --decimals PLACES
                    how many digits numbers may have after the point, up to 18:
                    2 for all columns, price=2,weight=3 for some; without it
@@ -42,6 +44,7 @@ Examples:
   parstream --agg count < orders.csv
   parstream --group region,year --agg count,sum:qty,avg:qty < orders.csv
   parstream --group region --agg max:qty --where 'qty>=10' < orders.csv
+  parstream --agg count --where region=north --where 'qty!=' < orders.csv
   parstream --agg sum:price --decimals 2 --where 'price>=9.50' < orders.csv
   zcat orders.csv.gz | parstream --group region --agg count --workers 4
 

@@ -1,20 +1,21 @@
 //! The first word of a command line of `parstream` that is not understood, and what may come in its place.
 //!
 //! Which words are a query is known to `plan_spec` only. So the words that are understood are found by asking it: the
-//! first few words are, if they are a query, or are one once `--agg=count` comes before them. A query has at most eleven
-//! words, five options with their values and `--`, so a longer line is asked about no further than that.
+//! first few words are, if they are a query, or are one once `--agg=count` comes before them. A query has at most twenty-five
+//! words, five options of which one is given eight times, with their values, and `--`, so a longer line is asked about no
+//! further than that.
 
 ghost use Rattle.std.specs.Prelude.{◌≡◌, ◌<◌, ◌≤◌, ◌∷◌, [], IfOk, IfSome, bytes_eq, codes, is_none, is_some, length, slice_index_or, string_bytes, take};
 ghost use Rattle.std.specs.List.{list_any, position_or_len};
 ghost use Rattle.answer_text.specs.Words.{texts};
 ghost use Rattle.plan_spec.specs.Query.{stream_query_of};
-ghost use Rattle.input_hints.specs.Wrong.{expected_text, front_of, is_begun, is_equals, is_named, name_of, name_text, understood, values_text, wrong_after, wrong_in, wrong_option};
+ghost use Rattle.input_hints.specs.Wrong.{expected_text, front_of, is_begun, is_equals, is_named, may_repeat, name_of, name_text, understood, values_text, wrong_after, wrong_in, wrong_option};
 
 use plan_spec::{Plan, PlanAnswer};
 use std::alloc::{AllocError, Global};
 
 /// The most words that a query has.
-pub const MOST_WORDS: usize = 11;
+pub const MOST_WORDS: usize = 25;
 
 /// An option of `parstream`.
 #[derive(Clone, Copy, Debug, PartialEq, Eq)]
@@ -31,7 +32,7 @@ pub enum Name {
 pub enum Expected {
     /// An option.
     Name,
-    /// An option that was not given before.
+    /// An option that was not given before, or may be given again.
     Other,
     /// The value of an option.
     Value(Name),
@@ -140,7 +141,7 @@ fn wrong_option(words: &[String], understood: usize, name: Name) -> Wrong
     requires { understood < length words.now }
     ensures { result ≡ wrong_option (texts words.now) understood name }
 {
-    if is_given(words, understood, name) {
+    if !name.may_repeat() && is_given(words, understood, name) {
         Wrong {
             at: understood,
             expected: Expected::Other,
@@ -251,6 +252,16 @@ impl Name {
         }
     }
 
+    /// Whether it may be given more than once.
+    fn may_repeat(self) -> bool
+        ensures { result ≡ may_repeat self }
+    {
+        match self {
+            Name::Where => true,
+            Name::Group | Name::Agg | Name::Workers | Name::Decimals => false,
+        }
+    }
+
     /// What its value may be.
     fn values(self) -> &'static str
         ensures { result.now ≡ values_text self }
@@ -261,7 +272,7 @@ impl Name {
                 "--agg takes one to eight of count, count:C, sum:C, min:C, max:C and avg:C between commas"
             }
             Name::Where => {
-                "--where takes a column, one of = != < <= > >=, and an integer, or a decimal with --decimals, as in 'qty>=10'"
+                "--where takes a column, one of = != < <= > >=, and an integer, or a decimal with --decimals, as in 'qty>=10'; after = and != also a text, as in region=north"
             }
             Name::Workers => "--workers takes a number from 0 to 64",
             Name::Decimals => {
@@ -278,7 +289,7 @@ impl Expected {
     {
         match self {
             Expected::Name => "the options are --group, --agg, --where, --decimals and --workers",
-            Expected::Other => "an option may be given once",
+            Expected::Other => "this option may be given once",
             Expected::Value(name) => name.values(),
             Expected::Items => "--agg ITEMS is missing",
         }

@@ -44,12 +44,12 @@ if-some true x y e = e
 if-some false x y e = cc e
 
 -- the parts of a query that has a number of workers
-has_parts : (items : List NamedItem) (groups : Option (List (List ℕ))) (workers : Option ℕ) (query : Query) → query_by groups (Some items) (Some None) (Some false) workers (Some 0) ≡ Some query
-    → (names : List (List ℕ)) × (groups ≡ Some names) × (query.plan ≡ record { groups = names; items = items; hash = false; filter = None })
+has_parts : (items : List NamedItem) (groups : Option (List (List ℕ))) (workers : Option ℕ) (query : Query) → query_by groups (Some items) (Some []) (Some false) workers (Some 0) ≡ Some query
+    → (names : List (List ℕ)) × (groups ≡ Some names) × (query.plan ≡ record { groups = names; items = items; hash = false; filters = [] })
 has_parts items None workers query e = cc e
 has_parts items (Some names) None query e = cc e
 has_parts items (Some names) (Some n) query e =
-    let same : query ≡ record { plan = record { groups = names; items = items; hash = false; filter = None }; workers = n; area_pages = 0 } = cc e in
+    let same : query ≡ record { plan = record { groups = names; items = items; hash = false; filters = [] }; workers = n; area_pages = 0 } = cc e in
     (names, refl, ap (λ (q : Query). q.plan) same)
 
 some_names : (text : List ℕ) (names : List (List ℕ)) → names_in text ≡ Some names → 0 < length names
@@ -59,7 +59,7 @@ some_names text names e =
     let long = length-slice_split (λ byte. byte == 44) text in
     omega (arith, long, ap length same)
 
-orders_by : (header names : List (List ℕ)) → 0 < length names → OrdersRows (bound_plan header (record { groups = names; items = row_count ∷ []; hash = false; filter = None }))
+orders_by : (header names : List (List ℕ)) → 0 < length names → OrdersRows (bound_plan header (record { groups = names; items = row_count ∷ []; hash = false; filters = [] }))
 orders_by header names some = record {
   columns = omega (arith, some, length-map names (bound_column header));
   item = bound_item header row_count;
@@ -77,7 +77,7 @@ orders_rows words query header bound e is =
     let n = slice_index_or words 2 [] in
     let parts = has_parts (row_count ∷ []) (names_in columns) (number_in 64 n) query (if-some (is_merge words && (length words == 3)) (merge_query columns n) query e) in
     let some = some_names columns parts.0 parts.1 in
-    let same : bound ≡ bound_plan header (record { groups = parts.0; items = row_count ∷ []; hash = false; filter = None }) = is ∙ ap (bound_plan header) parts.2 in
+    let same : bound ≡ bound_plan header (record { groups = parts.0; items = row_count ∷ []; hash = false; filters = [] }) = is ∙ ap (bound_plan header) parts.2 in
     subst OrdersRows (sym same) (orders_by header parts.0 some)
 
 -- ---- the rows of an order are there

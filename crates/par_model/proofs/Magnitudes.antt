@@ -1,15 +1,15 @@
 -- When digits write no magnitude, and what a sign makes of one.
-use Rattle.std.proofs.Common.{◌≡◌, ◌<◌, ◌≤◌, ◌+◌, ◌-◌, ◌*◌, ◌^◌, ℕ, pos, neg_ℤ, zero, suc, Bool, true, false, List, Some, None, length, take, get_or, nat_le, nat_lt, refl, arith, inl, inr}
+use Rattle.std.proofs.Common.{◌≡◌, ◌<◌, ◌+◌, ◌-◌, ◌*◌, ◌^◌, ℕ, pos, neg_ℤ, zero, suc, Bool, true, false, List, Some, None, length, take, get_or, nat_le, nat_lt, refl, arith, inl, inr}
 use Rattle.std.proofs.lemmas.Bool.{cases_Bool}
 use Rattle.std.proofs.lemmas.Bool.Decides.{nat_tests}
 use Rattle.std.proofs.lemmas.List.Folds.{list_all_at, list_all_more}
 use Rattle.std.specs.Char.{digit_value, is_ascii_digit}
 use Rattle.std.specs.List.{list_all}
-use Rattle.std.specs.Prelude.{◌&&◌, if◌then◌else◌, replicate}
+use Rattle.std.specs.Prelude.{◌&&◌, if◌then◌else◌}
 use Rattle.std.specs.Str.Parse.{digits_value, digits_value_after, starts_with_minus, without_leading_sign}
 use Rattle.par_model.specs.Magnitude.{magnitude_of, with_sign}
 use Rattle.par_model.specs.Number.{fits_64_bits, is_numeral, number_of, scaled}
-use Rattle.par_model.proofs.Runs.{after-ge, after-more, after-take}
+use Rattle.par_model.proofs.Runs.{after-more, after-take}
 
 none-first : (a b : Bool) (n : ℕ) → a ≡ false → (if a && b then Some n else None) ≡ None
 none-first a b n e = rw e refl

@@ -11,8 +11,8 @@ use Rattle.std.specs.Char.{is_ascii_digit}
 use Rattle.std.specs.List.{after_first, before_first, list_all, list_any, position_or_len, prefix_len, suffix_len}
 use Rattle.std.specs.Str.Parse.{digits_value, digits_value_after, starts_with_minus, without_leading_sign}
 use Rattle.std.specs.Prelude.{◌==◌, ◌&&◌, ◌++◌, None, if◌then◌else◌, nat_le, nat_lt, replicate, slice_index}
-use Rattle.par_model.specs.Number.{decimal_of, integer_of, is_numeral, is_point, is_space, scaled, without_spaces}
-use Rattle.par_model.specs.Magnitude.{is_magnitude, is_short_magnitude, magnitude_of, short_magnitude_of, short_scaled_of, with_sign}
+use Rattle.par_model.specs.Number.{decimal_of, integer_of, is_point, is_space, scaled, without_spaces}
+use Rattle.par_model.specs.Magnitude.{is_short_magnitude, magnitude_of, short_magnitude_of, short_scaled_of, with_sign}
 use Rattle.par_model.proofs.Magnitudes.{number-signed}
 use Rattle.par_model.proofs.Points.{any-point, digit-no-point, plain, scaled-plain, seen}
 use Rattle.par_model.proofs.Runs.{after-append}

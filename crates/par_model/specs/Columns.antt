@@ -1,6 +1,5 @@
 -- Which columns a plan reads, and that a header has them.
 use Rattle.std.specs.Prelude.{◌<◌, ℕ, Bool, true, false, All, IsTrue}
-use Rattle.std.specs.Option.{ForSome}
 use Rattle.par_model.specs.Plan.{Plan}
 use Rattle.par_model.specs.declared.plan.ItemKind.{ItemKind}
 use Rattle.par_model.specs.declared.plan.ItemKind.TheVariants as kind
@@ -18,4 +17,4 @@ reads_column kind.Avg = true
 pub record HasColumns (plan : Plan) (width : ℕ) : Type 0 where
   pub groups : All (λ column. column < width) plan.groups
   pub items : All (λ item. IsTrue (reads_column item.kind) → item.column < width) plan.items
-  pub filter : ForSome plan.filter (λ filter. filter.column < width)
+  pub filters : All (λ filter. filter.column < width) plan.filters

@@ -7,6 +7,7 @@ pub mod Magnitude
 pub mod Named
 pub mod Number
 pub mod Outcome
+pub mod Plain
 pub mod Plan
 pub mod PlanLayout
 pub mod Record

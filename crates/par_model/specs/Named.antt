@@ -1,10 +1,10 @@
 -- A plan as words name it, before its names are looked up in a header.
-use Rattle.std.specs.Prelude.{◌++◌, ℕ, ℤ, Bool, List, Option, find, filter_map, is_none, map, bytes_eq, option_map, unwrap_or, option_to_list}
+use Rattle.std.specs.Prelude.{◌++◌, ℕ, Bool, List, Option, find, filter_map, is_none, map, bytes_eq, unwrap_or}
 use Rattle.std.specs.List.{position_from}
 use Rattle.std.specs.Option.{option_map_or}
 use Rattle.par_model.specs.Plan.{Plan}
 use Rattle.par_model.specs.declared.plan.Filter.{Filter}
-use Rattle.par_model.specs.declared.plan.FilterOp.{FilterOp}
+use Rattle.par_model.specs.declared.plan.FilterTest.{FilterTest}
 use Rattle.par_model.specs.declared.plan.Item.{Item}
 use Rattle.par_model.specs.declared.plan.ItemKind.{ItemKind}
 
@@ -14,23 +14,22 @@ pub record NamedItem : Type 0 where
   pub column : Option (List ℕ)
   pub places : ℕ
 
--- a filter by the name of its column, whose numbers and whose value have so many places
+-- a filter by the name of its column, the test, and the places of the column's numbers
 pub record NamedFilter : Type 0 where
   pub column : List ℕ
-  pub op : FilterOp
-  pub value : ℤ
+  pub test : FilterTest
   pub places : ℕ
 
--- the names to group by, the aggregates, whether the shared hash table is to be used, and the filter
+-- the names to group by, the aggregates, whether the shared hash table is to be used, and the filters
 pub record NamedPlan : Type 0 where
   pub groups : List (List ℕ)
   pub items : List NamedItem
   pub hash : Bool
-  pub filter : Option NamedFilter
+  pub filters : List NamedFilter
 
--- every name of a plan, in order: those to group by, those of the aggregates, that of the filter
+-- every name of a plan, in order: those to group by, those of the aggregates, those of the filters
 abbrev pub names_of : NamedPlan → List (List ℕ)
-names_of plan = plan.groups ++ (filter_map (λ item. item.column) plan.items ++ option_to_list (option_map (λ filter. filter.column) plan.filter))
+names_of plan = plan.groups ++ (filter_map (λ item. item.column) plan.items ++ map (λ filter. filter.column) plan.filters)
 
 -- the column of a name: the first field of the header with the name's bytes
 abbrev pub column_of : List (List ℕ) → List ℕ → Option ℕ
@@ -50,8 +49,8 @@ bound_item header item = record { kind = item.kind; column = option_map_or (boun
 
 -- a filter over the column of its name
 abbrev pub bound_filter : List (List ℕ) → NamedFilter → Filter
-bound_filter header filter = record { column = bound_column header filter.column; op = filter.op; value = filter.value; places = filter.places }
+bound_filter header filter = record { column = bound_column header filter.column; test = filter.test; places = filter.places }
 
 -- the plan over the columns of a header that has all its names
 abbrev pub bound_plan : List (List ℕ) → NamedPlan → Plan
-bound_plan header plan = record { groups = map (bound_column header) plan.groups; items = map (bound_item header) plan.items; hash = plan.hash; filter = option_map (bound_filter header) plan.filter }
+bound_plan header plan = record { groups = map (bound_column header) plan.groups; items = map (bound_item header) plan.items; hash = plan.hash; filters = map (bound_filter header) plan.filters }

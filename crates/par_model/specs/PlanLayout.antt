@@ -1,6 +1,5 @@
 -- How a plan's lists lie in its arrays of eight places.
 use Rattle.std.specs.Prelude.{◌≡◌, ◌≤◌, replicate, take, drop, ◌-◌, All}
-use Rattle.std.specs.Option.{ForSome}
 use Rattle.par_model.specs.Plan.{Plan}
 use Rattle.par_model.specs.declared.plan.BoundPlan.TheInside.{Inside}
 use Rattle.par_model.specs.declared.plan.Item.{Item}
@@ -13,7 +12,7 @@ unused = record { kind = kind.Rows; column = 0; places = 0 }
 
 -- the lists that lie at the front of the arrays
 abbrev pub plan_of : Inside → Plan
-plan_of a = record { groups = take a.group_count a.groups; items = take a.item_count a.items; hash = a.hash; filter = a.filter }
+plan_of a = record { groups = take a.group_count a.groups; items = take a.item_count a.items; hash = a.hash; filters = take a.filter_count a.filters }
 
 -- the counts are at most eight, there is an aggregate, the places past the counts are unused, an item that reads no
 -- column has column 0 and no places, and no number has more places than it may
@@ -25,4 +24,5 @@ pub record IsPadded (a : Inside) : Type 0 where
   pub items_end : drop a.item_count a.items ≡ replicate (8 - a.item_count) unused
   pub no_column : All (λ item. item.kind ≡ kind.Rows → (item.column ≡ 0) × (item.places ≡ 0)) a.items
   pub item_places : All (λ item. item.places ≤ MOST_PLACES) a.items
-  pub filter_places : ForSome a.filter (λ filter. filter.places ≤ MOST_PLACES)
+  pub filters_fit : a.filter_count ≤ 8
+  pub filter_places : All (λ filter. filter.places ≤ MOST_PLACES) a.filters

@@ -12,9 +12,11 @@ pub mod plan;
 pub mod refusal;
 pub mod row;
 pub mod state;
+pub mod text;
 
 pub use number::{read_integer, read_number};
-pub use plan::{BoundPlan, Filter, FilterOp, Item, ItemKind, MOST_PLACES};
+pub use plan::{BoundPlan, Filter, FilterOp, FilterTest, Item, ItemKind, MOST_PLACES, NO_FILTER};
 pub use refusal::{FILTER_CAUSE, ITEM_CAUSE, KEY_CAUSE, LONGEST_KEY, Refusal, WIDTH_CAUSE};
 pub use row::{Field, Row};
 pub use state::{AggState, NO_VALUES, SlotState};
+pub use text::{LONGEST_TEXT, Text};

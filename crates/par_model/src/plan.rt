@@ -6,6 +6,7 @@
 ghost use Rattle.std.specs.Prelude.{◌≡◌, ◌≤◌, All, length};
 ghost use Rattle.par_model.specs.Keep.{stands};
 
+use crate::text::Text;
 use std::marker::Model;
 
 /// What an aggregate computes: the number of rows, the number of fields that are not empty, or the sum, the least, the
@@ -32,7 +33,7 @@ pub struct Item {
     pub places: u32,
 }
 
-/// The relation that a row's number must have to the filter's value.
+/// The relation that a row's number must have to a filter's value.
 #[derive(Clone, Copy, Debug, PartialEq, Eq)]
 pub enum FilterOp {
     Equal,
@@ -59,14 +60,29 @@ impl FilterOp {
     }
 }
 
-/// Which rows are kept: those whose number in a column has the relation to the value. Both are in units of 10^-places.
-#[derive(Clone, Copy, Debug, PartialEq, Eq)]
+/// What a filter asks of a field: a number that has a relation to a value, a text, or any other text but the empty one.
+/// An empty text is null, so `Is` with one asks for a null, and `IsNot` for anything else.
+#[derive(Clone, Copy, Debug)]
+pub enum FilterTest {
+    Number(FilterOp, i64),
+    Is(Text),
+    IsNot(Text),
+}
+
+/// Which rows are kept: those whose field of a column passes the test. Its numbers are in units of 10^-places.
+#[derive(Clone, Copy, Debug)]
 pub struct Filter {
     pub column: u32,
-    pub op: FilterOp,
-    pub value: i64,
+    pub test: FilterTest,
     pub places: u32,
 }
+
+/// What an unused place of a plan's filters holds.
+pub const NO_FILTER: Filter = Filter {
+    column: 0,
+    test: FilterTest::Number(FilterOp::Equal, 0),
+    places: 0,
+};
 
 /// A plan over column numbers.
 #[derive(Debug, Drop)]
@@ -79,8 +95,9 @@ pub struct BoundPlan {
     pub item_count: u32,
     /// Asks for the plan over the shared hash table, which changes no answer.
     pub hash: bool,
-    /// Which rows are kept; without a filter all are.
-    pub filter: Option<Filter>,
+    /// Which rows are kept: those that all filters keep. Unused places hold [`NO_FILTER`].
+    pub filters: [Filter; 8],
+    pub filter_count: u32,
 }
 
 impl Model for BoundPlan {
@@ -111,5 +128,14 @@ impl BoundPlan {
         ensures places { All (λ item. item.places ≤ MOST_PLACES) result.now }
     {
         &self.items[..self.item_count as usize]
+    }
+
+    /// The filters, without the unused places.
+    pub fn filters(&self) -> &[Filter]
+        ensures filters { result.now ≡ self.now.filters }
+        ensures few { length result.now ≤ 8 }
+        ensures places { All (λ filter. filter.places ≤ MOST_PLACES) result.now }
+    {
+        &self.filters[..self.filter_count as usize]
     }
 }

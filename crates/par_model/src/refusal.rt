@@ -12,11 +12,11 @@ pub const KEY_CAUSE: u8 = 2;
 /// The cause of a row in which a field of a `sum`, `min`, `max` or `avg` is no number.
 pub const ITEM_CAUSE: u8 = 3;
 
-/// The cause of a row whose field of the filter's column is no number.
+/// The cause of a row in which a filter's field is no number.
 pub const FILTER_CAUSE: u8 = 4;
 
 /// Why a row is refused: `cause` is one of [`WIDTH_CAUSE`], [`KEY_CAUSE`], [`ITEM_CAUSE`] and [`FILTER_CAUSE`]. `item`
-/// is the place, counted from 0, of the aggregate that cannot read its field, and 0 for every cause but [`ITEM_CAUSE`].
+/// is the place, counted from 0, of the aggregate or the filter that cannot read its field, and 0 for the other two causes.
 #[derive(Clone, Copy, Debug, PartialEq, Eq)]
 pub struct Refusal {
     pub cause: u8,

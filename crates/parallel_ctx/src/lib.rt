@@ -10,7 +10,8 @@
 
 #![tactic(auto)]
 
-ghost use Rattle.std.specs.Prelude.{◌≡◌, ◌≤◌, ◌^◌, IfOk, OnErr, length, vec_len};
+ghost use Rattle.std.specs.Prelude.{◌≡◌, ◌≤◌, ◌^◌, IfOk, OnErr, length, vec_len, true};
+ghost use Rattle.par_model.specs.Plain.{is_plain};
 ghost use Rattle.scan_claim.specs.Shown.{blocks_of};
 ghost use Rattle.parallel_ctx.specs.Making.{HasTable};
 ghost use Rattle.parallel_ctx.specs.Ran.{Ran};
@@ -89,6 +90,7 @@ impl Context {
         area_pages: u32,
         blocks: u64,
     ) -> Result<Context, AllocError>
+        requires plain { is_plain plan.now ≡ true }
         requires workers { workers ≤ 64 }
         requires pages { area_pages ≤ MOST_AREA_PAGES }
         requires blocks { blocks ≤ 2 ^ 32 }

@@ -10,7 +10,8 @@
 //!
 //! The segment has just the bytes for these (`IsMaking` counts what is left), so no chunk and no key is ever refused.
 
-ghost use Rattle.std.specs.Prelude.{◌≡◌, ◌≤◌, ◌<◌, ◌*◌, ◌+◌, ◌-◌, ◌%◌, ◌^◌, ℕ, All, IfOk, None, OnOk, Some, [], ◌∷◌, length, map, vec_capacity};
+ghost use Rattle.std.specs.Prelude.{◌≡◌, ◌≤◌, ◌<◌, ◌*◌, ◌+◌, ◌-◌, ◌%◌, ◌^◌, ℕ, All, IfOk, None, OnOk, Some, [], ◌∷◌, length, map, vec_capacity, true};
+ghost use Rattle.par_model.specs.Plain.{is_plain};
 ghost use Rattle.std.specs.List.{AllZip};
 ghost use Rattle.plan_descriptor.specs.Planned.{HasPlan};
 ghost use Rattle.parallel_ctx.specs.Making.{AreRings, AreUnheardIn, AreUnused, IsMaking, claim_in, ends_in, firsts, hash_in, with_queue, with_queues};
@@ -206,6 +207,7 @@ pub(crate) fn keep_plan(r: &Region, mut toc: Toc, mut chunk: Chunk, plan: &Bound
     requires here { toc.region ≡ r.now }
     requires chunk_here { chunk.part.region ≡ r.now }
     requires room { chunk.bytes ≡ 256 }
+    requires plain { is_plain plan.now ≡ true }
     requires entry { place_of (table_of toc.words).entries 1 ≡ Some chunk.at }
     ensures here { result.region ≡ r.now }
     ensures magic { (table_of result.words).magic ≡ (table_of toc.words).magic }

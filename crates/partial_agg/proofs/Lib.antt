@@ -17,3 +17,4 @@ pub mod AnyOrder
 pub mod Joining
 pub mod Rest
 pub mod Fitting
+pub mod Judging

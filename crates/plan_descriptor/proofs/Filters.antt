@@ -1,17 +1,23 @@
 -- The words of a filter, and the lengths of a descriptor.
-use Rattle.std.proofs.Common.{◌≡◌, ◌==◌, ◌≤◌, ◌<◌, ◌+◌, ◌^◌, ◌∙◌, ℕ, ℤ, true, FitsSigned, List, Option, Some, None, ap, if◌then◌else◌, length, arith, nat_le, not, of_z, refl, subst, sym, to_z, w64}
+use Rattle.std.proofs.Common.{◌≡◌, ◌==◌, ◌≤◌, ◌<◌, ◌+◌, ◌^◌, ◌∙◌, ℕ, ℤ, true, zero, suc, FitsSigned, List, [], ◌∷◌, map, Option, Some, None, ap, if◌then◌else◌, length, arith, nat_le, not, of_z, refl, subst, sym, to_z, w64}
 use Rattle.std.proofs.lemmas.Bool.Decides.{nat_tests}
 use Rattle.std.proofs.lemmas.Int.{of_z-to_z, to_z-of_z}
-use Rattle.std.specs.Option.{ForSome}
-use Rattle.std.specs.Prelude.{slice_index}
-use Rattle.par_model.specs.declared.plan.Filter.{Filter}
+use Rattle.std.specs.Option.{ForSome, option_map_or}
+use Rattle.std.specs.Prelude.{All, option_and_then, slice_get, slice_index}
+use Rattle.par_model.specs.Plain.{are_plain, is_plain}
+use Rattle.par_model.specs.Plan.{Plan}
+use Rattle.par_model.specs.Refuse.{is_of_numbers}
+use Rattle.par_model.specs.declared.plan.Filter.{Filter as AnyFilter}
+use Rattle.par_model.specs.declared.plan.FilterTest.{FilterTest}
+use Rattle.par_model.specs.declared.plan.FilterTest.TheVariants as test
+use Rattle.plan_descriptor.specs.declared.words.NumberFilter.{NumberFilter as Filter}
 use Rattle.par_model.specs.declared.plan.FilterOp.{FilterOp}
 use Rattle.par_model.specs.declared.plan.FilterOp.TheVariants as op
 use Rattle.par_model.specs.declared.plan.TheConstants.{MOST_PLACES}
 use Rattle.plan_descriptor.proofs.Allowed.{AllowedFilter}
 use Rattle.plan_descriptor.proofs.Columns.{placed_column, placed_nothing, same_parts}
 use Rattle.plan_descriptor.proofs.Sections.{by_four}
-use Rattle.plan_descriptor.specs.Descriptor.{column_word, filter_word, is_filter, relation_word, size_of}
+use Rattle.plan_descriptor.specs.Descriptor.{column_word, filter_of, filter_word, is_filter, number_filter, plain_filters, relation_word, size_of}
 
 -- a descriptor that is longer than one of version 1
 pub whole : (words : List ℕ) → length words ≡ size_of (slice_index words 0) → 28 < length words → length words ≡ 32
@@ -89,3 +95,49 @@ filter_allowed words (Some f) fits few new relation =
     let stands : not (slice_index words 28 == 0) ≡ true = rw relation (not_zero (relation_word f.op) some.0) in
     by_four (λ k. is_filter words k (filter_word (Some f) k) ≡ true) (le_true (relation_word f.op) 6 some.1)
     (rw stands (placed_column words f.column f.places (fits f refl).0 (few f refl) (λ one. absurd (new one)))) (rw stands refl) refl
+
+-- ---- the filters of a plain plan
+
+-- the filter that a list has, if it has one of numbers at its front
+abbrev front_of : List AnyFilter → Option Filter
+front_of filters = option_and_then (λ filter. number_filter filter.column filter.places filter.test) (slice_get filters 0)
+
+plain_one : (column places : ℕ) (test : FilterTest) → is_of_numbers test ≡ true → (record { column = column; test = test; places = places } ∷ []) ≡ plain_filters (number_filter column places test)
+plain_one column places (test.Number op value) e = refl
+plain_one column places (test.Is text) e = cc e
+plain_one column places (test.IsNot text) e = cc e
+
+plain_list : (filters : List AnyFilter) → are_plain (map (λ filter. filter.test) filters) ≡ true → filters ≡ plain_filters (front_of filters)
+plain_list [] e = refl
+plain_list (f ∷ []) e = plain_one f.column f.places f.test e
+plain_list (f ∷ (g ∷ more)) e = cc e
+
+pub plain_is : (plan : Plan) → is_plain plan ≡ true → plan.filters ≡ plain_filters (filter_of plan)
+plain_is plan e = plain_list plan.filters e
+
+front_back : (filter : Option Filter) → front_of (plain_filters filter) ≡ filter
+front_back None = refl
+front_back (Some f) = refl
+
+plain_back : (filter : Option Filter) → are_plain (map (λ filter. filter.test) (plain_filters filter)) ≡ true
+plain_back None = refl
+plain_back (Some f) = refl
+
+-- a plan whose filters are those of one filter of numbers, or of none
+pub filter_back : (plan : Plan) (filter : Option Filter) → plan.filters ≡ plain_filters filter → filter_of plan ≡ filter
+filter_back plan filter e = ap front_of e ∙ front_back filter
+
+pub is_plain_back : (plan : Plan) (filter : Option Filter) → plan.filters ≡ plain_filters filter → is_plain plan ≡ true
+is_plain_back plan filter e = ap (λ (fs : List AnyFilter). are_plain (map (λ filter. filter.test) fs)) e ∙ plain_back filter
+
+few_places : (column places : ℕ) (test : FilterTest) → places ≤ MOST_PLACES → ForSome (number_filter column places test) (λ filter. filter.places ≤ MOST_PLACES)
+few_places column places (test.Number op value) few f is = subst (λ (n : ℕ). n ≤ MOST_PLACES) (ap (λ (o : Option Filter). option_map_or (λ g. g.places) o 0) is) few
+few_places column places (test.Is text) few f is = cc is
+few_places column places (test.IsNot text) few f is = cc is
+
+front_places : (filters : List AnyFilter) → All (λ filter. filter.places ≤ MOST_PLACES) filters → ForSome (front_of filters) (λ filter. filter.places ≤ MOST_PLACES)
+front_places [] few f is = cc is
+front_places (g ∷ more) few = few_places g.column g.places g.test (few 0 g (omega arith))
+
+pub places_of_filter : (plan : Plan) → All (λ filter. filter.places ≤ MOST_PLACES) plan.filters → ForSome (filter_of plan) (λ filter. filter.places ≤ MOST_PLACES)
+places_of_filter plan few = front_places plan.filters few

@@ -13,10 +13,10 @@ use Rattle.par_model.specs.declared.plan.ItemKind.TheVariants as kind
 use Rattle.par_model.specs.declared.plan.TheConstants.{MOST_PLACES}
 use Rattle.plan_descriptor.proofs.Allowed.{none_bad}
 use Rattle.plan_descriptor.proofs.Columns.{placed_column, placed_nothing}
-use Rattle.plan_descriptor.proofs.Filters.{filter_allowed, same_filter}
+use Rattle.plan_descriptor.proofs.Filters.{filter_allowed, plain_is, same_filter}
 use Rattle.plan_descriptor.proofs.ReadPlans.{same_item}
 use Rattle.plan_descriptor.proofs.Sections.{allowed_filter, allowed_group, allowed_head, allowed_item, by_four, by_section, by_two, word_of_filter, word_of_group, word_of_head, word_of_item}
-use Rattle.plan_descriptor.specs.Descriptor.{IsDescriptor, IsWritable, bad_word, column_word, head_word, is_allowed, is_column, is_head, is_item, is_placed, item_word, kind_word, plan_word, plan_words, size_of}
+use Rattle.plan_descriptor.specs.Descriptor.{IsDescriptor, IsWritable, bad_word, column_word, filter_of, head_word, is_allowed, is_column, is_head, is_item, is_placed, item_word, kind_word, plain_filters, plan_word, plan_words, size_of}
 
 -- the words of a plan, place by place
 pub record IsWords (words : List ℕ) (version : ℕ) (plan : Plan) : Type 0 where
@@ -131,7 +131,7 @@ module _ (words : List ℕ) (version : ℕ) (plan : Plan) (is : IsWords words ve
       (λ i k h low within. rw (allowed_item words i k h low, item_is i k h low) (item_allowed old i h k low))
       (λ k h within.
       let relation = is.each 28 (omega arith) ∙ word_of_filter version plan 0 in
-      rw (allowed_filter words k, is.each (28 + k) within, word_of_filter version plan k) (filter_allowed words plan.filter can.filter can.room.filter_places (λ one. newer version k within (sym version_is ∙ one)) relation k h))
+      rw (allowed_filter words k, is.each (28 + k) within, word_of_filter version plan k) (filter_allowed words (filter_of plan) can.filter can.room.filter_places (λ one. newer version k within (sym version_is ∙ one)) relation k h))
 
   pub none_bad_written : (version ≡ 1 → All (λ item. item.places ≡ 0) plan.items) → is_head 0 version ≡ true → size_of version ≤ 32 → bad_word words ≡ None
   none_bad_written old head few = none_bad words (λ k h. written_allowed old head k (omega (arith, is.size)) (omega (arith, is.size)))
@@ -157,8 +157,8 @@ module _ (words : List ℕ) (version : ℕ) (a b : Plan) (is : IsWords words ver
   same_hash : a.hash ≡ b.hash
   same_hash = same_bit a.hash b.hash (sym (is.each 3 (omega arith)) ∙ is'.each 3 (omega arith))
 
-  pub same_plan : a.filter ≡ b.filter → a ≡ b
-  same_plan filters = λ i. record { groups = same_groups i; items = same_items i; hash = same_hash i; filter = filters i }
+  pub same_plan : a.filters ≡ b.filters → a ≡ b
+  same_plan filters = λ i. record { groups = same_groups i; items = same_items i; hash = same_hash i; filters = filters i }
 
 -- a descriptor's words are allowed
 pub descriptor_allowed : (words : List ℕ) (plan : Plan) → IsWritable plan → IsDescriptor words plan → bad_word words ≡ None
@@ -171,7 +171,9 @@ one_plan words a b can can' (inl is) (inl is') =
     let v = words_of words 2 a is in
     let w = words_of words 2 b is' in
     same_plan words 2 a b v w can can' (omega arith)
-    (same_filter a.filter b.filter can.filter can'.filter (λ k h. sym (v.each (28 + k) (omega arith) ∙ word_of_filter 2 a k) ∙ (w.each (28 + k) (omega arith) ∙ word_of_filter 2 b k)))
+    (plain_is a can.plain
+    ∙ ap plain_filters (same_filter (filter_of a) (filter_of b) can.filter can'.filter (λ k h. sym (v.each (28 + k) (omega arith) ∙ word_of_filter 2 a k) ∙ (w.each (28 + k) (omega arith) ∙ word_of_filter 2 b k)))
+    ∙ sym (plain_is b can'.plain))
 one_plan words a b can can' (inr is) (inr is') = same_plan words 1 a b (words_of words 1 a is.0) (words_of words 1 b is'.0) can can' (omega arith) (is.1 ∙ sym is'.1)
 one_plan words a b can can' (inl is) (inr is') =
     let v = (words_of words 2 a is).size in

@@ -1,5 +1,5 @@
 -- The plan that is read from words, each of which is allowed.
-use Rattle.std.proofs.Common.{◌≡◌, ◌<◌, ◌≤◌, ◌+◌, ◌-◌, ◌*◌, ◌^◌, ◌∙◌, ℕ, zero, suc, Bool, FitsSigned, if◌then◌else◌, List, Option, ap, arith, drop, get_or, length, nat_eq, refl, replicate, sym, w64}
+use Rattle.std.proofs.Common.{◌≡◌, ◌<◌, ◌≤◌, ◌+◌, ◌-◌, ◌*◌, ◌^◌, ◌∙◌, ℕ, zero, suc, Bool, FitsSigned, if◌then◌else◌, List, Option, ap, arith, drop, get_or, length, nat_eq, refl, replicate, sym, take, w64}
 use Rattle.std.proofs.lemmas.List.{ext_get_or, get_or-drop, get_or-replicate, get_or_default, length-drop, length-replicate, length-take}
 use Rattle.std.proofs.lemmas.List.Elements.{All-take}
 use Rattle.std.proofs.lemmas.List.FromFn.{fill_by_all}
@@ -9,15 +9,17 @@ use Rattle.par_model.specs.Plan.{Plan}
 use Rattle.par_model.specs.PlanLayout.{IsPadded, plan_of, unused}
 use Rattle.par_model.specs.declared.plan.BoundPlan.TheInside.{Inside}
 use Rattle.par_model.specs.declared.plan.Filter.{Filter}
+use Rattle.plan_descriptor.specs.declared.words.NumberFilter.{NumberFilter}
 use Rattle.par_model.specs.declared.plan.Item.{Item}
 use Rattle.par_model.specs.declared.plan.ItemKind.{ItemKind}
 use Rattle.par_model.specs.declared.plan.ItemKind.TheVariants as kind
 use Rattle.par_model.specs.declared.plan.TheConstants.{MOST_PLACES}
 use Rattle.plan_descriptor.proofs.Allowed.{Allowed}
 use Rattle.plan_descriptor.proofs.Columns.{no_places, same_parts, zero_parts}
+use Rattle.plan_descriptor.proofs.Filters.{filter_back, is_plain_back, places_of_filter}
 use Rattle.plan_descriptor.proofs.Padded.{padded}
 use Rattle.plan_descriptor.proofs.Sections.{by_four, by_section, by_two, word_of_filter, word_of_group, word_of_head, word_of_item}
-use Rattle.plan_descriptor.specs.Descriptor.{HasRoom, IsWritable, column_word, filter_word, head_word, item_word, kind_word, plan_word, plan_words, size_of}
+use Rattle.plan_descriptor.specs.Descriptor.{HasRoom, IsWritable, column_word, filter_word, head_word, item_word, kind_word, plain_filters, plan_word, plan_words, size_of}
 
 -- the kind of a word
 abbrev pub kind_of : ℕ → ItemKind
@@ -51,14 +53,15 @@ ends xs n z size small each =
     let room : i < 8 - n = omega (arith, length-drop n xs, h) in
     get_or-drop n xs i z ∙ each (n + i) (omega arith) (omega arith) ∙ sym (get_or-replicate (8 - n) i z z room))
 
-module _ (words groups : List ℕ) (items : List Item) (hash : Bool) (filter : Option Filter) (is : Allowed words)
+module _ (words groups : List ℕ) (items : List Item) (hash : Bool) (filters : List Filter) (count : ℕ) (filter : Option NumberFilter) (is : Allowed words)
     (groups_size : length groups ≡ 8) (columns : (i : ℕ) → i < 8 → slice_index groups i ≡ slice_index words (4 + i))
     (items_size : length items ≡ 8) (kinds : (i : ℕ) → i < 8 → kind_word (slice_index_or items i unused).kind ≡ slice_index words (12 + 2 * i))
     (item_columns : (i : ℕ) → i < 8 → column_word (slice_index_or items i unused).column (slice_index_or items i unused).places ≡ slice_index words (13 + 2 * i))
     (narrow : (i : ℕ) → i < 8 → (slice_index_or items i unused).column < 2 ^ 32) (few : (i : ℕ) → i < 8 → (slice_index_or items i unused).places ≤ MOST_PLACES)
-    (fits : ForSome filter (λ f. (f.column < 2 ^ 32) × (f.places ≤ MOST_PLACES) × FitsSigned w64 f.value)) where
+    (fits : ForSome filter (λ f. (f.column < 2 ^ 32) × (f.places ≤ MOST_PLACES) × FitsSigned w64 f.value))
+    (filters_are : take count filters ≡ plain_filters filter) (filters_few : count ≤ 8) (filters_places : All (λ f. f.places ≤ MOST_PLACES) filters) where
   abbrev pub read : Inside
-  read = record { groups = groups; group_count = slice_index words 1; items = items; item_count = slice_index words 2; hash = hash; filter = filter }
+  read = record { groups = groups; group_count = slice_index words 1; items = items; item_count = slice_index words 2; hash = hash; filters = filters; filter_count = count }
 
   pub padded_plan : IsPadded read
   padded_plan = record {
@@ -76,7 +79,8 @@ module _ (words groups : List ℕ) (items : List Item) (hash : Bool) (filter : O
     item_places = λ i d h.
         let within : i < 8 = omega (arith, items_size) in
         rw (get_or_default items i d unused h) (few i within);
-    filter_places = λ f is. (fits f is).1;
+    filters_fit = filters_few;
+    filter_places = filters_places;
   }
 
   -- the plan of these arrays
@@ -102,11 +106,12 @@ module _ (words groups : List ℕ) (items : List Item) (hash : Bool) (filter : O
     items = omega (arith, items_length, is.items);
     no_column = All-take (λ (item : Item). item.kind ≡ kind.Rows → (item.column ≡ 0) × (item.places ≡ 0)) (slice_index words 2) items padded_plan.no_column;
     item_places = All-take (λ (item : Item). item.places ≤ MOST_PLACES) (slice_index words 2) items padded_plan.item_places;
-    filter_places = padded_plan.filter_places;
+    filter_places = places_of_filter plan (All-take (λ (f : Filter). f.places ≤ MOST_PLACES) count filters filters_places);
   }
 
   pub read_writable : IsWritable plan
   read_writable = record {
+    plain = is_plain_back plan filter filters_are;
     room = read_room;
     group_columns = λ i d h.
         let within : i < 8 = omega (arith, groups_length, is.groups) in
@@ -114,7 +119,7 @@ module _ (words groups : List ℕ) (items : List Item) (hash : Bool) (filter : O
     item_columns = λ i d h.
         let within : i < 8 = omega (arith, items_length, is.items) in
         rw (get_or_default plan.items i d unused h) (rw (item_is i) (narrow i within));
-    filter = λ f is. ((fits f is).0, (fits f is).2);
+    filter = λ f is. let there = sym (filter_back plan filter filters_are) ∙ is in ((fits f there).0, (fits f there).2);
   }
 
   -- version 1 has no places
@@ -137,7 +142,7 @@ module _ (words groups : List ℕ) (items : List Item) (hash : Bool) (filter : O
         (rw (item_is i) (by_two (λ k. slice_index words (12 + 2 * i + k) ≡ item_word (slice_index_or items i unused) k)
         (let same : 12 + 2 * i ≡ 12 + 2 * i + 0 = omega arith in rw same at (sym (kinds i h)))
         (let same : 13 + 2 * i ≡ 12 + 2 * i + 1 = omega arith in rw same at (sym (item_columns i h))) k low)))
-        (λ k h within. sym (word_of_filter version plan k ∙ filter_is k h within))
+        (λ k h within. sym (word_of_filter version plan k ∙ ap (λ o. filter_word o k) (filter_back plan filter filters_are) ∙ filter_is k h within))
 
     -- the words are those of the plan
     pub read_words : length words ≡ size_of version → size_of version ≤ 32 → words ≡ plan_words version plan

@@ -5,7 +5,7 @@ use Rattle.std.proofs.lemmas.Bool.Decides.{nat_tests}
 use Rattle.std.specs.Prelude.{slice_index, slice_index_or}
 use Rattle.par_model.specs.Plan.{Plan}
 use Rattle.par_model.specs.PlanLayout.{unused}
-use Rattle.plan_descriptor.specs.Descriptor.{filter_word, head_word, is_allowed, is_column, is_filter, is_head, is_item, item_word, plan_word}
+use Rattle.plan_descriptor.specs.Descriptor.{filter_of, filter_word, head_word, is_allowed, is_column, is_filter, is_head, is_item, item_word, plan_word}
 
 below : (a b : ℕ) → a < b → nat_lt a b ≡ true
 below a b h = grind (arith, nat_tests)
@@ -59,7 +59,7 @@ module _ (version : ℕ) (plan : Plan) where
       let part : at % 2 ≡ k = omega arith in
       rw (past at 4 (omega arith), past at 12 (omega arith), below at 28 (omega arith), place, part) refl
 
-  pub word_of_filter : (k : ℕ) → plan_word version plan (28 + k) ≡ filter_word plan.filter k
+  pub word_of_filter : (k : ℕ) → plan_word version plan (28 + k) ≡ filter_word (filter_of plan) k
   word_of_filter k =
       let at = 28 + k in
       let same : at - 28 ≡ k = omega arith in

@@ -1,20 +1,24 @@
 -- The plan descriptor: a plan as words of 64 bits, by which all participants of a query find it in shared memory.
 -- Version 2 has 32 words. Version 1 has the first 28 of them, and neither a filter nor places.
-use Rattle.std.specs.Prelude.{◌≡◌, ◌==◌, ◌&&◌, ◌||◌, ◌+◌, ◌-◌, ◌*◌, ◌/◌, ◌%◌, ◌<◌, ◌≤◌, ◌^◌, ◌⊎◌, ℕ, Bool, All, List, Option, Some, None, FitsSigned, if◌then◌else◌, length, map, nat_le, nat_lt, not, slice_index, slice_index_or}
+use Rattle.std.specs.Prelude.{◌≡◌, ◌==◌, ◌&&◌, ◌||◌, ◌+◌, ◌-◌, ◌*◌, ◌/◌, ◌%◌, ◌<◌, ◌≤◌, ◌^◌, ◌⊎◌, ℕ, ℤ, Bool, true, All, List, [], ◌∷◌, Option, Some, None, FitsSigned, if◌then◌else◌, length, map, nat_le, nat_lt, not, option_and_then, slice_get, slice_index, slice_index_or}
 use Rattle.std.specs.Int.{cast_unsigned, w64}
 use Rattle.std.specs.List.{position_from, range_with_len}
 use Rattle.std.specs.Option.{ForSome}
+use Rattle.par_model.specs.Plain.{is_plain}
 use Rattle.par_model.specs.Plan.{Plan}
 use Rattle.par_model.specs.PlanLayout.{unused}
 use Rattle.par_model.specs.declared.plan.Filter.{Filter}
 use Rattle.par_model.specs.declared.plan.FilterOp.{FilterOp}
 use Rattle.par_model.specs.declared.plan.FilterOp.TheVariants as op
+use Rattle.par_model.specs.declared.plan.FilterTest.{FilterTest}
+use Rattle.par_model.specs.declared.plan.FilterTest.TheVariants as test
 use Rattle.par_model.specs.declared.plan.Item.{Item}
 use Rattle.par_model.specs.declared.plan.ItemKind.{ItemKind}
 use Rattle.par_model.specs.declared.plan.ItemKind.TheVariants as kind
 use Rattle.par_model.specs.declared.plan.TheConstants.{MOST_PLACES}
 use Rattle.word_map.specs.WordMap.{WordMap, values_from}
 use Rattle.shm_toc.specs.Table.{word_of}
+use Rattle.plan_descriptor.specs.declared.words.NumberFilter.{NumberFilter}
 
 -- ---- the words of a plan
 
@@ -53,9 +57,24 @@ column_word column places = column + 2 ^ 32 * places
 abbrev pub item_word : Item → ℕ → ℕ
 item_word item k = if k == 0 then kind_word item.kind else column_word item.column item.places
 
+-- a filter of this column and these places, if its test is one of numbers
+abbrev pub number_filter : ℕ → ℕ → FilterTest → Option NumberFilter
+number_filter column places (test.Number op value) = Some (record { column = column; op = op; value = value; places = places })
+number_filter column places (test.Is text) = None
+number_filter column places (test.IsNot text) = None
+
+-- the filter of a plan that a descriptor has: the first, if it is one of numbers
+abbrev pub filter_of : Plan → Option NumberFilter
+filter_of plan = option_and_then (λ filter. number_filter filter.column filter.places filter.test) (slice_get plan.filters 0)
+
+-- the filters of a plan that has this one, or none
+abbrev pub plain_filters : Option NumberFilter → List Filter
+plain_filters None = []
+plain_filters (Some filter) = record { column = filter.column; test = test.Number filter.op filter.value; places = filter.places } ∷ []
+
 -- the last four words: the filter's relation, its column, its value in two's complement, and a zero; without a filter
 -- four zeros
-abbrev pub filter_word : Option Filter → ℕ → ℕ
+abbrev pub filter_word : Option NumberFilter → ℕ → ℕ
 filter_word None k = 0
 filter_word (Some filter) k = if k == 0 then relation_word filter.op else (if k == 1 then column_word filter.column filter.places else (if k == 2 then cast_unsigned w64 filter.value else 0))
 
@@ -63,15 +82,15 @@ filter_word (Some filter) k = if k == 0 then relation_word filter.op else (if k 
 -- to 27, and the filter from word 28 on. What a place has that no column or aggregate uses is zero
 abbrev pub plan_word : ℕ → Plan → ℕ → ℕ
 plan_word version plan k = if nat_lt k 4 then head_word version plan k else (if nat_lt k 12 then slice_index plan.groups (k - 4)
-    else (if nat_lt k 28 then item_word (slice_index_or plan.items ((k - 12) / 2) unused) (k % 2) else filter_word plan.filter (k - 28)))
+    else (if nat_lt k 28 then item_word (slice_index_or plan.items ((k - 12) / 2) unused) (k % 2) else filter_word (filter_of plan) (k - 28)))
 
 -- all words of a plan, in a version
 unfoldable pub plan_words : ℕ → Plan → List ℕ
 plan_words version plan = map (plan_word version plan) (range_with_len 0 (size_of version))
 
--- words are the descriptor of a plan: in version 2, or in version 1 if the plan has no filter and no places
+-- words are the descriptor of a plan: in version 2, or in version 1 if the plan has no filters and no places
 abbrev pub IsDescriptor : List ℕ → Plan → Type 0
-IsDescriptor words plan = (words ≡ plan_words 2 plan) ⊎ ((words ≡ plan_words 1 plan) × (plan.filter ≡ None) × All (λ item. item.places ≡ 0) plan.items)
+IsDescriptor words plan = (words ≡ plan_words 2 plan) ⊎ ((words ≡ plan_words 1 plan) × (plan.filters ≡ []) × All (λ item. item.places ≡ 0) plan.items)
 
 -- the plan's lists have room in its arrays: at most eight columns to group by, one to eight aggregates, and column 0
 -- without places if an aggregate reads none; no number has more places than it may
@@ -81,14 +100,16 @@ pub record HasRoom (plan : Plan) : Type 0 where
   pub items : length plan.items ≤ 8
   pub no_column : All (λ item. item.kind ≡ kind.Rows → (item.column ≡ 0) × (item.places ≡ 0)) plan.items
   pub item_places : All (λ item. item.places ≤ MOST_PLACES) plan.items
-  pub filter_places : ForSome plan.filter (λ filter. filter.places ≤ MOST_PLACES)
+  pub filter_places : ForSome (filter_of plan) (λ filter. filter.places ≤ MOST_PLACES)
 
--- the plan can be written: its lists have room, its columns have 32 bits, and its filter's value has 64 and a sign
+-- the plan can be written: it has at most one filter, which is of numbers; its lists have room, its columns have 32 bits,
+-- and its filter's value has 64 and a sign
 pub record IsWritable (plan : Plan) : Type 0 where
+  pub plain : is_plain plan ≡ true
   pub room : HasRoom plan
   pub group_columns : All (λ column. column < 2 ^ 32) plan.groups
   pub item_columns : All (λ item. item.column < 2 ^ 32) plan.items
-  pub filter : ForSome plan.filter (λ filter. (filter.column < 2 ^ 32) × FitsSigned w64 filter.value)
+  pub filter : ForSome (filter_of plan) (λ filter. (filter.column < 2 ^ 32) × FitsSigned w64 filter.value)
 
 -- ---- which words are allowed
 

@@ -6,7 +6,8 @@
 
 #![tactic(auto)]
 
-ghost use Rattle.std.specs.Prelude.{◌≡◌, ◌+◌, ◌<◌, ◌≤◌, ℕ, IfErr, IfOk, IsSome, None, OnOk, Some, take};
+ghost use Rattle.std.specs.Prelude.{◌≡◌, ◌+◌, ◌<◌, ◌≤◌, ℕ, IfErr, IfOk, IsSome, None, OnOk, Some, take, true};
+ghost use Rattle.par_model.specs.Plain.{is_plain};
 ghost use Rattle.par_model.specs.Plan.{Plan};
 ghost use Rattle.plan_descriptor.specs.Descriptor.{IsDescriptor, IsWritable, bad_word, descriptor_in, plan_words, size_of};
 ghost use Rattle.plan_descriptor.specs.Planned.{HasPlan};
@@ -32,10 +33,12 @@ pub struct BadDescriptor {
     pub at: u64,
 }
 
-/// Writes the plan into a chunk of 256 bytes, as a descriptor of version 2: 32 stores.
+/// Writes the plan into a chunk of 256 bytes, as a descriptor of version 2: 32 stores. The plan has at most one filter,
+/// and that is of numbers.
 pub fn write_plan(plan: &BoundPlan, r: &Region, chunk: &mut Chunk)
     requires here { chunk.old.part.region ≡ r.now }
     requires room { chunk.old.bytes ≡ 256 }
+    requires plain { is_plain plan.now ≡ true }
     ensures words { descriptor_in chunk.new.part.words chunk.new.at ≡ plan_words 2 plan.now }
     ensures plan { IsWritable plan.now }
     ensures place { (chunk.new.at ≡ chunk.old.at) × (chunk.new.bytes ≡ chunk.old.bytes) }

@@ -1,15 +1,18 @@
 //! The plan of a descriptor's words, if each of them is allowed.
 
-ghost use Rattle.std.specs.Prelude.{◌≡◌, ◌+◌, ◌*◌, ◌<◌, ◌≤◌, ◌^◌, ℕ, FitsSigned, IfErr, IfOk, None, OnOk, Some, length, slice_index, slice_index_or};
+ghost use Rattle.std.specs.Prelude.{◌≡◌, ◌+◌, ◌*◌, ◌<◌, ◌≤◌, ◌^◌, ℕ, All, FitsSigned, IfErr, IfOk, None, OnOk, Some, length, slice_index, slice_index_or, take};
 ghost use Rattle.std.specs.Int.{w64};
 ghost use Rattle.std.specs.Option.{ForSome, option_map_or};
 ghost use Rattle.par_model.specs.Plan.{Plan};
 ghost use Rattle.par_model.specs.PlanLayout.{unused};
 ghost use Rattle.par_model.specs.declared.plan.TheConstants.{MOST_PLACES};
-ghost use Rattle.plan_descriptor.specs.Descriptor.{IsDescriptor, IsWritable, bad_word, column_word, filter_word, is_allowed, is_column, is_filter, is_head, is_item, is_placed, kind_word, relation_word, size_of};
+ghost use Rattle.plan_descriptor.specs.Descriptor.{IsDescriptor, IsWritable, bad_word, column_word, filter_word, is_allowed, is_column, is_filter, is_head, is_item, is_placed, kind_word, plain_filters, relation_word, size_of};
 
 use crate::BadDescriptor;
-use par_model::{BoundPlan, Filter, FilterOp, Item, ItemKind, MOST_PLACES};
+use crate::words::NumberFilter;
+use par_model::{
+    BoundPlan, Filter, FilterOp, FilterTest, Item, ItemKind, MOST_PLACES, NO_FILTER,
+};
 
 /// The plan of the words of a descriptor, or the least word that is not allowed.
 pub(crate) fn decode(words: &[u64]) -> Result<BoundPlan, BadDescriptor>
@@ -124,13 +127,36 @@ fn allowed_plan(words: &[u64]) -> BoundPlan
     ensures descriptor { IsDescriptor words.now result }
     ensures plan { IsWritable result }
 {
+    let (filters, filter_count) = filters_of(filter(words));
     BoundPlan {
         groups: groups(words),
         group_count: words[1] as u32,
         items: items(words),
         item_count: words[2] as u32,
         hash: words[3] == 1,
-        filter: filter(words),
+        filters,
+        filter_count,
+    }
+}
+
+/// The filters of a plan that has this one, or none, and how many they are.
+fn filters_of(filter: Option<NumberFilter>) -> ([Filter; 8], u32)
+    requires { ForSome filter (λ filter. filter.places ≤ MOST_PLACES) }
+    ensures filters { take result.1 result.0 ≡ plain_filters filter }
+    ensures few { result.1 ≤ 8 }
+    ensures places { All (λ filter. filter.places ≤ MOST_PLACES) result.0 }
+{
+    let mut filters = [NO_FILTER; 8];
+    match filter {
+        None => (filters, 0),
+        Some(filter) => {
+            filters[0] = Filter {
+                column: filter.column,
+                test: FilterTest::Number(filter.op, filter.value),
+                places: filter.places,
+            };
+            (filters, 1)
+        }
     }
 }
 
@@ -201,7 +227,7 @@ fn kind_of(word: u64) -> ItemKind
 }
 
 /// The filter, if there is one.
-fn filter(words: &[u64]) -> Option<Filter>
+fn filter(words: &[u64]) -> Option<NumberFilter>
     requires size { length words.now ≡ size_of (slice_index words.now 0) }
     requires allowed { bad_word words.now ≡ None }
     ensures old { length words.now ≡ 28 → result ≡ None }
@@ -213,7 +239,7 @@ fn filter(words: &[u64]) -> Option<Filter>
     }
     let op = relation_of(words[28])?;
     let (column, places) = column_of(words[29]);
-    Some(Filter {
+    Some(NumberFilter {
         column,
         op,
         value: words[30].cast_signed(),

@@ -4,9 +4,18 @@ ghost use Rattle.std.specs.Prelude.{◌≡◌, ◌<◌, ◌≤◌, ◌-◌, ◌/
 ghost use Rattle.std.specs.Int.{w64};
 ghost use Rattle.std.specs.Option.{ForSome};
 ghost use Rattle.par_model.specs.PlanLayout.{unused};
-ghost use Rattle.plan_descriptor.specs.Descriptor.{HasRoom, column_word, filter_word, head_word, item_word, kind_word, plan_word, relation_word};
+ghost use Rattle.plan_descriptor.specs.Descriptor.{HasRoom, column_word, filter_of, filter_word, head_word, item_word, kind_word, plan_word, relation_word};
 
-use par_model::{BoundPlan, Filter, FilterOp, Item, ItemKind};
+use par_model::{BoundPlan, FilterOp, FilterTest, Item, ItemKind};
+
+/// A filter of numbers, which a descriptor may have.
+#[derive(Clone, Copy, Debug)]
+pub struct NumberFilter {
+    pub column: u32,
+    pub op: FilterOp,
+    pub value: i64,
+    pub places: u32,
+}
 
 /// The word at a place of a plan's descriptor of version 2.
 pub(crate) fn plan_word(plan: &BoundPlan, place: u64) -> u64
@@ -14,7 +23,7 @@ pub(crate) fn plan_word(plan: &BoundPlan, place: u64) -> u64
     ensures word { result ≡ plan_word 2 plan.now place }
     ensures narrow { place < 12 → result < 2 ^ 32 }
     ensures item { 12 ≤ place → place < 28 → (slice_index_or plan.now.items ((place - 12) / 2) unused).column < 2 ^ 32 }
-    ensures value { 28 ≤ place → ForSome plan.now.filter (λ filter. (filter.column < 2 ^ 32) × FitsSigned w64 filter.value) }
+    ensures value { 28 ≤ place → ForSome (filter_of plan.now) (λ filter. (filter.column < 2 ^ 32) × FitsSigned w64 filter.value) }
 {
     if place < 4 {
         return head_word(plan, place);
@@ -26,7 +35,23 @@ pub(crate) fn plan_word(plan: &BoundPlan, place: u64) -> u64
         let item = plan.items[(place as usize - 12) / 2];
         return item_word(item, place % 2);
     }
-    filter_word(plan.filter, place - 28)
+    filter_word(filter_of(plan), place - 28)
+}
+
+/// The first filter of a plan, if it is one of numbers.
+fn filter_of(plan: &BoundPlan) -> Option<NumberFilter>
+    ensures { result ≡ filter_of plan.now }
+{
+    let filter = plan.filters().first()?;
+    match filter.test {
+        FilterTest::Number(op, value) => Some(NumberFilter {
+            column: filter.column,
+            op,
+            value,
+            places: filter.places,
+        }),
+        FilterTest::Is(_) | FilterTest::IsNot(_) => None,
+    }
 }
 
 /// Tells how long a plan's lists are. It does nothing.
@@ -80,7 +105,7 @@ fn kind_word(kind: ItemKind) -> u64
     }
 }
 
-fn filter_word(filter: Option<Filter>, place: u64) -> u64
+fn filter_word(filter: Option<NumberFilter>, place: u64) -> u64
     ensures word { result ≡ filter_word filter place }
     ensures value { ForSome filter (λ filter. (filter.column < 2 ^ 32) × FitsSigned w64 filter.value) }
 {
@@ -90,7 +115,7 @@ fn filter_word(filter: Option<Filter>, place: u64) -> u64
     }
 }
 
-fn word_of_filter(filter: Filter, place: u64) -> u64
+fn word_of_filter(filter: NumberFilter, place: u64) -> u64
     ensures word { result ≡ filter_word (Some filter) place }
     ensures value { (filter.column < 2 ^ 32) × FitsSigned w64 filter.value }
 {

@@ -9,3 +9,4 @@ pub mod Parsed
 pub mod Places
 pub mod Relations
 pub mod Values
+pub mod Plain

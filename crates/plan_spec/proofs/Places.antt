@@ -114,11 +114,11 @@ second-of-three p xs ys zs at d none found =
     let same : at + length xs ≡ length xs + at = omega arith in
     is-first p _ _ d (rw same at (place-next p at xs (ys ++ zs) none (place-first p 0 at ys zs found)))
 
-pub third-of-three : {A : Type 0} (p : A → Bool) (xs ys zs : List A) (d : A) → position_from p 0 xs ≡ None → position_from p 0 ys ≡ None → position_from p 0 zs ≡ Some 0
-    → IsFirst p (xs ++ (ys ++ zs)) (length xs + length ys) d
-third-of-three p xs ys zs d none none' found =
-    let same : (0 + length ys) + length xs ≡ length xs + length ys = omega arith in
-    is-first p _ _ d (rw same at (place-next p (0 + length ys) xs (ys ++ zs) none (place-next p 0 ys zs none' found)))
+pub third-of-three : {A : Type 0} (p : A → Bool) (xs ys zs : List A) (at : ℕ) (d : A) → position_from p 0 xs ≡ None → position_from p 0 ys ≡ None → position_from p 0 zs ≡ Some at
+    → IsFirst p (xs ++ (ys ++ zs)) (length xs + length ys + at) d
+third-of-three p xs ys zs at d none none' found =
+    let same : (at + length ys) + length xs ≡ length xs + length ys + at = omega arith in
+    is-first p _ _ d (rw same at (place-next p (at + length ys) xs (ys ++ zs) none (place-next p at ys zs none' found)))
 
 pub none-of-three : {A : Type 0} (p : A → Bool) (xs ys zs : List A) → position_from p 0 xs ≡ None → position_from p 0 ys ≡ None → position_from p 0 zs ≡ None
     → find p (xs ++ (ys ++ zs)) ≡ None

@@ -1,5 +1,5 @@
 -- A filter's text around its first relation.
-use Rattle.std.proofs.Common.{◌≡◌, ◌<◌, ◌≤◌, ◌-◌, ℕ, List, true, false, length, take, drop, refl, arith}
+use Rattle.std.proofs.Common.{◌≡◌, ◌<◌, ◌≤◌, ◌-◌, ℕ, Bool, List, true, false, length, take, drop, refl, arith}
 use Rattle.std.specs.Prelude.{◌==◌}
 use Rattle.std.specs.List.{position_or_len, slice_index, slice_range}
 use Rattle.std.proofs.lemmas.Bool.Decides.{nat_tests}
@@ -16,9 +16,9 @@ pub is_boundary : (text : List ℕ) (at : ℕ) → at ≡ position_or_len is_rel
 is_boundary text at is within = (within, λ lt high. absurd (omega (arith, high, small (slice_index text at) (rw (← is) at (passes_at_first is_relation_byte text 0 (rw is at lt))))))
 
 -- what comes before it is a name, and with what comes after it a filter
-pub filter_at : (places : Places) (text bytes name : List ℕ) (at : ℕ) → bytes ≡ text → name ≡ slice_range text 0 at → at ≡ position_or_len is_relation_byte bytes → (at ≡ 0 → ⊥)
-    → filter_in places text ≡ filter_over places name (take (length bytes - at) (drop at bytes))
-filter_at places text bytes name at same front is some =
+pub filter_at : (texts : Bool) (places : Places) (text bytes name : List ℕ) (at : ℕ) → bytes ≡ text → name ≡ slice_range text 0 at → at ≡ position_or_len is_relation_byte bytes → (at ≡ 0 → ⊥)
+    → filter_in texts places text ≡ filter_over texts places name (take (length bytes - at) (drop at bytes))
+filter_at texts places text bytes name at same front is some =
     let here : at ≡ position_or_len is_relation_byte text = rw same at is in
     let no : (at == 0) ≡ false = grind (arith, nat_tests) in
     let all : at - 0 ≡ at = omega arith in

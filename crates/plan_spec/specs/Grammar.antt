@@ -1,5 +1,5 @@
 -- How the value of an option reads.
-use Rattle.std.specs.Prelude.{◌==◌, ◌||◌, ◌&&◌, ◌∷◌, [], ℕ, ℤ, Bool, true, false, not, List, Option, Some, None, bytes_eq, codes, drop, find, if◌then◌else◌, length, map, nat_le, nat_lt, option_and_then, option_map, slice_index}
+use Rattle.std.specs.Prelude.{◌==◌, ◌||◌, ◌&&◌, ◌-◌, ◌∷◌, [], ℕ, ℤ, Bool, true, false, not, List, Option, Some, None, bytes_eq, codes, drop, find, if◌then◌else◌, length, map, nat_le, nat_lt, option_and_then, option_map, slice_index, slice_range}
 use Rattle.std.specs.Char.{is_ascii_digit}
 use Rattle.std.specs.List.{after_first, before_first, list_all, list_any, position_or_len, slice_split}
 use Rattle.std.specs.Option.{option_map_or}
@@ -8,9 +8,12 @@ use Rattle.par_model.specs.Named.{NamedFilter, NamedItem}
 use Rattle.par_model.specs.Number.{decimal_of}
 use Rattle.par_model.specs.declared.plan.FilterOp.{FilterOp}
 use Rattle.par_model.specs.declared.plan.FilterOp.TheVariants as op
+use Rattle.par_model.specs.declared.plan.FilterTest.{FilterTest}
+use Rattle.par_model.specs.declared.plan.FilterTest.TheVariants as test
 use Rattle.par_model.specs.declared.plan.ItemKind.{ItemKind}
 use Rattle.par_model.specs.declared.plan.ItemKind.TheVariants as kind
 use Rattle.par_model.specs.declared.plan.TheConstants.{MOST_PLACES}
+use Rattle.par_model.specs.declared.text.TheConstants.{LONGEST_TEXT}
 
 -- the parts between commas
 abbrev pub parts_of : List ℕ → List (List ℕ)
@@ -76,19 +79,50 @@ relation_in text =
 abbrev pub bare_number_in : ℕ → List ℕ → Option ℤ
 bare_number_in places text = if list_any (λ byte. byte == 32) text then None else decimal_of places text
 
--- the relation to the value after it
-abbrev pub comparison_in : ℕ → List ℕ → Option (FilterOp × ℤ)
-comparison_in places text = option_and_then (λ found. option_map (λ value. (found.0, value)) (bare_number_in places found.1)) (relation_in text)
+-- whether a text is between two double quotes
+abbrev pub is_quoted : List ℕ → Bool
+is_quoted text = nat_le 2 (length text) && ((slice_index text 0 == 34) && (slice_index text (length text - 1) == 34))
 
--- a filter over the column of this name: a relation, a number
-abbrev pub filter_over : Places → List ℕ → List ℕ → Option NamedFilter
-filter_over places name text = option_map (λ found. record { column = name; op = found.0; value = found.1; places = places_of places name }) (comparison_in (places_of places name) text)
+-- the text that comes after a relation: what is between double quotes, and without them all, if it begins with no
+-- relation's byte
+abbrev pub text_in : List ℕ → Option (List ℕ)
+text_in text = if is_quoted text then Some (slice_range text 1 (length text - 1)) else (if is_relation_byte (slice_index text 0) then None else Some text)
+
+-- such a text that is not too long
+abbrev pub short_text_in : List ℕ → Option (List ℕ)
+short_text_in text = option_and_then (λ found. if nat_le (length found) LONGEST_TEXT then Some found else None) (text_in text)
+
+-- the test of a relation to the text after it: only two relations have one
+abbrev pub text_test : FilterOp → List ℕ → Option FilterTest
+text_test op.Equal text = option_map test.Is (short_text_in text)
+text_test op.NotEqual text = option_map test.IsNot (short_text_in text)
+text_test op.Less text = None
+text_test op.LessEqual text = None
+text_test op.Greater text = None
+text_test op.GreaterEqual text = None
+
+-- the test of a relation to the number after it, and otherwise, if texts may be compared, to the text
+abbrev pub test_by : Bool → FilterOp → List ℕ → Option ℤ → Option FilterTest
+test_by texts relation text (Some value) = Some (test.Number relation value)
+test_by texts relation text None = if texts then text_test relation text else None
+
+-- a test: a relation, and what comes after it
+abbrev pub test_in : Bool → ℕ → List ℕ → Option FilterTest
+test_in texts places text = option_and_then (λ found. test_by texts found.0 found.1 (bare_number_in places found.1)) (relation_in text)
+
+-- a filter over the column of this name
+abbrev pub filter_over : Bool → Places → List ℕ → List ℕ → Option NamedFilter
+filter_over texts places name text = option_map (λ found. record { column = name; test = found; places = places_of places name }) (test_in texts (places_of places name) text)
 
 -- a filter: a name with no relation's byte, and what comes after it
-abbrev pub filter_in : Places → List ℕ → Option NamedFilter
-filter_in places text =
+abbrev pub filter_in : Bool → Places → List ℕ → Option NamedFilter
+filter_in texts places text =
     if position_or_len is_relation_byte text == 0 then None
-    else filter_over places (before_first is_relation_byte text) (drop (position_or_len is_relation_byte text) text)
+    else filter_over texts places (before_first is_relation_byte text) (drop (position_or_len is_relation_byte text) text)
+
+-- up to eight filters, each in a text
+abbrev pub filters_in : Bool → Places → List (List ℕ) → Option (List NamedFilter)
+filters_in texts places values = if nat_le (length values) 8 then all_some (map (filter_in texts places) values) else None
 
 -- one to five digits, with a value up to `most`
 abbrev pub number_in : ℕ → List ℕ → Option ℕ

@@ -16,7 +16,7 @@ row_count = record { kind = kind.Rows; column = None; places = 0 }
 
 -- a query that groups by these columns, counts rows, and is made by this many workers
 abbrev pub merge_query : List ℕ → List ℕ → Option Query
-merge_query columns workers = query_by (names_in columns) (Some (row_count ∷ [])) (Some None) (Some false) (number_in MOST_WORKERS workers) (Some 0)
+merge_query columns workers = query_by (names_in columns) (Some (row_count ∷ [])) (Some []) (Some false) (number_in MOST_WORKERS workers) (Some 0)
 
 -- the query of the words, if they are `merge`, one to eight names between commas, and a number of workers
 unfoldable pub merge_of : List (List ℕ) → Option Query

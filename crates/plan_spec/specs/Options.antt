@@ -1,10 +1,15 @@
 -- The options of the two programs, and what a command line gives for each.
-use Rattle.std.specs.Prelude.{◌==◌, ℕ, Bool, false, true, List, Option, Some, codes, length}
-use Rattle.clap.specs.Words.{App, Rule, fault_of, first_of, matches_of, new_app, new_rule, with_rule}
+use Rattle.std.specs.Prelude.{◌==◌, ℕ, Bool, false, true, List, [], Option, Some, codes, length, unwrap_or}
+use Rattle.clap.specs.Words.{App, Rule, all_of, fault_of, first_of, matches_of, new_app, new_rule, with_rule}
+use Rattle.clap.specs.declared.builder.action.ArgAction.TheVariants.{Append}
 
 -- an option that takes one value, and may have to be given
 abbrev pub option_of : List ℕ → Bool → Rule
 option_of name is_required = record (new_rule name) { long = Some name; required = is_required }
+
+-- an option that takes one value each time it is given
+abbrev pub repeated_of : List ℕ → Rule
+repeated_of name = record (new_rule name) { long = Some name; action = Some Append }
 
 -- a command with no program name before its words
 abbrev pub bare : App → App
@@ -25,7 +30,7 @@ abbrev pub parstream_command : App
 parstream_command = with_rule (with_rule (with_rule (with_rule (with_rule (bare (new_app (codes "parstream")))
     (option_of (codes "group") false))
     (option_of (codes "agg") true))
-    (option_of (codes "where") false))
+    (repeated_of (codes "where")))
     (option_of (codes "workers") false))
     (option_of (codes "decimals") false)
 
@@ -36,3 +41,7 @@ is_command_line command words = length (fault_of command words) == 0
 -- the value of an option
 abbrev pub value_of : App → List ℕ → List (List ℕ) → Option (List ℕ)
 value_of command name words = first_of name (matches_of command words)
+
+-- the values of an option that may be repeated, in the order of the words
+abbrev pub values_of : App → List ℕ → List (List ℕ) → List (List ℕ)
+values_of command name words = unwrap_or (all_of name (matches_of command words)) []

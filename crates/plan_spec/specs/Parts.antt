@@ -14,10 +14,12 @@ pub record IsItem (kind : ItemKind) (column : Option (List ℕ)) (places : ℕ) 
   pub bare : column ≡ None → places ≡ 0
   pub few : places ≤ MOST_PLACES
 
--- at most eight columns to group by, one to eight aggregates, and no more workers and pages than words may ask for
-pub record FitsLimits (groups items workers pages : ℕ) : Type 0 where
+-- at most eight columns to group by, one to eight aggregates, at most eight filters, and no more workers and pages than words
+-- may ask for
+pub record FitsLimits (groups items filters workers pages : ℕ) : Type 0 where
   pub groups_fit : groups ≤ 8
   pub some_item : 1 ≤ items
   pub items_fit : items ≤ 8
+  pub filters_fit : filters ≤ 8
   pub workers_fit : workers ≤ MOST_WORKERS
   pub pages_fit : pages ≤ MOST_AREA_PAGES

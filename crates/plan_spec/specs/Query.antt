@@ -1,9 +1,9 @@
 -- What a command line asks for.
-use Rattle.std.specs.Prelude.{ℕ, Bool, false, List, [], Option, Some, None, codes, if◌then◌else◌, option_and_then, option_map}
+use Rattle.std.specs.Prelude.{ℕ, Bool, false, true, List, [], Option, Some, None, codes, if◌then◌else◌, option_and_then, option_map, option_to_list}
 use Rattle.std.specs.Borrow.{Bor}
 use Rattle.par_model.specs.Named.{NamedFilter, NamedItem, NamedPlan}
-use Rattle.plan_spec.specs.Grammar.{Places, filter_in, hash_in, items_in, names_in, number_in, places_in}
-use Rattle.plan_spec.specs.Options.{is_command_line, pargather_command, parstream_command, value_of}
+use Rattle.plan_spec.specs.Grammar.{Places, filters_in, hash_in, items_in, names_in, number_in, places_in}
+use Rattle.plan_spec.specs.Options.{is_command_line, pargather_command, parstream_command, value_of, values_of}
 use Rattle.plan_spec.specs.declared.plan.TheConstants.{MOST_AREA_PAGES, MOST_WORKERS}
 use Rattle.plan_spec.specs.declared.read.TheConstants.{AREA_PAGES, WORKERS}
 
@@ -32,11 +32,6 @@ abbrev pub items_given : Places → Option (List ℕ) → Option (List NamedItem
 items_given places None = None
 items_given places (Some text) = items_in places text
 
--- the filter, if there is to be one
-abbrev pub filter_given : Places → Option (List ℕ) → Option (Option NamedFilter)
-filter_given places None = Some None
-filter_given places (Some text) = option_map Some (filter_in places text)
-
 -- a number up to `most`; `missing` if the option is not given
 abbrev pub number_given : ℕ → ℕ → Option (List ℕ) → Option ℕ
 number_given most missing None = Some missing
@@ -48,17 +43,17 @@ hash_given None = Some false
 hash_given (Some text) = hash_in text
 
 -- the query of its parts, if all are there
-abbrev pub query_by : Option (List (List ℕ)) → Option (List NamedItem) → Option (Option NamedFilter) → Option Bool → Option ℕ → Option ℕ → Option Query
-query_by groups items filter hash workers pages =
+abbrev pub query_by : Option (List (List ℕ)) → Option (List NamedItem) → Option (List NamedFilter) → Option Bool → Option ℕ → Option ℕ → Option Query
+query_by groups items filters hash workers pages =
     option_and_then (λ g. option_and_then (λ i. option_and_then (λ f. option_and_then (λ h. option_and_then (λ w. option_map (λ p.
-    record { plan = record { groups = g; items = i; hash = h; filter = f }; workers = w; area_pages = p })
-    pages) workers) hash) filter) items) groups
+    record { plan = record { groups = g; items = i; hash = h; filters = f }; workers = w; area_pages = p })
+    pages) workers) hash) filters) items) groups
 
 -- the query of the words of pargather, if they are one: clap takes them, and each value reads
 unfoldable pub query_of : List (List ℕ) → Option Query
 query_of words =
     if is_command_line pargather_command words
-    then query_by (groups_given (value_of pargather_command (codes "group") words)) (items_given [] (value_of pargather_command (codes "agg") words)) (filter_given [] (value_of pargather_command (codes "where") words))
+    then query_by (groups_given (value_of pargather_command (codes "group") words)) (items_given [] (value_of pargather_command (codes "agg") words)) (filters_in false [] (option_to_list (value_of pargather_command (codes "where") words)))
     (hash_given (value_of pargather_command (codes "plan") words)) (number_given MOST_WORKERS WORKERS (value_of pargather_command (codes "workers") words)) (number_given MOST_AREA_PAGES AREA_PAGES (value_of pargather_command (codes "area-pages") words))
     else None
 
@@ -66,6 +61,6 @@ query_of words =
 unfoldable pub stream_query_of : List (List ℕ) → Option Query
 stream_query_of words =
     if is_command_line parstream_command words
-    then option_and_then (λ places. query_by (groups_given (value_of parstream_command (codes "group") words)) (items_given places (value_of parstream_command (codes "agg") words)) (filter_given places (value_of parstream_command (codes "where") words))
+    then option_and_then (λ places. query_by (groups_given (value_of parstream_command (codes "group") words)) (items_given places (value_of parstream_command (codes "agg") words)) (filters_in true places (values_of parstream_command (codes "where") words))
     (Some false) (number_given MOST_WORKERS WORKERS (value_of parstream_command (codes "workers") words)) (Some AREA_PAGES)) (places_given (value_of parstream_command (codes "decimals") words))
     else None

@@ -1,17 +1,17 @@
 //! The columns of a plan's names in a header.
 
 ghost use Rattle.std.specs.Prelude.{◌≡◌, ◌<◌, ◌≤◌, ◌-◌, ◌^◌, None, Some, [], All, IfErr, IfNone, IfOk, IfSome, IsTrue, OnOk, OnSome, drop, filter_map, length, map, option_map, option_to_list, replicate, slice_index_or, string_bytes, take};
-ghost use Rattle.std.specs.Option.{ForSome};
 ghost use Rattle.csv_rows.specs.Records.{record_at};
 ghost use Rattle.par_model.specs.Columns.{HasColumns, reads_column};
 ghost use Rattle.par_model.specs.Named.{bound_column, bound_filter, bound_item, bound_plan, column_of, missing_name, names_of};
+ghost use Rattle.par_model.specs.Plain.{is_plain, is_plain_named};
 ghost use Rattle.par_model.specs.PlanLayout.{unused};
 ghost use Rattle.par_model.specs.declared.plan.TheConstants.{MOST_PLACES};
 ghost use Rattle.plan_spec.specs.Binding.{missing_from, missing_place};
 
 use crate::plan::{Plan, PlanFilter, PlanItem};
 use csv_rows::RowStore;
-use par_model::{BoundPlan, Filter, Item, ItemKind};
+use par_model::{BoundPlan, Filter, Item, ItemKind, NO_FILTER};
 
 /// A name of a plan that is no field of the header: its place among the plan's names.
 #[derive(Debug, Drop)]
@@ -28,6 +28,7 @@ impl Plan {
 
         // Each column that it reads is one of the header.
         ensures columns { IfOk result (λ bound. HasColumns bound (length (record_at rows.now 0))) }
+        ensures plain { IfOk result (λ bound. is_plain bound ≡ is_plain_named self.now.plan) }
 
         // The first name that the header lacks, by its place.
         ensures place { IfErr result (λ e. missing_place (record_at rows.now 0) self.now.plan ≡ Some e.at) }
@@ -45,10 +46,11 @@ impl Plan {
                 at: before_items + at,
             }),
         };
-        let Some(filter) = bind_filter(&self.filter, rows) else {
-            return Err(NoColumn {
-                at: before_items + named,
-            });
+        let filters = match bind_filters(self.filters.as_slice(), rows) {
+            Ok(filters) => filters,
+            Err(at) => return Err(NoColumn {
+                at: before_items + named + at,
+            }),
         };
         Ok(BoundPlan {
             groups,
@@ -56,7 +58,8 @@ impl Plan {
             items,
             item_count: self.items.len() as u32,
             hash: self.hash,
-            filter,
+            filters,
+            filter_count: self.filters.len() as u32,
         })
     }
 }
@@ -150,24 +153,42 @@ fn bind_item(item: &PlanItem, rows: &RowStore) -> Option<(Item, u32)>
     }
 }
 
-/// The filter over its column, or none if its name is no field.
-fn bind_filter(filter: &Option<PlanFilter>, rows: &RowStore) -> Option<Option<Filter>>
-    ensures filter { IfSome result (λ f. f ≡ option_map (bound_filter (record_at rows.now 0)) filter.now) }
-    ensures below { IfSome result (λ f. ForSome f (λ filter. filter.column < length (record_at rows.now 0))) }
-    ensures places { IfSome result (λ f. ForSome f (λ filter. filter.places ≤ MOST_PLACES)) }
-    ensures whole { OnSome result (missing_from (record_at rows.now 0) (option_to_list (option_map (λ f. f.column) filter.now)) ≡ None) }
-    ensures missing { IfNone result (missing_from (record_at rows.now 0) (option_to_list (option_map (λ f. f.column) filter.now)) ≡ Some 0) }
+/// The filters over their columns, or the place of the first name that is no field.
+fn bind_filters(filters: &[PlanFilter], rows: &RowStore) -> Result<[Filter; 8], u32>
+    requires { length filters.now ≤ 8 }
+    ensures filters { IfOk result (λ xs. take (length filters.now) xs ≡ map (bound_filter (record_at rows.now 0)) filters.now) }
+    ensures below { IfOk result (λ xs. All (λ filter. filter.column < length (record_at rows.now 0)) (take (length filters.now) xs)) }
+    ensures places { IfOk result (λ xs. All (λ filter. filter.places ≤ MOST_PLACES) xs) }
+    ensures whole { OnOk result (missing_from (record_at rows.now 0) (map (λ f. f.column) filters.now) ≡ None) }
+    ensures near { IfErr result (λ at. at < 8) }
+    ensures missing { IfErr result (λ at. missing_from (record_at rows.now 0) (map (λ f. f.column) filters.now) ≡ Some at) }
 {
-    let Some(filter) = filter else {
-        return Some(None);
-    };
-    let place = column(rows, filter.column.as_str())?;
-    Some(Some(Filter {
-        column: place,
-        op: filter.op,
-        value: filter.value,
-        places: filter.places,
-    }))
+    let mut bound = [NO_FILTER; 8];
+    'filters: for (at, filter) in filters.iter().enumerate() {
+        match bind_filter(filter, rows) {
+            Some(one) => bound[at] = one,
+            None => return Err(at as u32),
+        }
+    }
+    Ok(bound)
+}
+
+/// A filter over its column, or none if its name is no field.
+fn bind_filter(filter: &PlanFilter, rows: &RowStore) -> Option<Filter>
+    ensures filter { IfSome result (λ f. f ≡ bound_filter (record_at rows.now 0) filter.now) }
+    ensures below { IfSome result (λ f. f.column < length (record_at rows.now 0)) }
+    ensures places { IfSome result (λ f. f.places ≤ MOST_PLACES) }
+    ensures whole { OnSome result (column_of (record_at rows.now 0) filter.now.column ≡ Some (bound_column (record_at rows.now 0) filter.now.column)) }
+    ensures missing { IfNone result (column_of (record_at rows.now 0) filter.now.column ≡ None) }
+{
+    let test = filter.test;
+    let places = filter.places;
+    let column = column(rows, filter.column.as_str())?;
+    Some(Filter {
+        column,
+        test,
+        places,
+    })
 }
 
 /// The column of a name: the first field of the header, the store's first record, with its bytes. Takes no memory; the

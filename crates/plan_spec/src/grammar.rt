@@ -1,4 +1,4 @@
-//! The grammars of the options' values: lists between commas, aggregates, a filter, numbers, and how many places the
+//! The grammars of the options' values: lists between commas, aggregates, filters, numbers, and how many places the
 //! numbers of a column have.
 
 ghost use Rattle.std.specs.Prelude.{◌≡◌, ◌==◌, ◌≤◌, None, Some, All, IfOk, IfSome, IsTrue, bytes_eq, length, map, option_map, string_bytes, true, vec_len};
@@ -6,14 +6,14 @@ ghost use Rattle.std.specs.List.{list_any, position_or_len};
 ghost use Rattle.std.specs.Option.{option_map_or};
 ghost use Rattle.par_model.specs.Columns.{reads_column};
 ghost use Rattle.par_model.specs.Table.{kind_text};
-ghost use Rattle.plan_spec.specs.Grammar.{Places, comparison_in, entry_in, filter_in, filter_over, hash_in, is_relation_byte, item_in, item_over, items_in, kind_in, names_in, number_in, parts_of, places_in, places_of, relation_in};
+ghost use Rattle.plan_spec.specs.Grammar.{Places, bare_number_in, entry_in, filter_in, filter_over, filters_in, hash_in, is_relation_byte, item_in, item_over, items_in, kind_in, names_in, number_in, parts_of, places_in, places_of, relation_in, short_text_in, test_in, text_in, text_test};
 ghost use Rattle.plan_spec.specs.Given.{entry_of};
 ghost use Rattle.plan_spec.specs.declared.plan.PlanAnswer.TheVariants as answer;
 
 use crate::PlanAnswer;
 use crate::plan::{PlanFilter, PlanItem};
 use csv_rows::read_number;
-use par_model::{FilterOp, ItemKind, MOST_PLACES};
+use par_model::{FilterOp, FilterTest, ItemKind, MOST_PLACES, Text};
 use std::alloc::{AllocError, Global};
 
 /// The greatest bound of a number.
@@ -255,22 +255,52 @@ fn kind(word: &str) -> Option<ItemKind>
     }
 }
 
+/// Reads up to eight filters, which may compare texts or not.
+pub(crate) fn filters(
+    alloc: Global,
+    places: &[PlacesOf<'_>],
+    values: &[&str],
+    texts: bool,
+) -> Result<Vec<PlanFilter>, PlanAnswer>
+    requires { All (λ entry. entry.places ≤ MOST_PLACES) places.now }
+    ensures filters { IfOk result (λ v. filters_in texts (map entry_of places.now) (map (λ s. s.now) values.now) ≡ Some v.items) }
+    ensures within { IfOk result (λ v. vec_len v ≤ 8) }
+    ensures none { result ≡ Err answer.Usage → filters_in texts (map entry_of places.now) (map (λ s. s.now) values.now) ≡ None }
+{
+    if values.len() > 8 {
+        return Err(PlanAnswer::Usage);
+    }
+    let mut filters = Vec::new(alloc);
+    'values: for value in values {
+        match filter(alloc, places, value, texts) {
+            Ok(filter) => {
+                if filters.push(filter).is_err() {
+                    return Err(PlanAnswer::Memory);
+                }
+            }
+            Err(answer) => return Err(answer),
+        }
+    }
+    Ok(filters)
+}
+
 /// Reads a filter.
-pub(crate) fn filter(
+fn filter(
     alloc: Global,
     places: &[PlacesOf<'_>],
     text: &str,
+    texts: bool,
 ) -> Result<PlanFilter, PlanAnswer>
     requires { All (λ entry. entry.places ≤ MOST_PLACES) places.now }
-    ensures filter { IfOk result (λ f. filter_in (map entry_of places.now) text.now ≡ Some f) }
-    ensures none { result ≡ Err answer.Usage → filter_in (map entry_of places.now) text.now ≡ None }
+    ensures filter { IfOk result (λ f. filter_in texts (map entry_of places.now) text.now ≡ Some f) }
+    ensures none { result ≡ Err answer.Usage → filter_in texts (map entry_of places.now) text.now ≡ None }
 {
     let bytes = text.as_bytes();
     let at = relation_place(bytes);
     if at == 0 {
         return Err(PlanAnswer::Usage);
     }
-    column_filter(alloc, places, &text[..at], &bytes[at..])
+    column_filter(alloc, places, &text[..at], &bytes[at..], texts)
 }
 
 /// A filter over the column of a name, by a text that begins with a relation.
@@ -279,20 +309,20 @@ fn column_filter(
     places: &[PlacesOf<'_>],
     name: &str,
     text: &[u8],
+    texts: bool,
 ) -> Result<PlanFilter, PlanAnswer>
     requires { All (λ entry. entry.places ≤ MOST_PLACES) places.now }
-    ensures filter { IfOk result (λ f. filter_over (map entry_of places.now) name.now text.now ≡ Some f) }
-    ensures none { result ≡ Err answer.Usage → filter_over (map entry_of places.now) name.now text.now ≡ None }
+    ensures filter { IfOk result (λ f. filter_over texts (map entry_of places.now) name.now text.now ≡ Some f) }
+    ensures none { result ≡ Err answer.Usage → filter_over texts (map entry_of places.now) name.now text.now ≡ None }
 {
     let places = places_of(places, name);
-    let Some((op, value)) = comparison(text, places) else {
+    let Some(test) = test(text, places, texts) else {
         return Err(PlanAnswer::Usage);
     };
     match String::from_str(alloc, name) {
         Ok(column) => Ok(PlanFilter {
             column,
-            op,
-            value,
+            test,
             places,
         }),
         Err(_) => Err(PlanAnswer::Memory),
@@ -313,16 +343,54 @@ fn is_relation(byte: u8) -> bool
     byte == b'<' || byte == b'=' || byte == b'>' || byte == b'!'
 }
 
-/// Reads a relation, and the number after it.
-fn comparison(bytes: &[u8], places: u32) -> Option<(FilterOp, i64)>
-    ensures { result ≡ comparison_in places bytes.now }
+/// Reads a relation, and the number or the text after it.
+fn test(bytes: &[u8], places: u32, texts: bool) -> Option<FilterTest>
+    ensures { result ≡ test_in texts places bytes.now }
 {
     let (op, text) = relation(bytes)?;
+    match bare_number(text, places) {
+        Some(value) => Some(FilterTest::Number(op, value)),
+        None => { if texts { text_test(op, text) } else { None } }
+    }
+}
+
+/// A number with no space around it.
+fn bare_number(text: &[u8], places: u32) -> Option<i64>
+    ensures { result ≡ bare_number_in places text.now }
+{
     if text.contains(&b' ') {
         return None;
     }
-    let value = read_number(text, places)?;
-    Some((op, value))
+    read_number(text, places)
+}
+
+/// The test of a relation to the text after it.
+fn text_test(op: FilterOp, text: &[u8]) -> Option<FilterTest>
+    ensures { result ≡ text_test op text.now }
+{
+    match op {
+        FilterOp::Equal => Some(FilterTest::Is(short_text(text)?)),
+        FilterOp::NotEqual => Some(FilterTest::IsNot(short_text(text)?)),
+        FilterOp::Less | FilterOp::LessEqual | FilterOp::Greater | FilterOp::GreaterEqual => None,
+    }
+}
+
+/// The text after a relation, if it is not too long.
+fn short_text(text: &[u8]) -> Option<Text>
+    ensures { result ≡ short_text_in text.now }
+{
+    Text::of(bare_text(text)?)
+}
+
+/// The text after a relation: what is between double quotes, or all, if it begins with no relation's byte.
+fn bare_text(text: &[u8]) -> Option<&[u8]>
+    ensures { option_map (λ found. found.now) result ≡ text_in text.now }
+{
+    match text {
+        [b'"', inner @ .., b'"'] => Some(inner),
+        [first, ..] if is_relation(*first) => None,
+        _ => Some(text),
+    }
 }
 
 /// Reads a relation. Returns it and what comes after it.

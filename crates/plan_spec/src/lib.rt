@@ -3,7 +3,7 @@
 //! [`Plan::of_words`] reads the words as a command line of six options, each of which has its own grammar, and
 //! [`Plan::of_merge_words`] reads `merge COLUMNS N`; [`Plan::bind`] looks a plan's names up in the first record of a
 //! store. A plan keeps its names in the order in which they are counted: those to group by, those of the aggregates,
-//! that of the filter. [`number`] and [`column`] read a number and a name for other command lines.
+//! those of the filters. [`number`] and [`column`] read a number and a name for other command lines.
 
 #![tactic(auto)]
 

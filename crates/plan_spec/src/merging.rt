@@ -1,6 +1,7 @@
 //! The plan of the words `merge COLUMNS N`, which put rows in order.
 
-ghost use Rattle.std.specs.Prelude.{◌≡◌, ◌∷◌, [], None, Some, IfOk, map, string_bytes};
+ghost use Rattle.std.specs.Prelude.{◌≡◌, ◌∷◌, [], None, Some, IfOk, map, string_bytes, true};
+ghost use Rattle.par_model.specs.Plain.{is_plain_named};
 ghost use Rattle.plan_spec.specs.Merging.{is_merge, merge_of, merge_query, row_count};
 ghost use Rattle.plan_spec.specs.declared.plan.PlanAnswer.TheVariants as answer;
 
@@ -24,6 +25,7 @@ impl Plan {
     /// and N is one to five digits, up to [`MOST_WORKERS`].
     pub fn of_merge_words(alloc: Global, words: &[String]) -> Result<Plan, PlanAnswer>
         ensures plan { IfOk result (λ plan. merge_of (map string_bytes words.now) ≡ Some plan) }
+        ensures plain { IfOk result (λ plan. is_plain_named plan.plan ≡ true) }
         ensures usage { result ≡ Err answer.Usage → merge_of (map string_bytes words.now) ≡ None }
     {
         if words.len() != 3 || !is_merge(words) {
@@ -36,6 +38,7 @@ impl Plan {
 /// The plan of COLUMNS and N.
 fn merge_plan(alloc: Global, columns: &str, workers: &str) -> Result<Plan, PlanAnswer>
     ensures plan { IfOk result (λ plan. merge_query columns.now workers.now ≡ Some plan) }
+    ensures plain { IfOk result (λ plan. is_plain_named plan.plan ≡ true) }
     ensures usage { result ≡ Err answer.Usage → merge_query columns.now workers.now ≡ None }
 {
     let groups = names(alloc, columns)?;
@@ -48,7 +51,7 @@ fn merge_plan(alloc: Global, columns: &str, workers: &str) -> Result<Plan, PlanA
     Ok(Plan {
         groups,
         items,
-        filter: None,
+        filters: Vec::new(alloc),
         hash: false,
         workers,
         area_pages: 0,

@@ -3,14 +3,14 @@
 //! `clap` states what its parse gives as a function of the command and the words, so which words are a command line,
 //! and what each option was given, is said only in terms of that function.
 
-ghost use Rattle.std.specs.Prelude.{◌≡◌, IfOk, None, OnOk, codes, map, option_map, false, true, string_bytes};
+ghost use Rattle.std.specs.Prelude.{◌≡◌, IfOk, None, OnOk, codes, map, option_map, option_to_list, false, true, string_bytes};
 ghost use Rattle.clap.specs.Words.{app_of, found_of, is_simple_and_free, matches_of, rows_of, with_rule};
-ghost use Rattle.plan_spec.specs.Options.{is_command_line, option_of, pargather_command, parstream_command, value_of};
+ghost use Rattle.plan_spec.specs.Options.{is_command_line, option_of, pargather_command, parstream_command, repeated_of, value_of, values_of};
 ghost use Rattle.plan_spec.specs.declared.plan.PlanAnswer.TheVariants as answer;
 
 use crate::PlanAnswer;
 use clap::error::ErrorKind;
-use clap::{Arg, ArgMatches, Command};
+use clap::{Arg, ArgAction, ArgMatches, Command};
 use std::alloc::{AllocError, Global};
 
 /// The values of the options, each as it was given. One that a command does not have is not given.
@@ -18,8 +18,10 @@ use std::alloc::{AllocError, Global};
 pub(crate) struct OptionValues<'a> {
     pub(crate) group: Option<&'a str>,
     pub(crate) agg: Option<&'a str>,
-    /// The value of `--where`.
-    pub(crate) filter: Option<&'a str>,
+    /// The values of `--where`.
+    pub(crate) filters: Vec<&'a str>,
+    /// Whether a filter may compare texts.
+    pub(crate) texts: bool,
     pub(crate) decimals: Option<&'a str>,
     pub(crate) workers: Option<&'a str>,
     pub(crate) plan: Option<&'a str>,
@@ -34,7 +36,8 @@ pub(crate) fn option_values<'a>(
     ensures takes { OnOk result (is_command_line pargather_command (map string_bytes words.entry.now) ≡ true) }
     ensures group { IfOk result (λ g. option_map (λ s. s.now) g.group ≡ value_of pargather_command (codes "group") (map string_bytes words.entry.now)) }
     ensures agg { IfOk result (λ g. option_map (λ s. s.now) g.agg ≡ value_of pargather_command (codes "agg") (map string_bytes words.entry.now)) }
-    ensures filter { IfOk result (λ g. option_map (λ s. s.now) g.filter ≡ value_of pargather_command (codes "where") (map string_bytes words.entry.now)) }
+    ensures filters { IfOk result (λ g. map (λ s. s.now) g.filters.items ≡ option_to_list (value_of pargather_command (codes "where") (map string_bytes words.entry.now))) }
+    ensures texts { IfOk result (λ g. g.texts ≡ false) }
     ensures decimals { IfOk result (λ g. g.decimals ≡ None) }
     ensures workers { IfOk result (λ g. option_map (λ s. s.now) g.workers ≡ value_of pargather_command (codes "workers") (map string_bytes words.entry.now)) }
     ensures plan { IfOk result (λ g. option_map (λ s. s.now) g.plan ≡ value_of pargather_command (codes "plan") (map string_bytes words.entry.now)) }
@@ -45,10 +48,14 @@ pub(crate) fn option_values<'a>(
         return Err(PlanAnswer::Memory);
     };
     let matches = matches_in(command, words)?;
+    let Ok(filters) = list_of(alloc, matches.get_str("where")) else {
+        return Err(PlanAnswer::Memory);
+    };
     Ok(OptionValues {
         group: matches.get_str("group"),
         agg: matches.get_str("agg"),
-        filter: matches.get_str("where"),
+        filters,
+        texts: false,
         decimals: None,
         workers: matches.get_str("workers"),
         plan: matches.get_str("plan"),
@@ -64,7 +71,8 @@ pub(crate) fn stream_values<'a>(
     ensures takes { OnOk result (is_command_line parstream_command (map string_bytes words.entry.now) ≡ true) }
     ensures group { IfOk result (λ g. option_map (λ s. s.now) g.group ≡ value_of parstream_command (codes "group") (map string_bytes words.entry.now)) }
     ensures agg { IfOk result (λ g. option_map (λ s. s.now) g.agg ≡ value_of parstream_command (codes "agg") (map string_bytes words.entry.now)) }
-    ensures filter { IfOk result (λ g. option_map (λ s. s.now) g.filter ≡ value_of parstream_command (codes "where") (map string_bytes words.entry.now)) }
+    ensures filters { IfOk result (λ g. map (λ s. s.now) g.filters.items ≡ values_of parstream_command (codes "where") (map string_bytes words.entry.now)) }
+    ensures texts { IfOk result (λ g. g.texts ≡ true) }
     ensures decimals { IfOk result (λ g. option_map (λ s. s.now) g.decimals ≡ value_of parstream_command (codes "decimals") (map string_bytes words.entry.now)) }
     ensures workers { IfOk result (λ g. option_map (λ s. s.now) g.workers ≡ value_of parstream_command (codes "workers") (map string_bytes words.entry.now)) }
     ensures plan { IfOk result (λ g. (g.plan ≡ None) × (g.area_pages ≡ None)) }
@@ -74,15 +82,37 @@ pub(crate) fn stream_values<'a>(
         return Err(PlanAnswer::Memory);
     };
     let matches = matches_in(command, words)?;
+    let Ok(filters) = copied(alloc, matches.get_strs("where").unwrap_or(&[])) else {
+        return Err(PlanAnswer::Memory);
+    };
     Ok(OptionValues {
         group: matches.get_str("group"),
         agg: matches.get_str("agg"),
-        filter: matches.get_str("where"),
+        filters,
+        texts: true,
         decimals: matches.get_str("decimals"),
         workers: matches.get_str("workers"),
         plan: None,
         area_pages: None,
     })
+}
+
+/// The list of a value, if there is one.
+fn list_of<'a>(alloc: Global, value: Option<&'a str>) -> Result<Vec<&'a str>, AllocError>
+    ensures { IfOk result (λ v. map (λ s. s.now) v.items ≡ option_to_list (option_map (λ s. s.now) value.entry)) }
+{
+    let mut values = Vec::new(alloc);
+    if let Some(value) = value {
+        values.push(value)?;
+    }
+    Ok(values)
+}
+
+/// A list of the values.
+fn copied<'a>(alloc: Global, values: &[&'a str]) -> Result<Vec<&'a str>, AllocError>
+    ensures { IfOk result (λ v. map (λ s. s.now) v.items ≡ map (λ s. s.now) values.now) }
+{
+    Vec::from_slice(alloc, values)
 }
 
 /// The parse of the words by a command of which `clap` states the matches and the faults in full.
@@ -112,14 +142,18 @@ fn pargather<'a>(alloc: Global) -> Result<Command<'a>, AllocError>
     with_option(alloc, planned, "area-pages", false)
 }
 
-/// The command of parstream with its five options.
+/// The command of parstream with its five options, of which `--where` may be repeated.
 fn parstream<'a>(alloc: Global) -> Result<Command<'a>, AllocError>
     ensures { IfOk result (λ c. app_of c ≡ parstream_command) }
 {
     let bare = Command::new(alloc, "parstream").no_binary_name(true);
     let grouped = with_option(alloc, bare, "group", false)?;
     let summed = with_option(alloc, grouped, "agg", true)?;
-    let filtered = with_option(alloc, summed, "where", false)?;
+    let filtered = summed.arg(
+        Arg::new(alloc, "where")
+            .long("where")
+            .action(ArgAction::Append),
+    )?;
     let staffed = with_option(alloc, filtered, "workers", false)?;
     with_option(alloc, staffed, "decimals", false)
 }

@@ -1,12 +1,12 @@
 //! A plan by the names of its columns, with the number of workers and the pages of the shared area.
 
-ghost use Rattle.std.specs.Prelude.{◌≡◌, ◌<◌, ◌≤◌, ◌++◌, [], IfSome, filter_map, is_some, length, map, option_and_then, option_map, option_to_list, slice_get, slice_index_or};
+ghost use Rattle.std.specs.Prelude.{◌≡◌, ◌<◌, ◌≤◌, ◌++◌, [], IfSome, filter_map, is_some, length, map, option_and_then, option_map, slice_get, slice_index_or};
 ghost use Rattle.std.specs.Option.{option_map_or};
 ghost use Rattle.par_model.specs.Columns.{reads_column};
 ghost use Rattle.par_model.specs.Named.{names_of};
 ghost use Rattle.par_model.specs.Table.{item_text};
 
-use par_model::{FilterOp, ItemKind};
+use par_model::{FilterTest, ItemKind};
 use std::marker::Model;
 
 /// The most workers that words may ask for.
@@ -45,12 +45,11 @@ impl Model for PlanItem {
     ghost invariant = { λ i. IsItem i.kind (option_map string_bytes i.column) i.places (string_bytes i.text) };
 }
 
-/// A filter by the name of its column, whose numbers and whose value have so many places.
+/// A filter by the name of its column, with the test and the places of the column's numbers.
 #[derive(Drop)]
 pub(crate) struct PlanFilter {
     pub(crate) column: String,
-    pub(crate) op: FilterOp,
-    pub(crate) value: i64,
+    pub(crate) test: FilterTest,
     pub(crate) places: u32,
 }
 
@@ -60,7 +59,7 @@ impl Model for PlanFilter {
 
     ghost Value = { NamedFilter };
 
-    ghost view = { λ f. record { column = string_bytes f.column; op = f.op; value = f.value; places = f.places } };
+    ghost view = { λ f. record { column = string_bytes f.column; test = f.test; places = f.places } };
 
     ghost use Rattle.std.specs.Prelude.{◌≤◌};
     ghost use Rattle.par_model.specs.declared.plan.TheConstants.{MOST_PLACES};
@@ -75,7 +74,8 @@ pub struct Plan {
     pub(crate) groups: Vec<String>,
     /// The aggregates, one to eight.
     pub(crate) items: Vec<PlanItem>,
-    pub(crate) filter: Option<PlanFilter>,
+    /// The filters, eight at most.
+    pub(crate) filters: Vec<PlanFilter>,
     /// Whether the workers share a hash table of groups.
     pub(crate) hash: bool,
     /// How many workers are asked for, [`MOST_WORKERS`] at most.
@@ -91,9 +91,9 @@ impl Model for Plan {
 
     ghost Value = { Query };
 
-    ghost view = { λ p. record { plan = record { groups = map string_bytes p.groups.items; items = p.items.items; hash = p.hash; filter = p.filter }; workers = p.workers; area_pages = p.area_pages } };
+    ghost view = { λ p. record { plan = record { groups = map string_bytes p.groups.items; items = p.items.items; hash = p.hash; filters = p.filters.items }; workers = p.workers; area_pages = p.area_pages } };
 
-    ghost invariant = { λ p. FitsLimits (length p.groups.items) (length p.items.items) p.workers p.area_pages };
+    ghost invariant = { λ p. FitsLimits (length p.groups.items) (length p.items.items) (length p.filters.items) p.workers p.area_pages };
 }
 
 impl Plan {
@@ -114,7 +114,7 @@ impl Plan {
     }
 
     /// A name of the plan: names are counted through the columns to group by, the aggregates that
-    /// have a column, and the filter.
+    /// have a column, and the filters.
     pub fn name(&self, at: u32) -> &str
         requires { at < length (names_of self.now.plan) }
         ensures { result.now ≡ slice_index_or (names_of self.now.plan) at [] }
@@ -123,7 +123,11 @@ impl Plan {
         if at < self.groups.len() {
             return self.groups[at].as_str();
         }
-        column_name(self.items.as_slice(), &self.filter, at - self.groups.len())
+        column_name(
+            self.items.as_slice(),
+            self.filters.as_slice(),
+            at - self.groups.len(),
+        )
     }
 
     /// How an aggregate is written as an output column, as `count` or `sum(v)`.
@@ -157,31 +161,31 @@ impl Plan {
         }
     }
 
-    /// How many places the filter's value has, if there is a filter, and otherwise none.
-    pub fn filter_places(&self) -> u32
-        ensures { result ≡ option_map_or (λ filter. filter.places) self.now.plan.filter 0 }
+    /// How many places the numbers of a filter's column have. There are none past the last filter.
+    pub fn filter_places(&self, at: u32) -> u32
+        ensures { result ≡ option_map_or (λ filter. filter.places) (slice_get self.now.plan.filters at) 0 }
     {
-        match &self.filter {
+        match self.filters.get(at as usize) {
             Some(filter) => filter.places,
             None => 0,
         }
     }
 
-    /// The name of the filter's column, if there is a filter.
-    pub fn filter_name(&self) -> Option<&str>
-        ensures { option_map (λ s. s.now) result ≡ option_map (λ filter. filter.column) self.now.plan.filter }
+    /// The name of a filter's column. There is none past the last filter.
+    pub fn filter_name(&self, at: u32) -> Option<&str>
+        ensures { option_map (λ s. s.now) result ≡ option_map (λ filter. filter.column) (slice_get self.now.plan.filters at) }
     {
-        match &self.filter {
+        match self.filters.get(at as usize) {
             Some(filter) => Some(filter.column.as_str()),
             None => None,
         }
     }
 }
 
-/// A name among those of the aggregates and the filter.
-fn column_name<'a>(items: &'a [PlanItem], filter: &'a Option<PlanFilter>, place: usize) -> &'a str
-    requires { place < length (filter_map (λ i. i.column) items.now ++ option_to_list (option_map (λ f. f.column) filter.now)) }
-    ensures { result.now ≡ slice_index_or (filter_map (λ i. i.column) items.entry.now ++ option_to_list (option_map (λ f. f.column) filter.entry.now)) place [] }
+/// A name among those of the aggregates and the filters.
+fn column_name<'a>(items: &'a [PlanItem], filters: &'a [PlanFilter], place: usize) -> &'a str
+    requires { place < length (filter_map (λ i. i.column) items.now ++ map (λ f. f.column) filters.now) }
+    ensures { result.now ≡ slice_index_or (filter_map (λ i. i.column) items.entry.now ++ map (λ f. f.column) filters.entry.now) place [] }
 {
     let mut left = place;
     'items: for item in items {
@@ -191,8 +195,6 @@ fn column_name<'a>(items: &'a [PlanItem], filter: &'a Option<PlanFilter>, place:
             None => {}
         }
     }
-    match filter {
-        Some(filter) => filter.column.as_str(),
-        None => unreachable!(),
-    }
+    let filter = &filters[left];
+    filter.column.as_str()
 }

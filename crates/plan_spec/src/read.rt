@@ -1,14 +1,16 @@
 //! The plan of the words of a command line.
 
-ghost use Rattle.std.specs.Prelude.{◌≡◌, ◌≤◌, None, Some, All, IfOk, map, string_bytes, vec_len};
-ghost use Rattle.plan_spec.specs.Query.{filter_given, groups_given, hash_given, items_given, number_given, places_given, query_of, stream_query_of, text_of};
+ghost use Rattle.std.specs.Prelude.{◌≡◌, ◌≤◌, None, Some, All, IfOk, map, string_bytes, true, vec_len};
+ghost use Rattle.par_model.specs.Plain.{is_plain_named};
+ghost use Rattle.plan_spec.specs.Query.{groups_given, hash_given, items_given, number_given, places_given, query_of, stream_query_of, text_of};
 ghost use Rattle.plan_spec.specs.Given.{entry_of, query_given};
+ghost use Rattle.plan_spec.specs.Grammar.{filters_in};
 ghost use Rattle.par_model.specs.declared.plan.TheConstants.{MOST_PLACES};
 ghost use Rattle.plan_spec.specs.declared.plan.PlanAnswer.TheVariants as answer;
 
-use crate::grammar::{MOST_NUMBER, PlacesOf, filter, hash, items, names, number, places};
+use crate::grammar::{MOST_NUMBER, PlacesOf, filters, hash, items, names, number, places};
 use crate::options::{OptionValues, option_values, stream_values};
-use crate::plan::{MOST_AREA_PAGES, MOST_WORKERS, Plan, PlanAnswer, PlanFilter, PlanItem};
+use crate::plan::{MOST_AREA_PAGES, MOST_WORKERS, Plan, PlanAnswer, PlanItem};
 use std::alloc::Global;
 
 /// The number of workers if the words ask for none.
@@ -23,6 +25,7 @@ impl Plan {
     /// value, and each value by its grammar. Asking for help is no plan.
     pub fn of_words(alloc: Global, words: &[String]) -> Result<Plan, PlanAnswer>
         ensures plan { IfOk result (λ plan. query_of (map string_bytes words.now) ≡ Some plan) }
+        ensures plain { IfOk result (λ plan. is_plain_named plan.plan ≡ true) }
         ensures usage { result ≡ Err answer.Usage → query_of (map string_bytes words.now) ≡ None }
     {
         match option_values(alloc, words) {
@@ -32,7 +35,7 @@ impl Plan {
     }
 
     /// The plan of the words after parstream's name: a simple command with the options `--group`, `--agg` (required),
-    /// `--where`, `--workers` and `--decimals`. It uses no shared table, and names the default number of pages for one.
+    /// `--where`, which may be repeated, `--workers` and `--decimals`. It uses no shared table, and names the default number of pages for one.
     pub fn of_stream_words(alloc: Global, words: &[String]) -> Result<Plan, PlanAnswer>
         ensures plan { IfOk result (λ plan. stream_query_of (map string_bytes words.now) ≡ Some plan) }
         ensures usage { result ≡ Err answer.Usage → stream_query_of (map string_bytes words.now) ≡ None }
@@ -53,13 +56,13 @@ fn read_values(alloc: Global, given: &OptionValues<'_>) -> Result<Plan, PlanAnsw
     let workers = number_read(given.workers, MOST_WORKERS, WORKERS)?;
     let area_pages = number_read(given.area_pages, MOST_AREA_PAGES, AREA_PAGES)?;
     let places = places_read(alloc, given.decimals)?;
-    let filter = filter_read(alloc, &places, given.filter)?;
+    let filters = filters(alloc, &places, given.filters.as_slice(), given.texts)?;
     let groups = groups_read(alloc, given.group)?;
     let items = items_read(alloc, &places, given.agg)?;
     Ok(Plan {
         groups,
         items,
-        filter,
+        filters,
         hash,
         workers,
         area_pages,
@@ -102,21 +105,6 @@ fn items_read(
     match given {
         Some(text) => items(alloc, places, text),
         None => Err(PlanAnswer::Usage),
-    }
-}
-
-fn filter_read(
-    alloc: Global,
-    places: &[PlacesOf<'_>],
-    given: Option<&str>,
-) -> Result<Option<PlanFilter>, PlanAnswer>
-    requires { All (λ entry. entry.places ≤ MOST_PLACES) places.now }
-    ensures filter { IfOk result (λ f. filter_given (map entry_of places.now) (text_of given.entry) ≡ Some f) }
-    ensures none { result ≡ Err answer.Usage → filter_given (map entry_of places.now) (text_of given.entry) ≡ None }
-{
-    match given {
-        Some(text) => Ok(Some(filter(alloc, places, text)?)),
-        None => Ok(None),
     }
 }
 

@@ -6,13 +6,14 @@ use Rattle.par_model.specs.Aggregate.{state_of_rows}
 use Rattle.par_model.specs.Decimal.{average, number_text}
 use Rattle.par_model.specs.Keep.{is_kept}
 use Rattle.par_model.specs.Key.{encoded}
-use Rattle.par_model.specs.Named.{NamedItem, NamedPlan, bound_plan, missing_name}
+use Rattle.par_model.specs.Named.{NamedFilter, NamedItem, NamedPlan, bound_plan, missing_name}
 use Rattle.par_model.specs.Number.{decimal_of, integer_of, number_of}
 use Rattle.par_model.specs.Outcome.{NoColumn, NoHeader, Refused, Table, TooManyBytes, Usage, outcome}
 use Rattle.par_model.specs.Refuse.{refusal, refused_rows}
 use Rattle.par_model.specs.Table.{group_record, table_header, table_text}
 use Rattle.par_model.specs.declared.plan.FilterOp.{FilterOp}
 use Rattle.par_model.specs.declared.plan.FilterOp.TheVariants as op
+use Rattle.par_model.specs.declared.plan.FilterTest.TheVariants as test
 use Rattle.par_model.specs.declared.plan.ItemKind.{ItemKind}
 use Rattle.par_model.specs.declared.plan.ItemKind.TheVariants as kind
 
@@ -178,10 +179,19 @@ abbrev counted : NamedItem
 counted = record { kind = kind.Rows; column = None; places = 0 }
 
 abbrev plan : List (List ℕ) → List NamedItem → NamedPlan
-plan groups items = record { groups = groups; items = items; hash = false; filter = None }
+plan groups items = record { groups = groups; items = items; hash = false; filters = [] }
+
+abbrev number_filter : List ℕ → FilterOp → ℤ → NamedFilter
+number_filter name relation value = record { column = name; test = test.Number relation value; places = 0 }
+
+abbrev is_filter : List ℕ → List ℕ → NamedFilter
+is_filter name text = record { column = name; test = test.Is text; places = 0 }
+
+abbrev is_not_filter : List ℕ → List ℕ → NamedFilter
+is_not_filter name text = record { column = name; test = test.IsNot text; places = 0 }
 
 abbrev filtered : NamedPlan → List ℕ → FilterOp → ℤ → NamedPlan
-filtered p name relation value = record p { filter = Some (record { column = name; op = relation; value = value; places = 0 }) }
+filtered p name relation value = record p { filters = number_filter name relation value ∷ [] }
 
 -- ---- `g,v` over a,1 b,2 a,3
 
@@ -309,6 +319,42 @@ filter_negative : group_record (bound_plan filter_header (filtered (plan [] (cou
 unfolding state_of_rows is_kept encoded number_of number_text digits
 filter_negative = refl
 
+-- a text; a null is neither the text nor another
+filter_text : group_record (bound_plan filter_header (record (plan [] (counted ∷ [])) { filters = is_filter (codes "g") (codes "a") ∷ [] })) filter_rows [] ≡ codes "2" ∷ []
+unfolding state_of_rows is_kept encoded digits
+filter_text = refl
+
+filter_other_text : group_record (bound_plan filter_header (record (plan [] (counted ∷ [])) { filters = is_not_filter (codes "v") (codes "1") ∷ [] })) filter_rows [] ≡ codes "2" ∷ []
+unfolding state_of_rows is_kept encoded digits
+filter_other_text = refl
+
+-- the empty text is the test for nulls
+filter_null : group_record (bound_plan filter_header (record (plan [] (counted ∷ [])) { filters = is_filter (codes "v") [] ∷ [] })) filter_rows [] ≡ codes "1" ∷ []
+unfolding state_of_rows is_kept encoded digits
+filter_null = refl
+
+filter_not_null : group_record (bound_plan filter_header (record (plan [] (counted ∷ [])) { filters = is_not_filter (codes "v") [] ∷ [] })) filter_rows [] ≡ codes "3" ∷ []
+unfolding state_of_rows is_kept encoded digits
+filter_not_null = refl
+
+-- two filters, both of which must hold
+filter_both : group_record (bound_plan filter_header (record sum_w { filters = is_filter (codes "g") (codes "a") ∷ number_filter (codes "w") op.Less (pos 7) ∷ [] })) filter_rows (codes "a" ∷ []) ≡ codes "a" ∷ codes "1" ∷ codes "5" ∷ []
+unfolding state_of_rows is_kept encoded number_of number_text digits
+filter_both = refl
+
+-- what a filter leaves out is read by none after it; what it reads refuses the row, whatever comes after it
+filter_spares : outcome (Some (record sum_w { filters = is_filter (codes "g") (codes "a") ∷ number_filter (codes "w") op.Less (pos 7) ∷ [] })) 28 (filter_header ∷ filter_rows) ≡ Table
+unfolding outcome missing_name refused_rows refusal is_kept encoded number_of
+filter_spares = refl
+
+second_filter_is_refused : outcome (Some (record sum_w { filters = number_filter (codes "v") op.Greater (pos 0) ∷ number_filter (codes "w") op.Less (pos 7) ∷ [] })) 28 (filter_header ∷ filter_rows) ≡ Refused ((2, record { cause = 4; item = 1 }) ∷ [])
+unfolding outcome missing_name refused_rows refusal is_kept encoded number_of
+second_filter_is_refused = refl
+
+first_filter_is_refused : outcome (Some (record sum_w { filters = number_filter (codes "w") op.Less (pos 7) ∷ is_filter (codes "g") (codes "a") ∷ [] })) 28 (filter_header ∷ filter_rows) ≡ Refused ((2, record { cause = 4; item = 0 }) ∷ [])
+unfolding outcome missing_name refused_rows refusal is_kept encoded number_of
+first_filter_is_refused = refl
+
 -- a key that is too long refuses no row that the filter leaves out, and one that it keeps
 long_key_left_out : outcome (Some (filtered (plan (codes "k" ∷ []) (counted ∷ [])) (codes "v") op.Equal (pos 1))) 252 ((codes "k" ∷ codes "v" ∷ []) ∷ (replicate 245 120 ∷ codes "0" ∷ []) ∷ []) ≡ Table
 unfolding outcome missing_name refused_rows refusal is_kept encoded number_of
@@ -330,6 +376,6 @@ price_sums : group_record (bound_plan (codes "price" ∷ []) (plan [] (priced ki
 unfolding state_of_rows is_kept encoded number_of number_text digits
 price_sums = refl
 
-price_filter : group_record (bound_plan (codes "price" ∷ []) (record (plan [] (counted ∷ [])) { filter = Some (record { column = codes "price"; op = op.GreaterEqual; value = pos 50; places = 2 }) })) prices [] ≡ codes "2" ∷ []
+price_filter : group_record (bound_plan (codes "price" ∷ []) (record (plan [] (counted ∷ [])) { filters = record { column = codes "price"; test = test.Number op.GreaterEqual (pos 50); places = 2 } ∷ [] })) prices [] ≡ codes "2" ∷ []
 unfolding state_of_rows is_kept encoded number_of digits
 price_filter = refl

@@ -3,17 +3,16 @@
 //! It asks one thing at a time and reads the row again for the next. It takes no memory, and equals the definition of
 //! `specs/Refuse`: what a fast program answers can be compared with it.
 
-ghost use Rattle.std.specs.Prelude.{◌≡◌, ◌≤◌, ◌<◌, true, false, not, length, nat_lt, option_map};
+ghost use Rattle.std.specs.Prelude.{◌≡◌, ◌≤◌, ◌<◌, ◌&&◌, ◌==◌, IfSome, Some, if◌then◌else◌, None, true, false, not, length, nat_lt, option_map};
 ghost use Rattle.std.specs.List.{position_from};
-ghost use Rattle.std.specs.Option.{option_map_or};
 ghost use Rattle.par_model.specs.Columns.{HasColumns};
-ghost use Rattle.par_model.specs.Keep.{is_kept, keeps};
+ghost use Rattle.par_model.specs.Keep.{deciding, is_kept, keeps, passes};
 ghost use Rattle.par_model.specs.Key.{key_of};
 ghost use Rattle.par_model.specs.Record.{field_of};
-ghost use Rattle.par_model.specs.Refuse.{is_no_number, is_unreadable, longest_key, reads_numbers, refusal};
+ghost use Rattle.par_model.specs.Refuse.{is_misread, is_no_number, is_unreadable, longest_key, reads_numbers, refusal, refused_by};
 
 use par_model::number::read_number;
-use par_model::plan::{BoundPlan, Filter, Item, ItemKind};
+use par_model::plan::{BoundPlan, Filter, FilterTest, Item, ItemKind};
 use par_model::refusal::{FILTER_CAUSE, ITEM_CAUSE, KEY_CAUSE, LONGEST_KEY, Refusal, WIDTH_CAUSE};
 use par_model::row::Row;
 
@@ -28,14 +27,8 @@ pub fn slow_refusal(row: &Row, width: u32, plan: &BoundPlan) -> Option<Refusal>
             item: 0,
         });
     }
-    if has_unreadable_filter(row, plan) {
-        return Some(Refusal {
-            cause: FILTER_CAUSE,
-            item: 0,
-        });
-    }
-    if !keeps(row, plan) {
-        return None;
+    if let Some(at) = deciding(row, plan) {
+        return refused_by(row, plan, at);
     }
     if has_long_key(row, plan) {
         return Some(Refusal {
@@ -57,14 +50,44 @@ fn is_no_number(field: &[u8], places: u32) -> bool
     !field.is_empty() && read_number(field, places).is_none()
 }
 
-/// Whether the filter cannot read its field.
-fn has_unreadable_filter(row: &Row, plan: &BoundPlan) -> bool
+/// The place of the first filter that does not keep the row.
+fn deciding(row: &Row, plan: &BoundPlan) -> Option<u32>
     requires { HasColumns plan.now (length row.now) }
-    ensures { result ≡ option_map_or (λ filter. is_no_number filter.places (field_of row.now filter.column)) plan.now.filter false }
+    ensures place { result ≡ deciding plan.now row.now }
+    ensures within { IfSome result (λ at. at < length plan.now.filters) }
 {
-    match plan.filter {
-        None => false,
-        Some(filter) => is_no_number(row.field(filter.column), filter.places),
+    let filters = plan.filters();
+    'filters: for at in 0..filters.len() {
+        if !keeps_row(&filters[at], row) {
+            return Some(at as u32);
+        }
+    }
+    None
+}
+
+/// The refusal for the filter at a place, if it cannot read its field.
+fn refused_by(row: &Row, plan: &BoundPlan, at: u32) -> Option<Refusal>
+    requires columns { HasColumns plan.now (length row.now) }
+    requires place { at < length plan.now.filters }
+    ensures { result ≡ refused_by plan.now row.now at }
+{
+    if !is_misread(&plan.filters()[at as usize], row) {
+        return None;
+    }
+    Some(Refusal {
+        cause: FILTER_CAUSE,
+        item: at,
+    })
+}
+
+/// Whether a filter cannot read its field.
+fn is_misread(filter: &Filter, row: &Row) -> bool
+    requires { filter.now.column < length row.now }
+    ensures { result ≡ is_misread row.now filter.now }
+{
+    match filter.test {
+        FilterTest::Number(_, _) => is_no_number(row.field(filter.column), filter.places),
+        FilterTest::Is(_) | FilterTest::IsNot(_) => false,
     }
 }
 
@@ -73,20 +96,28 @@ pub(crate) fn keeps(row: &Row, plan: &BoundPlan) -> bool
     requires { HasColumns plan.now (length row.now) }
     ensures { result ≡ is_kept plan.now row.now }
 {
-    match plan.filter {
-        None => true,
-        Some(filter) => passes(&filter, row),
-    }
+    deciding(row, plan).is_none()
 }
 
 /// Whether a filter keeps the row.
-fn passes(filter: &Filter, row: &Row) -> bool
+fn keeps_row(filter: &Filter, row: &Row) -> bool
     requires { filter.now.column < length row.now }
     ensures { result ≡ keeps filter.now row.now }
 {
-    match read_number(row.field(filter.column), filter.places) {
-        None => false,
-        Some(number) => filter.op.stands(number, filter.value),
+    passes(row.field(filter.column), &filter.test, filter.places)
+}
+
+/// Whether a field passes a test.
+fn passes(field: &[u8], test: &FilterTest, places: u32) -> bool
+    ensures { result ≡ passes places test.now field.now }
+{
+    match test {
+        FilterTest::Number(op, value) => match read_number(field, places) {
+            None => false,
+            Some(number) => op.stands(number, *value),
+        },
+        FilterTest::Is(text) => field == text.bytes(),
+        FilterTest::IsNot(text) => !field.is_empty() && field != text.bytes(),
     }
 }
 
@@ -96,8 +127,9 @@ fn has_long_key(row: &Row, plan: &BoundPlan) -> bool
     ensures { result ≡ nat_lt longest_key (length (key_of plan.now row.now)) }
 {
     let mut room = LONGEST_KEY;
-    'groups: for at in 0..plan.group_count {
-        let length = row.field(plan.groups[at as usize]).len();
+    let groups = plan.group_columns();
+    'groups: for at in 0..groups.len() {
+        let length = row.field(groups[at]).len();
         if room < 4 || room - 4 < length {
             return true;
         }
@@ -111,10 +143,10 @@ fn first_unreadable(row: &Row, plan: &BoundPlan) -> Option<u32>
     requires { HasColumns plan.now (length row.now) }
     ensures { result ≡ position_from (is_unreadable row.now) 0 plan.now.items }
 {
-    'items: for at in 0..plan.item_count {
-        let item = plan.items[at as usize];
-        if is_unreadable(row, item) {
-            return Some(at);
+    let items = plan.items();
+    'items: for at in 0..items.len() {
+        if is_unreadable(row, items[at]) {
+            return Some(at as u32);
         }
     }
     None

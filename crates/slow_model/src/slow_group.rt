@@ -27,9 +27,9 @@ pub fn slow_state(rows: &[Row], key: &[u8], plan: &BoundPlan) -> AggState
     ensures { result ≡ state_of plan.now rows.now key.now }
 {
     let mut slots = [NO_VALUES; 8];
-    'items: for at in 0..plan.item_count {
-        let item = plan.items[at as usize];
-        slots[at as usize] = slot(rows, key, plan, item);
+    let items = plan.items();
+    'items: for at in 0..items.len() {
+        slots[at] = slot(rows, key, plan, items[at]);
     }
     let rows = count_rows(rows, key, plan);
     AggState { rows, slots }
@@ -178,8 +178,9 @@ fn has_key(row: &Row, key: &[u8], plan: &BoundPlan) -> bool
     ensures { result ≡ bytes_eq (key_of plan.now row.now) key.now }
 {
     let mut rest = key;
-    'groups: for at in 0..plan.group_count {
-        match after_field(rest, row.field(plan.groups[at as usize])) {
+    let groups = plan.group_columns();
+    'groups: for at in 0..groups.len() {
+        match after_field(rest, row.field(groups[at])) {
             Some(after) => rest = after,
             None => return false,
         }

@@ -24,17 +24,17 @@ outcome_text usage Table = []
 abbrev pub item_name : NamedPlan → ℕ → List ℕ
 item_name plan place = unwrap_or (option_and_then (λ item. item.column) (slice_get plan.items place)) []
 
--- the name of the filter's column
-abbrev pub filter_name : NamedPlan → List ℕ
-filter_name plan = option_map_or (λ filter. filter.column) plan.filter []
+-- the name of the column of the filter at a place
+abbrev pub filter_name : NamedPlan → ℕ → List ℕ
+filter_name plan place = option_map_or (λ filter. filter.column) (slice_get plan.filters place) []
 
 -- the places of the numbers of that column
 abbrev pub item_places : NamedPlan → ℕ → ℕ
 item_places plan place = option_map_or (λ item. item.places) (slice_get plan.items place) 0
 
--- the places of the filter's value
-abbrev pub filter_places : NamedPlan → ℕ
-filter_places plan = option_map_or (λ filter. filter.places) plan.filter 0
+-- the places of the numbers of that column
+abbrev pub filter_places : NamedPlan → ℕ → ℕ
+filter_places plan place = option_map_or (λ filter. filter.places) (slice_get plan.filters place) 0
 
 -- what a field is not that is no number of at most so many places
 abbrev pub number_kind : ℕ → List ℕ
@@ -48,7 +48,7 @@ refusal_text plan why =
     if why.cause == width_cause then codes "wrong number of fields"
     else (if why.cause == key_cause then codes "group key is longer than 248 bytes"
     else (if why.cause == item_cause then codes "column " ++ (item_name plan why.item ++ number_kind (item_places plan why.item))
-    else codes "filter column " ++ (filter_name plan ++ number_kind (filter_places plan))))
+    else codes "filter column " ++ (filter_name plan why.item ++ number_kind (filter_places plan why.item))))
 
 -- what a line says of a refused row
 abbrev pub row_text : NamedPlan → ℕ × Refusal → List ℕ

@@ -2,13 +2,14 @@
 //! their columns. The first fault ends it, in the order of the words, the reading, the header, the number of rows and
 //! the columns.
 
-ghost use Rattle.std.specs.Prelude.{◌≡◌, ◌≢◌, ◌⊎◌, ◌<◌, ◌≤◌, IfErr, IfOk, IfSome, IsNone, None, OnOk, Some, length};
+ghost use Rattle.std.specs.Prelude.{true, ◌≡◌, ◌≢◌, ◌⊎◌, ◌<◌, ◌≤◌, IfErr, IfOk, IfSome, IsNone, None, OnOk, Some, length};
 ghost use Rattle.csv_rows.specs.Records.{record_at};
 ghost use Rattle.csv_rows.specs.declared.records.TheConstants.{MOST_RECORDS};
 ghost use Rattle.par_io.specs.Faults.{Rose};
 ghost use Rattle.par_model.specs.Columns.{HasColumns};
 ghost use Rattle.par_model.specs.Named.{bound_plan, missing_name};
 ghost use Rattle.par_model.specs.Outcome.{by_records};
+ghost use Rattle.par_model.specs.Plain.{is_plain, is_plain_named};
 ghost use Rattle.partial_agg.specs.Rows.{header_width};
 ghost use Rattle.plan_spec.specs.declared.plan.PlanAnswer.TheVariants as answer;
 ghost use Rattle.answer_text.specs.Words.{texts};
@@ -60,6 +61,7 @@ pub fn prepare<S: Source, W: Reading>(
 /// Reads the words.
 fn read_words(alloc: Global, wanted: Wanted, words: &[String]) -> Result<Plan, PlanAnswer>
     ensures plan { IfOk result (λ plan. asked wanted (texts words.now) ≡ Some plan) }
+    ensures plain { IfOk result (λ plan. is_plain_named plan.plan ≡ true) }
     ensures usage { result ≡ Err answer.Usage → asked wanted (texts words.now) ≡ None }
 {
     match wanted {
@@ -92,6 +94,7 @@ fn bind(alloc: Global, plan: &Plan, rows: &RowStore) -> Result<BoundPlan, Stop>
     requires few { length rows.now ≤ MOST_RECORDS }
     ensures bound { IfOk result (λ bound. bound ≡ bound_plan (record_at rows.now 0) plan.now.plan) }
     ensures columns { IfOk result (λ bound. HasColumns bound (header_width rows.now)) }
+    ensures plain { IfOk result (λ bound. is_plain bound ≡ is_plain_named plan.now.plan) }
     ensures whole { OnOk result (missing_name (record_at rows.now 0) plan.now.plan ≡ None) }
     ensures why { IfErr result (λ why. Explains (Some plan.now.plan) why (by_records plan.now.plan rows.now)) }
     ensures no_fault { IfErr result (λ why. (why ≢ stop.ReadFault) × IsEarly why) }

@@ -1,7 +1,6 @@
 //! What a line says of a refused row.
 //!
-//! It names a column of a plan: that of an aggregate, by the aggregate's place, or that of the filter. The text is made at
-//! once, since the line is written after the plan is gone.
+//! It names a column of a plan: that of an aggregate or of a filter, by its place. The text is made at once, since the line is written after the plan is gone.
 
 ghost use Rattle.std.specs.Prelude.{◌≡◌, ◌⊎◌, ◌++◌, IfOk, OnOk, string_bytes};
 ghost use Rattle.table_query.specs.Lines.{number_kind, refusal_text};
@@ -37,8 +36,8 @@ pub fn refusal_text(alloc: Global, plan: &Plan, why: Refusal) -> Result<String, 
         let name = plan.item_name(why.item).unwrap_or("");
         return no_number(alloc, "column ", name, plan.item_places(why.item));
     }
-    let name = plan.filter_name().unwrap_or("");
-    no_number(alloc, "filter column ", name, plan.filter_places())
+    let name = plan.filter_name(why.item).unwrap_or("");
+    no_number(alloc, "filter column ", name, plan.filter_places(why.item))
 }
 
 /// What a line says of a field that is no number of at most so many places: a text, the name of its column, and what the

@@ -9,7 +9,8 @@ ghost use Rattle.partial_agg.specs.Rows.{IsAccepted, header_width};
 
 use csv_rows::{RowStore, rows};
 use par_model::{
-    AggState, BoundPlan, Filter, FilterOp, Item, ItemKind, NO_VALUES, Refusal, SlotState,
+    AggState, BoundPlan, Filter, FilterOp, FilterTest, Item, ItemKind, NO_FILTER, NO_VALUES,
+    Refusal, SlotState,
 };
 use partial_agg::{
     BLOCK_ROWS, BlockAnswer, Group, GroupKey, GroupMap, Groups, add_row, combine, empty, kept,
@@ -65,12 +66,21 @@ fn count_plan() -> BoundPlan
         items: [count, sum, unused, unused, unused, unused, unused, unused],
         item_count: 2,
         hash: false,
-        filter: Some(Filter {
-            column: 3,
-            op: FilterOp::NotEqual,
-            value: 9,
-            places: 0,
-        }),
+        filters: [
+            Filter {
+                column: 3,
+                test: FilterTest::Number(FilterOp::NotEqual, 9),
+                places: 0,
+            },
+            NO_FILTER,
+            NO_FILTER,
+            NO_FILTER,
+            NO_FILTER,
+            NO_FILTER,
+            NO_FILTER,
+            NO_FILTER,
+        ],
+        filter_count: 1,
     }
 }
 

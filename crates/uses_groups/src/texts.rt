@@ -55,15 +55,15 @@ fn answer_in_threads<R: Threads + Sync>(
     text_in_threads(rt, alloc, plan, bound, &groups, threads)
 }
 
-/// Whether a plan without a filter reads only columns below this width.
+/// Whether a plan reads only columns below this width.
 fn reads_below(bound: &BoundPlan, width: u32) -> bool
     ensures { OnTrue result (HasColumns bound.now width) }
 {
     let groups = &bound.groups[..bound.group_count as usize];
     let items = &bound.items[..bound.item_count as usize];
-    bound.filter.is_none()
-        && groups.iter().all(|column| *column < width)
+    groups.iter().all(|column| *column < width)
         && items.iter().all(|item| item.column < width)
+        && bound.filters().iter().all(|filter| filter.column < width)
 }
 
 /// The groups of a store of at most one block.

@@ -219,11 +219,11 @@ const REFUSED: [(&str, &str); 8] = [
     ),
     (
         "--where=gr\u{f6}\u{df}e>\u{1b}[31m01234567890123456789 --agg count",
-        "parstream: \"--where=gr\u{f6}\u{df}e>\\x1b[31m0123456789012345678\".. is not understood: --where takes a column, one of = != < <= > >=, and an integer, or a decimal with --decimals, as in 'qty>=10'; see parstream --help\n",
+        "parstream: \"--where=gr\u{f6}\u{df}e>\\x1b[31m0123456789012345678\".. is not understood: --where takes a column, one of = != < <= > >=, and an integer, or a decimal with --decimals, as in 'qty>=10'; after = and != also a text, as in region=north; see parstream --help\n",
     ),
     (
         "--agg count --agg sum:v",
-        "parstream: \"--agg\" is not understood: an option may be given once; see parstream --help\n",
+        "parstream: \"--agg\" is not understood: this option may be given once; see parstream --help\n",
     ),
     (
         "--agg count --workers",

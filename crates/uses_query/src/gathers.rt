@@ -1,14 +1,15 @@
 //! Runs over a few rows, which show what no clause says: that the calls succeed, with any number of workers.
 
-ghost use Rattle.std.specs.Prelude.{◌≤◌, IfOk, length};
+ghost use Rattle.std.specs.Prelude.{◌≡◌, ◌≤◌, IfOk, length, true};
 ghost use Rattle.par_model.specs.Columns.{HasColumns};
+ghost use Rattle.par_model.specs.Plain.{is_plain};
 ghost use Rattle.partial_agg.specs.Rows.{header_width};
 
 mod stopped;
 
 use csv_rows::{RowStore, rows};
 use gather_run::{GatherAnswer, Gathered, gather};
-use par_model::{BoundPlan, Item, ItemKind};
+use par_model::{BoundPlan, Item, ItemKind, NO_FILTER};
 use std::alloc::{AllocError, Global};
 use std::sync::Wait;
 use std::test::Fail;
@@ -30,6 +31,7 @@ fn table(alloc: Global, count: u64, names: u64) -> Result<Vec<u8>, AllocError>
 /// The query for the rows and the sum of `v` by `g`.
 fn query(alloc: Global, text: &[u8]) -> Result<(RowStore, BoundPlan), Fail>
     ensures columns { IfOk result (λ query. HasColumns query.1 (header_width query.0)) }
+    ensures plain { IfOk result (λ query. is_plain query.1 ≡ true) }
 {
     let store = match rows(alloc, text) {
         Ok(store) => store,
@@ -54,7 +56,8 @@ fn query(alloc: Global, text: &[u8]) -> Result<(RowStore, BoundPlan), Fail>
         items: [unused, sum, unused, unused, unused, unused, unused, unused],
         item_count: 2,
         hash: false,
-        filter: None,
+        filters: [NO_FILTER; 8],
+        filter_count: 0,
     };
     Ok((store, plan))
 }
@@ -68,6 +71,7 @@ fn gathered<R: Threads + Wait + Sync>(
     workers: u32,
 ) -> Result<Gathered, Fail>
     requires columns { HasColumns plan.now (header_width store.now) }
+    requires plain { is_plain plan.now ≡ true }
     requires workers { workers ≤ 64 }
 {
     match gather(rt, alloc, store, plan, workers, 0, &OpenGate) {

@@ -11,7 +11,7 @@ mod stopping;
 
 use csv_rows::{RowStore, rows};
 use gather_merge::{MergeAnswer, Merged, merge};
-use par_model::{BoundPlan, Item, ItemKind};
+use par_model::{BoundPlan, Item, ItemKind, NO_FILTER};
 use std::alloc::{AllocError, Global};
 use std::sync::Wait;
 use std::test::Fail;
@@ -49,7 +49,8 @@ fn ordered_by(
         ],
         item_count: 1,
         hash: false,
-        filter: None,
+        filters: [NO_FILTER; 8],
+        filter_count: 0,
     };
     Ok((store, plan))
 }

@@ -1,9 +1,10 @@
 //! Descriptors that are written and read, through a table of contents and word by word.
 
-ghost use Rattle.std.specs.Prelude.{◌≡◌, ◌<◌, ℕ, IsSome, Some};
+ghost use Rattle.std.specs.Prelude.{◌≡◌, ◌<◌, ℕ, IsSome, Some, true};
+ghost use Rattle.par_model.specs.Plain.{is_plain};
 ghost use Rattle.word_map.specs.WordMap.{at as word_at, HasJust};
 
-use par_model::{BoundPlan, Filter, FilterOp, Item, ItemKind};
+use par_model::{BoundPlan, Filter, FilterOp, FilterTest, Item, ItemKind, NO_FILTER};
 use plan_descriptor::{BadDescriptor, PLAN_KEY, plan_in, read_plan, write_plan};
 use region_words::{Chunk, Part, Region};
 use shm_toc::Toc;
@@ -22,6 +23,7 @@ const UNUSED: Item = Item {
 fn through_a_table(r: &Region, part: Part, plan: &BoundPlan) -> Option<BoundPlan>
     requires here { part.region ≡ r.now }
     requires owns { HasJust part.words 0 48 }
+    requires plain { is_plain plan.now ≡ true }
     ensures { result ≡ Some plan.now }
 {
     let mut toc = Toc::create(r, part, 48, 1601);
@@ -80,7 +82,9 @@ fn store_words(r: &Region, chunk: &mut Chunk, words: &[u64; 32])
 }
 
 /// Two groups, three aggregates, and a filter with this relation.
-fn plan_with(op: FilterOp, value: i64) -> BoundPlan {
+fn plan_with(op: FilterOp, value: i64) -> BoundPlan
+    ensures { is_plain result ≡ true }
+{
     let item = |kind, column| Item {
         kind,
         column,
@@ -101,12 +105,21 @@ fn plan_with(op: FilterOp, value: i64) -> BoundPlan {
         ],
         item_count: 3,
         hash: true,
-        filter: Some(Filter {
-            column: 7,
-            op,
-            value,
-            places: 0,
-        }),
+        filters: [
+            Filter {
+                column: 7,
+                test: FilterTest::Number(op, value),
+                places: 0,
+            },
+            NO_FILTER,
+            NO_FILTER,
+            NO_FILTER,
+            NO_FILTER,
+            NO_FILTER,
+            NO_FILTER,
+            NO_FILTER,
+        ],
+        filter_count: 1,
     }
 }
 
@@ -147,7 +160,9 @@ const WORDS: [u64; 32] = [
 ];
 
 /// The plan that is written into a new region and read there.
-fn read_back(alloc: Global, plan: &BoundPlan) -> Result<BoundPlan, Fail> {
+fn read_back(alloc: Global, plan: &BoundPlan) -> Result<BoundPlan, Fail>
+    requires { is_plain plan.now ≡ true }
+{
     let (region, mut part) = Region::new(alloc, 64)?;
     let words = first_words(&region, &mut part);
     Ok(through_a_table(&region, words, plan).ok_or("no room")?)
@@ -167,7 +182,21 @@ fn are_same(one: &BoundPlan, other: &BoundPlan) -> bool {
         && one.items == other.items
         && one.item_count == other.item_count
         && one.hash == other.hash
-        && one.filter == other.filter
+        && one.filter_count == other.filter_count
+        && is_same(&one.filters[0], &other.filters[0])
+}
+
+/// Whether two filters of numbers are the same.
+fn is_same(one: &Filter, other: &Filter) -> bool {
+    match (&one.test, &other.test) {
+        (FilterTest::Number(op, value), FilterTest::Number(other_op, other_value)) => {
+            one.column == other.column
+                && one.places == other.places
+                && op == other_op
+                && value == other_value
+        }
+        _ => false,
+    }
 }
 
 #[test]
@@ -194,7 +223,9 @@ fn both_versions_are_read(rt: HostRuntime) -> Result<(), Fail> {
         words[0] = version;
         let mut plan = plan_with(FilterOp::LessEqual, -2);
         if version == 1 {
-            plan.filter = None;
+            let none = [NO_FILTER; 8];
+            plan.filters = none;
+            plan.filter_count = 0;
         }
         let read = read_words(rt.alloc(), &words)?.ok().ok_or("no plan")?;
         assert!(rt; are_same(&read, &plan));

@@ -132,6 +132,6 @@ fn binds(rt: HostRuntime) -> Result<(), Fail> {
     let list = owned(rt.alloc(), WORDS)?;
     let bound = bound_words(rt.alloc(), list.as_slice(), &store).ok_or("no plan")?;
     assert!(rt; bound.groups[0] == 0 && bound.items[1].column == 1 && bound.item_count == 2);
-    assert!(rt; bound.filter.is_some() && !bound.hash);
+    assert!(rt; bound.filters().len() == 1 && !bound.hash);
     Ok(())
 }

@@ -5,8 +5,8 @@ ghost use Rattle.par_model.specs.Columns.{HasColumns};
 ghost use Rattle.par_model.specs.declared.plan.ItemKind.TheVariants as kind;
 
 use par_model::{
-    AggState, BoundPlan, Field, Filter, FilterOp, Item, ItemKind, Refusal, Row, SlotState,
-    read_integer, read_number,
+    AggState, BoundPlan, Field, Filter, FilterOp, FilterTest, Item, ItemKind, NO_FILTER, Refusal,
+    Row, SlotState, read_integer, read_number,
 };
 use slow_model::{slow_refusal, slow_state};
 use std::alloc::{AllocError, Global};
@@ -21,7 +21,7 @@ const UNUSED: Item = Item {
 
 /// Counts the rows of each group of a column: the caller of CALLING.md.
 fn count_by(column: u32) -> BoundPlan
-    ensures { result ≡ record { groups = column ∷ []; items = record { kind = kind.Rows; column = 0; places = 0 } ∷ []; hash = false; filter = None } }
+    ensures { result ≡ record { groups = column ∷ []; items = record { kind = kind.Rows; column = 0; places = 0 } ∷ []; hash = false; filters = [] } }
 {
     BoundPlan {
         groups: [column, 0, 0, 0, 0, 0, 0, 0],
@@ -29,7 +29,8 @@ fn count_by(column: u32) -> BoundPlan
         items: [UNUSED; 8],
         item_count: 1,
         hash: false,
-        filter: None,
+        filters: [NO_FILTER; 8],
+        filter_count: 0,
     }
 }
 
@@ -199,12 +200,21 @@ fn sum_below_five() -> BoundPlan
         ],
         item_count: 1,
         hash: false,
-        filter: Some(Filter {
-            column: 1,
-            op: FilterOp::Less,
-            value: 5,
-            places: 0,
-        }),
+        filters: [
+            Filter {
+                column: 1,
+                test: FilterTest::Number(FilterOp::Less, 5),
+                places: 0,
+            },
+            NO_FILTER,
+            NO_FILTER,
+            NO_FILTER,
+            NO_FILTER,
+            NO_FILTER,
+            NO_FILTER,
+            NO_FILTER,
+        ],
+        filter_count: 1,
     }
 }
 
@@ -263,12 +273,21 @@ fn all_aggregates() -> BoundPlan
         ],
         item_count: 6,
         hash: false,
-        filter: Some(Filter {
-            column: 2,
-            op: FilterOp::NotEqual,
-            value: 9,
-            places: 0,
-        }),
+        filters: [
+            Filter {
+                column: 2,
+                test: FilterTest::Number(FilterOp::NotEqual, 9),
+                places: 0,
+            },
+            NO_FILTER,
+            NO_FILTER,
+            NO_FILTER,
+            NO_FILTER,
+            NO_FILTER,
+            NO_FILTER,
+            NO_FILTER,
+        ],
+        filter_count: 1,
     }
 }
 

@@ -8,7 +8,7 @@ use std::test::Fail;
 use std::thread::Threads;
 
 /// Words, the input, and the status with what was written: the table, or the line after the program's name.
-type Row = (&'static str, &'static str, u8, &'static str);
+pub(crate) type Row = (&'static str, &'static str, u8, &'static str);
 
 /// A table of prices in every form that a number with two places may have.
 const PRICES: &str = "g,price,w\na,1.50,0.125\nb,-2,1\na, +0.05 ,-.5\na,.5,\nb,,2.5\n";
@@ -117,11 +117,11 @@ const ROWS: [Row; 18] = [
     ("--agg count --decimals 2,", PRICES, 2, USAGE),
 ];
 
-const USAGE: &str =
-    ": usage: parstream [--group COLUMNS] --agg ITEMS [--where FILTER] [--decimals PLACES] [--workers N]\n";
+pub(crate) const USAGE: &str =
+    ": usage: parstream [--group COLUMNS] --agg ITEMS [--where FILTER].. [--decimals PLACES] [--workers N]\n";
 
 /// Whether the answer to a row is the one that it has, for each of several numbers of workers.
-fn is_answered<R: Threads + Wait + Sync>(
+pub(crate) fn is_answered<R: Threads + Wait + Sync>(
     rt: &R,
     alloc: Global,
     row: Row,

@@ -7,6 +7,8 @@ mod decimals;
 #[cfg(test)]
 mod faults;
 #[cfg(test)]
+mod filters;
+#[cfg(test)]
 mod ranges;
 #[cfg(test)]
 mod shares;

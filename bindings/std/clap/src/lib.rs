@@ -1,9 +1,9 @@
 //! Stands for the toolchain's `clap`, as far as the programs use it: a command with long options that each take one value
-//! and may be given once.
+//! and may be given once, or again if their action is to append.
 //!
 //! The rules, which are clap's own: `--name value` and `--name=value`; a value may be empty; a word that begins with `-`
 //! and has more is no value behind a space; `--` ends the options, and nothing may stand behind it, since the command
-//! takes no other words; an option is given once, and one that is required at least once; `--help` is an answer of its
+//! takes no other words; an option is given once if it does not append, and one that is required at least once; `--help` is an answer of its
 //! own, and so an `Err`.
 
 #![forbid(unsafe_code)]
@@ -57,12 +57,20 @@ impl From<ErrorKind> for Error {
     }
 }
 
+/// What an option does with a value: it is the only one, or comes after those before it.
+#[derive(Clone, Copy, Debug, PartialEq, Eq)]
+pub enum ArgAction {
+    Set,
+    Append,
+}
+
 /// An option that takes one value.
 #[derive(Debug)]
 pub struct Arg<'a> {
     id: &'a str,
     long: Option<&'a str>,
     is_required: bool,
+    action: ArgAction,
 }
 
 impl<'a> Arg<'a> {
@@ -71,6 +79,7 @@ impl<'a> Arg<'a> {
             id,
             long: None,
             is_required: false,
+            action: ArgAction::Set,
         }
     }
 
@@ -83,6 +92,12 @@ impl<'a> Arg<'a> {
     /// Whether it has to be given.
     pub fn required(mut self, is_required: bool) -> Arg<'a> {
         self.is_required = is_required;
+        self
+    }
+
+    /// What it does with a value.
+    pub fn action(mut self, action: ArgAction) -> Arg<'a> {
+        self.action = action;
         self
     }
 }
@@ -117,7 +132,10 @@ impl<'a> Command<'a> {
 
     /// What the words give for each option.
     pub fn try_get_matches_from<S: AsRef<str>>(self, words: &'a [S]) -> Result<ArgMatches<'a>, Error> {
-        let mut values: Vec<Option<&'a str>> = Vec::filled(self.alloc, None, self.args.len())?;
+        let mut values: Vec<Vec<&'a str>> = Vec::new(self.alloc);
+        for _ in self.args.as_slice() {
+            values.push(Vec::new(self.alloc))?;
+        }
         let mut rest = words.iter().map(AsRef::as_ref).skip(usize::from(self.has_binary_name));
         while let Some(word) = rest.next() {
             if word == "--" {
@@ -127,11 +145,11 @@ impl<'a> Command<'a> {
                 };
             }
             let (at, attached) = self.option(word)?;
-            if values[at].is_some() {
+            if self.args[at].action == ArgAction::Set && !values[at].is_empty() {
                 return Err(ErrorKind::ArgumentConflict.into());
             }
             let value = attached.or_else(|| rest.next().filter(|next| is_value(next)));
-            values[at] = Some(value.ok_or(ErrorKind::InvalidValue)?);
+            values[at].push(value.ok_or(ErrorKind::InvalidValue)?)?;
         }
         self.matches(values)
     }
@@ -156,8 +174,8 @@ impl<'a> Command<'a> {
     }
 
     /// The values, if each option that is required has one.
-    fn matches(self, values: Vec<Option<&'a str>>) -> Result<ArgMatches<'a>, Error> {
-        let is_missing = |(arg, value): (&Arg<'_>, &Option<&str>)| arg.is_required && value.is_none();
+    fn matches(self, values: Vec<Vec<&'a str>>) -> Result<ArgMatches<'a>, Error> {
+        let is_missing = |(arg, given): (&Arg<'_>, &Vec<&str>)| arg.is_required && given.is_empty();
         if self.args.iter().zip(&values).any(is_missing) {
             return Err(ErrorKind::MissingRequiredArgument.into());
         }
@@ -177,14 +195,20 @@ fn is_value(word: &str) -> bool {
 #[derive(Debug)]
 pub struct ArgMatches<'a> {
     args: Vec<Arg<'a>>,
-    values: Vec<Option<&'a str>>,
+    values: Vec<Vec<&'a str>>,
 }
 
 impl<'a> ArgMatches<'a> {
-    /// The value of an option.
+    /// The value of an option, the first if there are more.
     pub fn get_str(&self, id: &str) -> Option<&'a str> {
+        self.get_strs(id)?.first().copied()
+    }
+
+    /// The values of an option, if it is given.
+    pub fn get_strs(&self, id: &str) -> Option<&[&'a str]> {
         let at = self.args.iter().position(|arg| arg.id == id)?;
-        self.values[at]
+        let given = self.values[at].as_slice();
+        (!given.is_empty()).then_some(given)
     }
 }
 
@@ -215,6 +239,20 @@ mod tests {
         assert_eq!(parsed("--agg=a=b --group="), values(Some(""), "a=b"));
         assert_eq!(parsed("--agg - --group=-x --"), values(Some("-x"), "-"));
         assert_eq!(parsed("--agg "), values(None, ""));
+    }
+
+    #[test]
+    fn appends() {
+        let words = ["--where", "a", "--where=b", "--where=", "--agg", "c"];
+        let command = Command::new(Global, "parstream")
+            .no_binary_name(true)
+            .arg(Arg::new(Global, "where").long("where").action(ArgAction::Append))
+            .and_then(|command| command.arg(Arg::new(Global, "agg").long("agg").required(true)))
+            .unwrap();
+        let matches = command.try_get_matches_from(&words).unwrap();
+        assert_eq!(matches.get_strs("where"), Some(["a", "b", ""].as_slice()));
+        assert_eq!(matches.get_strs("agg"), Some(["c"].as_slice()));
+        assert_eq!(matches.get_str("where"), Some("a"));
     }
 
     #[test]

@@ -58,4 +58,4 @@ returns-clause-words c =
 pub returns-clause-plan : goal.returns-clause-plan
 returns-clause-plan c =
     let inv = c.words.invariant in
-    writable c.args.plan.now c.has_room.ensures (λ k low. inv.narrow k (omega arith) low) (λ i low. inv.columns i (omega arith) low) (inv.value (omega arith))
+    writable c.args.plan.now c.requires.plain c.has_room.ensures (λ k low. inv.narrow k (omega arith) low) (λ i low. inv.columns i (omega arith) low) (inv.value (omega arith))

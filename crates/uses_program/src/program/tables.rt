@@ -193,7 +193,7 @@ const REFUSALS: &[Refusal] = &[
         2,
         "pargather: no column u\n",
     ),
-    ("--agg count --where v=", FILTERED, 2, USAGE),
+    ("--agg count --where v<", FILTERED, 2, USAGE),
     ("--agg count --where v==1", FILTERED, 2, USAGE),
     (
         "--group k --agg count --where v=0",

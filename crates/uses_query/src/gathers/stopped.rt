@@ -1,8 +1,9 @@
 //! A lead that leaves its queues while the worker is at its first block: the worker ends stopped.
 
-ghost use Rattle.std.specs.Prelude.{All};
+ghost use Rattle.std.specs.Prelude.{◌≡◌, All, true};
 ghost use Rattle.std.specs.List.{AllZip};
 ghost use Rattle.par_model.specs.Columns.{HasColumns};
+ghost use Rattle.par_model.specs.Plain.{is_plain};
 ghost use Rattle.parallel_ctx.specs.Tokens.{AreHere, SameQueues};
 ghost use Rattle.partial_agg.specs.Rows.{header_width};
 
@@ -148,6 +149,7 @@ fn is_stopped<R: Threads + Wait + Sync>(
     plan: &BoundPlan,
 ) -> Result<bool, Fail>
     requires columns { HasColumns plan.now (header_width rows.now) }
+    requires plain { is_plain plan.now ≡ true }
 {
     let gate = Barred {
         open: AtomicBool::new(false),

@@ -1,4 +1,4 @@
-use Rattle.std.proofs.Common.{◌<◌, ◌≤◌, ◌+◌, ◌-◌, ◌^◌, ◌≡◌, ℕ, arith, ap, get_or, length, refl, subst}
+use Rattle.std.proofs.Common.{◌≤◌, ◌+◌, ◌-◌, ◌^◌, arith, get_or, length, refl}
 use Rattle.par_model.proofs.Magnitudes.{one-more}
 use Rattle.par_model.proofs.Runs.{pow-up, within-more}
 use Rattle.par_model.proofs.ShortNumbers.{digit-unit}

@@ -1,4 +1,4 @@
-use Rattle.std.proofs.Common.{◌≡◌, ◌<◌, ◌≤◌, ◌+◌, ◌-◌, ◌^◌, ℕ, IfSome, None, Some, Option, arith, length}
+use Rattle.std.proofs.Common.{◌+◌, ◌-◌, arith, length}
 use Rattle.par_model.proofs.Runs.{below, pow-some}
 use Rattle.par_model.proofs.number.short_magnitude.Goals as goal
 

@@ -1,10 +1,10 @@
 use Rattle.std.proofs.Common.{◌≡◌, ◌<◌, ◌+◌, ◌-◌, ◌*◌, ◌/◌, ◌%◌, ◌^◌, ◌∙◌, FitsSigned, Option, ap, arith, subst, sym, w64}
 use Rattle.par_model.specs.PlanLayout.{unused}
 use Rattle.std.specs.Option.{ForSome}
-use Rattle.par_model.specs.declared.plan.Filter.{Filter}
+use Rattle.plan_descriptor.specs.declared.words.NumberFilter.{NumberFilter as Filter}
 use Rattle.plan_descriptor.proofs.Padded.{padded}
-use Rattle.plan_descriptor.proofs.Sections.{word_of_group, word_of_item}
-use Rattle.plan_descriptor.specs.Descriptor.{item_word}
+use Rattle.plan_descriptor.proofs.Sections.{word_of_filter, word_of_group, word_of_item}
+use Rattle.plan_descriptor.specs.Descriptor.{filter_word, item_word}
 use Rattle.plan_descriptor.proofs.words.plan_word.Goals as goal
 
 pub returns-then-place-lt12-clause-word : goal.returns-then-place-lt12-clause-word
@@ -31,4 +31,9 @@ returns-then-place-lt28-clause-item c = λ _ _.
     rw (padded inside.items c.args.plan.now.items inside.item_count (8 - inside.item_count) i unused (sym (ap (λ p. p.items) c.plan.view_is)) c.plan.invariant.items_end) c.item_word.ensures.column
 
 pub returns-clause-value : goal.returns-clause-value
-returns-clause-value c = λ _. subst (λ (o : Option Filter). ForSome o (λ filter. (filter.column < 2 ^ 32) × FitsSigned w64 filter.value)) (ap (λ p. p.filter) c.plan.view_is) c.filter_word.ensures.value
+returns-clause-value c = λ _. subst (λ (o : Option Filter). ForSome o (λ filter. (filter.column < 2 ^ 32) × FitsSigned w64 filter.value)) c.filter_of.ensures c.filter_word.ensures.value
+
+pub returns-clause-word : goal.returns-clause-word
+returns-clause-word c =
+    let same : 28 + (c.args.place - 28) ≡ c.args.place = omega arith in
+    c.filter_word.ensures.word ∙ ap (λ (o : Option Filter). filter_word o (c.args.place - 28)) c.filter_of.ensures ∙ sym (rw same at (word_of_filter 2 c.args.plan.now (c.args.place - 28)))

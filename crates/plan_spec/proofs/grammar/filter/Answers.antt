@@ -8,10 +8,10 @@ range-requires-clause-end_boundary c = is_boundary c.args.text.now c.relation_pl
 
 pub returns-clause-filter : goal.returns-clause-filter
 returns-clause-filter c =
-    rw (filter_at (map entry_of c.args.places.now) c.args.text.now c.as_bytes-bytes.result.now c.range.result.now c.relation_place-at.result c.as_bytes-bytes.ensures.value c.range.ensures.value c.relation_place-at.ensures.place c.if-at-eq0.false)
+    rw (filter_at c.args.texts (map entry_of c.args.places.now) c.args.text.now c.as_bytes-bytes.result.now c.range.result.now c.relation_place-at.result c.as_bytes-bytes.ensures.value c.range.ensures.value c.relation_place-at.ensures.place c.if-at-eq0.false)
     c.column_filter.ensures.filter
 
 pub returns-clause-none : goal.returns-clause-none
 returns-clause-none c =
-    rw (filter_at (map entry_of c.args.places.now) c.args.text.now c.as_bytes-bytes.result.now c.range.result.now c.relation_place-at.result c.as_bytes-bytes.ensures.value c.range.ensures.value c.relation_place-at.ensures.place c.if-at-eq0.false)
+    rw (filter_at c.args.texts (map entry_of c.args.places.now) c.args.text.now c.as_bytes-bytes.result.now c.range.result.now c.relation_place-at.result c.as_bytes-bytes.ensures.value c.range.ensures.value c.relation_place-at.ensures.place c.if-at-eq0.false)
     c.column_filter.ensures.none

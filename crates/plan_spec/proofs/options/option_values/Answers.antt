@@ -1,4 +1,5 @@
 use Rattle.std.proofs.Common.{rules, ◌≡◌, ◌∙◌, ap, codes, false, map, string_bytes}
+use Rattle.std.specs.Prelude.{option_to_list}
 use Rattle.clap.proofs.WalkLemmas.{first_value-rows}
 use Rattle.clap.specs.Words.{App, app_of, first_of, found_of, is_simple_and_free}
 use Rattle.plan_spec.specs.Options.{is_command_line, pargather_command, value_of}
@@ -12,13 +13,13 @@ pub returns-clause-takes : goal.returns-clause-takes
 returns-clause-takes c = taken_by (app_of c.in-Ok.command) pargather_command _ c.in-Ok.ensures c.in_ok-matches.ensures.takes
 
 pub returns-clause-group : goal.returns-clause-group
-returns-clause-group c = c.get_str.ensures ∙ first_value-rows (found_of c.in_ok-matches.matches) (codes "group") ∙ ap (first_of (codes "group")) c.in_ok-matches.ensures.rows ∙ ap (λ (a : App). value_of a (codes "group") (map string_bytes c.args.words.now)) c.in-Ok.ensures
+returns-clause-group c = c.get_str-2.ensures ∙ first_value-rows (found_of c.in_ok-matches.matches) (codes "group") ∙ ap (first_of (codes "group")) c.in_ok-matches.ensures.rows ∙ ap (λ (a : App). value_of a (codes "group") (map string_bytes c.args.words.now)) c.in-Ok.ensures
 
 pub returns-clause-agg : goal.returns-clause-agg
-returns-clause-agg c = c.get_str-2.ensures ∙ first_value-rows (found_of c.in_ok-matches.matches) (codes "agg") ∙ ap (first_of (codes "agg")) c.in_ok-matches.ensures.rows ∙ ap (λ (a : App). value_of a (codes "agg") (map string_bytes c.args.words.now)) c.in-Ok.ensures
+returns-clause-agg c = c.get_str-3.ensures ∙ first_value-rows (found_of c.in_ok-matches.matches) (codes "agg") ∙ ap (first_of (codes "agg")) c.in_ok-matches.ensures.rows ∙ ap (λ (a : App). value_of a (codes "agg") (map string_bytes c.args.words.now)) c.in-Ok.ensures
 
-pub returns-clause-filter : goal.returns-clause-filter
-returns-clause-filter c = c.get_str-3.ensures ∙ first_value-rows (found_of c.in_ok-matches.matches) (codes "where") ∙ ap (first_of (codes "where")) c.in_ok-matches.ensures.rows ∙ ap (λ (a : App). value_of a (codes "where") (map string_bytes c.args.words.now)) c.in-Ok.ensures
+pub returns-clause-filters : goal.returns-clause-filters
+returns-clause-filters c = c.in-Ok-list_of.ensures ∙ ap option_to_list (c.get_str.ensures ∙ first_value-rows (found_of c.in_ok-matches.matches) (codes "where") ∙ ap (first_of (codes "where")) c.in_ok-matches.ensures.rows ∙ ap (λ (a : App). value_of a (codes "where") (map string_bytes c.args.words.now)) c.in-Ok.ensures)
 
 pub returns-clause-workers : goal.returns-clause-workers
 returns-clause-workers c = c.get_str-4.ensures ∙ first_value-rows (found_of c.in_ok-matches.matches) (codes "workers") ∙ ap (first_of (codes "workers")) c.in_ok-matches.ensures.rows ∙ ap (λ (a : App). value_of a (codes "workers") (map string_bytes c.args.words.now)) c.in-Ok.ensures

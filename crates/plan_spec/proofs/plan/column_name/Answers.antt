@@ -1,5 +1,4 @@
-use Rattle.std.proofs.Common.{◌≡◌, Some, None, suc, string_bytes, refl, arith}
-use Rattle.std.specs.Prelude.{option_map, option_to_list}
+use Rattle.std.proofs.Common.{◌≡◌, Some, None, suc, map, string_bytes, refl, arith}
 use Rattle.plan_spec.proofs.ItemNames.{drop-none, drop-some}
 use Rattle.plan_spec.proofs.plan.column_name.Goals.{in-None, in-Some-2}
 use Rattle.plan_spec.proofs.plan.column_name.Goals as goal
@@ -7,7 +6,7 @@ use Rattle.plan_spec.proofs.plan.column_name.Goals as goal
 pub items-preserved : goal.items-preserved
 items-preserved c =
     let inv = c.items.invariant in
-    let tail = option_to_list (option_map (λ f. f.column) c.args.filter.now) in
+    let tail = map (λ f. f.column) c.args.filters.now in
     elim c.match-item.branch [
       | in-Some-2 w ↦
           let named : c.item-item.result.column ≡ Some (string_bytes w.in-Some.name) = rw (← c.item.view_is, w.in-Some.is) refl in

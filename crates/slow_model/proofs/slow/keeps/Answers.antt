@@ -1,11 +1,13 @@
-use Rattle.std.proofs.Common.{refl}
+use Rattle.std.proofs.Common.{◌≡◌, ◌∙◌, ℕ, Bool, true, false, not, ap, refl, is_none, is_some, Option, Some, None}
 use Rattle.par_model.specs.Keep.{is_kept}
 use Rattle.slow_model.proofs.slow.keeps.Goals as goal
 
-pub returns-in-None : goal.returns-in-None
-unfolding is_kept
-returns-in-None c = rw (← c.plan.view_is, c.in-None.is) refl
+said : (o : Option ℕ) (none : Bool) → is_some o ≡ not none → none ≡ is_none o
+said None true e = refl
+said None false e = cc
+said (Some place) true e = cc
+said (Some place) false e = refl
 
-pub returns-in-Some : goal.returns-in-Some
+pub returns : goal.returns
 unfolding is_kept
-returns-in-Some c = rw (← c.plan.view_is, c.in-Some.is, c.passes.ensures) refl
+returns c = said c.deciding.result c.is_none.result c.is_none.ensures ∙ ap is_none c.deciding.ensures.place
