@@ -1,7 +1,7 @@
 use Rattle.std.proofs.Common.{◌≡◌, None, not, take}
 use Rattle.std.specs.List.{position_from}
 use Rattle.par_model.specs.Keep.{keeps}
-use Rattle.partial_agg.proofs.row.judge.Given as goal
+use Rattle.partial_agg.proofs.row.judge_by.Given as goal
 
 -- the filters so far keep the row
 abbrev pub invariant-loop-i : goal.invariant-loop-i
