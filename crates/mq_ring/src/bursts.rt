@@ -1,7 +1,7 @@
 //! Runs of words, which are bytes of a message. The cells of a run lie in a row, or in two rows if it wraps around the
 //! ring's end. An end takes the cells of a row out of the table by one load, whatever their number, and gives them back
 //! by another; between the two they are plain memory. Words go eight bytes at a time. The last word of a message goes by
-//! itself if the message ends within it.
+//! itself if the message ends within it, and so does each of a few words.
 
 ghost use Rattle.std.specs.Prelude.{◌≡◌, ◌+◌, ◌*◌, ◌^◌, ◌<◌, ◌≤◌, ◌++◌, List, ℕ, false, length, slice_index, cond};
 ghost use Rattle.std.specs.List.{fold, AllByRecursion};
@@ -19,6 +19,9 @@ use atomic_table::Seat;
 use region_rule::{Known, PutsRow, TakesRow};
 use region_words::Region;
 use rel_pointer::{pack, unpack};
+
+/// With fewer words a row costs more than each word by itself.
+const SHORTEST_ROW: u64 = 4;
 
 impl RingTx {
     /// Stores the given number of words of the bytes, from word `from` on, one after the other. The receiver may take
@@ -150,13 +153,15 @@ impl RingRx {
     }
 }
 
-/// How many of these words have all their bytes: all, or all but the last.
+/// How many of these words go by rows: all of those that have all their bytes, or none, if they are too few to be worth
+/// a row's two loads.
 fn whole_words(bytes: &[u8], from: u64, words: u64) -> u64
     requires inside { from + words ≤ word_count (length bytes.now) }
     ensures few { result ≤ words }
     ensures whole { 0 < result → 8 * (from + result) ≤ length bytes.now }
 {
-    words.min((bytes.len() as u64 / 8).saturating_sub(from))
+    let whole = words.min((bytes.len() as u64 / 8).saturating_sub(from));
+    if whole < SHORTEST_ROW { 0 } else { whole }
 }
 
 /// The word at a place of the bytes, all of whose bytes are there.

@@ -10,9 +10,7 @@ ghost use Rattle.plan_descriptor.specs.Descriptor.{IsDescriptor, IsWritable, bad
 
 use crate::BadDescriptor;
 use crate::words::NumberFilter;
-use par_model::{
-    BoundPlan, Filter, FilterOp, FilterTest, Item, ItemKind, MOST_PLACES, NO_FILTER,
-};
+use par_model::{BoundPlan, Filter, FilterOp, FilterTest, Item, ItemKind, MOST_PLACES, NO_FILTER};
 
 /// The plan of the words of a descriptor, or the least word that is not allowed.
 pub(crate) fn decode(words: &[u64]) -> Result<BoundPlan, BadDescriptor>

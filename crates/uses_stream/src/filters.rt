@@ -60,18 +60,8 @@ const ROWS: [Row; 19] = [
         1,
         ": row 3: filter column zip is not an integer\n",
     ),
-    (
-        "--agg count --where zip=\"01234\"",
-        ZIPS,
-        0,
-        "count\n1\n",
-    ),
-    (
-        "--agg count --where zip!=\"01234\"",
-        ZIPS,
-        0,
-        "count\n2\n",
-    ),
+    ("--agg count --where zip=\"01234\"", ZIPS, 0, "count\n1\n"),
+    ("--agg count --where zip!=\"01234\"", ZIPS, 0, "count\n2\n"),
     // words that are no query
     ("--agg count --where v==1", ROWS_OF_G, 2, USAGE),
     ("--agg count --where v<x", ROWS_OF_G, 2, USAGE),
