@@ -11,11 +11,12 @@ use crate::rows::stop_of_block;
 use crate::stop::Stop;
 use par_io::Source;
 use par_model::BoundPlan;
-use partial_agg::GroupMap;
+use part_run::Parts;
+use partial_agg::{BlockAnswer, GroupMap};
 use plan_spec::Plan;
 use row_windows::WindowAnswer;
 use split_run::add_pieces;
-use std::alloc::Global;
+use std::alloc::{AllocError, Global};
 use std::mem;
 use std::sync::Wait;
 use std::thread::{Threads, join_mut};
@@ -23,10 +24,36 @@ use std::thread::{Threads, join_mut};
 /// The most rows for which averages are exact: 2^50. A source with more of them is answered as out of memory.
 const MOST_ROWS: u64 = 1_125_899_906_842_624;
 
-/// The maps of the participants, which share all rows so far, and how many these are.
+/// The fewest groups of one participant from which on keys are parted, if they are many for the rows that come.
+const FEWEST_GROUPS: usize = 16_384;
+
+/// With fewer rows for each new group in a batch, keys are parted.
+const FEWEST_ROWS: u64 = 4;
+
+/// So many bytes of rows may wait at least until they are grouped.
+const MOST_WAITING: usize = 16_777_216;
+
+/// The groups of all rows so far: in maps of the participants, which share the rows, or in maps of the parts of the keys.
+#[derive(Drop)]
+pub(crate) enum Gathered {
+    Near(Vec<GroupMap>),
+    Parted(Parts),
+}
+
+impl Gathered {
+    /// How many groups there are at least.
+    pub(crate) fn groups(&self) -> u64 {
+        match self {
+            Gathered::Near(maps) => most_groups(maps) as u64,
+            Gathered::Parted(parts) => parts.groups(),
+        }
+    }
+}
+
+/// The groups of all rows so far, and how many rows these are.
 #[derive(Drop)]
 pub(crate) struct Added {
-    pub(crate) maps: Vec<GroupMap>,
+    pub(crate) gathered: Gathered,
     pub(crate) count: u64,
 }
 
@@ -125,15 +152,83 @@ pub(crate) fn add_batch<R: Threads + Wait + Sync>(
 {
     // Tells that there are few maps. It does nothing.
     let _workers = plan.workers();
-    let olds = mem::replace(&mut added.maps, Vec::new(alloc));
-    let (news, more) = match add_pieces(rt, alloc, batch.pieces.as_slice(), bound, olds) {
-        Ok(done) => done,
-        Err(why) => return Err(stop_of_block(alloc, plan, added.count, why)),
+    let old = mem::replace(&mut added.gathered, Gathered::Near(Vec::new(alloc)));
+    let done = match old {
+        Gathered::Near(maps) => add_near(rt, alloc, bound, batch, maps),
+        Gathered::Parted(parts) => add_parted(rt, alloc, bound, batch, parts),
     };
-    added.maps = news;
-    added.count = added.count.saturating_add(more);
+    match done {
+        Ok((gathered, more)) => {
+            added.gathered = gathered;
+            added.count = added.count.saturating_add(more);
+        }
+        Err(why) => return Err(stop_of_block(alloc, plan, added.count, why)),
+    }
     if added.count > MOST_ROWS {
         return Err(Stop::Memory);
     }
     Ok(())
+}
+
+/// Adds the rows of a batch to the maps of the participants, and parts their keys if the groups are many by then.
+fn add_near<R: Threads + Wait + Sync>(
+    rt: &R,
+    alloc: Global,
+    bound: &BoundPlan,
+    batch: &Batch,
+    maps: Vec<GroupMap>,
+) -> Result<(Gathered, u64), BlockAnswer> {
+    let before = all_groups(&maps);
+    let (maps, more) = match add_pieces(rt, alloc, batch.pieces.as_slice(), bound, maps) {
+        Ok(done) => done,
+        Err(why) => return Err(why),
+    };
+    let new = all_groups(&maps).saturating_sub(before) as u64;
+    let few = most_groups(&maps) < std::knob("T_FEW", FEWEST_GROUPS);
+    if bound.group_count == 0 || few || more >= new.saturating_mul(FEWEST_ROWS) || maps.len() < std::knob("T_ALONE", 1) {
+        return Ok((Gathered::Near(maps), more));
+    }
+    match Parts::begin(rt, alloc, maps, bound.items().len() as u32) {
+        Ok(parts) => Ok((Gathered::Parted(parts), more)),
+        Err(AllocError) => Err(BlockAnswer::Memory),
+    }
+}
+
+/// Puts the rows of a batch into lists by their parts, and adds all that wait to the maps of the parts if these are many.
+fn add_parted<R: Threads + Wait + Sync>(
+    rt: &R,
+    alloc: Global,
+    bound: &BoundPlan,
+    batch: &Batch,
+    parts: Parts,
+) -> Result<(Gathered, u64), BlockAnswer> {
+    let (mut parts, more) = match parts.add_pieces(rt, alloc, batch.pieces.as_slice(), bound) {
+        Ok(done) => done,
+        Err(why) => return Err(why),
+    };
+    if parts.waiting() > std::knob("T_WAIT", MOST_WAITING).max(std::knob("T_EACH", 32) * parts.groups() as usize) {
+        match parts.group(rt) {
+            Ok(()) => {}
+            Err(AllocError) => return Err(BlockAnswer::Memory),
+        }
+    }
+    Ok((Gathered::Parted(parts), more))
+}
+
+/// How many groups some maps have together.
+fn all_groups(maps: &[GroupMap]) -> usize {
+    let mut count = 0usize;
+    for map in maps {
+        count = count.saturating_add(map.len());
+    }
+    count
+}
+
+/// How many groups the map has that has most of them.
+fn most_groups(maps: &[GroupMap]) -> usize {
+    let mut most = 0;
+    for map in maps {
+        most = map.len().max(most);
+    }
+    most
 }

@@ -7,13 +7,16 @@ ghost use Rattle.par_stream.specs.Answers.{IsTableText};
 ghost use Rattle.par_stream.specs.Reading.{AreGroupsOver};
 ghost use Rattle.par_stream.specs.declared.stop.Stop.TheVariants as stop;
 
+use crate::adding::Gathered;
 use crate::reading::ReadGroups;
 use crate::stop::Stop;
 use answer_text::write_each;
+use line_runs::table_of_parts;
 use par_io::Sink;
+use par_model::BoundPlan;
 use plan_spec::Plan;
 use split_run::{FEWEST_GROUPS, table_text};
-use std::alloc::Global;
+use std::alloc::{AllocError, Global};
 use std::thread::Threads;
 
 /// Makes the text of the table of these groups in pieces, and writes them one behind the other.
@@ -33,8 +36,26 @@ pub(crate) fn write_table<R: Threads + Sync, O: Sink>(
     ensures write_fault { IfErr result (λ why. why ≡ stop.WriteFault → Rose (O.faults out.old) (O.faults out.new)) }
     ensures why { IfErr result (λ why. (why ≡ stop.WriteFault) ⊎ (why ≡ stop.Memory)) }
 {
-    let ReadGroups { bound, maps } = read;
-    let pieces = table_text(rt, alloc, plan, &bound, maps, FEWEST_GROUPS)?;
+    let ReadGroups { bound, gathered } = read;
+    let pieces = text_of(rt, alloc, plan, &bound, gathered)?;
     write_each(out, &pieces)?;
     Ok(())
+}
+
+/// The text of the table in pieces.
+fn text_of<R: Threads + Sync>(
+    rt: &R,
+    alloc: Global,
+    plan: &Plan,
+    bound: &BoundPlan,
+    gathered: Gathered,
+) -> Result<Vec<Vec<u8>>, AllocError> {
+    match gathered {
+        Gathered::Near(maps) => table_text(rt, alloc, plan, bound, maps, FEWEST_GROUPS),
+        Gathered::Parted(parts) => {
+            let threads = plan.workers() as usize + 1;
+            let maps = parts.finish(rt, alloc)?;
+            table_of_parts(rt, alloc, plan, bound, maps, threads)
+        }
+    }
 }

@@ -25,7 +25,7 @@ ghost use Rattle.partial_agg.specs.Listed.{listed};
 ghost use Rattle.par_model.specs.Refuse.{is_unreadable};
 ghost use Rattle.partial_agg.specs.Items.{items_state};
 ghost use Rattle.partial_agg.specs.State.{combined, empty_state};
-ghost use Rattle.partial_agg.specs.Values.{value_of};
+ghost use Rattle.partial_agg.specs.Values.{value_of, values_state};
 ghost use Rattle.partial_agg.specs.Status.{AreHashed, IsHashOf, IsKeptBy};
 ghost use Rattle.partial_agg.specs.Rows.{IsAccepted, header_width};
 ghost use Rattle.row_blocks.specs.Blocks.{block_rows};
@@ -121,6 +121,20 @@ impl GroupMap {
         ensures err { OnErr result (self.new ≡ self.old) }
     {
         self.add_state(hash_of(key), key, state)
+    }
+
+    /// Adds a row by its key and the values that its aggregates take, in their order. The time is that of a look-up.
+    pub fn add_values(&mut self, key: &[u8], values: &[Option<i64>]) -> Result<(), AllocError>
+        requires short { length key.now ≤ LONGEST_KEY }
+        requires few { length values.now ≤ 8 }
+        ensures ok { OnOk result (self.new ≡ added self.old key.now (values_state values.now)) }
+        ensures err { OnErr result (self.new ≡ self.old) }
+    {
+        let hash = hash_of(key);
+        match self.keys.find_hashed(hash, NO_GUESS, key) {
+            Some(place) if self.whole => self.states.add_values(place, values),
+            _ => self.add_state(hash, key, &one_row(values)),
+        }
     }
 
     /// The groups where they lie, in an order that isn't specified. Takes no memory.

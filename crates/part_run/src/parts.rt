@@ -1,0 +1,209 @@
+//! The maps of the parts, and the rows that wait for them.
+
+use crate::hands::{Hand, hands_of, work_all};
+use crate::moving::part_maps;
+use par_model::BoundPlan;
+use partial_agg::{BlockAnswer, GroupMap};
+use row_lists::{PartLists, RowList};
+use row_windows::Window;
+use scan_claim::{ClaimSeat, Claims};
+use split_run::first_cause;
+use std::alloc::{AllocError, Global};
+use std::sync::Wait;
+use std::thread::{Threads, for_each_mut};
+
+/// The map of a part, and whether there was no memory for a row of it.
+#[derive(Drop)]
+pub(crate) struct PartMap {
+    pub(crate) groups: GroupMap,
+    pub(crate) lacks: bool,
+}
+
+/// The maps of the parts, and the rows of each participant that wait to be grouped.
+#[derive(Drop)]
+pub struct Parts {
+    maps: Vec<PartMap>,
+    lists: Vec<PartLists>,
+}
+
+/// The lists and the seats that came home, in order of the participants, and how many rows were read.
+#[derive(Drop)]
+struct Home {
+    seats: Vec<ClaimSeat>,
+    lists: Vec<PartLists>,
+    count: u64,
+}
+
+impl Parts {
+    /// The groups of participants by parts, and no rows that wait. There are as many participants as maps, and each row has
+    /// this many values.
+    pub fn begin<R: Threads + Sync>(
+        rt: &R,
+        alloc: Global,
+        maps: Vec<GroupMap>,
+        width: u32,
+    ) -> Result<Parts, AllocError> {
+        let many = maps.len();
+        let mut lists = Vec::with_capacity(alloc, many)?;
+        for _at in 0..many {
+            lists.push(PartLists::new(alloc, width)?)?;
+        }
+        let mut parts = Vec::new(alloc);
+        for groups in part_maps(rt, alloc, maps.as_slice(), many)? {
+            parts.push(PartMap {
+                groups,
+                lacks: false,
+            })?;
+        }
+        Ok(Parts { maps: parts, lists })
+    }
+
+    /// How many groups there are.
+    pub fn groups(&self) -> u64 {
+        let mut count = 0u64;
+        for map in self.maps.as_slice() {
+            count = count.saturating_add(map.groups.len() as u64);
+        }
+        count
+    }
+
+    /// How many bytes the rows have that wait.
+    pub fn waiting(&self) -> usize {
+        let mut bytes = 0usize;
+        for lists in self.lists.as_slice() {
+            bytes = bytes.saturating_add(lists.bytes());
+        }
+        bytes
+    }
+
+    /// Puts the rows of the pieces, each of which begins with the table's header, into the lists of the participants, and
+    /// gives their number. If a row is refused the parts are lost, and the pieces are read once more, up to the first row that
+    /// is refused.
+    pub fn add_pieces<R: Threads + Wait + Sync>(
+        self,
+        rt: &R,
+        alloc: Global,
+        pieces: &[Window],
+        plan: &BoundPlan,
+    ) -> Result<(Parts, u64), BlockAnswer> {
+        let Parts { maps, lists } = self;
+        let Ok((claims, seats)) = Claims::new(alloc, pieces.len() as u64, lists.len() as u32)
+        else {
+            return Err(BlockAnswer::Memory);
+        };
+        let Ok(mut hands) = hands_of(alloc, seats, lists) else {
+            return Err(BlockAnswer::Memory);
+        };
+        work_all(rt, alloc, pieces, plan, &claims, &mut hands);
+        let home = match bring_home(alloc, hands) {
+            Ok(home) => home,
+            Err(why) => return Err(first_cause(alloc, pieces, plan, why)),
+        };
+        let _drawn = claims.close(home.seats);
+        Ok((
+            Parts {
+                maps,
+                lists: home.lists,
+            },
+            home.count,
+        ))
+    }
+
+    /// Adds all rows that wait to the maps of their parts. Then none waits.
+    pub fn group<R: Threads + Sync>(&mut self, rt: &R) -> Result<(), AllocError> {
+        let threads = self.lists.len().max(1);
+        let lists = self.lists.as_slice();
+        for_each_mut(
+            rt,
+            self.maps.as_mut_slice(),
+            threads,
+            &|part, map| { add_waiting(lists, part, map) },
+        );
+        for map in self.maps.as_slice() {
+            if map.lacks {
+                return Err(AllocError);
+            }
+        }
+        for lists in self.lists.iter_mut() {
+            lists.clear();
+        }
+        Ok(())
+    }
+
+    /// The maps of the parts, after all rows that wait were added to them.
+    pub fn finish<R: Threads + Sync>(
+        mut self,
+        rt: &R,
+        alloc: Global,
+    ) -> Result<Vec<GroupMap>, AllocError> {
+        self.group(rt)?;
+        let mut maps = Vec::with_capacity(alloc, self.maps.len())?;
+        for map in self.maps {
+            maps.push(map.groups)?;
+        }
+        Ok(maps)
+    }
+}
+
+/// Adds the rows of a part that wait to the part's map.
+fn add_waiting(lists: &[PartLists], part: usize, map: &mut PartMap) {
+    for of_one in lists {
+        match add_list(&mut map.groups, of_one.list(part)) {
+            Ok(()) => {}
+            Err(AllocError) => {
+                map.lacks = true;
+                return;
+            }
+        }
+    }
+}
+
+/// Adds the rows of a list to a map.
+fn add_list(groups: &mut GroupMap, list: &RowList) -> Result<(), AllocError> {
+    let mut rows = list.cursor();
+    let mut values = [None; 8];
+    let width = list.width() as usize;
+    'rows: while let Some(key) = rows.next(&mut values) {
+        groups.add_values(key, &values[..width])?;
+    }
+    Ok(())
+}
+
+/// Takes the participants' seats and lists apart, unless one of them stopped early.
+fn bring_home(alloc: Global, hands: Vec<Hand>) -> Result<Home, BlockAnswer> {
+    let mut home = Home {
+        seats: Vec::new(alloc),
+        lists: Vec::new(alloc),
+        count: 0,
+    };
+    for hand in hands {
+        let Hand {
+            claim,
+            lists,
+            count,
+            stopped,
+        } = hand;
+        match stopped {
+            None => {}
+            Some(why) => return Err(why),
+        }
+        match keep(&mut home, claim, lists, count) {
+            Ok(()) => {}
+            Err(AllocError) => return Err(BlockAnswer::Memory),
+        }
+    }
+    Ok(home)
+}
+
+/// Adds a seat, lists and a number of rows to what came home.
+fn keep(
+    home: &mut Home,
+    claim: ClaimSeat,
+    lists: PartLists,
+    count: u64,
+) -> Result<(), AllocError> {
+    home.seats.push(claim)?;
+    home.lists.push(lists)?;
+    home.count = home.count.saturating_add(count);
+    Ok(())
+}

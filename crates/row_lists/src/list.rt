@@ -1,0 +1,149 @@
+//! A list of rows as bytes.
+//!
+//! A row is the length of its key in one byte, the key, and its values. A value is one byte that says what it is: none, the
+//! same number as the value before it, or a number of its own, of which eight bytes follow. Aggregates of one column take
+//! the same number, which so is written once.
+
+ghost use Rattle.std.specs.Prelude.{◌≡◌, ◌≤◌, ◌++◌, ◌∷◌, [], OnErr, OnOk, length};
+ghost use Rattle.par_model.specs.declared.refusal.TheConstants.{LONGEST_KEY};
+ghost use Rattle.row_lists.specs.Carried.{carried, row_bytes, value_bytes, values_bytes};
+
+use crate::cursor::RowCursor;
+use std::alloc::{AllocError, Global};
+use std::marker::Model;
+
+/// A value that is none.
+pub(crate) const NONE: u8 = 0;
+
+/// A value that is the number of the value before it.
+pub(crate) const SAME: u8 = 1;
+
+/// A value whose number follows.
+pub(crate) const NEW: u8 = 2;
+
+/// The most bytes of a row: those of the longest key with its length, and of eight values.
+const MOST_BYTES: usize = 321;
+
+/// Rows, each of which has this many values.
+#[derive(Drop)]
+pub struct RowList {
+    bytes: Vec<u8>,
+    rows: u64,
+    width: u32,
+}
+
+impl Model for RowList {
+    ghost use Rattle.std.specs.Prelude.{List};
+    ghost use Rattle.row_lists.specs.Carried.{Carried, IsWritten, rows_in};
+
+    ghost Value = { List Carried };
+
+    ghost view = { λ l. rows_in l.width l.bytes.items };
+
+    ghost invariant = { λ l. IsWritten l.width l.rows l.bytes.items };
+}
+
+impl RowList {
+    ghost use Rattle.row_lists.specs.Carried.{width_of};
+
+    /// No rows. Takes no memory.
+    pub fn new(alloc: Global, width: u32) -> RowList
+        requires { width ≤ 8 }
+        ensures empty { result ≡ [] }
+        ensures width { width_of result ≡ width }
+    {
+        RowList {
+            bytes: Vec::new(alloc),
+            rows: 0,
+            width,
+        }
+    }
+
+    /// How many values each row has.
+    pub fn width(&self) -> u32
+        ensures width { result ≡ width_of self.now }
+        ensures few { result ≤ 8 }
+    {
+        self.width
+    }
+
+    /// How many bytes its rows have.
+    pub fn bytes(&self) -> usize {
+        self.bytes.len()
+    }
+
+    /// Puts a row after the others.
+    pub fn push(&mut self, key: &[u8], values: &[Option<i64>]) -> Result<(), AllocError>
+        requires short { length key.now ≤ LONGEST_KEY }
+        requires width { length values.now ≡ width_of self.old }
+        ensures ok { OnOk result (self.new ≡ self.old ++ carried key.now values.now ∷ []) }
+        ensures err { OnErr result (self.new ≡ self.old) }
+        ensures width { width_of self.new ≡ width_of self.old }
+    {
+        let from = self.bytes.len();
+        match write_row(&mut self.bytes, key, values) {
+            Ok(()) => {
+                self.rows = self.rows.saturating_add(1);
+                Ok(())
+            }
+            Err(AllocError) => {
+                self.bytes.truncate(from);
+                Err(AllocError)
+            }
+        }
+    }
+
+    /// The rows, from the first on.
+    pub fn cursor(&self) -> RowCursor<'_>
+        ensures { result ≡ self.now }
+    {
+        RowCursor::of_bytes(self.bytes.as_slice(), self.width)
+    }
+
+    /// Takes all rows out, and keeps the memory.
+    pub fn clear(&mut self)
+        ensures empty { self.new ≡ [] }
+        ensures width { width_of self.new ≡ width_of self.old }
+    {
+        self.bytes.clear();
+        self.rows = 0;
+    }
+}
+
+/// Puts the bytes of a row at the end of a text. There is room for all of them before the first is put.
+#[inline(always)]
+fn write_row(
+    bytes: &mut Vec<u8>,
+    key: &[u8],
+    values: &[Option<i64>],
+) -> Result<(), AllocError>
+    requires short { length key.now ≤ LONGEST_KEY }
+    requires few { length values.now ≤ 8 }
+    ensures { OnOk result (bytes.new.items ≡ bytes.old.items ++ row_bytes (carried key.now values.now)) }
+{
+    bytes.reserve(MOST_BYTES)?;
+    bytes.push_reserved(key.len() as u8);
+    bytes.extend_from_slice(key)?;
+    let mut last = 0;
+    for value in values {
+        write_value(bytes, &mut last, *value)?;
+    }
+    Ok(())
+}
+
+/// Puts the bytes of a value at the end of a text, after a value with this number.
+#[inline(always)]
+fn write_value(bytes: &mut Vec<u8>, last: &mut i64, value: Option<i64>) -> Result<(), AllocError>
+    ensures { OnOk result (bytes.new.items ≡ bytes.old.items ++ value_bytes last.old value) }
+    ensures last { last.new ≡ last_of last.old value }
+{
+    match value {
+        None => bytes.push(NONE),
+        Some(n) if n == *last => bytes.push(SAME),
+        Some(n) => {
+            *last = n;
+            bytes.push(NEW)?;
+            bytes.extend_from_slice(&n.to_le_bytes())
+        }
+    }
+}
