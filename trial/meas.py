@@ -16,7 +16,14 @@ def run(binary, name, workers):
     if pid == 0:
         os.dup2(os.open(f"{D}/{name}.csv", os.O_RDONLY), 0)
         os.dup2(w, 1); os.close(r); os.close(w)
-        os.execv(binary, [binary] + words(name, workers))
+        env = dict(os.environ)
+        real, *knobs = binary.split("@")
+        for k in knobs:
+            a, b = k.split("="); env["T_" + a] = b
+        if real.endswith("straight"):
+            keys, v = Q.get(name.rstrip("0123456789_x"), ("k", "v"))
+            os.execve(real, [real, keys, v, str(max(int(workers), 1))], env)
+        os.execve(real, [real] + words(name, workers), env)
     os.close(w)
     h = hashlib.md5()
     while True:
@@ -36,4 +43,4 @@ for _ in range(rounds):
                 k = (f, w, b); o = best.get(k, (9e9, 9e9, 0, set(), 9e9))
                 best[k] = (min(o[0], cpu), min(o[1], wall), max(o[2], mib), o[3] | {h + ("" if st == 0 else f"!{st}")}, min(o[4], ut))
 for k, (cpu, wall, mib, h, ut) in sorted(best.items()):
-    print(f"{k[0]:>6} w{k[1]:<2} {os.path.basename(k[2]):>10}  cpu {cpu:6.2f} (user {ut:5.2f})  wall {wall:6.2f}  {mib:5.0f} MiB  {' '.join(sorted(h))}")
+    print(f"{k[0]:>6} w{k[1]:<2} {os.path.basename(k[2]):>14}  cpu {cpu:6.2f} (user {ut:5.2f})  wall {wall:6.2f}  {mib:5.0f} MiB  {' '.join(sorted(h))}")

@@ -24,14 +24,17 @@ use std::thread::{Threads, join_mut};
 /// The most rows for which averages are exact: 2^50. A source with more of them is answered as out of memory.
 const MOST_ROWS: u64 = 1_125_899_906_842_624;
 
-/// The fewest groups of one participant from which on keys are parted, if they are many for the rows that come.
-const FEWEST_GROUPS: usize = 16_384;
+/// Keys are parted when one participant has a group for so many bytes of a batch: 16,384 groups by the program.
+const BYTES_FOR_GROUP: usize = 256;
 
-/// With fewer rows for each new group in a batch, keys are parted.
+/// But only if there are fewer rows for each new group in a batch.
 const FEWEST_ROWS: u64 = 4;
 
-/// So many bytes of rows may wait at least until they are grouped.
-const MOST_WAITING: usize = 16_777_216;
+/// The rows that wait are grouped when they have the bytes of so many batches: 16 MiB by the program.
+const MOST_BATCHES: usize = 4;
+
+/// But only if they have so many bytes for each group that there is.
+const BYTES_EACH: usize = 32;
 
 /// The groups of all rows so far: in maps of the participants, which share the rows, or in maps of the parts of the keys.
 #[derive(Drop)]
@@ -85,7 +88,7 @@ pub(crate) fn add_and_fill<R: Threads + Wait + Sync, S: Source>(
     if plan.workers() > 0 {
         return add_beside(rt, alloc, plan, bound, batch, added, next, source, size);
     }
-    add_batch(rt, alloc, plan, bound, batch, added)?;
+    add_batch(rt, alloc, plan, bound, batch, added, size)?;
     Ok(next.fill(alloc, source, size))
 }
 
@@ -121,7 +124,7 @@ fn add_beside<R: Threads + Wait + Sync, S: Source>(
         ensures added { OnOk result (AddsBatch bound.entry.now batch.entry.now added.entry.now added.exit.now) }
         ensures why { IfErr result (TellsOfRows plan.entry.now bound.entry.now batch.entry.now added.entry.now) }
         ensures kind { IfErr result (λ why. ((why ≡ stop.ReadFault) ⊎ (why ≡ stop.WriteFault)) → ⊥) }
-    { add_batch(rt, alloc, plan, bound, batch, added) };
+    { add_batch(rt, alloc, plan, bound, batch, added, size) };
     let mut read = || -> Result<bool, WindowAnswer>
         requires { next.now.next.lines ≡ [] }
         ensures filled { IfOk result (IsFilledBatch (S.left source.entry.now) (S.left source.exit.now) next.entry.now.next next.exit.now) }
@@ -133,7 +136,7 @@ fn add_beside<R: Threads + Wait + Sync, S: Source>(
     Ok(filling)
 }
 
-/// Adds the rows of a batch to the maps.
+/// Adds the rows of a batch, which has about this many bytes.
 pub(crate) fn add_batch<R: Threads + Wait + Sync>(
     rt: &R,
     alloc: Global,
@@ -141,6 +144,7 @@ pub(crate) fn add_batch<R: Threads + Wait + Sync>(
     bound: &BoundPlan,
     batch: &Batch,
     added: &mut Added,
+    size: usize,
 ) -> Result<(), Stop>
     requires pieces { length batch.now.pieces.items ≤ 64 }
     requires columns { HaveColumns bound.now batch.now.pieces.items }
@@ -154,8 +158,8 @@ pub(crate) fn add_batch<R: Threads + Wait + Sync>(
     let _workers = plan.workers();
     let old = mem::replace(&mut added.gathered, Gathered::Near(Vec::new(alloc)));
     let done = match old {
-        Gathered::Near(maps) => add_near(rt, alloc, bound, batch, maps),
-        Gathered::Parted(parts) => add_parted(rt, alloc, bound, batch, parts),
+        Gathered::Near(maps) => add_near(rt, alloc, bound, batch, maps, size),
+        Gathered::Parted(parts) => add_parted(rt, alloc, bound, batch, parts, size),
     };
     match done {
         Ok((gathered, more)) => {
@@ -177,6 +181,7 @@ fn add_near<R: Threads + Wait + Sync>(
     bound: &BoundPlan,
     batch: &Batch,
     maps: Vec<GroupMap>,
+    size: usize,
 ) -> Result<(Gathered, u64), BlockAnswer> {
     let before = all_groups(&maps);
     let (maps, more) = match add_pieces(rt, alloc, batch.pieces.as_slice(), bound, maps) {
@@ -184,8 +189,8 @@ fn add_near<R: Threads + Wait + Sync>(
         Err(why) => return Err(why),
     };
     let new = all_groups(&maps).saturating_sub(before) as u64;
-    let few = most_groups(&maps) < std::knob("T_FEW", FEWEST_GROUPS);
-    if bound.group_count == 0 || few || more >= new.saturating_mul(FEWEST_ROWS) || maps.len() < std::knob("T_ALONE", 1) {
+    let few = most_groups(&maps) < size / BYTES_FOR_GROUP;
+    if few || bound.group_count == 0 || more >= new.saturating_mul(FEWEST_ROWS) {
         return Ok((Gathered::Near(maps), more));
     }
     match Parts::begin(rt, alloc, maps, bound.items().len() as u32) {
@@ -201,12 +206,14 @@ fn add_parted<R: Threads + Wait + Sync>(
     bound: &BoundPlan,
     batch: &Batch,
     parts: Parts,
+    size: usize,
 ) -> Result<(Gathered, u64), BlockAnswer> {
     let (mut parts, more) = match parts.add_pieces(rt, alloc, batch.pieces.as_slice(), bound) {
         Ok(done) => done,
         Err(why) => return Err(why),
     };
-    if parts.waiting() > std::knob("T_WAIT", MOST_WAITING).max(std::knob("T_EACH", 32) * parts.groups() as usize) {
+    let each = (parts.groups() as usize).saturating_mul(BYTES_EACH);
+    if parts.waiting() > size.saturating_mul(MOST_BATCHES).max(each) {
         match parts.group(rt) {
             Ok(()) => {}
             Err(AllocError) => return Err(BlockAnswer::Memory),

@@ -65,7 +65,7 @@ pub(crate) fn read_groups<R: Threads + Wait + Sync, S: Source, P: Progress>(
     let mut bytes = 0u64;
     for _ in rt.forever() {
         if stream.is_last {
-            return end(rt, alloc, plan, bound, stream);
+            return end(rt, alloc, plan, bound, size, stream);
         }
         bytes = bytes.saturating_add(stream.batch.bytes());
         stream = next_window(rt, alloc, plan, &bound, source, size, stream)?;
@@ -160,6 +160,7 @@ fn end<R: Threads + Wait + Sync>(
     alloc: Global,
     plan: &Plan,
     bound: BoundPlan,
+    size: usize,
     stream: Stream,
 ) -> Result<ReadGroups, Stop>
     requires stream { IsStream plan.now bound stream }
@@ -173,7 +174,7 @@ fn end<R: Threads + Wait + Sync>(
         mut added,
         ..
     } = stream;
-    add_batch(rt, alloc, plan, &bound, &batch, &mut added)?;
+    add_batch(rt, alloc, plan, &bound, &batch, &mut added, size)?;
     Ok(ReadGroups {
         bound,
         gathered: added.gathered,

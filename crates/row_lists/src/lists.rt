@@ -23,7 +23,6 @@ pub fn part_of(key: &[u8]) -> u8
 #[derive(Drop)]
 pub struct PartLists {
     lists: Vec<RowList>,
-    bytes: usize,
 }
 
 impl PartLists {
@@ -36,12 +35,16 @@ impl PartLists {
         for _part in 0..PARTS {
             lists.push(RowList::new(alloc, width))?;
         }
-        Ok(PartLists { lists, bytes: 0 })
+        Ok(PartLists { lists })
     }
 
     /// How many bytes the rows of all lists have.
     pub fn bytes(&self) -> usize {
-        self.bytes
+        let mut bytes = 0usize;
+        for list in self.lists.as_slice() {
+            bytes = bytes.saturating_add(list.bytes());
+        }
+        bytes
     }
 
     /// Puts a row at the end of the list of its part.
@@ -51,7 +54,6 @@ impl PartLists {
         ensures ok { OnOk result (lists_of self.new ≡ with_row (lists_of self.old) (carried key.now values.now)) }
         ensures err { OnErr result (lists_of self.new ≡ lists_of self.old) }
     {
-        self.bytes = self.bytes.saturating_add(key.len() + 16);
         self.lists[part_of(key) as usize].push(key, values)
     }
 
@@ -69,6 +71,5 @@ impl PartLists {
         for list in self.lists.iter_mut() {
             list.clear();
         }
-        self.bytes = 0;
     }
 }

@@ -34,8 +34,3 @@ pub mod prelude {
     pub use crate::string::{RepeatIn, String};
     pub use crate::vec::{CollectIn, Vec};
 }
-
-/// TRIAL: a number of the environment.
-pub fn knob(name: &str, default: usize) -> usize {
-    std::env::var(name).ok().and_then(|text| text.parse().ok()).unwrap_or(default)
-}
