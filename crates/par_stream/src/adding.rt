@@ -193,7 +193,7 @@ fn add_near<R: Threads + Wait + Sync>(
     if few || bound.group_count == 0 || more >= new.saturating_mul(FEWEST_ROWS) {
         return Ok((Gathered::Near(maps), more));
     }
-    match Parts::begin(rt, alloc, maps, bound.items().len() as u32) {
+    match Parts::begin(rt, alloc, maps) {
         Ok(parts) => Ok((Gathered::Parted(parts), more)),
         Err(AllocError) => Err(BlockAnswer::Memory),
     }

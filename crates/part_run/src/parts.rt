@@ -35,18 +35,16 @@ struct Home {
 }
 
 impl Parts {
-    /// The groups of participants by parts, and no rows that wait. There are as many participants as maps, and each row has
-    /// this many values.
+    /// The groups of participants by parts, and no rows that wait. There are as many participants as maps.
     pub fn begin<R: Threads + Sync>(
         rt: &R,
         alloc: Global,
         maps: Vec<GroupMap>,
-        width: u32,
     ) -> Result<Parts, AllocError> {
         let many = maps.len();
         let mut lists = Vec::with_capacity(alloc, many)?;
         for _at in 0..many {
-            lists.push(PartLists::new(alloc, width)?)?;
+            lists.push(PartLists::new(alloc)?)?;
         }
         let mut parts = Vec::new(alloc);
         for groups in part_maps(rt, alloc, maps.as_slice(), many)? {
@@ -162,9 +160,8 @@ fn add_waiting(lists: &[PartLists], part: usize, map: &mut PartMap) {
 fn add_list(groups: &mut GroupMap, list: &RowList) -> Result<(), AllocError> {
     let mut rows = list.cursor();
     let mut values = [None; 8];
-    let width = list.width() as usize;
-    'rows: while let Some(key) = rows.next(&mut values) {
-        groups.add_values(key, &values[..width])?;
+    'rows: while let Some((key, count)) = rows.next(&mut values) {
+        groups.add_values(key, &values[..count])?;
     }
     Ok(())
 }

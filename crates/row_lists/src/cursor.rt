@@ -1,7 +1,8 @@
 //! The rows of a list, read from front to back.
 
-ghost use Rattle.std.specs.Prelude.{◌≡◌, ◌∷◌, [], IfNone, IfSome, take};
-ghost use Rattle.row_lists.specs.Carried.{carried};
+ghost use Rattle.std.specs.Prelude.{◌≡◌, ◌≤◌, ◌∷◌, [], pos, IfNone, IfSome, length, take};
+ghost use Rattle.par_model.specs.declared.refusal.TheConstants.{LONGEST_KEY};
+ghost use Rattle.row_lists.specs.Carried.{AreRows, after_values, carried, rows_in, values_in};
 
 use crate::list::{NEW, NONE};
 use std::marker::Model;
@@ -10,47 +11,56 @@ use std::marker::Model;
 #[derive(Drop)]
 pub struct RowCursor<'a> {
     rest: &'a [u8],
-    width: u32,
 }
 
 impl<'a> Model for RowCursor<'a> {
     ghost use Rattle.std.specs.Prelude.{List};
-    ghost use Rattle.row_lists.specs.Carried.{Carried, AreRows, rows_in};
+    ghost use Rattle.row_lists.specs.Carried.{AreRows, Carried, rows_in};
 
     ghost Value = { List Carried };
 
-    ghost view = { λ c. rows_in c.width c.rest.now };
+    ghost view = { λ c. rows_in c.rest.now };
 
-    ghost invariant = { λ c. AreRows c.width c.rest.now };
+    ghost invariant = { λ c. AreRows c.rest.now };
 }
 
 impl<'a> RowCursor<'a> {
-    ghost use Rattle.row_lists.specs.Carried.{width_of};
-
     /// The rows whose bytes these are.
-    pub(crate) fn of_bytes(rest: &'a [u8], width: u32) -> RowCursor<'a> {
-        RowCursor { rest, width }
+    pub(crate) fn of_bytes(rest: &'a [u8]) -> RowCursor<'a>
+        requires { AreRows rest.now }
+        ensures { result ≡ rows_in rest.now }
+    {
+        RowCursor { rest }
     }
 
-    /// Takes the first row: gives its key, and puts its values to the front of the array.
+    /// Takes the first row: gives its key and the number of its values, which come to the front of the array.
     #[inline(always)]
-    pub fn next(&mut self, values: &mut [Option<i64>; 8]) -> Option<&'a [u8]>
-        ensures some { IfSome result (λ key. self.old ≡ carried key.now (take (width_of self.old) values.new) ∷ self.new) }
+    pub fn next(&mut self, values: &mut [Option<i64>; 8]) -> Option<(&'a [u8], usize)>
+        ensures row { IfSome result (λ row. self.old ≡ carried row.0.now (take row.1 values.new) ∷ self.new) }
+        ensures short { IfSome result (λ row. length row.0.now ≤ LONGEST_KEY) }
+        ensures few { IfSome result (λ row. row.1 ≤ 8) }
         ensures none { IfNone result (self.old ≡ []) }
-        ensures width { width_of self.new ≡ width_of self.old }
     {
         let [size, rest @ ..] = self.rest else {
             return None;
         };
         let (key, rest) = rest.split_at((*size as usize).min(rest.len()));
-        self.rest = read_values(rest, &mut values[..self.width as usize]);
-        Some(key)
+        let [count, rest @ ..] = rest else {
+            return None;
+        };
+        let count = (*count as usize).min(8);
+        self.rest = read_values(rest, &mut values[..count]);
+        Some((key, count))
     }
 }
 
-/// Reads values, and gives what comes after them.
+/// Reads as many values as there are places for, and gives what comes after them. If the bytes end too early the places that
+/// are left stay as they are.
 #[inline(always)]
-fn read_values<'a>(bytes: &'a [u8], values: &mut [Option<i64>]) -> &'a [u8] {
+fn read_values<'a>(bytes: &'a [u8], values: &mut [Option<i64>]) -> &'a [u8]
+    ensures values { length (values_in (length values.old) (pos 0) bytes.now) ≡ length values.old → values.new ≡ values_in (length values.old) (pos 0) bytes.now }
+    ensures rest { result.now ≡ after_values (length values.old) bytes.now }
+{
     let mut rest = bytes;
     let mut last = 0;
     for at in 0..values.len() {

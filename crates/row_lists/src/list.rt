@@ -1,12 +1,12 @@
 //! A list of rows as bytes.
 //!
-//! A row is the length of its key in one byte, the key, and its values. A value is one byte that says what it is: none, the
-//! same number as the value before it, or a number of its own, of which eight bytes follow. Aggregates of one column take
-//! the same number, which so is written once.
+//! A row is the length of its key in one byte, the key, the number of its values in one byte, and the values. A value is one
+//! byte that says what it is: none, the same number as the value before it, or a number of its own, of which eight bytes
+//! follow. Aggregates of one column take the same number, which so is written once.
 
-ghost use Rattle.std.specs.Prelude.{◌≡◌, ◌≤◌, ◌++◌, ◌∷◌, [], OnErr, OnOk, length};
+ghost use Rattle.std.specs.Prelude.{◌≡◌, ◌≤◌, ◌++◌, ◌∷◌, [], pos, OnErr, OnOk, length};
 ghost use Rattle.par_model.specs.declared.refusal.TheConstants.{LONGEST_KEY};
-ghost use Rattle.row_lists.specs.Carried.{carried, row_bytes, value_bytes, values_bytes};
+ghost use Rattle.row_lists.specs.Carried.{carried, last_of, row_bytes, value_bytes, values_bytes};
 
 use crate::cursor::RowCursor;
 use std::alloc::{AllocError, Global};
@@ -21,50 +21,34 @@ pub(crate) const SAME: u8 = 1;
 /// A value whose number follows.
 pub(crate) const NEW: u8 = 2;
 
-/// The most bytes of a row: those of the longest key with its length, and of eight values.
-const MOST_BYTES: usize = 321;
+/// The most bytes of a row: those of the longest key, of eight values, and two for their lengths.
+const MOST_BYTES: usize = 322;
 
-/// Rows, each of which has this many values.
+/// Rows in order.
 #[derive(Drop)]
 pub struct RowList {
     bytes: Vec<u8>,
-    rows: u64,
-    width: u32,
 }
 
 impl Model for RowList {
     ghost use Rattle.std.specs.Prelude.{List};
-    ghost use Rattle.row_lists.specs.Carried.{Carried, IsWritten, rows_in};
+    ghost use Rattle.row_lists.specs.Carried.{AreRows, Carried, rows_in};
 
     ghost Value = { List Carried };
 
-    ghost view = { λ l. rows_in l.width l.bytes.items };
+    ghost view = { λ l. rows_in l.bytes.items };
 
-    ghost invariant = { λ l. IsWritten l.width l.rows l.bytes.items };
+    ghost invariant = { λ l. AreRows l.bytes.items };
 }
 
 impl RowList {
-    ghost use Rattle.row_lists.specs.Carried.{width_of};
-
     /// No rows. Takes no memory.
-    pub fn new(alloc: Global, width: u32) -> RowList
-        requires { width ≤ 8 }
-        ensures empty { result ≡ [] }
-        ensures width { width_of result ≡ width }
+    pub fn new(alloc: Global) -> RowList
+        ensures { result ≡ [] }
     {
         RowList {
             bytes: Vec::new(alloc),
-            rows: 0,
-            width,
         }
-    }
-
-    /// How many values each row has.
-    pub fn width(&self) -> u32
-        ensures width { result ≡ width_of self.now }
-        ensures few { result ≤ 8 }
-    {
-        self.width
     }
 
     /// How many bytes its rows have.
@@ -75,17 +59,13 @@ impl RowList {
     /// Puts a row after the others.
     pub fn push(&mut self, key: &[u8], values: &[Option<i64>]) -> Result<(), AllocError>
         requires short { length key.now ≤ LONGEST_KEY }
-        requires width { length values.now ≡ width_of self.old }
+        requires few { length values.now ≤ 8 }
         ensures ok { OnOk result (self.new ≡ self.old ++ carried key.now values.now ∷ []) }
         ensures err { OnErr result (self.new ≡ self.old) }
-        ensures width { width_of self.new ≡ width_of self.old }
     {
         let from = self.bytes.len();
         match write_row(&mut self.bytes, key, values) {
-            Ok(()) => {
-                self.rows = self.rows.saturating_add(1);
-                Ok(())
-            }
+            Ok(()) => Ok(()),
             Err(AllocError) => {
                 self.bytes.truncate(from);
                 Err(AllocError)
@@ -97,16 +77,14 @@ impl RowList {
     pub fn cursor(&self) -> RowCursor<'_>
         ensures { result ≡ self.now }
     {
-        RowCursor::of_bytes(self.bytes.as_slice(), self.width)
+        RowCursor::of_bytes(self.bytes.as_slice())
     }
 
     /// Takes all rows out, and keeps the memory.
     pub fn clear(&mut self)
-        ensures empty { self.new ≡ [] }
-        ensures width { width_of self.new ≡ width_of self.old }
+        ensures { self.new ≡ [] }
     {
         self.bytes.clear();
-        self.rows = 0;
     }
 }
 
@@ -122,8 +100,17 @@ fn write_row(
     ensures { OnOk result (bytes.new.items ≡ bytes.old.items ++ row_bytes (carried key.now values.now)) }
 {
     bytes.reserve(MOST_BYTES)?;
-    bytes.push_reserved(key.len() as u8);
+    bytes.push(key.len() as u8)?;
     bytes.extend_from_slice(key)?;
+    bytes.push(values.len() as u8)?;
+    write_values(bytes, values)
+}
+
+/// Puts the bytes of values at the end of a text.
+#[inline(always)]
+fn write_values(bytes: &mut Vec<u8>, values: &[Option<i64>]) -> Result<(), AllocError>
+    ensures { OnOk result (bytes.new.items ≡ bytes.old.items ++ values_bytes (pos 0) values.now) }
+{
     let mut last = 0;
     for value in values {
         write_value(bytes, &mut last, *value)?;
@@ -131,19 +118,20 @@ fn write_row(
     Ok(())
 }
 
-/// Puts the bytes of a value at the end of a text, after a value with this number.
+/// Puts the bytes of a value at the end of a text, if this number is known before it.
 #[inline(always)]
 fn write_value(bytes: &mut Vec<u8>, last: &mut i64, value: Option<i64>) -> Result<(), AllocError>
-    ensures { OnOk result (bytes.new.items ≡ bytes.old.items ++ value_bytes last.old value) }
-    ensures last { last.new ≡ last_of last.old value }
+    ensures bytes { OnOk result (bytes.new.items ≡ bytes.old.items ++ value_bytes last.old value) }
+    ensures last { OnOk result (last.new ≡ last_of last.old value) }
 {
     match value {
-        None => bytes.push(NONE),
-        Some(n) if n == *last => bytes.push(SAME),
+        None => bytes.push(NONE)?,
+        Some(n) if n == *last => bytes.push(SAME)?,
         Some(n) => {
             *last = n;
             bytes.push(NEW)?;
-            bytes.extend_from_slice(&n.to_le_bytes())
+            bytes.extend_from_slice(&n.to_le_bytes())?;
         }
     }
+    Ok(())
 }

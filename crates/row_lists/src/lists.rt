@@ -1,13 +1,14 @@
 //! The lists of a participant, one for each part of the keys.
 
-ghost use Rattle.std.specs.Prelude.{◌≡◌, ◌<◌, ◌≤◌, IfOk, OnErr, OnOk, length, replicate};
+ghost use Rattle.std.specs.Prelude.{◌≡◌, ◌<◌, ◌≤◌, ◌++◌, ◌∷◌, [], IfOk, OnErr, OnOk, Some, length, replicate, slice_get};
 ghost use Rattle.par_model.specs.declared.refusal.TheConstants.{LONGEST_KEY};
 ghost use Rattle.row_lists.specs.Carried.{carried};
-ghost use Rattle.row_lists.specs.Parts.{lists_of, part_of as key_part, with_row};
+ghost use Rattle.row_lists.specs.Parts.{part_of as key_part, with_row};
 
 use crate::list::RowList;
 use key_index::hash_of;
 use std::alloc::{AllocError, Global};
+use std::marker::Model;
 
 /// How many parts there are: one for each number of a byte.
 pub const PARTS: usize = 256;
@@ -19,21 +20,31 @@ pub fn part_of(key: &[u8]) -> u8
     (hash_of(key) >> 56) as u8
 }
 
-/// A list for each part.
+/// A list for each part: a list of 256 lists of rows.
 #[derive(Drop)]
 pub struct PartLists {
     lists: Vec<RowList>,
 }
 
+impl Model for PartLists {
+    ghost use Rattle.std.specs.Prelude.{◌≡◌, List, length};
+    ghost use Rattle.row_lists.specs.Carried.{Carried};
+
+    ghost Value = { List (List Carried) };
+
+    ghost view = { λ l. l.lists.items };
+
+    ghost invariant = { λ l. length l.lists.items ≡ 256 };
+}
+
 impl PartLists {
-    /// Lists of no rows, for rows of this many values.
-    pub fn new(alloc: Global, width: u32) -> Result<PartLists, AllocError>
-        requires { width ≤ 8 }
-        ensures { IfOk result (λ lists. lists_of lists ≡ replicate 256 []) }
+    /// Lists of no rows.
+    pub fn new(alloc: Global) -> Result<PartLists, AllocError>
+        ensures { IfOk result (λ lists. lists ≡ replicate 256 []) }
     {
         let mut lists = Vec::with_capacity(alloc, PARTS)?;
         for _part in 0..PARTS {
-            lists.push(RowList::new(alloc, width))?;
+            lists.push(RowList::new(alloc))?;
         }
         Ok(PartLists { lists })
     }
@@ -51,8 +62,9 @@ impl PartLists {
     #[inline(always)]
     pub fn push(&mut self, key: &[u8], values: &[Option<i64>]) -> Result<(), AllocError>
         requires short { length key.now ≤ LONGEST_KEY }
-        ensures ok { OnOk result (lists_of self.new ≡ with_row (lists_of self.old) (carried key.now values.now)) }
-        ensures err { OnErr result (lists_of self.new ≡ lists_of self.old) }
+        requires few { length values.now ≤ 8 }
+        ensures ok { OnOk result (self.new ≡ with_row self.old (carried key.now values.now)) }
+        ensures err { OnErr result (self.new ≡ self.old) }
     {
         self.lists[part_of(key) as usize].push(key, values)
     }
@@ -60,13 +72,14 @@ impl PartLists {
     /// The list of a part.
     pub fn list(&self, part: usize) -> &RowList
         requires { part < 256 }
+        ensures { slice_get self.now part ≡ Some result.now }
     {
         &self.lists[part]
     }
 
-    /// Empties all lists.
+    /// Empties all lists, which keep their memory.
     pub fn clear(&mut self)
-        ensures { lists_of self.new ≡ replicate 256 [] }
+        ensures { self.new ≡ replicate 256 [] }
     {
         for list in self.lists.iter_mut() {
             list.clear();
