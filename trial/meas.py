@@ -40,7 +40,9 @@ for _ in range(rounds):
         for w in workers:
             for b in bins:
                 cpu, wall, mib, h, st, ut = run(b if "/" in b else f"/tmp/w/p_bin/{b}", f, w)
+                print(f'{f:>6} w{w:<2} {os.path.basename(b):>14}  cpu {cpu:6.2f}  user {ut:6.2f}  wall {wall:6.2f}  {mib:5.0f} MiB  {h}', flush=True)
                 k = (f, w, b); o = best.get(k, (9e9, 9e9, 0, set(), 9e9))
                 best[k] = (min(o[0], cpu), min(o[1], wall), max(o[2], mib), o[3] | {h + ("" if st == 0 else f"!{st}")}, min(o[4], ut))
+print('least of the rounds:')
 for k, (cpu, wall, mib, h, ut) in sorted(best.items()):
     print(f"{k[0]:>6} w{k[1]:<2} {os.path.basename(k[2]):>14}  cpu {cpu:6.2f} (user {ut:5.2f})  wall {wall:6.2f}  {mib:5.0f} MiB  {' '.join(sorted(h))}")

@@ -1,5 +1,15 @@
 //! What a participant does with a batch: it draws pieces until there are no more, and puts their rows into its lists.
 
+ghost use Rattle.std.specs.Prelude.{◌≡◌, IfErr, IfOk, IsTrue, OnOk, [], length, map as map_list, min};
+ghost use Rattle.scan_claim.specs.Drawing.{is_spent};
+ghost use Rattle.scan_claim.specs.Shown.{Belongs, blocks_of, draws_of, number_of};
+ghost use Rattle.split_run.specs.Causes.{SomeRefused};
+ghost use Rattle.split_run.specs.Hands.{most};
+ghost use Rattle.split_run.specs.Pieces.{AreAccepted, HaveColumns, drawn_rows};
+ghost use Rattle.part_run.specs.Carrying.{spread};
+ghost use Rattle.part_run.specs.Hands.{AreDone, AreNew, HasDone};
+ghost use Rattle.part_run.specs.declared.hands.Hand.{Hand};
+
 use crate::piece::spread_piece;
 use par_model::BoundPlan;
 use partial_agg::BlockAnswer;
@@ -25,7 +35,11 @@ pub(crate) fn hands_of(
     alloc: Global,
     seats: Vec<ClaimSeat>,
     mut lists: Vec<PartLists>,
-) -> Result<Vec<Hand>, AllocError> {
+) -> Result<Vec<Hand>, AllocError>
+    requires same { length seats.items ≡ length lists.items }
+    ensures seats { IfOk result (λ v. map_list (λ (h : Hand). h.claim) v.items ≡ seats.items) }
+    ensures lists { IfOk result (λ v. map_list (λ (h : Hand). h.lists) v.items ≡ lists.items) }
+{
     let mut hands = Vec::with_capacity(alloc, seats.len())?;
     lists.reverse();
     for claim in seats {
@@ -50,7 +64,12 @@ pub(crate) fn work_all<R: Threads + Wait + Sync>(
     plan: &BoundPlan,
     claims: &Claims,
     hands: &mut Vec<Hand>,
-) {
+)
+    requires pieces { blocks_of claims.now ≡ length pieces.now }
+    requires columns { HaveColumns plan.now pieces.now }
+    requires new { AreNew claims.now hands.old.items }
+    ensures { AreDone plan.now pieces.now claims.now hands.old.items hands.new.items }
+{
     let threads = hands.len().max(1);
     for_each_mut(
         rt,
@@ -68,7 +87,13 @@ fn work<R: Wait>(
     plan: &BoundPlan,
     claims: &Claims,
     hand: &mut Hand,
-) {
+)
+    requires seat { Belongs claims.now hand.old.claim }
+    requires new { draws_of hand.old.claim ≡ [] }
+    requires pieces { blocks_of claims.now ≡ length pieces.now }
+    requires columns { HaveColumns plan.now pieces.now }
+    ensures { HasDone plan.now pieces.now claims.now hand.old hand.new }
+{
     match spread_drawn(
         rt,
         alloc,
@@ -95,7 +120,19 @@ fn spread_drawn<R: Wait>(
     claims: &Claims,
     claim: &mut ClaimSeat,
     lists: &mut PartLists,
-) -> Result<u64, BlockAnswer> {
+) -> Result<u64, BlockAnswer>
+    requires seat { Belongs claims.now claim.old }
+    requires new { draws_of claim.old ≡ [] }
+    requires pieces { blocks_of claims.now ≡ length pieces.now }
+    requires columns { HaveColumns plan.now pieces.now }
+    ensures seat { Belongs claims.now claim.new }
+    ensures number { number_of claim.new ≡ number_of claim.old }
+    ensures spent { OnOk result (IsTrue (is_spent (blocks_of claims.now) (draws_of claim.new))) }
+    ensures spread { OnOk result (lists.new ≡ spread plan.now lists.old (drawn_rows pieces.now (draws_of claim.new))) }
+    ensures accepted { OnOk result (AreAccepted plan.now pieces.now (drawn_rows pieces.now (draws_of claim.new))) }
+    ensures count { IfOk result (λ count. count ≡ min (length (drawn_rows pieces.now (draws_of claim.new))) most) }
+    ensures stopped { IfErr result (SomeRefused plan.now pieces.now) }
+{
     let mut count = 0u64;
     for _ in rt.forever() {
         let Some(number) = claim.claim(claims) else {

@@ -6,7 +6,7 @@ ghost use Rattle.row_blocks.specs.Blocks.{Table};
 ghost use Rattle.gather_law.specs.KeyParts.{AreListings, groups_in, part_map, with_listed};
 ghost use Rattle.gather_law.specs.Shares.{AreShared};
 ghost use Rattle.partial_agg.specs.Groups.{added};
-ghost use Rattle.partial_agg.specs.Parts.{part_of as key_part};
+ghost use Rattle.row_lists.specs.Parts.{part_of as key_part};
 ghost use Rattle.part_run.specs.Moving.{IsLent, lists_of};
 ghost use Rattle.part_run.specs.Parted.{AreParted};
 
@@ -31,7 +31,7 @@ type PartMap = Result<GroupMap, AllocError>;
 
 /// The maps of the parts, with the groups of all participants, in at most this many threads. The time is that of a look-up of
 /// each group; the participants' maps are only read.
-pub fn part_maps<R: Threads + Sync>(
+pub(crate) fn part_maps<R: Threads + Sync>(
     rt: &R,
     alloc: Global,
     maps: &[GroupMap],

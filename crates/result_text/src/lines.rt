@@ -4,9 +4,9 @@
 //! quote or an end of line in it, two quotes for a line of one empty field, and a line feed. While a line is made, each of its
 //! fields has a comma after it.
 
-ghost use Rattle.std.specs.Prelude.{◌≡◌, ◌≤◌, ◌++◌, ◌∷◌, [], All, IsTrue, OnOk, map};
+ghost use Rattle.std.specs.Prelude.{◌≡◌, ◌<◌, ◌≤◌, ◌++◌, ◌∷◌, [], ℕ, List, All, OnOk, length, map};
 ghost use Rattle.std.specs.List.{concat};
-ghost use Rattle.csv.specs.Writing.{default_writer, escaped, field_text, needs_quotes, row_text};
+ghost use Rattle.csv.specs.Writing.{default_writer, needs_quotes, quoted, row_text};
 ghost use Rattle.par_model.specs.Decimal.{number_text};
 ghost use Rattle.par_model.specs.Table.{value_text, values_text};
 ghost use Rattle.par_model.specs.declared.plan.TheConstants.{MOST_PLACES};
@@ -127,7 +127,7 @@ fn needs_quotes(field: &[u8]) -> bool
 
 /// A field in quotes.
 fn push_quoted(text: &mut Vec<u8>, field: &[u8]) -> Result<(), AllocError>
-    ensures { OnOk result (text.new.items ≡ text.old.items ++ 34 ∷ (escaped default_writer field.now ++ 34 ∷ [])) }
+    ensures { OnOk result (text.new.items ≡ text.old.items ++ quoted default_writer field.now) }
 {
     text.push(b'"')?;
     for byte in field {
@@ -141,7 +141,10 @@ fn push_quoted(text: &mut Vec<u8>, field: &[u8]) -> Result<(), AllocError>
 
 /// Ends the line that begins at a place, of which each field has a comma after it: the last of these goes, and a line of no
 /// bytes gets two quotes.
-fn end_line(text: &mut Vec<u8>, from: usize) -> Result<(), AllocError> {
+fn end_line(text: &mut Vec<u8>, from: usize) -> Result<(), AllocError>
+    ensures { OnOk result ((before : List ℕ) (fields : List (List ℕ)) → 0 < length fields → length before ≡ from → text.old.items ≡ before ++ concat (map followed fields)
+        → text.new.items ≡ before ++ row_text default_writer fields) }
+{
     text.pop();
     if text.len() == from {
         text.extend_from_slice(b"\"\"")?;
