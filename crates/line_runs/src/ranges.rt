@@ -1,5 +1,9 @@
 //! Ranges of a table's order, by a sample of the keys of all runs.
 
+ghost use Rattle.std.specs.Prelude.{◌≡◌, ◌<◌, ◌≤◌, ◌+◌, IfOk};
+ghost use Rattle.line_runs.specs.Ranges.{AreOrdered, IsCutAt, count_of};
+ghost use Rattle.line_runs.specs.Runs.{Rise};
+
 use crate::order::Shared;
 use crate::run::Run;
 use result_text::compare_columns;
@@ -24,7 +28,10 @@ impl<'a> Ranges<'a> {
         runs: &'a [Run],
         columns: u32,
         count: usize,
-    ) -> Result<Ranges<'a>, AllocError> {
+    ) -> Result<Ranges<'a>, AllocError>
+        ensures ordered { IfOk result AreOrdered }
+        ensures columns { IfOk result (λ ranges. ranges.columns ≡ columns) }
+    {
         let mut sample = Vec::new(alloc);
         let each = count.saturating_mul(SAMPLE) / runs.len().max(1) + 1;
         for run in runs {
@@ -41,12 +48,19 @@ impl<'a> Ranges<'a> {
     }
 
     /// The number of ranges.
-    pub(crate) fn count(&self) -> usize {
+    pub(crate) fn count(&self) -> usize
+        ensures { result ≡ count_of self.now }
+    {
         self.sample.len() / SAMPLE + 1
     }
 
     /// The place of a run from which on its keys are of a range, or of the ranges after it.
-    pub(crate) fn start_in(&self, run: &Run, range: usize) -> usize {
+    pub(crate) fn start_in(&self, run: &Run, range: usize) -> usize
+        requires ordered { AreOrdered self.now }
+        requires rises { Rise self.now.columns run.now }
+        requires range { range < count_of self.now }
+        ensures { IsCutAt self.now range run.now result }
+    {
         let Some(key) = self.key_before(range) else {
             return 0;
         };
@@ -64,7 +78,12 @@ impl<'a> Ranges<'a> {
     }
 
     /// The place of a run from which on its keys are of ranges after one.
-    pub(crate) fn end_in(&self, run: &Run, range: usize) -> usize {
+    pub(crate) fn end_in(&self, run: &Run, range: usize) -> usize
+        requires ordered { AreOrdered self.now }
+        requires rises { Rise self.now.columns run.now }
+        requires range { range < count_of self.now }
+        ensures { IsCutAt self.now (range + 1) run.now result }
+    {
         if range + 1 < self.count() {
             self.start_in(run, range + 1)
         } else {
@@ -73,7 +92,9 @@ impl<'a> Ranges<'a> {
     }
 
     /// What all keys of a range have in common.
-    pub(crate) fn shared(&self, range: usize) -> Shared<'a> {
+    pub(crate) fn shared(&self, range: usize) -> Shared<'a>
+        requires { range < count_of self.now }
+    {
         let low = match self.key_before(range) {
             Some(key) => key,
             None => self.least,
@@ -86,7 +107,9 @@ impl<'a> Ranges<'a> {
     }
 
     /// The greatest key of the sample that is before a range: none if that is the first.
-    fn key_before(&self, range: usize) -> Option<&'a [u8]> {
+    fn key_before(&self, range: usize) -> Option<&'a [u8]>
+        requires { range ≤ count_of self.now }
+    {
         if range == 0 {
             return None;
         }

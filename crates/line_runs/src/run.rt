@@ -1,9 +1,16 @@
 //! The lines of one map, in the order of the table.
 
+ghost use Rattle.std.specs.Prelude.{◌≡◌, ◌<◌, ◌≤◌, ◌++◌, [], All, IfOk, OnOk, Some, length, map as map_list, slice_get};
+ghost use Rattle.partial_agg.specs.Listed.{listed};
+ghost use Rattle.result_text.specs.GroupOrder.{group_of};
+ghost use Rattle.result_text.specs.Printable.{ArePrintable, IsSmallSlot};
+ghost use Rattle.line_runs.specs.Runs.{IsRunOf, entry_of};
+
 use par_model::BoundPlan;
 use partial_agg::{GroupMap, Groups, empty};
 use result_text::{GroupRef, in_order, push_line};
 use std::alloc::{AllocError, Global};
+use std::marker::Model;
 
 /// Lines, each after its key. The key has its length before it, in one byte.
 #[derive(Drop)]
@@ -12,9 +19,24 @@ pub(crate) struct Run {
     ends: Vec<usize>,
 }
 
+impl Model for Run {
+    ghost use Rattle.std.specs.Prelude.{All, List, length, map};
+    ghost use Rattle.csv.specs.Records.{cut_from};
+    ghost use Rattle.csv_rows.specs.Store.{Covers};
+    ghost use Rattle.line_runs.specs.Runs.{Entry, HasKey, entry_in};
+
+    ghost Value = { List Entry };
+
+    ghost view = { λ r. map entry_in (cut_from 0 r.ends.items r.bytes.items) };
+
+    ghost invariant = { λ r. Covers r.ends.items (length r.bytes.items) × All HasKey (cut_from 0 r.ends.items r.bytes.items) };
+}
+
 impl Run {
     /// No lines.
-    pub(crate) fn new(alloc: Global) -> Run {
+    pub(crate) fn new(alloc: Global) -> Run
+        ensures { result ≡ [] }
+    {
         Run {
             bytes: Vec::new(alloc),
             ends: Vec::new(alloc),
@@ -26,7 +48,10 @@ impl Run {
         alloc: Global,
         bound: &BoundPlan,
         map: GroupMap,
-    ) -> Result<Run, AllocError> {
+    ) -> Result<Run, AllocError>
+        requires { ArePrintable bound.now (listed map) }
+        ensures { IfOk result (IsRunOf bound.now (listed map)) }
+    {
         let groups = map.into_groups();
         let refs = in_order(alloc, &groups, bound.group_count)?;
         let mut run = Run::new(alloc);
@@ -36,29 +61,42 @@ impl Run {
     }
 
     /// The number of lines.
-    pub(crate) fn len(&self) -> usize {
+    pub(crate) fn len(&self) -> usize
+        ensures { result ≡ length self.now }
+    {
         self.ends.len()
     }
 
     /// The key of the line at a place.
-    pub(crate) fn key(&self, at: usize) -> &[u8] {
+    pub(crate) fn key(&self, at: usize) -> &[u8]
+        requires { at < length self.now }
+        ensures { slice_get (map_list (λ entry. entry.0) self.now) at ≡ Some result.now }
+    {
         let (key, _line) = self.split(at);
         key
     }
 
     /// The line at a place.
-    pub(crate) fn line(&self, at: usize) -> &[u8] {
+    pub(crate) fn line(&self, at: usize) -> &[u8]
+        requires { at < length self.now }
+        ensures { slice_get (map_list (λ entry. entry.1) self.now) at ≡ Some result.now }
+    {
         let (_key, line) = self.split(at);
         line
     }
 
     /// The bytes from one line on to another, with their keys.
-    pub(crate) fn bytes_between(&self, from: usize, to: usize) -> usize {
+    pub(crate) fn bytes_between(&self, from: usize, to: usize) -> usize
+        requires { (from ≤ length self.now) × (to ≤ length self.now) }
+    {
         self.start(to).saturating_sub(self.start(from))
     }
 
     /// The key and the line at a place.
-    fn split(&self, at: usize) -> (&[u8], &[u8]) {
+    fn split(&self, at: usize) -> (&[u8], &[u8])
+        requires { at < length self.now }
+        ensures { slice_get self.now at ≡ Some (result.0.now, result.1.now) }
+    {
         let both = &self.bytes[self.start(at)..self.ends[at]];
         let [size, rest @ ..] = both else {
             return (&[], &[]);
@@ -67,7 +105,9 @@ impl Run {
     }
 
     /// Where the line at a place begins.
-    fn start(&self, at: usize) -> usize {
+    fn start(&self, at: usize) -> usize
+        requires { at ≤ length self.now }
+    {
         if at == 0 { 0 } else { self.ends[at - 1] }
     }
 
@@ -77,7 +117,12 @@ impl Run {
         bound: &BoundPlan,
         groups: &Groups,
         refs: &[GroupRef<'_>],
-    ) -> Result<(), AllocError> {
+    ) -> Result<(), AllocError>
+        requires small { All (λ group. All IsSmallSlot group.state.slots) groups.now }
+        requires within { All (λ group. group.at < length groups.now) refs.now }
+        requires short { All (λ group. length group.key.now ≤ 248) refs.now }
+        ensures { OnOk result (self.new ≡ self.old ++ map_list (λ ref. entry_of bound.now (group_of groups.now ref)) refs.now) }
+    {
         let lent = groups.lent();
         let mut state = empty();
         for group in refs {

@@ -1,5 +1,18 @@
 //! The text of the table, range by range.
 
+ghost use Rattle.std.specs.Prelude.{◌≡◌, ◌<◌, ◌≤◌, ◌^◌, ◌∷◌, ◌++◌, ◌-◌, [], ℕ, List, All, IfOk, OnOk, drop, get_or, length, map as map_list, take};
+ghost use Rattle.std.specs.List.{concat};
+ghost use Rattle.par_model.specs.Named.{bound_plan};
+ghost use Rattle.par_model.specs.Outcome.{IsAnswer};
+ghost use Rattle.partial_agg.specs.Listed.{listed};
+ghost use Rattle.result_text.specs.Pieces.{joined};
+ghost use Rattle.result_text.specs.Printable.{ArePrintable, IsBoundFrom, IsKeyOf};
+ghost use Rattle.row_blocks.specs.Blocks.{Table};
+ghost use Rattle.part_run.specs.Parted.{AreParted};
+ghost use Rattle.line_runs.specs.Order.{IsThere, entry_at};
+ghost use Rattle.line_runs.specs.Ranges.{AreOrdered, IsRangeText, count_of};
+ghost use Rattle.line_runs.specs.Runs.{AreRunsOf, IsMade, Rise};
+
 use crate::order::{LineRef, sort_lines};
 use crate::ranges::Ranges;
 use crate::run::Run;
@@ -30,7 +43,14 @@ pub fn table_of_parts<R: Threads + Sync>(
     bound: &BoundPlan,
     maps: Vec<GroupMap>,
     threads: usize,
-) -> Result<Vec<Vec<u8>>, AllocError> {
+) -> Result<Vec<Vec<u8>>, AllocError>
+    requires some { 0 < threads }
+    requires columns { 0 < bound.now.group_count }
+    requires bound { IsBoundFrom plan.now.plan bound.now }
+    requires rows { (width : ℕ) × (rows : Table) × (length rows ≤ 2 ^ 50) × AreParted bound.now width rows maps.items }
+    ensures { IfOk result (λ pieces. (header : List (List ℕ)) (width : ℕ) (rows : Table) → bound.now ≡ bound_plan header plan.now.plan → length rows ≤ 2 ^ 50 → AreParted bound.now width rows maps.items
+        → IsAnswer plan.now.plan (header ∷ rows) (joined pieces.items)) }
+{
     let runs = runs_of(rt, alloc, bound, maps, threads)?;
     let count = threads.saturating_mul(RANGES);
     let ranges = Ranges::new(alloc, &runs, bound.group_count, count)?;
@@ -52,7 +72,11 @@ fn runs_of<R: Threads + Sync>(
     bound: &BoundPlan,
     maps: Vec<GroupMap>,
     threads: usize,
-) -> Result<Vec<Run>, AllocError> {
+) -> Result<Vec<Run>, AllocError>
+    requires some { 0 < threads }
+    requires printable { All (λ groups. ArePrintable bound.now (listed groups)) maps.items }
+    ensures { IfOk result (λ runs. AreRunsOf bound.now maps.items runs.items) }
+{
     let mut jobs = Vec::with_capacity(alloc, maps.len())?;
     for map in maps {
         jobs.push(Job {
@@ -74,13 +98,18 @@ fn runs_of<R: Threads + Sync>(
 }
 
 /// Makes the lines of a map, which is empty afterwards.
-fn make_run(alloc: Global, bound: &BoundPlan, job: &mut Job) {
+fn make_run(alloc: Global, bound: &BoundPlan, job: &mut Job)
+    requires { ArePrintable bound.now (listed job.old.map) }
+    ensures { IsMade bound.now job.old.map job.new.run }
+{
     let map = mem::replace(&mut job.map, GroupMap::new(alloc));
     job.run = Run::of_map(alloc, bound, map);
 }
 
 /// So many texts of no bytes.
-fn no_texts(alloc: Global, count: usize) -> Result<Vec<Part>, AllocError> {
+fn no_texts(alloc: Global, count: usize) -> Result<Vec<Part>, AllocError>
+    ensures { IfOk result (λ texts. length texts.items ≡ count) }
+{
     let mut texts = Vec::with_capacity(alloc, count)?;
     for _range in 0..count {
         texts.push(Ok(Vec::new(alloc)))?;
@@ -95,7 +124,14 @@ fn range_text(
     runs: &[Run],
     ranges: &Ranges<'_>,
     range: usize,
-) -> Part {
+) -> Part
+    requires ordered { AreOrdered ranges.now }
+    requires range { range < count_of ranges.now }
+    requires columns { ranges.now.columns ≡ bound.now.group_count }
+    requires rise { All (Rise bound.now.group_count) runs.now }
+    requires keys { All (λ run. All (λ entry. IsKeyOf bound.now.group_count entry.0) run) runs.now }
+    ensures { IfOk result (λ text. IsRangeText ranges.now runs.now range text.items) }
+{
     let mut lines = Vec::new(alloc);
     let mut bytes = 0usize;
     for at in 0..runs.len() {
@@ -115,7 +151,10 @@ fn add_lines(
     run: usize,
     from: usize,
     to: usize,
-) -> Result<(), AllocError> {
+) -> Result<(), AllocError>
+    requires { from ≤ to }
+    ensures { OnOk result ((runs : _) → run < length runs → map_list (entry_at runs) lines.new.items ≡ map_list (entry_at runs) lines.old.items ++ take (to - from) (drop from (get_or runs run []))) }
+{
     lines.reserve(to - from)?;
     for at in from..to {
         lines.push(LineRef::new(run, at)?)?;
@@ -124,7 +163,10 @@ fn add_lines(
 }
 
 /// Lines one after another, for which so many bytes are enough.
-fn text_of(alloc: Global, runs: &[Run], lines: &[LineRef], bytes: usize) -> Part {
+fn text_of(alloc: Global, runs: &[Run], lines: &[LineRef], bytes: usize) -> Part
+    requires { All (IsThere runs.now) lines.now }
+    ensures { IfOk result (λ text. text.items ≡ concat (map_list (λ ref. (entry_at runs.now ref).1) lines.now)) }
+{
     let mut text = Vec::with_capacity(alloc, bytes)?;
     for line in lines {
         text.extend_from_slice(line.line(runs))?;

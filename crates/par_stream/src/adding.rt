@@ -1,8 +1,12 @@
 //! The rows of a batch among the participants, and the filling of the next one at the same time.
 
-ghost use Rattle.std.specs.Prelude.{◌≡◌, ◌<◌, ◌≤◌, ◌+◌, ◌^◌, ◌⊎◌, [], IfErr, IfOk, OnOk, length};
-ghost use Rattle.split_run.specs.Pieces.{HaveColumns};
-ghost use Rattle.par_stream.specs.Reading.{AddsBatch, IsFilledBatch, IsNotFilled};
+ghost use Rattle.std.specs.Prelude.{◌≡◌, ◌<◌, ◌≤◌, ◌+◌, ◌^◌, ◌⊎◌, [], IfErr, IfOk, OnOk, length, min};
+ghost use Rattle.part_run.specs.Waiting.{participants};
+ghost use Rattle.split_run.specs.Pieces.{HaveColumns, rows_of};
+ghost use Rattle.par_stream.specs.declared.adding.Gathered.TheVariants as gathered;
+ghost use Rattle.split_run.specs.Causes.{IsFirstOfAll, IsLow};
+ghost use Rattle.split_run.specs.Hands.{most};
+ghost use Rattle.par_stream.specs.Reading.{AddsBatch, IsBy, IsFilledBatch, IsNotFilled, TakesBatch};
 ghost use Rattle.par_stream.specs.Stops.{TellsOfRows};
 ghost use Rattle.par_stream.specs.declared.stop.Stop.TheVariants as stop;
 
@@ -75,7 +79,7 @@ pub(crate) fn add_and_fill<R: Threads + Wait + Sync, S: Source>(
 ) -> Result<Result<bool, WindowAnswer>, Stop>
     requires pieces { length batch.now.pieces.items ≤ 64 }
     requires columns { HaveColumns bound.now batch.now.pieces.items }
-    requires maps { length added.old.maps.items ≡ plan.now.workers + 1 }
+    requires many { IsBy (plan.now.workers + 1) added.old.gathered }
     requires few { added.old.count ≤ 2 ^ 50 }
     requires lines { next.old.next.lines ≡ [] }
     ensures added { OnOk result (AddsBatch bound.now batch.now added.old added.new) }
@@ -106,7 +110,7 @@ fn add_beside<R: Threads + Wait + Sync, S: Source>(
 ) -> Result<Result<bool, WindowAnswer>, Stop>
     requires pieces { length batch.now.pieces.items ≤ 64 }
     requires columns { HaveColumns bound.now batch.now.pieces.items }
-    requires maps { length added.old.maps.items ≡ plan.now.workers + 1 }
+    requires many { IsBy (plan.now.workers + 1) added.old.gathered }
     requires few { added.old.count ≤ 2 ^ 50 }
     requires lines { next.old.next.lines ≡ [] }
     ensures added { OnOk result (AddsBatch bound.now batch.now added.old added.new) }
@@ -119,7 +123,7 @@ fn add_beside<R: Threads + Wait + Sync, S: Source>(
     let mut add = || -> Result<(), Stop>
         requires pieces { length batch.now.pieces.items ≤ 64 }
         requires columns { HaveColumns bound.now batch.now.pieces.items }
-        requires maps { length added.now.maps.items ≡ plan.now.workers + 1 }
+        requires many { IsBy (plan.now.workers + 1) added.now.gathered }
         requires few { added.now.count ≤ 2 ^ 50 }
         ensures added { OnOk result (AddsBatch bound.entry.now batch.entry.now added.entry.now added.exit.now) }
         ensures why { IfErr result (TellsOfRows plan.entry.now bound.entry.now batch.entry.now added.entry.now) }
@@ -148,7 +152,7 @@ pub(crate) fn add_batch<R: Threads + Wait + Sync>(
 ) -> Result<(), Stop>
     requires pieces { length batch.now.pieces.items ≤ 64 }
     requires columns { HaveColumns bound.now batch.now.pieces.items }
-    requires maps { length added.old.maps.items ≡ plan.now.workers + 1 }
+    requires many { IsBy (plan.now.workers + 1) added.old.gathered }
     requires few { added.old.count ≤ 2 ^ 50 }
     ensures added { OnOk result (AddsBatch bound.now batch.now added.old added.new) }
     ensures why { IfErr result (TellsOfRows plan.now bound.now batch.now added.old) }
@@ -182,7 +186,17 @@ fn add_near<R: Threads + Wait + Sync>(
     batch: &Batch,
     maps: Vec<GroupMap>,
     size: usize,
-) -> Result<(Gathered, u64), BlockAnswer> {
+) -> Result<(Gathered, u64), BlockAnswer>
+    requires some { 0 < length maps.items }
+    requires few { length maps.items < 2 ^ 32 }
+    requires pieces { length batch.now.pieces.items ≤ 64 }
+    requires columns { HaveColumns bound.now batch.now.pieces.items }
+    ensures rows { IfOk result (λ r. TakesBatch bound.now batch.now (gathered.Near maps) r.0) }
+    ensures many { IfOk result (λ r. IsBy (length maps.items) r.0) }
+    ensures count { IfOk result (λ r. r.1 ≡ min (length (rows_of batch.now.pieces.items)) most) }
+    ensures cause { IfErr result (IsFirstOfAll bound.now batch.now.pieces.items) }
+    ensures low { IfErr result IsLow }
+{
     let before = all_groups(&maps);
     let (maps, more) = match add_pieces(rt, alloc, batch.pieces.as_slice(), bound, maps) {
         Ok(done) => done,
@@ -207,7 +221,17 @@ fn add_parted<R: Threads + Wait + Sync>(
     batch: &Batch,
     parts: Parts,
     size: usize,
-) -> Result<(Gathered, u64), BlockAnswer> {
+) -> Result<(Gathered, u64), BlockAnswer>
+    requires some { 0 < participants parts }
+    requires few { participants parts < 2 ^ 32 }
+    requires pieces { length batch.now.pieces.items ≤ 64 }
+    requires columns { HaveColumns bound.now batch.now.pieces.items }
+    ensures rows { IfOk result (λ r. TakesBatch bound.now batch.now (gathered.Parted parts) r.0) }
+    ensures many { IfOk result (λ r. IsBy (participants parts) r.0) }
+    ensures count { IfOk result (λ r. r.1 ≡ min (length (rows_of batch.now.pieces.items)) most) }
+    ensures cause { IfErr result (IsFirstOfAll bound.now batch.now.pieces.items) }
+    ensures low { IfErr result IsLow }
+{
     let (mut parts, more) = match parts.add_pieces(rt, alloc, batch.pieces.as_slice(), bound) {
         Ok(done) => done,
         Err(why) => return Err(why),

@@ -1,10 +1,15 @@
 //! The writing of a table.
 
-ghost use Rattle.std.specs.Prelude.{◌≡◌, ◌≢◌, ◌⊎◌, ℕ, List, Option, IfErr, IfSome, OnOk, Some, take};
+ghost use Rattle.std.specs.Prelude.{◌≡◌, ◌≢◌, ◌≤◌, ◌^◌, ◌∷◌, ◌⊎◌, ℕ, List, Option, IfErr, IfOk, IfSome, OnOk, Some, take};
 ghost use Rattle.std.specs.Io.KnownBytes.{Appends};
 ghost use Rattle.par_io.specs.Faults.{Rose};
 ghost use Rattle.par_stream.specs.Answers.{IsTableText};
-ghost use Rattle.par_stream.specs.Reading.{AreGroupsOver};
+ghost use Rattle.par_model.specs.Named.{bound_plan};
+ghost use Rattle.par_model.specs.Outcome.{IsAnswer};
+ghost use Rattle.result_text.specs.Pieces.{joined};
+ghost use Rattle.result_text.specs.Printable.{IsBoundFrom};
+ghost use Rattle.row_blocks.specs.Blocks.{Table};
+ghost use Rattle.par_stream.specs.Reading.{AreGroupsOver, HasGathered};
 ghost use Rattle.par_stream.specs.declared.stop.Stop.TheVariants as stop;
 
 use crate::adding::Gathered;
@@ -49,7 +54,12 @@ fn text_of<R: Threads + Sync>(
     plan: &Plan,
     bound: &BoundPlan,
     gathered: Gathered,
-) -> Result<Vec<Vec<u8>>, AllocError> {
+) -> Result<Vec<Vec<u8>>, AllocError>
+    requires bound { IsBoundFrom plan.now.plan bound.now }
+    requires rows { (width : ℕ) × (rows : Table) × (length rows ≤ 2 ^ 50) × HasGathered bound.now width rows gathered }
+    ensures { IfOk result (λ pieces. (header : List (List ℕ)) (width : ℕ) (rows : Table) → bound.now ≡ bound_plan header plan.now.plan → length rows ≤ 2 ^ 50 → HasGathered bound.now width rows gathered
+        → IsAnswer plan.now.plan (header ∷ rows) (joined pieces.items)) }
+{
     match gathered {
         Gathered::Near(maps) => table_text(rt, alloc, plan, bound, maps, FEWEST_GROUPS),
         Gathered::Parted(parts) => {

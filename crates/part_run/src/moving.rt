@@ -38,7 +38,6 @@ pub(crate) fn part_maps<R: Threads + Sync>(
     threads: usize,
 ) -> Result<Vec<GroupMap>, AllocError>
     requires some { 0 < threads }
-    requires rows { (plan : Plan) × (width : _) × (rows : Table) × AreShared plan width rows maps.now }
     ensures many { IfOk result (λ parts. length parts.items ≡ 256) }
     ensures parted { IfOk result (λ parts. (plan : Plan) (width : _) (rows : Table) → AreShared plan width rows maps.now → length rows < 2 ^ 64 → AreParted plan width rows parts.items) }
 {
@@ -56,7 +55,7 @@ pub(crate) fn part_maps<R: Threads + Sync>(
 /// The groups of each map, with their parts.
 fn lend_all(alloc: Global, maps: &[GroupMap]) -> Result<Vec<LentParts<'_>>, AllocError>
     ensures listings { IfOk result (λ lists. AreListings maps.now (lists_of lists.items)) }
-    ensures parts { IfOk result (λ lists. All (λ list. list.parts.items ≡ map_list (λ group. key_part group.key) list.groups) lists.items) }
+    ensures lent { IfOk result (λ lists. All IsLent lists.items) }
 {
     let mut lists = Vec::with_capacity(alloc, maps.len())?;
     for map in maps {

@@ -56,7 +56,6 @@ impl Parts {
         maps: Vec<GroupMap>,
     ) -> Result<Parts, AllocError>
         requires some { 0 < length maps.items }
-        requires rows { (plan : Plan) × (width : ℕ) × (rows : Table) × AreShared plan width rows maps.items }
         ensures rows { IfOk result (λ parts. (plan : Plan) (width : ℕ) (rows : Table) → AreShared plan width rows maps.items → length rows < 2 ^ 64 → HaveRows plan width rows parts) }
         ensures many { IfOk result (λ parts. participants parts ≡ length maps.items) }
     {

@@ -139,7 +139,8 @@ impl GroupMap {
 
     /// The groups where they lie, in an order that isn't specified. Takes no memory.
     pub fn lent(&self) -> LentGroups<'_>
-        ensures { IsPermutation (listed self.now) result }
+        ensures groups { IsPermutation (listed self.now) result }
+        ensures whole { All (λ group. length group.state.slots ≡ 8) result }
     {
         LentGroups::of_parts(&self.keys, &self.states, self.left.as_slice())
     }
