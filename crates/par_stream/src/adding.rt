@@ -247,7 +247,7 @@ fn add_parted<R: Threads + Wait + Sync>(
 }
 
 /// How many groups some maps have together.
-fn all_groups(maps: &[GroupMap]) -> usize {
+pub(crate) fn all_groups(maps: &[GroupMap]) -> usize {
     let mut count = 0usize;
     for map in maps {
         count = count.saturating_add(map.len());

@@ -12,13 +12,14 @@ ghost use Rattle.row_blocks.specs.Blocks.{Table};
 ghost use Rattle.par_stream.specs.Reading.{AreGroupsOver, HasGathered};
 ghost use Rattle.par_stream.specs.declared.stop.Stop.TheVariants as stop;
 
-use crate::adding::Gathered;
+use crate::adding::{Gathered, all_groups};
 use crate::reading::ReadGroups;
 use crate::stop::Stop;
 use answer_text::write_each;
 use line_runs::table_of_parts;
 use par_io::Sink;
 use par_model::BoundPlan;
+use part_run::Parts;
 use plan_spec::Plan;
 use split_run::{FEWEST_GROUPS, table_text};
 use std::alloc::{AllocError, Global};
@@ -60,12 +61,14 @@ fn text_of<R: Threads + Sync>(
     ensures { IfOk result (λ pieces. (header : List (List ℕ)) (width : ℕ) (rows : Table) → bound.now ≡ bound_plan header plan.now.plan → length rows ≤ 2 ^ 50 → HasGathered bound.now width rows gathered
         → IsAnswer plan.now.plan (header ∷ rows) (joined pieces.items)) }
 {
-    match gathered {
-        Gathered::Near(maps) => table_text(rt, alloc, plan, bound, maps, FEWEST_GROUPS),
-        Gathered::Parted(parts) => {
-            let threads = plan.workers() as usize + 1;
-            let maps = parts.finish(rt, alloc)?;
-            table_of_parts(rt, alloc, plan, bound, maps, threads)
+    let parts = match gathered {
+        Gathered::Near(maps) if bound.group_count == 0 || all_groups(&maps) < FEWEST_GROUPS => {
+            return table_text(rt, alloc, plan, bound, maps, FEWEST_GROUPS);
         }
-    }
+        Gathered::Near(maps) => Parts::begin(rt, alloc, maps)?,
+        Gathered::Parted(parts) => parts,
+    };
+    let threads = plan.workers() as usize + 1;
+    let maps = parts.finish(rt, alloc)?;
+    table_of_parts(rt, alloc, plan, bound, maps, threads)
 }

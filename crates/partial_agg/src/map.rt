@@ -133,7 +133,22 @@ impl GroupMap {
         let hash = hash_of(key);
         match self.keys.find_hashed(hash, NO_GUESS, key) {
             Some(place) if self.whole => self.states.add_values(place, values),
-            _ => self.add_state(hash, key, &one_row(values)),
+            Some(_left_out) => self.add_state(hash, key, &one_row(values)),
+            None => {
+                let place = self.states.len();
+                self.left.reserve(1)?;
+                self.states.push_values(values)?;
+                match self.keys.push_hashed(self.alloc, hash, key) {
+                    Ok(()) => {}
+                    Err(AllocError) => {
+                        self.states.truncate(place);
+                        return Err(AllocError);
+                    }
+                }
+                self.left.push_reserved(place);
+                self.sorted = false;
+                Ok(())
+            }
         }
     }
 
