@@ -133,12 +133,7 @@ fn number(bytes: &[u8]) -> u64
 }
 
 /// Puts lines in the order of the table. That what is shared is shared by all keys is tested.
-pub(crate) fn sort_lines(
-    lines: &mut [LineRef],
-    runs: &[Run],
-    shared: &Shared<'_>,
-    columns: u32,
-)
+pub(crate) fn sort_lines(lines: &mut [LineRef], runs: &[Run], shared: &Shared<'_>, columns: u32)
     requires there { All (IsThere runs.now) lines.old }
     requires keys { All (λ ref. IsKeyOf columns (entry_at runs.now ref).0) lines.old }
     requires whole { IsWhole shared.now }

@@ -137,19 +137,23 @@ fn ends_of(runs: &[Run], columns: u32) -> (&[u8], &[u8]) {
 }
 
 fn least_of<'a>(a: &'a [u8], b: &'a [u8], columns: u32) -> &'a [u8] {
-    if compare_columns(b, a, columns).is_lt() { b } else { a }
+    if compare_columns(b, a, columns).is_lt() {
+        b
+    } else {
+        a
+    }
 }
 
 fn greatest_of<'a>(a: &'a [u8], b: &'a [u8], columns: u32) -> &'a [u8] {
-    if compare_columns(a, b, columns).is_lt() { b } else { a }
+    if compare_columns(a, b, columns).is_lt() {
+        b
+    } else {
+        a
+    }
 }
 
 /// Adds at most this many keys of a run to a sample.
-fn take_keys<'a>(
-    sample: &mut Vec<&'a [u8]>,
-    run: &'a Run,
-    count: usize,
-) -> Result<(), AllocError> {
+fn take_keys<'a>(sample: &mut Vec<&'a [u8]>, run: &'a Run, count: usize) -> Result<(), AllocError> {
     let step = (run.len() / count.max(1)).saturating_add(1);
     for n in 0..count {
         let at = n.wrapping_mul(step);

@@ -44,11 +44,7 @@ impl Run {
     }
 
     /// The lines of the groups of a map, which is gone afterwards.
-    pub(crate) fn of_map(
-        alloc: Global,
-        bound: &BoundPlan,
-        map: GroupMap,
-    ) -> Result<Run, AllocError>
+    pub(crate) fn of_map(alloc: Global, bound: &BoundPlan, map: GroupMap) -> Result<Run, AllocError>
         requires { ArePrintable bound.now (listed map) }
         ensures { IfOk result (IsRunOf bound.now (listed map)) }
     {

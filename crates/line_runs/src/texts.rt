@@ -146,12 +146,7 @@ fn range_text(
 }
 
 /// Adds the lines of a run from one place on to another.
-fn add_lines(
-    lines: &mut Vec<LineRef>,
-    run: usize,
-    from: usize,
-    to: usize,
-) -> Result<(), AllocError>
+fn add_lines(lines: &mut Vec<LineRef>, run: usize, from: usize, to: usize) -> Result<(), AllocError>
     requires { from ≤ to }
     ensures { OnOk result ((runs : _) → run < length runs → map_list (entry_at runs) lines.new.items ≡ map_list (entry_at runs) lines.old.items ++ take (to - from) (drop from (get_or runs run []))) }
 {

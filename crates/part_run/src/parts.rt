@@ -115,8 +115,7 @@ impl Parts {
         ensures low { IfErr result IsLow }
     {
         let Parts { maps, lists } = self;
-        let Ok((claims, seats)) = Claims::new(alloc, pieces.len() as u64, lists.len() as u32)
-        else {
+        let Ok((claims, seats)) = Claims::new(alloc, pieces.len() as u64, lists.len() as u32) else {
             return Err(BlockAnswer::Memory);
         };
         let Ok(mut hands) = hands_of(alloc, seats, lists) else {
@@ -239,12 +238,7 @@ fn bring_home(alloc: Global, hands: Vec<Hand>) -> Result<Home, BlockAnswer>
 }
 
 /// Adds a seat, lists and a number of rows to what came home.
-fn keep(
-    home: &mut Home,
-    claim: ClaimSeat,
-    lists: PartLists,
-    count: u64,
-) -> Result<(), AllocError>
+fn keep(home: &mut Home, claim: ClaimSeat, lists: PartLists, count: u64) -> Result<(), AllocError>
     ensures seats { OnOk result (home.new.seats.items ≡ home.old.seats.items ++ claim ∷ []) }
     ensures lists { OnOk result (home.new.lists.items ≡ home.old.lists.items ++ lists ∷ []) }
     ensures count { OnOk result (home.new.count ≡ min (home.old.count + count) most) }

@@ -38,11 +38,7 @@ pub(crate) fn spread_piece(
 }
 
 /// Puts the rows of a store into lists, but for those that the filters leave out.
-fn spread_store(
-    rows: &RowStore,
-    plan: &BoundPlan,
-    lists: &mut PartLists,
-) -> Result<(), BlockAnswer>
+fn spread_store(rows: &RowStore, plan: &BoundPlan, lists: &mut PartLists) -> Result<(), BlockAnswer>
     requires columns { HasColumns plan.now (header_width rows.now) }
     ensures spread { OnOk result (lists.new ≡ spread plan.now lists.old (drop 1 rows.now)) }
     ensures accepted { OnOk result (All (IsAccepted plan.now (header_width rows.now)) (drop 1 rows.now)) }

@@ -61,12 +61,7 @@ fn push_values(text: &mut Vec<u8>, bound: &BoundPlan, state: &AggState) -> Resul
 }
 
 /// The value of one aggregate, or an empty field if it is null.
-fn push_value(
-    text: &mut Vec<u8>,
-    item: Item,
-    rows: u64,
-    slot: &SlotState,
-) -> Result<(), AllocError>
+fn push_value(text: &mut Vec<u8>, item: Item, rows: u64, slot: &SlotState) -> Result<(), AllocError>
     requires small { IsSmallSlot slot.now }
     requires places { item.places ≤ MOST_PLACES }
     ensures { OnOk result (text.new.items ≡ text.old.items ++ followed (value_text item.kind item.places rows slot.now)) }

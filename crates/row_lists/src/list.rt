@@ -90,11 +90,7 @@ impl RowList {
 
 /// Puts the bytes of a row at the end of a text. There is room for all of them before the first is put.
 #[inline(always)]
-fn write_row(
-    bytes: &mut Vec<u8>,
-    key: &[u8],
-    values: &[Option<i64>],
-) -> Result<(), AllocError>
+fn write_row(bytes: &mut Vec<u8>, key: &[u8], values: &[Option<i64>]) -> Result<(), AllocError>
     requires short { length key.now ≤ LONGEST_KEY }
     requires few { length values.now ≤ 8 }
     ensures { OnOk result (bytes.new.items ≡ bytes.old.items ++ row_bytes (carried key.now values.now)) }
