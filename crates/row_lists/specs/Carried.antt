@@ -1,5 +1,5 @@
 -- A row as far as its group needs it, and rows one after another as bytes.
-use Rattle.std.specs.Prelude.{◌≡◌, ◌≤◌, ◌<◌, ◌+◌, ◌^◌, ◌==◌, ◌++◌, ◌∷◌, [], ℕ, ℤ, zero, suc, pos, List, Option, Some, None, FitsSigned, All, IfSome, drop, if◌then◌else◌, length, take}
+use Rattle.std.specs.Prelude.{◌≡◌, ◌≤◌, ◌<◌, ◌+◌, ◌==◌, ◌++◌, ◌∷◌, [], ℕ, ℤ, zero, suc, pos, List, Option, Some, None, FitsSigned, All, IfSome, drop, get_or, if◌then◌else◌, length, take}
 use Rattle.std.specs.Int.{cast_signed, cast_unsigned, from_le_bytes, int_eq, to_le_bytes, w64}
 use Rattle.std.specs.List.{flat_map}
 use Rattle.par_model.specs.Refuse.{longest_key}
@@ -66,12 +66,8 @@ after_values (suc count) (kind ∷ rest) = if kind == NEW then after_values coun
 unfoldable pub rows_from : ℕ → List ℕ → List Carried
 rows_from zero bytes = []
 rows_from (suc most) [] = []
-rows_from (suc most) (size ∷ rest) = row_in most (take size rest) (drop size rest)
-
--- likewise, of which the first has this key, and these are the bytes after it
-unfoldable pub row_in : ℕ → List ℕ → List ℕ → List Carried
-row_in most key [] = []
-row_in most key (count ∷ rest) = carried key (values_in count (pos 0) rest) ∷ rows_from most (after_values count rest)
+rows_from (suc most) (size ∷ rest) =
+    carried (take size rest) (values_in (get_or rest size 0) (pos 0) (drop (size + 1) rest)) ∷ rows_from most (after_values (get_or rest size 0) (drop (size + 1) rest))
 
 abbrev pub rows_in : List ℕ → List Carried
 rows_in bytes = rows_from (length bytes) bytes
