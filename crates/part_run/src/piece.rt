@@ -44,10 +44,11 @@ fn spread_store(rows: &RowStore, plan: &BoundPlan, lists: &mut PartLists) -> Res
     ensures accepted { OnOk result (All (IsAccepted plan.now (header_width rows.now)) (drop 1 rows.now)) }
     ensures refused { IfErr result (IsCause plan.now rows.now) }
 {
+    let count = rows.count();
     let near = rows.near(0);
     let width = rows.width(0);
     let mut buffer = RowBuffer::new();
-    for before in 0..rows.count() {
+    for before in 0..count {
         let number = before + 1;
         match spread_row(&mut buffer, number, &near.find(number), width, plan, lists) {
             Ok(()) => {}
