@@ -10,7 +10,6 @@ ghost use Rattle.split_run.specs.Hands.{most};
 ghost use Rattle.split_run.specs.Pieces.{HaveColumns, rows_of};
 ghost use Rattle.part_run.specs.Carrying.{no_rows, with_carried};
 ghost use Rattle.part_run.specs.Hands.{IsCauseOfAll};
-ghost use Rattle.part_run.specs.Parted.{AreParted};
 ghost use Rattle.part_run.specs.Waiting.{GroupsAll, HasWaiting, HaveRows, HaveWaiting, LackNone, TakesPieces, groups_in, participants};
 ghost use Rattle.part_run.specs.declared.hands.Hand.{Hand};
 
