@@ -1,0 +1,70 @@
+-- Parts that begin, and parts whose waiting rows were grouped.
+use Rattle.std.proofs.Common.{◌≡◌, ◌<◌, ◌+◌, ◌^◌, ◌++◌, ◌∙◌, ℕ, zero, suc, false, List, [], ◌∷◌, All, length, replicate, slice_index_or, refl, ap, sym, subst, arith, append-nil, length-append}
+use Rattle.std.specs.List.{AllZip}
+use Rattle.std.specs.List.Sorted.{IsPermutation}
+use Rattle.std.proofs.lemmas.List.{get_or-map}
+use Rattle.std.proofs.lemmas.List.Sorted.{All-permutation, IsPermutation-refl, IsPermutation-sym, length_permutation}
+use Rattle.par_model.specs.Plan.{Plan}
+use Rattle.partial_agg.specs.Groups.{GroupsByKey, with_rows}
+use Rattle.partial_agg.specs.Rows.{IsAccepted}
+use Rattle.row_blocks.specs.Blocks.{Table}
+use Rattle.row_blocks.proofs.Elements.{All-apart}
+use Rattle.gather_law.specs.Shares.{rows_in, together}
+use Rattle.row_lists.specs.Carried.{Carried}
+use Rattle.row_lists.specs.Parts.{part_of}
+use Rattle.part_run.specs.Carrying.{AreSpread, no_rows, waiting_for, with_carried}
+use Rattle.part_run.specs.Held.{HeldParts}
+use Rattle.part_run.specs.Parted.{AreParted}
+use Rattle.part_run.specs.Waiting.{GroupsAll, HaveRows, HaveWaiting, LackNone, groups_in}
+use Rattle.part_run.specs.declared.parts.PartMap.{PartMap}
+use Rattle.part_run.proofs.ByPart.{carried_adds, waiting_is}
+use Rattle.part_run.proofs.Grown.{fine_in, parted_grow, parts_any_order}
+
+-- ---- no rows that wait
+
+none_together : (count : ℕ) → together (replicate count []) ≡ []
+none_together zero = refl
+none_together (suc count) = none_together count
+
+none_spread : (plan : Plan) (count : ℕ) → AllZip (AreSpread plan) (replicate count []) (replicate count no_rows)
+none_spread plan zero = tt
+none_spread plan (suc count) = (refl, none_spread plan count)
+
+-- parts whose lists are empty have the rows of their maps
+pub all_in_maps : (plan : Plan) (width count : ℕ) (rows : Table) (p : HeldParts) → AreParted plan width rows p.maps → p.lists ≡ replicate count no_rows → HaveRows plan width rows p
+all_in_maps plan width count rows p are none = record {
+  taken = rows;
+  shares = replicate count [];
+  maps = are;
+  lists = subst (λ (ls : List (List (List Carried))). AllZip (AreSpread plan) (replicate count []) ls) (sym none) (none_spread plan count);
+  accepted = are.accepted;
+  same = subst (λ (l : Table). IsPermutation (rows ++ l) rows) (sym (none_together count)) (subst (λ (l : Table). IsPermutation l rows) (sym (append-nil rows)) (IsPermutation-refl rows));
+}
+
+-- ---- rows that waited
+
+-- what was added to each map, if there was memory for all
+pub each_grouped : (lists : List (List (List Carried))) (olds news : List PartMap) → length olds ≡ 256 → HaveWaiting lists olds news → LackNone news
+    → (part : ℕ) (d : GroupsByKey) → part < 256 → slice_index_or (groups_in news) part d ≡ with_carried (slice_index_or (groups_in olds) part d) (waiting_for part lists)
+each_grouped lists olds news long done none part d low =
+    let x : PartMap = record { groups = d; lacks = false } in
+    let g : PartMap → GroupsByKey = λ m. m.groups in
+    let there : part < length olds = omega (arith, long, low) in
+    let here : part < length news = omega (arith, done.count, there) in
+    get_or-map g news part x d here ∙ (done.each part x there).added (none part x here)
+    ∙ ap (λ (m : GroupsByKey). with_carried m (waiting_for part lists)) (sym (get_or-map g olds part x d there))
+
+-- then the maps are those of all rows
+pub all_grouped : (p : HeldParts) (news : List GroupsByKey) → length news ≡ 256
+    → ((part : ℕ) (d : GroupsByKey) → part < 256 → slice_index_or news part d ≡ with_carried (slice_index_or p.maps part d) (waiting_for part p.lists)) → GroupsAll p news
+all_grouped p news many each = λ plan width rows has few.
+    let all = together has.shares in
+    let size = length_permutation (has.taken ++ all) rows has.same in
+    let long = length-append has.taken all in
+    let both : All (IsAccepted plan width) (has.taken ++ all) = All-permutation (IsAccepted plan width) rows (has.taken ++ all) (IsPermutation-sym (has.taken ++ all) rows has.same) has.accepted in
+    let fine : All (IsAccepted plan width) all = (All-apart (IsAccepted plan width) has.taken all both).1 in
+    let now : (part : ℕ) (d : GroupsByKey) → part < 256 → slice_index_or news part d ≡ with_rows plan (slice_index_or p.maps part d) (rows_in plan part_of part all) = λ part d low.
+    each part d low ∙ ap (with_carried (slice_index_or p.maps part d)) (waiting_is plan part low has.shares p.lists has.lists)
+    ∙ carried_adds plan width (rows_in plan part_of part all) (slice_index_or p.maps part d) (fine_in plan width part all fine) in
+    parts_any_order plan width (has.taken ++ all) rows news has.same (omega (arith, size, few))
+    (parted_grow plan width has.taken all p.maps news has.maps fine (omega (arith, size, long, few)) many now)
