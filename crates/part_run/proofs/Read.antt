@@ -74,7 +74,7 @@ module _ (plan : Plan) (pieces : List Stretch) (c : Claims) where
   each_spread [] [] d n = tt
   each_spread [] (g ∷ gs) d n = absurd d
   each_spread (f ∷ fs) [] d n = absurd d
-  each_spread (f ∷ fs) (g ∷ gs) d n = (d.0.spread n.0, each_spread fs gs d.1 n.1)
+  each_spread (f ∷ fs) (g ∷ gs) d n = (d.0.read n.0, each_spread fs gs d.1 n.1)
 
   -- ---- what they have read
 
@@ -134,7 +134,7 @@ module _ (plan : Plan) (pieces : List Stretch) (c : Claims) where
 
   -- what they read is all rows, in some order
   pub record AreAll (fs gs : List Hand) : Type 0 where
-    pub spread : AllZip (HasSpread plan pieces c) fs gs
+    pub read : AllZip (HasSpread plan pieces c) fs gs
     pub same : IsPermutation (together (map rows_by gs)) (rows_of pieces)
     pub accepted : (header : List (List ℕ)) → AreUnder header pieces → All (IsAccepted plan (length header)) (rows_of pieces)
     pub count : min (sum_by count_by gs) most ≡ min (length (rows_of pieces)) most
@@ -150,7 +150,7 @@ module _ (plan : Plan) (pieces : List Stretch) (c : Claims) where
       let mine = together (map rows_by gs) in
       let same : IsPermutation mine (rows_of pieces) = subst (λ (ls : List Table). IsPermutation (together ls) (rows_of pieces)) (rows_are gs) whole in
       record {
-        spread = each;
+        read = each;
         same = same;
         accepted = λ header under. All-permutation (IsAccepted plan (length header)) mine (rows_of pieces) same (all_fine header under fs gs each);
         count = omega (arith, counts_are fs gs each, length_permutation mine (rows_of pieces) same);
@@ -161,7 +161,7 @@ module _ (plan : Plan) (pieces : List Stretch) (c : Claims) where
   takes fs gs old new all was now same = λ header before under has few.
       let added = map rows_by gs in
       let z : AllZip (AreSpread plan) has.shares (map held_by fs) = subst (λ (ls : List (List (List Carried))). AllZip (AreSpread plan) has.shares ls) (sym was) has.lists in
-      let grow = all_grow has.shares fs gs z all.spread in
+      let grow = all_grow has.shares fs gs z all.read in
       let mine = together has.shares in
       let whole = together (joined has.shares added) in
       let its = together added in

@@ -1,7 +1,7 @@
 mod Blocks
 pub mod Drawn
 mod FirstPiece
-mod FirstRow
+pub mod FirstRow
 mod Joining
 mod Rising
 pub mod Parting
