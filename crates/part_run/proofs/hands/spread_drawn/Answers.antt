@@ -31,7 +31,7 @@ loop-preserved g c =
       finite = tt;
       seat = c.claim.ensures.same.0;
       number = c.claim.ensures.same.1 ∙ c.loop.invariant.number;
-      spread = piece_spread pieces n p low is was now more plan c.args.lists.now c.loop.lists c.spread_piece.new.lists c.loop.invariant.spread c.in-Ok.ensures.spread;
+      lists = piece_spread pieces n p low is was now more plan c.args.lists.now c.loop.lists c.spread_piece.new.lists c.loop.invariant.lists c.in-Ok.ensures.spread;
       accepted = accepted_piece pieces n p low is was now more plan c.loop.invariant.accepted c.in-Ok.ensures.accepted;
       count = counted_piece pieces n p low is was now more c.loop.count c.saturating_add-count.result c.loop.invariant.count (omega (arith, c.saturating_add-count.ensures, c.in-Ok.ensures.count));
     }

@@ -12,7 +12,7 @@ invariant-loop g l = record {
   finite : (goal.iterator-loop g).is_finite l.iterator';
   seat : Belongs l.claims l.claim;
   number : number_of l.claim ≡ number_of l.initial.claim;
-  spread : l.lists ≡ spread l.plan l.initial.lists (drawn_rows l.pieces (draws_of l.claim));
+  lists : l.lists ≡ spread l.plan l.initial.lists (drawn_rows l.pieces (draws_of l.claim));
   accepted : AreAccepted l.plan l.pieces (drawn_rows l.pieces (draws_of l.claim));
   count : l.count ≡ min (length (drawn_rows l.pieces (draws_of l.claim))) most;
 }
