@@ -1,12 +1,16 @@
 -- Parts that begin, and parts whose waiting rows were grouped.
-use Rattle.std.proofs.Common.{◌≡◌, ◌<◌, ◌+◌, ◌^◌, ◌++◌, ◌∙◌, ℕ, zero, suc, false, List, [], ◌∷◌, All, length, replicate, slice_index_or, refl, ap, sym, subst, arith, append-nil, length-append}
+use Rattle.std.proofs.Common.{◌≡◌, ◌<◌, ◌+◌, ◌^◌, ◌++◌, ◌∙◌, ℕ, zero, suc, false, List, [], ◌∷◌, All, Some, get_or, length, replicate, slice_get, take, slice_index_or, refl, ap, sym, subst, arith, append-nil, length-append}
 use Rattle.std.specs.List.{AllZip}
 use Rattle.std.specs.List.Sorted.{IsPermutation}
-use Rattle.std.proofs.lemmas.List.{get_or-map}
+use Rattle.std.proofs.lemmas.List.{get_or-map, take_more}
+use Rattle.std.proofs.lemmas.List.Concat.{flat_map-append}
+use Rattle.std.proofs.lemmas.List.Sums.{fold-append}
+use Rattle.std.proofs.lemmas.Option.{get_or_from_slice_get}
 use Rattle.std.proofs.lemmas.List.Sorted.{All-permutation, IsPermutation-refl, IsPermutation-sym, length_permutation}
 use Rattle.par_model.specs.Plan.{Plan}
-use Rattle.partial_agg.specs.Groups.{GroupsByKey, with_rows}
+use Rattle.partial_agg.specs.Groups.{GroupsByKey, added, with_rows}
 use Rattle.partial_agg.specs.Rows.{IsAccepted}
+use Rattle.partial_agg.specs.Values.{values_state}
 use Rattle.row_blocks.specs.Blocks.{Table}
 use Rattle.row_blocks.proofs.Elements.{All-apart}
 use Rattle.gather_law.specs.Shares.{rows_in, together}
@@ -53,6 +57,20 @@ each_grouped lists olds news long done none part d low =
     let here : part < length news = omega (arith, done.count, there) in
     get_or-map g news part x d here ∙ (done.each part x there).added (none part x here)
     ∙ ap (λ (m : GroupsByKey). with_carried m (waiting_for part lists)) (sym (get_or-map g olds part x d there))
+
+abbrev step : GroupsByKey → Carried → GroupsByKey
+step so_far row = added so_far row.key (values_state row.values)
+
+-- the rows of one participant more
+pub waiting_next : (part at : ℕ) (lists : List (List (List Carried))) (one : List (List Carried)) (list : List Carried) (start mid new : GroupsByKey) → at < length lists → one ≡ get_or lists at one → slice_get one part ≡ Some list
+    → mid ≡ with_carried start (waiting_for part (take at lists)) → new ≡ with_carried mid list → new ≡ with_carried start (waiting_for part (take (at + 1) lists))
+waiting_next part at lists one list start mid new lt there is before now =
+    let front = waiting_for part (take at lists) in
+    let more : waiting_for part (take (at + 1) lists) ≡ front ++ list =
+    ap (waiting_for part) (take_more lists at one lt ∙ ap (λ (x : List (List Carried)). take at lists ++ x ∷ []) (sym there))
+    ∙ flat_map-append (λ (l : List (List Carried)). get_or l part []) (take at lists) (one ∷ [])
+    ∙ ap (λ (l : List Carried). front ++ l) (append-nil (get_or one part []) ∙ get_or_from_slice_get one part list [] is) in
+    now ∙ ap (λ (m : GroupsByKey). with_carried m list) before ∙ sym (ap (with_carried start) more ∙ fold-append step start front list)
 
 -- then the maps are those of all rows
 pub all_grouped : (p : HeldParts) (news : List GroupsByKey) → length news ≡ 256
