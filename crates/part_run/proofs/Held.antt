@@ -26,6 +26,10 @@ use Rattle.part_run.proofs.Grown.{fine_in, parted_grow, parts_any_order}
 
 -- ---- no rows that wait
 
+pub one_more_empty : (count : ℕ) → replicate count no_rows ++ no_rows ∷ [] ≡ replicate (count + 1) no_rows
+one_more_empty zero = refl
+one_more_empty (suc count) = ap (λ (ls : List (List (List Carried))). no_rows ∷ ls) (one_more_empty count) ∙ ap (λ n. replicate n no_rows) (let e : suc (count + 1) ≡ suc count + 1 = omega arith in e)
+
 none_together : (count : ℕ) → together (replicate count []) ≡ []
 none_together zero = refl
 none_together (suc count) = none_together count
