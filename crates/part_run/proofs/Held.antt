@@ -1,5 +1,5 @@
 -- Parts that begin, and parts whose waiting rows were grouped.
-use Rattle.std.proofs.Common.{◌≡◌, ◌<◌, ◌+◌, ◌^◌, ◌++◌, ◌∙◌, ℕ, zero, suc, false, List, [], ◌∷◌, All, Some, get_or, length, replicate, slice_get, take, slice_index_or, refl, ap, sym, subst, arith, append-nil, length-append}
+use Rattle.std.proofs.Common.{◌≡◌, ◌<◌, ◌+◌, ◌^◌, ◌++◌, ◌∙◌, ℕ, zero, suc, false, List, [], ◌∷◌, All, Some, get_or, length, map, replicate, slice_get, take, slice_index_or, refl, ap, sym, subst, arith, append-nil, length-append}
 use Rattle.std.specs.List.{AllZip}
 use Rattle.std.specs.List.Sorted.{IsPermutation}
 use Rattle.std.proofs.lemmas.List.{get_or-map, take_more}
@@ -25,6 +25,13 @@ use Rattle.part_run.proofs.ByPart.{carried_adds, waiting_is}
 use Rattle.part_run.proofs.Grown.{fine_in, parted_grow, parts_any_order}
 
 -- ---- no rows that wait
+
+abbrev pub emptied : List (List Carried) → List (List Carried)
+emptied lists = no_rows
+
+pub all_emptied : (lists : List (List (List Carried))) → map emptied lists ≡ replicate (length lists) no_rows
+all_emptied [] = refl
+all_emptied (one ∷ lists) = ap (λ (ls : List (List (List Carried))). no_rows ∷ ls) (all_emptied lists)
 
 pub one_more_empty : (count : ℕ) → replicate count no_rows ++ no_rows ∷ [] ≡ replicate (count + 1) no_rows
 one_more_empty zero = refl
