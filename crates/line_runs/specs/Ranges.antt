@@ -1,5 +1,5 @@
 -- Ranges of a table's order, by a sample of its keys, and what a range has of runs.
-use Rattle.std.specs.Prelude.{◌≡◌, ◌<◌, ◌≤◌, ◌/◌, ◌+◌, ◌==◌, ℕ, Bool, true, false, List, Result, All, IfOk, drop, filter, length, map, slice_index_or, take}
+use Rattle.std.specs.Prelude.{◌≡◌, ◌<◌, ◌≤◌, ◌/◌, ◌+◌, ◌==◌, ℕ, Bool, true, false, List, Result, All, IfOk, drop, filter, get_or, length, map, slice_index_or, take}
 use Rattle.std.specs.Global.{Vec}
 use Rattle.std.specs.List.{concat, flat_map}
 use Rattle.std.specs.List.Sorted.{IsPermutation, IsSortedBy}
@@ -7,7 +7,7 @@ use Rattle.std.specs.Ordering.{is_lt}
 use Rattle.std.specs.declared.alloc.AllocError.{AllocError}
 use Rattle.par_model.specs.Table.{columns_cmp}
 use Rattle.result_text.specs.KeyColumns.{columns_in}
-use Rattle.line_runs.specs.Entries.{Entry, comes_before}
+use Rattle.line_runs.specs.Entries.{Entry, comes_before, no_entry}
 use Rattle.line_runs.specs.declared.ranges.Ranges.{Ranges}
 use Rattle.line_runs.specs.declared.ranges.TheConstants.{SAMPLE}
 
@@ -31,11 +31,19 @@ range_of r key = count_before r key / SAMPLE
 abbrev pub count_of : Ranges → ℕ
 count_of r = length r.sample.items / SAMPLE + 1
 
--- the place of a run whose key is the first that comes after a key, by so many columns
+-- no key from one place of a run on to another comes after a key, by so many columns
+abbrev pub NoneAfter : ℕ → List Entry → List ℕ → ℕ → ℕ → Type 0
+NoneAfter count run key from to = (k : ℕ) → from ≤ k → k < to → is_before count key (get_or run k no_entry).0 ≡ false
+
+-- and each does
+abbrev pub AllAfter : ℕ → List Entry → List ℕ → ℕ → ℕ → Type 0
+AllAfter count run key from to = (k : ℕ) → from ≤ k → k < to → is_before count key (get_or run k no_entry).0 ≡ true
+
+-- the place of a run whose key is the first that comes after a key
 pub record IsPlaceAfter (count : ℕ) (run : List Entry) (key : List ℕ) (place : ℕ) : Type 0 where
   pub within : place ≤ length run
-  pub before : All (λ entry. is_before count key entry.0 ≡ false) (take place run)
-  pub after : All (λ entry. is_before count key entry.0 ≡ true) (drop place run)
+  pub before : NoneAfter count run key 0 place
+  pub after : AllAfter count run key place (length run)
 
 -- at a place a run is cut in front of a range: before it are keys of lower ranges, and from it on there are none
 pub record IsCutAt (r : Ranges) (range : ℕ) (run : List Entry) (place : ℕ) : Type 0 where

@@ -1,8 +1,8 @@
 //! Ranges of a table's order, by a sample of the keys of all runs.
 
-ghost use Rattle.std.specs.Prelude.{◌≡◌, ◌<◌, ◌+◌, ◌-◌, ◌*◌, IfOk, IfSome, None, slice_index_or};
+ghost use Rattle.std.specs.Prelude.{◌≡◌, ◌<◌, ◌≤◌, ◌+◌, ◌-◌, ◌*◌, IfOk, IfSome, None, length, slice_index_or};
 ghost use Rattle.line_runs.specs.Order.{IsWhole};
-ghost use Rattle.line_runs.specs.Ranges.{AreOrdered, IsCutAt, IsPlaceAfter, count_of};
+ghost use Rattle.line_runs.specs.Ranges.{AllAfter, AreOrdered, IsCutAt, IsPlaceAfter, NoneAfter, count_of, is_before};
 ghost use Rattle.line_runs.specs.declared.ranges.TheConstants.{SAMPLE};
 ghost use Rattle.line_runs.specs.Runs.{Rise};
 
@@ -139,15 +139,36 @@ fn place_after(run: &Run, key: &[u8], columns: u32) -> usize
 {
     let mut low = 0;
     let mut high = run.len();
-    while low < high {
-        let middle = low + (high - low) / 2;
-        if compare_columns(key, run.key(middle), columns).is_lt() {
-            high = middle;
-        } else {
-            low = middle + 1;
-        }
+    'halves: while low < high {
+        let (from, to) = half_of(run, key, columns, low, high);
+        low = from;
+        high = to;
     }
     low
+}
+
+/// The half of some places in which the first lies whose key comes after this one, if it is one of them or their end.
+fn half_of(run: &Run, key: &[u8], columns: u32, low: usize, high: usize) -> (usize, usize)
+    requires rises { Rise columns run.now }
+    requires some { low < high }
+    requires within { high ≤ length run.now }
+    ensures up { (low ≤ result.0) × (result.0 ≤ result.1) × (result.1 ≤ high) }
+    ensures fewer { result.1 - result.0 < high - low }
+    ensures before { NoneAfter columns run.now key.now low result.0 }
+    ensures after { AllAfter columns run.now key.now result.1 high }
+{
+    let middle = low + (high - low) / 2;
+    if is_before(key, run.key(middle), columns) {
+        return (low, middle);
+    }
+    (middle + 1, high)
+}
+
+/// Whether a key comes before another.
+fn is_before(a: &[u8], b: &[u8], columns: u32) -> bool
+    ensures { result ≡ is_before columns a.now b.now }
+{
+    compare_columns(a, b, columns).is_lt()
 }
 
 /// The least and the greatest key of all runs, or keys of no bytes.

@@ -1,0 +1,10 @@
+mod Numbers
+mod Whole
+mod Sorting
+mod Rising
+mod Cuts
+mod Places
+mod Entries
+mod Groups
+mod Lines
+mod Answering
