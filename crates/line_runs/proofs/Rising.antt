@@ -1,7 +1,7 @@
--- The number of a key's range, by a sample in order: what a binary search finds, and that it rises with the key.
+-- The number of a key's range, by a sample in order, rises with the key.
 use Rattle.std.proofs.Common.{◌≡◌, ◌<◌, ◌≤◌, ◌+◌, ◌-◌, ◌/◌, ◌∙◌, ℕ, zero, suc, Bool, true, false, cond, List, [], ◌∷◌, filter, length, slice_index_or, refl, ap, sym, subst, arith}
 use Rattle.std.specs.Cmp.{IsTotalOrder}
-use Rattle.std.specs.List.Sorted.{IsPartitionPoint, IsPartitionedBy, IsSortedBy}
+use Rattle.std.specs.List.Sorted.{IsPartitionedBy, IsSortedBy}
 use Rattle.std.specs.Ordering.{is_lt, ordering_reverse}
 use Rattle.std.specs.declared.cmp.Ordering.{Ordering}
 use Rattle.std.specs.declared.cmp.Ordering.TheVariants.{Equal, Greater, Less}
@@ -18,13 +18,6 @@ less_of Equal h = cc
 less_of Greater h = cc
 
 -- ---- what a filter keeps
-
-pub filter_point : {X : Type 0} (p : X → Bool) (xs : List X) (i : ℕ) → i ≤ length xs → ((k : ℕ) (d : X) → k < i → p (slice_index_or xs k d) ≡ true)
-    → ((k : ℕ) (d : X) → i ≤ k → k < length xs → p (slice_index_or xs k d) ≡ false) → length (filter p xs) ≡ i
-filter_point p [] i le low high = omega (arith, le)
-filter_point p (x ∷ xs) zero le low high = rw (high 0 x (omega arith) (omega arith)) (filter_point p xs zero (omega arith) (λ k d lt. absurd (omega (arith, lt))) (λ k d from lt. high (suc k) d (omega arith) (omega (arith, lt))))
-filter_point p (x ∷ xs) (suc i) le low high =
-    rw (low 0 x (omega arith)) (ap suc (filter_point p xs i (omega (arith, le)) (λ k d lt. low (suc k) d (omega (arith, lt))) (λ k d from lt. high (suc k) d (omega (arith, from)) (omega (arith, lt)))))
 
 filter_fewer : {X : Type 0} (p q : X → Bool) → ((x : X) → p x ≡ true → q x ≡ true) → (xs : List X) → length (filter p xs) ≤ length (filter q xs)
 filter_fewer p q within [] = omega arith

@@ -161,9 +161,9 @@ pub(crate) fn sort_lines(lines: &mut [LineRef], runs: &[Run], shared: &Shared<'_
 {
     if number_all(lines, runs, shared) {
         sort_numbered(lines, runs, columns);
-    } else {
-        sort_by_keys(lines, runs, columns);
+        return;
     }
+    sort_by_keys(lines, runs, columns);
 }
 
 /// Gives each line the number of its key; returns whether each has one.

@@ -84,10 +84,9 @@ impl<'a> Ranges<'a> {
         ensures { IsCutAt self.now (range + 1) run.now result }
     {
         if range + 1 < self.count() {
-            self.start_in(run, range + 1)
-        } else {
-            run.len()
+            return self.start_in(run, range + 1);
         }
+        run.len()
     }
 
     /// What all keys of a range have in common.

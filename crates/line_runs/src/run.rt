@@ -1,7 +1,8 @@
 //! The lines of one map, in the order of the table.
 
 ghost use Rattle.std.specs.Prelude.{◌≡◌, ◌<◌, ◌≤◌, ◌++◌, All, IfOk, OnOk, get_or, length, map as map_list};
-ghost use Rattle.csv.specs.Records.{prev};
+ghost use Rattle.csv.specs.Records.{cut_from, prev};
+ghost use Rattle.csv_rows.specs.Store.{Covers};
 ghost use Rattle.par_model.specs.Refuse.{longest_key};
 ghost use Rattle.partial_agg.specs.Listed.{listed};
 ghost use Rattle.result_text.specs.GroupOrder.{group_of};
@@ -67,7 +68,15 @@ impl Run {
             push_entry(&mut bytes, bound, group.key, &state)?;
             ends.push(bytes.len())?;
         }
-        Ok(Run { bytes, ends })
+        Ok(Run::of(bytes, ends))
+    }
+
+    /// The lines that these bytes are, each of which ends at one of these places.
+    fn of(bytes: Vec<u8>, ends: Vec<usize>) -> Run
+        requires { Covers ends.items (length bytes.items) }
+        ensures { result ≡ map_list entry_in (cut_from 0 ends.items bytes.items) }
+    {
+        Run { bytes, ends }
     }
 
     /// The number of lines.
