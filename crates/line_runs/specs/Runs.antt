@@ -1,5 +1,6 @@
 -- The lines of a table in runs, one for each map.
-use Rattle.std.specs.Prelude.{◌≡◌, ◌<◌, ◌≤◌, ℕ, List, Result, All, IfOk, length, map, slice_index_or}
+use Rattle.std.specs.Prelude.{◌≤◌, ℕ, List, Result, All, IfOk, length, map}
+use Rattle.std.specs.List.{AllZip}
 use Rattle.std.specs.List.Sorted.{IsPermutation, IsStrictlySortedBy}
 use Rattle.std.specs.declared.alloc.AllocError.{AllocError}
 use Rattle.par_model.specs.Plan.{Plan}
@@ -22,9 +23,8 @@ pub record IsRunOf (plan : Plan) (groups : List Group) (run : List Entry) : Type
   pub rises : Rise (length plan.groups) run
 
 -- there is a run for each map, of the lines of its groups
-pub record AreRunsOf (plan : Plan) (maps : List GroupsByKey) (runs : List (List Entry)) : Type 0 where
-  pub many : length runs ≡ length maps
-  pub each : (k : ℕ) (d : GroupsByKey) (e : List Entry) → k < length maps → IsRunOf plan (listed (slice_index_or maps k d)) (slice_index_or runs k e)
+abbrev pub AreRunsOf : Plan → List GroupsByKey → List (List Entry) → Type 0
+AreRunsOf plan maps runs = AllZip (λ groups run. IsRunOf plan (listed groups) run) maps runs
 
 -- the run of a map's lines was made, if there was memory for it
 abbrev pub IsMade : Plan → GroupsByKey → Result (List Entry) AllocError → Type 0

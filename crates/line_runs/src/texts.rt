@@ -80,6 +80,15 @@ fn runs_of<R: Threads + Sync>(
     requires printable { All (λ groups. ArePrintable bound.now (listed groups)) maps.items }
     ensures { IfOk result (λ runs. AreRunsOf bound.now maps.items runs.items) }
 {
+    let mut jobs = jobs_of(alloc, maps)?;
+    make_runs(rt, alloc, bound, &mut jobs, threads);
+    take_runs(alloc, jobs)
+}
+
+/// A job for each map.
+fn jobs_of(alloc: Global, maps: Vec<GroupMap>) -> Result<Vec<Job>, AllocError>
+    ensures { IfOk result (λ jobs. map_list (λ job. job.map) jobs.items ≡ maps.items) }
+{
     let mut jobs = Vec::with_capacity(alloc, maps.len())?;
     for map in maps {
         jobs.push(Job {
@@ -87,8 +96,7 @@ fn runs_of<R: Threads + Sync>(
             run: Err(AllocError),
         })?;
     }
-    make_runs(rt, alloc, bound, &mut jobs, threads);
-    take_runs(alloc, jobs)
+    Ok(jobs)
 }
 
 /// Makes the lines of each map, which is empty afterwards.

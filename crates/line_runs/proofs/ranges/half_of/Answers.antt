@@ -1,5 +1,5 @@
-use Rattle.std.proofs.Common.{◌≡◌, ◌<◌, ◌≤◌, ◌∙◌, ℕ, List, arith, length, sym, true, false}
-use Rattle.line_runs.specs.Entries.{no_entry}
+use Rattle.std.proofs.Common.{◌≡◌, ◌<◌, ◌≤◌, ◌∙◌, ap, arith, length, sym}
+use Rattle.line_runs.specs.Ranges.{is_before}
 use Rattle.line_runs.proofs.Cuts.{after_from, none_until}
 use Rattle.line_runs.proofs.ranges.half_of.Goals as goal
 
@@ -8,12 +8,12 @@ returns-then-is_before-clause-before c = λ k from lt. absurd (omega (arith, fro
 
 pub returns-then-is_before-clause-after : goal.returns-then-is_before-clause-after
 returns-then-is_before-clause-after c = λ k from lt.
-    let yes = rw (← c.key-2.ensures) (sym c.is_before.ensures ∙ c.if-is_before.true) in
+    let yes = ap (is_before c.args.columns c.args.key.now) (sym c.key.ensures) ∙ sym c.is_before.ensures ∙ c.if-is_before.true in
     after_from c.args.columns c.args.run.now c.args.key.now c.requires.rises _ k from (omega (arith, lt, c.requires.within)) yes
 
 pub returns-clause-before : goal.returns-clause-before
 returns-clause-before c = λ k from lt.
-    let no = rw (← c.key-2.ensures) (sym c.is_before.ensures ∙ c.if-is_before.false) in
+    let no = ap (is_before c.args.columns c.args.key.now) (sym c.key.ensures) ∙ sym c.is_before.ensures ∙ c.if-is_before.false in
     none_until c.args.columns c.args.run.now c.args.key.now c.requires.rises _ k (omega (arith, lt)) (omega (arith, c.requires.some, c.requires.within)) no
 
 pub returns-clause-after : goal.returns-clause-after
