@@ -212,11 +212,8 @@ module _ (plan : Plan) (part_of : List ℕ → ℕ) (rows : Table) where
     )
 
     pub distinct_from : (part : ℕ) (maps : List GroupsByKey) → AreFrom part maps → Distinct (groups_of range_of' range maps)
-    distinct_from part [] are = none_distinct
-      where
-        none_distinct : Distinct []
-        unfolding IsDistinct
-        none_distinct = tt
+    unfolding IsDistinct
+    distinct_from part [] are = tt
     distinct_from part (m ∷ maps) are =
         let own = groups_in range_of' range (listed m) in
         let ins = All-filter of_range (IsIn part) (listed m) (all_in part m (first_of part m maps are)) in

@@ -3,6 +3,7 @@ mod Whole
 mod Sorting
 mod Rising
 mod Cuts
+mod Stretches
 mod Places
 mod Entries
 mod Groups
