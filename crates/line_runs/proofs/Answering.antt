@@ -1,11 +1,10 @@
 -- The texts of all ranges are the text of the table of all rows.
-use Rattle.std.proofs.Common.{◌≡◌, ◌<◌, ◌≤◌, ◌^◌, ◌∷◌, ◌==◌, ◌∙◌, ℕ, suc, List, [], All, Ok, IfOk, Result, Some, length, map, filter, get_or, slice_index_or, refl, ap, sym, subst, arith, true}
+use Rattle.std.proofs.Common.{◌≡◌, ◌+◌, ◌<◌, ◌≤◌, ◌^◌, ◌∷◌, ◌==◌, ℕ, suc, List, [], All, Ok, IfOk, Result, length, map, get_or, slice_index_or, sym, subst, arith}
 use Rattle.std.proofs.lemmas.Bool.{eq-eqb, eqb-true}
 use Rattle.std.proofs.lemmas.List.Elements.{All-cons, All-contains, All-head, All-nil, All-tail}
 use Rattle.std.proofs.lemmas.List.Sorted.{All-permutation, IsPermutation-refl, IsPermutation-sym, IsPermutation-trans}
 use Rattle.std.proofs.lemmas.Result.{IfOk-weaker}
 use Rattle.std.specs.Global.{Vec}
-use Rattle.std.specs.List.{AllZip}
 use Rattle.std.specs.List.Sorted.{IsPermutation, IsSortedBy}
 use Rattle.std.specs.declared.alloc.AllocError.{AllocError}
 use Rattle.csv.specs.Writing.{default_writer, row_text}
@@ -14,7 +13,7 @@ use Rattle.par_model.specs.Named.{NamedPlan, bound_plan}
 use Rattle.par_model.specs.Outcome.{IsAnswer}
 use Rattle.par_model.specs.Plan.{Plan}
 use Rattle.par_model.specs.Table.{table_header}
-use Rattle.partial_agg.specs.Groups.{AreGroups, GroupsByKey, group_of}
+use Rattle.partial_agg.specs.Groups.{AreGroups, GroupsByKey}
 use Rattle.partial_agg.specs.Listed.{listed}
 use Rattle.partial_agg.specs.declared.groups.Group.{Group}
 use Rattle.result_text.specs.PartTexts.{RisesBy}
@@ -22,10 +21,10 @@ use Rattle.result_text.specs.Pieces.{joined}
 use Rattle.result_text.specs.Printable.{ArePrintable, IsKeyOf}
 use Rattle.result_text.specs.Text.{AreLinesOf}
 use Rattle.result_text.proofs.PartTexts.{pieces_answer}
-use Rattle.result_text.proofs.Uses.{All-listed, printable-listed}
+use Rattle.result_text.proofs.Uses.{printable-listed}
 use Rattle.row_blocks.specs.Blocks.{Table}
 use Rattle.gather_law.specs.KeyParts.{AreListings, part_map}
-use Rattle.gather_law.specs.Shares.{AreShared, rows_in}
+use Rattle.gather_law.specs.Shares.{rows_in}
 use Rattle.gather_law.proofs.KeyParts.{parts_together}
 use Rattle.gather_law.proofs.PartMaps.{parts_join}
 use Rattle.row_lists.specs.Parts.{part_of}

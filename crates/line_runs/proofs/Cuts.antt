@@ -1,5 +1,5 @@
 -- Where a run is cut in front of a range, and the stretch between two cuts.
-use Rattle.std.proofs.Common.{◌≡◌, ◌<◌, ◌≤◌, ◌+◌, ◌-◌, ◌*◌, ◌/◌, ◌==◌, ◌∙◌, ◌∷◌, ◌++◌, ◌⊎◌, [], ℕ, zero, suc, Bool, true, false, cond, List, All, inl, inr, ap, arith, drop, filter, get_or, length, map, refl, slice_index_or, subst, sym, take}
+use Rattle.std.proofs.Common.{◌≡◌, ◌<◌, ◌≤◌, ◌+◌, ◌-◌, ◌*◌, ◌==◌, ◌∙◌, ◌∷◌, ◌++◌, ◌⊎◌, [], ℕ, zero, suc, Bool, true, false, cond, List, All, inl, inr, ap, arith, drop, filter, get_or, length, map, refl, slice_index_or, subst, sym, take}
 use Rattle.std.proofs.lemmas.Bool.{cases_lt, eq-eqb, ne_eqb}
 use Rattle.std.proofs.lemmas.List.{append-nil, drop-drop, drop-take, drop_all, get_or-drop, get_or-map, get_or-take, length-drop, length-map, length-take-le, take-append-drop}
 use Rattle.std.proofs.lemmas.List.Elements.{All-drop, All-head, All-nil, All-tail, All-take, filter-append}
@@ -186,9 +186,6 @@ cut_of_place r range run before place ordered some within is at = record {
 -- ---- a search by halves
 
 module _ (count : ℕ) (run : List Entry) (key : List ℕ) (rises : Rise count run) where
-  columns_of_entry : Entry → List (List ℕ)
-  columns_of_entry entry = columns_in count entry.0
-
   entry_columns : (k : ℕ) → k < length run → get_or (map (λ entry. columns_in count entry.0) run) k [] ≡ columns_in count (get_or run k no_entry).0
   entry_columns k lt = get_or-map (λ (entry : Entry). columns_in count entry.0) run k no_entry [] lt
 

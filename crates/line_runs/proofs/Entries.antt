@@ -1,5 +1,5 @@
 -- Entries as bytes, one after another, and the run of some groups.
-use Rattle.std.proofs.Common.{◌≡◌, ◌<◌, ◌≤◌, ◌+◌, ◌-◌, ◌∙◌, ◌∷◌, ◌++◌, [], ℕ, zero, suc, Some, All, List, ap, arith, drop, get_or, length, map, refl, subst, sym, take}
+use Rattle.std.proofs.Common.{◌≡◌, ◌<◌, ◌≤◌, ◌+◌, ◌-◌, ◌∙◌, ◌∷◌, ◌++◌, [], ℕ, List, ap, arith, drop, get_or, length, map, refl, subst, sym, take}
 use Rattle.std.proofs.Math.Seq.{drop-append_seam, take-append_seam}
 use Rattle.std.proofs.lemmas.List.{get_or-map, length-append, length-map, map-append, take_all, take_more}
 use Rattle.csv.specs.Records.{cut_from, prev}
@@ -10,7 +10,7 @@ use Rattle.par_model.specs.Plan.{Plan}
 use Rattle.partial_agg.specs.declared.groups.Group.{Group}
 use Rattle.result_text.specs.GroupOrder.{group_of}
 use Rattle.result_text.specs.declared.order.GroupRef.{GroupRef}
-use Rattle.line_runs.specs.Entries.{Entry, entry_bytes, entry_in, entry_of, line_of, no_entry}
+use Rattle.line_runs.specs.Entries.{entry_bytes, entry_in, entry_of, line_of, no_entry}
 
 -- ---- where an entry lies
 

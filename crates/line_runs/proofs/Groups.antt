@@ -1,8 +1,8 @@
 -- The groups of a range in the maps of all parts: each once, and they are those of the range's own map.
-use Rattle.std.proofs.Common.{◌≡◌, ◌<◌, ◌≤◌, ◌+◌, ◌^◌, ◌++◌, ◌==◌, ◌∷◌, ◌∙◌, [], ap, sym, refl, subst, arith, Bool, true, false, cond, bytes_eq, filter, length, ℕ, zero, suc, List, All, Contains, None, Option, Some, get_or, map, slice_index_or}
+use Rattle.std.proofs.Common.{◌≡◌, ◌<◌, ◌≤◌, ◌+◌, ◌++◌, ◌==◌, ◌∷◌, ◌∙◌, [], ap, sym, refl, subst, arith, Bool, true, false, cond, bytes_eq, filter, length, ℕ, zero, suc, List, All, Contains, None, Option, Some, get_or, map, slice_index_or}
 use Rattle.std.proofs.lemmas.Bool.{eq-eqb, eqb-false, eqb-true}
 use Rattle.std.proofs.lemmas.List.{map-append}
-use Rattle.std.proofs.lemmas.List.Elements.{All-append, All-contains, All-filter, All-head, All-nil, All-tail, filter_passes}
+use Rattle.std.proofs.lemmas.List.Elements.{All-append, All-filter, All-head, All-nil, All-tail, filter_passes}
 use Rattle.std.proofs.lemmas.List.Sorted.{Contains-permutation, IsPermutation-append, IsPermutation-cons, IsPermutation-map, IsPermutation-refl, IsPermutation-remove, IsPermutation-sym, IsPermutation-trans}
 use Rattle.std.proofs.lemmas.Map.Keys.{IsDistinct-IsPermutation}
 use Rattle.std.proofs.lemmas.Simd.{map-map}
@@ -148,7 +148,7 @@ module _ (plan : Plan) (part_of : List ℕ → ℕ) (rows : Table) where
   abbrev IsIn : ℕ → Group → Type 0
   IsIn part g = (group_of plan rows g.key ≡ Some g.state) × (part_of g.key ≡ part)
 
-  all_in : (part : ℕ) (m : GroupsByKey) → AreGroups plan (rows_in plan part_of part rows) m → All (IsIn part) (listed m)
+  pub all_in : (part : ℕ) (m : GroupsByKey) → AreGroups plan (rows_in plan part_of part rows) m → All (IsIn part) (listed m)
   all_in part m are k d lt =
       let g = get_or (listed m) k d in
       let found = sym (parts_together plan part_of part rows m g.key are) ∙ are.each g.key ∙ All-listed plan (rows_in plan part_of part rows) m are k d lt in
@@ -156,12 +156,12 @@ module _ (plan : Plan) (part_of : List ℕ → ℕ) (rows : Table) where
       (both.1, eqb-true (part_of g.key) part both.0)
 
   -- and each such group is in the map of the part
-  is_listed : (part : ℕ) (m : GroupsByKey) → AreGroups plan (rows_in plan part_of part rows) m → (g : Group) → IsIn part g → Contains (listed m) g
+  pub is_listed : (part : ℕ) (m : GroupsByKey) → AreGroups plan (rows_in plan part_of part rows) m → (g : Group) → IsIn part g → Contains (listed m) g
   is_listed part m are g h =
       let found : finite.get m g.key ≡ Some g.state = parts_together plan part_of part rows m g.key are ∙ ap (λ (b : Bool). cond b (group_of plan rows g.key) None) (eq-eqb (part_of g.key) part h.1) ∙ h.0 in
       Contains-map group (finite.entries m) (g.key, g.state) (Contains-found m g.key g.state found)
 
-  distinct_listed : (m : GroupsByKey) → Distinct (listed m)
+  pub distinct_listed : (m : GroupsByKey) → Distinct (listed m)
   distinct_listed m = subst (IsDistinct bytes_eq) (sym (map-map key_of_group group (finite.entries m))) (IsDistinct-keys m)
 
   -- maps of the parts from one on
@@ -182,7 +182,7 @@ module _ (plan : Plan) (part_of : List ℕ → ℕ) (rows : Table) where
     abbrev IsFrom : ℕ → Group → Type 0
     IsFrom part g = (group_of plan rows g.key ≡ Some g.state) × ((part ≤ part_of g.key) × (of_range g ≡ true))
 
-    all_from : (part : ℕ) (maps : List GroupsByKey) → AreFrom part maps → All (IsFrom part) (groups_of range_of' range maps)
+    pub all_from : (part : ℕ) (maps : List GroupsByKey) → AreFrom part maps → All (IsFrom part) (groups_of range_of' range maps)
     all_from part [] are = All-nil (IsFrom part)
     all_from part (m ∷ maps) are =
         let own = groups_in range_of' range (listed m) in

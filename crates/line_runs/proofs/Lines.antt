@@ -1,7 +1,6 @@
 -- The run of a map, and the lines of sorted entries.
-use Rattle.std.proofs.Common.{◌≡◌, ◌<◌, ◌≤◌, ◌+◌, ◌++◌, ◌∷◌, ◌∙◌, [], ap, sym, refl, subst, arith, false, bytes_eq, length, ℕ, zero, suc, List, All, get_or, map, set}
+use Rattle.std.proofs.Common.{◌≡◌, ◌<◌, ◌≤◌, ◌+◌, ◌++◌, ◌∷◌, ◌∙◌, [], ap, sym, refl, subst, arith, Bool, false, bytes_eq, length, ℕ, zero, suc, List, All, get_or, map, set}
 use Rattle.std.proofs.lemmas.List.{get_or-map, length-map}
-use Rattle.std.proofs.lemmas.List.Edits.{length-swap, swap_is}
 use Rattle.std.proofs.lemmas.List.Elements.{All-head, All-tail}
 use Rattle.std.proofs.lemmas.List.Sorted.{All-permutation, IsPermutation-keeps, IsPermutation-map, IsPermutation-refl, IsPermutation-swap, IsPermutation-trans}
 use Rattle.std.proofs.lemmas.Map.Keys.{IsDistinct-IsPermutation, apart_from_distinct, sorted_from_all_adjacent}
@@ -116,7 +115,7 @@ abbrev columns_of_group : ℕ → Group → List (List ℕ)
 columns_of_group count group = columns_in count group.key
 
 -- whether a group comes before another
-abbrev group_before : ℕ → Group → Group → _
+abbrev group_before : ℕ → Group → Group → Bool
 group_before count a b = is_lt (columns_cmp (columns_of_group count a) (columns_of_group count b))
 
 rises-at : (count : ℕ) (a b : Group) → IsRead count a → IsRead count b → bytes_eq a.key b.key ≡ false → group_before count b a ≡ false → columns_cmp (columns_of_group count a) (columns_of_group count b) ≡ Less

@@ -1,5 +1,5 @@
 -- Lines that are sorted by their numbers, and by their keys if these are equal, are sorted by their keys.
-use Rattle.std.proofs.Common.{◌≡◌, ◌<◌, ◌≤◌, ◌+◌, ◌∙◌, false, ℕ, All, List, ap, ap₂, arith, get_or, length, map, sym}
+use Rattle.std.proofs.Common.{◌≡◌, ◌+◌, ◌∙◌, ℕ, List, ap, ap₂, arith, get_or, length, map, sym}
 use Rattle.std.proofs.lemmas.Cmp.{nat_cmp_total, on_total, then_total}
 use Rattle.std.proofs.lemmas.List.{get_or-map, length-map}
 use Rattle.std.specs.Cmp.{IsTotalOrder}

@@ -1,6 +1,6 @@
 -- The lines of a range, run by run, and their text.
 use Rattle.std.proofs.Common.{◌≡◌, ◌<◌, ◌≤◌, ◌+◌, ◌-◌, ◌++◌, ◌∷◌, ◌∙◌, [], ℕ, List, ap, append-nil, append_assoc, arith, drop, get_or, length, map, sym, take}
-use Rattle.std.proofs.lemmas.List.{get_or-drop, get_or-map, length-drop, map-append, take_more}
+use Rattle.std.proofs.lemmas.List.{get_or-drop, length-drop, map-append, take_more}
 use Rattle.std.proofs.lemmas.List.Concat.{flat_map-append}
 use Rattle.std.proofs.lemmas.List.Folds.{concat-append}
 use Rattle.std.specs.List.{concat, flat_map}

@@ -1,7 +1,7 @@
-use Rattle.std.proofs.Common.{◌≡◌, ◌<◌, ◌∙◌, ℕ, All, List, ap, arith, get_or, length, refl, set, subst, sym, take}
+use Rattle.std.proofs.Common.{◌<◌, ℕ, All, List, ap, arith, get_or, length, refl, subst, sym, take}
 use Rattle.std.proofs.lemmas.List.{take_all, take_more_set}
 use Rattle.std.proofs.lemmas.List.Elements.{All-nil, All-push}
-use Rattle.line_runs.specs.Order.{IsNumberOf, IsNumbered, entry_at}
+use Rattle.line_runs.specs.Order.{IsNumberOf, IsNumbered}
 use Rattle.line_runs.specs.declared.order.LineRef.{LineRef}
 use Rattle.line_runs.proofs.Places.{places_all, places_next}
 use Rattle.line_runs.proofs.order.number_all.Goals as goal

@@ -1,4 +1,4 @@
-use Rattle.std.proofs.Common.{◌≡◌, ◌<◌, ◌≤◌, ◌∙◌, ap, arith, length, sym}
+use Rattle.std.proofs.Common.{◌∙◌, ap, arith, sym}
 use Rattle.line_runs.specs.Ranges.{is_before}
 use Rattle.line_runs.proofs.Cuts.{after_from, none_until}
 use Rattle.line_runs.proofs.ranges.half_of.Goals as goal

@@ -1,4 +1,4 @@
-use Rattle.std.proofs.Common.{◌≡◌, ◌<◌, ◌≤◌, ℕ, arith, length, subst}
+use Rattle.std.proofs.Common.{◌≡◌, ℕ, arith, length, subst}
 use Rattle.line_runs.specs.Ranges.{AllAfter}
 use Rattle.line_runs.proofs.Cuts.{all_joined, none_joined}
 use Rattle.line_runs.proofs.ranges.place_after.Goals as goal

@@ -1,5 +1,4 @@
-use Rattle.std.proofs.Common.{◌≡◌, ◌≤◌, ◌-◌, ◌++◌, ◌∙◌, [], ℕ, List, ap, append-nil, arith, drop, get_or, map, sym, take}
-use Rattle.line_runs.specs.Entries.{Entry}
+use Rattle.std.proofs.Common.{◌≡◌, ◌-◌, ◌++◌, ◌∙◌, [], ℕ, ap, append-nil, arith, drop, get_or, map, sym, take}
 use Rattle.line_runs.specs.Order.{entry_at}
 use Rattle.line_runs.proofs.Stretches.{stretch_more}
 use Rattle.line_runs.proofs.texts.add_lines.Goals as goal

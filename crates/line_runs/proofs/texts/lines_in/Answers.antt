@@ -1,4 +1,4 @@
-use Rattle.std.proofs.Common.{◌≡◌, ◌<◌, ◌+◌, ◌++◌, ◌∙◌, [], ℕ, List, ap, arith, filter, get_or, length, map, subst, sym, take}
+use Rattle.std.proofs.Common.{◌<◌, ◌+◌, ◌++◌, ◌∙◌, [], List, ap, arith, filter, get_or, length, map, subst, sym}
 use Rattle.std.proofs.lemmas.List.{take_all}
 use Rattle.line_runs.specs.Entries.{Entry}
 use Rattle.line_runs.specs.Order.{entry_at}

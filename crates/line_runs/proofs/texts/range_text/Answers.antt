@@ -1,9 +1,12 @@
-use Rattle.std.proofs.Common.{◌≡◌, ◌∙◌, List, ap, map, subst, sym}
+use Rattle.std.proofs.Common.{ℕ, List, map, subst, sym}
 use Rattle.std.proofs.lemmas.Result.{IfOk-weaker}
-use Rattle.std.specs.List.Sorted.{IsPermutation}
-use Rattle.line_runs.specs.Entries.{Entry}
-use Rattle.line_runs.specs.Order.{entry_at}
+use Rattle.std.specs.List.Sorted.{IsPermutation, IsSortedBy}
+use Rattle.line_runs.specs.Entries.{Entry, comes_before}
+use Rattle.line_runs.specs.Order.{IsWhole, entry_at}
 use Rattle.line_runs.proofs.texts.range_text.Goals as goal
+
+pub sort_lines-requires : goal.sort_lines-requires
+sort_lines-requires c = subst (λ (n : ℕ). IsWhole n c.shared.result) (sym c.columns.ensures) c.shared.ensures
 
 pub returns : goal.returns
 returns c =
@@ -12,6 +15,6 @@ returns c =
     IfOk-weaker c.text_of.result _ _ (λ text is. record {
       entries = map (entry_at runs) news;
       same = subst (λ (es : List Entry). IsPermutation es (map (entry_at runs) news)) c.in_ok-found.ensures c.sort_lines.ensures.same;
-      sorted = c.sort_lines.ensures.sorted;
+      sorted = subst (λ (n : ℕ). IsSortedBy (comes_before n) (map (entry_at runs) news)) c.columns.ensures c.sort_lines.ensures.sorted;
       is = is;
     }) c.text_of.ensures

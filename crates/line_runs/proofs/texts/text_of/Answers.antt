@@ -1,4 +1,4 @@
-use Rattle.std.proofs.Common.{◌≡◌, ◌++◌, ◌∙◌, ℕ, List, ap}
+use Rattle.std.proofs.Common.{◌++◌, ◌∙◌, ℕ, List, ap}
 use Rattle.line_runs.specs.declared.order.LineRef.{LineRef}
 use Rattle.line_runs.proofs.Stretches.{text_more}
 use Rattle.line_runs.proofs.texts.text_of.Goals as goal

@@ -1,4 +1,4 @@
-use Rattle.std.proofs.Common.{◌<◌, ◌≤◌, arith, refl}
+use Rattle.std.proofs.Common.{refl}
 use Rattle.line_runs.proofs.Whole.{front_is, left_within, reads_more, reads_none, whole_from, whole_none}
 use Rattle.line_runs.proofs.order.Shared.between.Goals as goal
 

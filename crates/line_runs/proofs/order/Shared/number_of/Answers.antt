@@ -1,4 +1,4 @@
-use Rattle.std.proofs.Common.{◌≡◌, ◌∙◌, ℕ, List, ap, subst, sym, take}
+use Rattle.std.proofs.Common.{◌∙◌, ap, subst, sym}
 use Rattle.key_index.specs.Front.{AllBytes, leading}
 use Rattle.key_index.proofs.Front.{leading-take}
 use Rattle.line_runs.proofs.Numbers.{cut-is}

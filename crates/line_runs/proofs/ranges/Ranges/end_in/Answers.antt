@@ -1,4 +1,4 @@
-use Rattle.std.proofs.Common.{◌≤◌, ◌+◌, ℕ, arith, subst, sym}
+use Rattle.std.proofs.Common.{◌+◌, ℕ, arith, subst, sym}
 use Rattle.line_runs.specs.Ranges.{IsCutAt}
 use Rattle.line_runs.proofs.Cuts.{last_cut}
 use Rattle.line_runs.proofs.ranges.Ranges.end_in.Goals as goal

@@ -1,4 +1,4 @@
-use Rattle.std.proofs.Common.{◌≡◌, ◌∙◌, ℕ, subst, sym}
+use Rattle.std.proofs.Common.{ℕ, subst, sym}
 use Rattle.line_runs.specs.Ranges.{IsCutAt}
 use Rattle.line_runs.proofs.Cuts.{cut_of_place, first_cut}
 use Rattle.line_runs.proofs.ranges.Ranges.start_in.Goals as goal

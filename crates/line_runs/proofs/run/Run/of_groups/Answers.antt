@@ -4,7 +4,6 @@ use Rattle.std.proofs.lemmas.List.Elements.{All-replicate}
 use Rattle.csv.specs.Writing.{default_writer, row_text}
 use Rattle.csv.specs.Records.{cut_from}
 use Rattle.csv_rows.proofs.Groups.{covers-none}
-use Rattle.csv_rows.specs.Store.{Covers}
 use Rattle.par_model.specs.Aggregate.{no_values}
 use Rattle.par_model.specs.Table.{values_text}
 use Rattle.par_model.specs.declared.plan.Item.{Item}
@@ -20,7 +19,7 @@ use Rattle.result_text.specs.declared.order.GroupRef.{GroupRef}
 use Rattle.result_text.proofs.Fronts.{front-small, values-front}
 use Rattle.result_text.proofs.Small.{none_small}
 use Rattle.line_runs.specs.Entries.{entry_bytes}
-use Rattle.line_runs.proofs.Entries.{HaveMore, bytes_of, one_more, run_is}
+use Rattle.line_runs.proofs.Entries.{bytes_of, one_more, run_is}
 use Rattle.line_runs.proofs.run.Run.of_groups.Goals as goal
 
 abbrev no_ref : GroupRef

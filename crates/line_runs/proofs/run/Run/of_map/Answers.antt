@@ -1,4 +1,4 @@
-use Rattle.std.proofs.Common.{◌≡◌, ◌<◌, ◌≤◌, ◌∙◌, All, List, ℕ, ap, arith, get_or, length, length-take, map, subst, sym, take}
+use Rattle.std.proofs.Common.{◌≡◌, ◌<◌, ◌≤◌, ◌∙◌, All, List, ℕ, ap, arith, length, length-take, map, subst, sym, take}
 use Rattle.std.proofs.lemmas.Result.{IfOk-weaker}
 use Rattle.par_model.specs.Plan.{Plan}
 use Rattle.partial_agg.specs.Listed.{listed}

@@ -1,6 +1,5 @@
-use Rattle.std.proofs.Common.{◌<◌, ◌∙◌, ap, arith, length, subst, sym}
+use Rattle.std.proofs.Common.{◌∙◌, ap, arith, length, sym}
 use Rattle.std.proofs.lemmas.List.{get_or_past}
-use Rattle.csv.specs.Records.{cut_from}
 use Rattle.line_runs.specs.Entries.{Entry, no_entry}
 use Rattle.line_runs.proofs.Entries.{entry-there}
 use Rattle.line_runs.proofs.run.Run.split.Goals as goal
