@@ -3,7 +3,6 @@
 ghost use Rattle.std.specs.Prelude.{◌≡◌, ◌<◌, ◌≤◌, ◌+◌, ◌-◌, ◌*◌, IfOk, IfSome, None, length, slice_index_or};
 ghost use Rattle.line_runs.specs.Order.{IsWhole};
 ghost use Rattle.line_runs.specs.Ranges.{AllAfter, AreOrdered, IsCutAt, IsPlaceAfter, NoneAfter, count_of, is_before};
-ghost use Rattle.line_runs.specs.declared.ranges.TheConstants.{SAMPLE};
 ghost use Rattle.line_runs.specs.Runs.{Rise};
 
 use crate::order::Shared;
