@@ -1,11 +1,11 @@
 -- Keys that are shared out to parts by their hashes, and the rows of each part.
-use Rattle.std.specs.Prelude.{◌≡◌, ◌<◌, ◌/◌, ◌^◌, ◌==◌, ◌++◌, ◌∷◌, [], ℕ, List, filter, fold, get_or, length, set}
+use Rattle.std.specs.Prelude.{◌≡◌, ◌<◌, ◌/◌, ◌%◌, ◌^◌, ◌==◌, ◌++◌, ◌∷◌, [], ℕ, List, filter, fold, get_or, length, set}
 use Rattle.key_index.specs.Index.{hash}
 use Rattle.row_lists.specs.Carried.{Carried}
 
 -- the part of a key: the highest byte of its hash
 abbrev pub part_of : List ℕ → ℕ
-part_of key = hash key / 2 ^ 56
+part_of key = hash key / 2 ^ 56 % 256
 
 -- the rows of a part
 abbrev pub rows_of_part : ℕ → List Carried → List Carried

@@ -1,6 +1,6 @@
 //! The rows of a list, read from front to back.
 
-ghost use Rattle.std.specs.Prelude.{◌≡◌, ◌≤◌, ◌++◌, ◌∷◌, [], ℕ, ℤ, List, Option, pos, IfNone, IfSome, IsNone, MatchOption, length, take, ⊥};
+ghost use Rattle.std.specs.Prelude.{◌≡◌, ◌≤◌, ◌++◌, ◌∷◌, [], ℕ, ℤ, List, Option, pos, IfNone, IfSome, IsNone, MatchOption, length, take};
 ghost use Rattle.std.specs.List.{AllByRecursion};
 ghost use Rattle.par_model.specs.declared.refusal.TheConstants.{LONGEST_KEY};
 ghost use Rattle.row_lists.specs.Carried.{AreRows, Carried, IsCarried, IsValue, carried, last_of, row_bytes, rows_in, value_bytes, values_bytes};

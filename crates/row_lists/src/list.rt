@@ -125,13 +125,18 @@ fn write_value(bytes: &mut Vec<u8>, last: &mut i64, value: Option<i64>) -> Resul
     ensures front { IsFrontOf bytes.old.items bytes.new.items }
 {
     match value {
-        None => bytes.push(NONE)?,
-        Some(n) if n == *last => bytes.push(SAME)?,
+        None => {
+            bytes.push(NONE)?;
+            Ok(())
+        }
+        Some(n) if n == *last => {
+            bytes.push(SAME)?;
+            Ok(())
+        }
         Some(n) => {
             *last = n;
             bytes.push(NEW)?;
-            bytes.extend_from_slice(&n.to_le_bytes())?;
+            bytes.extend_from_slice(&n.to_le_bytes())
         }
     }
-    Ok(())
 }
