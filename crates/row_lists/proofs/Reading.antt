@@ -60,16 +60,21 @@ some_byte last (Some n) more e = by (int_eq n last) e
 
 -- ---- the next of some values
 
-pub next_bytes : (last : ℤ) (values : List (Option ℤ)) (at : ℕ) (more : List ℕ) → at < length values
-    → values_bytes last (drop at values) ++ more ≡ value_bytes last (get_or values at None) ++ (values_bytes (last_of last (get_or values at None)) (drop (at + 1) values) ++ more)
+pub next_value : (last : ℤ) (values : List (Option ℤ)) (at : ℕ) → at < length values
+    → values_bytes last (drop at values) ≡ value_bytes last (get_or values at None) ++ values_bytes (last_of last (get_or values at None)) (drop (at + 1) values)
 unfolding values_bytes
-next_bytes last values at more lt =
-    ap (λ (vs : List (Option ℤ)). values_bytes last vs ++ more) (drop-cons values at None lt)
-    ∙ append_assoc (value_bytes last (get_or values at None)) (values_bytes (last_of last (get_or values at None)) (drop (suc at) values)) more
-    ∙ ap (λ (n : ℕ). value_bytes last (get_or values at None) ++ (values_bytes (last_of last (get_or values at None)) (drop n values) ++ more)) (one at)
+next_value last values at lt =
+    ap (values_bytes last) (drop-cons values at None lt)
+    ∙ ap (λ (n : ℕ). value_bytes last (get_or values at None) ++ values_bytes (last_of last (get_or values at None)) (drop n values)) (one at)
   where
     one : (n : ℕ) → suc n ≡ n + 1
     one n = omega arith
+
+pub next_bytes : (last : ℤ) (values : List (Option ℤ)) (at : ℕ) (more : List ℕ) → at < length values
+    → values_bytes last (drop at values) ++ more ≡ value_bytes last (get_or values at None) ++ (values_bytes (last_of last (get_or values at None)) (drop (at + 1) values) ++ more)
+next_bytes last values at more lt =
+    ap (λ (bytes : List ℕ). bytes ++ more) (next_value last values at lt)
+    ∙ append_assoc (value_bytes last (get_or values at None)) (values_bytes (last_of last (get_or values at None)) (drop (at + 1) values)) more
 
 pub each_value : (values : List (Option ℤ)) (at : ℕ) → AllByRecursion IsValue values → at < length values → IsValue (get_or values at None)
 each_value [] at h lt = absurd (omega (arith, lt))
