@@ -75,7 +75,8 @@ fn push_value(text: &mut Vec<u8>, item: Item, rows: u64, slot: &SlotState) -> Re
         ItemKind::Max => push_units(text, i128::from(slot.greatest), item.places)?,
         ItemKind::Avg => push_units(text, average(slot.sum, slot.count), item.places + 4)?,
     }
-    text.push(b',')
+    text.push(b',')?;
+    Ok(())
 }
 
 /// A number of units of 10^-`places`.
@@ -105,7 +106,8 @@ fn push_field(text: &mut Vec<u8>, field: &[u8]) -> Result<(), AllocError>
     } else {
         text.extend_from_slice(field)?;
     }
-    text.push(b',')
+    text.push(b',')?;
+    Ok(())
 }
 
 /// Whether a field is put in quotes.
@@ -131,18 +133,22 @@ fn push_quoted(text: &mut Vec<u8>, field: &[u8]) -> Result<(), AllocError>
         }
         text.push(*byte)?;
     }
-    text.push(b'"')
+    text.push(b'"')?;
+    Ok(())
 }
 
 /// Ends the line that begins at a place, of which each field has a comma after it: the last of these goes, and a line of no
 /// bytes gets two quotes.
 fn end_line(text: &mut Vec<u8>, from: usize) -> Result<(), AllocError>
-    ensures { OnOk result ((before : List ℕ) (fields : List (List ℕ)) → 0 < length fields → length before ≡ from → text.old.items ≡ before ++ concat (map followed fields)
+    ensures { OnOk result ((before : List ℕ) (fields : List (List ℕ)) → length before ≡ from → text.old.items ≡ before ++ concat (map followed fields)
         → text.new.items ≡ before ++ row_text default_writer fields) }
 {
-    text.pop();
+    if from < text.len() {
+        text.pop();
+    }
     if text.len() == from {
         text.extend_from_slice(b"\"\"")?;
     }
-    text.push(b'\n')
+    text.push(b'\n')?;
+    Ok(())
 }
