@@ -1,12 +1,12 @@
 -- The text of a line, of which each field has a comma after it until it ends; and the fields that need no quotes.
-use Rattle.std.proofs.Common.{◌≡◌, ◌<◌, ◌≤◌, ◌+◌, ◌-◌, ◌/◌, ◌%◌, ◌^◌, ◌∙◌, ◌∷◌, ◌++◌, [], Bool, ℕ, ℤ, List, true, false, ap, append_assoc, append-nil, arith, decimal, drop, get_or, length, length-append, map, refl, suc, sym, take, take_all, unsigned_abs, zero}
+use Rattle.std.proofs.Common.{◌≡◌, ◌<◌, ◌≤◌, ◌+◌, ◌-◌, ◌/◌, ◌%◌, ◌^◌, ◌∙◌, ◌∷◌, ◌++◌, ◌⊎◌, [], Bool, ℕ, ℤ, List, true, false, ap, append_assoc, append-nil, arith, decimal, drop, get_or, length, length-append, map, refl, suc, sym, take, take_all, true≢false, unsigned_abs, zero}
 use Rattle.std.specs.Prelude.{◌==◌, ◌||◌, if◌then◌else◌, nat_lt, Err, Ok, OnOk, Result, is_ok}
 use Rattle.std.proofs.lemmas.Bool.{eq-eqb, ne_eqb}
 use Rattle.std.proofs.lemmas.List.{take-append-le, take_more}
 use Rattle.std.proofs.lemmas.List.Folds.{list_any-append}
 use Rattle.std.specs.Fmt.{digit_glyph, digits, digits_onto, sign_text}
 use Rattle.std.specs.Int.{is_negative}
-use Rattle.std.specs.List.{concat}
+use Rattle.std.specs.List.{concat, zip}
 use Rattle.csv.proofs.WriteFacts.{escaped-append}
 use Rattle.csv.specs.Writing.{comma, default_writer, escaped, field_text, fields_text, is_blank, needs_byte, needs_quotes, quoted, row_body, row_text}
 use Rattle.par_model.specs.Decimal.{average, number_text, places_text}
@@ -15,6 +15,7 @@ use Rattle.par_model.specs.declared.plan.ItemKind.{ItemKind}
 use Rattle.par_model.specs.declared.plan.ItemKind.TheVariants as kind
 use Rattle.par_model.specs.declared.state.SlotState.{SlotState}
 use Rattle.result_text.specs.Lines.{followed}
+use Rattle.result_text.proofs.Zipped.{pairs-end, pairs-more}
 
 -- ---- fields with a comma after each
 
@@ -36,6 +37,15 @@ pub put-both : (old next whole : List ℕ) (xs ys : List (List ℕ)) → next �
 put-both old next whole xs ys next_is whole_is =
     whole_is ∙ ap (λ (t : List ℕ). t ++ concat (map followed ys)) next_is ∙ append_assoc old (concat (map followed xs)) (concat (map followed ys)) ∙ ap (λ (t : List ℕ). old ++ t) (sym (all-append xs ys))
 
+-- one more value of a list of pairs is put, and none is left
+pub value-more : {X Y : Type 0} (f : X × Y → List ℕ) (old next whole : List ℕ) (xs more_xs : List X) (ys more_ys : List Y) (x : X) (y : Y)
+    → xs ≡ x ∷ more_xs → ys ≡ y ∷ more_ys → next ≡ old ++ followed (f (x, y)) → old ++ concat (map followed (map f (zip xs ys))) ≡ whole → next ++ concat (map followed (map f (zip more_xs more_ys))) ≡ whole
+value-more f old next whole xs more_xs ys more_ys x y xs_is ys_is next_is h =
+    field-more old next whole (f (x, y)) (map f (zip xs ys)) (map f (zip more_xs more_ys)) (pairs-more f xs more_xs ys more_ys x y xs_is ys_is) next_is h
+
+pub values-end : {X Y : Type 0} (f : X × Y → List ℕ) (old whole : List ℕ) (xs : List X) (ys : List Y) → (xs ≡ []) ⊎ (ys ≡ []) → old ++ concat (map followed (map f (zip xs ys))) ≡ whole → old ≡ whole
+values-end f old whole xs ys none h = field-end old whole (map f (zip xs ys)) (pairs-end f xs ys none) h
+
 -- ---- the end of a line
 
 -- fields that each have a comma after them are the body of a record, and a comma
@@ -55,13 +65,14 @@ blank-is (field ∷ []) = ap (λ (t : List ℕ). length t == 0) (sym (append-nil
 blank-is (field ∷ next ∷ rest) =
     let text = field_text default_writer field in
     let others = row_body default_writer (next ∷ rest) in
-    sym (ne_eqb (length (text ++ comma ∷ others)) 0 (λ z. omega (arith, z, length-append text (comma ∷ others))))
+    let size : length (text ++ comma ∷ others) ≡ length text + suc (length others) = length-append text (comma ∷ others) in
+    sym (ne_eqb (length (text ++ comma ∷ others)) 0 (λ z. omega (arith, z, size)))
 
 -- the last comma goes
 pub comma-gone : (before old new : List ℕ) (from : ℕ) (fields : List (List ℕ)) → length before ≡ from → old ≡ before ++ concat (map followed fields)
     → (from < length old → new ≡ take (length old - 1) old) → (length old ≤ from → new ≡ old) → new ≡ before ++ row_body default_writer fields
 comma-gone before old new from [] at old_is some none =
-    let size : length old ≡ length before + length {A = ℕ} [] = ap length old_is ∙ length-append before [] in
+    let size : length old ≡ length before + 0 = ap length old_is ∙ length-append before [] in
     none (omega (arith, size, at)) ∙ old_is
 comma-gone before old new from (first ∷ rest) at old_is some none =
     let body = before ++ row_body default_writer (first ∷ rest) in
@@ -71,7 +82,7 @@ comma-gone before old new from (first ∷ rest) at old_is some none =
     let front : length body ≡ length before + length (row_body default_writer (first ∷ rest)) = length-append before (row_body default_writer (first ∷ rest)) in
     let count : length old - 1 ≡ length body = omega (arith, size) in
     some (omega (arith, size, front, at)) ∙ ap (λ (n : ℕ). take n old) count ∙ ap (take (length body)) whole
-    ∙ take-append-le (length body) body (comma ∷ []) (omega arith) ∙ take_all body (length body) (omega arith)
+    ∙ take-append-le (length body) body (comma ∷ []) (omega arith) ∙ take_all (length body) body (omega arith)
 
 -- nothing came after the front only if the rest is empty
 no-more : (whole front rest : ℕ) → whole ≡ front + rest → (whole == front) ≡ (rest == 0)
@@ -112,17 +123,17 @@ or-none : (p q : Bool) → p ≡ false → q ≡ false → (p || q) ≡ false
 or-none p q h k = rw (h, k) refl
 
 or-second : (p q : Bool) → (p || q) ≡ false → q ≡ false
-or-second true q h = absurd (cc)
+or-second true q h = absurd (true≢false h)
 or-second false q h = h
+
+none-of : (p q r s t u : Bool) → p ≡ false → q ≡ false → r ≡ false → s ≡ false → t ≡ false → u ≡ false → (p || q || (r || s) || t || u) ≡ false
+none-of p q r s t u hp hq hr hs ht hu = rw (hp, hq, hr, hs, ht, hu) refl
 
 -- a byte from the minus sign on
 plain-byte : (b : ℕ) → 45 ≤ b → needs_byte default_writer b ≡ false
 plain-byte b above =
-    let comma_not = ne_eqb b 44 (λ e. omega (arith, above, e)) in
-    let quote_not = ne_eqb b 34 (λ e. omega (arith, above, e)) in
-    let return_not = ne_eqb b 13 (λ e. omega (arith, above, e)) in
-    let feed_not = ne_eqb b 10 (λ e. omega (arith, above, e)) in
-    rw (comma_not, quote_not, return_not, feed_not) refl
+    none-of (b == 44) (b == 34) (b == 13) (b == 10) false false
+    (ne_eqb b 44 (λ e. omega (arith, above, e))) (ne_eqb b 34 (λ e. omega (arith, above, e))) (ne_eqb b 13 (λ e. omega (arith, above, e))) (ne_eqb b 10 (λ e. omega (arith, above, e))) refl refl
 
 plain-cons : (b : ℕ) (text : List ℕ) → 45 ≤ b → needs_quotes default_writer text ≡ false → needs_quotes default_writer (b ∷ text) ≡ false
 plain-cons b text above h = or-none (needs_byte default_writer b) (needs_quotes default_writer text) (plain-byte b above) h
