@@ -3,7 +3,7 @@ pub mod Columns
 mod Even
 mod Fronts
 mod KeyColumns
-mod Lines
+mod LineTexts
 mod Numbers
 pub mod Occurring
 mod Small

@@ -20,7 +20,8 @@ use itoa::Integer;
 use par_model::{AggState, BoundPlan, Item, ItemKind, SlotState};
 use std::alloc::AllocError;
 
-/// Puts the line of a group with this key at the end of a text.
+/// Puts the line of a group with this key at the end of a text. An error means that memory ran out; the text then has some
+/// of the line at its end. It takes memory only as the text grows, and time by the length of the line.
 pub fn push_line(
     text: &mut Vec<u8>,
     bound: &BoundPlan,

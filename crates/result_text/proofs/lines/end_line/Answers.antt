@@ -1,4 +1,4 @@
-use Rattle.result_text.proofs.Lines.{comma-gone, line-ended}
+use Rattle.result_text.proofs.LineTexts.{comma-gone, line-ended}
 use Rattle.result_text.proofs.lines.end_line.Goals as goal
 
 pub returns : goal.returns

@@ -1,7 +1,7 @@
 use Rattle.std.proofs.Common.{◌∙◌, ◌++◌, ◌∷◌, [], List, ℕ, ap, refl, sym}
 use Rattle.csv.proofs.WriteFacts.{escaped-double, escaped-other}
 use Rattle.csv.specs.Writing.{default_writer}
-use Rattle.result_text.proofs.Lines.{put-if-ok}
+use Rattle.result_text.proofs.LineTexts.{put-if-ok}
 use Rattle.result_text.proofs.lines.push_byte.Goals as goal
 
 pub returns-then-byte-eq34 : goal.returns-then-byte-eq34

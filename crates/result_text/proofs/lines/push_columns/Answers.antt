@@ -3,7 +3,7 @@ use Rattle.std.specs.List.{concat}
 use Rattle.result_text.specs.KeyColumns.{after_first_column, columns_in}
 use Rattle.result_text.specs.Lines.{followed}
 use Rattle.result_text.proofs.Columns.{columns_in-end, columns_in-more, columns_in-start}
-use Rattle.result_text.proofs.Lines.{field-end, field-more}
+use Rattle.result_text.proofs.LineTexts.{field-end, field-more}
 use Rattle.result_text.proofs.lines.push_columns.Goals as goal
 
 pub loop-at-init : goal.loop-at-init

@@ -1,6 +1,6 @@
 use Rattle.std.proofs.Common.{◌∙◌, ◌++◌, ◌∷◌, [], List, ℕ, ap, append_assoc, append-nil, get_or, sym, take, take_all}
 use Rattle.csv.specs.Writing.{default_writer, escaped}
-use Rattle.result_text.proofs.Lines.{escaped-more}
+use Rattle.result_text.proofs.LineTexts.{escaped-more}
 use Rattle.result_text.proofs.lines.push_escaped.Goals as goal
 
 pub loop-byte-init : goal.loop-byte-init

@@ -1,6 +1,6 @@
 use Rattle.std.proofs.Common.{◌∙◌, ◌++◌, List, ℕ, ap, sym}
 use Rattle.std.proofs.lemmas.Result.{on_ok_weaker}
-use Rattle.result_text.proofs.Lines.{text-bare, text-quoted}
+use Rattle.result_text.proofs.LineTexts.{text-bare, text-quoted}
 use Rattle.result_text.proofs.lines.push_field_text.Goals as goal
 
 pub returns-then-has_special : goal.returns-then-has_special

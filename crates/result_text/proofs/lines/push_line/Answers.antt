@@ -5,7 +5,7 @@ use Rattle.par_model.specs.Plan.{Plan}
 use Rattle.par_model.specs.Table.{values_text}
 use Rattle.result_text.specs.KeyColumns.{columns_in}
 use Rattle.result_text.specs.Lines.{followed}
-use Rattle.result_text.proofs.Lines.{put-both}
+use Rattle.result_text.proofs.LineTexts.{put-both}
 use Rattle.result_text.proofs.lines.push_line.Goals as goal
 
 pub returns : goal.returns

@@ -1,4 +1,4 @@
-use Rattle.result_text.proofs.Lines.{value-put}
+use Rattle.result_text.proofs.LineTexts.{value-put}
 use Rattle.result_text.proofs.lines.push_value.Goals as goal
 
 pub returns : goal.returns

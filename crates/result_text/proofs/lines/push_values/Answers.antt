@@ -3,7 +3,7 @@ use Rattle.std.proofs.lemmas.List.Elements.{All-rest}
 use Rattle.std.proofs.lemmas.Slice.Zip.{Zip-more, either_empty_from_Zip}
 use Rattle.par_model.specs.declared.plan.TheConstants.{MOST_PLACES}
 use Rattle.result_text.specs.Printable.{IsSmallSlot}
-use Rattle.result_text.proofs.Lines.{value-more, values-end}
+use Rattle.result_text.proofs.LineTexts.{value-more, values-end}
 use Rattle.result_text.proofs.lines.push_values.Goals as goal
 
 pub loop-item-preserved : goal.loop-item-preserved
