@@ -1,8 +1,14 @@
-use Rattle.std.proofs.Common.{◌≡◌, ◌++◌, ◌∷◌, [], ◌∙◌, ℕ, List, None, ap, append_assoc, arith, get_or, map, sym, take}
+use Rattle.std.proofs.Common.{◌≡◌, ◌++◌, ◌∷◌, [], ◌∙◌, ℕ, List, None, ap, append-nil, append_assoc, arith, get_or, map, sym, take}
 use Rattle.std.proofs.lemmas.List.{map_more, take_all}
 use Rattle.par_model.specs.declared.state.SlotState.{SlotState}
 use Rattle.partial_agg.specs.Values.{slot_of_value}
 use Rattle.partial_agg.proofs.states.push_lanes.Goals as goal
+
+pub loop-at-init : goal.loop-at-init
+loop-at-init c = record {
+  items = c.reserve.ensures.items ∙ sym (append-nil c.args.lanes.now.items);
+  room = omega (arith, c.in_ok-reserve.ensures.ok);
+}
 
 pub loop-at-preserved : goal.loop-at-preserved
 loop-at-preserved c =

@@ -1,5 +1,5 @@
 use Rattle.std.proofs.Common.{◌≡◌, ◌∙◌, ap, subst, sym, length}
-use Rattle.std.specs.List.{All}
+use Rattle.std.specs.Prelude.{All}
 use Rattle.std.specs.List.Sorted.{IsPermutation}
 use Rattle.partial_agg.specs.Listed.{listed, listed_at}
 use Rattle.partial_agg.specs.Placed.{AreListed}

@@ -1,5 +1,5 @@
 use Rattle.std.proofs.Common.{◌≡◌, arith, length, subst}
-use Rattle.std.specs.List.{All}
+use Rattle.std.specs.Prelude.{All}
 use Rattle.par_model.specs.declared.state.AggState.{AggState}
 use Rattle.partial_agg.proofs.Lanes.{whole-states_in}
 use Rattle.partial_agg.proofs.states.StateList.are_whole.Goals as goal
