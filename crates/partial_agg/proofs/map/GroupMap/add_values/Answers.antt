@@ -50,7 +50,7 @@ invariant_of-self-in-None c =
     rw (c.in-Ok.ensures.ok, left_is)
     (grouped_pushed c.self.inside.keys (length states) (length c.push_values.new.self) (reverse before) c.self.inside.whole c.self.inside.sorted c.args.key.now
     c.self.invariant c.requires.short (λ place e. c.in-None.ensures.absent place e)
-    (ap (length {A = AggState}) c.in_ok-push_values.ensures.ok ∙ length-append states (state ∷ [])))
+    (ap (length {A = AggState}) c.in_ok-push_values-in-None.ensures.ok ∙ length-append states (state ∷ [])))
 
 pub returns-in-Ok-clause-ok : goal.returns-in-Ok-clause-ok
 returns-in-Ok-clause-ok c =
@@ -64,7 +64,7 @@ returns-in-Ok-clause-ok c =
     let state = values_state c.args.values.now in
     let more = keys ++ key ∷ [] in
     let left_is : reverse c.push_reserved.new.self.items ≡ length states ∷ left = left_back before c.reserve.new.self.items c.len-place.result (length states) c.push_reserved.new.self.items c.push_reserved.ensures.items c.reserve.ensures.items c.len-place.ensures in
-    (λ i. groups_at (places_of (c.in-Ok.ensures.ok i) (left_is i)) (c.in_ok-push_values.ensures.ok i))
+    (λ i. groups_at (places_of (c.in-Ok.ensures.ok i) (left_is i)) (c.in_ok-push_values-in-None.ensures.ok i))
     ∙ group_added c.args.self.now (places_of keys left) (places_of more (length states ∷ left)) states key state
     c.self.view_is (are_places keys (length states) left whole sorted c.self.invariant)
     (none_there keys left key (all_differ keys left key (absent_differs keys left key c.self.invariant.within (λ place e. c.in-None.ensures.absent place e))))
