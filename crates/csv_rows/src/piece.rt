@@ -5,15 +5,18 @@
 //! and a record a run of fields. Between two fields there is no byte if csv's machine gave them one by one, and the
 //! byte that parts them if a text was copied as a whole.
 
-ghost use Rattle.std.specs.Prelude.{◌≡◌, ◌<◌, ◌≤◌, ◌∷◌, ◌++◌, ◌+◌, ℕ, List, [], IfOk, OnOk, drop, get_or, length, take};
+ghost use Rattle.std.specs.Prelude.{◌≡◌, ◌<◌, ◌≤◌, ◌∷◌, ◌++◌, ◌+◌, ℕ, List, [], IfOk, OnOk, drop, get_or, length, map, take};
 ghost use Rattle.csv.specs.Records.{Rising, cut_from, fields_of, text_of};
+ghost use Rattle.csv_rows.specs.Readings.{as_read, cleaned, exchanged};
 ghost use Rattle.csv_rows.specs.Records.{field_of, record_at};
 ghost use Rattle.csv_rows.specs.Store.{Apart, Covers, field_start, stored, stored_apart};
 
+use crate::cleaning::Reading;
+use crate::exchange::exchange;
 use crate::records::MOST_RECORDS;
 use crate::row_ends::RowEnds;
 use csv::ByteRecord;
-use std::alloc::AllocError;
+use std::alloc::{AllocError, Global};
 use std::marker::Model;
 
 /// A list of records, each a list of fields, of which there is at least one. They are numbered from 0 on.
@@ -78,6 +81,44 @@ impl Piece {
         let first = self.row_ends.start(row as usize);
         let (start, end) = span(&self.ends, first + at as usize, self.gap);
         &self.bytes.as_slice()[start..end]
+    }
+
+    /// The same records, each field as it is read. Takes no memory if white space is kept and no text is read as nothing;
+    /// otherwise it makes the lists anew, in linear time.
+    pub(crate) fn read_as(self, alloc: Global, reading: &Reading) -> Result<Piece, AllocError>
+        ensures { IfOk result (λ piece. piece ≡ map (map (as_read reading.now)) self) }
+    {
+        let piece = self.exchanged(reading.separator);
+        if reading.keeps_all() {
+            return Ok(piece);
+        }
+        piece.cleaned(alloc, reading)
+    }
+
+    /// The same records, with the comma and the separator exchanged in each field.
+    fn exchanged(mut self, separator: u8) -> Piece
+        ensures { result ≡ map (map (map (exchanged separator))) self }
+    {
+        if separator != b',' {
+            exchange(self.bytes.as_mut_slice(), separator);
+        }
+        self
+    }
+
+    /// The same records, with each field cleaned.
+    fn cleaned(self, alloc: Global, reading: &Reading) -> Result<Piece, AllocError>
+        ensures { IfOk result (λ piece. piece ≡ map (map (cleaned reading.now)) self) }
+    {
+        let mut bytes = Vec::new(alloc);
+        bytes.reserve_exact(self.bytes.len())?;
+        let mut ends = Vec::new(alloc);
+        ends.reserve_exact(self.ends.len())?;
+        'fields: for i in 0..self.ends.len() {
+            let (start, end) = span(&self.ends, i, self.gap);
+            let field = &self.bytes.as_slice()[start..end];
+            push_field(&mut bytes, &mut ends, reading.cleaned(field))?;
+        }
+        Ok(Piece::of_lists(bytes, ends, self.row_ends, 0))
     }
 }
 

@@ -40,6 +40,9 @@ name_text opt.Agg = codes "--agg"
 name_text opt.Where = codes "--where"
 name_text opt.Workers = codes "--workers"
 name_text opt.Decimals = codes "--decimals"
+name_text opt.Separator = codes "--separator"
+name_text opt.Null = codes "--null"
+name_text opt.Trim = codes "--trim"
 
 -- the option of this name
 abbrev pub name_in : List ℕ → Option Name
@@ -48,7 +51,10 @@ name_in text =
     else (if bytes_eq text (codes "--agg") then Some opt.Agg
     else (if bytes_eq text (codes "--where") then Some opt.Where
     else (if bytes_eq text (codes "--workers") then Some opt.Workers
-    else (if bytes_eq text (codes "--decimals") then Some opt.Decimals else None))))
+    else (if bytes_eq text (codes "--decimals") then Some opt.Decimals
+    else (if bytes_eq text (codes "--separator") then Some opt.Separator
+    else (if bytes_eq text (codes "--null") then Some opt.Null
+    else (if bytes_eq text (codes "--trim") then Some opt.Trim else None)))))))
 
 -- the option that a word names
 abbrev pub name_of : List ℕ → Option Name
@@ -61,6 +67,9 @@ may_repeat opt.Agg = false
 may_repeat opt.Where = true
 may_repeat opt.Workers = false
 may_repeat opt.Decimals = false
+may_repeat opt.Separator = false
+may_repeat opt.Null = false
+may_repeat opt.Trim = false
 
 -- one of some words names an option
 abbrev pub is_named : Name → List (List ℕ) → Bool
@@ -98,10 +107,13 @@ values_text opt.Agg = codes "--agg takes one to eight of count, count:C, sum:C, 
 values_text opt.Where = codes "--where takes a column, one of = != < <= > >=, and an integer, or a decimal with --decimals, as in 'qty>=10'; after = and != also a text, as in region=north"
 values_text opt.Workers = codes "--workers takes a number from 0 to 64"
 values_text opt.Decimals = codes "--decimals takes a number from 0 to 18, or one for each column, as in 'price=2,weight=3'"
+values_text opt.Separator = codes "--separator takes one character of ASCII that is no quote and ends no line, or tab"
+values_text opt.Null = codes "--null takes one to eight texts between commas, at most 248 bytes in all"
+values_text opt.Trim = codes "--trim takes no value"
 
 -- what may come
 abbrev pub expected_text : Expected → List ℕ
-expected_text may.Name = codes "the options are --group, --agg, --where, --decimals and --workers"
+expected_text may.Name = codes "the options are --group, --agg, --where, --decimals, --separator, --null, --trim and --workers"
 expected_text may.Other = codes "this option may be given once"
 expected_text (may.Value name) = values_text name
 expected_text may.Items = codes "--agg ITEMS is missing"

@@ -12,7 +12,8 @@ use par_io::{Sink, write_whole};
 /// What `--help` and `-h` are answered.
 pub const HELP: &str = "\
 usage: parstream [--group COLUMNS] --agg ITEMS [--where FILTER]..
-                 [--decimals PLACES] [--workers N]
+                 [--decimals PLACES] [--separator BYTE] [--null TEXTS] [--trim]
+                 [--workers N]
 
 Reads comma-separated records from the standard input, of which the first is the
 header, and writes a table with a row for each group.
@@ -30,6 +31,11 @@ header, and writes a table with a row for each group.
                    how many digits numbers may have after the point, up to 18:
                    2 for all columns, price=2,weight=3 for some; without it
                    numbers are integers
+  --separator BYTE what stands between fields: one character, such as ';', or
+                   tab; a comma if it is not given. The table has commas
+  --null TEXTS     one to eight texts between commas, as in NA,NULL,-: a field
+                   that is one of them counts as empty
+  --trim           fields without the white space at their ends
   --workers N      0 to 64 threads besides the first; 2 if it is not given
   -h, --help       this text
   --version        the program's version

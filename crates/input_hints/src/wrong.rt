@@ -1,9 +1,9 @@
 //! The first word of a command line of `parstream` that is not understood, and what may come in its place.
 //!
 //! Which words are a query is known to `plan_spec` only. So the words that are understood are found by asking it: the
-//! first few words are, if they are a query, or are one once `--agg=count` comes before them. A query has at most twenty-five
-//! words, five options of which one is given eight times, with their values, and `--`, so a longer line is asked about no
-//! further than that.
+//! first few words are, if they are a query, or are one once `--agg=count` comes before them. A query has at most thirty
+//! words, seven options of which one is given eight times, with their values, `--trim` and `--`, so a longer line is asked
+//! about no further than that.
 
 ghost use Rattle.std.specs.Prelude.{◌≡◌, ◌<◌, ◌≤◌, ◌∷◌, [], IfOk, IfSome, bytes_eq, codes, is_none, is_some, length, slice_index_or, string_bytes, take};
 ghost use Rattle.std.specs.List.{list_any, position_or_len};
@@ -15,7 +15,7 @@ use plan_spec::{Plan, PlanAnswer};
 use std::alloc::{AllocError, Global};
 
 /// The most words that a query has.
-pub const MOST_WORDS: usize = 25;
+pub const MOST_WORDS: usize = 30;
 
 /// An option of `parstream`.
 #[derive(Clone, Copy, Debug, PartialEq, Eq)]
@@ -25,6 +25,9 @@ pub enum Name {
     Where,
     Workers,
     Decimals,
+    Separator,
+    Null,
+    Trim,
 }
 
 /// What may come where a word is not understood.
@@ -212,6 +215,12 @@ fn name_of(word: &str) -> Option<Name>
         Some(Name::Workers)
     } else if front == "--decimals" {
         Some(Name::Decimals)
+    } else if front == "--separator" {
+        Some(Name::Separator)
+    } else if front == "--null" {
+        Some(Name::Null)
+    } else if front == "--trim" {
+        Some(Name::Trim)
     } else {
         None
     }
@@ -249,6 +258,9 @@ impl Name {
             Name::Where => "--where",
             Name::Workers => "--workers",
             Name::Decimals => "--decimals",
+            Name::Separator => "--separator",
+            Name::Null => "--null",
+            Name::Trim => "--trim",
         }
     }
 
@@ -259,6 +271,7 @@ impl Name {
         match self {
             Name::Where => true,
             Name::Group | Name::Agg | Name::Workers | Name::Decimals => false,
+            Name::Separator | Name::Null | Name::Trim => false,
         }
     }
 
@@ -278,6 +291,11 @@ impl Name {
             Name::Decimals => {
                 "--decimals takes a number from 0 to 18, or one for each column, as in 'price=2,weight=3'"
             }
+            Name::Separator => {
+                "--separator takes one character of ASCII that is no quote and ends no line, or tab"
+            }
+            Name::Null => "--null takes one to eight texts between commas, at most 248 bytes in all",
+            Name::Trim => "--trim takes no value",
         }
     }
 }
@@ -288,7 +306,7 @@ impl Expected {
         ensures { result.now ≡ expected_text self }
     {
         match self {
-            Expected::Name => "the options are --group, --agg, --where, --decimals and --workers",
+            Expected::Name => "the options are --group, --agg, --where, --decimals, --separator, --null, --trim and --workers",
             Expected::Other => "this option may be given once",
             Expected::Value(name) => name.values(),
             Expected::Items => "--agg ITEMS is missing",

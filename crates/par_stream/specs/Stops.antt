@@ -26,7 +26,7 @@ use Rattle.par_stream.specs.declared.stop.Stop.TheVariants as stop
 
 -- how the program is called
 abbrev pub usage_text : List ℕ
-usage_text = codes "usage: parstream [--group COLUMNS] --agg ITEMS [--where FILTER].. [--decimals PLACES] [--workers N]"
+usage_text = codes "usage: parstream [--group COLUMNS] --agg ITEMS [--where FILTER].. [--decimals PLACES] [--separator BYTE] [--null TEXTS] [--trim] [--workers N]"
 
 -- the number of a row, before what is said of it
 abbrev pub row_front : ℕ → List ℕ

@@ -5,6 +5,7 @@ ghost use Rattle.par_io.specs.Faults.{Rose};
 ghost use Rattle.par_stream.specs.Reading.{AddsPiece, IsFilledBatch, IsNotFilled, MeetsLong};
 ghost use Rattle.row_windows.specs.declared.window.WindowAnswer.TheVariants as answer;
 
+use csv_rows::Reading;
 use par_io::Source;
 use row_windows::{Window, WindowAnswer};
 use std::alloc::{AllocError, Global};
@@ -29,10 +30,10 @@ pub(crate) struct Batch {
 
 impl Batch {
     /// No windows, and nothing that was read.
-    pub(crate) fn new(alloc: Global) -> Batch {
+    pub(crate) fn new(alloc: Global, reading: &Reading) -> Batch {
         Batch {
             pieces: Vec::new(alloc),
-            next: Window::new(alloc),
+            next: Window::new(alloc, reading),
         }
     }
 
@@ -43,7 +44,7 @@ impl Batch {
         ensures lines { IfOk result (λ b. b.next.lines ≡ []) }
         ensures rest { IfOk result (λ b. b.next.rest ≡ window.rest) }
     {
-        let mut next = Window::new(alloc);
+        let mut next = Window::new(alloc, window.reading());
         next.follow(&window)?;
         let mut pieces = Vec::new(alloc);
         pieces.push(window)?;
@@ -79,7 +80,7 @@ impl Batch {
                 return Ok(false);
             }
             let goal = goal_of(&self.next, size);
-            let spare = spare_of(alloc, &mut spares, goal);
+            let spare = spare_of(alloc, self.next.reading(), &mut spares, goal);
             match self.add_piece(spare, source, goal) {
                 Ok(true) => return Ok(true),
                 Ok(false) => {}
@@ -136,9 +137,14 @@ fn goal_of(next: &Window, size: usize) -> usize {
 }
 
 /// A window whose buffer is used again, unless that is much longer than the window is to be.
-fn spare_of(alloc: Global, spares: &mut Vec<Window>, goal: usize) -> Window {
+fn spare_of(
+    alloc: Global,
+    reading: &Reading,
+    spares: &mut Vec<Window>,
+    goal: usize,
+) -> Window {
     match spares.pop() {
         Some(spare) if spare.room() / 4 <= goal => spare,
-        _ => Window::new(alloc),
+        _ => Window::new(alloc, reading),
     }
 }

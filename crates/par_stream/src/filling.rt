@@ -12,7 +12,7 @@ ghost use Rattle.par_stream.specs.Stops.{Tells, stop_of_window};
 ghost use Rattle.par_stream.specs.declared.stop.Stop.TheVariants as stop;
 
 use crate::stop::Stop;
-use csv_rows::{RowStore, RowsAnswer, rows};
+use csv_rows::{Reading, RowStore, RowsAnswer, rows_as};
 use par_io::Source;
 use row_windows::{Window, WindowAnswer, header_end};
 use std::alloc::Global;
@@ -30,6 +30,7 @@ pub(crate) struct First {
 pub(crate) fn first_window<R: Wait, S: Source>(
     rt: &R,
     alloc: Global,
+    reading: &Reading,
     source: &mut S,
     size: usize,
 ) -> Result<First, Stop>
@@ -40,7 +41,7 @@ pub(crate) fn first_window<R: Wait, S: Source>(
     ensures faults { S.faults source.old ≤ S.faults source.new }
     ensures no_write { IfErr result (λ why. (why ≡ stop.WriteFault) → ⊥) }
 {
-    let mut window = Window::new(alloc);
+    let mut window = Window::new(alloc, reading);
     for _ in rt.forever() {
         let is_last = match fill(&mut window, source, size) {
             Ok(is_last) => is_last,
@@ -68,7 +69,7 @@ fn behind(alloc: Global, before: &Window) -> Result<Window, Stop>
     ensures rest { IfOk result (λ next. next.rest ≡ before.now.rest) }
     ensures why { IfErr result (λ why. why ≡ stop.Memory) }
 {
-    let mut next = Window::new(alloc);
+    let mut next = Window::new(alloc, before.reading());
     next.follow(before)?;
     Ok(next)
 }
@@ -112,7 +113,7 @@ fn part_header(alloc: Global, window: &mut Window) -> Result<RowStore, RowsAnswe
 {
     let lines = window.table();
     let at = header_end(lines).unwrap_or(lines.len());
-    match rows(alloc, &lines[..at]) {
+    match rows_as(alloc, window.reading(), &lines[..at]) {
         Ok(header) => {
             window.set_header(at);
             Ok(header)

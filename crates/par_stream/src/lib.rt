@@ -25,6 +25,7 @@ ghost use Rattle.par_stream.specs.declared.stop.Stop.TheVariants as stop;
 
 mod adding;
 mod batch;
+mod exchanged;
 mod filling;
 mod output;
 mod progress;
@@ -33,6 +34,7 @@ mod rows;
 mod stop;
 mod words;
 
+use exchanged::Exchanged;
 pub use answer_text::{MISUSED, NO_MEMORY, READ_FAULT, REFUSED, TABLE, WRITE_FAULT};
 use output::write_table;
 use par_io::{Sink, Source};
@@ -120,7 +122,8 @@ fn answer_stream<R: Threads + Wait + Sync, S: Source, O: Sink, P: Progress>(
     ensures unread { IsNone (stream_query_of (texts words.now)) → source.new ≡ source.old }
 {
     let plan = read_words(alloc, words)?;
-    let read = read_groups(rt, alloc, &plan, source, window_bytes, progress);
+    let mut exchanged = Exchanged::new(source, plan.reading().separator);
+    let read = read_groups(rt, alloc, &plan, &mut exchanged, window_bytes, progress);
     progress.end();
     write_table(rt, alloc, &plan, read?, out)
 }

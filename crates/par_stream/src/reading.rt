@@ -60,7 +60,7 @@ pub(crate) fn read_groups<R: Threads + Wait + Sync, S: Source, P: Progress>(
     ensures read_fault { IfErr result (λ why. why ≡ stop.ReadFault → Rose (S.faults source.old) (S.faults source.new)) }
     ensures no_write { IfErr result (λ why. (why ≡ stop.WriteFault) → ⊥) }
 {
-    let first = first_window(rt, alloc, source, size.min(FIRST_BYTES))?;
+    let first = first_window(rt, alloc, plan.reading(), source, size.min(FIRST_BYTES))?;
     let bound = bind(alloc, plan, &first.header)?;
     let mut stream = open(alloc, plan, &bound, first)?;
     let mut bytes = 0u64;
@@ -106,7 +106,7 @@ fn open(alloc: Global, plan: &Plan, bound: &BoundPlan, first: First) -> Result<S
     Ok(Stream {
         batch: Batch::of_window(alloc, window)?,
         is_last,
-        spare: Batch::new(alloc),
+        spare: Batch::new(alloc, plan.reading()),
         header,
         added: Added { maps, count: 0 },
     })

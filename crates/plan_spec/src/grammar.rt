@@ -427,6 +427,37 @@ pub fn number(text: &str, most: u32) -> Option<u32>
     (value <= most).then_some(value)
 }
 
+/// The byte that parts fields: one character of ASCII that is no quote and ends no line, or `tab`.
+pub(crate) fn separator(text: &str) -> Option<u8>
+    ensures byte { result ≡ separator_in text.now }
+    ensures fits { IfSome result IsSeparator }
+{
+    if text == "tab" {
+        return Some(b'\t');
+    }
+    match text.as_bytes() {
+        [byte] if is_separator(*byte) => Some(*byte),
+        _ => None,
+    }
+}
+
+/// Whether a byte may part fields.
+fn is_separator(byte: u8) -> bool
+    ensures { result ≡ is_separator byte }
+{
+    byte < 128 && byte != b'"' && byte != b'\r' && byte != b'\n'
+}
+
+/// One to eight texts between commas, not too long together.
+pub(crate) fn nulls(text: &str) -> Option<Text>
+    ensures { result ≡ nulls_in text.now }
+{
+    if text.as_bytes().iter().filter(|byte| **byte == b',').count() > 7 {
+        return None;
+    }
+    Text::of(text.as_bytes())
+}
+
 /// Whether a plan is the one over the shared hash table.
 pub(crate) fn hash(text: &str) -> Option<bool>
     ensures { result ≡ hash_in text.now }

@@ -23,6 +23,10 @@ pub(crate) struct OptionValues<'a> {
     /// Whether a filter may compare texts.
     pub(crate) texts: bool,
     pub(crate) decimals: Option<&'a str>,
+    pub(crate) separator: Option<&'a str>,
+    pub(crate) nulls: Option<&'a str>,
+    /// Whether `--trim` is given.
+    pub(crate) trim: bool,
     pub(crate) workers: Option<&'a str>,
     pub(crate) plan: Option<&'a str>,
     pub(crate) area_pages: Option<&'a str>,
@@ -57,6 +61,9 @@ pub(crate) fn option_values<'a>(
         filters,
         texts: false,
         decimals: None,
+        separator: None,
+        nulls: None,
+        trim: false,
         workers: matches.get_str("workers"),
         plan: matches.get_str("plan"),
         area_pages: matches.get_str("area-pages"),
@@ -91,6 +98,9 @@ pub(crate) fn stream_values<'a>(
         filters,
         texts: true,
         decimals: matches.get_str("decimals"),
+        separator: matches.get_str("separator"),
+        nulls: matches.get_str("null"),
+        trim: matches.get_flag("trim"),
         workers: matches.get_str("workers"),
         plan: None,
         area_pages: None,
@@ -142,7 +152,7 @@ fn pargather<'a>(alloc: Global) -> Result<Command<'a>, AllocError>
     with_option(alloc, planned, "area-pages", false)
 }
 
-/// The command of parstream with its five options, of which `--where` may be repeated.
+/// The command of parstream with its eight options, of which `--where` may be repeated and `--trim` has no value.
 fn parstream<'a>(alloc: Global) -> Result<Command<'a>, AllocError>
     ensures { IfOk result (λ c. app_of c ≡ parstream_command) }
 {
@@ -155,7 +165,14 @@ fn parstream<'a>(alloc: Global) -> Result<Command<'a>, AllocError>
             .action(ArgAction::Append),
     )?;
     let staffed = with_option(alloc, filtered, "workers", false)?;
-    with_option(alloc, staffed, "decimals", false)
+    let pointed = with_option(alloc, staffed, "decimals", false)?;
+    let parted = with_option(alloc, pointed, "separator", false)?;
+    let emptied = with_option(alloc, parted, "null", false)?;
+    emptied.arg(
+        Arg::new(alloc, "trim")
+            .long("trim")
+            .action(ArgAction::SetTrue),
+    )
 }
 
 /// A command with one more option, which takes one value.
