@@ -1,7 +1,7 @@
 //! How the fields of a text are read: which byte parts them, whether white space around them counts, and which texts
 //! are read as nothing.
 
-ghost use Rattle.std.specs.Prelude.{◌≡◌, codes, false};
+ghost use Rattle.std.specs.Prelude.{◌≡◌, []};
 ghost use Rattle.csv_rows.specs.Readings.{cleaned, is_among, is_plain, keeps_all, plain, trimmed_if};
 
 use memchr::memchr;

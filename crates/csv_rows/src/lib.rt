@@ -12,7 +12,7 @@
 
 mod cleaning;
 mod cut;
-mod exchange;
+mod exchanging;
 mod input;
 mod lines;
 mod masks;
@@ -29,7 +29,7 @@ mod store;
 
 pub use cleaning::Reading;
 pub use cut::without_mark;
-pub use exchange::exchange;
+pub use exchanging::exchange;
 pub use input::{MOST_BYTES, ReadAnswer, read_all};
 pub use par_model::read_number;
 pub use place::{Place, past_others, past_quote, scanned};

@@ -9,10 +9,10 @@ ghost use Rattle.std.specs.Prelude.{◌≡◌, ◌<◌, ◌≤◌, ◌∷◌, �
 ghost use Rattle.csv.specs.Records.{Rising, cut_from, fields_of, text_of};
 ghost use Rattle.csv_rows.specs.Readings.{as_read, cleaned, exchanged};
 ghost use Rattle.csv_rows.specs.Records.{field_of, record_at};
-ghost use Rattle.csv_rows.specs.Store.{Apart, Covers, field_start, stored, stored_apart};
+ghost use Rattle.csv_rows.specs.Store.{Apart, Covers, cut_apart, field_start, stored, stored_apart};
 
 use crate::cleaning::Reading;
-use crate::exchange::exchange;
+use crate::exchanging::exchange;
 use crate::records::MOST_RECORDS;
 use crate::row_ends::RowEnds;
 use csv::ByteRecord;
@@ -109,17 +109,33 @@ impl Piece {
     fn cleaned(self, alloc: Global, reading: &Reading) -> Result<Piece, AllocError>
         ensures { IfOk result (λ piece. piece ≡ map (map (cleaned reading.now)) self) }
     {
-        let mut bytes = Vec::new(alloc);
-        bytes.reserve_exact(self.bytes.len())?;
-        let mut ends = Vec::new(alloc);
-        ends.reserve_exact(self.ends.len())?;
-        'fields: for i in 0..self.ends.len() {
-            let (start, end) = span(&self.ends, i, self.gap);
-            let field = &self.bytes.as_slice()[start..end];
-            push_field(&mut bytes, &mut ends, reading.cleaned(field))?;
-        }
+        let (bytes, ends) = cleaned_fields(alloc, reading, &self.bytes, &self.ends, self.gap)?;
         Ok(Piece::of_lists(bytes, ends, self.row_ends, 0))
     }
+}
+
+/// The bytes and the ends of these fields, each cleaned, with no bytes between them.
+fn cleaned_fields(
+    alloc: Global,
+    reading: &Reading,
+    bytes: &Vec<u8>,
+    ends: &Vec<u32>,
+    gap: u8,
+) -> Result<(Vec<u8>, Vec<u32>), AllocError>
+    requires { Apart gap 0 ends.now.items (length bytes.now.items) }
+    ensures covers { IfOk result (λ r. Covers r.1.items (length r.0.items)) }
+    ensures fields { IfOk result (λ r. cut_from 0 r.1.items r.0.items ≡ map (cleaned reading.now) (cut_apart gap 0 ends.now.items bytes.now.items)) }
+{
+    let mut texts = Vec::new(alloc);
+    texts.reserve_exact(bytes.len())?;
+    let mut places = Vec::new(alloc);
+    places.reserve_exact(ends.len())?;
+    'fields: for i in 0..ends.len() {
+        let (start, end) = span(ends, i, gap);
+        let field = &bytes.as_slice()[start..end];
+        push_field(&mut texts, &mut places, reading.cleaned(field))?;
+    }
+    Ok((texts, places))
 }
 
 /// Where the field at this place starts and ends.

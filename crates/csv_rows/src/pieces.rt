@@ -4,7 +4,7 @@
 //! no care for the bytes around it: the first half ends its last record there as at the end of a text, and the second
 //! begins with an end of line, which begins no record, so that a byte order mark after it is not taken for one.
 
-ghost use Rattle.std.specs.Prelude.{◌≡◌, ◌≢◌, ◌<◌, ◌≤◌, IfOk, length};
+ghost use Rattle.std.specs.Prelude.{◌≡◌, ◌≢◌, ◌<◌, ◌≤◌, [], IfOk, length};
 ghost use Rattle.std.specs.Thread.{IsSync};
 ghost use Rattle.csv_rows.specs.InPieces.{joined};
 ghost use Rattle.csv_rows.specs.Readings.{records_as};

@@ -25,7 +25,7 @@ ghost use Rattle.par_stream.specs.declared.stop.Stop.TheVariants as stop;
 
 mod adding;
 mod batch;
-mod exchanged;
+mod exchanging;
 mod filling;
 mod output;
 mod progress;
@@ -34,7 +34,7 @@ mod rows;
 mod stop;
 mod words;
 
-use exchanged::Exchanged;
+use exchanging::Exchanged;
 pub use answer_text::{MISUSED, NO_MEMORY, READ_FAULT, REFUSED, TABLE, WRITE_FAULT};
 use output::write_table;
 use par_io::{Sink, Source};

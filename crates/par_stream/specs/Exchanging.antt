@@ -1,7 +1,7 @@
 -- A source whose commas and separators are exchanged as they are read.
 use Rattle.std.specs.Prelude.{ℕ, List, Option, map, option_map}
 use Rattle.csv_rows.specs.Readings.{exchanged}
-use Rattle.par_stream.specs.declared.exchanged.Exchanged.{Exchanged}
+use Rattle.par_stream.specs.declared.exchanging.Exchanged.{Exchanged}
 
 -- what is left of it, if the source under it tells
 abbrev pub exchanged_left : {S : Type 0} → (S → Option (List ℕ)) → Exchanged S → Option (List ℕ)

@@ -1,7 +1,7 @@
 //! The comma and another separator, exchanged.
 //!
 //! A text whose fields are parted by another byte than the comma has the records of the text in which the two are
-//! exchanged, with the same exchange in each field (`proofs/Exchanging`). So only who reads the bytes and who has the fields
+//! exchanged, with the same exchange in each field (`proofs/Exchanges`). So only who reads the bytes and who has the fields
 //! know of that byte, and what lies between looks for commas.
 
 ghost use Rattle.std.specs.Prelude.{◌≡◌, map};
@@ -11,8 +11,8 @@ ghost use Rattle.csv_rows.specs.Readings.{exchanged};
 pub fn exchange(bytes: &mut [u8], separator: u8)
     ensures { bytes.new ≡ map (exchanged separator) bytes.old }
 {
-    for byte in bytes.iter_mut() {
-        *byte = exchanged(*byte, separator);
+    for at in 0..bytes.len() {
+        bytes[at] = exchanged(bytes[at], separator);
     }
 }
 

@@ -1,7 +1,7 @@
 //! A source whose commas and separators are exchanged as they are read.
 
 ghost use Rattle.std.specs.Prelude.{◌≡◌};
-ghost use Rattle.par_stream.specs.Exchanged.{exchanged_faults, exchanged_left};
+ghost use Rattle.par_stream.specs.Exchanging.{exchanged_faults, exchanged_left};
 
 use csv_rows::exchange;
 use par_io::{Failed, Source};
@@ -24,7 +24,7 @@ impl<'a, S: Source> Exchanged<'a, S> {
 }
 
 impl<'a, S: Source> Source for Exchanged<'a, S> {
-    ghost use Rattle.par_stream.specs.Exchanged.{exchanged_faults, exchanged_left};
+    ghost use Rattle.par_stream.specs.Exchanging.{exchanged_faults, exchanged_left};
 
     ghost left = { exchanged_left S.left };
 
