@@ -65,3 +65,18 @@ kept-all reading records h = map-same (map (cleaned reading)) records (λ one. m
 -- how many records there are
 pub as-length : (reading : Reading) (bytes : List ℕ) → length (records_as reading bytes) ≡ length (records_of bytes)
 as-length reading bytes = length-map (records_of bytes) (map (as_read reading))
+
+-- the lists of a piece whose fields were read one by one
+pub cleaned-count : (f : List ℕ → List ℕ) (gap : ℕ) (bytes ends texts places : List ℕ) → cut_from 0 places texts ≡ map f (cut_apart gap 0 ends bytes) → length places ≡ length ends
+cleaned-count f gap bytes ends texts places is = sym (cut-length 0 places texts) ∙ (ap length is ∙ (length-map (cut_apart gap 0 ends bytes) f ∙ apart-length gap 0 ends bytes))
+
+pub cleaned-stored : (f : List ℕ → List ℕ) (gap : ℕ) (bytes ends row_ends texts places : List ℕ) → cut_from 0 places texts ≡ map f (cut_apart gap 0 ends bytes)
+    → stored_apart 0 texts places row_ends ≡ map (map f) (stored_apart gap bytes ends row_ends)
+cleaned-stored f gap bytes ends row_ends texts places is = stored-none texts places row_ends ∙ (ap (group_from 0 row_ends) is ∙ group-map f 0 row_ends (cut_apart gap 0 ends bytes))
+
+pub cut-none : cut_from 0 [] [] ≡ []
+unfolding cut_from
+cut-none = refl
+
+pub bytes-kept : (separator : ℕ) (bytes : List ℕ) → separator ≡ 44 → bytes ≡ map (exchanged separator) bytes
+bytes-kept separator bytes is = rw is (sym (map-same (exchanged 44) bytes exchanged-none))

@@ -92,26 +92,47 @@ impl Piece {
         if reading.keeps_all() {
             return Ok(piece);
         }
-        piece.cleaned(alloc, reading)
+        let whole = piece.cleaned(alloc, reading)?;
+        Ok(whole)
     }
 
     /// The same records, with the comma and the separator exchanged in each field.
-    fn exchanged(mut self, separator: u8) -> Piece
+    fn exchanged(self, separator: u8) -> Piece
         ensures { result ≡ map (map (map (exchanged separator))) self }
     {
-        if separator != b',' {
-            exchange(self.bytes.as_mut_slice(), separator);
-        }
-        self
+        let Piece {
+            bytes,
+            ends,
+            row_ends,
+            gap,
+        } = self;
+        Piece::of_lists(exchanged_bytes(bytes, separator), ends, row_ends, gap)
     }
 
     /// The same records, with each field cleaned.
     fn cleaned(self, alloc: Global, reading: &Reading) -> Result<Piece, AllocError>
         ensures { IfOk result (λ piece. piece ≡ map (map (cleaned reading.now)) self) }
     {
-        let (bytes, ends) = cleaned_fields(alloc, reading, &self.bytes, &self.ends, self.gap)?;
-        Ok(Piece::of_lists(bytes, ends, self.row_ends, 0))
+        let Piece {
+            bytes,
+            ends,
+            row_ends,
+            gap,
+        } = self;
+        let (texts, places) = cleaned_fields(alloc, reading, &bytes, &ends, gap)?;
+        Ok(Piece::of_lists(texts, places, row_ends, 0))
     }
+}
+
+/// Bytes in which the comma and the separator are exchanged.
+fn exchanged_bytes(mut bytes: Vec<u8>, separator: u8) -> Vec<u8>
+    ensures { result.items ≡ map (exchanged separator) bytes.items }
+{
+    if separator == b',' {
+        return bytes;
+    }
+    exchange(bytes.as_mut_slice(), separator);
+    bytes
 }
 
 /// The bytes and the ends of these fields, each cleaned, with no bytes between them.
@@ -131,11 +152,20 @@ fn cleaned_fields(
     let mut places = Vec::new(alloc);
     places.reserve_exact(ends.len())?;
     'fields: for i in 0..ends.len() {
-        let (start, end) = span(ends, i, gap);
-        let field = &bytes.as_slice()[start..end];
+        let field = field_at(bytes.as_slice(), ends, gap, i);
         push_field(&mut texts, &mut places, reading.cleaned(field))?;
     }
     Ok((texts, places))
+}
+
+/// The field at this place.
+fn field_at<'a>(bytes: &'a [u8], ends: &Vec<u32>, gap: u8, i: usize) -> &'a [u8]
+    requires fields { Apart gap 0 ends.now.items (length bytes.now) }
+    requires place { i < length ends.now.items }
+    ensures { result.now ≡ get_or (cut_apart gap 0 ends.now.items bytes.entry.now) i [] }
+{
+    let (start, end) = span(ends, i, gap);
+    &bytes[start..end]
 }
 
 /// Where the field at this place starts and ends.

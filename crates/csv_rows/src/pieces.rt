@@ -112,11 +112,12 @@ fn read_records_as(alloc: Global, reading: &Reading, bytes: &[u8]) -> Result<Pie
     ensures no_header { result ≡ Err answer.NoHeader → records_as reading.now bytes.now ≡ [] }
     ensures too_many { result ≡ Err answer.TooManyRows → MOST_RECORDS < length (records_as reading.now bytes.now) }
 {
-    match read_records(alloc, bytes) {
-        Ok(piece) => match piece.read_as(alloc, reading) {
-            Ok(piece) => Ok(piece),
-            Err(_) => Err(RowsAnswer::Memory),
-        },
-        Err(why) => Err(why),
+    let piece = match read_records(alloc, bytes) {
+        Ok(piece) => piece,
+        Err(why) => return Err(why),
+    };
+    match piece.read_as(alloc, reading) {
+        Ok(read) => Ok(read),
+        Err(_) => Err(RowsAnswer::Memory),
     }
 }

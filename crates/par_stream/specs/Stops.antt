@@ -48,17 +48,17 @@ stop_says stop.Memory = (NO_MEMORY, codes "out of memory")
 pub record NamesFirstRow (query : Query) (left : Option (List ℕ)) (row : ℕ) (why : List ℕ) : Type 0 where
   pub refusal : Refusal
   pub says : why ≡ refusal_text query.plan refusal
-  pub first : IfSome left (λ bytes. (others : List (ℕ × Refusal)) × (outcome_over query.plan bytes ≡ Refused ((row, refusal) ∷ others)))
+  pub first : IfSome left (λ bytes. (others : List (ℕ × Refusal)) × (outcome_over query bytes ≡ Refused ((row, refusal) ∷ others)))
 
 -- what a reason says of what a query is over, where a source tells what it had left
 abbrev pub Tells : Query → Option (List ℕ) → Stop → Type 0
 Tells query left stop.Usage = ⊥
 Tells query left stop.ReadFault = ⊤
-Tells query left stop.NoHeader = IfSome left (λ bytes. outcome_over query.plan bytes ≡ NoHeader)
-Tells query left (stop.NoColumn name) = IfSome left (λ bytes. outcome_over query.plan bytes ≡ NoColumn (string_bytes name))
-Tells query left (stop.LongRecord row) = IfSome left (λ bytes. HasLong query.plan bytes row)
+Tells query left stop.NoHeader = IfSome left (λ bytes. outcome_over query bytes ≡ NoHeader)
+Tells query left (stop.NoColumn name) = IfSome left (λ bytes. outcome_over query bytes ≡ NoColumn (string_bytes name))
+Tells query left (stop.LongRecord row) = IfSome left (λ bytes. HasLong query bytes row)
 Tells query left (stop.Refused row why) = NamesFirstRow query left row (string_bytes why)
-Tells query left stop.WriteFault = IfSome left (λ bytes. outcome_over query.plan bytes ≡ Table)
+Tells query left stop.WriteFault = IfSome left (λ bytes. outcome_over query bytes ≡ Table)
 Tells query left stop.Memory = ⊤
 
 -- Why the rows of a batch were not added to the maps of some others, which come before them: it is so said of each source

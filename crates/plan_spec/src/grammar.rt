@@ -6,7 +6,8 @@ ghost use Rattle.std.specs.List.{list_any, position_or_len};
 ghost use Rattle.std.specs.Option.{option_map_or};
 ghost use Rattle.par_model.specs.Columns.{reads_column};
 ghost use Rattle.par_model.specs.Table.{kind_text};
-ghost use Rattle.plan_spec.specs.Grammar.{Places, bare_number_in, entry_in, filter_in, filter_over, filters_in, hash_in, is_relation_byte, item_in, item_over, items_in, kind_in, names_in, number_in, parts_of, places_in, places_of, relation_in, short_text_in, test_in, text_in, text_test};
+ghost use Rattle.plan_spec.specs.Grammar.{Places, bare_number_in, entry_in, filter_in, filter_over, filters_in, hash_in, is_relation_byte, is_separator, item_in, item_over, items_in, kind_in, names_in, nulls_in, number_in, parts_of, places_in, places_of, relation_in, separator_in, short_text_in, test_in, text_in, text_test};
+ghost use Rattle.csv_rows.specs.Readings.{IsSeparator};
 ghost use Rattle.plan_spec.specs.Given.{entry_of};
 ghost use Rattle.plan_spec.specs.declared.plan.PlanAnswer.TheVariants as answer;
 
@@ -443,7 +444,8 @@ pub(crate) fn separator(text: &str) -> Option<u8>
 
 /// Whether a byte may part fields.
 fn is_separator(byte: u8) -> bool
-    ensures { result ≡ is_separator byte }
+    ensures is { result ≡ is_separator byte }
+    ensures fits { result ≡ true → IsSeparator byte }
 {
     byte < 128 && byte != b'"' && byte != b'\r' && byte != b'\n'
 }

@@ -2,6 +2,7 @@
 
 ghost use Rattle.std.specs.Prelude.{◌≡◌, ◌<◌, ◌≤◌, ◌++◌, [], IfSome, filter_map, is_some, length, map, option_and_then, option_map, slice_get, slice_index_or};
 ghost use Rattle.std.specs.Option.{option_map_or};
+ghost use Rattle.csv_rows.specs.Readings.{IsSeparator};
 ghost use Rattle.par_model.specs.Columns.{reads_column};
 ghost use Rattle.par_model.specs.Named.{names_of};
 ghost use Rattle.par_model.specs.Table.{item_text};
@@ -96,7 +97,7 @@ impl Model for Plan {
 
     ghost view = { λ p. record { plan = record { groups = map string_bytes p.groups.items; items = p.items.items; hash = p.hash; filters = p.filters.items }; workers = p.workers; area_pages = p.area_pages; reading = p.reading } };
 
-    ghost invariant = { λ p. FitsLimits (length p.groups.items) (length p.items.items) (length p.filters.items) p.workers p.area_pages };
+    ghost invariant = { λ p. FitsLimits (length p.groups.items) (length p.items.items) (length p.filters.items) p.workers p.area_pages p.reading.separator };
 }
 
 impl Plan {

@@ -2,7 +2,8 @@
 
 ghost use Rattle.std.specs.Prelude.{◌≡◌, ◌≤◌, None, Some, All, IfOk, map, string_bytes, true, vec_len};
 ghost use Rattle.par_model.specs.Plain.{is_plain_named};
-ghost use Rattle.plan_spec.specs.Query.{groups_given, hash_given, items_given, number_given, places_given, query_of, stream_query_of, text_of};
+ghost use Rattle.csv_rows.specs.Readings.{IsSeparator};
+ghost use Rattle.plan_spec.specs.Query.{groups_given, hash_given, items_given, nulls_given, number_given, places_given, query_of, reading_given, separator_given, stream_query_of, text_of};
 ghost use Rattle.plan_spec.specs.Given.{entry_of, query_given};
 ghost use Rattle.plan_spec.specs.Grammar.{filters_in};
 ghost use Rattle.par_model.specs.declared.plan.TheConstants.{MOST_PLACES};
@@ -78,6 +79,7 @@ fn read_values(alloc: Global, given: &OptionValues<'_>) -> Result<Plan, PlanAnsw
 /// How the fields of the input are read.
 fn reading_read(given: &OptionValues<'_>) -> Result<Reading, PlanAnswer>
     ensures reading { IfOk result (λ r. reading_given (text_of given.now.separator) given.now.trim (text_of given.now.nulls) ≡ Some r) }
+    ensures separator { IfOk result (λ r. IsSeparator r.separator) }
     ensures none { result ≡ Err answer.Usage → reading_given (text_of given.now.separator) given.now.trim (text_of given.now.nulls) ≡ None }
 {
     let separator = separator_read(given.separator)?;
@@ -92,6 +94,7 @@ fn reading_read(given: &OptionValues<'_>) -> Result<Reading, PlanAnswer>
 
 fn separator_read(given: Option<&str>) -> Result<u8, PlanAnswer>
     ensures byte { IfOk result (λ byte. separator_given (text_of given.entry) ≡ Some byte) }
+    ensures fits { IfOk result IsSeparator }
     ensures none { result ≡ Err answer.Usage → separator_given (text_of given.entry) ≡ None }
 {
     match given {
