@@ -211,7 +211,7 @@ const REFUSED: [(&str, &str); 8] = [
     ("--agg count", ""),
     (
         "--agg count orders.csv",
-        "parstream: \"orders.csv\" is not understood: the options are --group, --agg, --where, --decimals and --workers; see parstream --help\n",
+        "parstream: \"orders.csv\" is not understood: the options are --group, --agg, --where, --decimals, --separator, --null, --trim and --workers; see parstream --help\n",
     ),
     (
         "--agg sum(v)",

@@ -23,7 +23,7 @@ const USAGE: &str =
     "pargather: usage: pargather [--group COLUMNS] --agg ITEMS [--where FILTER] [--workers N] [--plan gather|hash] [--area-pages N]\n";
 
 const STREAM_USAGE: &str =
-    "parstream: usage: parstream [--group COLUMNS] --agg ITEMS [--where FILTER].. [--decimals PLACES] [--workers N]\n";
+    "parstream: usage: parstream [--group COLUMNS] --agg ITEMS [--where FILTER].. [--decimals PLACES] [--separator BYTE] [--null TEXTS] [--trim] [--workers N]\n";
 
 const LETTERS: Pieces<'static> = &[("g,v\na,1\nb,2\na,3\n", 1)];
 
