@@ -5,7 +5,7 @@ use Rattle.std.proofs.lemmas.Bool.{cases_Bool}
 use Rattle.std.proofs.lemmas.List.{drop-map, length-map, take-map}
 use Rattle.csv.specs.Records.{Rising, cut_from}
 use Rattle.csv.proofs.RecordFacts.{cut-length}
-use Rattle.csv_rows.specs.Readings.{as_read, cleaned, exchanged, is_among, keeps_all, records_as, trimmed_if}
+use Rattle.csv_rows.specs.Readings.{as_read, cleaned, exchanged, is_among, keeps_all, plain, records_as, trimmed_if}
 use Rattle.csv_rows.specs.Records.{records_of}
 use Rattle.csv_rows.specs.Store.{Apart, Covers, IsStore, cut_apart, group_from, stored, stored_apart}
 use Rattle.csv_rows.specs.declared.cleaning.Reading.{Reading}
@@ -32,7 +32,7 @@ store-map f gap bytes ends row_ends is = record { fields = rw (length-map bytes 
 
 -- with the comma for itself nothing is exchanged
 exchanged-none : (c : ℕ) → exchanged 44 c ≡ c
-exchanged-none c = elim (cases_Bool (c == 44)) [ inl e ↦ rw e (sym (Rattle.std.proofs.lemmas.Bool.eqb-true c 44 e)) | inr e ↦ rw (e, e) refl ]
+exchanged-none c = elim (cases_Bool (c == 44)) [ inl e ↦ rw e (sym (Rattle.std.proofs.lemmas.Bool.eqb-true c 44 e)) | inr e ↦ rw e refl ]
 
 map-same : {A : Type 0} (f : A → A) (xs : List A) → ((x : A) → f x ≡ x) → map f xs ≡ xs
 map-same f [] h = refl
@@ -51,7 +51,7 @@ cleaned-exchanged reading records =
 
 -- a field that is read as it is
 kept-field : (nulls field : List ℕ) → (length nulls == 0) ≡ true → (if is_among field nulls then [] else field) ≡ field
-kept-field [] [] none = refl
+kept-field [] [] none = elim (cases_Bool (is_among [] [])) [ inl e ↦ rw e refl | inr e ↦ rw e refl ]
 kept-field [] (x ∷ field) none = refl
 kept-field (n ∷ nulls) field none = cc none
 
@@ -80,3 +80,7 @@ cut-none = refl
 
 pub bytes-kept : (separator : ℕ) (bytes : List ℕ) → separator ≡ 44 → bytes ≡ map (exchanged separator) bytes
 bytes-kept separator bytes is = rw is (sym (map-same (exchanged 44) bytes exchanged-none))
+
+-- read plainly, they are the records of the bytes
+pub as-plain : (bytes : List ℕ) → records_as plain bytes ≡ records_of bytes
+as-plain bytes = sym (cleaned-exchanged plain (records_of bytes)) ∙ (ap (map (map (cleaned plain))) (comma-kept (records_of bytes)) ∙ kept-all plain (records_of bytes) refl)

@@ -57,7 +57,12 @@ twice sep c = elim (cases_Bool (c == 44)) [
             let own : (sep == sep) ≡ true = eq-eqb sep sep refl in
             rw (e, s, own) (sym is)
       ]
-  | inr e ↦ elim (cases_Bool (c == sep)) [ inl f ↦ rw (e, f) (sym (eqb-true c sep f)) | inr f ↦ rw (e, f, e, f) refl ]
+  | inr e ↦ elim (cases_Bool (c == sep)) [
+    | inl f ↦ rw (e, f) (sym (eqb-true c sep f))
+    | inr f ↦
+        let same : exchanged sep c ≡ c = rw (e, f) refl in
+        ap (exchanged sep) same ∙ same
+  ]
 ]
 
 pub twice-all : (sep : ℕ) (xs : List ℕ) → map (exchanged sep) (map (exchanged sep) xs) ≡ xs
@@ -69,11 +74,11 @@ same-step : (sep c x : ℕ) (s : State) → (x == 44) ≡ (c == sep) → (x == 3
     → step default_config s x ≡ step (config_of sep) s c
 same-step sep c x st.StartRecord d q r l = rw (d, q, r, l) refl
 same-step sep c x st.StartField d q r l = rw (d, q, r, l) refl
-same-step sep c x st.InField d q r l = rw (d, q, r, l) refl
-same-step sep c x st.InQuoted d q r l = rw (d, q, r, l) refl
+same-step sep c x st.InField d q r l = rw (d, r, l) refl
+same-step sep c x st.InQuoted d q r l = rw q refl
 same-step sep c x st.InEscape d q r l = refl
 same-step sep c x st.AfterQuote d q r l = rw (d, q, r, l) refl
-same-step sep c x st.InComment d q r l = rw (d, q, r, l) refl
+same-step sep c x st.InComment d q r l = rw l refl
 same-step sep c x st.AfterCr d q r l = rw (d, q, r, l) refl
 
 step-exchanged : (sep c : ℕ) (s : State) → IsSeparator sep → step default_config s (exchanged sep c) ≡ step (config_of sep) s c

@@ -16,3 +16,4 @@ pub mod Scans
 pub mod Splits
 pub mod Stands
 pub mod Unquoted
+pub mod Untouched

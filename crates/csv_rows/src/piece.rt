@@ -7,7 +7,7 @@
 
 ghost use Rattle.std.specs.Prelude.{◌≡◌, ◌<◌, ◌≤◌, ◌∷◌, ◌++◌, ◌+◌, ℕ, List, [], IfOk, OnOk, drop, get_or, length, map, take};
 ghost use Rattle.csv.specs.Records.{Rising, cut_from, fields_of, text_of};
-ghost use Rattle.csv_rows.specs.Readings.{as_read, cleaned, exchanged};
+ghost use Rattle.csv_rows.specs.Readings.{cleaned, exchanged};
 ghost use Rattle.csv_rows.specs.Records.{field_of, record_at};
 ghost use Rattle.csv_rows.specs.Store.{Apart, Covers, cut_apart, field_start, stored, stored_apart};
 
@@ -83,21 +83,8 @@ impl Piece {
         &self.bytes.as_slice()[start..end]
     }
 
-    /// The same records, each field as it is read. Takes no memory if white space is kept and no text is read as nothing;
-    /// otherwise it makes the lists anew, in linear time.
-    pub(crate) fn read_as(self, alloc: Global, reading: &Reading) -> Result<Piece, AllocError>
-        ensures { IfOk result (λ piece. piece ≡ map (map (as_read reading.now)) self) }
-    {
-        let piece = self.exchanged(reading.separator);
-        if reading.keeps_all() {
-            return Ok(piece);
-        }
-        let whole = piece.cleaned(alloc, reading)?;
-        Ok(whole)
-    }
-
-    /// The same records, with the comma and the separator exchanged in each field.
-    fn exchanged(self, separator: u8) -> Piece
+    /// The same records, with the comma and the separator exchanged in each field. In linear time, and in place.
+    pub(crate) fn exchanged(self, separator: u8) -> Piece
         ensures { result ≡ map (map (map (exchanged separator))) self }
     {
         let Piece {
@@ -109,10 +96,14 @@ impl Piece {
         Piece::of_lists(exchanged_bytes(bytes, separator), ends, row_ends, gap)
     }
 
-    /// The same records, with each field cleaned.
-    fn cleaned(self, alloc: Global, reading: &Reading) -> Result<Piece, AllocError>
+    /// The same records, with each field cleaned. Takes no memory if fields are read as they are; otherwise it makes the
+    /// lists anew, in linear time.
+    pub(crate) fn cleaned(self, alloc: Global, reading: &Reading) -> Result<Piece, AllocError>
         ensures { IfOk result (λ piece. piece ≡ map (map (cleaned reading.now)) self) }
     {
+        if reading.keeps_all() {
+            return Ok(self);
+        }
         let Piece {
             bytes,
             ends,

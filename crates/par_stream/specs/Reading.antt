@@ -2,7 +2,9 @@
 use Rattle.std.specs.Prelude.{◌≡◌, ◌≤◌, ◌+◌, ◌++◌, ◌^◌, [], ◌∷◌, ℕ, Bool, List, None, Option, Some, All, IfSome, false, length, map, true, ⊤}
 use Rattle.std.specs.Io.KnownBytes.{IsAtEnd}
 use Rattle.csv_rows.specs.Cuts.{IsCut}
-use Rattle.csv_rows.specs.Records.{record_at, records_of}
+use Rattle.csv_rows.specs.Readings.{records_as}
+use Rattle.csv_rows.specs.Records.{record_at}
+use Rattle.csv_rows.specs.declared.cleaning.Reading.{Reading}
 use Rattle.par_io.specs.Faults.{Rose}
 use Rattle.par_model.specs.Columns.{HasColumns}
 use Rattle.par_model.specs.Named.{bound_plan, missing_name}
@@ -20,38 +22,39 @@ use Rattle.par_stream.specs.declared.adding.Added.{Added}
 use Rattle.par_stream.specs.declared.reading.ReadGroups.{ReadGroups}
 use Rattle.par_stream.specs.declared.reading.Stream.{Stream}
 
--- ---- the source
+-- ---- the source, in which the comma and the separator are exchanged
 
 -- Of a source that had some bytes left and now has others: some records, and those of the rest that was read and of what
 -- is left, are the records of all bytes; and the rest stands in front of what is left
-pub record AreRead (bytes left : List ℕ) (records : Table) (rest : List ℕ) : Type 0 where
+pub record AreRead (reading : Reading) (bytes left : List ℕ) (records : Table) (rest : List ℕ) : Type 0 where
   pub front : List ℕ
   pub are : bytes ≡ front ++ (rest ++ left)
-  pub parts : records_of bytes ≡ records ++ records_of (rest ++ left)
+  pub parts : records_as reading bytes ≡ records ++ records_as reading (rest ++ left)
 
 -- likewise where the source tells
-abbrev pub HasRead : Option (List ℕ) → Option (List ℕ) → Table → List ℕ → Type 0
-HasRead None left records rest = ⊤
-HasRead (Some bytes) None records rest = ⊥
-HasRead (Some bytes) (Some left) records rest = AreRead bytes left records rest
+abbrev pub HasRead : Reading → Option (List ℕ) → Option (List ℕ) → Table → List ℕ → Type 0
+HasRead reading None left records rest = ⊤
+HasRead reading (Some bytes) None records rest = ⊥
+HasRead reading (Some bytes) (Some left) records rest = AreRead reading bytes left records rest
 
 -- some records are those of all bytes that a source had left, where it tells
-abbrev pub HasAll : Option (List ℕ) → Table → Type 0
-HasAll from records = IfSome from (λ bytes. records_of bytes ≡ records)
+abbrev pub HasAll : Reading → Option (List ℕ) → Table → Type 0
+HasAll reading from records = IfSome from (λ bytes. records_as reading bytes ≡ records)
 
 -- the records of all these bytes begin with some
-abbrev pub Begins : Option (List ℕ) → Table → Type 0
-Begins from records = IfSome from (λ bytes. (more : Table) × (records_of bytes ≡ records ++ more))
+abbrev pub Begins : Reading → Option (List ℕ) → Table → Type 0
+Begins reading from records = IfSome from (λ bytes. (more : Table) × (records_as reading bytes ≡ records ++ more))
 
 -- what there is of a source after a window that is the last, or not
-pub record Reaches (from left : Option (List ℕ)) (records : Table) (rest : List ℕ) (is_last : Bool) : Type 0 where
-  pub all : is_last ≡ true → HasAll from records
-  pub more : is_last ≡ false → HasRead from left records rest
+pub record Reaches (reading : Reading) (from left : Option (List ℕ)) (records : Table) (rest : List ℕ) (is_last : Bool) : Type 0 where
+  pub all : is_last ≡ true → HasAll reading from records
+  pub more : is_last ≡ false → HasRead reading from left records rest
 
 -- ---- a window
 
 -- a window of no lines was filled from a source: its lines and its rest are what there was of them and what was read
 pub record IsFilled (old new : Option (List ℕ)) (was now : Stretch) (is_last : Bool) : Type 0 where
+  pub reading : now.reading ≡ was.reading
   pub header : now.header ≡ was.header
   pub reads : Fills old new was.rest (now.lines ++ now.rest)
   pub last : is_last ≡ true → (now.rest ≡ []) × IsAtEnd new
@@ -67,7 +70,7 @@ IsNotFilled old new old_faults new_faults was answer.Memory = ⊤
 -- a window begins with the line of a header, which has one record, and is cut off in front of the end of a line
 pub record HasHeader (header : Table) (w : Stretch) (is_last : Bool) : Type 0 where
   pub one : length header ≡ 1
-  pub line : records_of w.header ≡ header
+  pub line : records_as w.reading w.header ≡ header
   pub records : piece_records w ≡ record_at header 0 ∷ piece_rows w
   pub cut : is_last ≡ false → IsCut w.header
   pub next : is_last ≡ false → BeginsLine w.rest
@@ -76,13 +79,14 @@ pub record HasHeader (header : Table) (w : Stretch) (is_last : Bool) : Type 0 wh
 
 -- the records of the lines of some windows
 abbrev pub line_records : List Stretch → Table
-line_records pieces = together (map (λ w. records_of w.lines) pieces)
+line_records pieces = together (map (λ w. records_as w.reading w.lines) pieces)
 
 -- One window more of a batch was filled from a source
 pub record AddsPiece (old new : Option (List ℕ)) (was now : Batch) (is_last : Bool) : Type 0 where
   pub piece : Stretch
   pub pieces : now.pieces.items ≡ was.pieces.items ++ piece ∷ []
   pub filled : IsFilled old new was.next piece is_last
+  pub reading : now.next.reading ≡ piece.reading
   pub header : now.next.header ≡ piece.header
   pub lines : now.next.lines ≡ []
   pub rest : now.next.rest ≡ piece.rest
@@ -96,18 +100,19 @@ pub record MeetsLong (old new : Option (List ℕ)) (was now : Batch) : Type 0 wh
 -- header, and the records of their lines come next
 pub record IsFilledBatch (old new : Option (List ℕ)) (was : Stretch) (b : Batch) (is_last : Bool) : Type 0 where
   pub few : length b.pieces.items ≤ 64
+  pub reading : b.next.reading ≡ was.reading
   pub header : b.next.header ≡ was.header
   pub lines : b.next.lines ≡ []
-  pub headers : All (λ w. w.header ≡ was.header) b.pieces.items
+  pub headers : All (λ w. (w.reading ≡ was.reading) × (w.header ≡ was.header)) b.pieces.items
   pub begins : BeginsLine was.rest → All (λ w. BeginsLine w.lines) b.pieces.items
-  pub reads : (from : Option (List ℕ)) (records : Table) → HasRead from old records was.rest → Reaches from new (records ++ line_records b.pieces.items) b.next.rest is_last
+  pub reads : (from : Option (List ℕ)) (records : Table) → HasRead was.reading from old records was.rest → Reaches was.reading from new (records ++ line_records b.pieces.items) b.next.rest is_last
   pub line : BeginsLine was.rest → is_last ≡ false → BeginsLine b.next.rest
 
 -- the windows of a batch begin with the line of a header, which has one record and is cut off before the end of a line
 pub record IsHeaded (header : Table) (b : Batch) (is_last : Bool) : Type 0 where
   pub few : length b.pieces.items ≤ 64
   pub one : length header ≡ 1
-  pub line : records_of b.next.header ≡ header
+  pub line : records_as b.next.reading b.next.header ≡ header
   pub pieces : AreUnder (record_at header 0) b.pieces.items
   pub cut : is_last ≡ false → IsCut b.next.header
   pub next : is_last ≡ false → BeginsLine b.next.rest
@@ -134,6 +139,7 @@ pub record AddsBatch (plan : Plan) (b : Batch) (old new : Added) : Type 0 where
 -- a stream: its windows begin with its header, and there is a map for each worker and one more
 pub record IsStream (query : Query) (plan : Plan) (s : Stream) : Type 0 where
   pub batch : IsHeaded s.header s.batch s.is_last
+  pub reading : s.batch.next.reading ≡ query.reading
   pub bound : IsBound query (record_at s.header 0) plan
   pub maps : length s.added.maps.items ≡ query.workers + 1
   pub few : s.added.count ≤ 2 ^ 50
@@ -141,7 +147,7 @@ pub record IsStream (query : Query) (plan : Plan) (s : Stream) : Type 0 where
 -- its maps have these rows, which were read of a source after the header; those of its batch come next
 pub record HasRows (plan : Plan) (from left : Option (List ℕ)) (s : Stream) (rows : Table) : Type 0 where
   pub added : HasAdded plan (length (record_at s.header 0)) rows s.added
-  pub reaches : Reaches from left (record_at s.header 0 ∷ (rows ++ rows_of s.batch.pieces.items)) s.batch.next.rest s.is_last
+  pub reaches : Reaches s.batch.next.reading from left (record_at s.header 0 ∷ (rows ++ rows_of s.batch.pieces.items)) s.batch.next.rest s.is_last
 
 -- maps are those of shares of all rows of a source, of which none is refused
 pub record AreGroupsOver (query : Query) (from : Option (List ℕ)) (r : ReadGroups) : Type 0 where
@@ -150,4 +156,4 @@ pub record AreGroupsOver (query : Query) (from : Option (List ℕ)) (r : ReadGro
   pub bound : IsBound query header r.bound
   pub shared : AreShared r.bound (length header) rows r.maps.items
   pub few : length rows ≤ 2 ^ 50
-  pub all : HasAll from (header ∷ rows)
+  pub all : HasAll query.reading from (header ∷ rows)

@@ -40,6 +40,7 @@ impl Batch {
     /// A batch of one window.
     pub(crate) fn of_window(alloc: Global, window: Window) -> Result<Batch, AllocError>
         ensures pieces { IfOk result (λ b. b.pieces.items ≡ window ∷ []) }
+        ensures reading { IfOk result (λ b. b.next.reading ≡ window.reading) }
         ensures header { IfOk result (λ b. b.next.header ≡ window.header) }
         ensures lines { IfOk result (λ b. b.next.lines ≡ []) }
         ensures rest { IfOk result (λ b. b.next.rest ≡ window.rest) }

@@ -2,13 +2,15 @@
 
 ghost use Rattle.std.specs.Prelude.{◌≡◌, ◌≤◌, ◌++◌, ◌∷◌, ◌⊎◌, [], ℕ, List, Option, Err, IfErr, IfOk, OnErr, OnOk, length};
 ghost use Rattle.csv_rows.specs.Cuts.{IsCut};
-ghost use Rattle.csv_rows.specs.Records.{record_at, records_of};
+ghost use Rattle.csv_rows.specs.Readings.{records_as};
+ghost use Rattle.csv_rows.specs.Records.{record_at};
 ghost use Rattle.csv_rows.specs.declared.records.RowsAnswer.TheVariants as parsing;
 ghost use Rattle.par_io.specs.Faults.{Rose};
 ghost use Rattle.row_blocks.specs.Blocks.{Table};
 ghost use Rattle.split_run.specs.Pieces.{piece_records};
 ghost use Rattle.par_stream.specs.Reading.{HasHeader, IsFilled, IsNotFilled, Reaches};
 ghost use Rattle.par_stream.specs.Stops.{Tells, stop_of_window};
+ghost use Rattle.plan_spec.specs.Query.{Query};
 ghost use Rattle.par_stream.specs.declared.stop.Stop.TheVariants as stop;
 
 use crate::stop::Stop;
@@ -35,8 +37,9 @@ pub(crate) fn first_window<R: Wait, S: Source>(
     size: usize,
 ) -> Result<First, Stop>
     ensures header { IfOk result (λ f. HasHeader f.header f.window f.is_last) }
-    ensures reaches { IfOk result (λ f. Reaches (S.left source.old) (S.left source.new) (piece_records f.window) f.window.rest f.is_last) }
-    ensures why { IfErr result (λ why. (query : _) → Tells query (S.left source.old) why) }
+    ensures reading { IfOk result (λ f. f.window.reading ≡ reading.now) }
+    ensures reaches { IfOk result (λ f. Reaches reading.now (S.left source.old) (S.left source.new) (piece_records f.window) f.window.rest f.is_last) }
+    ensures why { IfErr result (λ why. (query : Query) → query.reading ≡ reading.now → Tells query (S.left source.old) why) }
     ensures read_fault { IfErr result (λ why. why ≡ stop.ReadFault → Rose (S.faults source.old) (S.faults source.new)) }
     ensures faults { S.faults source.old ≤ S.faults source.new }
     ensures no_write { IfErr result (λ why. (why ≡ stop.WriteFault) → ⊥) }
@@ -64,6 +67,7 @@ pub(crate) fn first_window<R: Wait, S: Source>(
 
 /// A window that begins as the one behind another.
 fn behind(alloc: Global, before: &Window) -> Result<Window, Stop>
+    ensures reading { IfOk result (λ next. next.reading ≡ before.now.reading) }
     ensures header { IfOk result (λ next. next.header ≡ before.now.header) }
     ensures lines { IfOk result (λ next. next.lines ≡ []) }
     ensures rest { IfOk result (λ next. next.rest ≡ before.now.rest) }
@@ -103,13 +107,14 @@ pub(crate) fn stop_of_window(why: WindowAnswer, row: u64) -> Stop
 fn part_header(alloc: Global, window: &mut Window) -> Result<RowStore, RowsAnswer>
     requires none { window.old.header ≡ [] }
     ensures one { IfOk result (λ header. length header ≡ 1) }
-    ensures record { IfOk result (λ header. header ≡ records_of window.new.header) }
-    ensures first { OnOk result ((more : Table) × (records_of window.old.lines ≡ records_of window.new.header ++ more)) }
+    ensures reading { window.new.reading ≡ window.old.reading }
+    ensures record { IfOk result (λ header. header ≡ records_as window.old.reading window.new.header) }
+    ensures first { OnOk result ((more : Table) × (records_as window.old.reading window.old.lines ≡ records_as window.old.reading window.new.header ++ more)) }
     ensures same { OnOk result (window.new.header ++ window.new.lines ≡ window.old.lines) }
     ensures cut { OnOk result (IsCut window.old.lines → IsCut window.new.header) }
     ensures rest { window.new.rest ≡ window.old.rest }
     ensures err { OnErr result (window.new ≡ window.old) }
-    ensures no_header { result ≡ Err parsing.NoHeader → records_of window.old.lines ≡ [] }
+    ensures no_header { result ≡ Err parsing.NoHeader → records_as window.old.reading window.old.lines ≡ [] }
 {
     let lines = window.table();
     let at = header_end(lines).unwrap_or(lines.len());

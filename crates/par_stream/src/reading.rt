@@ -93,7 +93,7 @@ fn open(alloc: Global, plan: &Plan, bound: &BoundPlan, first: First) -> Result<S
     requires header { HasHeader first.header first.window first.is_last }
     requires bound { IsBound plan.now (record_at first.header 0) bound.now }
     ensures stream { IfOk result (IsStream plan.now bound.now) }
-    ensures rows { IfOk result (λ s. (from left : Option (List ℕ)) → Reaches from left (piece_records first.window) first.window.rest first.is_last → HasRows bound.now from left s []) }
+    ensures rows { IfOk result (λ s. (from left : Option (List ℕ)) → Reaches first.window.reading from left (piece_records first.window) first.window.rest first.is_last → HasRows bound.now from left s []) }
     ensures why { IfErr result (λ why. why ≡ stop.Memory) }
 {
     let _of = bound;

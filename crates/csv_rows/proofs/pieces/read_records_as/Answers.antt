@@ -1,7 +1,7 @@
 use Rattle.std.proofs.Common.{◌≡◌, ◌<◌, ◌∙◌, ℕ, List, length, map, ap, arith}
-use Rattle.csv_rows.specs.Readings.{as_read}
+use Rattle.csv_rows.specs.Readings.{as_read, cleaned}
 use Rattle.csv_rows.specs.Records.{records_of}
-use Rattle.csv_rows.proofs.Cleaned.{as-length}
+use Rattle.csv_rows.proofs.Cleaned.{as-length, cleaned-exchanged}
 use Rattle.csv_rows.proofs.pieces.read_records_as.Goals as goal
 
 pub returns-in-Err-clause-no_header : goal.returns-in-Err-clause-no_header
@@ -11,3 +11,7 @@ pub returns-in-Err-clause-too_many : goal.returns-in-Err-clause-too_many
 returns-in-Err-clause-too_many c = λ h.
     let many : 4194305 < length (records_of c.args.bytes.now) = c.read_records.ensures.too_many (c.in-Err.is ∙ h) in
     rw (as-length c.args.reading.now c.args.bytes.now) many
+
+pub returns-in-Ok-clause-records : goal.returns-in-Ok-clause-records
+returns-in-Ok-clause-records c =
+    c.in-Ok-cleaned.ensures ∙ (ap (λ (rs : List (List (List ℕ))). map (map (cleaned c.args.reading.now)) rs) c.exchanged_back-piece.ensures ∙ cleaned-exchanged c.args.reading.now (records_of c.args.bytes.now))

@@ -1,8 +1,13 @@
-use Rattle.std.proofs.Common.{ℕ, List, map, ap, ◌∙◌}
-use Rattle.csv_rows.specs.Readings.{cleaned}
-use Rattle.csv_rows.proofs.Cleaned.{cleaned-count, cleaned-stored}
+use Rattle.std.proofs.Common.{◌≡◌, ℕ, List, true, map, ap, sym, ◌∙◌}
+use Rattle.csv_rows.specs.Readings.{cleaned, keeps_all}
+use Rattle.csv_rows.proofs.Cleaned.{cleaned-count, cleaned-stored, kept-all}
 use Rattle.csv_rows.proofs.Gaps.{apart-rising}
 use Rattle.csv_rows.proofs.piece.Piece.cleaned.Goals as goal
+
+pub returns-then-keeps_all : goal.returns-then-keeps_all
+returns-then-keeps_all c =
+    let keeps : keeps_all c.args.reading.now ≡ true = sym c.keeps_all.ensures ∙ c.if-keeps_all.true in
+    sym (kept-all c.args.reading.now c.args.self keeps)
 
 pub cleaned_fields-texts-requires : goal.cleaned_fields-texts-requires
 cleaned_fields-texts-requires c = c.self.invariant.fields
