@@ -18,6 +18,7 @@ ghost use Rattle.answer_text.specs.Lines.{IsSaid};
 ghost use Rattle.answer_text.specs.Words.{texts};
 ghost use Rattle.par_stream.specs.Answers.{IsTableText};
 ghost use Rattle.par_stream.specs.Lines.{line};
+ghost use Rattle.par_stream.specs.Sources.{bare_faults, bare_left};
 ghost use Rattle.par_stream.specs.Stops.{TellsOf, stop_says, usage_text};
 ghost use Rattle.plan_spec.specs.Query.{stream_query_of};
 ghost use Rattle.par_stream.specs.declared.stop.Stop.{Stop};
@@ -25,21 +26,21 @@ ghost use Rattle.par_stream.specs.declared.stop.Stop.TheVariants as stop;
 
 mod adding;
 mod batch;
-mod exchanging;
 mod filling;
 mod output;
 mod progress;
 mod reading;
 mod rows;
+mod separated;
 mod stop;
 mod words;
 
-use exchanging::Exchanged;
 pub use answer_text::{MISUSED, NO_MEMORY, READ_FAULT, REFUSED, TABLE, WRITE_FAULT};
 use output::write_table;
 use par_io::{Sink, Source};
 pub use progress::{Progress, SoFar, Untold};
 use reading::read_groups;
+pub use separated::Separated;
 use std::alloc::Global;
 use std::sync::Wait;
 use std::thread::Threads;
@@ -61,7 +62,7 @@ pub fn stream_table<R: Threads + Wait + Sync, S: Source, O: Sink, E: Sink, P: Pr
     rt: &R,
     alloc: Global,
     words: &[String],
-    source: &mut S,
+    source: &mut Separated<S>,
     out: &mut O,
     err: &mut E,
     window_bytes: usize,
@@ -70,16 +71,16 @@ pub fn stream_table<R: Threads + Wait + Sync, S: Source, O: Sink, E: Sink, P: Pr
     // On every status but that of a table there is a reason, which tells of the outcome over all bytes; the status is the
     // reason's, and so is the line that `err` receives, or a prefix of it if a write of it failed. A fault is answered
     // only if it came in this call.
-    ensures why { (result ≢ TABLE) → (why : Stop) × TellsOf (stream_query_of (texts words.now)) (S.left source.old) why × (result ≡ (stop_says why).0)
+    ensures why { (result ≢ TABLE) → (why : Stop) × TellsOf (stream_query_of (texts words.now)) (bare_left S.left source.old) why × (result ≡ (stop_says why).0)
         × IsSaid (E.taken err.old) (E.taken err.new) (E.faults err.old) (E.faults err.new) (line (stop_says why).1) }
-    ensures read_fault { result ≡ READ_FAULT → Rose (S.faults source.old) (S.faults source.new) }
+    ensures read_fault { result ≡ READ_FAULT → Rose (bare_faults S.faults source.old) (bare_faults S.faults source.new) }
     ensures write_fault { result ≡ WRITE_FAULT → Rose (O.faults out.old) (O.faults out.new) }
     ensures quiet { result ≡ TABLE → err.new ≡ err.old }
 
     // `out` receives the table, or a prefix of it if a write failed, and on every other status nothing.
-    ensures table { result ≡ TABLE → IfSome (S.left source.old) (λ bytes.
+    ensures table { result ≡ TABLE → IfSome (bare_left S.left source.old) (λ bytes.
         (text : List ℕ) × IsTableText (stream_query_of (texts words.now)) bytes text × Appends (O.taken out.old) (O.taken out.new) text) }
-    ensures part { result ≡ WRITE_FAULT → IfSome (S.left source.old) (λ bytes.
+    ensures part { result ≡ WRITE_FAULT → IfSome (bare_left S.left source.old) (λ bytes.
         (text : List ℕ) × IsTableText (stream_query_of (texts words.now)) bytes text × (n : ℕ) × Appends (O.taken out.old) (O.taken out.new) (take n text)) }
     ensures nothing { (result ≢ TABLE) → (result ≢ WRITE_FAULT) → out.new ≡ out.old }
 
@@ -105,25 +106,25 @@ fn answer_stream<R: Threads + Wait + Sync, S: Source, O: Sink, P: Progress>(
     rt: &R,
     alloc: Global,
     words: &[String],
-    source: &mut S,
+    source: &mut Separated<S>,
     out: &mut O,
     window_bytes: usize,
     progress: &mut P,
 ) -> Result<(), Stop>
-    ensures table { OnOk result (IfSome (S.left source.old) (λ bytes.
+    ensures table { OnOk result (IfSome (bare_left S.left source.old) (λ bytes.
         (text : List ℕ) × IsTableText (stream_query_of (texts words.now)) bytes text × Appends (O.taken out.old) (O.taken out.new) text)) }
-    ensures part { IfErr result (λ why. why ≡ stop.WriteFault → IfSome (S.left source.old) (λ bytes.
+    ensures part { IfErr result (λ why. why ≡ stop.WriteFault → IfSome (bare_left S.left source.old) (λ bytes.
         (text : List ℕ) × IsTableText (stream_query_of (texts words.now)) bytes text × (n : ℕ) × Appends (O.taken out.old) (O.taken out.new) (take n text))) }
     ensures nothing { IfErr result (λ why. (why ≢ stop.WriteFault) → out.new ≡ out.old) }
-    ensures why { IfErr result (TellsOf (stream_query_of (texts words.now)) (S.left source.old)) }
-    ensures read_fault { IfErr result (λ why. why ≡ stop.ReadFault → Rose (S.faults source.old) (S.faults source.new)) }
+    ensures why { IfErr result (TellsOf (stream_query_of (texts words.now)) (bare_left S.left source.old)) }
+    ensures read_fault { IfErr result (λ why. why ≡ stop.ReadFault → Rose (bare_faults S.faults source.old) (bare_faults S.faults source.new)) }
     ensures write_fault { IfErr result (λ why. why ≡ stop.WriteFault → Rose (O.faults out.old) (O.faults out.new)) }
     ensures some { OnOk result (IsNone (stream_query_of (texts words.now)) → ⊥) }
     ensures unread { IsNone (stream_query_of (texts words.now)) → source.new ≡ source.old }
 {
     let plan = read_words(alloc, words)?;
-    let mut exchanged = Exchanged::new(source, plan.reading().separator);
-    let read = read_groups(rt, alloc, &plan, &mut exchanged, window_bytes, progress);
+    source.separate(plan.reading().separator);
+    let read = read_groups(rt, alloc, &plan, source, window_bytes, progress);
     progress.end();
     write_table(rt, alloc, &plan, read?, out)
 }

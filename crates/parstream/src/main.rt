@@ -11,7 +11,7 @@ mod progress;
 
 use input_hints::{Peeked, asked_of, refuse_input, refuse_words, tell};
 use par_io::{StdSink, StdSource};
-use par_stream::{NO_MEMORY, WINDOW_BYTES, say_usage, stream_table};
+use par_stream::{NO_MEMORY, Separated, WINDOW_BYTES, say_usage, stream_table};
 use progress::ProgressLine;
 use std::env::Env;
 use std::io::ErrorKind;
@@ -53,6 +53,7 @@ fn main(rt: HostRuntime) -> ExitCode {
     if let Some(status) = refuse_input(&mut source, &mut err) {
         return ExitCode::from(status);
     }
+    let mut source = Separated::new(source);
     let status = stream_table(
         &rt,
         rt.alloc(),
