@@ -16,4 +16,3 @@ pub mod Scans
 pub mod Splits
 pub mod Stands
 pub mod Unquoted
-pub mod Untouched

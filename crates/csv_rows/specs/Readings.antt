@@ -1,5 +1,5 @@
 -- How the fields of a text are read.
-use Rattle.std.specs.Prelude.{◌≡◌, ◌≢◌, ◌<◌, ◌==◌, ◌&&◌, ◌-◌, ℕ, Bool, true, false, not, List, [], bytes_eq, drop, if◌then◌else◌, length, map, slice_index, take}
+use Rattle.std.specs.Prelude.{◌≡◌, ◌≢◌, ◌<◌, ◌==◌, ◌&&◌, ◌-◌, ℕ, Bool, true, false, not, List, [], bytes_eq, drop, if◌then◌else◌, length, map, take}
 use Rattle.std.specs.Char.{is_ascii_whitespace}
 use Rattle.std.specs.List.{list_any, prefix_len, slice_split, suffix_len}
 use Rattle.csv.specs.Reading.{default_config, records, strip_bom}
@@ -58,10 +58,6 @@ is_plain reading = (reading.separator == 44) && keeps_all reading
 -- a byte, if the comma and the separator are exchanged
 abbrev pub exchanged : ℕ → ℕ → ℕ
 exchanged separator byte = if byte == 44 then separator else if byte == separator then 44 else byte
-
--- none of these bytes is this one
-abbrev pub NoByte : ℕ → List ℕ → Type 0
-NoByte byte bytes = (k : ℕ) → k < length bytes → (slice_index bytes k == byte) ≡ false
 
 -- a field of a text in which the two were exchanged
 abbrev pub as_read : Reading → List ℕ → List ℕ

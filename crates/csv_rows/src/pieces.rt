@@ -4,20 +4,18 @@
 //! no care for the bytes around it: the first half ends its last record there as at the end of a text, and the second
 //! begins with an end of line, which begins no record, so that a byte order mark after it is not taken for one.
 
-ghost use Rattle.std.specs.Prelude.{◌≡◌, ◌≢◌, ◌<◌, ◌≤◌, [], IfOk, false, length, map};
+ghost use Rattle.std.specs.Prelude.{◌≡◌, ◌≢◌, ◌<◌, ◌≤◌, [], IfOk, length};
 ghost use Rattle.std.specs.Thread.{IsSync};
 ghost use Rattle.csv_rows.specs.InPieces.{joined};
-ghost use Rattle.csv_rows.specs.Places.{NoQuote};
-ghost use Rattle.csv_rows.specs.Readings.{NoByte, exchanged, records_as};
+ghost use Rattle.csv_rows.specs.Readings.{records_as};
 ghost use Rattle.csv_rows.specs.Records.{records_of};
 ghost use Rattle.csv_rows.specs.declared.records.RowsAnswer.TheVariants as answer;
 
 use crate::cleaning::Reading;
-use crate::cut::{find_cut, without_mark};
+use crate::cut::find_cut;
 use crate::piece::Piece;
 use crate::reading::read_records;
 use crate::records::{MOST_RECORDS, RowsAnswer};
-use memchr::memchr;
 use std::alloc::Global;
 use std::thread::{Threads, join};
 
@@ -118,32 +116,9 @@ fn read_records_as(alloc: Global, reading: &Reading, bytes: &[u8]) -> Result<Pie
         Ok(piece) => piece,
         Err(why) => return Err(why),
     };
-    let piece = exchanged_back(piece, reading.separator, bytes);
-    match piece.cleaned(alloc, reading) {
+    let swapped = piece.exchanged(reading.separator);
+    match swapped.cleaned(alloc, reading) {
         Ok(read) => Ok(read),
         Err(_) => Err(RowsAnswer::Memory),
     }
-}
-
-/// The records of a text, with the comma and the separator exchanged in each field. Most texts have no quote and no comma in
-/// a field: then there is nothing to exchange.
-fn exchanged_back(piece: Piece, separator: u8, bytes: &[u8]) -> Piece
-    requires { piece ≡ records_of bytes.now }
-    ensures { result ≡ map (map (map (exchanged separator))) (records_of bytes.now) }
-{
-    if separator == b',' {
-        return piece;
-    }
-    if !has_either(without_mark(bytes), separator) {
-        return piece;
-    }
-    piece.exchanged(separator)
-}
-
-/// Whether a text has a quote, or this byte.
-fn has_either(text: &[u8], separator: u8) -> bool
-    ensures quote { result ≡ false → NoQuote text.now }
-    ensures other { result ≡ false → NoByte separator text.now }
-{
-    memchr(b'"', text).is_some() || memchr(separator, text).is_some()
 }

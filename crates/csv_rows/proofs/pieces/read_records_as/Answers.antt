@@ -1,5 +1,5 @@
 use Rattle.std.proofs.Common.{◌≡◌, ◌<◌, ◌∙◌, ℕ, List, length, map, ap, arith}
-use Rattle.csv_rows.specs.Readings.{as_read, cleaned}
+use Rattle.csv_rows.specs.Readings.{as_read, cleaned, exchanged}
 use Rattle.csv_rows.specs.Records.{records_of}
 use Rattle.csv_rows.proofs.Cleaned.{as-length, cleaned-exchanged}
 use Rattle.csv_rows.proofs.pieces.read_records_as.Goals as goal
@@ -14,4 +14,5 @@ returns-in-Err-clause-too_many c = λ h.
 
 pub returns-in-Ok-clause-records : goal.returns-in-Ok-clause-records
 returns-in-Ok-clause-records c =
-    c.in-Ok-cleaned.ensures ∙ (ap (λ (rs : List (List (List ℕ))). map (map (cleaned c.args.reading.now)) rs) c.exchanged_back-piece.ensures ∙ cleaned-exchanged c.args.reading.now (records_of c.args.bytes.now))
+    let swapped = c.exchanged-swapped.ensures ∙ ap (λ (rs : List (List (List ℕ))). map (map (map (exchanged c.args.reading.now.separator))) rs) c.in-Ok.ensures.records in
+    c.in-Ok-cleaned.ensures ∙ (ap (λ (rs : List (List (List ℕ))). map (map (cleaned c.args.reading.now)) rs) swapped ∙ cleaned-exchanged c.args.reading.now (records_of c.args.bytes.now))
