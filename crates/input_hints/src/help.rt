@@ -31,7 +31,7 @@ header, and writes a table with a row for each group.
                    how many digits numbers may have after the point, up to 18:
                    2 for all columns, price=2,weight=3 for some; without it
                    numbers are integers
-  --separator BYTE what stands between fields: one character, such as ';', or
+  --separator BYTE what comes between fields: one character, such as ';', or
                    tab; a comma if it is not given. The table has commas
   --null TEXTS     one to eight texts between commas, as in NA,NULL,-: a field
                    that is one of them counts as empty
