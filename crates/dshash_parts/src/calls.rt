@@ -236,7 +236,8 @@ where
         }
     }
 
-    /// Gives the spare item of a caller back to the area, if it has one. One that the area refuses is dropped.
+    /// Gives the spare item of a caller back to the area, if it has one. One that the area refuses is dropped, and its
+    /// words are lost: `GaveBack` says which of the two it was.
     pub fn give_spare<R: Wait>(
         &self,
         rt: &R,

@@ -4,13 +4,12 @@ ghost use Rattle.std.specs.Prelude.{◌≡◌, ℕ, ◌≤◌, ◌^◌, [], leng
 ghost use mathlib.Core.Option.{some};
 ghost use lib.ListN.{get_elem?};
 ghost use Rattle.lock_book.specs.Shown.{mine_of, seen_of};
-ghost use Rattle.dsa_area.specs.Sizes.{chunk_size};
 ghost use Rattle.dsa_area.specs.Shown.{Belongs as AreaBelongs, IsArea, number_of as area_number};
 ghost use Rattle.dshash_core.specs.Key.{item_size};
 ghost use Rattle.dshash_parts.specs.Asked.{name_of, state_of};
 ghost use Rattle.dshash_parts.specs.Tables.{IsTable, key_words_of, item_of, AreAll, callers_of};
-ghost use Rattle.dshash_parts.specs.Traces.{Got, Gave};
-ghost use Rattle.dshash_parts.specs.Opening.{Asks, AreSlices, HaveWords, IsNoTable, opens_from};
+ghost use Rattle.dshash_parts.specs.Traces.{Got};
+ghost use Rattle.dshash_parts.specs.Opening.{Asks, AreSlices, HaveWords, GaveSlices, IsNoTable, opens_from};
 
 use crate::numbered::Numbered;
 use crate::requests::{ask, give};
@@ -48,7 +47,7 @@ fn give_slices<R: Wait>(
     requires slices { AreSlices r.now slices.items }
     ensures own { AreaBelongs area.now apass.new }
     ensures caller { area_number apass.new ≡ area_number apass.old }
-    ensures gave { Asks area.now apass.old apass.new (replicate (length slices.items) (Gave (chunk_size 8))) }
+    ensures gave { GaveSlices area.now apass.old apass.new (length slices.items) }
 {
     while let Some(slice) = slices.pop() {
         give(rt, area, r, apass, slice);
