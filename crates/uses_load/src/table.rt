@@ -4,7 +4,7 @@ ghost use Rattle.std.specs.Prelude.{◌≡◌, ℕ, ◌+◌, ◌^◌, ◌<◌, �
 ghost use mathlib.Core.Option.{some};
 ghost use lib.ListN.{get_elem?};
 ghost use Rattle.dsa_area.specs.Shown.{Belongs as AreaBelongs, IsArea};
-ghost use Rattle.dshash_parts.specs.Tables.{IsSpare, IsTable, Belongs, key_words_of};
+ghost use Rattle.dshash_parts.specs.Tables.{IsHome, IsSpare, IsTable, Belongs, key_words_of};
 ghost use Rattle.uses_load.specs.Passes.{AreBoth, HasBoth};
 
 use crate::area::area_for;
@@ -82,6 +82,7 @@ pub(crate) fn table_for<R: Wait>(
     requires others { others ≤ 64 }
     ensures area { IfOk result (λ t. IsArea t.0 t.1) }
     ensures table { IfOk result (λ t. IsTable t.0 t.2) }
+    ensures home { IfOk result (λ t. IsHome t.1 t.2) }
     ensures keys { IfOk result (λ t. key_words_of t.2 ≡ 1) }
     ensures first { IfOk result (λ t. HasBoth t.2 t.1 t.3) }
     ensures rest { IfOk result (λ t. AreBoth t.2 t.1 t.4.items) }
@@ -121,6 +122,7 @@ fn replies<R: Wait>(
     requires table { IsTable r.now table.now }
     requires keys { key_words_of table.now ≡ 1 }
     requires area { IsArea r.now area.now }
+    requires home { IsHome area.now table.now }
     requires own { HasBoth table.now area.now passes.old }
     requires spare { IsSpare r.now table.now spare.old }
     ensures own { HasBoth table.now area.now passes.new }
@@ -156,6 +158,7 @@ fn put_next<R: Wait>(
     requires table { IsTable r.now table.now }
     requires keys { key_words_of table.now ≡ 1 }
     requires area { IsArea r.now area.now }
+    requires home { IsHome area.now table.now }
     requires own { HasBoth table.now area.now passes.old }
     requires spare { IsSpare r.now table.now spare.old }
     requires few { at < 2 ^ 32 }
@@ -197,6 +200,7 @@ fn puts<R: Wait>(
     requires table { IsTable r.now table.now }
     requires keys { key_words_of table.now ≡ 1 }
     requires area { IsArea r.now area.now }
+    requires home { IsHome area.now table.now }
     requires own { HasBoth table.now area.now passes }
     requires few { calls ≤ 2 ^ 32 }
     ensures { result ≤ calls }
@@ -234,7 +238,7 @@ pub fn puts_load<R: Threads + Wait + Sync>(
         rt,
         passes,
         &|own: Passes| -> u64
-            requires { IsTable here.now shared.now × (key_words_of shared.now ≡ 1) × IsArea here.now shared_area.now × HasBoth shared.now shared_area.now own × (calls ≤ 2 ^ 32) }
+            requires { IsTable here.now shared.now × (key_words_of shared.now ≡ 1) × IsArea here.now shared_area.now × IsHome shared_area.now shared.now × HasBoth shared.now shared_area.now own × (calls ≤ 2 ^ 32) }
         { puts(rt, shared, here, shared_area, own, calls, most) },
     )?;
     Ok(sum_of(new.as_slice()))
