@@ -263,7 +263,17 @@ fn puts<R: Wait>(
     let mut spare = None;
     let mut new = 0;
     for at in 0..calls {
-        if put_next(rt, table, r, area, &mut passes, &mut spares, &mut spare, at, most) {
+        if put_next(
+            rt,
+            table,
+            r,
+            area,
+            &mut passes,
+            &mut spares,
+            &mut spare,
+            at,
+            most,
+        ) {
             new += 1;
         }
     }
