@@ -1,5 +1,5 @@
 -- A call of a table by a caller that takes its spare item from a list: what the list gave, and then the call.
-use Rattle.std.specs.Prelude.{◌≡◌, ℕ, Bool, List, Option, Some, None, is_some}
+use Rattle.std.specs.Prelude.{◌≡◌, ℕ, List, Option, Some, None, is_some}
 use Rattle.atomic_table.specs.Seated.{TableId}
 use Rattle.region_words.specs.declared.chunk.Chunk.{Chunk}
 use Rattle.lock_book.specs.declared.kept.Kept.{Ghosts}
