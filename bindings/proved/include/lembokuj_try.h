@@ -385,6 +385,8 @@ int32_t lk_raw_table_new(uint32_t callers, uint64_t words, lk_table_try *first);
 int32_t lk_raw_table_share(uint64_t words, lk_table_try *from, lk_table_try *next);
 int32_t lk_raw_table_put(lk_table_try *table, uint64_t key, uint64_t word, uint64_t *old);
 int32_t lk_raw_table_add(lk_table_try *table, uint64_t key, uint64_t more, uint64_t *old);
+int32_t lk_raw_table_put_absent(lk_table_try *table, uint64_t key, uint64_t word, uint64_t *old);
+int32_t lk_raw_table_compare_and_swap(lk_table_try *table, uint64_t key, uint64_t expected, uint64_t word, uint64_t *old);
 int32_t lk_raw_table_get(lk_table_try *table, uint64_t key, uint64_t *word);
 int32_t lk_raw_table_delete(lk_table_try *table, uint64_t key, uint64_t *old);
 int32_t lk_raw_table_close(lk_table_try *table);
@@ -415,6 +417,20 @@ static inline int lk_table_put_try(lk_table_try *table, uint64_t key, uint64_t v
 static inline int lk_table_add_try(lk_table_try *table, uint64_t key, uint64_t more, uint64_t *old) {
     uint64_t none = 0;
     return table ? lk_raw_table_add(table, key, more, old ? old : &none) : LK_NULL;
+}
+
+/* Puts a value under a key that is not there. LK_ABSENT: it was not, and has this value now. LK_OK: it was there, and keeps
+ * its value, which is *old (which may be NULL). The other codes as above. */
+static inline int lk_table_put_absent_try(lk_table_try *table, uint64_t key, uint64_t value, uint64_t *old) {
+    uint64_t none = 0;
+    return table ? lk_raw_table_put_absent(table, key, value, old ? old : &none) : LK_NULL;
+}
+
+/* If a key has the value `expected`, it has `value` then, in one step for all callers. LK_OK: the key was there, and *old is
+ * its value before: it was changed exactly if that is `expected`. LK_ABSENT: there is no such key. The other codes as
+ * above, but never LK_GROWN or LK_NO_SPACE. */
+static inline int lk_table_compare_and_swap_try(lk_table_try *table, uint64_t key, uint64_t expected, uint64_t value, uint64_t *old) {
+    return table && old ? lk_raw_table_compare_and_swap(table, key, expected, value, old) : LK_NULL;
 }
 
 /* LK_OK: *value is the key's. LK_ABSENT: there is no such key. LK_WOULD_BLOCK. */
@@ -452,6 +468,20 @@ static inline int lk_table_add_wait(lk_table_try *table, uint64_t key, uint64_t 
     unsigned tries = 0;
     int code;
     while (lk_table_again(code = lk_table_add_try(table, key, more, old), &tries)) continue;
+    return code;
+}
+
+static inline int lk_table_put_absent_wait(lk_table_try *table, uint64_t key, uint64_t value, uint64_t *old) {
+    unsigned tries = 0;
+    int code;
+    while (lk_table_again(code = lk_table_put_absent_try(table, key, value, old), &tries)) continue;
+    return code;
+}
+
+static inline int lk_table_compare_and_swap_wait(lk_table_try *table, uint64_t key, uint64_t expected, uint64_t value, uint64_t *old) {
+    unsigned tries = 0;
+    int code;
+    while (lk_table_again(code = lk_table_compare_and_swap_try(table, key, expected, value, old), &tries)) continue;
     return code;
 }
 
