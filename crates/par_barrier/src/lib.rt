@@ -14,6 +14,7 @@ mod close;
 mod history;
 mod laws;
 mod parties;
+mod trying;
 mod waiting;
 
 pub use answers::{Arrival, Arrived, BarrierAnswer, Departure, Left};
