@@ -53,7 +53,7 @@ int main(void) {
     IS(lk_barrier_look_try(&two, &told), LK_OK);
     IS(told.flag, 1);
 
-    /* Alone, it stays as the last one, or goes. */
+    /* By itself, it stays as the last one, or goes. */
     IS(lk_barrier_arrive_and_detach_except_last_try(&two, &told), LK_OK);
     IS(told.phase, 3);
     IS(told.flag, 1);

@@ -506,14 +506,14 @@ static inline int lk_table_delete_wait(lk_table_try *table, uint64_t key, uint64
 /* ---- Barriers: phases that end when all who take part have arrived ----
  *
  * Callers attach and detach at will. A phase ends when all who take part have arrived, and its end elects one of them. Let
- * all of them attach before the first one arrives: else that one ends a phase alone. */
+ * all of them attach before the first one arrives: else that one ends a phase by itself. */
 
 typedef struct lk_barrier_try {
     void *at;
     uint64_t full;
 } lk_barrier_try;
 
-/* What a call tells: the phase that is on, from 0 on, and 1 or 0, of which the calls say what it means. */
+/* What a call writes: the phase that is on, from 0 on, and 1 or 0, of which the calls say what it means. */
 typedef struct lk_phase {
     uint64_t phase;
     uint32_t flag;
