@@ -142,7 +142,7 @@ pub extern "C" fn lk_raw_table_delete(
     table.try_change(alloc, key, WordCall::Delete, old).number()
 }
 
-/// Tries to count the keys of a partition, from 0 to 127, which is written to `keys`.
+/// Tries to count the keys of a partition, from 0 to 127: their number is written to `keys`. One turn.
 #[unsafe(no_mangle)]
 pub extern "C" fn lk_raw_table_count(
     alloc: Global,
