@@ -4,7 +4,7 @@ use Rattle.std.specs.Prelude.{T}
 use Rattle.par_barrier.specs.declared.history.BarrierCall.{BarrierCall}
 use Rattle.par_barrier.specs.declared.history.BarrierCall.TheVariants as call
 use Rattle.par_barrier.specs.declared.history.BarrierReply.{BarrierReply}
-use Rattle.c_barrier.specs.Calls.{Answers, Closes, Fills, Makes, Opens, Shares, SharesOne, Told}
+use Rattle.c_barrier.specs.Calls.{Answers, Closes, Fills, Makes, Opens, Shares, SharesOne}
 use Rattle.c_barrier.specs.Made.{IsFirst, IsFurther}
 use Rattle.c_barrier.specs.Tries.{Tries}
 use Rattle.c_barrier.specs.declared.code.Code.{Code}
@@ -16,9 +16,9 @@ none_of None e = refl
 none_of (Some x) e = absurd (subst T (sym e) tt)
 
 -- the caller was taken out, tried, and put back
-pub makes : (old new : Option Share) (c : BarrierCall) (before after : Told) (code : Code) (s t : Share) (answer : Option BarrierReply) → old ≡ Some s → new ≡ Some t → Tries s t c answer → Answers answer before after code
-    → Makes old new c before after code
-makes old new c before after code s t answer was is tries told = subst (λ (o : Option Share). Makes o new c before after code) (sym was) (t, answer, is, tries, told)
+pub makes : (old new : Option Share) (c : BarrierCall) (phase flag phase' flag' : ℕ) (code : Code) (s t : Share) (answer : Option BarrierReply) → old ≡ Some s → new ≡ Some t → Tries s t c answer → Answers answer phase flag phase' flag' code
+    → Makes old new c phase flag phase' flag' code
+makes old new c phase flag phase' flag' code s t answer was is tries told = subst (λ (o : Option Share). Makes o new c phase flag phase' flag' code) (sym was) (t, answer, is, tries, told)
 
 -- the caller was taken out, left, and went
 pub closes : (old new : Option Share) (s t : Share) (reply : BarrierReply) → old ≡ Some s → new ≡ None → Tries s t call.Detach (Some reply) → Closes old new Done

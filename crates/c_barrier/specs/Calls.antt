@@ -1,36 +1,36 @@
 -- What a call does to a handle, by its code. A blank handle has None.
-use Rattle.std.specs.Prelude.{◌≡◌, ℕ, ◌⊎◌, Bool, true, false, cond, Option, None, Some, IsSome, Result, Ok, Err}
+use Rattle.std.specs.Prelude.{◌≡◌, ℕ, ◌⊎◌, Bool, cond, Option, None, Some, IsSome, Result, Ok, Err}
 use Rattle.par_barrier.specs.declared.history.BarrierCall.{BarrierCall}
 use Rattle.par_barrier.specs.declared.history.BarrierCall.TheVariants as call
 use Rattle.par_barrier.specs.declared.history.BarrierReply.{BarrierReply}
 use Rattle.par_barrier.specs.declared.history.BarrierReply.TheVariants.{Attached, Left, Released}
 use Rattle.par_barrier.specs.declared.history.BarrierReply.TheVariants as reply
 use Rattle.c_barrier.specs.Made.{IsFirst, IsFurther, IsRefused}
-use Rattle.c_barrier.specs.Tries.{Stays, Tries}
+use Rattle.c_barrier.specs.Tries.{Tries}
 use Rattle.c_barrier.specs.declared.code.Code.{Code}
 use Rattle.c_barrier.specs.declared.code.Code.TheVariants.{AlreadyIn, Blank, Done, InUse, NoMemory, NotIn, Twice, Waiting, WouldBlock}
 use Rattle.c_barrier.specs.declared.shared.Share.{Share}
 
--- the numbers that a call writes: the phase that is on, and 1 if the caller is elected, or if nobody takes part any more
-abbrev pub Told : Type 0
-Told = ℕ × ℕ
+-- 1 if it is so, and else 0
+abbrev pub one_if : Bool → ℕ
+one_if b = cond b 1 0
 
--- what an answer says by a code and by the numbers that are written. If there is none, or the caller has to wait, they
--- are as before
-abbrev pub Answers : Option BarrierReply → Told → Told → Code → Type 0
-Answers None before after code = (code ≡ WouldBlock) × (after ≡ before)
-Answers (Some reply.Waiting) before after code = (code ≡ Waiting) × (after ≡ before)
-Answers (Some (Attached p)) before after code = (code ≡ Done) × (after ≡ (p, 0))
-Answers (Some (Released p elected)) before after code = (code ≡ Done) × (after ≡ (p, cond elected 1 0))
-Answers (Some (Left p last)) before after code = (code ≡ Done) × (after ≡ (p, cond last 1 0))
-Answers (Some (reply.AlreadyIn p)) before after code = (code ≡ AlreadyIn) × (after ≡ (p, 0))
-Answers (Some (reply.NotIn p)) before after code = (code ≡ NotIn) × (after ≡ (p, 0))
-Answers (Some (reply.Twice p)) before after code = (code ≡ Twice) × (after ≡ (p, 0))
+-- what an answer says by a code and by two numbers that are written: the phase that is on, and 1 if the caller is elected,
+-- or if nobody takes part any more. If there is no answer, or the caller has to wait, they are as before
+abbrev pub Answers : Option BarrierReply → (phase flag phase' flag' : ℕ) → Code → Type 0
+Answers None phase flag phase' flag' code = (code ≡ WouldBlock) × (phase' ≡ phase) × (flag' ≡ flag)
+Answers (Some reply.Waiting) phase flag phase' flag' code = (code ≡ Waiting) × (phase' ≡ phase) × (flag' ≡ flag)
+Answers (Some (Attached p)) phase flag phase' flag' code = (code ≡ Done) × (phase' ≡ p) × (flag' ≡ 0)
+Answers (Some (Released p elected)) phase flag phase' flag' code = (code ≡ Done) × (phase' ≡ p) × (flag' ≡ one_if elected)
+Answers (Some (Left p last)) phase flag phase' flag' code = (code ≡ Done) × (phase' ≡ p) × (flag' ≡ one_if last)
+Answers (Some (reply.AlreadyIn p)) phase flag phase' flag' code = (code ≡ AlreadyIn) × (phase' ≡ p) × (flag' ≡ 0)
+Answers (Some (reply.NotIn p)) phase flag phase' flag' code = (code ≡ NotIn) × (phase' ≡ p) × (flag' ≡ 0)
+Answers (Some (reply.Twice p)) phase flag phase' flag' code = (code ≡ Twice) × (phase' ≡ p) × (flag' ≡ 0)
 
 -- a try of a call: a blank handle stays blank and has the code Blank
-abbrev pub Makes : Option Share → Option Share → BarrierCall → Told → Told → Code → Type 0
-Makes None new call before after code = (new ≡ None) × (code ≡ Blank) × (after ≡ before)
-Makes (Some s) new call before after code = (t : Share) × (answer : Option BarrierReply) × (new ≡ Some t) × Tries s t call answer × Answers answer before after code
+abbrev pub Makes : Option Share → Option Share → BarrierCall → (phase flag phase' flag' : ℕ) → Code → Type 0
+Makes None new c phase flag phase' flag' code = (new ≡ None) × (code ≡ Blank) × (phase' ≡ phase) × (flag' ≡ flag)
+Makes (Some s) new c phase flag phase' flag' code = (t : Share) × (answer : Option BarrierReply) × (new ≡ Some t) × Tries s t c answer × Answers answer phase flag phase' flag' code
 
 -- the caller leaves the barrier, if it takes part, and goes, and the handle is blank; or another caller is at the
 -- barrier, and it stays

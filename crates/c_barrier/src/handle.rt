@@ -3,7 +3,7 @@
 ghost use Rattle.std.specs.Prelude.{◌≡◌, Option, None, Some, IsSome, is_none, IfOk, IfErr};
 ghost use Rattle.std_alloc.specs.Box.{box_value};
 ghost use Rattle.std.specs.Option.{option_map};
-ghost use Rattle.c_barrier.specs.Calls.{Answers, Closes, Fills, Makes, Opens, Shares};
+ghost use Rattle.c_barrier.specs.Calls.{Answers, Closes, Fills, Makes, Opens, Shares, one_if};
 ghost use Rattle.c_barrier.specs.Owned.{value_code, tag_of, caller_owns};
 ghost use Rattle.c_barrier.specs.declared.shared.Share.{Share as TheShare};
 
@@ -130,7 +130,7 @@ impl Handle {
         phase: &mut u64,
         flag: &mut u32,
     ) -> Code
-        ensures { Makes self.old.value self.new.value call (phase.old, flag.old) (phase.new, flag.new) result }
+        ensures { Makes self.old.value self.new.value call phase.old flag.old phase.new flag.new result }
     {
         let Some(mut caller) = self.take(alloc) else {
             return Code::Blank;
@@ -158,23 +158,56 @@ impl Handle {
     }
 }
 
+/// Writes a phase, and 1 if it is so, and else 0.
+fn write(phase: &mut u64, flag: &mut u32, on: u64, so: bool)
+    ensures phase { phase.new ≡ on }
+    ensures flag { flag.new ≡ one_if so }
+{
+    *phase = on;
+    *flag = u32::from(so);
+}
+
+/// Writes the numbers of a reply, if it has them.
+fn told_reply(reply: BarrierReply, phase: &mut u64, flag: &mut u32) -> Code
+    ensures { Answers (Some reply) phase.old flag.old phase.new flag.new result }
+{
+    match reply {
+        BarrierReply::Waiting => Code::Waiting,
+        BarrierReply::Attached(on) => {
+            write(phase, flag, on, false);
+            Code::Done
+        }
+        BarrierReply::Released(on, elected) => {
+            write(phase, flag, on, elected);
+            Code::Done
+        }
+        BarrierReply::Left(on, last) => {
+            write(phase, flag, on, last);
+            Code::Done
+        }
+        BarrierReply::AlreadyIn(on) => {
+            write(phase, flag, on, false);
+            Code::AlreadyIn
+        }
+        BarrierReply::NotIn(on) => {
+            write(phase, flag, on, false);
+            Code::NotIn
+        }
+        BarrierReply::Twice(on) => {
+            write(phase, flag, on, false);
+            Code::Twice
+        }
+    }
+}
+
 /// Writes the numbers of an answer, if it has them.
 fn told(answer: Option<BarrierReply>, phase: &mut u64, flag: &mut u32) -> Code
-    ensures { Answers answer (phase.old, flag.old) (phase.new, flag.new) result }
+    ensures { Answers answer phase.old flag.old phase.new flag.new result }
 {
-    let (code, on, is) = match answer {
-        None => return Code::WouldBlock,
-        Some(BarrierReply::Waiting) => return Code::Waiting,
-        Some(BarrierReply::Attached(on)) => (Code::Done, on, 0),
-        Some(BarrierReply::Released(on, elected)) => (Code::Done, on, u32::from(elected)),
-        Some(BarrierReply::Left(on, last)) => (Code::Done, on, u32::from(last)),
-        Some(BarrierReply::AlreadyIn(on)) => (Code::AlreadyIn, on, 0),
-        Some(BarrierReply::NotIn(on)) => (Code::NotIn, on, 0),
-        Some(BarrierReply::Twice(on)) => (Code::Twice, on, 0),
-    };
-    *phase = on;
-    *flag = is;
-    code
+    match answer {
+        Some(reply) => told_reply(reply, phase, flag),
+        None => Code::WouldBlock,
+    }
 }
 
 /// Makes a barrier as `new_barrier` does, and puts its first caller into a blank handle.

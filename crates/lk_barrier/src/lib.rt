@@ -52,7 +52,7 @@ pub extern "C" fn lk_raw_barrier_attach(
     phase: &mut u64,
     flag: &mut u32,
 ) -> i32
-    ensures { (code : TheCode) × (result ≡ number_of code) × Makes barrier.old.value barrier.new.value verb.Attach (phase.old, flag.old) (phase.new, flag.new) code }
+    ensures { (code : TheCode) × (result ≡ number_of code) × Makes barrier.old.value barrier.new.value verb.Attach phase.old flag.old phase.new flag.new code }
 {
     barrier
         .try_call(alloc, BarrierCall::Attach, phase, flag)
@@ -67,7 +67,7 @@ pub extern "C" fn lk_raw_barrier_arrive(
     phase: &mut u64,
     flag: &mut u32,
 ) -> i32
-    ensures { (code : TheCode) × (result ≡ number_of code) × Makes barrier.old.value barrier.new.value verb.Arrive (phase.old, flag.old) (phase.new, flag.new) code }
+    ensures { (code : TheCode) × (result ≡ number_of code) × Makes barrier.old.value barrier.new.value verb.Arrive phase.old flag.old phase.new flag.new code }
 {
     barrier
         .try_call(alloc, BarrierCall::Arrive, phase, flag)
@@ -83,7 +83,7 @@ pub extern "C" fn lk_raw_barrier_look(
     phase: &mut u64,
     flag: &mut u32,
 ) -> i32
-    ensures { (code : TheCode) × (result ≡ number_of code) × Makes barrier.old.value barrier.new.value verb.Look (phase.old, flag.old) (phase.new, flag.new) code }
+    ensures { (code : TheCode) × (result ≡ number_of code) × Makes barrier.old.value barrier.new.value verb.Look phase.old flag.old phase.new flag.new code }
 {
     barrier
         .try_call(alloc, BarrierCall::Look, phase, flag)
@@ -98,7 +98,7 @@ pub extern "C" fn lk_raw_barrier_detach(
     phase: &mut u64,
     flag: &mut u32,
 ) -> i32
-    ensures { (code : TheCode) × (result ≡ number_of code) × Makes barrier.old.value barrier.new.value verb.Detach (phase.old, flag.old) (phase.new, flag.new) code }
+    ensures { (code : TheCode) × (result ≡ number_of code) × Makes barrier.old.value barrier.new.value verb.Detach phase.old flag.old phase.new flag.new code }
 {
     barrier
         .try_call(alloc, BarrierCall::Detach, phase, flag)
@@ -113,7 +113,7 @@ pub extern "C" fn lk_raw_barrier_arrive_and_detach(
     phase: &mut u64,
     flag: &mut u32,
 ) -> i32
-    ensures { (code : TheCode) × (result ≡ number_of code) × Makes barrier.old.value barrier.new.value verb.ArriveAndDetach (phase.old, flag.old) (phase.new, flag.new) code }
+    ensures { (code : TheCode) × (result ≡ number_of code) × Makes barrier.old.value barrier.new.value verb.ArriveAndDetach phase.old flag.old phase.new flag.new code }
 {
     barrier
         .try_call(alloc, BarrierCall::ArriveAndDetach, phase, flag)
@@ -129,7 +129,7 @@ pub extern "C" fn lk_raw_barrier_arrive_and_detach_except_last(
     phase: &mut u64,
     flag: &mut u32,
 ) -> i32
-    ensures { (code : TheCode) × (result ≡ number_of code) × Makes barrier.old.value barrier.new.value verb.ArriveAndDetachExceptLast (phase.old, flag.old) (phase.new, flag.new) code }
+    ensures { (code : TheCode) × (result ≡ number_of code) × Makes barrier.old.value barrier.new.value verb.ArriveAndDetachExceptLast phase.old flag.old phase.new flag.new code }
 {
     barrier
         .try_call(alloc, BarrierCall::ArriveAndDetachExceptLast, phase, flag)
