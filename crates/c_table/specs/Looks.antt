@@ -38,18 +38,17 @@ pub record Begins (before after front : List ℕ) : Type 0 where
   pub behind : drop (length front) after ≡ drop (length front) before
   pub room : length after ≡ length before
 
--- entries are written to two rows, their keys to the one and the words under them to the other, and counted; or one of
--- the rows is too short
-abbrev pub Writes : List (List ℕ × ℕ) → List ℕ → List ℕ → List ℕ → List ℕ → Code → ℕ → Type 0
-Writes entries keys words keys' words' Done n = (n ≡ length entries) × Begins keys keys' (keys_of entries) × Begins words words' (words_under entries)
-Writes entries keys words keys' words' ShortBuffer n = (n ≡ length entries) × ((length keys < n) ⊎ (length words < n)) × (keys' ≡ keys) × (words' ≡ words)
-Writes entries keys words keys' words' code n = ⊥
+-- these keys and words are written to two rows, and counted; or one of the rows is too short
+abbrev pub Writes : (found under keys words keys' words' : List ℕ) → Code → ℕ → Type 0
+Writes found under keys words keys' words' Done n = (n ≡ length found) × Begins keys keys' found × Begins words words' under
+Writes found under keys words keys' words' ShortBuffer n = (n ≡ length found) × ((length keys < n) ⊎ (length words < n)) × (keys' ≡ keys) × (words' ≡ words)
+Writes found under keys words keys' words' code n = ⊥
 
 -- nothing is written
-abbrev pub HasNothing : List ℕ → List ℕ → List ℕ → List ℕ → ℕ → Type 0
+abbrev pub HasNothing : (keys words keys' words' : List ℕ) → ℕ → Type 0
 HasNothing keys words keys' words' n = (keys' ≡ keys) × (words' ≡ words) × (n ≡ 0)
 
--- The partition was listed, each entry of its map once, by the last event of its history
+-- the partition was listed, each entry of its map once, by the last event of its history
 pub record IsListed (s t : Share) (partition : ℕ) (entries : List (List ℕ × ℕ)) : Type 0 where
   pub event : Turned stepped s.pass t.pass partition call.Lists (Listed (Some entries))
   pub all : ListsAll (map_at (seen_of t.pass) partition) entries
@@ -57,8 +56,8 @@ pub record IsListed (s t : Share) (partition : ℕ) (entries : List (List ℕ ×
 
 -- The partition was listed, and its entries were written, or the rows are too short; or there was no memory for them; or
 -- another caller had the partition; or there is none of this number
-abbrev pub Lists : Share → Share → ℕ → List ℕ → List ℕ → List ℕ → List ℕ → Code → ℕ → Type 0
+abbrev pub Lists : Share → Share → ℕ → (keys words keys' words' : List ℕ) → Code → ℕ → Type 0
 Lists s t partition keys words keys' words' WouldBlock n = OnlySees s t × Missed s.pass t.pass × HasNothing keys words keys' words' n
 Lists s t partition keys words keys' words' NoMemory n = OnlySees s t × Turned stepped s.pass t.pass partition call.Lists (Listed None) × HasNothing keys words keys' words' n
 Lists s t partition keys words keys' words' BadSize n = (t ≡ s) × (128 ≤ partition) × HasNothing keys words keys' words' n
-Lists s t partition keys words keys' words' code n = OnlySees s t × ((entries : List (List ℕ × ℕ)) × IsListed s t partition entries × Writes entries keys words keys' words' code n)
+Lists s t partition keys words keys' words' code n = OnlySees s t × ((entries : List (List ℕ × ℕ)) × IsListed s t partition entries × Writes (keys_of entries) (words_under entries) keys words keys' words' code n)

@@ -3,7 +3,6 @@
 
 ghost use Rattle.std.specs.Prelude.{◌≡◌, length, map, slice_index};
 ghost use Rattle.std.specs.List.{All};
-ghost use Rattle.dshash_core.specs.Listing.{pairs_of};
 ghost use Rattle.c_table.specs.Looks.{Counts, Lists, Writes};
 
 use crate::caller::Caller;
@@ -62,7 +61,7 @@ impl Caller {
 /// Writes entries to the fronts of two rows, if there is room for them, and counts them.
 fn write_entries(entries: &[Entry<Word>], keys: &mut [u64], words: &mut [u64]) -> (Code, u64)
     requires short { All (λ e. length e.key ≡ 1) entries.now }
-    ensures { Writes (pairs_of entries.now) keys.old words.old keys.new words.new result.0 result.1 }
+    ensures { Writes (map (λ e. slice_index e.key 0) entries.now) (map (λ e. e.state) entries.now) keys.old words.old keys.new words.new result.0 result.1 }
 {
     let count = entries.len();
     if keys.len() < count || words.len() < count {
