@@ -1,0 +1,55 @@
+-- What a listing wrote, of the entries as pairs.
+use Rattle.std.proofs.Common.{◌≡◌, ◌×◌, ℕ, List, [], ◌∷◌, Option, length, map, slice_index, refl, ap, subst}
+use Rattle.std.specs.List.{All}
+use Rattle.std.proofs.lemmas.List.Elements.{All-cons, All-head, All-nil, All-tail, All-weaker}
+use Rattle.dshash_core.specs.Cells.{partition_of}
+use Rattle.dshash_core.specs.Key.{hash_of}
+use Rattle.dshash_core.specs.Listing.{pairs_of}
+use Rattle.dshash_core.specs.declared.entries.Entry.{Entry}
+use Rattle.c_table.specs.Looks.{IsListed, Lists, OnlySees, Writes, keys_of, words_under}
+use Rattle.c_table.specs.declared.code.Code.{Code}
+use Rattle.c_table.specs.declared.code.Code.TheVariants.{Absent, BadCallers, BadSize, Blank, Done, Grown, InUse, NoMemory, NoSpace, ShortBuffer, WouldBlock}
+use Rattle.c_table.specs.declared.shared.Share.{Share}
+use Rattle.c_table.specs.declared.word.Word.{Word}
+use Rattle.c_table.specs.declared.word.WordCall.{WordCall}
+
+-- an entry of a table of words
+abbrev pub WordEntry : Type 0
+WordEntry = Entry Word ℕ WordCall (Option ℕ)
+
+keys_are : (es : List WordEntry) → map (λ (e : WordEntry). slice_index e.key 0) es ≡ keys_of (pairs_of es)
+keys_are [] = refl
+keys_are (e ∷ es) = ap (λ (l : List ℕ). slice_index e.key 0 ∷ l) (keys_are es)
+
+words_are : (es : List WordEntry) → map (λ (e : WordEntry). e.state) es ≡ words_under (pairs_of es)
+words_are [] = refl
+words_are (e ∷ es) = ap (λ (l : List ℕ). e.state ∷ l) (words_are es)
+
+-- keys of a table of keys of one word have one word
+pub one_word : (number words : ℕ) (pairs : List (List ℕ × ℕ)) → words ≡ 1 → All (λ p. (length p.0 ≡ words) × (partition_of (hash_of p.0) ≡ number)) pairs → All (λ p. length p.0 ≡ 1) pairs
+one_word number words pairs is all = subst (λ (n : ℕ). All (λ p. length p.0 ≡ n) pairs) is (All-weaker (λ (p : List ℕ × ℕ). (length p.0 ≡ words) × (partition_of (hash_of p.0) ≡ number)) (λ p. length p.0 ≡ words) (λ p h. h.0) pairs all)
+
+pub one_word_each : (es : List WordEntry) → All (λ (p : List ℕ × ℕ). length p.0 ≡ 1) (pairs_of es) → All (λ (e : WordEntry). length e.key ≡ 1) es
+one_word_each [] all = All-nil (λ (e : WordEntry). length e.key ≡ 1)
+one_word_each (e ∷ es) all =
+    All-cons (λ (x : WordEntry). length x.key ≡ 1) e es (All-head (λ (p : List ℕ × ℕ). length p.0 ≡ 1) (e.key, e.state) (pairs_of es) all)
+    (one_word_each es (All-tail (λ (p : List ℕ × ℕ). length p.0 ≡ 1) (e.key, e.state) (pairs_of es) all))
+
+-- the entries of a listing were written, or a row is too short
+pub listed : (s t : Share) (partition : ℕ) (es : List WordEntry) (keys words keys' words' : List ℕ) (code : Code) (n : ℕ) → OnlySees s t → IsListed s t partition (pairs_of es)
+    → Writes (map (λ (e : WordEntry). slice_index e.key 0) es) (map (λ (e : WordEntry). e.state) es) keys words keys' words' code n → Lists s t partition keys words keys' words' code n
+listed s t partition es keys words keys' words' code n sees all wrote =
+    by code (subst (λ (w : List ℕ). Writes (keys_of (pairs_of es)) w keys words keys' words' code n) (words_are es) (subst (λ (k : List ℕ). Writes k (map (λ (e : WordEntry). e.state) es) keys words keys' words' code n) (keys_are es) wrote))
+  where
+    by : (code : Code) → Writes (keys_of (pairs_of es)) (words_under (pairs_of es)) keys words keys' words' code n → Lists s t partition keys words keys' words' code n
+    by Done w = (sees, (pairs_of es, all, w))
+    by ShortBuffer w = (sees, (pairs_of es, all, w))
+    by WouldBlock w = absurd w
+    by Absent w = absurd w
+    by Grown w = absurd w
+    by Blank w = absurd w
+    by NoMemory w = absurd w
+    by BadSize w = absurd w
+    by BadCallers w = absurd w
+    by NoSpace w = absurd w
+    by InUse w = absurd w
