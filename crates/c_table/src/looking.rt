@@ -1,15 +1,16 @@
 //! Calls at a whole partition: how many keys it has, and which. A program that wants those of the table goes through all
 //! partitions, each at its own moment.
 
-ghost use Rattle.std.specs.Prelude.{◌≡◌, length, map, slice_index};
+ghost use Rattle.std.specs.Prelude.{◌≡◌, length, map, slice_index, IfErr, IfOk};
 ghost use Rattle.std.specs.List.{All};
-ghost use Rattle.c_table.specs.Looks.{Counts, Lists, Writes};
+ghost use Rattle.c_table.specs.Looks.{Counts, HasNothing, Lists, Writes};
+ghost use Rattle.c_table.specs.declared.code.Code.TheVariants.{NoMemory};
 
 use crate::caller::Caller;
 use crate::code::Code;
 use crate::word::Word;
 use dshash_core::{Entry, PARTITIONS};
-use std::alloc::Global;
+use std::alloc::{AllocError, Global};
 
 impl Caller {
     /// The number of the keys of a partition. One turn at it, which reads one number.
@@ -51,10 +52,25 @@ impl Caller {
             .table
             .try_list(alloc, &shared.region, &mut share.pass, partition)
         {
-            Ok(Ok(entries)) => write_entries(entries.as_slice(), keys, words),
-            Ok(Err(_)) => (Code::NoMemory, 0),
+            Ok(listed) => write_listed(listed, keys, words),
             Err(_) => (Code::WouldBlock, 0),
         }
+    }
+}
+
+/// Writes what a listing found, if it had memory for that.
+fn write_listed(
+    listed: Result<Vec<Entry<Word>>, AllocError>,
+    keys: &mut [u64],
+    words: &mut [u64],
+) -> (Code, u64)
+    requires short { IfOk listed (λ v. All (λ e. length e.key ≡ 1) v.items) }
+    ensures some { IfOk listed (λ v. Writes (map (λ e. slice_index e.key 0) v.items) (map (λ e. e.state) v.items) keys.old words.old keys.new words.new result.0 result.1) }
+    ensures none { IfErr listed (λ _. (result.0 ≡ NoMemory) × HasNothing keys.old words.old keys.new words.new result.1) }
+{
+    match listed {
+        Ok(entries) => write_entries(entries.as_slice(), keys, words),
+        Err(_) => (Code::NoMemory, 0),
     }
 }
 
