@@ -129,7 +129,7 @@ STREAMS = [
         "--agg sum:price --decimals 1",
         b"price\n1.5\n1.50\n",
         b"",
-        b"parstream: row 2: column price is not a decimal with at most 1 place\n",
+        b'parstream: row 2: column "price" is not a decimal with at most 1 place: "1.50"\n',
         1,
     ),
 ]

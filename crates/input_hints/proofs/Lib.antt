@@ -1,5 +1,3 @@
 mod Begun
-mod Fronts
 mod Peeks
-mod Texts
 mod Words

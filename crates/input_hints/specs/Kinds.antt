@@ -28,6 +28,18 @@ is_zip bytes = begins bytes (0x50 ∷ 0x4b ∷ 0x03 ∷ 0x04 ∷ []) || begins b
 abbrev pub is_parquet : List ℕ → Bool
 is_parquet bytes = begins bytes (0x50 ∷ 0x41 ∷ 0x52 ∷ 0x31 ∷ 0x15 ∷ [])
 
+-- bzip2: its magic number, and past the size of its blocks the first two bytes of the number of a block
+abbrev pub is_bzip2 : List ℕ → Bool
+is_bzip2 bytes = begins bytes (0x42 ∷ 0x5a ∷ 0x68 ∷ []) && ((slice_index bytes 4 == 0x31) && (slice_index bytes 5 == 0x41))
+
+-- JSON: an object, or a list of objects, with a first name. RFC 4180 has no quote in a field that does not begin with one
+abbrev pub is_json : List ℕ → Bool
+is_json bytes = begins bytes (codes "{\"") || begins bytes (codes "[{\"")
+
+-- a byte-order mark of UTF-32, in either order; the one begins with that of UTF-16
+abbrev pub has_long_mark : List ℕ → Bool
+has_long_mark bytes = begins bytes (0xff ∷ 0xfe ∷ 0x00 ∷ 0x00 ∷ []) || begins bytes (0x00 ∷ 0x00 ∷ 0xfe ∷ 0xff ∷ [])
+
 -- a byte-order mark of UTF-16, in either order
 abbrev pub has_mark : List ℕ → Bool
 has_mark bytes = begins bytes (0xff ∷ 0xfe ∷ []) || begins bytes (0xfe ∷ 0xff ∷ [])
@@ -48,9 +60,12 @@ kind_in bytes =
     else (if is_zstd bytes then Some kind.Zstd
     else (if is_zip bytes then Some kind.Zip
     else (if is_parquet bytes then Some kind.Parquet
+    else (if is_bzip2 bytes then Some kind.Bzip2
+    else (if is_json bytes then Some kind.Json
+    else (if has_long_mark bytes then Some kind.Utf32
     else (if has_mark bytes then Some kind.Utf16
     else (if is_low_first bytes then Some kind.Utf16Low
-    else (if is_high_first bytes then Some kind.Utf16High else None)))))))
+    else (if is_high_first bytes then Some kind.Utf16High else None))))))))))
 
 -- what is said of it, with a command that makes text of it
 abbrev pub kind_text : Kind → List ℕ
@@ -59,6 +74,9 @@ kind_text kind.Xz = codes "the input is compressed by xz: xzcat FILE | parstream
 kind_text kind.Zstd = codes "the input is compressed by zstd: zstdcat FILE | parstream .."
 kind_text kind.Zip = codes "the input is a zip archive: unzip -p FILE | parstream .., or save a spreadsheet as CSV"
 kind_text kind.Parquet = codes "the input is Parquet: duckdb -csv -c \"FROM 'FILE'\" | parstream .."
+kind_text kind.Bzip2 = codes "the input is compressed by bzip2: bzcat FILE | parstream .."
+kind_text kind.Json = codes "the input is JSON: duckdb -csv -c \"FROM read_json('FILE')\" | parstream .."
+kind_text kind.Utf32 = codes "the input is UTF-32: iconv -f UTF-32 -t UTF-8 FILE | parstream .."
 kind_text kind.Utf16 = codes "the input is UTF-16: iconv -f UTF-16 -t UTF-8 FILE | parstream .."
 kind_text kind.Utf16Low = codes "the input is UTF-16: iconv -f UTF-16LE -t UTF-8 FILE | parstream .."
 kind_text kind.Utf16High = codes "the input is UTF-16: iconv -f UTF-16BE -t UTF-8 FILE | parstream .."

@@ -2,5 +2,4 @@ pub mod Help
 pub mod Kinds
 pub mod Peeking
 pub mod Refused
-pub mod Shown
 pub mod Wrong

@@ -1,6 +1,6 @@
 -- What is said of words that are no query of parstream.
 use Rattle.std.specs.Prelude.{[], ◌++◌, ◌∷◌, ℕ, List, codes, if◌then◌else◌, length, nat_lt, slice_index_or}
-use Rattle.input_hints.specs.Shown.{shown_text}
+use Rattle.shown_text.specs.Shown.{shown_text}
 use Rattle.input_hints.specs.Wrong.{expected_text, wrong_in}
 use Rattle.input_hints.specs.declared.wrong.Wrong.{Wrong}
 

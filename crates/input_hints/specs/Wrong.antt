@@ -1,5 +1,5 @@
 -- The first word of a command line of parstream that is not understood.
-use Rattle.std.specs.Prelude.{[], ◌==◌, ◌||◌, ◌&&◌, ◌+◌, ◌∷◌, ℕ, Bool, true, false, not, zero, suc, List, Option, None, Some, bytes_eq, codes, if◌then◌else◌, is_some, length, min, slice_index_or, take}
+use Rattle.std.specs.Prelude.{[], ◌==◌, ◌||◌, ◌&&◌, ◌+◌, ◌-◌, ◌∷◌, ℕ, Bool, true, false, not, zero, suc, List, Option, None, Some, bytes_eq, codes, if◌then◌else◌, is_some, length, min, slice_index_or, take}
 use Rattle.std.specs.List.{before_first, list_any}
 use Rattle.plan_spec.specs.Query.{stream_query_of}
 use Rattle.input_hints.specs.declared.wrong.Expected.{Expected}
@@ -79,11 +79,20 @@ abbrev pub wrong_word : List (List ℕ) → ℕ → Option Name → Wrong
 wrong_word words count None = record { at = count; expected = may.Name }
 wrong_word words count (Some name) = wrong_option words count name
 
+-- the word before a place is the name of an option, so the word at that place is its value
+abbrev pub is_value : List (List ℕ) → ℕ → Bool
+is_value words at = not (at == 0) && is_some (name_in (slice_index_or words (at - 1) []))
+
+-- the last of some words that are understood is `--`, after which there may be no other; it may also be the value of an option
+abbrev pub is_ended : List (List ℕ) → ℕ → Bool
+is_ended words count = not (count == 0) && (bytes_eq (slice_index_or words (count - 1) []) (codes "--") && not (is_value words (count - 1)))
+
 -- what is wrong after some words that are understood: if there are no others the aggregates are missing
 abbrev pub wrong_after : List (List ℕ) → ℕ → Wrong
 wrong_after words count =
     if count == length words then record { at = count; expected = may.Items }
-    else wrong_word words count (name_of (slice_index_or words count []))
+    else (if is_ended words count then record { at = count; expected = may.Nothing }
+    else wrong_word words count (name_of (slice_index_or words count [])))
 
 -- the first word that is not understood, of words that are no query
 abbrev pub wrong_in : List (List ℕ) → Wrong
@@ -105,3 +114,4 @@ expected_text may.Name = codes "the options are --group, --agg, --where, --decim
 expected_text may.Other = codes "this option may be given once"
 expected_text (may.Value name) = values_text name
 expected_text may.Items = codes "--agg ITEMS is missing"
+expected_text may.Nothing = codes "no word may come after --"

@@ -1,7 +1,7 @@
 //! Files that are no comma-separated text, by their first bytes.
 
-ghost use Rattle.std.specs.Prelude.{◌≡◌};
-ghost use Rattle.input_hints.specs.Kinds.{has_mark, is_gzip, is_high_first, is_low_first, is_parquet, is_xz, is_zip, is_zstd, kind_in, kind_text};
+ghost use Rattle.std.specs.Prelude.{◌≡◌, slice_index};
+ghost use Rattle.input_hints.specs.Kinds.{has_long_mark, has_mark, is_bzip2, is_gzip, is_high_first, is_json, is_low_first, is_parquet, is_xz, is_zip, is_zstd, kind_in, kind_text};
 
 /// What a file is.
 #[derive(Clone, Copy, Debug, PartialEq, Eq)]
@@ -12,6 +12,11 @@ pub enum Kind {
     /// An archive, which an `.xlsx` file is too.
     Zip,
     Parquet,
+    Bzip2,
+    /// An object, which may be the first of several, or a list of objects.
+    Json,
+    /// With a byte-order mark.
+    Utf32,
     /// With a byte-order mark.
     Utf16,
     /// With no mark, the lower byte of each unit first.
@@ -35,6 +40,11 @@ impl Kind {
             Kind::Parquet => {
                 "the input is Parquet: duckdb -csv -c \"FROM 'FILE'\" | parstream .."
             }
+            Kind::Bzip2 => "the input is compressed by bzip2: bzcat FILE | parstream ..",
+            Kind::Json => {
+                "the input is JSON: duckdb -csv -c \"FROM read_json('FILE')\" | parstream .."
+            }
+            Kind::Utf32 => "the input is UTF-32: iconv -f UTF-32 -t UTF-8 FILE | parstream ..",
             Kind::Utf16 => "the input is UTF-16: iconv -f UTF-16 -t UTF-8 FILE | parstream ..",
             Kind::Utf16Low => {
                 "the input is UTF-16: iconv -f UTF-16LE -t UTF-8 FILE | parstream .."
@@ -60,6 +70,12 @@ pub fn kind_of(bytes: &[u8]) -> Option<Kind>
         Some(Kind::Zip)
     } else if is_parquet(bytes) {
         Some(Kind::Parquet)
+    } else if is_bzip2(bytes) {
+        Some(Kind::Bzip2)
+    } else if is_json(bytes) {
+        Some(Kind::Json)
+    } else if has_long_mark(bytes) {
+        Some(Kind::Utf32)
     } else if has_mark(bytes) {
         Some(Kind::Utf16)
     } else if is_low_first(bytes) {
@@ -101,6 +117,38 @@ fn is_parquet(bytes: &[u8]) -> bool
     ensures { result ≡ is_parquet bytes.now }
 {
     bytes.starts_with(&[0x50, 0x41, 0x52, 0x31, 0x15])
+}
+
+/// Whether it is compressed by bzip2, and not empty.
+fn is_bzip2(bytes: &[u8]) -> bool
+    ensures { result ≡ is_bzip2 bytes.now }
+{
+    bytes.starts_with(&[0x42, 0x5a, 0x68])
+        && (byte_at(bytes, 4) == 0x31 && byte_at(bytes, 5) == 0x41)
+}
+
+/// The byte at a place, or 0 past the end.
+fn byte_at(bytes: &[u8], at: usize) -> u8
+    ensures { result ≡ slice_index bytes.now at }
+{
+    match bytes.get(at) {
+        Some(byte) => *byte,
+        None => 0,
+    }
+}
+
+/// Whether it is JSON: a quote comes right after the first braces, as it does in no record.
+fn is_json(bytes: &[u8]) -> bool
+    ensures { result ≡ is_json bytes.now }
+{
+    bytes.starts_with(b"{\"") || bytes.starts_with(b"[{\"")
+}
+
+/// Whether it begins with a byte-order mark of UTF-32.
+fn has_long_mark(bytes: &[u8]) -> bool
+    ensures { result ≡ has_long_mark bytes.now }
+{
+    bytes.starts_with(&[0xff, 0xfe, 0x00, 0x00]) || bytes.starts_with(&[0x00, 0x00, 0xfe, 0xff])
 }
 
 /// Whether it begins with a byte-order mark of UTF-16.

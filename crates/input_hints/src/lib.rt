@@ -3,7 +3,6 @@
 
 #![tactic(auto)]
 
-mod escaped;
 mod front;
 mod help;
 mod kind;
@@ -11,7 +10,6 @@ mod peeked;
 mod refused;
 mod wrong;
 
-pub use escaped::{MOST_SHOWN, shown};
 pub use help::{Asked, HELP, VERSION, asked_of, tell};
 pub use kind::{Kind, kind_of};
 pub use peeked::Peeked;

@@ -13,11 +13,11 @@ ghost use Rattle.input_hints.specs.Refused.{line, place_text, refused_text, wron
 ghost use Rattle.input_hints.specs.Wrong.{wrong_in};
 ghost use Rattle.input_hints.specs.declared.kind.Kind.{Kind};
 
-use crate::escaped::put_shown;
 use crate::peeked::Peeked;
 use crate::wrong::{Wrong, word_at, wrong_word};
 use answer_text::{MISUSED, NO_MEMORY, READ_FAULT, write_pieces};
 use par_io::{Sink, Source};
+use shown_text::put_shown;
 use std::alloc::{AllocError, Global};
 
 /// Of words that are no query of `parstream` it tells `err` the first that is not understood, and what may come there, and

@@ -9,7 +9,7 @@ ghost use Rattle.std.specs.Prelude.{◌≡◌, ◌<◌, ◌≤◌, ◌∷◌, []
 ghost use Rattle.std.specs.List.{list_any, position_or_len};
 ghost use Rattle.answer_text.specs.Words.{texts};
 ghost use Rattle.plan_spec.specs.Query.{stream_query_of};
-ghost use Rattle.input_hints.specs.Wrong.{expected_text, front_of, is_begun, is_equals, is_named, may_repeat, name_of, name_text, understood, values_text, wrong_after, wrong_in, wrong_option};
+ghost use Rattle.input_hints.specs.Wrong.{expected_text, front_of, is_begun, is_ended, is_equals, is_named, is_value, may_repeat, name_in, name_of, name_text, understood, values_text, wrong_after, wrong_in, wrong_option};
 
 use plan_spec::{Plan, PlanAnswer};
 use std::alloc::{AllocError, Global};
@@ -38,6 +38,8 @@ pub enum Expected {
     Value(Name),
     /// `--agg` with its value, which is missing.
     Items,
+    /// No word, after `--`.
+    Nothing,
 }
 
 /// Which word is not understood: its place among the words, counted from 0, or their number if one is missing after them.
@@ -127,6 +129,12 @@ fn wrong_after(words: &[String], understood: usize) -> Wrong
             expected: Expected::Items,
         };
     }
+    if is_ended(words, understood) {
+        return Wrong {
+            at: understood,
+            expected: Expected::Nothing,
+        };
+    }
     match name_of(word_at(words, understood)) {
         None => Wrong {
             at: understood,
@@ -134,6 +142,22 @@ fn wrong_after(words: &[String], understood: usize) -> Wrong
         },
         Some(name) => wrong_option(words, understood, name),
     }
+}
+
+/// Whether the last of the words that are understood is `--`, after which there may be no other.
+fn is_ended(words: &[String], understood: usize) -> bool
+    requires { understood ≤ length words.now }
+    ensures { result ≡ is_ended (texts words.now) understood }
+{
+    understood != 0 && (word_at(words, understood - 1) == "--" && !is_value(words, understood - 1))
+}
+
+/// Whether the word at a place is the value of an option: the one before it is an option's name.
+fn is_value(words: &[String], at: usize) -> bool
+    requires { at < length words.now }
+    ensures { result ≡ is_value (texts words.now) at }
+{
+    at != 0 && name_in(word_at(words, at - 1)).is_some()
 }
 
 /// What is wrong at a word that begins with the name of an option, after so many words that are understood.
@@ -201,16 +225,22 @@ fn has_name(name: Name, words: &[String]) -> bool
 fn name_of(word: &str) -> Option<Name>
     ensures { result ≡ name_of word.now }
 {
-    let front = front(word);
-    if front == "--group" {
+    name_in(front(word))
+}
+
+/// The option of this name.
+fn name_in(text: &str) -> Option<Name>
+    ensures { result ≡ name_in text.now }
+{
+    if text == "--group" {
         Some(Name::Group)
-    } else if front == "--agg" {
+    } else if text == "--agg" {
         Some(Name::Agg)
-    } else if front == "--where" {
+    } else if text == "--where" {
         Some(Name::Where)
-    } else if front == "--workers" {
+    } else if text == "--workers" {
         Some(Name::Workers)
-    } else if front == "--decimals" {
+    } else if text == "--decimals" {
         Some(Name::Decimals)
     } else {
         None
@@ -292,6 +322,7 @@ impl Expected {
             Expected::Other => "this option may be given once",
             Expected::Value(name) => name.values(),
             Expected::Items => "--agg ITEMS is missing",
+            Expected::Nothing => "no word may come after --",
         }
     }
 }

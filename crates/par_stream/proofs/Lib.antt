@@ -1,4 +1,5 @@
 mod Batches
+mod Found
 mod Refusals
 mod Statuses
 mod Streams

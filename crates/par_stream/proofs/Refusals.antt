@@ -1,13 +1,11 @@
 -- A row that is refused in a window, among all rows of a source.
 use Rattle.std.proofs.Common.{◌≡◌, ◌<◌, ◌≤◌, ◌+◌, ◌-◌, ◌^◌, ◌++◌, ◌⊎◌, ◌∙◌, inl, inr, ℕ, zero, suc, Bool, true, false, List, [], ◌∷◌, Option, None, Some, IfSome, All, length, take, refl, ap, sym, subst, arith, append-nil, length-append}
 use Rattle.std.specs.Prelude.{string_bytes}
-use Rattle.std.proofs.lemmas.List.{get_or-append-add, get_or_append_left}
-use Rattle.std.proofs.lemmas.Grind.{get_or_after_one}
 use Rattle.std.proofs.lemmas.List.Elements.{All-append, All-same}
 use Rattle.csv_rows.specs.Records.{record_at, records_of}
-use Rattle.par_model.specs.Named.{missing_name}
+use Rattle.par_model.specs.Named.{bound_plan, missing_name}
 use Rattle.par_model.specs.Columns.{HasColumns}
-use Rattle.par_model.specs.Outcome.{Refused, Table as IsTable, by_missing, by_refused}
+use Rattle.par_model.specs.Outcome.{NoColumn, Refused, Table as IsTable, by_missing, by_refused}
 use Rattle.par_model.specs.Plan.{Plan}
 use Rattle.par_model.specs.Refuse.{refusal, refused_rows}
 use Rattle.par_model.specs.declared.refusal.Refusal.{Refusal}
@@ -18,14 +16,16 @@ use Rattle.plan_spec.specs.Query.{Query}
 use Rattle.row_blocks.specs.Blocks.{Table}
 use Rattle.row_windows.specs.Stretch.{Stretch}
 use Rattle.split_run.specs.Causes.{IsFirstCause, IsLow}
-use Rattle.split_run.specs.Pieces.{AreUnder, HaveColumns}
+use Rattle.split_run.specs.Pieces.{AreUnder, HaveColumns, rows_of}
 use Rattle.table_query.specs.Refused.{refused_in}
 use Rattle.table_query.proofs.RefusedRows.{refused_first, refused_in-none}
 use Rattle.par_stream.specs.Outcome.{outcome, outcome_over}
 use Rattle.par_stream.specs.Reading.{Begins, HasAll, IsBound, Reaches}
-use Rattle.par_stream.specs.Stops.{IsRefusedRow, Restates, Tells}
+use Rattle.par_stream.specs.Said.{row_says}
+use Rattle.par_stream.specs.Stops.{IsRefusedRow, Restates, SaysMissing, Tells}
 use Rattle.par_stream.specs.declared.stop.Stop.{Stop}
 use Rattle.par_stream.specs.declared.stop.Stop.TheVariants as stop
+use Rattle.par_stream.proofs.Found.{row_there}
 
 pub begins : (from left : Option (List ℕ)) (records : Table) (rest : List ℕ) (is_last : Bool) → Reaches from left records rest is_last → Begins from records
 begins None left records rest is_last r = tt
@@ -54,14 +54,19 @@ module _ (query : Query) where
   none_tells None all = tt
   none_tells (Some bytes) all = ap (outcome query.plan) all
 
+  lacks : (from : Option (List ℕ)) (records : Table) (name : List ℕ) → Begins from records → 0 < length records → missing_name (record_at records 0) query.plan ≡ Some name
+      → IfSome from (λ bytes. (outcome_over query.plan bytes ≡ NoColumn name) × (record_at (records_of bytes) 0 ≡ record_at records 0))
+  lacks None records name b some m = tt
+  lacks (Some bytes) [] name b some m = absurd (omega (arith, some))
+  lacks (Some bytes) (header ∷ rows) name b some m =
+      (ap (outcome query.plan) b.1 ∙ ap (by_missing query.plan header (rows ++ b.0)) m, ap (λ (l : Table). record_at l 0) b.1)
+
   -- a column that the header lacks
   pub missing_tells : (from : Option (List ℕ)) (records : Table) (why : Stop) → Begins from records → 0 < length records
-      → (why ≡ stop.Memory) ⊎ ((name : _) × (why ≡ stop.NoColumn name) × (missing_name (record_at records 0) query.plan ≡ Some (string_bytes name))) → Tells query from why
+      → (why ≡ stop.Memory) ⊎ ((said : _) × (why ≡ stop.NoColumn said) × SaysMissing query.plan (record_at records 0) (string_bytes said)) → Tells query from why
   missing_tells from records why b some (inl e) = subst (Tells query from) (sym e) tt
-  missing_tells None records why b some (inr m) = subst (Tells query None) (sym m.1) tt
-  missing_tells (Some bytes) [] why b some (inr m) = absurd (omega (arith, some))
-  missing_tells (Some bytes) (header ∷ rows) why b some (inr m) =
-      subst (Tells query (Some bytes)) (sym m.1) (ap (outcome query.plan) b.1 ∙ ap (by_missing query.plan header (rows ++ b.0)) m.2)
+  missing_tells from records why b some (inr m) =
+      subst (Tells query from) (sym m.1) (record { name = m.2.name; header = record_at records 0; says = m.2.says; lacks = lacks from records m.2.name b some m.2.lacks })
 
 module _ (query : Query) (header : List (List ℕ)) (bound : Plan) (is : IsBound query header bound) where
   pub outcome_rows : (rows : Table) → outcome query.plan (header ∷ rows) ≡ by_refused (refused_in bound (header ∷ rows))
@@ -81,21 +86,8 @@ module _ (query : Query) (header : List (List ℕ)) (bound : Plan) (is : IsBound
     low : number < length all
     low = omega (arith, within, length-append (rows ++ wrows) more, length-append rows wrows)
 
-    -- the row stands behind the rows before the window
-    there : record_at all number ≡ record_at (header ∷ wrows) row
-    there =
-        let k = row - 1 in
-        let short : k < length wrows = omega (arith, some, within) in
-        let at : 1 + (length rows + k) ≡ number = omega (arith, some) in
-        let here : 1 + k ≡ row = omega (arith, some) in
-        ap (record_at all) (sym at)
-        ∙ (sym (get_or_after_one all (length rows + k) [])
-        ∙ (get_or_append_left (rows ++ wrows) more [] (length rows + k) (omega (arith, short, length-append rows wrows))
-        ∙ (get_or-append-add rows wrows k []
-        ∙ (get_or_after_one (header ∷ wrows) k [] ∙ ap (record_at (header ∷ wrows)) here))))
-
     is_refused : refusal bound (length header) (record_at all number) ≡ Some why
-    is_refused = ap (refusal bound (length header)) there ∙ cause
+    is_refused = ap (refusal bound (length header)) (row_there header rows wrows more row some within) ∙ cause
 
     -- where no row of the window before it is refused, nor one before the window
     pub first_is : All (IsAccepted bound (length header)) rows → All (IsAccepted bound (length header)) (take (row - 1) wrows) → (rest : List (ℕ × Refusal)) × (refused_in bound all ≡ (number, why) ∷ rest)
@@ -111,11 +103,18 @@ module _ (query : Query) (header : List (List ℕ)) (bound : Plan) (is : IsBound
         (found.0, subst (λ m. refused_in bound all ≡ (m, why) ∷ found.0) place found.1)
 
   -- an answer on a window tells of the outcome
-  pub refused_tells : (from : Option (List ℕ)) (before : ℕ) (rows wrows : Table) (why : BlockAnswer) (said : Stop) → before ≡ length rows → before ≤ 2 ^ 50 → IsLow why
-      → Begins from (header ∷ (rows ++ wrows)) → All (IsAccepted bound (length header)) rows → IsFirstCause bound (header ∷ wrows) why → Restates query.plan before why said → Tells query from said
-  refused_tells from before rows wrows answer.Memory said is_before few low b accepted c restated = subst (Tells query from) (sym restated) tt
-  refused_tells from before rows wrows (answer.Row row cause item) said is_before few low b accepted c restated = by (restated (omega (arith, few, low)))
+  pub refused_tells : (from : Option (List ℕ)) (before : ℕ) (rows : Table) (pieces : List Stretch) (why : BlockAnswer) (said : Stop) → before ≡ length rows → before ≤ 2 ^ 50 → IsLow why
+      → Begins from (header ∷ (rows ++ rows_of pieces)) → All (IsAccepted bound (length header)) rows → AreUnder header pieces → IsFirstCause bound (header ∷ rows_of pieces) why
+      → Restates query.plan bound pieces before why said → Tells query from said
+  refused_tells from before rows pieces answer.Memory said is_before few low b accepted under c restated = subst (Tells query from) (sym restated) tt
+  refused_tells from before rows pieces (answer.Row row cause item) said is_before few low b accepted under c restated = by (restated (omega (arith, few, low)))
     where
+      wrows : Table
+      wrows = rows_of pieces
+
+      fields : List (List ℕ)
+      fields = record_at (header ∷ wrows) row
+
       why : Refusal
       why = record { cause = cause; item = item }
 
@@ -131,9 +130,18 @@ module _ (query : Query) (header : List (List ℕ)) (bound : Plan) (is : IsBound
           let f = first_is rows wrows b.0 row why c.refused.first c.refused.within c.refused.cause_is accepted c.before in
           (f.0, whole bytes b.0 b.1 ∙ ap by_refused (subst (λ n. refused_in bound (header ∷ ((rows ++ wrows) ++ b.0)) ≡ (n, why) ∷ f.0) number f.1))
 
-      by : IsRefusedRow query.plan (before + row) why said ⊎ (said ≡ stop.Memory) → Tells query from said
+      are_told : (from : Option (List ℕ)) → Begins from (header ∷ (rows ++ wrows)) → IfSome from (λ bytes. (record_at (records_of bytes) 0 ≡ header) × (record_at (records_of bytes) (before + row) ≡ fields))
+      are_told None b = tt
+      are_told (Some bytes) b =
+          let there : record_at (header ∷ ((rows ++ wrows) ++ b.0)) (before + row) ≡ fields =
+          subst (λ n. record_at (header ∷ ((rows ++ wrows) ++ b.0)) n ≡ fields) number (row_there header rows wrows b.0 row c.refused.first c.refused.within) in
+          (ap (λ (l : Table). record_at l 0) b.1, ap (λ (l : Table). record_at l (before + row)) b.1 ∙ there)
+
+      by : IsRefusedRow query.plan bound pieces (before + row) row why said ⊎ (said ≡ stop.Memory) → Tells query from said
       by (inr e) = subst (Tells query from) (sym e) tt
-      by (inl r) = subst (Tells query from) (sym r.1) (record { refusal = why; says = r.2; first = first_told from b })
+      by (inl r) =
+          let says : string_bytes r.0 ≡ row_says query.plan (bound_plan header query.plan) header fields why = r.2 header under ∙ ap (λ (p : Plan). row_says query.plan p header fields why) is.is in
+          subst (Tells query from) (sym r.1) (record { refusal = why; header = header; fields = fields; says = says; first = first_told from b; are = are_told from b })
 
   -- the columns of the plan are in each window that has the header
   pub have_columns : (pieces : List Stretch) → AreUnder header pieces → HaveColumns bound pieces

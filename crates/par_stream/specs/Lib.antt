@@ -1,4 +1,5 @@
 pub mod Outcome
+pub mod Said
 pub mod Reading
 pub mod Stops
 pub mod Lines

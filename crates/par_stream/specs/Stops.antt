@@ -1,7 +1,8 @@
 -- What a reason to have no table says of the outcome.
 use Rattle.std.specs.Prelude.{◌∷◌, ◌≡◌, ◌<◌, ◌+◌, ◌^◌, ◌⊎◌, ◌++◌, ⊤, ℕ, List, None, Option, Some, String, IfSome, codes, length, decimal, string_bytes}
 use Rattle.std.specs.Global.{Global}
-use Rattle.par_model.specs.Named.{NamedPlan}
+use Rattle.csv_rows.specs.Records.{record_at, records_of}
+use Rattle.par_model.specs.Named.{NamedPlan, bound_plan, missing_name}
 use Rattle.par_model.specs.Outcome.{NoColumn, NoHeader, Refused, Table}
 use Rattle.par_model.specs.Plan.{Plan}
 use Rattle.par_model.specs.declared.refusal.Refusal.{Refusal}
@@ -12,9 +13,11 @@ use Rattle.plan_spec.specs.declared.plan.PlanAnswer.{PlanAnswer}
 use Rattle.plan_spec.specs.declared.plan.PlanAnswer.TheVariants as words
 use Rattle.answer_text.specs.declared.status.TheConstants.{MISUSED, NO_MEMORY, READ_FAULT, REFUSED, WRITE_FAULT}
 use Rattle.row_blocks.specs.Blocks.{Table as Records}
+use Rattle.row_windows.specs.Stretch.{Stretch}
 use Rattle.row_windows.specs.declared.window.WindowAnswer.{WindowAnswer}
 use Rattle.row_windows.specs.declared.window.WindowAnswer.TheVariants as window
-use Rattle.table_query.specs.Lines.{refusal_text}
+use Rattle.shown_text.specs.Header.{missing_text}
+use Rattle.par_stream.specs.Said.{row_says}
 use Rattle.par_stream.specs.Outcome.{HasLong, outcome_over}
 use Rattle.split_run.specs.Pieces.{AreUnder, rows_of}
 use Rattle.par_stream.specs.Reading.{Begins, HasAdded, IsBound}
@@ -37,27 +40,38 @@ abbrev pub stop_says : Stop → ℕ × List ℕ
 stop_says stop.Usage = (MISUSED, usage_text)
 stop_says stop.ReadFault = (READ_FAULT, codes "read fault")
 stop_says stop.NoHeader = (MISUSED, codes "no header")
-stop_says (stop.NoColumn name) = (MISUSED, codes "no column " ++ string_bytes name)
+stop_says (stop.NoColumn said) = (MISUSED, string_bytes said)
 stop_says (stop.LongRecord row) = (LONG_RECORD, row_front row ++ codes "longer than 67108864 bytes")
-stop_says (stop.Refused row why) = (REFUSED, row_front row ++ string_bytes why)
+stop_says (stop.Refused row said) = (REFUSED, row_front row ++ string_bytes said)
 stop_says stop.WriteFault = (WRITE_FAULT, codes "write fault")
 stop_says stop.Memory = (NO_MEMORY, codes "out of memory")
 
--- A row that is named, with what is said of it: that is the text of a refusal, and if a source tells what it had
--- left, the outcome of the query refuses this row for it, first of all
-pub record NamesFirstRow (query : Query) (left : Option (List ℕ)) (row : ℕ) (why : List ℕ) : Type 0 where
+-- What is said of a column: it is the text for a name that a header lacks, and if a source tells what it had left, the
+-- outcome of the query lacks this name, and the header is the first record
+pub record NamesColumn (query : Query) (left : Option (List ℕ)) (said : List ℕ) : Type 0 where
+  pub name : List ℕ
+  pub header : List (List ℕ)
+  pub says : said ≡ missing_text name header
+  pub lacks : IfSome left (λ bytes. (outcome_over query.plan bytes ≡ NoColumn name) × (record_at (records_of bytes) 0 ≡ header))
+
+-- A row that is named, with what is said of it: that is the text for its refusal, with its fields and a header, and if a
+-- source tells what it had left, the outcome of the query refuses this row for it, first of all, and these are the records
+pub record NamesFirstRow (query : Query) (left : Option (List ℕ)) (row : ℕ) (said : List ℕ) : Type 0 where
   pub refusal : Refusal
-  pub says : why ≡ refusal_text query.plan refusal
+  pub header : List (List ℕ)
+  pub fields : List (List ℕ)
+  pub says : said ≡ row_says query.plan (bound_plan header query.plan) header fields refusal
   pub first : IfSome left (λ bytes. (others : List (ℕ × Refusal)) × (outcome_over query.plan bytes ≡ Refused ((row, refusal) ∷ others)))
+  pub are : IfSome left (λ bytes. (record_at (records_of bytes) 0 ≡ header) × (record_at (records_of bytes) row ≡ fields))
 
 -- what a reason says of what a query is over, where a source tells what it had left
 abbrev pub Tells : Query → Option (List ℕ) → Stop → Type 0
 Tells query left stop.Usage = ⊥
 Tells query left stop.ReadFault = ⊤
 Tells query left stop.NoHeader = IfSome left (λ bytes. outcome_over query.plan bytes ≡ NoHeader)
-Tells query left (stop.NoColumn name) = IfSome left (λ bytes. outcome_over query.plan bytes ≡ NoColumn (string_bytes name))
+Tells query left (stop.NoColumn said) = NamesColumn query left (string_bytes said)
 Tells query left (stop.LongRecord row) = IfSome left (λ bytes. HasLong query.plan bytes row)
-Tells query left (stop.Refused row why) = NamesFirstRow query left row (string_bytes why)
+Tells query left (stop.Refused row said) = NamesFirstRow query left row (string_bytes said)
 Tells query left stop.WriteFault = IfSome left (λ bytes. outcome_over query.plan bytes ≡ Table)
 Tells query left stop.Memory = ⊤
 
@@ -83,11 +97,25 @@ abbrev pub stop_of_words : PlanAnswer → Stop
 stop_of_words words.Usage = stop.Usage
 stop_of_words words.Memory = stop.Memory
 
--- the reason is that this row is refused, and has the text of the refusal
-abbrev pub IsRefusedRow : NamedPlan → ℕ → Refusal → Stop → Type 0
-IsRefusedRow plan row refusal why = (text : String Global) × (why ≡ stop.Refused row text) × (string_bytes text ≡ refusal_text plan refusal)
+-- a text says of a plan that a header lacks a name of it
+pub record SaysMissing (plan : NamedPlan) (header : List (List ℕ)) (said : List ℕ) : Type 0 where
+  pub name : List ℕ
+  pub lacks : missing_name header plan ≡ Some name
+  pub says : said ≡ missing_text name header
 
--- the reason says of an answer on the rows behind so many what the answer says, or is want of memory
-abbrev pub Restates : NamedPlan → ℕ → BlockAnswer → Stop → Type 0
-Restates plan before (answer.Row row cause item) why = before + row < 2 ^ 64 → IsRefusedRow plan (before + row) (record { cause = cause; item = item }) why ⊎ (why ≡ stop.Memory)
-Restates plan before answer.Memory why = why ≡ stop.Memory
+-- a table has a header, and at a place the record of this number of some records, of which the first is that header
+abbrev pub IsRow : Records → ℕ → Records → ℕ → Type 0
+IsRow records number table at = (record_at table 0 ≡ record_at records 0) × (record_at table at ≡ record_at records number)
+
+-- a text says of a row of some pieces that it is refused
+abbrev pub SaysOfRow : NamedPlan → Plan → List Stretch → ℕ → Refusal → List ℕ → Type 0
+SaysOfRow plan bound pieces row why said = (header : List (List ℕ)) → AreUnder header pieces → said ≡ row_says plan bound header (record_at (header ∷ rows_of pieces) row) why
+
+-- the reason is that the row of this number is refused, which is this row of some pieces, and it has the text for it
+abbrev pub IsRefusedRow : NamedPlan → Plan → List Stretch → ℕ → ℕ → Refusal → Stop → Type 0
+IsRefusedRow plan bound pieces number row refusal why = (said : String Global) × (why ≡ stop.Refused number said) × SaysOfRow plan bound pieces row refusal (string_bytes said)
+
+-- the reason says of an answer on the rows of some pieces, after so many others, what the answer says, or is want of memory
+abbrev pub Restates : NamedPlan → Plan → List Stretch → ℕ → BlockAnswer → Stop → Type 0
+Restates plan bound pieces before (answer.Row row cause item) why = before + row < 2 ^ 64 → IsRefusedRow plan bound pieces (before + row) row (record { cause = cause; item = item }) why ⊎ (why ≡ stop.Memory)
+Restates plan bound pieces before answer.Memory why = why ≡ stop.Memory

@@ -126,9 +126,10 @@ pub(crate) fn add_batch<R: Threads + Wait + Sync>(
     // Tells that there are few maps. It does nothing.
     let _workers = plan.workers();
     let olds = mem::replace(&mut added.maps, Vec::new(alloc));
-    let (news, more) = match add_pieces(rt, alloc, batch.pieces.as_slice(), bound, olds) {
+    let pieces = batch.pieces.as_slice();
+    let (news, more) = match add_pieces(rt, alloc, pieces, bound, olds) {
         Ok(done) => done,
-        Err(why) => return Err(stop_of_block(alloc, plan, added.count, why)),
+        Err(why) => return Err(stop_of_block(alloc, plan, bound, pieces, added.count, why)),
     };
     added.maps = news;
     added.count = added.count.saturating_add(more);

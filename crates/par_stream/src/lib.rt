@@ -29,6 +29,7 @@ mod filling;
 mod output;
 mod progress;
 mod reading;
+mod refused;
 mod rows;
 mod stop;
 mod words;

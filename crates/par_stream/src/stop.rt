@@ -1,24 +1,22 @@
 //! Why there is no table: its status and its line.
 
-ghost use Rattle.std.specs.Prelude.{◌≡◌, ◌⊎◌, ◌++◌, codes, map};
+ghost use Rattle.std.specs.Prelude.{◌≡◌, ◌++◌, codes, map};
 ghost use Rattle.std.specs.List.{concat};
 ghost use Rattle.answer_text.specs.Lines.{IsSaid};
 ghost use Rattle.par_stream.specs.Lines.{line};
-ghost use Rattle.par_stream.specs.Stops.{IsRefusedRow, stop_of_words, stop_says};
+ghost use Rattle.par_stream.specs.Stops.{stop_of_words, stop_says};
 ghost use Rattle.par_stream.specs.declared.stop.Stop.TheVariants as stop;
 
 use answer_text::{MISUSED, NO_MEMORY, READ_FAULT, REFUSED, WRITE_FAULT, write_pieces};
 use par_io::{Failed, Sink};
-use par_model::Refusal;
-use plan_spec::{Plan, PlanAnswer};
-use std::alloc::{AllocError, Global};
-use table_query::refusal_text;
+use plan_spec::PlanAnswer;
+use std::alloc::AllocError;
 
 /// A record is longer than 64 MiB.
 pub const LONG_RECORD: u8 = 7;
 
-/// Why there is no table. A row has its number over the whole input, and what the line says of it if it is refused; the
-/// number of the header is 0.
+/// Why there is no table. A row has its number over the whole input, of which the header's is 0. A row that is refused and
+/// a column that the header lacks have what the line says of them.
 #[derive(Debug, Drop)]
 pub enum Stop {
     Usage,
@@ -80,15 +78,14 @@ impl Stop {
         match self {
             Stop::Usage => plain(
                 "usage: parstream [--group COLUMNS] --agg ITEMS [--where FILTER].. [--decimals PLACES] [--workers N]",
-                "",
             ),
-            Stop::ReadFault => plain("read fault", ""),
-            Stop::NoHeader => plain("no header", ""),
-            Stop::NoColumn(name) => plain("no column ", name.as_str()),
+            Stop::ReadFault => plain("read fault"),
+            Stop::NoHeader => plain("no header"),
+            Stop::NoColumn(said) => plain(said.as_str()),
             Stop::LongRecord(row) => { of_row(digits.format(*row), "longer than 67108864 bytes") }
-            Stop::Refused(row, text) => of_row(digits.format(*row), text.as_str()),
-            Stop::WriteFault => plain("write fault", ""),
-            Stop::Memory => plain("out of memory", ""),
+            Stop::Refused(row, said) => of_row(digits.format(*row), said.as_str()),
+            Stop::WriteFault => plain("write fault"),
+            Stop::Memory => plain("out of memory"),
         }
     }
 
@@ -110,11 +107,11 @@ impl Stop {
     }
 }
 
-/// The pieces of a line that names no row: a text, and a name after it.
-fn plain<'a>(text: &'a str, name: &'a str) -> [&'a str; 6]
-    ensures { concat (map (λ piece. piece.now) result) ≡ line (text.now ++ name.now) }
+/// The pieces of a line that names no row: a text.
+fn plain<'a>(text: &'a str) -> [&'a str; 6]
+    ensures { concat (map (λ piece. piece.now) result) ≡ line text.now }
 {
-    ["parstream: ", "", "", text, name, "\n"]
+    ["parstream: ", "", "", "", text, "\n"]
 }
 
 /// The pieces of a line that names a row by its number, and then has a text.
@@ -122,14 +119,4 @@ fn of_row<'a>(number: &'a str, text: &'a str) -> [&'a str; 6]
     ensures { concat (map (λ piece. piece.now) result) ≡ line ((codes "row " ++ (number.now ++ codes ": ")) ++ text.now) }
 {
     ["parstream: ", "row ", number, ": ", text, "\n"]
-}
-
-/// The reason that this row is refused, or want of memory.
-pub(crate) fn stop_of_row(alloc: Global, plan: &Plan, row: u64, why: Refusal) -> Stop
-    ensures { IsRefusedRow plan.now.plan row why result ⊎ (result ≡ stop.Memory) }
-{
-    match refusal_text(alloc, plan, why) {
-        Ok(text) => Stop::Refused(row, text),
-        Err(AllocError) => Stop::Memory,
-    }
 }

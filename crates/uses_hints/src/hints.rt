@@ -2,9 +2,10 @@
 
 use input_hints::{
     Asked, Expected, Kind, Name, Peeked, Wrong, asked_of, kind_of, refuse_input, refuse_words,
-    shown, tell, wrong_word,
+    tell, wrong_word,
 };
 use par_io::{MemSink, MemSource, read_whole};
+use shown_text::shown;
 use std::alloc::{AllocError, Global};
 use std::test::Fail;
 
@@ -59,13 +60,21 @@ fn tells(rt: HostRuntime) -> Result<(), Fail> {
 }
 
 /// The first bytes of files, and what these are.
-const KINDS: [(&[u8], Option<Kind>); 18] = [
+const KINDS: [(&[u8], Option<Kind>); 26] = [
     (b"\x1f\x8b\x08\0", Some(Kind::Gzip)),
     (b"\xfd7zXZ\0\0\x04", Some(Kind::Xz)),
     (b"\x28\xb5\x2f\xfd\x04", Some(Kind::Zstd)),
     (b"PK\x03\x04\x14", Some(Kind::Zip)),
     (b"PK\x05\x06\0", Some(Kind::Zip)),
     (b"PAR1\x15\x04", Some(Kind::Parquet)),
+    (b"BZh91AY&SY", Some(Kind::Bzip2)),
+    (b"BZh91,v\n", None),
+    (b"{\"g\":1}\n", Some(Kind::Json)),
+    (b"[{\"g\":1}]\n", Some(Kind::Json)),
+    (b"{g},v\n", None),
+    (b"[g],\"v\"\n", None),
+    (b"\xff\xfe\0\0g\0\0\0", Some(Kind::Utf32)),
+    (b"\0\0\xfe\xff\0\0\0g", Some(Kind::Utf32)),
     (b"\xff\xfeg\0", Some(Kind::Utf16)),
     (b"\xfe\xff\0g", Some(Kind::Utf16)),
     (b"g\0,\0v\0", Some(Kind::Utf16Low)),
@@ -125,7 +134,7 @@ fn shows(rt: HostRuntime) -> Result<(), Fail> {
 }
 
 /// Words, and which of them is not understood, by its place, and what may come there.
-const WRONG: [(&str, Option<(usize, Expected)>); 27] = [
+const WRONG: [(&str, Option<(usize, Expected)>); 31] = [
     ("--agg count", None),
     (
         "--group g --agg count --where v>1.5 --workers 1 --decimals 1 --",
@@ -143,7 +152,7 @@ const WRONG: [(&str, Option<(usize, Expected)>); 27] = [
         Some((3, Expected::Value(Name::Agg))),
     ),
     (
-        "--agg count --where g=a",
+        "--agg count --where g<a",
         Some((3, Expected::Value(Name::Where))),
     ),
     (
@@ -188,6 +197,14 @@ const WRONG: [(&str, Option<(usize, Expected)>); 27] = [
         Some((3, Expected::Value(Name::Where))),
     ),
     ("-g g --agg count", Some((0, Expected::Name))),
+    // nothing comes after `--`, unless it is a value
+    ("-- --agg count", Some((1, Expected::Nothing))),
+    ("--agg count -- orders.csv", Some((3, Expected::Nothing))),
+    ("--", Some((1, Expected::Items))),
+    (
+        "--agg count --workers --",
+        Some((3, Expected::Value(Name::Workers))),
+    ),
     ("--agg count, sum:v", Some((1, Expected::Value(Name::Agg)))),
     (
         "--where v>1 --group",

@@ -51,12 +51,13 @@ const NO_FAULTS: Failing<'static> = Failing {
     lines: &[],
 };
 
-/// The status, what the two sinks have to be given, and the line in two parts.
+/// The status, what the two sinks have to be given, and the line in two parts, after which there may be more.
 #[derive(Clone, Copy)]
 struct Wanted<'a> {
     status: u8,
     out: &'a [u8],
     line: (&'a [u8], &'a [u8]),
+    is_whole: bool,
 }
 
 impl<'a> Wanted<'a> {
@@ -65,21 +66,46 @@ impl<'a> Wanted<'a> {
             status,
             out,
             line: (b"", line),
+            is_whole: true,
         }
     }
 
     /// The answer of `parstream` that stands for one of `pargather`: its line begins with its own name, and shows its
-    /// own usage.
+    /// own usage. What it says of a row and of a header is only begun.
     fn of_stream(self) -> Wanted<'a> {
         let (_, line) = self.line;
-        let line = if line == USAGE.as_bytes() {
-            (b"".as_slice(), STREAM_USAGE.as_bytes())
-        } else {
-            let name = line.len().min(9);
-            (&b"parstream"[..name], &line[name..])
-        };
-        Wanted { line, ..self }
+        if line == USAGE.as_bytes() {
+            let line = (b"".as_slice(), STREAM_USAGE.as_bytes());
+            return Wanted { line, ..self };
+        }
+        let name = line.len().min(9);
+        let front = &b"parstream"[..name];
+        match same_front(&line[name..]) {
+            Some(rest) => Wanted {
+                line: (front, rest),
+                is_whole: false,
+                ..self
+            },
+            None => Wanted {
+                line: (front, &line[name..]),
+                ..self
+            },
+        }
     }
+}
+
+/// How a line begins, after the program's name, that goes on otherwise in `parstream`: by the number of a row, or `no column`.
+fn same_front(line: &[u8]) -> Option<&[u8]> {
+    for front in [b": no column ".as_slice(), b": row "] {
+        if line.starts_with(front) {
+            let digits = line[front.len()..]
+                .iter()
+                .take_while(|byte| byte.is_ascii_digit())
+                .count();
+            return Some(&line[..front.len() + digits]);
+        }
+    }
+    None
 }
 
 /// A source that gives 3 bytes a call and sinks that take 5.
@@ -157,7 +183,8 @@ impl Answered {
         self.status == wanted.status
             && self.out() == wanted.out
             && err.starts_with(front)
-            && &err[front.len().min(err.len())..] == rest
+            && err[front.len().min(err.len())..].starts_with(rest)
+            && (!wanted.is_whole || err.len() == front.len() + rest.len())
     }
 }
 

@@ -1,12 +1,17 @@
-use Rattle.std.proofs.Common.{◌≡◌, Some, inr, refl, string_bytes}
-use Rattle.csv_rows.specs.Records.{record_at}
-use Rattle.par_model.specs.Named.{missing_name}
+use Rattle.std.proofs.Common.{◌∙◌, [], ℕ, List, ap, inr, refl, slice_index_or}
+use Rattle.par_model.specs.Named.{names_of}
+use Rattle.shown_text.specs.Header.{missing_text}
 use Rattle.par_stream.proofs.rows.bind.Goals as goal
 
-pub returns-in_ok-name-in-Err-clause-missing : goal.returns-in_ok-name-in-Err-clause-missing
-returns-in_ok-name-in-Err-clause-missing c =
-    let missing = c.in-Err.ensures.name in
-    let name = c.name.ensures in
-    let copy = c.in_ok-name-in-Err.ensures.ok in
-    let same : missing_name (record_at c.args.store.now 0) c.args.plan.now.plan ≡ Some (string_bytes c.in_ok-name-in-Err.name) = cc (missing, name, copy) in
-    inr (c.in_ok-name-in-Err.name, refl, same)
+pub returns-in_ok-said-in-Err-clause-missing : goal.returns-in_ok-said-in-Err-clause-missing
+returns-in_ok-said-in-Err-clause-missing c =
+    let name = slice_index_or (names_of c.args.plan.now.plan) c.in-Err.missing.at [] in
+    inr (
+      c.in_ok-said-in-Err.said,
+      refl,
+      record {
+        name = name;
+        lacks = c.in-Err.ensures.name;
+        says = c.in_ok-said-in-Err.ensures ∙ ap (λ (h : List (List ℕ)). missing_text name h) c.find.ensures;
+      },
+    )

@@ -7,8 +7,10 @@ use Rattle.par_stream.proofs.rows.stop_of_block.Goals as goal
 pub returns-in-Row : goal.returns-in-Row
 returns-in-Row c =
     let plan = c.args.plan.now.plan in
+    let bound = c.args.bound.now in
+    let pieces = c.args.pieces.now in
     let said = c.stop_of_row.result in
-    subst (λ (a : BlockAnswer). Restates plan c.args.before a said) (sym c.in-Row.is)
+    subst (λ (a : BlockAnswer). Restates plan bound pieces c.args.before a said) (sym c.in-Row.is)
     (λ small.
     let same : c.saturating_add.result ≡ c.args.before + c.in-Row.row = omega (arith, c.saturating_add.ensures, small) in
-    subst (λ n. IsRefusedRow plan n (record { cause = c.in-Row.cause; item = c.in-Row.item }) said ⊎ (said ≡ stop.Memory)) same c.stop_of_row.ensures)
+    subst (λ n. IsRefusedRow plan bound pieces n c.in-Row.row (record { cause = c.in-Row.cause; item = c.in-Row.item }) said ⊎ (said ≡ stop.Memory)) same c.stop_of_row.ensures)

@@ -20,8 +20,8 @@ returns-in-NoHeader c = c.plain-in-NoHeader.ensures ∙ sym (ap line_of c.in-NoH
 
 pub returns-in-NoColumn : goal.returns-in-NoColumn
 returns-in-NoColumn c =
-    let name : c.as_str.result.now ≡ string_bytes c.in-NoColumn.name = search rules in
-    c.plain-in-NoColumn.ensures ∙ (ap (λ (n : List ℕ). line (codes "no column " ++ n)) name ∙ sym (ap line_of c.in-NoColumn.is))
+    let said : c.as_str.result.now ≡ string_bytes c.in-NoColumn.said = search rules in
+    c.plain-in-NoColumn.ensures ∙ (ap line said ∙ sym (ap line_of c.in-NoColumn.is))
 
 pub returns-in-LongRecord : goal.returns-in-LongRecord
 returns-in-LongRecord c =

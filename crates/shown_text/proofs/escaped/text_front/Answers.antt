@@ -1,6 +1,6 @@
 use Rattle.std.proofs.Common.{◌≤◌, arith, length, sym}
-use Rattle.input_hints.proofs.Texts.{is_no_text, is_text}
-use Rattle.input_hints.proofs.escaped.text_front.Goals as goal
+use Rattle.shown_text.proofs.Texts.{is_no_text, is_text}
+use Rattle.shown_text.proofs.escaped.text_front.Goals as goal
 
 pub returns-in-Ok-clause-some : goal.returns-in-Ok-clause-some
 returns-in-Ok-clause-some c =

@@ -4,7 +4,7 @@ use Rattle.std.proofs.lemmas.Bool.{false_from_ne_true}
 use Rattle.std.proofs.lemmas.Bool.Decides.{nat_tests}
 use Rattle.std.proofs.lemmas.Str.{IsUtf8-from_is_utf8, is_utf8-from_IsUtf8}
 use Rattle.std.specs.Str.{IsUtf8, is_utf8}
-use Rattle.input_hints.specs.Shown.{is_text_front}
+use Rattle.shown_text.specs.Shown.{is_text_front}
 
 pub is_text : (bytes : List ℕ) (size : ℕ) → size ≤ length bytes → IsUtf8 (take size bytes) → is_text_front size bytes ≡ true
 is_text bytes size within text =

@@ -1,6 +1,6 @@
 use Rattle.std.proofs.Common.{string_bytes}
-use Rattle.input_hints.proofs.Fronts.{three_after}
-use Rattle.input_hints.proofs.escaped.put_shown.Goals as goal
+use Rattle.shown_text.proofs.Fronts.{three_after}
+use Rattle.shown_text.proofs.escaped.put_shown.Goals as goal
 
 pub returns : goal.returns
 returns c =

@@ -2,7 +2,7 @@
 
 ghost use Rattle.std.specs.Prelude.{◌≡◌, ◌<◌, ◌≤◌, ◌++◌, ◌∷◌, [], IfOk, IfSome, is_some, length, min, option_map, slice_index, string_bytes, take};
 ghost use Rattle.std.specs.Char.{digit_char};
-ghost use Rattle.input_hints.specs.Shown.{byte_text, end_text, front_text, is_control, is_mark, is_text_front, plain_size, shown_after, shown_text, step};
+ghost use Rattle.shown_text.specs.Shown.{byte_text, end_text, front_text, is_control, is_mark, is_text_front, plain_size, shown_after, shown_text, step};
 
 use std::alloc::{AllocError, Global};
 use std::str;
@@ -23,7 +23,7 @@ pub fn shown(alloc: Global, field: &[u8]) -> Result<String, AllocError>
 }
 
 /// Puts what [`shown`] makes of a field at the end of a text. If memory runs out a part of it may be there.
-pub(crate) fn put_shown(text: &mut String, field: &[u8]) -> Result<(), AllocError>
+pub fn put_shown(text: &mut String, field: &[u8]) -> Result<(), AllocError>
     ensures { IfOk result (λ _. string_bytes text.new ≡ string_bytes text.old ++ shown_text field.now) }
 {
     text.push_str("\"")?;

@@ -1,8 +1,8 @@
 use Rattle.std.proofs.Common.{◌≡◌, ◌-◌, ◌<◌, ◌++◌, ◌∙◌, ℕ, List, ap, append_assoc, arith, drop, length, length-drop, string_bytes, take, take_all}
 use Rattle.std.proofs.lemmas.Bool.Decides.{nat_tests}
-use Rattle.input_hints.specs.Shown.{front_text, shown_after}
-use Rattle.input_hints.proofs.Fronts.{front_then}
-use Rattle.input_hints.proofs.escaped.put_all.Goals as goal
+use Rattle.shown_text.specs.Shown.{front_text, shown_after}
+use Rattle.shown_text.proofs.Fronts.{front_then}
+use Rattle.shown_text.proofs.escaped.put_all.Goals as goal
 
 pub fronts-preserved : goal.fronts-preserved
 fronts-preserved c =

@@ -3,7 +3,7 @@ use Rattle.std.specs.Prelude.{[], ◌==◌, ◌&&◌, ◌||◌, ◌-◌, ◌/◌
 use Rattle.std.specs.Char.{digit_char}
 use Rattle.std.specs.Option.{option_map_or}
 use Rattle.std.specs.Str.{is_utf8}
-use Rattle.input_hints.specs.declared.escaped.TheConstants.{MOST_SHOWN}
+use Rattle.shown_text.specs.declared.escaped.TheConstants.{MOST_SHOWN}
 
 -- the first few of some bytes are UTF-8
 abbrev pub is_text_front : ℕ → List ℕ → Bool

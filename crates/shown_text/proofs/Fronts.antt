@@ -1,6 +1,6 @@
 -- What is shown of bytes, front by front.
 use Rattle.std.proofs.Common.{◌≡◌, ◌<◌, ◌-◌, ◌++◌, ◌∷◌, ◌∙◌, [], zero, suc, ℕ, List, ap, append_assoc, arith, drop, length, refl, sym}
-use Rattle.input_hints.specs.Shown.{front_text, shown_after, step}
+use Rattle.shown_text.specs.Shown.{front_text, shown_after, step}
 
 -- bytes that are passed over are as if they were not there
 skips : (k : ℕ) (bytes : List ℕ) → shown_after k bytes ≡ shown_after 0 (drop k bytes)

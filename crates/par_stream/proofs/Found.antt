@@ -1,0 +1,50 @@
+-- A row of some pieces by its number over all of them.
+use Rattle.std.proofs.Common.{◌≡◌, ◌<◌, ◌≤◌, ◌+◌, ◌-◌, ◌++◌, ◌∙◌, ℕ, zero, suc, List, [], ◌∷◌, length, take, drop, get_or, refl, ap, sym, subst, arith, append_assoc, length-append, length-drop, take-append-drop}
+use Rattle.std.proofs.lemmas.List.{drop_more, get_or-append-add, get_or_append_left, take_more}
+use Rattle.std.proofs.lemmas.Grind.{get_or_after_one}
+use Rattle.csv_rows.specs.Records.{record_at}
+use Rattle.row_blocks.specs.Blocks.{Table}
+use Rattle.row_windows.specs.Stretch.{Stretch}
+use Rattle.split_run.specs.Pieces.{AreUnder, piece_records, piece_rows, rows_of}
+use Rattle.split_run.proofs.FirstPiece.{rows_apart, rows_more}
+
+-- a row of a window is behind the rows before the window
+pub row_there : (header : List (List ℕ)) (rows wrows more : Table) (row : ℕ) → 1 ≤ row → row < length (header ∷ wrows)
+    → record_at (header ∷ ((rows ++ wrows) ++ more)) (length rows + row) ≡ record_at (header ∷ wrows) row
+row_there header rows wrows more row some within =
+    let all = header ∷ ((rows ++ wrows) ++ more) in
+    let k = row - 1 in
+    let short : k < length wrows = omega (arith, some, within) in
+    let at : 1 + (length rows + k) ≡ length rows + row = omega (arith, some) in
+    let here : 1 + k ≡ row = omega (arith, some) in
+    ap (record_at all) (sym at)
+    ∙ (sym (get_or_after_one all (length rows + k) [])
+    ∙ (get_or_append_left (rows ++ wrows) more [] (length rows + k) (omega (arith, short, length-append rows wrows))
+    ∙ (get_or-append-add rows wrows k []
+    ∙ (get_or_after_one (header ∷ wrows) k [] ∙ ap (record_at (header ∷ wrows)) here))))
+
+-- a piece by its place
+module _ (pieces : List Stretch) (at : ℕ) (p : Stretch) (low : at < length pieces) (is : p ≡ get_or pieces at p) where
+  pub count_next : length (rows_of (take (at + 1) pieces)) ≡ length (rows_of (take at pieces)) + length (piece_rows p)
+  count_next =
+      let next : take (at + 1) pieces ≡ take at pieces ++ p ∷ [] = take_more pieces at p low ∙ ap (λ (q : Stretch). take at pieces ++ q ∷ []) (sym is) in
+      ap (λ (l : List Stretch). length (rows_of l)) next ∙ (ap length (rows_more (take at pieces) p) ∙ length-append (rows_of (take at pieces)) (piece_rows p))
+
+  pub under_at : (header : List (List ℕ)) → AreUnder header pieces → piece_records p ≡ header ∷ piece_rows p
+  under_at header under = subst (λ (q : Stretch). piece_records q ≡ header ∷ piece_rows q) (sym is) (under at p low)
+
+  rows_are : rows_of pieces ≡ (rows_of (take at pieces) ++ piece_rows p) ++ rows_of (drop (at + 1) pieces)
+  rows_are =
+      let rest = drop (at + 1) pieces in
+      let cut : drop at pieces ≡ p ∷ rest = drop_more pieces at p low ∙ ap (λ (q : Stretch). q ∷ rest) (sym is) in
+      let are : pieces ≡ take at pieces ++ p ∷ rest = sym (take-append-drop at pieces) ∙ ap (λ (l : List Stretch). take at pieces ++ l) cut in
+      ap rows_of are ∙ rows_apart (take at pieces) (p ∷ rest) ∙ sym (append_assoc (rows_of (take at pieces)) (piece_rows p) (rows_of rest))
+
+  pub row_in : (row : ℕ) → 1 ≤ row → row ≤ length (piece_rows p) → (header : List (List ℕ)) → AreUnder header pieces
+      → record_at (piece_records p) row ≡ record_at (header ∷ rows_of pieces) (length (rows_of (take at pieces)) + row)
+  row_in row some within header under =
+      let before = rows_of (take at pieces) in
+      let rest = rows_of (drop (at + 1) pieces) in
+      ap (λ (l : Table). record_at l row) (under_at header under)
+      ∙ sym (row_there header before (piece_rows p) rest row some (omega (arith, within)))
+      ∙ ap (λ (l : Table). record_at (header ∷ l) (length before + row)) (sym rows_are)

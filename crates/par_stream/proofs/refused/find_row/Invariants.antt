@@ -1,0 +1,10 @@
+use Rattle.std.proofs.Common.{◌≡◌, ◌≤◌, ◌*◌, length, take}
+use Rattle.split_run.specs.Pieces.{rows_of}
+use Rattle.par_stream.proofs.refused.find_row.Given as goal
+
+-- this many rows are in the pieces so far
+abbrev pub invariant-loop-piece : goal.invariant-loop-piece
+invariant-loop-piece l = record {
+  count : l.before ≡ length (rows_of (take l.piece-index l.pieces));
+  few : l.before ≤ 4194305 * l.piece-index;
+}

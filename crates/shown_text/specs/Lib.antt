@@ -1,0 +1,4 @@
+pub mod Shown
+pub mod Header
+pub mod Number
+pub mod Width

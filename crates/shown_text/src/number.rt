@@ -1,0 +1,67 @@
+//! What is said of a field that is no number.
+
+ghost use Rattle.std.specs.Prelude.{◌≡◌, ◌++◌, IfOk, string_bytes};
+ghost use Rattle.std.specs.List.{list_any};
+ghost use Rattle.shown_text.specs.Number.{help_text, is_point, kind_text, number_text};
+
+use crate::escaped::put_shown;
+use crate::width::put_number;
+use std::alloc::{AllocError, Global};
+
+/// What a line says of a field that is no number of at most so many places, with the name of its column: both as
+/// [`shown`](crate::shown) makes them. It takes at most 430 bytes.
+pub fn number_text(
+    alloc: Global,
+    name: &[u8],
+    places: u32,
+    field: &[u8],
+) -> Result<String, AllocError>
+    ensures { IfOk result (λ text. string_bytes text ≡ number_text name.now places field.now) }
+{
+    let mut text = String::from_str(alloc, "column ")?;
+    put_shown(&mut text, name)?;
+    put_kind(&mut text, places)?;
+    put_shown(&mut text, field)?;
+    text.push_str(help(places, field))?;
+    Ok(text)
+}
+
+/// Puts what a field is not that is no number of at most so many places.
+fn put_kind(text: &mut String, places: u32) -> Result<(), AllocError>
+    ensures { IfOk result (λ _. string_bytes text.new ≡ string_bytes text.old ++ kind_text places) }
+{
+    if places == 0 {
+        return text.push_str(" is not an integer: ");
+    }
+    if places == 1 {
+        return text.push_str(" is not a decimal with at most 1 place: ");
+    }
+    text.push_str(" is not a decimal with at most ")?;
+    put_number(text, places)?;
+    text.push_str(" places: ")?;
+    Ok(())
+}
+
+/// What may help: a field with a point may be a decimal.
+fn help(places: u32, field: &[u8]) -> &'static str
+    ensures { result.now ≡ help_text places field.now }
+{
+    if places == 0 && has_point(field) {
+        "; see --decimals"
+    } else {
+        ""
+    }
+}
+
+/// Whether a field has a point.
+fn has_point(field: &[u8]) -> bool
+    ensures { result ≡ list_any is_point field.now }
+{
+    field.iter().any(|byte| is_point(*byte))
+}
+
+fn is_point(byte: u8) -> bool
+    ensures { result ≡ is_point byte }
+{
+    byte == b'.'
+}
