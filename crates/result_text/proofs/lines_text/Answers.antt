@@ -1,7 +1,6 @@
-use Rattle.std.proofs.Common.{◌≡◌, ◌∙◌, ap, sym, subst, arith, ℕ, length, length-take, map, take}
+use Rattle.std.proofs.Common.{◌∙◌, ap, sym, subst, ℕ, length, map}
 use Rattle.std.proofs.lemmas.Result.{IfOk-weaker}
 use Rattle.std.specs.List.Sorted.{IsPermutation, IsSortedBy}
-use Rattle.par_model.specs.Plan.{Plan}
 use Rattle.result_text.specs.GroupOrder.{is_before, line_of}
 use Rattle.result_text.specs.Pieces.{lines_text}
 use Rattle.result_text.proofs.Sorting.{IsRead, all_read, all_refs, lines-groups, rising}

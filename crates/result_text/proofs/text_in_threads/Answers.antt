@@ -1,10 +1,9 @@
-use Rattle.std.proofs.Common.{◌≡◌, All, ◌≤◌, ◌++◌, ◌∷◌, ◌∙◌, Ok, Result, ap, arith, refl, sym, subst, List, ℕ, length, length-take, map, take}
+use Rattle.std.proofs.Common.{All, ◌++◌, ◌∷◌, ◌∙◌, Ok, Result, ap, refl, sym, subst, List, ℕ, length, map}
 use Rattle.std.proofs.lemmas.Result.{IfOk-weaker}
 use Rattle.std.specs.Global.{Vec}
 use Rattle.std.specs.List.Sorted.{IsSortedBy}
 use Rattle.std.specs.declared.alloc.AllocError.{AllocError}
 use Rattle.par_model.specs.Outcome.{IsAnswer}
-use Rattle.par_model.specs.Plan.{Plan}
 use Rattle.par_model.specs.Table.{table_text}
 use Rattle.result_text.specs.GroupOrder.{is_before, line_of}
 use Rattle.result_text.specs.Pieces.{AreParts}

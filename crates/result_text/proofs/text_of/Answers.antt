@@ -1,7 +1,6 @@
-use Rattle.std.proofs.Common.{◌≡◌, ◌<◌, ◌≤◌, ◌++◌, ap, sym, subst, arith, All, ℕ, List, length, length-take, map, take}
+use Rattle.std.proofs.Common.{◌≡◌, ◌<◌, ◌++◌, sym, subst, All, ℕ, List, length, map}
 use Rattle.std.proofs.lemmas.Result.{IfOk-weaker}
 use Rattle.std.specs.List.Sorted.{IsSortedBy}
-use Rattle.par_model.specs.Plan.{Plan}
 use Rattle.par_model.specs.Table.{table_text}
 use Rattle.result_text.specs.GroupOrder.{is_before, line_of}
 use Rattle.partial_agg.specs.declared.groups.Group.{Group}

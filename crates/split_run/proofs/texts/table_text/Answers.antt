@@ -1,9 +1,8 @@
-use Rattle.std.proofs.Common.{◌≡◌, ◌<◌, ◌≤◌, ◌^◌, ◌∷◌, ◌∙◌, ℕ, List, All, Ok, Result, ap, arith, length, length-take, subst, sym, take}
+use Rattle.std.proofs.Common.{◌∷◌, ◌∙◌, ℕ, List, All, Ok, Result, ap, arith, subst, sym}
 use Rattle.std.proofs.lemmas.Result.{IfOk-weaker}
 use Rattle.std.specs.Global.{Vec}
 use Rattle.std.specs.declared.alloc.AllocError.{AllocError}
 use Rattle.par_model.specs.Outcome.{IsAnswer}
-use Rattle.par_model.specs.Plan.{Plan}
 use Rattle.partial_agg.specs.Groups.{GroupsByKey}
 use Rattle.partial_agg.specs.Listed.{listed}
 use Rattle.result_text.specs.Printable.{ArePrintable}
@@ -13,7 +12,7 @@ use Rattle.gather_law.specs.KeyParts.{AreListings, part_map}
 use Rattle.split_run.specs.Parted.{AreRangeTexts, IsReady, lists_of}
 use Rattle.split_run.specs.Ranges.{count_of, range_of}
 use Rattle.split_run.specs.declared.parted.Parted.{Parted}
-use Rattle.split_run.proofs.TableTexts.{AreShares, are_shares, printable_range, texts_answer}
+use Rattle.split_run.proofs.TableTexts.{are_shares, printable_range, texts_answer}
 use Rattle.split_run.proofs.texts.table_text.Goals as goal
 
 abbrev Piece : Type 0

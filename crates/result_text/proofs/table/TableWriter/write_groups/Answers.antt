@@ -1,7 +1,6 @@
-use Rattle.std.proofs.Common.{◌≡◌, ◌∙◌, ◌++◌, OnOk, ℕ, List, ap, map, length, take, subst, sym}
+use Rattle.std.proofs.Common.{◌≡◌, ◌∙◌, ◌++◌, OnOk, ℕ, List, map, length, subst, sym}
 use Rattle.std.proofs.lemmas.Bool.{eqb-true}
 use Rattle.std.proofs.lemmas.List.{length-map}
-use Rattle.par_model.specs.Plan.{Plan}
 use Rattle.result_text.specs.GroupOrder.{line_of}
 use Rattle.result_text.specs.Written.{written}
 use Rattle.result_text.proofs.Tables.{shown-none}
