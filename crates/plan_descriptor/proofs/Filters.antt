@@ -1,5 +1,5 @@
 -- The words of a filter, and the lengths of a descriptor.
-use Rattle.std.proofs.Common.{◌≡◌, ◌==◌, ◌≤◌, ◌<◌, ◌+◌, ◌^◌, ◌∙◌, ℕ, ℤ, true, zero, suc, FitsSigned, List, [], ◌∷◌, map, Option, Some, None, ap, if◌then◌else◌, length, arith, nat_le, not, of_z, refl, subst, sym, to_z, w64}
+use Rattle.std.proofs.Common.{◌≡◌, ◌==◌, ◌≤◌, ◌<◌, ◌+◌, ◌^◌, ◌∙◌, ℕ, ℤ, true, FitsSigned, List, [], ◌∷◌, map, Option, Some, None, ap, if◌then◌else◌, length, arith, nat_le, not, of_z, refl, subst, sym, to_z, w64}
 use Rattle.std.proofs.lemmas.Bool.Decides.{nat_tests}
 use Rattle.std.proofs.lemmas.Int.{of_z-to_z, to_z-of_z}
 use Rattle.std.specs.Option.{ForSome, option_map_or}
