@@ -1,4 +1,4 @@
-use Rattle.std.proofs.Common.{◌∙◌, rules, Option, subst, sym}
+use Rattle.std.proofs.Common.{rules, ◌∙◌, Option, subst, sym}
 use Rattle.std.proofs.lemmas.Result.{err_from_is_err_and}
 use Rattle.par_model.specs.Named.{NamedPlan}
 use Rattle.table_query.specs.Stops.{IsExplained}
