@@ -10,7 +10,7 @@ returns-then-branch-clause-count c =
     let count = c.counts.count in
     let words = c.args.words.now in
     let some : 0 < count = omega (arith, c.counts-test.true) in
-    let begun = ap₂ is_begun (sym c.given_places.ensures) (texts_taken words count) ∙ sym c.in_ok-is_begun.ensures ∙ c.if-branch.true in
+    let begun = ap₂ is_begun (sym c.given_places-places.ensures) (texts_taken words count) ∙ sym c.in_ok-is_begun.ensures ∙ c.if-branch.true in
     sym (all_begun (given_places (texts words)) (texts words) count some begun) ∙ c.counts.invariant.same
 
 pub counts-preserved : goal.counts-preserved
@@ -18,7 +18,7 @@ counts-preserved c =
     let count = c.counts.count in
     let words = c.args.words.now in
     let some : 0 < count = omega (arith, c.counts-test.true) in
-    let none = ap₂ is_begun (sym c.given_places.ensures) (texts_taken words count) ∙ sym c.in_ok-is_begun.ensures ∙ c.if-branch.false in
+    let none = ap₂ is_begun (sym c.given_places-places.ensures) (texts_taken words count) ∙ sym c.in_ok-is_begun.ensures ∙ c.if-branch.false in
     record {
       same = fewer_begun (given_places (texts words)) (texts words) count some none ∙ c.counts.invariant.same;
       within = omega (arith, c.counts.invariant.within);
