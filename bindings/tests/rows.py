@@ -117,7 +117,7 @@ STREAMS = [
     ("--agg count --where PAR1=1", b"PAR1,PK\n1,2\n3,4\n", b"count\n1\n", b"", 0),
     ("--agg count --where g=a --where v!= --where=v<2", b"g,v\na,1\na,\nb,x\na,2\n", b"count\n1\n", b"", 0),
     ('--agg count --where g="1"', b"g\n1\n01\n", b"count\n1\n", b"", 0),
-    ("--agg count --where g=a --where v<2", b"g,v\nb,x\na,x\n", b"", b"parstream: row 2: filter column v is not an integer\n", 1),
+    ("--agg count --where g=a --where v<2", b"g,v\nb,x\na,x\n", b"", b"parstream: row 2: filter column \"v\" is not an integer: \"x\"\n", 1),
     (
         "--agg sum:price,avg:price --where price>=-2.0 --decimals price=2",
         b"price\n1.50\n-2\n+.5\n\n",

@@ -1,6 +1,6 @@
 -- The first word of a command line of parstream that is not understood.
-use Rattle.std.specs.Prelude.{[], ◌==◌, ◌||◌, ◌&&◌, ◌+◌, ◌-◌, ◌∷◌, ℕ, Bool, true, false, not, zero, suc, List, Option, None, Some, bytes_eq, codes, if◌then◌else◌, is_some, length, min, slice_index_or, take}
-use Rattle.std.specs.List.{before_first, list_any}
+use Rattle.std.specs.Prelude.{[], ◌==◌, ◌||◌, ◌&&◌, ◌+◌, ◌-◌, ◌++◌, ◌∷◌, ℕ, Bool, true, false, not, zero, suc, List, Option, None, Some, bytes_eq, codes, drop, if◌then◌else◌, is_some, length, min, slice_index_or, take}
+use Rattle.std.specs.List.{before_first, list_any, position_or_len}
 use Rattle.plan_spec.specs.Query.{stream_query_of}
 use Rattle.input_hints.specs.declared.wrong.Expected.{Expected}
 use Rattle.input_hints.specs.declared.wrong.Expected.TheVariants as may
@@ -11,27 +11,41 @@ use Rattle.input_hints.specs.declared.wrong.TheConstants.{MOST_WORDS}
 
 -- ---- the words that are understood
 
--- words are a query, or are one once `--agg=count` comes before them
-abbrev pub is_begun : List (List ℕ) → Bool
-is_begun words = is_some (stream_query_of words) || is_some (stream_query_of (codes "--agg=count" ∷ words))
-
--- the greatest number, up to some number, of first words that begin a query
-abbrev pub most_begun : ℕ → List (List ℕ) → ℕ
-most_begun zero words = 0
-most_begun (suc count) words = if is_begun (take (suc count) words) then suc count else most_begun count words
-
--- how many words are understood, from the first on
-abbrev pub understood : List (List ℕ) → ℕ
-understood words = most_begun (min (length words) MOST_WORDS) words
-
--- ---- what is wrong after them
-
 abbrev pub is_equals : ℕ → Bool
 is_equals byte = byte == 61
 
 -- a word up to its first equals sign
 abbrev pub front_of : List ℕ → List ℕ
 front_of word = before_first is_equals word
+
+-- some words with others before them are a query, or are one once `--agg=count` comes before all
+abbrev pub is_begun_after : List (List ℕ) → List (List ℕ) → Bool
+is_begun_after before words = is_some (stream_query_of (before ++ words)) || is_some (stream_query_of (codes "--agg=count" ∷ (before ++ words)))
+
+-- words begin a query, by themselves or once these places come before them
+abbrev pub is_begun : List (List ℕ) → List (List ℕ) → Bool
+is_begun places words = is_begun_after [] words || is_begun_after places words
+
+-- the greatest number, up to some number, of first words that begin a query
+abbrev pub most_begun : List (List ℕ) → ℕ → List (List ℕ) → ℕ
+most_begun places zero words = 0
+most_begun places (suc count) words = if is_begun places (take (suc count) words) then suc count else most_begun places count words
+
+-- whether a word is `--decimals`, with its value or without
+abbrev pub is_decimals : List ℕ → Bool
+is_decimals word = bytes_eq (front_of word) (codes "--decimals")
+
+-- `--decimals` with its value, as words first give it: in one word with an equals sign, or in two
+abbrev pub given_places : List (List ℕ) → List (List ℕ)
+given_places words =
+    let at = position_or_len is_decimals words in
+    take (if list_any is_equals (slice_index_or words at []) then 1 else 2) (drop at words)
+
+-- how many words are understood, from the first on
+abbrev pub understood : List (List ℕ) → ℕ
+understood words = most_begun (given_places words) (min (length words) MOST_WORDS) words
+
+-- ---- what is wrong after them
 
 -- how an option is written
 abbrev pub name_text : Name → List ℕ

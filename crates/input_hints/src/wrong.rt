@@ -1,15 +1,15 @@
 //! The first word of a command line of `parstream` that is not understood, and what may come in its place.
 //!
 //! Which words are a query is known to `plan_spec` only. So the words that are understood are found by asking it: the
-//! first few words are, if they are a query, or are one once `--agg=count` comes before them. A query has at most twenty-five
-//! words, five options of which one is given eight times, with their values, and `--`, so a longer line is asked about no
-//! further than that.
+//! first few words are, if they are a query, or are one once `--agg=count`, the `--decimals` of the line, or both come
+//! before them. A query has at most twenty-five words, five options of which one is given eight times, with their
+//! values, and `--`, so a longer line is asked about no further than that.
 
-ghost use Rattle.std.specs.Prelude.{◌≡◌, ◌<◌, ◌≤◌, ◌∷◌, [], IfOk, IfSome, bytes_eq, codes, is_none, is_some, length, slice_index_or, string_bytes, take};
+ghost use Rattle.std.specs.Prelude.{◌≡◌, ◌<◌, ◌≤◌, ◌++◌, ◌∷◌, [], IfOk, IfSome, OnOk, bytes_eq, codes, if◌then◌else◌, is_none, is_some, length, slice_index_or, string_bytes, take};
 ghost use Rattle.std.specs.List.{list_any, position_or_len};
 ghost use Rattle.answer_text.specs.Words.{texts};
 ghost use Rattle.plan_spec.specs.Query.{stream_query_of};
-ghost use Rattle.input_hints.specs.Wrong.{expected_text, front_of, is_begun, is_ended, is_equals, is_named, is_value, may_repeat, name_in, name_of, name_text, understood, values_text, wrong_after, wrong_in, wrong_option};
+ghost use Rattle.input_hints.specs.Wrong.{expected_text, front_of, given_places, is_begun, is_begun_after, is_decimals, is_ended, is_equals, is_named, is_value, may_repeat, name_in, name_of, name_text, understood, values_text, wrong_after, wrong_in, wrong_option};
 
 use plan_spec::{Plan, PlanAnswer};
 use std::alloc::{AllocError, Global};
@@ -85,9 +85,10 @@ fn count_understood(alloc: Global, words: &[String]) -> Result<usize, AllocError
     ensures count { IfOk result (λ count. count ≡ understood (texts words.now)) }
     ensures within { IfOk result (λ count. count ≤ length words.now) }
 {
+    let places = given_places(words);
     let mut count = words.len().min(MOST_WORDS);
     'counts: while count > 0 {
-        if is_begun(alloc, &words[..count])? {
+        if is_begun(alloc, places, &words[..count])? {
             return Ok(count);
         }
         count -= 1;
@@ -95,27 +96,101 @@ fn count_understood(alloc: Global, words: &[String]) -> Result<usize, AllocError
     Ok(0)
 }
 
-/// Whether words begin a query: they are one, or are one once `--agg=count` comes before them.
-fn is_begun(alloc: Global, words: &[String]) -> Result<bool, AllocError>
-    ensures { IfOk result (λ is. is ≡ is_begun (texts words.now)) }
+/// `--decimals` with its value, as the words first give it: in one word with an equals sign, or in two.
+fn given_places(words: &[String]) -> &[String]
+    ensures { texts result.now ≡ given_places (texts words.entry.now) }
 {
-    if is_query(alloc, words)? {
+    let at = decimals_place(words);
+    let size = option_size(words, at);
+    let left = &words[at..];
+    &left[..size.min(left.len())]
+}
+
+/// How many words an option and its value are: one, if the word at its place has an equals sign, and otherwise two.
+fn option_size(words: &[String], at: usize) -> usize
+    ensures { result ≡ (if list_any is_equals (slice_index_or (texts words.now) at []) then 1 else 2) }
+{
+    if at < words.len() && has_value(word_at(words, at)) {
+        1
+    } else {
+        2
+    }
+}
+
+/// The place of the first word that is `--decimals`, with its value or without, or the number of words.
+#[tactic(auto, using(crate::proofs::Words::place_of_decimals))]
+fn decimals_place(words: &[String]) -> usize
+    ensures place { result ≡ position_or_len is_decimals (texts words.now) }
+    ensures within { result ≤ length words.now }
+{
+    place_of_decimals(words)
+}
+
+fn place_of_decimals(words: &[String]) -> usize
+    ensures place { result ≡ position_or_len (λ word. is_decimals (string_bytes word)) words.now }
+    ensures within { result ≤ length words.now }
+{
+    words
+        .iter()
+        .take_while(|word| !is_decimals(word.as_str()))
+        .count()
+}
+
+/// Whether a word is `--decimals`, with its value or without.
+fn is_decimals(word: &str) -> bool
+    ensures { result ≡ is_decimals word.now }
+{
+    front(word) == "--decimals"
+}
+
+/// Whether words begin a query, by themselves or once these places come before them.
+fn is_begun(alloc: Global, places: &[String], words: &[String]) -> Result<bool, AllocError>
+    ensures { IfOk result (λ is. is ≡ is_begun (texts places.now) (texts words.now)) }
+{
+    if is_begun_after(alloc, &[], words)? {
         return Ok(true);
     }
-    let counting = with_count(alloc, words)?;
+    is_begun_after(alloc, places, words)
+}
+
+/// Whether words, with others before them, are a query, or are one once `--agg=count` comes before all.
+fn is_begun_after(alloc: Global, before: &[String], words: &[String]) -> Result<bool, AllocError>
+    ensures { IfOk result (λ is. is ≡ is_begun_after (texts before.now) (texts words.now)) }
+{
+    let counting = with_count(alloc, before, words)?;
+    if is_query(alloc, &counting.as_slice()[1..])? {
+        return Ok(true);
+    }
     is_query(alloc, counting.as_slice())
 }
 
-/// The words, with `--agg=count` before them.
-fn with_count(alloc: Global, words: &[String]) -> Result<Vec<String>, AllocError>
-    ensures { IfOk result (λ counting. texts counting.items ≡ codes "--agg=count" ∷ texts words.entry.now) }
+/// The words with others before them, and `--agg=count` before all.
+fn with_count(
+    alloc: Global,
+    before: &[String],
+    words: &[String],
+) -> Result<Vec<String>, AllocError>
+    ensures { IfOk result (λ counting. texts counting.items ≡ codes "--agg=count" ∷ (texts before.entry.now ++ texts words.entry.now)) }
 {
     let mut counting = Vec::new(alloc);
     counting.push(String::from_str(alloc, "--agg=count")?)?;
-    'words: for word in words {
-        counting.push(String::from_str(alloc, word.as_str())?)?;
-    }
+    push_all(alloc, before, &mut counting)?;
+    push_all(alloc, words, &mut counting)?;
     Ok(counting)
+}
+
+/// Puts copies of the words after the others.
+fn push_all(
+    alloc: Global,
+    words: &[String],
+    list: &mut Vec<String>,
+) -> Result<(), AllocError>
+    ensures { OnOk result (texts list.new.items ≡ texts list.old.items ++ texts words.now) }
+{
+    'words: for word in words {
+        list.push(String::from_str(alloc, word.as_str())?)?;
+    }
+    Ok(())
 }
 
 /// What is wrong after the words that are understood.

@@ -1,5 +1,5 @@
 -- The words of a filter, and the lengths of a descriptor.
-use Rattle.std.proofs.Common.{◌≡◌, ◌==◌, ◌≤◌, ◌<◌, ◌+◌, ◌^◌, ◌∙◌, ℕ, ℤ, true, zero, suc, FitsSigned, List, [], ◌∷◌, map, Option, Some, None, ap, if◌then◌else◌, length, arith, nat_le, not, of_z, refl, subst, sym, to_z, w64}
+use Rattle.std.proofs.Common.{◌≡◌, ◌==◌, ◌≤◌, ◌<◌, ◌+◌, ◌^◌, ◌∙◌, ℕ, ℤ, true, FitsSigned, List, [], ◌∷◌, map, Option, Some, None, ap, if◌then◌else◌, length, arith, nat_le, not, of_z, refl, subst, sym, to_z, w64}
 use Rattle.std.proofs.lemmas.Bool.Decides.{nat_tests}
 use Rattle.std.proofs.lemmas.Int.{of_z-to_z, to_z-of_z}
 use Rattle.std.specs.Option.{ForSome, option_map_or}
@@ -137,7 +137,7 @@ few_places column places (test.IsNot text) few f is = cc is
 
 front_places : (filters : List AnyFilter) → All (λ filter. filter.places ≤ MOST_PLACES) filters → ForSome (front_of filters) (λ filter. filter.places ≤ MOST_PLACES)
 front_places [] few f is = cc is
-front_places (g ∷ more) few = few_places g.column g.places g.test (few 0 g (omega arith))
+front_places (g ∷ more) few f is = few_places g.column g.places g.test (few 0 g (omega arith)) f is
 
 pub places_of_filter : (plan : Plan) → All (λ filter. filter.places ≤ MOST_PLACES) plan.filters → ForSome (filter_of plan) (λ filter. filter.places ≤ MOST_PLACES)
 places_of_filter plan few = front_places plan.filters few

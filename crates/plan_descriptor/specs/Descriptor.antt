@@ -1,6 +1,6 @@
 -- The plan descriptor: a plan as words of 64 bits, by which all participants of a query find it in shared memory.
 -- Version 2 has 32 words. Version 1 has the first 28 of them, and neither a filter nor places.
-use Rattle.std.specs.Prelude.{◌≡◌, ◌==◌, ◌&&◌, ◌||◌, ◌+◌, ◌-◌, ◌*◌, ◌/◌, ◌%◌, ◌<◌, ◌≤◌, ◌^◌, ◌⊎◌, ℕ, ℤ, Bool, true, All, List, [], ◌∷◌, Option, Some, None, FitsSigned, if◌then◌else◌, length, map, nat_le, nat_lt, not, option_and_then, slice_get, slice_index, slice_index_or}
+use Rattle.std.specs.Prelude.{◌≡◌, ◌==◌, ◌&&◌, ◌||◌, ◌+◌, ◌-◌, ◌*◌, ◌/◌, ◌%◌, ◌<◌, ◌≤◌, ◌^◌, ◌⊎◌, ℕ, Bool, true, All, List, [], ◌∷◌, Option, Some, None, FitsSigned, if◌then◌else◌, length, map, nat_le, nat_lt, not, option_and_then, slice_get, slice_index, slice_index_or}
 use Rattle.std.specs.Int.{cast_unsigned, w64}
 use Rattle.std.specs.List.{position_from, range_with_len}
 use Rattle.std.specs.Option.{ForSome}

@@ -1,6 +1,6 @@
 //! The word of a plan at each place of its descriptor.
 
-ghost use Rattle.std.specs.Prelude.{◌≡◌, ◌<◌, ◌≤◌, ◌-◌, ◌/◌, ◌^◌, FitsSigned, slice_index_or};
+ghost use Rattle.std.specs.Prelude.{◌≡◌, ◌<◌, ◌≤◌, ◌-◌, ◌/◌, ◌^◌, FitsSigned, length, slice_index_or};
 ghost use Rattle.std.specs.Int.{w64};
 ghost use Rattle.std.specs.Option.{ForSome};
 ghost use Rattle.par_model.specs.PlanLayout.{unused};
@@ -58,8 +58,13 @@ fn filter_of(plan: &BoundPlan) -> Option<NumberFilter>
 pub(crate) fn has_room(plan: &BoundPlan)
     ensures { HasRoom plan.now }
 {
-    let _first = plan.items[0];
+    has_eight(&plan.items);
 }
+
+/// Tells how many places the array of a plan's aggregates has. It does nothing.
+fn has_eight(items: &[Item; 8])
+    ensures { length items.now ≡ 8 }
+{}
 
 fn head_word(plan: &BoundPlan, place: u64) -> u64
     requires { place < 4 }
@@ -68,8 +73,8 @@ fn head_word(plan: &BoundPlan, place: u64) -> u64
 {
     match place {
         0 => 2,
-        1 => u64::from(plan.group_count),
-        2 => plan.items[..plan.item_count as usize].len() as u64,
+        1 => plan.group_columns().len() as u64,
+        2 => plan.items().len() as u64,
         _ => u64::from(plan.hash),
     }
 }

@@ -134,7 +134,7 @@ fn shows(rt: HostRuntime) -> Result<(), Fail> {
 }
 
 /// Words, and which of them is not understood, by its place, and what may come there.
-const WRONG: [(&str, Option<(usize, Expected)>); 31] = [
+const WRONG: [(&str, Option<(usize, Expected)>); 32] = [
     ("--agg count", None),
     (
         "--group g --agg count --where v>1.5 --workers 1 --decimals 1 --",
@@ -192,6 +192,11 @@ const WRONG: [(&str, Option<(usize, Expected)>); 31] = [
         Some((3, Expected::Value(Name::Where))),
     ),
     ("--agg count --where v>1.5 --decimals v=1", None),
+    // and for a later word that is not understood
+    (
+        "--agg count --where v>1.5 --workers auto --decimals v=1",
+        Some((5, Expected::Value(Name::Workers))),
+    ),
     (
         "--agg count --where v>1.55 --decimals v=1",
         Some((3, Expected::Value(Name::Where))),

@@ -16,7 +16,7 @@ returns c =
     let filters : c.args.plan.now.filters ≡ take inside.filter_count inside.filters = sym (ap (λ p. p.filters) c.plan.view_is) in
     record {
       groups = rw groups (omega (arith, length-take inside.group_count inside.groups));
-      some_item = rw items (omega (arith, length-take inside.item_count inside.items));
+      some_item = rw items (omega (arith, length-take inside.item_count inside.items, c.has_eight.ensures));
       items = rw items (omega (arith, length-take inside.item_count inside.items));
       no_column = rw items (All-take (λ (item : Item). item.kind ≡ kind.Rows → (item.column ≡ 0) × (item.places ≡ 0)) inside.item_count inside.items c.plan.invariant.no_column);
       item_places = rw items (All-take (λ (item : Item). item.places ≤ MOST_PLACES) inside.item_count inside.items c.plan.invariant.item_places);

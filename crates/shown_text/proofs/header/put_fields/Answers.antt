@@ -1,4 +1,4 @@
-use Rattle.std.proofs.Common.{◌≡◌, ◌<◌, ◌++◌, ◌∙◌, [], ℕ, List, ap, append_assoc, arith, get_or, length, map, string_bytes, sym, take}
+use Rattle.std.proofs.Common.{◌<◌, ◌++◌, ◌∙◌, [], ℕ, List, ap, append_assoc, arith, get_or, length, map, string_bytes, sym, take}
 use Rattle.std.specs.List.{concat}
 use Rattle.shown_text.specs.Header.{field_text}
 use Rattle.shown_text.proofs.Pieces.{pieces_more}
