@@ -1,8 +1,9 @@
 //! The definitions as plain slow programs, held against what the fast path gives for the rows of a store.
 
-ghost use Rattle.std.specs.Prelude.{◌≡◌, ◌<◌, All, IfOk, IfSome, length};
+ghost use Rattle.std.specs.Prelude.{◌≡◌, ◌<◌, All, IfOk, IfSome, length, true};
 ghost use Rattle.csv_rows.specs.Records.{record_at};
 ghost use Rattle.par_model.specs.Columns.{HasColumns};
+ghost use Rattle.par_model.specs.Plain.{is_plain};
 ghost use Rattle.partial_agg.specs.Rows.{header_width};
 
 use csv_rows::{RowStore, rows};
@@ -40,7 +41,8 @@ fn store_of(
 
 /// The plan of some words over the columns of a store.
 fn plan_of(alloc: Global, words: &str, store: &RowStore) -> Option<BoundPlan>
-    ensures { IfSome result (λ plan. HasColumns plan (header_width store.now)) }
+    ensures columns { IfSome result (λ plan. HasColumns plan (header_width store.now)) }
+    ensures plain { IfSome result (λ plan. is_plain plan ≡ true) }
 {
     let mut list = Vec::new(alloc);
     for word in words.split(' ') {
@@ -83,7 +85,8 @@ fn agreeing_groups<R: Threads + Wait + Sync>(
     store: &RowStore,
     plan: &BoundPlan,
 ) -> Result<Option<usize>, AllocError>
-    requires { HasColumns plan.now (header_width store.now) }
+    requires columns { HasColumns plan.now (header_width store.now) }
+    requires plain { is_plain plan.now ≡ true }
 {
     // Tells that there is a header. It does nothing.
     let _count = store.count();
