@@ -33,6 +33,9 @@ impl Caller {
         ensures { Tries self.old self.new call result }
     {
         let share = &mut self.share;
-        share.barrier.try_call(&mut share.pass, call)
+        match share.barrier.try_call(&mut share.pass, call) {
+            Some(reply) => Some(reply),
+            None => None,
+        }
     }
 }

@@ -22,10 +22,10 @@ fn assemble(alloc: Global, callers: u32) -> Result<Caller, AllocError>
     let Some(pass) = others.pop() else {
         unreachable!()
     };
-    let barrier = Arc::new(alloc, barrier)?;
+    let shared = Arc::new(alloc, barrier)?;
     Ok(Caller {
         share: Share {
-            barrier,
+            barrier: shared,
             pass,
             others,
         },

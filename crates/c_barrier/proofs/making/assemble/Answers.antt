@@ -8,7 +8,7 @@ use Rattle.c_barrier.proofs.making.assemble.Goals as goal
 pub invariant_of-result : goal.invariant_of-result
 invariant_of-result c =
     let n = c.in_ok-barrier.ensures in
-    let e = sym c.in_ok-barrier-2.ensures.ok in
+    let e = sym c.in_ok-shared.ensures.ok in
     let own = each_but_last (λ k p. Belongs c.in_ok-barrier.barrier p × (number_of p ≡ k) × (history_of p ≡ []) × (own_of p ≡ [])) _ _ _ c.in-Some.ensures.items (λ k p at. let o = n.passes.each k p at in (o.0, o.1, n.fresh k p at)) in
     record {
       own = subst (λ (b : Barrier). Belongs b c.in-Some.pass) e own.1.0;
@@ -20,7 +20,7 @@ returns c =
     let n = c.in_ok-barrier.ensures in
     let last = n.passes.each _ c.in-Some.pass (at_end _ _ _ c.in-Some.ensures.items) in
     record {
-      callers_are = ap callers_of c.in_ok-barrier-2.ensures.ok ∙ n.callers;
+      callers_are = ap callers_of c.in_ok-shared.ensures.ok ∙ n.callers;
       others = omega (arith, ap length c.in-Some.ensures.items, length-append c.pop.new.self.items (c.in-Some.pass ∷ []), n.passes.count, n.callers);
       number = omega (arith, last.1, ap length c.in-Some.ensures.items, length-append c.pop.new.self.items (c.in-Some.pass ∷ []), n.passes.count, n.callers);
       fresh = n.fresh _ c.in-Some.pass (at_end _ _ _ c.in-Some.ensures.items);
