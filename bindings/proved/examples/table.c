@@ -1,5 +1,6 @@
 /* One table, four threads: each adds 1 to each of the keys in turn, from a place of its own on, so that the table grows under
- * them; then one reads all sums, and two take the keys out. Takes how many keys there are. */
+ * them; then one reads all sums, all add 1 to one of them by compare-and-swap, and all take the keys out and put them in
+ * again if they are not there. Takes how many keys there are. */
 #include "lembokuj_try.h"
 
 #include <inttypes.h>
@@ -11,7 +12,7 @@ enum { THREADS = 4, ROUNDS = 5 };
 
 static uint64_t keys = 50000;
 static lk_table_try handles[THREADS];
-static uint64_t taken[THREADS];
+static uint64_t taken[THREADS], put[THREADS];
 
 static void must(int right, const char *what, int code) {
     if (!right) {
@@ -30,6 +31,31 @@ static void *add_all(void *at) {
     for (uint64_t n = 0; n < ROUNDS * keys; n++) {
         int code = lk_table_add_wait(at, key_of((from + n) % keys), 1, &old);
         must(code == LK_ABSENT || (code == LK_OK && old < THREADS * ROUNDS), "add", code);
+    }
+    return NULL;
+}
+
+/* A number of its own for each of the threads is added to one key. */
+static void *swap_all(void *at) {
+    for (uint64_t n = 0; n < keys; n++) {
+        uint64_t seen = 0, old;
+        for (;;) {
+            int code = lk_table_compare_and_swap_wait(at, key_of(0), seen, seen + 1, &old);
+            must(code == LK_OK, "compare and swap", code);
+            if (old == seen) break;
+            seen = old;
+        }
+    }
+    return NULL;
+}
+
+/* Each key is put in by one of the threads, and the others find its value. */
+static void *put_all(void *at) {
+    uint64_t me = (uint64_t)((lk_table_try *)at - handles), old;
+    for (uint64_t n = 0; n < keys; n++) {
+        int code = lk_table_put_absent_wait(at, key_of(n), me, &old);
+        must(code == LK_ABSENT || (code == LK_OK && old < THREADS), "put if absent", code);
+        put[me] += code == LK_ABSENT;
     }
     return NULL;
 }
@@ -53,7 +79,7 @@ static void in_threads(void *(*work)(void *)) {
 
 int main(int argc, char **argv) {
     if (argc > 1) keys = strtoull(argv[1], NULL, 10);
-    uint64_t words = 14 * keys + 1000, value, sum = 0;
+    uint64_t words = 14 * keys + 1000, value, sum = 0, puts = 0;
     int code = lk_table_new_try(THREADS, THREADS * words, &handles[0]);
     must(code == LK_OK, "new", code);
     for (int i = 1; i < THREADS; i++) {
@@ -65,15 +91,25 @@ int main(int argc, char **argv) {
         code = lk_table_get_wait(&handles[n % THREADS], key_of(n), &value);
         must(code == LK_OK && value == THREADS * ROUNDS, "get", code);
     }
+    in_threads(swap_all);
     in_threads(take_all);
+    in_threads(put_all);
+    for (int i = 0; i < THREADS; i++) puts += put[i];
+    must(puts == keys, "keys that were put in", (int)puts);
+    for (uint64_t n = 0; n < keys; n++) {
+        code = lk_table_delete_wait(&handles[n % THREADS], key_of(n), &value);
+        must(code == LK_OK, "delete", code);
+        put[value]--;
+    }
     for (int i = 0; i < THREADS; i++) {
+        must(put[i] == 0, "keys of a thread", (int)put[i]);
         sum += taken[i];
         code = lk_table_get_wait(&handles[i], key_of(0), &value);
         must(code == LK_ABSENT, "get of a key that was taken out", code);
         code = lk_table_close_try(&handles[i]);
         must(code == LK_OK, "close", code);
     }
-    must(sum == THREADS * ROUNDS * keys, "sum", (int)sum);
+    must(sum == THREADS * (ROUNDS + 1) * keys, "sum", (int)sum);
     printf("table: %d threads, %" PRIu64 " keys, %" PRIu64 " in all\n", THREADS, keys, sum);
     return 0;
 }

@@ -39,8 +39,21 @@ int main(void) {
     IS(old, 3);
     IS(lk_table_get_try(&two, 1, &old), LK_OK);
     IS(old, 2);
+    IS(lk_table_put_absent_try(&one, 1, 8, &old), LK_OK);
+    IS(old, 2);
+    IS(lk_table_compare_and_swap_try(&one, 1, 8, 9, NULL), LK_NULL);
+    IS(lk_table_compare_and_swap_try(&one, 1, 8, 9, &old), LK_OK);
+    IS(old, 2);
+    IS(lk_table_compare_and_swap_try(&two, 1, 2, 9, &old), LK_OK);
+    IS(old, 2);
     IS(lk_table_delete_try(&two, 1, &old), LK_OK);
+    IS(old, 9);
     IS(lk_table_delete_try(&one, 1, &old), LK_ABSENT);
+    IS(lk_table_compare_and_swap_try(&one, 1, 9, 8, &old), LK_ABSENT);
+    IS(old, 9);
+    IS(lk_table_put_absent_try(&two, 1, 8, NULL), LK_ABSENT);
+    IS(lk_table_delete_try(&two, 1, &old), LK_OK);
+    IS(old, 8);
 
     /* The second one has words for an item, and got another's; then it has none, and none for a slice. */
     IS(lk_table_add_try(&two, 1, 5, &old), LK_ABSENT);

@@ -1,17 +1,17 @@
-/* lembokuj_try.h: queues of messages, and hash tables that many threads share, over the proved libraries liblk_queue.a and
- * liblk_table.a.
+/* lembokuj_try.h: queues of messages, and hash tables and barriers that many threads share, over the proved libraries
+ * liblk_queue.a, liblk_table.a and liblk_barrier.a.
  *
  * The calls of the libraries try once and never wait. Those with _wait are loops over them here: they spin for a moment,
  * then yield the processor, then nap, half a millisecond at the most. Those with _park sleep until the other side rings a
  * bell that both share (Linux; elsewhere they nap too).
- * Link with the library of what is used, or with both, and the toolchain's liblibc_c.a; or, for several processes, with
+ * Link with the library of what is used, or with several, and the toolchain's liblibc_c.a; or, for several processes, with
  * shared_heap.c. lembokuj.h has more objects; it is built without the proofs. A program that takes both headers includes
  * lembokuj.h first.
  *
- * Handles. An lk_handle (one side of a queue) and an lk_table_try (one caller of a table) are the program's own memory: two
- * words, all zero (LK_BLANK) before the call that fills them and after the one that closes them. A handle owns what it
+ * Handles. An lk_handle (one side of a queue), an lk_table_try (one caller of a table) and an lk_barrier_try (one caller of a
+ * barrier) are the program's own memory: two words, all zero (LK_BLANK) before the call that fills them and after the one that closes them. A handle owns what it
  * stands for. Do not copy it, but to move it: of two copies one has to be forgotten. The memory of a queue goes with its
- * second side, that of a table with its last caller.
+ * second side, that of a table or a barrier with its last caller.
  *
  * Threads. A handle is used by one call at a time; different handles of one object are used at once, each in its thread. A
  * handle may go to another thread by whatever orders the two: a start or join of a thread, a lock, an atomic.
@@ -23,7 +23,7 @@
  * LK_GONE. A handle whose words are anything else than the last call left there is not found out. No call keeps a pointer
  * of the program's.
  *
- * Codes. 0 is done, above 0 is an answer, below 0 nothing was sent, received or done to a key. Those that lembokuj.h has
+ * Codes. 0 is done, above 0 is an answer, below 0 nothing was sent, received, done to a key or changed at a barrier. Those that lembokuj.h has
  * too have its numbers. */
 #ifndef LEMBOKUJ_TRY_H
 #define LEMBOKUJ_TRY_H
@@ -50,7 +50,7 @@ extern long lk_system_call(long number, ...) __asm__("syscall");
 #ifndef LEMBOKUJ_H
 enum {
     LK_OK = 0,
-    LK_WOULD_BLOCK = 1,    /* a queue: full (send the same message again), or no whole message yet; a table: another is there */
+    LK_WOULD_BLOCK = 1,    /* a queue: full (send the same message again), or no whole message yet; else: another caller is there */
     LK_DETACHED = 2,       /* the other side has left; a receiver: and all was received */
     LK_ABSENT = 3,         /* it is done, and the key was not there */
     LK_NULL = -1,          /* a pointer is null, or a handle blank */
@@ -61,6 +61,9 @@ enum {
     LK_TOO_LONG = -7,      /* the message is longer than the queue's greatest, or, to be sent whole, than the ring */
     LK_OTHER_MESSAGE = -8, /* a part of another message is on the ring: send that one again first */
     LK_NO_SPACE = -9,      /* the caller's own words are used up */
+    LK_ALREADY_IN = -12,   /* the caller takes part in the barrier already */
+    LK_NOT_IN = -13,       /* the caller takes no part in the barrier */
+    LK_TWICE = -14,        /* the caller has arrived in this phase already */
 };
 
 /* A flag of the sends: the receiver may see the message only after a later call. At most a quarter of the ring stays
@@ -70,6 +73,7 @@ enum { LK_LATER = 1 };
 
 enum {
     LK_ENDED = 5,          /* a wait that the program ended: lk_ends answered true */
+    LK_WAITING = 7,        /* the caller has arrived at the barrier, and another has yet to */
     LK_GROWN = 4,          /* the key's partition has grown first, and nothing was done to the key: call again */
     LK_GONE = -17,         /* this side has left */
     LK_SHORT_BUFFER = -18, /* the program's bytes have no room for the queue's greatest message */
@@ -385,6 +389,8 @@ int32_t lk_raw_table_new(uint32_t callers, uint64_t words, lk_table_try *first);
 int32_t lk_raw_table_share(uint64_t words, lk_table_try *from, lk_table_try *next);
 int32_t lk_raw_table_put(lk_table_try *table, uint64_t key, uint64_t word, uint64_t *old);
 int32_t lk_raw_table_add(lk_table_try *table, uint64_t key, uint64_t more, uint64_t *old);
+int32_t lk_raw_table_put_absent(lk_table_try *table, uint64_t key, uint64_t word, uint64_t *old);
+int32_t lk_raw_table_compare_and_swap(lk_table_try *table, uint64_t key, uint64_t expected, uint64_t word, uint64_t *old);
 int32_t lk_raw_table_get(lk_table_try *table, uint64_t key, uint64_t *word);
 int32_t lk_raw_table_delete(lk_table_try *table, uint64_t key, uint64_t *old);
 int32_t lk_raw_table_close(lk_table_try *table);
@@ -415,6 +421,20 @@ static inline int lk_table_put_try(lk_table_try *table, uint64_t key, uint64_t v
 static inline int lk_table_add_try(lk_table_try *table, uint64_t key, uint64_t more, uint64_t *old) {
     uint64_t none = 0;
     return table ? lk_raw_table_add(table, key, more, old ? old : &none) : LK_NULL;
+}
+
+/* Puts a value under a key that is not there. LK_ABSENT: it was not, and has this value now. LK_OK: it was there, and keeps
+ * its value, which is *old (which may be NULL). The other codes as above. */
+static inline int lk_table_put_absent_try(lk_table_try *table, uint64_t key, uint64_t value, uint64_t *old) {
+    uint64_t none = 0;
+    return table ? lk_raw_table_put_absent(table, key, value, old ? old : &none) : LK_NULL;
+}
+
+/* If a key has the value `expected`, it has `value` then, in one step for all callers. LK_OK: the key was there, and *old is
+ * its value before: it was changed exactly if that is `expected`. LK_ABSENT: there is no such key. The other codes as
+ * above, but never LK_GROWN or LK_NO_SPACE. */
+static inline int lk_table_compare_and_swap_try(lk_table_try *table, uint64_t key, uint64_t expected, uint64_t value, uint64_t *old) {
+    return table && old ? lk_raw_table_compare_and_swap(table, key, expected, value, old) : LK_NULL;
 }
 
 /* LK_OK: *value is the key's. LK_ABSENT: there is no such key. LK_WOULD_BLOCK. */
@@ -455,6 +475,20 @@ static inline int lk_table_add_wait(lk_table_try *table, uint64_t key, uint64_t 
     return code;
 }
 
+static inline int lk_table_put_absent_wait(lk_table_try *table, uint64_t key, uint64_t value, uint64_t *old) {
+    unsigned tries = 0;
+    int code;
+    while (lk_table_again(code = lk_table_put_absent_try(table, key, value, old), &tries)) continue;
+    return code;
+}
+
+static inline int lk_table_compare_and_swap_wait(lk_table_try *table, uint64_t key, uint64_t expected, uint64_t value, uint64_t *old) {
+    unsigned tries = 0;
+    int code;
+    while (lk_table_again(code = lk_table_compare_and_swap_try(table, key, expected, value, old), &tries)) continue;
+    return code;
+}
+
 static inline int lk_table_get_wait(lk_table_try *table, uint64_t key, uint64_t *value) {
     unsigned tries = 0;
     int code;
@@ -467,6 +501,147 @@ static inline int lk_table_delete_wait(lk_table_try *table, uint64_t key, uint64
     int code;
     while (lk_table_again(code = lk_table_delete_try(table, key, old), &tries)) continue;
     return code;
+}
+
+/* ---- Barriers: phases that end when all who take part have arrived ----
+ *
+ * Callers attach and detach at will. A phase ends when all who take part have arrived, and its end elects one of them. Let
+ * all of them attach before the first one arrives: else that one ends a phase by itself. */
+
+typedef struct lk_barrier_try {
+    void *at;
+    uint64_t full;
+} lk_barrier_try;
+
+/* What a call writes: the phase that is on, from 0 on, and 1 or 0, of which the calls say what it means. */
+typedef struct lk_phase {
+    uint64_t phase;
+    uint32_t flag;
+} lk_phase;
+
+/* What liblk_barrier.a exports. Each pointer has to be good, and the two handles of lk_raw_barrier_share have to differ. */
+int32_t lk_raw_barrier_new(uint32_t callers, lk_barrier_try *first);
+int32_t lk_raw_barrier_share(lk_barrier_try *from, lk_barrier_try *next);
+int32_t lk_raw_barrier_attach(lk_barrier_try *barrier, uint64_t *phase, uint32_t *flag);
+int32_t lk_raw_barrier_arrive(lk_barrier_try *barrier, uint64_t *phase, uint32_t *flag);
+int32_t lk_raw_barrier_look(lk_barrier_try *barrier, uint64_t *phase, uint32_t *flag);
+int32_t lk_raw_barrier_detach(lk_barrier_try *barrier, uint64_t *phase, uint32_t *flag);
+int32_t lk_raw_barrier_arrive_and_detach(lk_barrier_try *barrier, uint64_t *phase, uint32_t *flag);
+int32_t lk_raw_barrier_arrive_and_detach_except_last(lk_barrier_try *barrier, uint64_t *phase, uint32_t *flag);
+int32_t lk_raw_barrier_close(lk_barrier_try *barrier);
+
+/* A barrier for this number of callers, of whom nobody takes part yet, and a handle of the first one. The handle has to be
+ * blank. LK_BAD_CALLERS, LK_NO_MEMORY, LK_IN_USE. */
+static inline int lk_barrier_new_try(uint32_t callers, lk_barrier_try *first) {
+    return first ? lk_raw_barrier_new(callers, first) : LK_NULL;
+}
+
+/* A handle of a further caller. It has to be blank. LK_BAD_CALLERS if all callers have handles, LK_IN_USE; LK_NO_MEMORY,
+ * and then the further caller may be lost. */
+static inline int lk_barrier_share_try(lk_barrier_try *from, lk_barrier_try *next) {
+    if (!from || !next) return LK_NULL;
+    if (from == next) return LK_IN_USE;
+    return lk_raw_barrier_share(from, next);
+}
+
+/* All calls from here on: LK_WOULD_BLOCK if another caller is at the barrier at this moment; then nothing was done. `told`
+ * may be NULL, and is written after LK_OK, LK_ALREADY_IN, LK_NOT_IN and LK_TWICE: the phase that is on. After the last three
+ * the flag is 0 and nothing was changed. */
+
+/* The caller takes part from now on. LK_ALREADY_IN. */
+static inline int lk_barrier_attach_try(lk_barrier_try *barrier, lk_phase *told) {
+    lk_phase none = {0, 0}, *to = told ? told : &none;
+    return barrier ? lk_raw_barrier_attach(barrier, &to->phase, &to->flag) : LK_NULL;
+}
+
+/* The caller arrives. LK_OK: it was the last one, so the phase has ended, and the flag is 1: it is elected. LK_WAITING: another
+ * has yet to arrive; then look. LK_NOT_IN, LK_TWICE. */
+static inline int lk_barrier_arrive_try(lk_barrier_try *barrier, lk_phase *told) {
+    lk_phase none = {0, 0}, *to = told ? told : &none;
+    return barrier ? lk_raw_barrier_arrive(barrier, &to->phase, &to->flag) : LK_NULL;
+}
+
+/* Changes nothing. LK_OK: the phase in which the caller arrived has ended; the flag is 1 if it is elected. LK_WAITING: it has
+ * not. LK_NOT_IN. */
+static inline int lk_barrier_look_try(lk_barrier_try *barrier, lk_phase *told) {
+    lk_phase none = {0, 0}, *to = told ? told : &none;
+    return barrier ? lk_raw_barrier_look(barrier, &to->phase, &to->flag) : LK_NULL;
+}
+
+/* The caller takes part no more. If all who stay have arrived, the phase ends, and one of them is elected. The flag is 1 if
+ * nobody takes part any more. LK_NOT_IN. */
+static inline int lk_barrier_detach_try(lk_barrier_try *barrier, lk_phase *told) {
+    lk_phase none = {0, 0}, *to = told ? told : &none;
+    return barrier ? lk_raw_barrier_detach(barrier, &to->phase, &to->flag) : LK_NULL;
+}
+
+/* The caller arrives and takes part no more; the flag as above. LK_NOT_IN, LK_TWICE. */
+static inline int lk_barrier_arrive_and_detach_try(lk_barrier_try *barrier, lk_phase *told) {
+    lk_phase none = {0, 0}, *to = told ? told : &none;
+    return barrier ? lk_raw_barrier_arrive_and_detach(barrier, &to->phase, &to->flag) : LK_NULL;
+}
+
+/* The same, unless it is the last one that takes part: then the flag is 1, the phase has ended, and the caller is elected and
+ * takes part still. LK_NOT_IN, LK_TWICE. */
+static inline int lk_barrier_arrive_and_detach_except_last_try(lk_barrier_try *barrier, lk_phase *told) {
+    lk_phase none = {0, 0}, *to = told ? told : &none;
+    return barrier ? lk_raw_barrier_arrive_and_detach_except_last(barrier, &to->phase, &to->flag) : LK_NULL;
+}
+
+/* The caller detaches, if it takes part, and goes; the handle is blank then. */
+static inline int lk_barrier_close_try(lk_barrier_try *barrier) {
+    return barrier ? lk_raw_barrier_close(barrier) : LK_NULL;
+}
+
+/* The same calls, again and again as long as another caller is at the barrier. */
+static inline int lk_barrier_attach_wait(lk_barrier_try *barrier, lk_phase *told) {
+    int code;
+    for (unsigned tries = 0; (code = lk_barrier_attach_try(barrier, told)) == LK_WOULD_BLOCK; tries++) lk_between(tries);
+    return code;
+}
+
+static inline int lk_barrier_arrive_wait(lk_barrier_try *barrier, lk_phase *told) {
+    int code;
+    for (unsigned tries = 0; (code = lk_barrier_arrive_try(barrier, told)) == LK_WOULD_BLOCK; tries++) lk_between(tries);
+    return code;
+}
+
+static inline int lk_barrier_detach_wait(lk_barrier_try *barrier, lk_phase *told) {
+    int code;
+    for (unsigned tries = 0; (code = lk_barrier_detach_try(barrier, told)) == LK_WOULD_BLOCK; tries++) lk_between(tries);
+    return code;
+}
+
+static inline int lk_barrier_arrive_and_detach_wait(lk_barrier_try *barrier, lk_phase *told) {
+    int code;
+    for (unsigned tries = 0; (code = lk_barrier_arrive_and_detach_try(barrier, told)) == LK_WOULD_BLOCK; tries++) lk_between(tries);
+    return code;
+}
+
+static inline int lk_barrier_arrive_and_detach_except_last_wait(lk_barrier_try *barrier, lk_phase *told) {
+    int code;
+    for (unsigned tries = 0; (code = lk_barrier_arrive_and_detach_except_last_try(barrier, told)) == LK_WOULD_BLOCK; tries++) lk_between(tries);
+    return code;
+}
+
+static inline int lk_barrier_close_wait(lk_barrier_try *barrier) {
+    int code;
+    for (unsigned tries = 0; (code = lk_barrier_close_try(barrier)) == LK_WOULD_BLOCK; tries++) lk_between(tries);
+    return code;
+}
+
+/* Looks again and again until the phase has ended in which the caller arrived: forever, if another who takes part neither
+ * arrives nor detaches nor closes. */
+static inline int lk_barrier_await_wait(lk_barrier_try *barrier, lk_phase *told) {
+    int code;
+    for (unsigned tries = 0; (code = lk_barrier_look_try(barrier, told)) == LK_WOULD_BLOCK || code == LK_WAITING; tries++) lk_between(tries);
+    return code;
+}
+
+/* Arrives, and waits so until the phase has ended. LK_NOT_IN, LK_TWICE. */
+static inline int lk_barrier_wait_all(lk_barrier_try *barrier, lk_phase *told) {
+    int code = lk_barrier_arrive_wait(barrier, told);
+    return code == LK_WAITING ? lk_barrier_await_wait(barrier, told) : code;
 }
 
 #ifdef __cplusplus

@@ -1,5 +1,8 @@
 //! A word as what is under a key of the table.
 
+ghost use Rattle.std.specs.Prelude.{◌≡◌};
+ghost use Rattle.c_table.specs.Words.{swapped};
+
 use dshash_core::CellObject;
 
 /// A 64-bit word under a key. It stands for no value; the states are `u64`.
@@ -12,10 +15,24 @@ pub enum WordCall {
     Put(u64),
     /// This is added to what is there, modulo 2^64; if nothing is there, it is put there.
     Add(u64),
+    /// If nothing is there, this word is put there.
+    PutAbsent(u64),
+    /// If the first of the two is there, the second takes its place.
+    CompareAndSwap(u64, u64),
     /// Nothing changes.
     Get,
     /// The key goes.
     Delete,
+}
+
+/// The word of a key that has `expected` becomes `word`; any other stays.
+fn swapped(before: Option<u64>, expected: u64, word: u64) -> Option<u64>
+    ensures { result ≡ swapped before expected word }
+{
+    match before {
+        Some(found) => Some(if found == expected { word } else { found }),
+        None => None,
+    }
 }
 
 impl CellObject for Word {
@@ -47,6 +64,8 @@ impl CellObject for Word {
         let after = match call {
             WordCall::Put(n) => Some(*n),
             WordCall::Add(n) => Some(before.unwrap_or(0).wrapping_add(*n)),
+            WordCall::PutAbsent(n) => Some(before.unwrap_or(*n)),
+            WordCall::CompareAndSwap(expected, n) => swapped(before, *expected, *n),
             WordCall::Get => before,
             WordCall::Delete => None,
         };
@@ -56,7 +75,11 @@ impl CellObject for Word {
     fn reads(call: &WordCall) -> bool {
         match call {
             WordCall::Get => true,
-            WordCall::Put(_) | WordCall::Add(_) | WordCall::Delete => false,
+            WordCall::Put(_)
+            | WordCall::Add(_)
+            | WordCall::PutAbsent(_)
+            | WordCall::CompareAndSwap(_, _)
+            | WordCall::Delete => false,
         }
     }
 

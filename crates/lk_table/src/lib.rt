@@ -82,6 +82,40 @@ pub extern "C" fn lk_raw_table_add(
         .number()
 }
 
+/// Tries to put a word under a key that is not there; if the key was there, its word stays, and is written to `old`.
+#[unsafe(no_mangle)]
+pub extern "C" fn lk_raw_table_put_absent(
+    alloc: Global,
+    table: &mut Handle,
+    key: u64,
+    word: u64,
+    old: &mut u64,
+) -> i32
+    ensures { (code : TheCode) × (result ≡ number_of code) × Changes table.old.value table.new.value key (verb.PutAbsent word) old.old old.new code }
+{
+    table
+        .try_change(alloc, key, WordCall::PutAbsent(word), old)
+        .number()
+}
+
+/// Tries to put a word under a key that has `expected`; any other word stays. If the key was there, the word before is
+/// written to `old`: the call put its own exactly if that is `expected`.
+#[unsafe(no_mangle)]
+pub extern "C" fn lk_raw_table_compare_and_swap(
+    alloc: Global,
+    table: &mut Handle,
+    key: u64,
+    expected: u64,
+    word: u64,
+    old: &mut u64,
+) -> i32
+    ensures { (code : TheCode) × (result ≡ number_of code) × Changes table.old.value table.new.value key (verb.CompareAndSwap expected word) old.old old.new code }
+{
+    table
+        .try_change(alloc, key, WordCall::CompareAndSwap(expected, word), old)
+        .number()
+}
+
 /// Tries to read the word under a key, which is written to `word` if the key is there. One turn.
 #[unsafe(no_mangle)]
 pub extern "C" fn lk_raw_table_get(

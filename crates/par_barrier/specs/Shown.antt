@@ -6,7 +6,7 @@ use lib.ListN.{get_elem?}
 use Rattle.lock_book.specs.declared.view.Entry.{Entry}
 use Rattle.lock_book.specs.History.{last_of}
 use Rattle.lock_book.specs.Told.{Makes, MakesAll}
-use Rattle.lock_book.specs.Shown.{Belongs as BelongsToShelf, callers_of as callers_of_shelf, mine_of, number_of as number_of_pass, seen_of}
+use Rattle.lock_book.specs.Shown.{Belongs as BelongsToShelf, Missed as MissedShelf, callers_of as callers_of_shelf, mine_of, number_of as number_of_pass, seen_of}
 use Rattle.par_barrier.specs.declared.history.BarrierState.{BarrierState}
 use Rattle.par_barrier.specs.declared.history.BarrierCall.{BarrierCall}
 use Rattle.par_barrier.specs.declared.history.BarrierCall.TheVariants.{Arrive, Attach, Look}
@@ -63,6 +63,10 @@ Called old new c r = Makes BarrierLegal nobody (number_of old) (history_of old) 
 -- the same of some calls, one after another
 abbrev pub CalledAll : BarrierPass → BarrierPass → List (BarrierCall × BarrierReply) → Type 0
 CalledAll old new calls = MakesAll BarrierLegal nobody (number_of old) (history_of old) (own_of old) (history_of new) (own_of new) calls
+
+-- a call that would not wait found another caller at the barrier: the pass counts it, and has seen nothing new
+abbrev pub Missed : BarrierPass → BarrierPass → Type 0
+Missed old new = MissedShelf old.pass new.pass
 
 -- the reply of a refused call
 abbrev pub refusal_reply : BarrierAnswer → BarrierReply

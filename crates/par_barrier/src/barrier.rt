@@ -74,7 +74,7 @@ impl Barrier {
     }
 
     /// Announces it to the callers that wait, if such a reply may have come with the end of a phase.
-    fn announce_end(&self, pass: &mut BarrierPass, reply: BarrierReply)
+    pub(crate) fn announce_end(&self, pass: &mut BarrierPass, reply: BarrierReply)
         requires own { Belongs self.now pass.old }
         ensures own { Belongs self.now pass.new × (number_of pass.new ≡ number_of pass.old) }
         ensures same { (history_of pass.new ≡ history_of pass.old) × (own_of pass.new ≡ own_of pass.old) }

@@ -1,0 +1,3 @@
+pub mod Handles
+pub mod Lists
+pub mod Owned

@@ -1,0 +1,7 @@
+pub mod Numbers
+pub mod Shares
+pub mod Tries
+pub mod Made
+pub mod Codes
+pub mod Owned
+pub mod Calls
