@@ -165,11 +165,7 @@ fn is_begun_after(alloc: Global, before: &[String], words: &[String]) -> Result<
 }
 
 /// The words with others before them, and `--agg=count` before all.
-fn with_count(
-    alloc: Global,
-    before: &[String],
-    words: &[String],
-) -> Result<Vec<String>, AllocError>
+fn with_count(alloc: Global, before: &[String], words: &[String]) -> Result<Vec<String>, AllocError>
     ensures { IfOk result (λ counting. texts counting.items ≡ codes "--agg=count" ∷ (texts before.entry.now ++ texts words.entry.now)) }
 {
     let mut counting = Vec::new(alloc);
@@ -180,11 +176,7 @@ fn with_count(
 }
 
 /// Puts copies of the words after the others.
-fn push_all(
-    alloc: Global,
-    words: &[String],
-    list: &mut Vec<String>,
-) -> Result<(), AllocError>
+fn push_all(alloc: Global, words: &[String], list: &mut Vec<String>) -> Result<(), AllocError>
     ensures { OnOk result (texts list.new.items ≡ texts list.old.items ++ texts words.now) }
 {
     'words: for word in words {

@@ -1,4 +1,4 @@
-use Rattle.std.proofs.Common.{◌≡◌, ◌<◌, ◌∙◌, ap, ap₂, arith, sym}
+use Rattle.std.proofs.Common.{◌≡◌, ◌<◌, ◌∙◌, ap₂, arith, sym}
 use Rattle.answer_text.specs.Words.{texts}
 use Rattle.input_hints.specs.Wrong.{given_places, is_begun}
 use Rattle.input_hints.proofs.Begun.{all_begun, fewer_begun}
