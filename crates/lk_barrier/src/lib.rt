@@ -33,11 +33,7 @@ pub extern "C" fn lk_raw_barrier_new(alloc: Global, callers: u32, first: &mut Ha
 
 /// A further caller in a blank handle. It takes memory for the handle's caller.
 #[unsafe(no_mangle)]
-pub extern "C" fn lk_raw_barrier_share(
-    alloc: Global,
-    from: &mut Handle,
-    next: &mut Handle,
-) -> i32
+pub extern "C" fn lk_raw_barrier_share(alloc: Global, from: &mut Handle, next: &mut Handle) -> i32
     ensures { (code : TheCode) × (result ≡ number_of code) × Shares from.old.value next.old.value from.new.value next.new.value code }
 {
     share(alloc, from, next).number()
