@@ -20,7 +20,13 @@ fn main(rt: HostRuntime) -> anyhow::Result<ExitCode> {
         eprintln!(rt; "no memory")?;
         return Ok(ExitCode::FAILURE);
     };
-    let Work { sum: _, loads, failed } = total_of(&works);
-    println!(rt; "{THREADS} threads, {SQUARES} squares each: {loads} loads, {failed} of them failed")?;
+    let Work {
+        sum: _,
+        loads,
+        failed,
+    } = total_of(&works);
+    println!(rt;
+        "{THREADS} threads, {SQUARES} squares each: {loads} loads, {failed} of them failed"
+    )?;
     Ok(ExitCode::SUCCESS)
 }

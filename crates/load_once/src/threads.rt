@@ -89,7 +89,7 @@ fn square<R: Wait + Clock>(
 }
 
 /// What one thread does: it sums up the squares of all keys below `keys`.
-fn work<R: Wait + Clock>(
+fn sum_up<R: Wait + Clock>(
     rt: &R,
     loader: &Loader<Squares>,
     mut pass: LoaderPass<Squares>,
@@ -100,7 +100,11 @@ fn work<R: Wait + Clock>(
     requires free { (k : ℕ) → load_of pass k ≡ None }
     ensures sum { result.sum ≡ squares_below keys }
 {
-    let mut work = Work { sum: 0, loads: 0, failed: 0 };
+    let mut work = Work {
+        sum: 0,
+        loads: 0,
+        failed: 0,
+    };
     for key in 0..keys {
         let square = square(rt, loader, &mut pass, &mut work, key);
         work.sum = work.sum.wrapping_add(square);
@@ -128,13 +132,17 @@ pub fn all_work<R: Threads + Wait + Clock + Sync>(
         &|pass: LoaderPass<Squares>| -> Work
             requires { Belongs shared.now pass × ((k : ℕ) → load_of pass k ≡ None) }
             ensures { result.sum ≡ squares_below keys }
-        { work(rt, shared, pass, keys) },
+        { sum_up(rt, shared, pass, keys) },
     )
 }
 
 /// What the threads did together; the sum is that of the last.
 pub fn total_of(works: &[Work]) -> Work {
-    let mut total = Work { sum: 0, loads: 0, failed: 0 };
+    let mut total = Work {
+        sum: 0,
+        loads: 0,
+        failed: 0,
+    };
     for work in works {
         total.sum = work.sum;
         total.loads = total.loads.saturating_add(work.loads);

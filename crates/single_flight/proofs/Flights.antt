@@ -1,18 +1,18 @@
 -- What every history of a cell shows: the laws, who has the load, and what became of a load.
 use Rattle.std.proofs.Common.{◌≡◌, ◌≢◌, ℕ, ◌==◌, Bool, true, false, cond, ◌&&◌, ◌||◌, List, [], ◌∷◌, ◌++◌, refl, sym, ap, ◌∙◌, subst, eq-eqb, ne_eqb}
-use Rattle.std.specs.Prelude.{Option, Some, None}
+use Rattle.std.specs.Prelude.{Option, Some}
 use Rattle.std.specs.List.{list_any}
 use native.Mathlib.Decide.{ℕ_discrete}
 use mathlib.Core.Logic.{dite}
 use Rattle.lock_book.specs.History.{IsLegal, calls_by, last_of}
 use Rattle.lock_book.proofs.Uses.{legal_back, legal_front}
 use Rattle.single_flight.specs.declared.history.CellState.{CellState}
-use Rattle.single_flight.specs.declared.history.CellState.TheVariants.{Empty, Loading, Here}
+use Rattle.single_flight.specs.declared.history.CellState.TheVariants.{Empty, Loading}
 use Rattle.single_flight.specs.declared.history.CellCall.{CellCall}
 use Rattle.single_flight.specs.declared.history.CellReply.{CellReply}
 use Rattle.single_flight.specs.Cells.{MayCall}
-use Rattle.single_flight.specs.Laws.{CellLegal, GetsWhatWasPut, IsHistory, LoadsAlone, LoadsOnce, Step, is_end, is_loss, is_put, is_removal, load_after, load_from, value_after, value_from}
-use Rattle.single_flight.proofs.Steps.{IsOf, after-holds, content, content-step, empty-loading, ended-none, had-load, kept-some, loading-stays, none-some, of-step, put-none, put-some, true-false, value-there, yours-step}
+use Rattle.single_flight.specs.Laws.{CellLegal, GetsWhatWasPut, LoadsAlone, LoadsOnce, Step, is_end, is_loss, is_removal, load_after, load_from, value_after, value_from}
+use Rattle.single_flight.proofs.Steps.{IsOf, after-holds, content, content-step, empty-loading, ended-none, had-load, kept-some, loading-stays, none-some, of-step, put-none, put-some, value-there, yours-step}
 
 pub or-parts : (a b : Bool) → (a || b) ≡ false → (a ≡ false) × (b ≡ false)
 or-parts true b e = absurd (cc)

@@ -1,13 +1,13 @@
 -- What one turn at a cell tells its caller: of the value, of the load, and of a load that was waited for.
-use Rattle.std.proofs.Common.{◌≡◌, ◌≢◌, ℕ, zero, suc, ◌<◌, Bool, true, false, cond, List, [], ◌∷◌, ◌++◌, length, map, refl, sym, ap, ◌∙◌, subst, arith, append_assoc, eq-eqb, length-append}
-use Rattle.std.specs.Prelude.{Option, Some, None, ◌||◌}
+use Rattle.std.proofs.Common.{◌≡◌, ℕ, Bool, true, false, cond, List, [], ◌∷◌, ◌++◌, length, map, refl, sym, ap, ◌∙◌, subst, arith, append_assoc, eq-eqb, length-append}
+use Rattle.std.specs.Prelude.{Some, None, ◌||◌}
 use Rattle.std.specs.List.{list_any}
 use Rattle.std.proofs.lemmas.List.Folds.{list_any-append}
 use mathlib.Core.Option.{some}
 use lib.ListN.{get_elem?}
 use Rattle.lock_book.specs.History.{IsLegal, StartsWith, calls_by, entry, last_of}
 use Rattle.lock_book.proofs.Histories.{calls_by_mine, last_snoc}
-use Rattle.lock_book.proofs.Uses.{last-append, legal-append, legal_back, legal_front, map_at}
+use Rattle.lock_book.proofs.Uses.{last-append, legal-append, legal_back, map_at}
 use Rattle.single_flight.specs.declared.cell.Cell.{Cell}
 use Rattle.single_flight.specs.declared.history.CellState.{CellState}
 use Rattle.single_flight.specs.declared.history.CellState.TheVariants.{Empty, Loading, Here}
@@ -15,8 +15,8 @@ use Rattle.single_flight.specs.declared.history.CellCall.{CellCall}
 use Rattle.single_flight.specs.declared.history.CellCall.TheVariants.{Ask, Look, Put, Fail, Remove}
 use Rattle.single_flight.specs.declared.history.CellReply.{CellReply}
 use Rattle.single_flight.specs.declared.history.CellReply.TheVariants.{Value, Yours, Busy, Failed, Done, Refused}
-use Rattle.single_flight.specs.Cells.{MayCall, next, stepped}
-use Rattle.single_flight.specs.Laws.{CellLegal, IsHistory, Step, is_loss, load_after, load_in, value_after, value_in}
+use Rattle.single_flight.specs.Cells.{next, stepped}
+use Rattle.single_flight.specs.Laws.{CellLegal, IsHistory, Step, is_loss, load_after, load_in, value_in}
 use Rattle.single_flight.specs.declared.found.Found.{Found}
 use Rattle.single_flight.specs.declared.found.Found.TheVariants as found
 use Rattle.single_flight.specs.Shown.{HasFailed, IfFailed}

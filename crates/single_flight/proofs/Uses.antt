@@ -1,7 +1,6 @@
 -- Asking for one key, for the callers of a loader.
-use Rattle.std.proofs.Common.{◌≡◌, ◌≢◌, ℕ, Bool, true, ◌∙◌, [], ◌∷◌, ◌++◌, ◌&&◌, List, ap, append-nil, append_assoc, refl, sym, subst}
-use Rattle.std.specs.Prelude.{Option, None}
-use Rattle.std.specs.List.{list_all}
+use Rattle.std.proofs.Common.{◌≡◌, ℕ, Bool, true, ◌∙◌, [], ◌∷◌, ◌++◌, ◌&&◌, List, ap, append-nil, append_assoc, refl, sym, subst}
+use Rattle.std.specs.Prelude.{None}
 use Rattle.std.proofs.lemmas.List.Folds.{list_all-append}
 use Rattle.lock_book.specs.declared.kept.Kept.{Ghosts}
 use Rattle.lock_book.specs.declared.shelf.Pass.{Pass}

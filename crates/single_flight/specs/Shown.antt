@@ -1,5 +1,5 @@
 -- What a contract sees of a loader, of its passes, and of what a caller finds.
-use Rattle.std.specs.Prelude.{◌≡◌, ◌≢◌, ℕ, ◌<◌, Bool, true, false, List, [], ◌∷◌, ◌++◌, Option, Some, None}
+use Rattle.std.specs.Prelude.{◌≡◌, ◌≢◌, ℕ, ◌<◌, Bool, true, false, List, ◌∷◌, ◌++◌, Option, Some, None}
 use Rattle.std.specs.List.{list_all, list_any}
 use Rattle.lock_book.specs.declared.kept.Kept.{Ghosts}
 use Rattle.lock_book.specs.declared.shelf.Pass.{Pass}

@@ -1,4 +1,4 @@
-use Rattle.std.proofs.Common.{◌≡◌, ◌∙◌, ◌∷◌, [], ℕ, List, ap, sym, subst}
+use Rattle.std.proofs.Common.{◌∷◌, [], ℕ, List, sym, subst}
 use Rattle.lock_book.specs.History.{IsLegal, entry, last_of}
 use Rattle.lock_book.specs.Shown.{mine_of, number_of, seen_of}
 use Rattle.lock_book.proofs.Uses.{legal_front, opens_at}
