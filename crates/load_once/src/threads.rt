@@ -1,8 +1,6 @@
 //! What each thread does: it sums up all squares, and counts the loads that it makes.
 
-ghost use Rattle.std.specs.Prelude.{◌≡◌, ◌<◌, ◌≤◌, ◌*◌, ◌%◌, ◌^◌, ℕ, length, IfOk, IfSome, None};
-ghost use mathlib.Core.Option.{some};
-ghost use lib.ListN.{get_elem?};
+ghost use Rattle.std.specs.Prelude.{◌≡◌, ◌<◌, ◌≤◌, ◌*◌, ◌%◌, ◌^◌, ℕ, length, slice_index_or, IfOk, IfSome, None};
 ghost use Rattle.single_flight.specs.Shown.{Belongs, keys_of, load_of};
 ghost use Rattle.load_once.specs.Squares.{squares_below};
 
@@ -112,7 +110,29 @@ fn sum_up<R: Wait + Clock>(
     work
 }
 
-/// What each of `threads` threads did, at one loader.
+/// What each thread did, one for each pass of the loader.
+fn works_of<R: Threads + Wait + Clock + Sync>(
+    rt: &R,
+    loader: &Loader<Squares>,
+    passes: Vec<LoaderPass<Squares>>,
+    keys: u32,
+) -> Result<Vec<Work>, AllocError>
+    requires keys { keys ≤ keys_of loader.now }
+    requires own { (i : ℕ) (p : _) → i < length passes.items → p ≡ slice_index_or passes.items i p → Belongs loader.now p × ((k : ℕ) → load_of p k ≡ None) }
+    ensures count { IfOk result (λ v. length v.items ≡ length passes.items) }
+    ensures sums { IfOk result (λ v. (i : ℕ) (w : _) → i < length passes.items → (slice_index_or v.items i w).sum ≡ squares_below keys) }
+{
+    map_vec(
+        rt,
+        passes,
+        &|pass: LoaderPass<Squares>| -> Work
+            requires { (keys ≤ keys_of loader.now) × (Belongs loader.now pass × ((k : ℕ) → load_of pass k ≡ None)) }
+            ensures { result.sum ≡ squares_below keys }
+        { sum_up(rt, loader, pass, keys) },
+    )
+}
+
+/// What each of `threads` threads did, with one loader.
 pub fn all_work<R: Threads + Wait + Clock + Sync>(
     rt: &R,
     alloc: Global,
@@ -121,19 +141,11 @@ pub fn all_work<R: Threads + Wait + Clock + Sync>(
 ) -> Result<Vec<Work>, AllocError>
     requires threads { 0 < threads }
     requires keys { 0 < keys }
-    ensures threads { IfOk result (λ v. length v.items ≡ threads) }
-    ensures sums { IfOk result (λ v. (i : ℕ) (w : Work) → get_elem? v.items i ≡ some w → w.sum ≡ squares_below keys) }
+    ensures count { IfOk result (λ v. length v.items ≡ threads) }
+    ensures sums { IfOk result (λ v. (i : ℕ) (w : _) → i < threads → (slice_index_or v.items i w).sum ≡ squares_below keys) }
 {
     let (loader, passes) = Loader::new(alloc, keys, threads)?;
-    let shared = &loader;
-    map_vec(
-        rt,
-        passes,
-        &|pass: LoaderPass<Squares>| -> Work
-            requires { Belongs shared.now pass × ((k : ℕ) → load_of pass k ≡ None) }
-            ensures { result.sum ≡ squares_below keys }
-        { sum_up(rt, shared, pass, keys) },
-    )
+    works_of(rt, &loader, passes, keys)
 }
 
 /// What the threads did together; the sum is that of the last.
