@@ -1,0 +1,5 @@
+use Rattle.single_flight.proofs.Flights as flights
+use Rattle.single_flight.proofs.laws.loads_alone.Goals as goal
+
+pub returns : goal.returns
+returns g c = flights.loads_alone g.row.V.Denot
