@@ -1,12 +1,13 @@
 -- A row of some pieces by its number over all of them.
-use Rattle.std.proofs.Common.{◌≡◌, ◌<◌, ◌≤◌, ◌+◌, ◌-◌, ◌++◌, ◌∙◌, ℕ, zero, suc, List, [], ◌∷◌, length, take, drop, get_or, refl, ap, sym, subst, arith, append_assoc, length-append, length-drop, take-append-drop}
-use Rattle.std.proofs.lemmas.List.{drop_more, get_or-append-add, get_or_append_left, take_more}
+use Rattle.std.proofs.Common.{◌≡◌, ◌<◌, ◌≤◌, ◌+◌, ◌-◌, ◌++◌, ◌∙◌, ℕ, List, [], ◌∷◌, length, take, drop, get_or, map, ap, sym, subst, arith, append-nil, append_assoc, length-append, take-append-drop}
+use Rattle.std.proofs.lemmas.List.{drop_more, get_or-append-add, get_or_append_left, map-append, take_more}
+use Rattle.std.proofs.lemmas.List.Concat.{flat_map-append}
 use Rattle.std.proofs.lemmas.Grind.{get_or_after_one}
 use Rattle.csv_rows.specs.Records.{record_at}
 use Rattle.row_blocks.specs.Blocks.{Table}
 use Rattle.row_windows.specs.Stretch.{Stretch}
+use Rattle.gather_law.specs.Shares.{together}
 use Rattle.split_run.specs.Pieces.{AreUnder, piece_records, piece_rows, rows_of}
-use Rattle.split_run.proofs.FirstPiece.{rows_apart, rows_more}
 
 -- a row of a window is behind the rows before the window
 pub row_there : (header : List (List ℕ)) (rows wrows more : Table) (row : ℕ) → 1 ≤ row → row < length (header ∷ wrows)
@@ -22,6 +23,12 @@ row_there header rows wrows more row some within =
     ∙ (get_or_append_left (rows ++ wrows) more [] (length rows + k) (omega (arith, short, length-append rows wrows))
     ∙ (get_or-append-add rows wrows k []
     ∙ (get_or_after_one (header ∷ wrows) k [] ∙ ap (record_at (header ∷ wrows)) here))))
+
+rows_apart : (xs ys : List Stretch) → rows_of (xs ++ ys) ≡ rows_of xs ++ rows_of ys
+rows_apart xs ys = ap together (map-append piece_rows xs ys) ∙ flat_map-append (λ (l : Table). l) (map piece_rows xs) (map piece_rows ys)
+
+rows_more : (xs : List Stretch) (p : Stretch) → rows_of (xs ++ p ∷ []) ≡ rows_of xs ++ piece_rows p
+rows_more xs p = rows_apart xs (p ∷ []) ∙ ap (λ (l : Table). rows_of xs ++ l) (append-nil (piece_rows p))
 
 -- a piece by its place
 module _ (pieces : List Stretch) (at : ℕ) (p : Stretch) (low : at < length pieces) (is : p ≡ get_or pieces at p) where

@@ -1,4 +1,4 @@
-use Rattle.std.proofs.Common.{◌≡◌, ◌<◌, ◌≤◌, ◌+◌, ◌*◌, ◌∷◌, ◌∙◌, [], ℕ, List, ap, arith, drop, length, length-drop, refl, take}
+use Rattle.std.proofs.Common.{◌≡◌, ◌+◌, ◌∷◌, ◌∙◌, ap, arith, length, length-drop, refl, take}
 use Rattle.csv_rows.specs.Records.{record_at, records_of}
 use Rattle.row_blocks.specs.Blocks.{Table}
 use Rattle.split_run.specs.Pieces.{piece_records, piece_rows, rows_of}
