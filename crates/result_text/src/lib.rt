@@ -28,6 +28,7 @@ mod values;
 use crate::order::in_order;
 use crate::parts::{lines_in_threads, lines_of};
 use crate::table::TableWriter;
+use crate::values::group_count;
 pub use laws::parts_answer;
 pub use order::compare_columns;
 use par_model::BoundPlan;
@@ -54,7 +55,7 @@ pub fn text_of(
     ensures answer { IfOk result (λ text. (header : List (List ℕ)) (rows : List (List (List ℕ))) (m : GroupsByKey)
         → bound.now ≡ bound_plan header plan.now.plan → AreGroups bound.now rows m → groups.now ≡ listed m → IsAnswer plan.now.plan (header ∷ rows) text.items) }
 {
-    let refs = in_order(alloc, groups, bound.group_count)?;
+    let refs = in_order(alloc, groups, group_count(bound))?;
     let mut table = TableWriter::new(alloc);
     table.write_header(plan, bound)?;
     table.write_groups(bound, groups, &refs)?;
@@ -80,11 +81,12 @@ pub fn text_in_threads<R: Threads + Sync>(
         → bound.now ≡ bound_plan header plan.now.plan → AreGroups bound.now rows m → groups.now ≡ listed m → IsAnswer plan.now.plan (header ∷ rows) (joined pieces.items)) }
 {
     let paying = threads.min(groups.len() / FEWEST_GROUPS);
-    if bound.group_count == 0 || paying < 2 {
+    let columns = group_count(bound);
+    if columns == 0 || paying < 2 {
         let text = text_of(alloc, plan, bound, groups)?;
         return behind(alloc, text, Vec::new(alloc));
     }
-    let refs = in_order(alloc, groups, bound.group_count)?;
+    let refs = in_order(alloc, groups, columns)?;
     let mut table = TableWriter::new(alloc);
     table.write_header(plan, bound)?;
     let header = table.into_text()?;
@@ -111,6 +113,6 @@ pub fn lines_text(alloc: Global, bound: &BoundPlan, groups: &Groups) -> Part
     requires printable { ArePrintable bound.now groups.now }
     ensures { IfOk result (λ text. AreLinesOf bound.now groups.now text.items) }
 {
-    let refs = in_order(alloc, groups, bound.group_count)?;
+    let refs = in_order(alloc, groups, group_count(bound))?;
     lines_of(alloc, bound, groups, &refs)
 }

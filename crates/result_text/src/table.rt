@@ -13,7 +13,7 @@ ghost use Rattle.result_text.specs.Text.{line_record, shown};
 ghost use Rattle.result_text.specs.Written.{IsBetween, written};
 
 use crate::order::GroupRef;
-use crate::values::{push_columns, push_header, push_values};
+use crate::values::{group_count, push_columns, push_header, push_values};
 use csv::{ByteRecord, Writer, WriterBuilder};
 use par_model::{AggState, BoundPlan};
 use partial_agg::{Groups, empty};
@@ -66,7 +66,7 @@ impl TableWriter {
         requires within { All (λ group. group.at < length groups.now) refs.now }
         ensures text { OnOk result (written self.new.writer ≡ written self.old.writer ++ table_text (map (line_record bound.now) (shown bound.now (map (line_of (length bound.now.groups) groups.now) refs.now)))) }
     {
-        if bound.group_count == 0 && refs.is_empty() {
+        if group_count(bound) == 0 && refs.is_empty() {
             return self.write_group(bound, &[], &empty());
         }
         self.write_each(bound, groups, refs)
@@ -106,7 +106,7 @@ impl TableWriter {
         ensures between { OnOk result (IsBetween self.new.writer) }
     {
         self.row.clear();
-        push_columns(&mut self.row, key, bound.group_count)?;
+        push_columns(&mut self.row, key, group_count(bound))?;
         push_values(&mut self.row, &mut self.text, bound, state)?;
         self.write_record()
     }

@@ -16,6 +16,15 @@ use par_model::{AggState, BoundPlan, Item, ItemKind, SlotState};
 use plan_spec::Plan;
 use std::alloc::AllocError;
 
+/// How many columns a plan groups by. Its aggregates are few, too.
+pub(crate) fn group_count(bound: &BoundPlan) -> u32
+    ensures count { result ≡ length bound.now.groups }
+    ensures items { length bound.now.items ≤ 8 }
+{
+    let _items = bound.items();
+    bound.group_columns().len() as u32
+}
+
 /// The names of the output columns: those to group by, then those of the aggregates.
 pub(crate) fn push_header(
     row: &mut ByteRecord,
@@ -26,7 +35,7 @@ pub(crate) fn push_header(
     requires bound { IsBoundFrom plan.now.plan bound.now }
     ensures fields { OnOk result (fields_of row.new ≡ fields_of row.old ++ table_header plan.now.plan) }
 {
-    push_names(row, plan, bound.group_count)?;
+    push_names(row, plan, group_count(bound))?;
     push_item_texts(row, plan, bound.items().len() as u32)
 }
 

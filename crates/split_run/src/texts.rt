@@ -50,18 +50,28 @@ pub fn table_text<R: Threads + Sync>(
     ensures { IfOk result (λ pieces. (header : List (List ℕ)) (width : ℕ) (rows : Table) → bound.now ≡ bound_plan header plan.now.plan → length rows ≤ 2 ^ 50 → AreShared bound.now width rows maps.items
         → IsAnswer plan.now.plan (header ∷ rows) (joined pieces.items)) }
 {
-    if bound.group_count == 0 || maps.len() < 2 || count_groups(&maps) < fewest {
+    let columns = group_count(bound);
+    if columns == 0 || maps.len() < 2 || count_groups(&maps) < fewest {
         let whole = put_together(rt, alloc, maps)?;
         let text = text_of(alloc, plan, bound, &whole.into_groups())?;
         return behind(alloc, text, Vec::new(alloc));
     }
     let mut lists = lend_all(alloc, &maps)?;
     let count = lists.len().saturating_mul(RANGES);
-    let ranges = Ranges::new(alloc, &lists, bound.group_count, count)?;
+    let ranges = Ranges::new(alloc, &lists, columns, count)?;
     part_all(rt, alloc, &mut lists, &ranges);
     let header = header_text(alloc, plan, bound)?;
     let texts = range_texts(rt, alloc, bound, &lists, &ranges)?;
     behind(alloc, header, texts)
+}
+
+/// How many columns a plan groups by. Its aggregates are few, too.
+fn group_count(bound: &BoundPlan) -> u32
+    ensures count { result ≡ length bound.now.groups }
+    ensures items { length bound.now.items ≤ 8 }
+{
+    let _items = bound.items();
+    bound.group_columns().len() as u32
 }
 
 /// How many groups some maps have together.

@@ -1,6 +1,7 @@
 //! What a line says of a refused row.
 //!
-//! It names a column of a plan: that of an aggregate or of a filter, by its place. The text is made at once, since the line is written after the plan is gone.
+//! It names a column of a plan: that of an aggregate or of a filter, by its place. The text is made at once, since the
+//! line is written after the plan is gone.
 
 ghost use Rattle.std.specs.Prelude.{◌≡◌, ◌⊎◌, ◌++◌, IfOk, OnOk, string_bytes};
 ghost use Rattle.table_query.specs.Lines.{number_kind, refusal_text};

@@ -59,10 +59,8 @@ fn answer_in_threads<R: Threads + Sync>(
 fn reads_below(bound: &BoundPlan, width: u32) -> bool
     ensures { OnTrue result (HasColumns bound.now width) }
 {
-    let groups = &bound.groups[..bound.group_count as usize];
-    let items = &bound.items[..bound.item_count as usize];
-    groups.iter().all(|column| *column < width)
-        && items.iter().all(|item| item.column < width)
+    bound.group_columns().iter().all(|column| *column < width)
+        && bound.items().iter().all(|item| item.column < width)
         && bound.filters().iter().all(|filter| filter.column < width)
 }
 

@@ -182,8 +182,16 @@ fn are_same(one: &BoundPlan, other: &BoundPlan) -> bool {
         && one.items == other.items
         && one.item_count == other.item_count
         && one.hash == other.hash
-        && one.filter_count == other.filter_count
-        && is_same(&one.filters[0], &other.filters[0])
+        && are_same_filters(one.filters(), other.filters())
+}
+
+/// Whether two lists of at most one filter are the same.
+fn are_same_filters(one: &[Filter], other: &[Filter]) -> bool {
+    match (one.first(), other.first()) {
+        (Some(one), Some(other)) => is_same(one, other),
+        (None, None) => true,
+        _ => false,
+    }
 }
 
 /// Whether two filters of numbers are the same.

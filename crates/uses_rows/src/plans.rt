@@ -131,7 +131,9 @@ fn binds(rt: HostRuntime) -> Result<(), Fail> {
     let store = header(rt.alloc())?;
     let list = owned(rt.alloc(), WORDS)?;
     let bound = bound_words(rt.alloc(), list.as_slice(), &store).ok_or("no plan")?;
-    assert!(rt; bound.groups[0] == 0 && bound.items[1].column == 1 && bound.item_count == 2);
+    assert!(rt; bound.group_columns().first() == Some(&0));
+    assert!(rt; bound.items().len() == 2);
+    assert!(rt; bound.items().last().is_some_and(|item| item.column == 1));
     assert!(rt; bound.filters().len() == 1 && !bound.hash);
     Ok(())
 }

@@ -37,7 +37,7 @@ fn slots_of(plan: &BoundPlan) -> u32
     ensures items { result ≡ length plan.now.items }
     ensures few { result ≤ 8 }
 {
-    plan.items[..plan.item_count as usize].len() as u32
+    plan.items().len() as u32
 }
 
 /// Sends all groups if they are many. Answers false if the receiver is gone.

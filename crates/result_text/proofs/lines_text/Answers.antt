@@ -1,7 +1,6 @@
-use Rattle.std.proofs.Common.{◌≡◌, ◌∙◌, ap, sym, subst, arith, ℕ, length, length-take, map, take}
+use Rattle.std.proofs.Common.{◌∙◌, ap, sym, subst, ℕ, length, map}
 use Rattle.std.proofs.lemmas.Result.{IfOk-weaker}
 use Rattle.std.specs.List.Sorted.{IsPermutation, IsSortedBy}
-use Rattle.par_model.specs.Plan.{Plan}
 use Rattle.result_text.specs.GroupOrder.{is_before, line_of}
 use Rattle.result_text.specs.Pieces.{lines_text}
 use Rattle.result_text.proofs.Sorting.{IsRead, all_read, all_refs, lines-groups, rising}
@@ -13,8 +12,7 @@ returns c =
     let groups = c.args.groups.now in
     let refs = c.in_ok-refs.refs.items in
     let many = length plan.groups in
-    let view : length plan.groups ≡ length (take c.bound.inside.group_count c.bound.inside.groups) = ap (λ (p : Plan). length p.groups) (sym c.bound.view_is) in
-    let count : c.bound.inside.group_count ≡ length plan.groups = omega (arith, view, length-take c.bound.inside.group_count c.bound.inside.groups, c.bound.told, c.bound.invariant.groups_fit) in
+    let count = c.group_count.ensures.count in
     let same = c.in_ok-refs.ensures.same in
     let short = c.in_ok-refs.ensures.short in
     let sorted = subst (λ (n : ℕ). IsSortedBy (is_before n) refs) count c.in_ok-refs.ensures.sorted in

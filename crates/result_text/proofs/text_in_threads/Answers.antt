@@ -1,10 +1,9 @@
-use Rattle.std.proofs.Common.{◌≡◌, All, ◌≤◌, ◌++◌, ◌∷◌, ◌∙◌, Ok, Result, ap, arith, refl, sym, subst, List, ℕ, length, length-take, map, take}
+use Rattle.std.proofs.Common.{All, ◌++◌, ◌∷◌, ◌∙◌, Ok, Result, ap, refl, sym, subst, List, ℕ, length, map}
 use Rattle.std.proofs.lemmas.Result.{IfOk-weaker}
 use Rattle.std.specs.Global.{Vec}
 use Rattle.std.specs.List.Sorted.{IsSortedBy}
 use Rattle.std.specs.declared.alloc.AllocError.{AllocError}
 use Rattle.par_model.specs.Outcome.{IsAnswer}
-use Rattle.par_model.specs.Plan.{Plan}
 use Rattle.par_model.specs.Table.{table_text}
 use Rattle.result_text.specs.GroupOrder.{is_before, line_of}
 use Rattle.result_text.specs.Pieces.{AreParts}
@@ -21,14 +20,14 @@ use Rattle.result_text.proofs.text_in_threads.Goals as goal
 abbrev Part : Type 0
 Part = Result (Vec ℕ) AllocError
 
-pub returns-then-bound-eq0-clause-text : goal.returns-then-bound-eq0-clause-text
-returns-then-bound-eq0-clause-text g c =
+pub returns-then-columns-eq0-clause-text : goal.returns-then-columns-eq0-clause-text
+returns-then-columns-eq0-clause-text g c =
     let text = c.in_ok-text.text in
     IfOk-weaker c.behind.result _ _ (λ pieces e.
     subst (IsTextOf c.args.plan.now.plan c.args.bound.now c.args.groups.now) (sym (joined-one text pieces.items (e ∙ ap (λ (parts : List Part). Ok text ∷ parts) c.new.ensures.items))) c.in_ok-text.ensures.text) c.behind.ensures
 
-pub returns-then-bound-eq0-clause-answer : goal.returns-then-bound-eq0-clause-answer
-returns-then-bound-eq0-clause-answer g c =
+pub returns-then-columns-eq0-clause-answer : goal.returns-then-columns-eq0-clause-answer
+returns-then-columns-eq0-clause-answer g c =
     let text = c.in_ok-text.text in
     IfOk-weaker c.behind.result _ _ (λ pieces e header rows m bound are listed.
     subst (λ (t : List ℕ). IsAnswer c.args.plan.now.plan (header ∷ rows) t) (sym (joined-one text pieces.items (e ∙ ap (λ (parts : List Part). Ok text ∷ parts) c.new.ensures.items)))
@@ -39,8 +38,7 @@ returns-clause-text g c =
     let plan = c.args.bound.now in
     let groups = c.args.groups.now in
     let refs = c.in_ok-refs.refs.items in
-    let view : length plan.groups ≡ length (take c.bound.inside.group_count c.bound.inside.groups) = ap (λ (p : Plan). length p.groups) (sym c.bound.view_is) in
-    let count : c.bound.inside.group_count ≡ length plan.groups = omega (arith, view, length-take c.bound.inside.group_count c.bound.inside.groups, c.bound.told, c.bound.invariant.groups_fit) in
+    let count = c.group_count-columns.ensures.count in
     let sorted = subst (λ (n : ℕ). IsSortedBy (is_before n) refs) count c.in_ok-refs.ensures.sorted in
     let parts = subst (λ (rs : List GroupRef). AreParts plan groups rs c.in_ok-parts.parts.items) c.deref.ensures.value c.in_ok-parts.ensures in
     let lines : List Line = map (line_of (length plan.groups) groups) refs in
@@ -49,19 +47,17 @@ returns-clause-text g c =
     c.requires.printable c.in_ok-refs.ensures.short c.in_ok-refs.ensures.same sorted c.new-table.ensures.empty c.in_ok-write_header.ensures.text refl
     (joined-parts plan groups refs c.in_ok-header.header c.in_ok-parts.parts.items pieces.items parts e
     ∙ ap (λ (t : List ℕ). t ++ table_text (map (line_record plan) lines)) c.in_ok-header.ensures
-    ∙ ap (λ (shown : List Line). header ++ table_text (map (line_record plan) shown)) (sym (shown-all plan lines (λ none. c.if-bound-eq0.false (count ∙ none)))))) c.behind-2.ensures
+    ∙ ap (λ (shown : List Line). header ++ table_text (map (line_record plan) shown)) (sym (shown-all plan lines (λ none. c.if-columns-eq0.false (count ∙ none)))))) c.behind-2.ensures
 
 pub returns-clause-answer : goal.returns-clause-answer
 returns-clause-answer g c =
     let plan = c.args.bound.now in
-    let view : length plan.items ≡ length (take c.bound.inside.item_count c.bound.inside.items) = ap (λ (p : Plan). length p.items) (sym c.bound.view_is) in
-    let few : length plan.items ≤ 8 = omega (arith, view, length-take c.bound.inside.item_count c.bound.inside.items, c.bound.invariant.items_fit) in
+    let few = c.group_count-columns.ensures.items in
     IfOk-weaker c.behind-2.result _ _ (λ pieces is header rows m bound are listed. answers c.args.plan.now.plan plan c.args.groups.now _ header rows m is c.in_ok-refs.ensures.short few bound are listed) (returns-clause-text g c)
 
 pub in_order-requires : goal.in_order-requires
 in_order-requires g c =
     let plan = c.args.bound.now in
     let groups = c.args.groups.now in
-    let view : length plan.groups ≡ length (take c.bound.inside.group_count c.bound.inside.groups) = ap (λ (p : Plan). length p.groups) (sym c.bound.view_is) in
-    let count : c.bound.inside.group_count ≡ length plan.groups = omega (arith, view, length-take c.bound.inside.group_count c.bound.inside.groups, c.bound.told, c.bound.invariant.groups_fit) in
+    let count = c.group_count-columns.ensures.count in
     subst (λ (n : ℕ). All (λ (g : Group). IsKeyOf n g.key) groups) (sym count) c.requires.printable.keys

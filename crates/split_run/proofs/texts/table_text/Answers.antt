@@ -1,9 +1,8 @@
-use Rattle.std.proofs.Common.{◌≡◌, ◌<◌, ◌≤◌, ◌^◌, ◌∷◌, ◌∙◌, ℕ, List, All, Ok, Result, ap, arith, length, length-take, subst, sym, take}
+use Rattle.std.proofs.Common.{◌∷◌, ◌∙◌, ℕ, List, All, Ok, Result, ap, arith, subst, sym}
 use Rattle.std.proofs.lemmas.Result.{IfOk-weaker}
 use Rattle.std.specs.Global.{Vec}
 use Rattle.std.specs.declared.alloc.AllocError.{AllocError}
 use Rattle.par_model.specs.Outcome.{IsAnswer}
-use Rattle.par_model.specs.Plan.{Plan}
 use Rattle.partial_agg.specs.Groups.{GroupsByKey}
 use Rattle.partial_agg.specs.Listed.{listed}
 use Rattle.result_text.specs.Printable.{ArePrintable}
@@ -13,7 +12,7 @@ use Rattle.gather_law.specs.KeyParts.{AreListings, part_map}
 use Rattle.split_run.specs.Parted.{AreRangeTexts, IsReady, lists_of}
 use Rattle.split_run.specs.Ranges.{count_of, range_of}
 use Rattle.split_run.specs.declared.parted.Parted.{Parted}
-use Rattle.split_run.proofs.TableTexts.{AreShares, are_shares, printable_range, texts_answer}
+use Rattle.split_run.proofs.TableTexts.{are_shares, printable_range, texts_answer}
 use Rattle.split_run.proofs.texts.table_text.Goals as goal
 
 abbrev Piece : Type 0
@@ -27,8 +26,8 @@ text_of-requires-clause-printable g c =
     let rows = c.requires.rows in
     subst (ArePrintable plan) (sym c.into_groups.ensures) (printable-listed plan rows.1 c.in_ok-whole.whole rows.2 (c.in_ok-whole.ensures plan rows.0 rows.1 rows.3 (omega (arith, rows.2))))
 
-pub returns-then-bound-eq0 : goal.returns-then-bound-eq0
-returns-then-bound-eq0 g c =
+pub returns-then-columns-eq0 : goal.returns-then-columns-eq0
+returns-then-columns-eq0 g c =
     let plan = c.args.bound.now in
     let text = c.in_ok-text.text in
     IfOk-weaker c.behind.result _ _ (λ pieces e header width rows bound few shared.
@@ -43,8 +42,7 @@ range_texts-requires-clause-ready g c κs within =
     let r = c.in_ok-ranges.ranges in
     let olds = c.in_ok-lists.lists.items in
     let rows = c.requires.rows in
-    let view : length plan.items ≡ length (take c.bound.inside.item_count c.bound.inside.items) = ap (λ (p : Plan). length p.items) (sym c.bound.view_is) in
-    let eight : length plan.items ≤ 8 = omega (arith, view, length-take c.bound.inside.item_count c.bound.inside.items, c.bound.invariant.items_fit) in
+    let eight = c.group_count-columns.ensures.items in
     let lent = subst (λ (ms : List GroupsByKey). AreListings ms (lists_of olds)) c.deref-2.ensures.value c.in_ok-lists.ensures in
     subst (All (IsReady r)) (sym c.deref-4.ensures.value) (are_shares plan r rows.0 rows.1 c.args.maps.items olds c.part_all.new.lists.items eight rows.3 lent c.part_all.ensures).ready
 
@@ -55,8 +53,7 @@ range_texts-requires-clause-printable g c κs within =
     let olds = c.in_ok-lists.lists.items in
     let news = c.part_all.new.lists.items in
     let rows = c.requires.rows in
-    let view : length plan.items ≡ length (take c.bound.inside.item_count c.bound.inside.items) = ap (λ (p : Plan). length p.items) (sym c.bound.view_is) in
-    let eight : length plan.items ≤ 8 = omega (arith, view, length-take c.bound.inside.item_count c.bound.inside.items, c.bound.invariant.items_fit) in
+    let eight = c.group_count-columns.ensures.items in
     let lent = subst (λ (ms : List GroupsByKey). AreListings ms (lists_of olds)) c.deref-2.ensures.value c.in_ok-lists.ensures in
     let shares = are_shares plan r rows.0 rows.1 c.args.maps.items olds news eight rows.3 lent c.part_all.ensures in
     subst (λ (ls : List Parted). (range : ℕ) → ArePrintable plan (listed (part_map (range_of r) range (lists_of ls)))) (sym c.deref-4.ensures.value)
@@ -73,12 +70,10 @@ returns g c =
     let given = c.requires.rows in
     let texts = c.in_ok-texts.texts.items in
     let first = c.in_ok-header.header in
-    let view : length plan.items ≡ length (take c.bound.inside.item_count c.bound.inside.items) = ap (λ (p : Plan). length p.items) (sym c.bound.view_is) in
-    let eight : length plan.items ≤ 8 = omega (arith, view, length-take c.bound.inside.item_count c.bound.inside.items, c.bound.invariant.items_fit) in
-    let sight : length plan.groups ≡ length (take c.bound.inside.group_count c.bound.inside.groups) = ap (λ (p : Plan). length p.groups) (sym c.bound.view_is) in
-    let count : c.bound.inside.group_count ≡ length plan.groups = omega (arith, sight, length-take c.bound.inside.group_count c.bound.inside.groups, c.bound.told, c.bound.invariant.groups_fit) in
+    let eight = c.group_count-columns.ensures.items in
+    let count = c.group_count-columns.ensures.count in
     let lent = subst (λ (ms : List GroupsByKey). AreListings ms (lists_of olds)) c.deref-2.ensures.value c.in_ok-lists.ensures in
     let shares = are_shares plan r given.0 given.1 maps olds news eight given.3 lent c.part_all.ensures in
     let are : AreRangeTexts plan r news (count_of r) texts = subst (λ (ls : List Parted). AreRangeTexts plan r ls (count_of r) texts) c.deref-4.ensures.value c.in_ok-texts.ensures in
     IfOk-weaker c.behind-2.result _ _ (λ pieces e header width rows bound few shared.
-    texts_answer names plan r maps news texts first pieces.items (λ none. c.if-bound-eq0.false (count ∙ none)) (c.in_ok-ranges.ensures.columns ∙ count) shares.listings are c.in_ok-header.ensures e header width rows bound few shared) c.behind-2.ensures
+    texts_answer names plan r maps news texts first pieces.items (λ none. c.if-columns-eq0.false (count ∙ none)) (c.in_ok-ranges.ensures.columns ∙ count) shares.listings are c.in_ok-header.ensures e header width rows bound few shared) c.behind-2.ensures

@@ -1,4 +1,4 @@
-use Rattle.std.proofs.Common.{rules, Option, subst, sym}
+use Rattle.std.proofs.Common.{rules, ◌∙◌, Option, subst, sym}
 use Rattle.std.proofs.lemmas.Result.{err_from_is_err_and}
 use Rattle.par_model.specs.Named.{NamedPlan}
 use Rattle.table_query.specs.Stops.{IsExplained}
@@ -34,7 +34,7 @@ returns-clause-ready g c =
     let b = c.in_ok-bound.ensures in
     record {
       query = c.in_ok-plan.ensures.plan;
-      bound = record { is = b.bound; columns = b.columns; some = some.0; few = some.1 };
+      bound = record { is = b.bound; columns = b.columns; plain = b.plain ∙ c.in_ok-plan.ensures.plain; some = some.0; few = some.1 };
       records = ready_records left rows c.in_ok-rows.ensures.records;
       outcome = ready_outcome query left rows plan bound c.in_ok-plan.ensures.plan c.in_ok-rows.ensures.records (by_records_bound plan.plan rows bound some.0 some.1 b.whole b.bound);
     }
