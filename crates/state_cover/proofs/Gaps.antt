@@ -1,8 +1,8 @@
 -- Bytes that a cover lacks.
-use Rattle.std.proofs.Common.{◌≡◌, ◌≢◌, ◌<◌, ◌≤◌, ◌+◌, ◌^◌, ◌++◌, ◌∙◌, ◌⊎◌, inl, inr, ℕ, zero, suc, List, [], ◌∷◌, None, Option, Some, ap, append_assoc, append-nil, arith, drop, length, length-append, refl, subst, sym}
+use Rattle.std.proofs.Common.{◌≡◌, ◌≢◌, ◌<◌, ◌≤◌, ◌+◌, ◌^◌, ◌++◌, ◌∙◌, ◌⊎◌, inl, inr, ℕ, zero, suc, List, [], ◌∷◌, None, Option, Some, ap, append_assoc, append-nil, arith, drop, get_or, length, length-append, refl, subst, sym}
 use Rattle.state_cover.specs.Bytes.{AreFrom, AreSome, AreWhole, AreWholeFrom, BeginWhole, IsEndOf, IsGap, IsMissing, IsWhole, IsWithin, had}
 use Rattle.state_cover.specs.declared.missing.Missing.{Missing}
-use Rattle.state_cover.proofs.Counts.{HasIt, IsBeyond, far, had-append, had-cons, none_or_some, one, which}
+use Rattle.state_cover.proofs.Counts.{HasIt, IsBeyond, far, had-append, had-cons, none_or_some, one, one_of, which}
 use Rattle.state_head.specs.Cover.{AreStretches, IsAfter, IsCover, IsStretch}
 use Rattle.state_head.specs.declared.cover.Place.{Place}
 use Rattle.state_head.specs.declared.cover.Stretch.{Stretch}
@@ -13,7 +13,7 @@ none_of sources before s more source at are first later = go (which source at s)
   where
     go : (HasIt source at s × (one source at s ≡ 1)) ⊎ (one source at s ≡ 0) → (had source at more ≡ 0) ⊎ (0 < had source at more) → had source at (s ∷ more) ≡ 0
     go (inl has) rest = absurd (first has.0)
-    go (inr none) (inl no) = omega (arith, none, no, had-cons source at s more)
+    go (inr none) (inl rest) = omega (arith, none, rest, had-cons source at s more)
     go (inr none) (inr some) = absurd (later some)
 
 -- stretches of sources after this one
@@ -44,7 +44,7 @@ none_before sources before s more source at are same less = none_of sources befo
 
 -- no stretch is left
 pub gap_none : (source : ℕ) (stretches : List Stretch) (gap : Missing) → stretches ≡ [] → gap ≡ record { source = source; from = 0; to = None } → IsGap source stretches gap
-gap_none source stretches gap e is = subst (λ (g : Missing). IsGap source stretches g) (sym is) (record { source_is = refl; some = refl; none = λ at within. ap (λ (ss : List Stretch). had source at ss) e })
+gap_none source stretches gap e is = subst (λ (g : Missing). IsGap source stretches g) (sym is) (record { source_is = refl; some = refl; none = λ at within. ap (λ (ss : List Stretch). had source at ss) e; before = λ at less. absurd (omega (arith, less)) })
 
 -- the first one is of another source
 pub gap_other : (sources : ℕ) (before : Option Place) (source : ℕ) (s : Stretch) (more : List Stretch) → AreStretches sources before (s ∷ more) → source ≤ s.place.source → s.place.source ≢ source
@@ -53,6 +53,7 @@ gap_other sources before source s more are from other = record {
   source_is = refl;
   some = refl;
   none = λ at within. none_later sources before s more source at are (omega (arith, from, other));
+  before = λ at less. absurd (omega (arith, less));
 }
 
 -- it does not begin at the source's first byte
@@ -62,38 +63,64 @@ gap_front sources before source s more are same some = record {
   source_is = refl;
   some = some;
   none = λ at within. none_before sources before s more source at are same within.1;
+  before = λ at less. absurd (omega (arith, less));
 }
 
+-- it does, and has each byte before its end
+first_had : (source at : ℕ) (s : Stretch) (more : List Stretch) → s.place.source ≡ source → s.place.from ≡ 0 → at < s.place.to → 1 ≤ had source at (s ∷ more)
+first_had source at s more same from less = omega (arith, had-cons source at s more, one_of source at s (record { source_is = same; from = omega (arith, from); to = less }))
+
 -- bytes after it are not there
-pub gap_after : (sources : ℕ) (before : Option Place) (source : ℕ) (s : Stretch) (more : List Stretch) (end : ℕ) → AreStretches sources before (s ∷ more) → s.place.source ≡ source → s.place.to ≢ s.place.size → IsEndOf s.place more end
+pub gap_after : (sources : ℕ) (before : Option Place) (source : ℕ) (s : Stretch) (more : List Stretch) (end : ℕ) → AreStretches sources before (s ∷ more) → s.place.source ≡ source → s.place.from ≡ 0 → s.place.to ≢ s.place.size → IsEndOf s.place more end
     → IsGap source (s ∷ more) (record { source = source; from = s.place.to; to = Some end })
-gap_after sources before source s [] end are same short is = record {
+gap_after sources before source s [] end are same start short is = record {
   source_is = refl;
   some = let within = are.0.is_stretch.is_place.within in omega (arith, is, short, within);
   none = λ at within. none_of sources before s [] source at are (λ has. let to = has.to in omega (arith, to, within.0)) (λ some. omega (arith, some));
+  before = λ at less. first_had source at s [] same start less;
 }
-gap_after sources before source s (n ∷ more) end are same short (inl is) = record {
+gap_after sources before source s (n ∷ more) end are same start short (inl is) = record {
   source_is = refl;
   some = begins are.1.0.is_after;
   none = λ at within.
       let there = none_before sources (Some s.place) n more source at are.1 (is.0 ∙ same) (omega (arith, is.1, within.1)) in
       none_of sources before s (n ∷ more) source at are (λ has. let to = has.to in omega (arith, to, within.0)) (λ some. omega (arith, some, there));
+  before = λ at less. first_had source at s (n ∷ more) same start less;
 }
   where
     begins : IsAfter s.place n.place → s.place.to < end
     begins (inl less) = absurd (omega (arith, less, is.0))
     begins (inr next) = omega (arith, next.1, is.1)
-gap_after sources before source s (n ∷ more) end are same short (inr is) = record {
+gap_after sources before source s (n ∷ more) end are same start short (inr is) = record {
   source_is = refl;
   some = let within = are.0.is_stretch.is_place.within in omega (arith, is.1, short, within);
   none = λ at within.
       let there = none_later sources (Some s.place) n more source at are.1 (beyond are.1.0.is_after) in
       none_of sources before s (n ∷ more) source at are (λ has. let to = has.to in omega (arith, to, within.0)) (λ some. omega (arith, some, there));
+  before = λ at less. first_had source at s (n ∷ more) same start less;
 }
   where
     beyond : IsAfter s.place n.place → source < n.place.source
     beyond (inl less) = omega (arith, less, same)
     beyond (inr next) = absurd (is.0 (sym next.0))
+
+-- the same of a list, by its first stretch
+pub other_of : (sources : ℕ) (before : Option Place) (source : ℕ) (stretches : List Stretch) (d : Stretch) → AreStretches sources before stretches → 1 ≤ length stretches → AreFrom source stretches
+    → (get_or stretches 0 d).place.source ≢ source → IsGap source stretches (record { source = source; from = 0; to = None })
+other_of sources before source [] d are some from other = absurd (omega (arith, some))
+other_of sources before source (s ∷ more) d are some from other = gap_other sources before source s more are from other
+
+pub front_of : (sources : ℕ) (before : Option Place) (source : ℕ) (stretches : List Stretch) (d : Stretch) → AreStretches sources before stretches → 1 ≤ length stretches
+    → (get_or stretches 0 d).place.source ≡ source → 0 < (get_or stretches 0 d).place.from → IsGap source stretches (record { source = source; from = 0; to = Some (get_or stretches 0 d).place.from })
+front_of sources before source [] d are some same more = absurd (omega (arith, some))
+front_of sources before source (s ∷ rest) d are some same more = gap_front sources before source s rest are same more
+
+pub after_of : (sources : ℕ) (before : Option Place) (source : ℕ) (stretches : List Stretch) (d : Stretch) (rest : List Stretch) (end : ℕ) → AreStretches sources before stretches → 1 ≤ length stretches
+    → (get_or stretches 0 d).place.source ≡ source → (get_or stretches 0 d).place.from ≤ 0 → (get_or stretches 0 d).place.to ≢ (get_or stretches 0 d).place.size → rest ≡ drop 1 stretches
+    → IsEndOf (get_or stretches 0 d).place rest end → IsGap source stretches (record { source = source; from = (get_or stretches 0 d).place.to; to = Some end })
+after_of sources before source [] d rest end are some same start short e is = absurd (omega (arith, some))
+after_of sources before source (s ∷ more) d rest end are some same start short e is =
+    gap_after sources before source s more end are same (omega (arith, start)) short (subst (λ (ss : List Stretch). IsEndOf s.place ss end) e is)
 
 pub begin_whole : (source : ℕ) (s : Stretch) (more : List Stretch) → s.place.source ≡ source → s.place.from ≡ 0 → s.place.to ≡ s.place.size → BeginWhole source (s ∷ more)
 begin_whole source s more same from to = record { s = s; more = more; is = refl; is_whole = record { source_is = same; from = from; to = to } }
@@ -174,9 +201,19 @@ is_missing sources cover rest source gap less is lacks = record {
   is = is.is;
   whole = subst (λ (n : ℕ). AreWhole n is.front) (sym lacks.source_is) is.whole;
   source = let same = lacks.source_is in omega (arith, less, same);
-  is_gap = record { source_is = refl; some = lacks.some; none = λ at within. subst (λ (n : ℕ). had n at cover ≡ 0) (sym lacks.source_is) (none at within) };
+  is_gap = record {
+    source_is = refl;
+    some = lacks.some;
+    none = λ at within. subst (λ (n : ℕ). had n at cover ≡ 0) (sym lacks.source_is) (none at within);
+    before = λ at less. subst (λ (n : ℕ). 1 ≤ had n at cover) (sym lacks.source_is) (some at less);
+  };
 }
   where
+    some : (at : ℕ) → at < gap.from → 1 ≤ had source at cover
+    some at less =
+        let here = lacks.before at less in
+        omega (arith, here, ap (λ (ss : List Stretch). had source at ss) is.is, had-append source at is.front rest)
+
     none : (at : ℕ) → IsWithin gap.from gap.to at → had source at cover ≡ 0
     none at within =
         let here = lacks.none at within in

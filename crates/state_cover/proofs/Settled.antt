@@ -1,5 +1,5 @@
 -- Stretches in order, put together up to a place.
-use Rattle.std.proofs.Common.{◌≡◌, ◌<◌, ◌≤◌, ◌+◌, ◌-◌, ◌^◌, ◌++◌, ◌∙◌, ◌⊎◌, inl, inr, ℕ, List, [], ◌∷◌, All, Contains, None, Ordering, ap, append_assoc, arith, drop, false, get_or, length, length-append, refl, subst, sum_by, sym, take}
+use Rattle.std.proofs.Common.{◌≡◌, ◌<◌, ◌≤◌, ◌+◌, ◌-◌, ◌^◌, ◌++◌, ◌∙◌, ◌⊎◌, inl, inr, ℕ, List, [], ◌∷◌, All, Contains, Err, IfErr, IfOk, None, Ok, OnOk, Ordering, Result, ap, append_assoc, arith, drop, false, get_or, length, length-append, refl, subst, sum_by, sym, take}
 use Rattle.std.specs.List.Sorted.{IsPermutation}
 use Rattle.std.specs.Ordering.{is_lt, nat_cmp, ordering_then}
 use Rattle.std.proofs.Math.Seq.{take-length}
@@ -13,7 +13,7 @@ use Rattle.state_cover.specs.Joined.{AreSorted, IsBefore, IsJoinOf, IsPutTo, IsR
 use Rattle.state_cover.specs.declared.joining.CoverFault.{CoverFault}
 use Rattle.state_cover.specs.declared.joining.CoverFault.TheVariants.{Many, Memory, Size, Twice}
 use Rattle.state_cover.specs.declared.joining.CoverFault.TheVariants as fault
-use Rattle.state_cover.proofs.Counts.{one}
+use Rattle.state_cover.proofs.Counts.{once, one}
 use Rattle.state_cover.proofs.Runs.{IsJoinedTo, IsPartOf, all_joined, first_joined, last_of, no_pair, one_more, rows_one}
 use Rattle.state_head.specs.Cover.{AreRows, IsCover, IsPlace, IsStretch}
 use Rattle.state_head.specs.declared.cover.Place.{Place}
@@ -31,6 +31,11 @@ settled_first sources (x ∷ xs) s each some is = subst (λ (y : Stretch). IsSet
   where
     first : IsSettledTo sources (x ∷ xs) [] x 1
     first = record { joined_to = first_joined sources x (All-head (IsStretch sources) x xs each); source = λ d. refl; from = λ d. omega arith }
+
+-- the first one, as an index reads it
+pub settled_start : (sources : ℕ) (stretches cover : List Stretch) (d : Stretch) → All (IsStretch sources) stretches → 0 < length stretches → cover ≡ [] → IsSettledTo sources stretches cover (get_or stretches 0 d) 1
+settled_start sources [] cover d each some e = absurd (omega (arith, some))
+settled_start sources (x ∷ xs) cover d each some e = subst (λ (ss : List Stretch). IsSettledTo sources (x ∷ xs) ss x 1) (sym e) (settled_first sources (x ∷ xs) x each some refl)
 
 pub settled_last : (sources : ℕ) (stretches cover : List Stretch) (last : Stretch) (at : ℕ) → IsSettledTo sources stretches cover last at → IsStretch sources last
 settled_last sources stretches cover last at is = last_of sources None cover last is.joined_to.are
@@ -106,6 +111,17 @@ full_not sources stretches cover last is Many none = let few = is.few in omega (
 pub before_of : (a b c d : ℕ) → is_lt (ordering_then (nat_cmp a c) (nat_cmp b d)) ≡ false → (c < a) ⊎ ((c ≡ a) × (d ≤ b))
 before_of a b c d h = grind (arith, nat_tests)
 
+-- a sort by source and place puts them in order
+pub sorted_by : (xs ys : List Stretch) → ys ≡ xs
+    → ((k : ℕ) (d : Stretch) → 0 ≤ k → k + 1 < length xs
+    → is_lt (ordering_then (nat_cmp (get_or xs (k + 1) d).place.source (get_or xs k d).place.source) (nat_cmp (get_or xs (k + 1) d).place.from (get_or xs k d).place.from)) ≡ false)
+    → AreSorted ys
+sorted_by xs ys e h = subst (λ (ss : List Stretch). AreSorted ss) (sym e) sorted
+  where
+    sorted : AreSorted xs
+    sorted k d more =
+        before_of (get_or xs (k + 1) d).place.source (get_or xs (k + 1) d).place.from (get_or xs k d).place.source (get_or xs k d).place.from (h k d (omega arith) more)
+
 pub had_moved : (source at : ℕ) (xs ys : List Stretch) → IsPermutation xs ys → had source at ys ≡ had source at xs
 had_moved source at xs ys h = sum_by-IsPermutation (λ (s : Stretch). one source at s) xs ys h
 
@@ -123,6 +139,24 @@ moved_not xs ys h (Size source) none = record {
 }
 moved_not xs ys h (fault.Rows source) none = let same = sum_by-IsPermutation (rows_one source) xs ys h in omega (arith, none, same)
 moved_not xs ys h Many none = let same = length_permutation xs ys h in omega (arith, none, same)
+
+pub had_as : {A E : Type 0} (r : Result A E) (items : A → List Stretch) (xs ys : List Stretch) → IsPermutation xs ys → IfOk r (λ cover. (source at : ℕ) → had source at (items cover) ≡ had source at ys)
+    → IfOk r (λ cover. (source at : ℕ) → had source at (items cover) ≡ had source at xs)
+had_as (Ok cover) items xs ys h is = λ source at. is source at ∙ had_moved source at xs ys h
+had_as (Err why) items xs ys h is = tt
+
+pub once_of : {A E : Type 0} (r : Result A E) (items : A → List Stretch) (sources : ℕ) (xs ys : List Stretch) → IsPermutation xs ys → IfOk r (λ cover. IsCover sources (items cover))
+    → IfOk r (λ cover. (source at : ℕ) → had source at (items cover) ≡ had source at ys) → OnOk r ((source at : ℕ) → had source at xs ≤ 1)
+once_of (Ok cover) items sources xs ys h is same = λ source at.
+    let few = once sources None (items cover) source at is.stretches in
+    let here = same source at in
+    let moved = had_moved source at xs ys h in
+    omega (arith, few, here, moved)
+once_of (Err why) items sources xs ys h is same = tt
+
+pub refused_of : {A : Type 0} (r : Result A CoverFault) (xs ys : List Stretch) → IsPermutation xs ys → IfErr r (IsNoCover ys) → IfErr r (IsNoCover xs)
+refused_of (Ok cover) xs ys h none = tt
+refused_of (Err why) xs ys h none = moved_not xs ys h why none
 
 -- no stretches have no cover's stretch
 none_is : (ss : List Stretch) → length ss ≡ 0 → ss ≡ []

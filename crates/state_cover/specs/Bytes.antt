@@ -59,13 +59,14 @@ abbrev pub AreSome : ℕ → Option ℕ → Type 0
 AreSome from None = from ≡ 0
 AreSome from (Some to) = from < to
 
--- bytes that some stretches lack
+-- the first bytes of this source that some stretches lack: they have each byte before
 pub record IsGap (source : ℕ) (stretches : List Stretch) (gap : Missing) : Type 0 where
   pub source_is : gap.source ≡ source
   pub some : AreSome gap.from gap.to
   pub none : (at : ℕ) → IsWithin gap.from gap.to at → had source at stretches ≡ 0
+  pub before : (at : ℕ) → at < gap.from → 1 ≤ had source at stretches
 
--- bytes that a cover of so many sources lacks, of the first source that it does not have as a whole
+-- the first bytes that a cover of so many sources lacks, of the first source that it does not have as a whole
 pub record IsMissing (sources : ℕ) (cover : List Stretch) (gap : Missing) : Type 0 where
   pub front : List Stretch
   pub rest : List Stretch

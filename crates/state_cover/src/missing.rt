@@ -1,6 +1,6 @@
 //! Which bytes none of the files has.
 
-ghost use Rattle.std.specs.Prelude.{ℕ, IfNone, IfSome, Option};
+ghost use Rattle.std.specs.Prelude.{◌≡◌, ◌≤◌, ℕ, IfNone, IfSome, Option, drop, length};
 ghost use Rattle.state_cover.specs.Bytes.{AreFrom, AreWhole, BeginWhole, IsEndOf, IsGap, IsMissing};
 ghost use Rattle.state_head.specs.Cover.{AreStretches, IsCover};
 ghost use Rattle.state_head.specs.declared.cover.Place.{Place};
@@ -25,7 +25,7 @@ pub fn missing_bytes(cover: &[Stretch], sources: u32) -> Option<Missing>
     for source in 0..sources {
         match gap_of(rest, source) {
             Some(gap) => return Some(gap),
-            None => rest = &rest[1..],
+            None => rest = after_first(rest),
         }
     }
     None
@@ -38,7 +38,7 @@ fn gap_of(stretches: &[Stretch], source: u32) -> Option<Missing>
     ensures none { IfNone result (BeginWhole source stretches.now) }
     ensures some { IfSome result (IsGap source stretches.now) }
 {
-    let [first, more @ ..] = stretches else {
+    let [first, ..] = stretches else {
         return Some(Missing {
             source,
             from: 0,
@@ -66,8 +66,16 @@ fn gap_of(stretches: &[Stretch], source: u32) -> Option<Missing>
     Some(Missing {
         source,
         from: place.to,
-        to: Some(end_of(place, more)),
+        to: Some(end_of(place, after_first(stretches))),
     })
+}
+
+/// All stretches but the first.
+fn after_first(stretches: &[Stretch]) -> &[Stretch]
+    requires { 1 ≤ length stretches.now }
+    ensures { result.now ≡ drop 1 stretches.now }
+{
+    &stretches[1..]
 }
 
 /// Where the bytes after this place end that are not of the stretches after it: at the first one of its source, or with the source.

@@ -36,9 +36,9 @@ title_none bytes OtherVersion none = none
 title_none bytes (Section why) none = absurd none
 title_none bytes NoHead none = absurd none
 
-pub part_none : (bytes after part rest : List ℕ) (why : FrontFault) → bytes ≡ name_bytes ++ (version_bytes ++ after) → after ≡ section part ++ rest → IsNoPart part why → IsNoFront bytes why
-part_none bytes after part rest Memory e f none = tt
-part_none bytes after part rest NoStates e f none = absurd none
-part_none bytes after part rest OtherVersion e f none = absurd none
-part_none bytes after part rest (Section why) e f none = absurd none
-part_none bytes after part rest NoHead e f none = record { part = part; rest = rest; is = e ∙ ap (λ (bs : List ℕ). name_bytes ++ (version_bytes ++ bs)) f; none = none }
+pub part_none : (bytes after part rest : List ℕ) (why : FrontFault) → bytes ≡ name_bytes ++ (version_bytes ++ after) → after ≡ section part ++ rest → length part ≤ 2 ^ 28 → IsNoPart part why → IsNoFront bytes why
+part_none bytes after part rest Memory e f short none = tt
+part_none bytes after part rest NoStates e f short none = absurd none
+part_none bytes after part rest OtherVersion e f short none = absurd none
+part_none bytes after part rest (Section why) e f short none = absurd none
+part_none bytes after part rest NoHead e f short none = record { part = part; rest = rest; is = e ∙ ap (λ (bs : List ℕ). name_bytes ++ (version_bytes ++ bs)) f; short = short; none = none }

@@ -35,11 +35,12 @@ pub record HasNoSection (bytes : List ℕ) (why : SectionRead) : Type 0 where
   pub is : bytes ≡ name_bytes ++ (version_bytes ++ rest)
   pub none : IsNoSection (2 ^ 28) rest why
 
--- or one of bytes that are no head
+-- or one of at most 2^28 bytes that are no head
 pub record HasNoHead (bytes : List ℕ) : Type 0 where
   pub part : List ℕ
   pub rest : List ℕ
   pub is : bytes ≡ name_bytes ++ (version_bytes ++ (section part ++ rest))
+  pub short : length part ≤ 2 ^ 28
   pub none : (p : Preface) → IsHead p → part ≡ head_bytes p → ⊥
 
 -- why bytes do not begin as a file of states does

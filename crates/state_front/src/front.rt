@@ -2,7 +2,7 @@
 //!
 //! The head is looked at only after its length and its checksum are found right.
 
-ghost use Rattle.std.specs.Prelude.{◌≡◌, ◌≤◌, ◌^◌, ◌++◌, ℕ, Err, IfErr, IfOk, List, MatchResult, OnOk, length};
+ghost use Rattle.std.specs.Prelude.{◌≡◌, ◌<◌, ◌≤◌, ◌^◌, ◌++◌, ℕ, Err, IfErr, IfOk, List, MatchResult, OnOk, length};
 ghost use Rattle.state_front.specs.Front.{IsFront, IsNoFront, IsNoPart, front_bytes};
 ghost use Rattle.state_front.specs.declared.front.FrontWrite.TheVariants as variant;
 ghost use Rattle.state_front.specs.declared.title.FrontFault.TheVariants as fault;
@@ -44,7 +44,10 @@ pub struct FrontRead<'a> {
 pub fn push_front(alloc: Global, out: &mut Vec<u8>, head: &Head<'_>) -> Result<(), FrontWrite>
     ensures front { OnOk result (out.new.items ≡ out.old.items ++ front_bytes (preface_of head.now)) }
     ensures short { OnOk result (length (head_bytes (preface_of head.now)) ≤ 2 ^ 28) }
+
+    // When the error comes that is not of memory. Nothing is written then.
     ensures long { result ≡ Err variant.Long → 2 ^ 28 < length (head_bytes (preface_of head.now)) }
+    ensures same { result ≡ Err variant.Long → out.new.items ≡ out.old.items }
 {
     let mut part = Vec::new(alloc);
     push_head(&mut part, head)?;
