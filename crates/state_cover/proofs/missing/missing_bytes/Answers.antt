@@ -13,4 +13,4 @@ pub loop-source-preserved : goal.loop-source-preserved
 loop-source-preserved c =
     let rest = c.loop-source.rest.now in
     let b = c.in-None.ensures.none in
-    subst (λ (ss : List Stretch). IsWholeTo c.args.sources c.args.cover.now ss (c.loop-source.source + 1)) (sym (c.after_first.ensures ∙ rest_is c.loop-source.source rest b)) (whole_more c.args.sources c.args.cover.now rest c.loop-source.source c.loop-source.invariant b)
+    subst (λ (ss : List Stretch). IsWholeTo c.args.sources c.args.cover.now ss (c.loop-source.source + 1)) (sym (c.after_first-rest.ensures ∙ rest_is c.loop-source.source rest b)) (whole_more c.args.sources c.args.cover.now rest c.loop-source.source c.loop-source.invariant b)
