@@ -29,8 +29,8 @@ pub returns-in_err-last-clause-refused : goal.returns-in_err-last-clause-refused
 returns-in_err-last-clause-refused c =
     let why = err_from_is_err_and c.from_residual.result c.from_residual.ensures.1 in
     rw (why.1, why.2) (
-      settled_not c.args.sources c.args.stretches.now c.loop-at.cover.items c.loop-at.last c.loop-at.at _ c.loop-at.invariant c.loop-at-test.true (get_or_default c.args.stretches.now c.loop-at.at _ _ c.loop-at-test.true)
-      c.in_err-last.field-0.0 c.in_err-last.ensures.refused)
+    settled_not c.args.sources c.args.stretches.now c.loop-at.cover.items c.loop-at.last c.loop-at.at _ c.loop-at.invariant c.loop-at-test.true (get_or_default c.args.stretches.now c.loop-at.at _ _ c.loop-at-test.true)
+    c.in_err-last.field-0.0 c.in_err-last.ensures.refused)
 
 pub loop-at-preserved : goal.loop-at-preserved
 loop-at-preserved c =

@@ -1,4 +1,0 @@
-mod Bodies
-mod Ends
-pub mod Indexes
-mod Taking

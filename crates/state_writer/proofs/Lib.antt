@@ -1,2 +1,0 @@
-mod Cuts
-pub mod Laws
