@@ -1,10 +1,10 @@
 -- How often bytes are had by stretches one after another.
-use Rattle.std.proofs.Common.{◌≡◌, ◌≢◌, ◌==◌, ◌&&◌, ◌<◌, ◌≤◌, ◌+◌, ◌++◌, ◌∙◌, ◌⊎◌, inl, inr, ℕ, zero, suc, Bool, false, true, List, [], ◌∷◌, None, Option, Some, ap, arith, cond, count_by, nat_le, nat_lt, refl, sum_by, sym}
+use Rattle.std.proofs.Common.{◌≡◌, ◌==◌, ◌&&◌, ◌<◌, ◌≤◌, ◌+◌, ◌++◌, ◌⊎◌, inl, inr, ℕ, zero, suc, Bool, false, true, List, [], ◌∷◌, Option, Some, ap, arith, cond, nat_le, nat_lt, refl}
 use Rattle.std.proofs.lemmas.Bool.Decides.{nat_tests}
 use Rattle.std.proofs.lemmas.List.Sums.{sum_by-append, sum_by-cons, sum_by_push}
 use Rattle.state_cover.specs.Bytes.{had, has_byte}
 use Rattle.state_cover.specs.Joined.{Touches, joined}
-use Rattle.state_head.specs.Cover.{AreStretches, IsAfter, IsPlace}
+use Rattle.state_head.specs.Cover.{AreStretches, IsAfter}
 use Rattle.state_head.specs.declared.cover.Place.{Place}
 use Rattle.state_head.specs.declared.cover.Stretch.{Stretch}
 

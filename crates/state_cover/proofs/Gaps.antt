@@ -1,9 +1,9 @@
 -- Bytes that a cover lacks.
-use Rattle.std.proofs.Common.{◌≡◌, ◌≢◌, ◌<◌, ◌≤◌, ◌+◌, ◌^◌, ◌++◌, ◌∙◌, ◌⊎◌, inl, inr, ℕ, zero, suc, List, [], ◌∷◌, None, Option, Some, ap, append_assoc, append-nil, arith, drop, get_or, length, length-append, refl, subst, sym}
-use Rattle.state_cover.specs.Bytes.{AreFrom, AreSome, AreWhole, AreWholeFrom, BeginWhole, IsEndOf, IsGap, IsMissing, IsWhole, IsWithin, had}
+use Rattle.std.proofs.Common.{◌≡◌, ◌≢◌, ◌<◌, ◌≤◌, ◌+◌, ◌++◌, ◌∙◌, ◌⊎◌, inl, inr, ℕ, List, [], ◌∷◌, None, Option, Some, ap, append_assoc, append-nil, arith, drop, get_or, length, length-append, refl, subst, sym}
+use Rattle.state_cover.specs.Bytes.{AreFrom, AreWhole, AreWholeFrom, BeginWhole, IsEndOf, IsGap, IsMissing, IsWhole, IsWithin, had}
 use Rattle.state_cover.specs.declared.missing.Missing.{Missing}
 use Rattle.state_cover.proofs.Counts.{HasIt, IsBeyond, far, had-append, had-cons, none_or_some, one, one_of, which}
-use Rattle.state_head.specs.Cover.{AreStretches, IsAfter, IsCover, IsStretch}
+use Rattle.state_head.specs.Cover.{AreStretches, IsAfter, IsCover}
 use Rattle.state_head.specs.declared.cover.Place.{Place}
 use Rattle.state_head.specs.declared.cover.Stretch.{Stretch}
 

@@ -1,19 +1,19 @@
 -- Stretches that are put together, one after another: what they come to so far.
-use Rattle.std.proofs.Common.{◌≡◌, ◌≢◌, ◌==◌, ◌<◌, ◌≤◌, ◌+◌, ◌^◌, ◌++◌, ◌∙◌, ◌⊎◌, inl, inr, ℕ, Bool, List, [], ◌∷◌, All, Contains, None, Option, Some, ap, append_assoc, append-nil, arith, cond, fold, get_or, length, length-append, map, refl, subst, sum_by, sym, take}
+use Rattle.std.proofs.Common.{◌≡◌, ◌≢◌, ◌==◌, ◌<◌, ◌≤◌, ◌+◌, ◌^◌, ◌++◌, ◌∙◌, ◌⊎◌, inl, inr, ℕ, List, [], ◌∷◌, All, Contains, None, Option, Some, ap, append_assoc, append-nil, arith, cond, fold, length, length-append, map, refl, subst, sym}
 use Rattle.std.specs.List.{flat_map}
 use Rattle.std.proofs.lemmas.Bool.Decides.{nat_tests}
 use Rattle.std.proofs.lemmas.Grind.{flat_map-append}
 use Rattle.std.proofs.lemmas.List.{map-append}
-use Rattle.std.proofs.lemmas.List.Elements.{All-cons, All-nil, All-push, Contains-append_left, Contains-push}
+use Rattle.std.proofs.lemmas.List.Elements.{All-nil, All-push, Contains-append_left, Contains-push}
 use Rattle.std.proofs.lemmas.List.Sums.{fold_push, sum_by-append, sum_by_push}
 use Rattle.state_cover.specs.Bytes.{DifferInSize, had, rows_in, rows_of}
 use Rattle.state_cover.specs.Faults.{IsNoCover, IsNoPair}
-use Rattle.state_cover.specs.Joined.{AreInTouch, IsApartFrom, IsBefore, IsJoinOf, IsNextTo, IsPutTo, IsRun, Run, Touches, joined, joined_rows, stretches_in, whole_of}
+use Rattle.state_cover.specs.Joined.{AreInTouch, IsJoinOf, IsPutTo, IsRun, Run, Touches, joined, joined_rows, stretches_in, whole_of}
 use Rattle.state_cover.specs.declared.joining.CoverFault.{CoverFault}
 use Rattle.state_cover.specs.declared.joining.CoverFault.TheVariants.{Many, Memory, Size, Twice}
 use Rattle.state_cover.specs.declared.joining.CoverFault.TheVariants as fault
-use Rattle.state_cover.proofs.Counts.{had-append, had-push, it_has, joined_has, once, one, one_of}
-use Rattle.state_head.specs.Cover.{AreRows, AreStretches, IsAfter, IsCover, IsNext, IsPlace, IsStretch}
+use Rattle.state_cover.proofs.Counts.{had-append, had-push, it_has, joined_has, one, one_of}
+use Rattle.state_head.specs.Cover.{AreRows, AreStretches, IsAfter, IsPlace, IsStretch}
 use Rattle.state_head.specs.declared.cover.Place.{Place}
 use Rattle.state_head.specs.declared.cover.Rows.{Rows}
 use Rattle.state_head.specs.declared.cover.Rows.TheVariants.{Counted, Refused}

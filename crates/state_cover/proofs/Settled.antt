@@ -1,5 +1,5 @@
 -- Stretches in order, put together up to a place.
-use Rattle.std.proofs.Common.{◌≡◌, ◌<◌, ◌≤◌, ◌+◌, ◌-◌, ◌^◌, ◌++◌, ◌∙◌, ◌⊎◌, inl, inr, ℕ, List, [], ◌∷◌, All, Contains, Err, IfErr, IfOk, None, Ok, OnOk, Ordering, Result, ap, append_assoc, arith, drop, false, get_or, length, length-append, refl, subst, sum_by, sym, take}
+use Rattle.std.proofs.Common.{◌≡◌, ◌<◌, ◌≤◌, ◌+◌, ◌-◌, ◌^◌, ◌++◌, ◌∙◌, ◌⊎◌, inl, inr, ℕ, List, [], ◌∷◌, All, Err, IfErr, IfOk, None, Ok, OnOk, Result, ap, arith, drop, false, get_or, length, length-append, refl, subst, sym, take}
 use Rattle.std.specs.List.Sorted.{IsPermutation}
 use Rattle.std.specs.Ordering.{is_lt, nat_cmp, ordering_then}
 use Rattle.std.proofs.Math.Seq.{take-length}
@@ -7,7 +7,7 @@ use Rattle.std.proofs.lemmas.Bool.Decides.{nat_tests}
 use Rattle.std.proofs.lemmas.List.{take-append-drop, take_more}
 use Rattle.std.proofs.lemmas.List.Elements.{All-get_or, All-head, All-nil}
 use Rattle.std.proofs.lemmas.List.Sorted.{Contains-permutation, IsPermutation-sym, length_permutation, sum_by-IsPermutation}
-use Rattle.state_cover.specs.Bytes.{DifferInSize, had, has_byte, rows_in, rows_of}
+use Rattle.state_cover.specs.Bytes.{had}
 use Rattle.state_cover.specs.Faults.{IsFull, IsNoCover, IsNoPair}
 use Rattle.state_cover.specs.Joined.{AreSorted, IsBefore, IsJoinOf, IsPutTo, IsRun}
 use Rattle.state_cover.specs.declared.joining.CoverFault.{CoverFault}
@@ -15,7 +15,7 @@ use Rattle.state_cover.specs.declared.joining.CoverFault.TheVariants.{Many, Memo
 use Rattle.state_cover.specs.declared.joining.CoverFault.TheVariants as fault
 use Rattle.state_cover.proofs.Counts.{once, one}
 use Rattle.state_cover.proofs.Runs.{IsJoinedTo, IsPartOf, all_joined, first_joined, last_of, no_pair, one_more, rows_one}
-use Rattle.state_head.specs.Cover.{AreRows, IsCover, IsPlace, IsStretch}
+use Rattle.state_head.specs.Cover.{IsCover, IsStretch}
 use Rattle.state_head.specs.declared.cover.Place.{Place}
 use Rattle.state_head.specs.declared.cover.Stretch.{Stretch}
 
