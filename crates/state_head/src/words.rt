@@ -13,12 +13,12 @@ const MOST_WORD: u64 = 1 << 20;
 /// The most bytes that a key has.
 const MOST_KEY: u64 = 248;
 
-/// The words of `--group`, `--agg`, `--where` and `--decimals`, each empty if it was not given.
+/// The words of `--group`, `--agg`, `--where` and `--decimals`, each empty if no such option was given.
 #[derive(Clone, Copy)]
 pub struct PlanWords<'a> {
     pub group: &'a [u8],
     pub agg: &'a [u8],
-    /// The word of `--where`.
+    /// Those of `--where`, which may come several times: each as a text, one after another.
     pub filter: &'a [u8],
     pub decimals: &'a [u8],
 }

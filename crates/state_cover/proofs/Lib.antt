@@ -1,0 +1,5 @@
+mod Counts
+pub mod Each
+mod Gaps
+mod Runs
+mod Settled

@@ -1,0 +1,10 @@
+//! What a file of partial states begins with: its first line, and its head as a section.
+
+#![tactic(auto)]
+
+mod front;
+#[cfg(test)]
+mod tests;
+mod title;
+
+pub use front::{FrontFault, FrontRead, FrontWrite, push_front, read_front};
