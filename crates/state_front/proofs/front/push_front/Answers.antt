@@ -11,5 +11,5 @@ returns-clause-front c =
     let p = preface_of c.args.head.now in
     let part = c.as_slice.result.now in
     front_pushed out c.push_section.new.out.items part p
-        (c.as_slice.ensures.value ∙ c.in_ok-push_head.ensures ∙ ap (λ (bs : List ℕ). bs ++ head_bytes p) c.new-part.ensures.items)
-        (c.in_ok-push_section.ensures ∙ ap (λ (bs : List ℕ). bs ++ section part) (c.in_ok-extend_from_slice-2.ensures.items ∙ ap (λ (bs : List ℕ). bs ++ version_bytes) c.in_ok-extend_from_slice.ensures.items))
+    (c.as_slice.ensures.value ∙ c.in_ok-push_head.ensures ∙ ap (λ (bs : List ℕ). bs ++ head_bytes p) c.new-part.ensures.items)
+    (c.in_ok-push_section.ensures ∙ ap (λ (bs : List ℕ). bs ++ section part) (c.in_ok-extend_from_slice-2.ensures.items ∙ ap (λ (bs : List ℕ). bs ++ version_bytes) c.in_ok-extend_from_slice.ensures.items))
