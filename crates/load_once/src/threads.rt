@@ -1,6 +1,7 @@
 //! What each thread does: it sums up all squares, and counts the loads that it makes.
 
 ghost use Rattle.std.specs.Prelude.{◌≡◌, ◌<◌, ◌≤◌, ◌*◌, ◌%◌, ◌^◌, ℕ, length, slice_index_or, IfOk, IfSome, None};
+ghost use Rattle.lock_book.specs.Shown.{number_of};
 ghost use Rattle.single_flight.specs.Shown.{Belongs, keys_of, load_of};
 ghost use Rattle.load_once.specs.Squares.{squares_below};
 
@@ -42,7 +43,7 @@ fn try_square<R: Wait + Clock>(
     requires own { Belongs loader.now pass.old }
     requires key { key < keys_of loader.now }
     requires free { (k : ℕ) → load_of pass.old k ≡ None }
-    ensures own { Belongs loader.now pass.new }
+    ensures own { Belongs loader.now pass.new × (number_of pass.new ≡ number_of pass.old) }
     ensures free { (k : ℕ) → load_of pass.new k ≡ None }
     ensures sum { work.new.sum ≡ work.old.sum }
     ensures square { IfSome result (λ v. v ≡ (key * key) % 2 ^ 64) }
@@ -63,7 +64,7 @@ fn try_square<R: Wait + Clock>(
 }
 
 /// The square of the key, whichever thread loads it.
-fn square<R: Wait + Clock>(
+pub fn square<R: Wait + Clock>(
     rt: &R,
     loader: &Loader<Squares>,
     pass: &mut LoaderPass<Squares>,
@@ -73,7 +74,7 @@ fn square<R: Wait + Clock>(
     requires own { Belongs loader.now pass.old }
     requires key { key < keys_of loader.now }
     requires free { (k : ℕ) → load_of pass.old k ≡ None }
-    ensures own { Belongs loader.now pass.new }
+    ensures own { Belongs loader.now pass.new × (number_of pass.new ≡ number_of pass.old) }
     ensures free { (k : ℕ) → load_of pass.new k ≡ None }
     ensures sum { work.new.sum ≡ work.old.sum }
     ensures square { result ≡ (key * key) % 2 ^ 64 }
