@@ -9,7 +9,7 @@ pub invariant_of-result : goal.invariant_of-result
 invariant_of-result c =
     let n = c.in_ok-barrier.ensures in
     let e = sym c.in_ok-shared.ensures.ok in
-    let own = each_but_last (λ k p. Belongs c.in_ok-barrier.barrier p × (number_of p ≡ k) × (history_of p ≡ []) × (own_of p ≡ [])) _ _ _ c.in-Some.ensures.items (λ k p at. let o = n.passes.each k p at in (o.0, o.1, n.fresh k p at)) in
+    let own = each_but_last (λ k p. Belongs c.in_ok-barrier.barrier p × (number_of p ≡ k) × (history_of p ≡ []) × (own_of p ≡ [])) _ _ _ c.in-Some.ensures.items (λ k p at. let o = n.passes.each k p at in let f = n.fresh k p at in (o.0, o.1, f.0, f.1)) in
     record {
       own = subst (λ (b : Barrier). Belongs b c.in-Some.pass) e own.1.0;
       others = λ k p at. let o = own.0 k p at in (subst (λ (b : Barrier). Belongs b p) e o.0, o.1, o.2, o.3);
