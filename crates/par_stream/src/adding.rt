@@ -129,7 +129,12 @@ pub(crate) fn add_batch<R: Threads + Wait + Sync>(
     let pieces = batch.pieces.as_slice();
     let (news, more) = match add_pieces(rt, alloc, pieces, bound, olds) {
         Ok(done) => done,
-        Err(why) => return Err(stop_of_block(alloc, plan, bound, pieces, added.count, why)),
+        Err(why) => {
+            let stop = stop_of_block(
+                alloc, plan, bound, pieces, added.count, batch.before, why,
+            );
+            return Err(stop);
+        }
     };
     added.maps = news;
     added.count = added.count.saturating_add(more);

@@ -11,19 +11,31 @@ ghost use Rattle.par_stream.specs.Reading.{HasHeader, IsFilled, IsNotFilled, Rea
 ghost use Rattle.par_stream.specs.Stops.{Tells, stop_of_window};
 ghost use Rattle.par_stream.specs.declared.stop.Stop.TheVariants as stop;
 
+use crate::batch::MOST_FEEDS;
+use crate::place::place_of_long;
 use crate::stop::Stop;
 use csv_rows::{RowStore, RowsAnswer, rows};
 use par_io::Source;
 use row_windows::{Window, WindowAnswer, header_end};
-use std::alloc::Global;
+use std::alloc::{AllocError, Global};
 use std::sync::Wait;
+use text_lines::line_feeds;
 
-/// A window that begins with the header, whose record stands beside it, and whether it is the last.
+/// A window that begins with the header, whose record is beside it, whether it is the last, and how many line feeds come
+/// before its lines.
 #[derive(Drop)]
 pub(crate) struct First {
     pub(crate) window: Window,
     pub(crate) header: RowStore,
     pub(crate) is_last: bool,
+    pub(crate) feeds: u64,
+}
+
+/// The line in which a record begins, and what is said of it.
+#[derive(Drop)]
+struct LongSaid {
+    line: u64,
+    said: String,
 }
 
 /// The first window that has a record.
@@ -41,24 +53,54 @@ pub(crate) fn first_window<R: Wait, S: Source>(
     ensures no_write { IfErr result (λ why. (why ≡ stop.WriteFault) → ⊥) }
 {
     let mut window = Window::new(alloc);
+    let mut feeds = 0;
     for _ in rt.forever() {
         let is_last = match fill(&mut window, source, size) {
             Ok(is_last) => is_last,
-            Err(why) => return Err(stop_of_window(why, 0)),
+            Err(why) => return Err(stop_of_window(alloc, why, 0, feeds, window.rest())),
         };
         match part_header(alloc, &mut window) {
-            Ok(header) => return Ok(First {
-                window,
-                header,
-                is_last,
-            }),
+            Ok(header) => return first_of(window, header, is_last, feeds),
             Err(RowsAnswer::NoHeader) if is_last => return Err(Stop::NoHeader),
             Err(RowsAnswer::NoHeader) => {}
             Err(_) => return Err(Stop::Memory),
         }
+        feeds = more_feeds(feeds, window.lines())?;
         window = behind(alloc, &window)?;
     }
     unreachable!()
+}
+
+/// The first window that has a record, which is the header's. So many line feeds come before that one's line.
+fn first_of(window: Window, header: RowStore, is_last: bool, feeds: u64) -> Result<First, Stop>
+    requires { feeds ≤ most_feeds }
+    ensures window { IfOk result (λ f. f.window ≡ window) }
+    ensures header { IfOk result (λ f. f.header ≡ header) }
+    ensures last { IfOk result (λ f. f.is_last ≡ is_last) }
+    ensures feeds { IfOk result (λ f. f.feeds ≡ feeds + count_feeds window.header) }
+    ensures few { IfOk result (λ f. f.feeds ≤ most_feeds) }
+    ensures why { IfErr result (λ why. why ≡ stop.Memory) }
+{
+    let feeds = more_feeds(feeds, window.header())?;
+    Ok(First {
+        window,
+        header,
+        is_last,
+        feeds,
+    })
+}
+
+/// So many line feeds and those of some bytes, unless they are too many.
+pub(crate) fn more_feeds(feeds: u64, bytes: &[u8]) -> Result<u64, AllocError>
+    requires { feeds ≤ most_feeds }
+    ensures more { IfOk result (λ more. more ≡ feeds + count_feeds bytes.now) }
+    ensures few { IfOk result (λ more. more ≤ most_feeds) }
+{
+    let more = feeds + line_feeds(bytes);
+    if more > MOST_FEEDS {
+        return Err(AllocError);
+    }
+    Ok(more)
 }
 
 /// A window that begins as the one behind another.
@@ -87,15 +129,48 @@ pub(crate) fn fill<S: Source>(
     window.fill(source, size)
 }
 
-/// The reason that stands for a window that was not filled, in front of which there are so many records.
-pub(crate) fn stop_of_window(why: WindowAnswer, row: u64) -> Stop
-    ensures { result ≡ stop_of_window why row }
+/// The reason for a window that was not filled, before which there are so many records and line feeds: what was read of it,
+/// if a record is too long, is this text.
+pub(crate) fn stop_of_window(
+    alloc: Global,
+    why: WindowAnswer,
+    row: u64,
+    feeds: u64,
+    text: &[u8],
+) -> Stop
+    requires { feeds ≤ most_feeds }
+    ensures { IsStopOfWindow why row feeds text.now result }
 {
     match why {
         WindowAnswer::ReadFault => Stop::ReadFault,
-        WindowAnswer::LongRecord => Stop::LongRecord(row),
+        WindowAnswer::LongRecord => stop_of_long(alloc, row, feeds, text),
         WindowAnswer::Memory => Stop::Memory,
     }
+}
+
+/// The reason that a record is too long, or out of memory.
+fn stop_of_long(alloc: Global, row: u64, feeds: u64, text: &[u8]) -> Stop
+    requires { feeds ≤ most_feeds }
+    ensures { IsStopOfLong row feeds text.now result ⊎ (result ≡ stop.Memory) }
+{
+    match long_says(alloc, feeds, text) {
+        Ok(place) => Stop::LongRecord(row, place.line, place.said),
+        Err(AllocError) => Stop::Memory,
+    }
+}
+
+/// The line in which a record begins that is too long, and what is said of it.
+fn long_says(alloc: Global, feeds: u64, text: &[u8]) -> Result<LongSaid, AllocError>
+    requires { feeds ≤ most_feeds }
+    ensures { IfOk result (λ long. SaysOfLong feeds text.now long.line (string_bytes long.said)) }
+{
+    let place = place_of_long(alloc, text, feeds)?;
+    let mut said = String::from_str(alloc, "longer than 67108864 bytes")?;
+    said.push_str(place.quote.as_str())?;
+    Ok(LongSaid {
+        line: place.line,
+        said,
+    })
 }
 
 /// Makes the line of the header, which the window's lines begin with, that of the windows behind it, and gives its record.

@@ -101,10 +101,11 @@ fn open(alloc: Global, plan: &Plan, bound: &BoundPlan, first: First) -> Result<S
         window,
         header,
         is_last,
+        feeds,
     } = first;
     let maps = begin(alloc, plan.workers() + 1)?;
     Ok(Stream {
-        batch: Batch::of_window(alloc, window)?,
+        batch: Batch::of_window(alloc, window, feeds)?,
         is_last,
         spare: Batch::new(alloc),
         header,
@@ -139,13 +140,22 @@ fn next_window<R: Threads + Wait + Sync, S: Source>(
         header,
         mut added,
     } = stream;
-    spare.next.follow(&batch.next)?;
+    spare.follow(&batch)?;
     let filled = add_and_fill(
         rt, alloc, plan, bound, &batch, &mut added, &mut spare, source, size,
     )?;
     let is_last = match filled {
         Ok(is_last) => is_last,
-        Err(why) => return Err(stop_of_window(why, added.count + 1)),
+        Err(why) => {
+            let text = spare.next.rest();
+            return Err(stop_of_window(
+                alloc,
+                why,
+                added.count + 1,
+                spare.feeds,
+                text,
+            ));
+        }
     };
     Ok(Stream {
         batch: spare,
