@@ -46,7 +46,7 @@ impl Batch {
 
     /// A batch of one window, before the lines of which there are so many line feeds.
     pub(crate) fn of_window(alloc: Global, window: Window, before: u64) -> Result<Batch, AllocError>
-        requires { before ≤ most_feeds }
+        requires { before ≤ 2 ^ 60 }
         ensures pieces { IfOk result (λ b. b.pieces.items ≡ window ∷ []) }
         ensures header { IfOk result (λ b. b.next.header ≡ window.header) }
         ensures lines { IfOk result (λ b. b.next.lines ≡ []) }

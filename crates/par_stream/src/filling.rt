@@ -73,12 +73,12 @@ pub(crate) fn first_window<R: Wait, S: Source>(
 
 /// The first window that has a record, which is the header's. So many line feeds come before that one's line.
 fn first_of(window: Window, header: RowStore, is_last: bool, feeds: u64) -> Result<First, Stop>
-    requires { feeds ≤ most_feeds }
+    requires { feeds ≤ 2 ^ 60 }
     ensures window { IfOk result (λ f. f.window ≡ window) }
     ensures header { IfOk result (λ f. f.header ≡ header) }
     ensures last { IfOk result (λ f. f.is_last ≡ is_last) }
     ensures feeds { IfOk result (λ f. f.feeds ≡ feeds + count_feeds window.header) }
-    ensures few { IfOk result (λ f. f.feeds ≤ most_feeds) }
+    ensures few { IfOk result (λ f. f.feeds ≤ 2 ^ 60) }
     ensures why { IfErr result (λ why. why ≡ stop.Memory) }
 {
     let feeds = more_feeds(feeds, window.header())?;
@@ -92,9 +92,9 @@ fn first_of(window: Window, header: RowStore, is_last: bool, feeds: u64) -> Resu
 
 /// So many line feeds and those of some bytes, unless they are too many.
 pub(crate) fn more_feeds(feeds: u64, bytes: &[u8]) -> Result<u64, AllocError>
-    requires { feeds ≤ most_feeds }
+    requires { feeds ≤ 2 ^ 60 }
     ensures more { IfOk result (λ more. more ≡ feeds + count_feeds bytes.now) }
-    ensures few { IfOk result (λ more. more ≤ most_feeds) }
+    ensures few { IfOk result (λ more. more ≤ 2 ^ 60) }
 {
     let more = feeds + line_feeds(bytes);
     if more > MOST_FEEDS {
@@ -138,7 +138,7 @@ pub(crate) fn stop_of_window(
     feeds: u64,
     text: &[u8],
 ) -> Stop
-    requires { feeds ≤ most_feeds }
+    requires { feeds ≤ 2 ^ 60 }
     ensures { IsStopOfWindow why row feeds text.now result }
 {
     match why {
@@ -150,7 +150,7 @@ pub(crate) fn stop_of_window(
 
 /// The reason that a record is too long, or out of memory.
 fn stop_of_long(alloc: Global, row: u64, feeds: u64, text: &[u8]) -> Stop
-    requires { feeds ≤ most_feeds }
+    requires { feeds ≤ 2 ^ 60 }
     ensures { IsStopOfLong row feeds text.now result ⊎ (result ≡ stop.Memory) }
 {
     match long_says(alloc, feeds, text) {
@@ -161,7 +161,7 @@ fn stop_of_long(alloc: Global, row: u64, feeds: u64, text: &[u8]) -> Stop
 
 /// The line in which a record begins that is too long, and what is said of it.
 fn long_says(alloc: Global, feeds: u64, text: &[u8]) -> Result<LongSaid, AllocError>
-    requires { feeds ≤ most_feeds }
+    requires { feeds ≤ 2 ^ 60 }
     ensures { IfOk result (λ long. SaysOfLong feeds text.now long.line (string_bytes long.said)) }
 {
     let place = place_of_long(alloc, text, feeds)?;

@@ -5,7 +5,7 @@ ghost use Rattle.csv.specs.Reading.{strip_bom};
 ghost use Rattle.csv_rows.specs.Records.{records_of};
 ghost use Rattle.row_windows.specs.Seams.{BeginsLine};
 ghost use Rattle.text_lines.specs.Feeds.{count_feeds};
-ghost use Rattle.par_stream.specs.Begins.{IsPlaceIn, IsPlaceOfLong, SaysQuote, most_feeds};
+ghost use Rattle.par_stream.specs.Begins.{IsPlaceIn, IsPlaceOfLong, SaysQuote};
 
 use csv_rows::without_mark;
 use std::alloc::{AllocError, Global};
@@ -28,7 +28,7 @@ pub(crate) fn place_in_lines(
 ) -> Result<Place, AllocError>
     requires line { BeginsLine lines.now }
     requires some { before < length (records_of lines.now) }
-    requires few { feeds ≤ most_feeds }
+    requires few { feeds ≤ 2 ^ 60 }
     ensures { IfOk result (IsPlaceIn lines.now before is_last feeds) }
 {
     let begin = record_begin(lines, before);
@@ -44,7 +44,7 @@ pub(crate) fn place_in_lines(
 /// The place of a record that is too long: the text begins with it, after ends of lines. So many line feeds come before the
 /// text.
 pub(crate) fn place_of_long(alloc: Global, text: &[u8], feeds: u64) -> Result<Place, AllocError>
-    requires few { feeds ≤ most_feeds }
+    requires few { feeds ≤ 2 ^ 60 }
     ensures { IfOk result (IsPlaceOfLong text.now feeds) }
 {
     let text = without_mark(text);

@@ -50,7 +50,7 @@ pub(crate) fn stop_of_block(
 ) -> Stop
     requires pieces { length pieces.now ≤ 64 }
     requires lines { All (λ w. BeginsLine w.lines) pieces.now }
-    requires few { feeds ≤ most_feeds }
+    requires few { feeds ≤ 2 ^ 60 }
     ensures { Restates plan.now.plan bound.now pieces.now before feeds answer result }
 {
     match answer {
@@ -106,7 +106,7 @@ fn stop_of_row(
 ) -> Stop
     requires pieces { length pieces.now ≤ 64 }
     requires lines { All (λ w. BeginsLine w.lines) pieces.now }
-    requires few { feeds ≤ most_feeds }
+    requires few { feeds ≤ 2 ^ 60 }
     ensures { IsRefusedRow plan.now.plan bound.now pieces.now number row feeds why result ⊎ (result ≡ stop.Memory) }
 {
     match says_of_row(alloc, plan, bound, pieces, row, feeds, why) {
@@ -134,7 +134,7 @@ fn says_of_row(
 ) -> Result<RowSaid, AllocError>
     requires pieces { length pieces.now ≤ 64 }
     requires lines { All (λ w. BeginsLine w.lines) pieces.now }
-    requires few { feeds ≤ most_feeds }
+    requires few { feeds ≤ 2 ^ 60 }
     ensures { IfOk result (λ said. SaysOfRow plan.now.plan bound.now pieces.now row feeds why said.line (string_bytes said.text)) }
 {
     let found = find_row(alloc, pieces, row)?;
