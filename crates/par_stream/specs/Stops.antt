@@ -23,7 +23,7 @@ use Rattle.par_stream.specs.Twice.{SaysTwice}
 use Rattle.par_stream.specs.declared.place.Place.{Place}
 use Rattle.par_stream.specs.Outcome.{outcome_over}
 use Rattle.split_run.specs.Pieces.{AreUnder, piece_rows, rows_of}
-use Rattle.par_stream.specs.Reading.{Begins, HasAdded, IsBound}
+use Rattle.par_stream.specs.Reading.{Begins, HasAdded, HasPart, IsBound}
 use Rattle.par_stream.specs.declared.batch.Batch.{Batch}
 use Rattle.par_stream.specs.declared.adding.Added.{Added}
 use Rattle.par_stream.specs.declared.stop.TheConstants.{LONG_RECORD}
@@ -109,7 +109,7 @@ Tells query left stop.Memory = ⊤
 -- whose records begin with the header and all these rows
 abbrev pub TellsOfRows : Query → Plan → Batch → Added → Stop → Type 0
 TellsOfRows query plan b added why = (from : Option (List ℕ)) (header : List (List ℕ)) (rows : Records) → IsBound query header plan → AreUnder header b.pieces.items → HasAdded plan (length header) rows added
-    → Begins from (header ∷ (rows ++ rows_of b.pieces.items)) → Tells query from why
+    → Begins from (header ∷ (rows ++ rows_of b.pieces.items)) → HasPart from (header ∷ rows) b.before b.pieces.items → Tells query from why
 
 -- what a reason says of what words ask for, a query or nothing
 abbrev pub TellsOf : Option Query → Option (List ℕ) → Stop → Type 0
@@ -143,6 +143,11 @@ pub record SaysMissing (plan : NamedPlan) (header : List (List ℕ)) (said : Lis
   pub name : List ℕ
   pub lacks : missing_name header plan ≡ Some name
   pub says : said ≡ missing_text name header
+
+-- a reason says of a header that it has not the columns of a plan, each once, or is out of memory
+abbrev pub SaysOfHeader : NamedPlan → List (List ℕ) → Stop → Type 0
+SaysOfHeader plan header why = (why ≡ stop.Memory) ⊎ (((said : String Global) × (why ≡ stop.NoColumn said) × SaysMissing plan header (string_bytes said))
+    ⊎ ((said : String Global) × (why ≡ stop.TwiceColumn said) × SaysTwice (bound_plan header plan) header (string_bytes said) × (missing_name header plan ≡ None)))
 
 -- a table has a header, and at a place the record of this number of some records, of which the first is that header
 abbrev pub IsRow : Records → ℕ → Records → ℕ → Type 0

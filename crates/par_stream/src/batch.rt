@@ -1,8 +1,9 @@
 //! A batch of windows, of which each is a piece for one participant: how it is filled.
 
-ghost use Rattle.std.specs.Prelude.{◌≡◌, ◌≤◌, ◌∷◌, [], Err, IfErr, IfOk};
+ghost use Rattle.std.specs.Prelude.{◌≡◌, ◌≤◌, ◌+◌, ◌^◌, ◌∷◌, [], Err, IfErr, IfOk, OnOk};
 ghost use Rattle.par_io.specs.Faults.{Rose};
 ghost use Rattle.par_stream.specs.Reading.{AddsPiece, IsFilledBatch, IsNotFilled, MeetsLong};
+ghost use Rattle.text_lines.specs.Feeds.{count_feeds};
 ghost use Rattle.row_windows.specs.declared.window.WindowAnswer.TheVariants as answer;
 
 use crate::filling::more_feeds;
@@ -47,6 +48,9 @@ impl Batch {
     /// A batch of one window, before the lines of which there are so many line feeds.
     pub(crate) fn of_window(alloc: Global, window: Window, before: u64) -> Result<Batch, AllocError>
         requires { before ≤ 2 ^ 60 }
+        ensures before { IfOk result (λ b. b.before ≡ before) }
+        ensures feeds { IfOk result (λ b. b.feeds ≡ before + count_feeds window.lines) }
+        ensures few { IfOk result (λ b. b.feeds ≤ 2 ^ 60) }
         ensures pieces { IfOk result (λ b. b.pieces.items ≡ window ∷ []) }
         ensures header { IfOk result (λ b. b.next.header ≡ window.header) }
         ensures lines { IfOk result (λ b. b.next.lines ≡ []) }
@@ -97,9 +101,12 @@ impl Batch {
         source: &mut S,
         size: usize,
     ) -> Result<bool, WindowAnswer>
-        requires { self.old.next.lines ≡ [] }
-        ensures filled { IfOk result (IsFilledBatch (S.left source.old) (S.left source.new) self.old.next self.new) }
-        ensures why { IfErr result (IsNotFilled (S.left source.old) (S.left source.new) (S.faults source.old) (S.faults source.new) self.old.next) }
+        requires lines { self.old.next.lines ≡ [] }
+        requires start { self.old.feeds ≡ self.old.before }
+        requires few { self.old.feeds ≤ 2 ^ 60 }
+        ensures filled { IfOk result (IsFilledBatch (S.left source.old) (S.left source.new) self.old.next self.old.before self.new) }
+        ensures why { IfErr result (IsNotFilled (S.left source.old) (S.left source.new) (S.faults source.old) (S.faults source.new) self.old.next self.new.next) }
+        ensures feeds { result ≡ Err answer.LongRecord → self.new.feeds ≡ self.old.feeds }
         ensures faults { S.faults source.old ≤ S.faults source.new }
     {
         let mut spares = mem::replace(&mut self.pieces, Vec::new(alloc));
@@ -131,7 +138,8 @@ impl Batch {
         source: &mut S,
         goal: usize,
     ) -> Result<bool, WindowAnswer>
-        requires { self.old.next.lines ≡ [] }
+        requires lines { self.old.next.lines ≡ [] }
+        requires few { self.old.feeds ≤ 2 ^ 60 }
         ensures added { IfOk result (AddsPiece (S.left source.old) (S.left source.new) self.old self.new) }
         ensures long { result ≡ Err answer.LongRecord → MeetsLong (S.left source.old) (S.left source.new) self.old self.new }
         ensures read_fault { result ≡ Err answer.ReadFault → Rose (S.faults source.old) (S.faults source.new) }

@@ -1,10 +1,8 @@
 //! Where a record is in the input, as an editor finds it: the line in which it begins, and a quote that it does not close.
 
-ghost use Rattle.std.specs.Prelude.{◌≡◌, ◌<◌, ◌≤◌, ◌+◌, ◌++◌, ◌^◌, ℕ, List, IfOk, length, string_bytes};
-ghost use Rattle.csv.specs.Reading.{strip_bom};
+ghost use Rattle.std.specs.Prelude.{◌<◌, ◌≤◌, ◌+◌, ◌^◌, IfOk, length, string_bytes};
 ghost use Rattle.csv_rows.specs.Records.{records_of};
 ghost use Rattle.row_windows.specs.Seams.{BeginsLine};
-ghost use Rattle.text_lines.specs.Feeds.{count_feeds};
 ghost use Rattle.par_stream.specs.Begins.{IsPlaceIn, IsPlaceOfLong, SaysQuote};
 
 use csv_rows::without_mark;

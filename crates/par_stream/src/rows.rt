@@ -1,11 +1,14 @@
 //! What the records of a window say of a plan: its columns, and the row that is refused.
 
-ghost use Rattle.std.specs.Prelude.{◌≡◌, ◌<◌, ◌≤◌, ◌⊎◌, [], IfErr, IfOk, length, slice_index_or, string_bytes};
+ghost use Rattle.std.specs.Prelude.{◌≡◌, ◌<◌, ◌≤◌, ◌+◌, ◌^◌, ◌⊎◌, [], All, IfErr, IfOk, None, OnOk, length, slice_index_or, string_bytes};
 ghost use Rattle.csv_rows.specs.Records.{record_at};
 ghost use Rattle.par_model.specs.Named.{names_of};
 ghost use Rattle.shown_text.specs.Header.{missing_text};
-ghost use Rattle.par_stream.specs.Reading.{IsBound};
-ghost use Rattle.par_stream.specs.Stops.{IsRefusedRow, Restates, SaysMissing, SaysOfRow};
+ghost use Rattle.par_model.specs.Columns.{HasColumns};
+ghost use Rattle.par_stream.specs.Begins.{feeds_of};
+ghost use Rattle.par_stream.specs.Reading.{BeginsOrNone, IsBound};
+ghost use Rattle.par_stream.specs.Stops.{IsRefusedRow, Restates, SaysOfHeader, SaysOfRow};
+ghost use Rattle.par_stream.specs.Twice.{SaysTwice, twice_of};
 ghost use Rattle.par_stream.specs.declared.stop.Stop.TheVariants as stop;
 
 use crate::place::place_in_lines;
@@ -24,7 +27,7 @@ use std::alloc::{AllocError, Global};
 pub(crate) fn bind(alloc: Global, plan: &Plan, store: &RowStore) -> Result<BoundPlan, Stop>
     requires { length store.now ≡ 1 }
     ensures bound { IfOk result (IsBound plan.now (record_at store.now 0)) }
-    ensures missing { IfErr result (λ why. (why ≡ stop.Memory) ⊎ ((said : _) × (why ≡ stop.NoColumn said) × SaysMissing plan.now.plan (record_at store.now 0) (string_bytes said))) }
+    ensures why { IfErr result (SaysOfHeader plan.now.plan (record_at store.now 0)) }
 {
     match plan.bind(store) {
         Ok(bound) => {
@@ -49,8 +52,8 @@ pub(crate) fn stop_of_block(
     answer: BlockAnswer,
 ) -> Stop
     requires pieces { length pieces.now ≤ 64 }
-    requires lines { All (λ w. BeginsLine w.lines) pieces.now }
-    requires few { feeds ≤ 2 ^ 60 }
+    requires lines { All BeginsOrNone pieces.now }
+    requires few { feeds + feeds_of pieces.now ≤ 2 ^ 60 }
     ensures { Restates plan.now.plan bound.now pieces.now before feeds answer result }
 {
     match answer {
@@ -105,8 +108,8 @@ fn stop_of_row(
     why: Refusal,
 ) -> Stop
     requires pieces { length pieces.now ≤ 64 }
-    requires lines { All (λ w. BeginsLine w.lines) pieces.now }
-    requires few { feeds ≤ 2 ^ 60 }
+    requires lines { All BeginsOrNone pieces.now }
+    requires few { feeds + feeds_of pieces.now ≤ 2 ^ 60 }
     ensures { IsRefusedRow plan.now.plan bound.now pieces.now number row feeds why result ⊎ (result ≡ stop.Memory) }
 {
     match says_of_row(alloc, plan, bound, pieces, row, feeds, why) {
@@ -133,8 +136,8 @@ fn says_of_row(
     why: Refusal,
 ) -> Result<RowSaid, AllocError>
     requires pieces { length pieces.now ≤ 64 }
-    requires lines { All (λ w. BeginsLine w.lines) pieces.now }
-    requires few { feeds ≤ 2 ^ 60 }
+    requires lines { All BeginsOrNone pieces.now }
+    requires few { feeds + feeds_of pieces.now ≤ 2 ^ 60 }
     ensures { IfOk result (λ said. SaysOfRow plan.now.plan bound.now pieces.now row feeds why said.line (string_bytes said.text)) }
 {
     let found = find_row(alloc, pieces, row)?;

@@ -1,8 +1,8 @@
 //! A column of the plan that the header has twice.
 
-ghost use Rattle.std.specs.Prelude.{◌≡◌, ◌<◌, [], IfOk, None, get_or, length, string_bytes};
+ghost use Rattle.std.specs.Prelude.{◌≡◌, ◌<◌, ◌+◌, ◌++◌, [], IfOk, decimal, get_or, length, string_bytes};
 ghost use Rattle.par_model.specs.Columns.{HasColumns};
-ghost use Rattle.par_stream.specs.Twice.{first_twice, later_same, twice_of, twice_text};
+ghost use Rattle.par_stream.specs.Twice.{filter_columns, first_twice, item_columns, later_same, twice_of, twice_text};
 
 use csv_rows::Record;
 use par_model::{BoundPlan, ItemKind};
