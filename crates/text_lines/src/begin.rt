@@ -24,7 +24,7 @@ fn records_end(lines: &[u8], before: u64) -> usize
     ensures { EndsBefore lines.now before result }
 {
     let mut end = 0;
-    'records: for _ in 0..before {
+    'records: for _at in 0..before {
         match header_end(&lines[end..]) {
             Some(more) => end += more,
             None => unreachable!(),
