@@ -1,6 +1,6 @@
 //! The row that is refused, found again in the pieces of its batch, and what the line says of it.
 
-ghost use Rattle.std.specs.Prelude.{◌≡◌, ◌<◌, ◌≤◌, ◌+◌, ◌∷◌, ℕ, List, IfOk, IfSome, length, string_bytes, take};
+ghost use Rattle.std.specs.Prelude.{◌≡◌, ◌<◌, ◌≤◌, ◌+◌, ◌^◌, ◌∷◌, ℕ, List, IfOk, IfSome, length, string_bytes, take};
 ghost use Rattle.csv_rows.specs.Records.{record_at};
 ghost use Rattle.par_model.specs.Record.{field_of};
 ghost use Rattle.split_run.specs.Pieces.{AreUnder, piece_records, rows_of};
@@ -29,7 +29,8 @@ pub(crate) struct Found {
 /// Finds a row by its number over all pieces. It reads the pieces up to it anew: so nothing is kept of a row until one is
 /// refused. It takes the memory of one piece's store.
 pub(crate) fn find_row(alloc: Global, pieces: &[Window], row: u64) -> Result<Found, AllocError>
-    requires { length pieces.now ≤ 64 }
+    requires pieces { length pieces.now ≤ 64 }
+    requires few { feeds_of pieces.now ≤ 2 ^ 60 }
     ensures within { IfOk result (λ f. f.at < length f.store) }
     ensures some { IfOk result (λ f. 1 ≤ f.at) }
     ensures row { IfOk result (λ f. (header : List (List ℕ)) → AreUnder header pieces.now → IsRow (header ∷ rows_of pieces.now) row f.store f.at) }
@@ -40,8 +41,8 @@ pub(crate) fn find_row(alloc: Global, pieces: &[Window], row: u64) -> Result<Fou
 {
     let mut before = 0u64;
     let mut feeds = 0u64;
-    for at in 0..pieces.len() {
-        let piece = &pieces[at];
+    let mut number = 0;
+    for piece in pieces {
         let Ok(store) = rows(alloc, piece.table()) else {
             return Err(AllocError);
         };
@@ -49,12 +50,13 @@ pub(crate) fn find_row(alloc: Global, pieces: &[Window], row: u64) -> Result<Fou
             Some(place) => return Ok(Found {
                 store,
                 at: place,
-                piece: at,
+                piece: number,
                 feeds,
             }),
             None => before += store.count(),
         }
-        feeds = feeds.saturating_add(line_feeds(piece.lines()));
+        feeds += line_feeds(piece.lines());
+        number += 1;
     }
     Err(AllocError)
 }

@@ -149,7 +149,7 @@ fn says_of_row(
         pieces[found.piece].lines(),
         found.at - 1,
         found.at == found.store.count(),
-        feeds.saturating_add(found.feeds),
+        feeds + found.feeds,
     )?;
     text.push_str(place.quote.as_str())?;
     Ok(RowSaid {
