@@ -6,24 +6,24 @@ ghost use Rattle.std.specs.Prelude.{◌≡◌, ◌≤◌, length};
 ghost use Rattle.text_lines.specs.Feeds.{count_feeds};
 
 /// The bytes of a stretch, fewer than 256.
-const STRETCH: usize = 224;
+const STRETCH: usize = 192;
 
-/// How many line feeds are among some bytes. In linear time, some five bytes an instruction.
+/// How many line feeds are among some bytes. In linear time, some four bytes an instruction.
 pub fn line_feeds(bytes: &[u8]) -> u64
     ensures count { result ≡ count_feeds bytes.now }
     ensures few { result ≤ length bytes.now }
 {
     let mut count = 0u64;
     let mut at = 0;
-    'stretches: while at < bytes.len() {
-        let end = bytes.len().min(at + STRETCH);
-        count += few_feeds(&bytes[at..end]) as u64;
-        at = end;
+    'stretches: while bytes.len() - at >= STRETCH {
+        count += few_feeds(&bytes[at..at + STRETCH]) as u64;
+        at += STRETCH;
     }
-    count
+    count + few_feeds(&bytes[at..]) as u64
 }
 
 /// How many line feeds are among a few bytes.
+#[inline(always)]
 fn few_feeds(bytes: &[u8]) -> u8
     requires { length bytes.now ≤ STRETCH }
     ensures count { result ≡ count_feeds bytes.now }
