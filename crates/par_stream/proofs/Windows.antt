@@ -61,9 +61,9 @@ module _ (bytes old new was lines rest more : List ℕ) (records : Table) (feeds
           subst (λ (l : List ℕ). IsCut (l ++ lines)) (sym none) seam.whole,
         )
     | inr begun ↦ (
-          records_add_up read.front lines (record { whole = read.whole; line = line begun }) ∙ ap (λ (l : Table). l ++ records_of lines) read.is,
-          cut_append read.front lines read.whole (line begun) seam.whole,
-        )
+      records_add_up read.front lines (record { whole = read.whole; line = line begun }) ∙ ap (λ (l : Table). l ++ records_of lines) read.is,
+      cut_append read.front lines read.whole (line begun) seam.whole,
+    )
   ]
 
   more_read : (BeginsLine was → BeginsLine lines) → IsSeam lines rest → AreRead bytes new (records ++ records_of lines) (feeds + count_feeds lines) rest

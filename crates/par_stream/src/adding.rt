@@ -147,9 +147,7 @@ pub(crate) fn add_batch<R: Threads + Wait + Sync>(
     let (news, more) = match add_pieces(rt, alloc, pieces, bound, olds) {
         Ok(done) => done,
         Err(why) => {
-            let stop = stop_of_block(
-                alloc, plan, bound, pieces, added.count, batch.before, why,
-            );
+            let stop = stop_of_block(alloc, plan, bound, pieces, added.count, batch.before, why);
             return Err(stop);
         }
     };

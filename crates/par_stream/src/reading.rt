@@ -152,13 +152,7 @@ fn next_window<R: Threads + Wait + Sync, S: Source>(
         Ok(is_last) => is_last,
         Err(why) => {
             let text = spare.next.rest();
-            return Err(stop_of_window(
-                alloc,
-                why,
-                added.count + 1,
-                spare.feeds,
-                text,
-            ));
+            return Err(stop_of_window(alloc, why, added.count + 1, spare.feeds, text));
         }
     };
     Ok(Stream {

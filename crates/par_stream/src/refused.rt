@@ -13,8 +13,8 @@ use par_model::{BoundPlan, ITEM_CAUSE, KEY_CAUSE, Refusal, WIDTH_CAUSE};
 use plan_spec::Plan;
 use row_windows::Window;
 use shown_text::{number_text, width_text};
-use text_lines::line_feeds;
 use std::alloc::{AllocError, Global};
+use text_lines::line_feeds;
 
 /// A row in the store of the piece that it is in, by its place there, the piece, and how many line feeds are in the lines of
 /// the pieces before it.

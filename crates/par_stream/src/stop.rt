@@ -133,5 +133,14 @@ fn plain<'a>(text: &'a str) -> [&'a str; 8]
 fn of_row<'a>(number: &'a str, at: &'a str, text: &'a str) -> [&'a str; 8]
     ensures { concat (map (λ piece. piece.now) result) ≡ line (row_front_of number.now at.now ++ text.now) }
 {
-    ["parstream: ", "row ", number, " (line ", at, "): ", text, "\n"]
+    [
+        "parstream: ",
+        "row ",
+        number,
+        " (line ",
+        at,
+        "): ",
+        text,
+        "\n",
+    ]
 }

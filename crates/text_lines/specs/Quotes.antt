@@ -23,5 +23,5 @@ IsOpening text at = (slice_index text at ≡ 34) × (opens_field text at (place_
 pub record IsOpenQuote (text : List ℕ) (at : ℕ) : Type 0 where
   pub within : at < length text
   pub opens : IsOpening text at
-  pub open : place_after place.Opens text ≡ place.Quoted
+  pub unclosed : place_after place.Opens text ≡ place.Quoted
   pub last : (k : ℕ) → at < k → k < length text → IsOpening text k → ⊥

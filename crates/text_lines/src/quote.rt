@@ -15,19 +15,19 @@ pub fn open_quote(text: &[u8]) -> Option<usize>
     ensures none { result ≡ None → place_after place.Opens text.now ≢ place.Quoted }
 {
     let mut place = Place::Opens;
-    let mut open = None;
+    let mut last = None;
     let mut at = 0;
     'quotes: while let Some(count) = memchr(b'"', &text[at..]) {
         let quote = at + count;
         place = past_others(&text[at..quote], place);
         if opens_field(text, quote, place) {
-            open = Some(quote);
+            last = Some(quote);
         }
         place = past_quote(place);
         at = quote + 1;
     }
     if past_others(&text[at..], place) == Place::Quoted {
-        open
+        last
     } else {
         None
     }
