@@ -21,14 +21,14 @@ cond_no n x y less = go (nat_le 60_000 n) refl
     go true e = let more = leb-true 60_000 n e in absurd (omega (arith, more, less))
     go false e = refl
 
-cond_yes : {A : Type 0} (n : ℕ) (x y : A) → 60_000 ≤ n → cond (nat_le 60_000 n) x y ≡ x
+pub cond_yes : {A : Type 0} (n : ℕ) (x y : A) → 60_000 ≤ n → cond (nat_le 60_000 n) x y ≡ x
 cond_yes n x y more = go (nat_le 60_000 n) refl
   where
     go : (b : Bool) → nat_le 60_000 n ≡ b → cond b x y ≡ x
     go true e = refl
     go false e = let less = leb-false 60_000 n e in absurd (omega (arith, more, less))
 
-cut-push : (kinds : List Bool) (groups : List Group) (g : Group) → cut kinds (groups ++ g ∷ []) ≡ cut_more kinds (cut kinds groups) g
+pub cut-push : (kinds : List Bool) (groups : List Group) (g : Group) → cut kinds (groups ++ g ∷ []) ≡ cut_more kinds (cut kinds groups) g
 unfolding cut
 cut-push kinds groups g = fold_push (cut_more kinds) (record { full = []; begun = [] }) groups g
 

@@ -27,7 +27,8 @@ cut_from : (kinds : List Bool) (c : Cut) (groups : List Group) → groups_of (fo
 cut_from kinds c [] = sym (append-nil (groups_of c.full ++ c.begun))
 cut_from kinds c (g ∷ groups) = cut_from kinds (cut_more kinds c g) groups ∙ ap (λ (gs : List Group). gs ++ groups) (more_groups kinds c g) ∙ append_assoc (groups_of c.full ++ c.begun) (g ∷ []) groups
 
-cut_groups : (kinds : List Bool) (groups : List Group) → groups_of (cut kinds groups).full ++ (cut kinds groups).begun ≡ groups
+-- no group is lost
+pub cut_groups : (kinds : List Bool) (groups : List Group) → groups_of (cut kinds groups).full ++ (cut kinds groups).begun ≡ groups
 unfolding cut
 cut_groups kinds groups = cut_from kinds (record { full = []; begun = [] }) groups
 

@@ -1,5 +1,5 @@
 -- How a writer puts groups into blocks, and what it has written so far.
-use Rattle.std.specs.Prelude.{◌≡◌, ◌<◌, ◌≤◌, ◌+◌, ◌^◌, ◌++◌, ◌⊎◌, ℕ, Bool, List, [], ◌∷◌, All, fold, if◌then◌else◌, length, nat_le}
+use Rattle.std.specs.Prelude.{◌≡◌, ◌<◌, ◌≤◌, ◌+◌, ◌^◌, ◌++◌, ℕ, Bool, List, [], ◌∷◌, All, fold, if◌then◌else◌, length, nat_le}
 use Rattle.par_model.specs.declared.state.SlotState.{SlotState}
 use Rattle.state_blocks.specs.Blocks.{Group, block_bytes, blocks_bytes, first_key}
 use Rattle.state_body.specs.Body.{IsIndex, body_bytes, foot_bytes}
@@ -64,6 +64,21 @@ pub record Ends (kinds : List Bool) (start : ℕ) (groups : List Group) (written
   pub each : All (IsShort kinds) (blocks_of kinds groups)
   pub short : length (foot_bytes kinds start (blocks_of kinds groups)) ≤ 2 ^ 28
 
--- what a writer holds is too long: the block that is not written, the place of the next one, how many blocks and groups there are
-abbrev pub IsLong : BodyWriter → Type 0
-IsLong w = (2 ^ 20 < length w.block.items) ⊎ ((2 ^ 62 < w.index.at) ⊎ ((2 ^ 62 < w.index.blocks) ⊎ ((2 ^ 62 < w.index.groups) ⊎ (2 ^ 62 < w.groups))))
+-- blocks that a file can have: each of at most 2^20 bytes, all of them before place 2^62, with at most 2^62 groups
+pub record FitInBlocks (kinds : List Bool) (start : ℕ) (groups : List Group) : Type 0 where
+  pub each : All (IsShort kinds) (blocks_of kinds groups)
+  pub end : start + length (blocks_bytes kinds (blocks_of kinds groups)) ≤ 2 ^ 62
+  pub many : length groups ≤ 2 ^ 62
+
+-- a body that a file can have: its foot has at most 2^28 bytes
+pub record Fit (kinds : List Bool) (start : ℕ) (groups : List Group) : Type 0 where
+  pub in_blocks : FitInBlocks kinds start groups
+  pub foot : length (foot_bytes kinds start (blocks_of kinds groups)) ≤ 2 ^ 28
+
+-- what a writer holds fits: the block that is not written, the place of the next one, how many blocks and groups there are
+pub record Fits (w : BodyWriter) : Type 0 where
+  pub block : length w.block.items ≤ 2 ^ 20
+  pub at : w.index.at ≤ 2 ^ 62
+  pub blocks : w.index.blocks ≤ 2 ^ 62
+  pub groups : w.index.groups ≤ 2 ^ 62
+  pub begun : w.groups ≤ 2 ^ 62
