@@ -5,6 +5,9 @@ use Rattle.std.proofs.lemmas.Bool.{cond_both}
 use Rattle.std.proofs.lemmas.List.Elements.{All-head, All-nil, All-push, All-tail}
 use Rattle.par_model.specs.declared.state.SlotState.{SlotState}
 use Rattle.state_blocks.specs.Blocks.{Group, IsTuple, StopsAfter, block_bytes, tuple_bytes}
+use Rattle.std.specs.Int.{to_le_bytes, w32}
+use Rattle.state_file.specs.Checksum.{crc32c}
+use Rattle.state_file.specs.Section.{section}
 use Rattle.state_file.specs.Number.{number_bytes, sevens}
 use Rattle.state_file.specs.Text.{text_bytes}
 use Rattle.state_groups.specs.Group.{IsGroup, group_bytes, slots_bytes}
@@ -169,3 +172,14 @@ whole_written columns kinds bytes rest at none is block all e = go (is.so_far.le
 
     go : Left (tuple_bytes kinds) block is.found rest [] → at ≡ length block
     go l = done l.tail l.whole l.left
+
+-- ---- a section
+
+-- its parts, one after another
+pub section_parts : (bytes part rest : List ℕ) → bytes ≡ section part ++ rest → bytes ≡ to_le_bytes w32 (length part) ++ (part ++ (to_le_bytes w32 (crc32c part) ++ rest))
+unfolding section
+section_parts bytes part rest e =
+    e ∙ append_assoc (to_le_bytes w32 (length part)) (part ++ to_le_bytes w32 (crc32c part)) rest ∙ ap (λ (bs : List ℕ). to_le_bytes w32 (length part) ++ bs) (append_assoc part (to_le_bytes w32 (crc32c part)) rest)
+
+pub sum_long : (part : List ℕ) → length (to_le_bytes w32 (crc32c part)) ≡ 4
+sum_long part = refl

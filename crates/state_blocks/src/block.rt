@@ -3,11 +3,16 @@
 //! Nothing that is read is taken on trust: each group has to be one that rows can give. A block is looked at as a whole before
 //! any group of it counts, and its groups are read again, one by one, by `state_groups::read_group`.
 
-ghost use Rattle.std.specs.Prelude.{◌≡◌, ◌<◌, ◌≤◌, ◌++◌, ℕ, List, All, IfErr, IfOk, MatchOption, MatchResult, length};
+ghost use Rattle.std.specs.Prelude.{◌≡◌, ◌<◌, ◌≤◌, ◌^◌, ◌++◌, ℕ, List, All, IfErr, IfOk, IfSome, MatchOption, MatchResult, length};
 ghost use Rattle.state_blocks.specs.Blocks.{Group, IsTuple, StopsAfter, block_bytes, tuple_bytes};
+ghost use Rattle.state_file.specs.Section.{section};
 
 use par_model::{AggState, NO_VALUES};
+use state_file::{read_bytes, read_u32};
 use state_groups::read_group;
+
+/// How many bytes a section's checksum has.
+const SUM_BYTES: usize = 4;
 
 /// How many groups these bytes are, each with a key of so many columns and a slot for each kind, or how many they begin with if
 /// they go on with no group.
@@ -40,6 +45,7 @@ pub fn read_block(bytes: &[u8], columns: u32, kinds: &[bool]) -> Result<u64, u64
 /// The key of the group that some bytes begin with.
 pub fn read_first<'a>(bytes: &'a [u8], columns: u32, kinds: &[bool]) -> Option<&'a [u8]>
     requires { length kinds.now ≤ 8 }
+    ensures read { IfSome result (λ key. (g : Group) × (rest : List ℕ) × IsTuple columns kinds.now g × (bytes.now ≡ tuple_bytes kinds.now g ++ rest) × (key.now ≡ g.key)) }
     ensures written { (g : Group) (rest : List ℕ) → IsTuple columns kinds.now g → bytes.now ≡ tuple_bytes kinds.now g ++ rest → MatchOption result ⊥ (λ key. key.now ≡ g.key) }
 {
     let mut state = AggState {
@@ -48,6 +54,23 @@ pub fn read_first<'a>(bytes: &'a [u8], columns: u32, kinds: &[bool]) -> Option<&
     };
     match read_group(bytes, columns, kinds, &mut state) {
         Some((key, _rest)) => Some(key),
+        None => None,
+    }
+}
+
+/// The bytes of the section that some bytes begin with, and the bytes after it, if a section is there that was read before: its
+/// checksum is not looked at again.
+pub fn split_block(bytes: &[u8]) -> Option<(&[u8], &[u8])>
+    ensures { (part rest : List ℕ) → length part < 2 ^ 32 → bytes.now ≡ section part ++ rest → MatchOption result ⊥ (λ found. (found.0.now ≡ part) × (found.1.now ≡ rest)) }
+{
+    let Some((size, after)) = read_u32(bytes) else {
+        return None;
+    };
+    let Some((part, after)) = read_bytes(after, size as usize) else {
+        return None;
+    };
+    match read_bytes(after, SUM_BYTES) {
+        Some((_sum, rest)) => Some((part, rest)),
         None => None,
     }
 }

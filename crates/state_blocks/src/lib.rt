@@ -6,4 +6,4 @@ mod block;
 #[cfg(test)]
 mod tests;
 
-pub use block::{read_block, read_first};
+pub use block::{read_block, read_first, split_block};

@@ -1,6 +1,6 @@
 //! Worked bytes of a block, and bytes that are none.
 
-use crate::{read_block, read_first};
+use crate::{read_block, read_first, split_block};
 use std::test::Fail;
 
 /// Two groups of one column, `a` and `b`, whose one lane has numbers: three rows with 1 and 2, and one row without a number.
@@ -15,5 +15,7 @@ fn blocks(rt: HostRuntime) -> Result<(), Fail> {
     assert!(rt; read_block(BLOCK, 2, &kinds) == Err(0));
     assert!(rt; read_block(BLOCK, 1, &[false]) == Err(1));
     assert!(rt; read_block(b"", 1, &kinds) == Ok(0));
+    let split = split_block(b"\x02\0\0\0abSUM.more");
+    assert!(rt; split == Some((b"ab".as_slice(), b"more".as_slice())));
     Ok(())
 }

@@ -9,7 +9,7 @@ use Rattle.state_blocks.proofs.Tuples.{tuple_some}
 use Rattle.state_body.specs.Body.{IsIndex, Knows, Takes, groups_of}
 use Rattle.state_body.specs.Faults.{AreNoBlocks, HasBadBlock, HasNoBlock, HasNoGroup, IsNoBlock, IsNoPart}
 use Rattle.state_body.specs.declared.body.BodyFault.{BodyFault}
-use Rattle.state_body.specs.declared.body.BodyFault.TheVariants.{Block, End, Foot, Memory, OtherFoot}
+use Rattle.state_body.specs.declared.body.BodyFault.TheVariants.{Block, Cut, End, Foot, Memory, OtherFoot}
 use Rattle.state_body.specs.declared.body.BodyFault.TheVariants as fault
 use Rattle.state_body.specs.declared.index.Index.{Index}
 use Rattle.state_file.specs.Section.{IsNoSection, section}
@@ -316,6 +316,7 @@ part_none columns kinds bytes old index rest at is (Block why) none = no_section
 part_none columns kinds bytes old index rest at is (fault.Group number) none = absurd none
 part_none columns kinds bytes old index rest at is (Foot why) none = absurd none
 part_none columns kinds bytes old index rest at is OtherFoot none = absurd none
+part_none columns kinds bytes old index rest at is Cut none = absurd none
 part_none columns kinds bytes old index rest at is End none = absurd none
 
 pub block_fails : (columns : ℕ) (kinds : List Bool) (bytes : List ℕ) (old index : Index) (rest : List ℕ) (at : ℕ) (part after : List ℕ) → IsBodyTo columns kinds bytes old index rest at → IsIndex kinds old.at [] old → rest ≡ section part ++ after
@@ -325,4 +326,5 @@ block_fails columns kinds bytes old index rest at part after is start e (Block w
 block_fails columns kinds bytes old index rest at part after is start e (fault.Group number) none = bad_block columns kinds bytes old index rest at part after number is start e none
 block_fails columns kinds bytes old index rest at part after is start e (Foot why) none = absurd none
 block_fails columns kinds bytes old index rest at part after is start e OtherFoot none = absurd none
+block_fails columns kinds bytes old index rest at part after is start e Cut none = absurd none
 block_fails columns kinds bytes old index rest at part after is start e End none = absurd none

@@ -1,12 +1,13 @@
 -- The end of a file, and all that comes after its head.
-use Rattle.std.proofs.Common.{◌≡◌, ◌<◌, ◌≤◌, ◌+◌, ◌-◌, ◌^◌, ◌++◌, ◌∙◌, ℕ, Bool, List, [], ◌∷◌, All, IfErr, IfOk, OnErr, Err, Ok, Result, ap, append_assoc, arith, drop, length, length-append, refl, subst, sym, take}
+use Rattle.std.proofs.Common.{◌≡◌, ◌<◌, ◌≤◌, ◌+◌, ◌-◌, ◌^◌, ◌++◌, ◌∙◌, ℕ, Bool, List, [], ◌∷◌, All, IfErr, IfOk, Err, Ok, Result, ap, append_assoc, arith, drop, length, length-append, refl, subst, sym, take}
 use Rattle.std.proofs.lemmas.List.{take-append-le}
 use Rattle.std.proofs.Math.Seq.{take-length}
 use Rattle.std.specs.Int.{to_le_bytes, w32}
 use Rattle.state_blocks.specs.Blocks.{Group, IsBlock, blocks_bytes}
 use Rattle.state_body.specs.Body.{IsBody, IsIndex, body_bytes, end_bytes, foot_bytes, groups_of, last_bytes, places_bytes}
-use Rattle.state_body.specs.Faults.{HasNoEnd, IsNoBody, IsNoEnd}
+use Rattle.state_body.specs.Faults.{HasNoEnd, IsNoBody, IsNoEnd, IsNoLength}
 use Rattle.state_body.specs.declared.body.BodyFault.{BodyFault}
+use Rattle.state_body.specs.declared.body.BodyFault.TheVariants.{Block, Cut, End, Foot, Memory, OtherFoot}
 use Rattle.state_body.specs.declared.body.BodyFault.TheVariants as fault
 use Rattle.state_body.specs.declared.index.Index.{Index}
 use Rattle.state_file.specs.Number.{number_bytes}
@@ -29,12 +30,22 @@ unfolding end_bytes
 end_read bytes after rest part foot e same f =
     e ∙ ap (λ (p : List ℕ). section p ++ after) same ∙ ap (λ (bs : List ℕ). section foot ++ bs) f ∙ sym (append_assoc (section foot) (length_bytes foot) rest)
 
--- why there is no end, if its length is not there
-pub no_length : {A : Type 0} (foot bytes part after : List ℕ) (r : Result A BodyFault) → bytes ≡ section part ++ after → part ≡ foot → OnErr r ((rest : List ℕ) → after ≡ length_bytes foot ++ rest → ⊥)
-    → IfErr r (λ why. why ≡ fault.End) → IfErr r (IsNoEnd foot bytes)
-no_length foot bytes part after (Ok x) e same none is = tt
-no_length foot bytes part after (Err why) e same none is =
-    subst (λ (w : BodyFault). IsNoEnd foot bytes w) (sym is) (record { rest = after; is = e ∙ ap (λ (p : List ℕ). section p ++ after) same; other = none })
+-- why there is no end, if its length and the last bytes are not there
+pub no_length : (foot bytes part after : List ℕ) → bytes ≡ section part ++ after → part ≡ foot → (why : BodyFault) → IsNoLength (length foot) after why → IsNoEnd foot bytes why
+no_length foot bytes part after e same Memory none = absurd none
+no_length foot bytes part after e same (Block why) none = absurd none
+no_length foot bytes part after e same (fault.Group number) none = absurd none
+no_length foot bytes part after e same (Foot why) none = absurd none
+no_length foot bytes part after e same OtherFoot none = absurd none
+no_length foot bytes part after e same Cut none = record { rest = after; is = e ∙ ap (λ (p : List ℕ). section p ++ after) same; short = none }
+no_length foot bytes part after e same End none = record { rest = after; is = e ∙ ap (λ (p : List ℕ). section p ++ after) same; long = none.0; other = none.1 }
+
+end_long : (size : ℕ) → length (to_le_bytes w32 size ++ last_bytes) ≡ 12
+end_long size = length-append (to_le_bytes w32 size) last_bytes
+
+-- fewer bytes than come after a foot
+pub no_room : (bytes rest : List ℕ) (size : ℕ) → length bytes < 12 → bytes ≡ (to_le_bytes w32 size ++ last_bytes) ++ rest → ⊥
+no_room bytes rest size short e = omega (arith, short, ap length e, length-append (to_le_bytes w32 size ++ last_bytes) rest, end_long size)
 
 -- four bytes and the last ones
 pub last_written : (bytes rest : List ℕ) (n : ℕ) → bytes ≡ (to_le_bytes w32 n ++ last_bytes) ++ rest → bytes ≡ to_le_bytes w32 n ++ (last_bytes ++ rest)

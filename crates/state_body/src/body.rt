@@ -19,7 +19,8 @@ use std::alloc::{AllocError, Global};
 const MOST_BLOCK: u32 = 1 << 20;
 
 /// Why bytes are not those that come after a head: memory ran out; no block is there, or no foot, as `why` says; the group of this
-/// number, where the first of the file is 1, is none; the foot is another one; its length or the last bytes are.
+/// number, counting from 1 at the first of the file, is none; the foot is another one; the bytes end within its length and the last
+/// bytes of a file, or these are others.
 #[derive(Clone, Copy, Debug, PartialEq, Eq)]
 pub enum BodyFault {
     Memory,
@@ -27,6 +28,7 @@ pub enum BodyFault {
     Group { number: u64 },
     Foot { why: SectionRead },
     OtherFoot,
+    Cut,
     End,
 }
 
@@ -52,7 +54,7 @@ pub fn read_body<'a>(
     ensures read { IfOk result (λ found. (blocks : List (List Group)) × IsBody columns kinds.now at blocks × (bytes.now ≡ body_bytes kinds.now at blocks ++ found.rest.now)
         × (found.blocks.now ≡ blocks_bytes kinds.now blocks) × (found.groups ≡ length (groups_of blocks))) }
     ensures written { (blocks : List (List Group)) (rest : List ℕ) → IsBody columns kinds.now at blocks → bytes.now ≡ body_bytes kinds.now at blocks ++ rest
-        → MatchResult result (λ found. (found.rest.now ≡ rest) × (found.blocks.now ≡ blocks_bytes kinds.now blocks)) (λ why. why ≡ fault.Memory) }
+        → MatchResult result (λ found. (found.rest.now ≡ rest) × (found.blocks.now ≡ blocks_bytes kinds.now blocks) × (found.groups ≡ length (groups_of blocks))) (λ why. why ≡ fault.Memory) }
 
     // Why none is read.
     ensures refused { IfErr result (IsNoBody columns kinds.now at bytes.now) }

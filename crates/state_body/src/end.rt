@@ -1,10 +1,9 @@
 //! The end of a file of states: its foot, the foot's length, the last bytes.
 
-ghost use Rattle.std.specs.Prelude.{◌≡◌, ◌<◌, ◌≤◌, ◌^◌, ◌++◌, ℕ, List, IfErr, IfOk, IfSome, MatchOption, MatchResult, OnErr, OnOk, length};
+ghost use Rattle.std.specs.Prelude.{◌≡◌, ◌<◌, ◌≤◌, ◌^◌, ◌++◌, ℕ, List, IfErr, IfOk, IfSome, MatchOption, MatchResult, OnOk, length};
 ghost use Rattle.std.specs.Int.{to_le_bytes, w32};
 ghost use Rattle.state_body.specs.Body.{end_bytes, last_bytes};
-ghost use Rattle.state_body.specs.Faults.{IsNoEnd};
-ghost use Rattle.state_body.specs.declared.body.BodyFault.TheVariants as fault;
+ghost use Rattle.state_body.specs.Faults.{IsNoEnd, IsNoLength};
 
 use crate::body::BodyFault;
 use state_file::{push_section, read_bytes, read_section, read_u32};
@@ -15,6 +14,9 @@ pub const MOST_FOOT: u32 = 1 << 28;
 
 /// The last bytes of a file.
 const LAST: [u8; 8] = *b"\nstates\n";
+
+/// How many bytes come after a foot: its length, and the last bytes.
+const END_BYTES: usize = 12;
 
 /// Puts a foot, its length and the last bytes at the end of some bytes.
 #[tactic(auto, unfolding(crate::specs::Body::end_bytes))]
@@ -51,9 +53,11 @@ fn read_length(bytes: &[u8], size: usize) -> Result<&[u8], BodyFault>
     requires { size ≤ 2 ^ 28 }
     ensures read { IfOk result (λ rest. bytes.now ≡ (to_le_bytes w32 size ++ last_bytes) ++ rest.now) }
     ensures written { (rest : List ℕ) → bytes.now ≡ (to_le_bytes w32 size ++ last_bytes) ++ rest → MatchResult result (λ left. left.now ≡ rest) (λ why. ⊥) }
-    ensures refused { OnErr result ((rest : List ℕ) → bytes.now ≡ (to_le_bytes w32 size ++ last_bytes) ++ rest → ⊥) }
-    ensures end { IfErr result (λ why. why ≡ fault.End) }
+    ensures refused { IfErr result (IsNoLength size bytes.now) }
 {
+    if bytes.len() < END_BYTES {
+        return Err(BodyFault::Cut);
+    }
     match read_last(bytes) {
         Some((found, rest)) => {
             if found as usize == size {
@@ -66,7 +70,7 @@ fn read_length(bytes: &[u8], size: usize) -> Result<&[u8], BodyFault>
     }
 }
 
-/// The number of four bytes that stands before the last bytes of a file, with which some bytes begin, and the bytes after them.
+/// The number of four bytes that comes before the last bytes of a file, if some bytes begin with these, and the bytes after them.
 fn read_last(bytes: &[u8]) -> Option<(u32, &[u8])>
     ensures read { IfSome result (λ found. bytes.now ≡ (to_le_bytes w32 found.0 ++ last_bytes) ++ found.1.now) }
     ensures written { (n : ℕ) (rest : List ℕ) → n < 2 ^ 32 → bytes.now ≡ (to_le_bytes w32 n ++ last_bytes) ++ rest → MatchOption result ⊥ (λ found. (found.0 ≡ n) × (found.1.now ≡ rest)) }

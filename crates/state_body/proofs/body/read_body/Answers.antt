@@ -70,4 +70,5 @@ returns-clause-written c = λ blocks rest is e.
     let same = c.as_slice.ensures.value ∙ c.in-Ok.ensures kinds at blocks index in (
       c.in_ok-rest.ensures.written rest (subst (λ (bs : List ℕ). length bs ≤ 2 ^ 28) (sym same) is.short) (w.0 ∙ ap (λ (bs : List ℕ). end_bytes bs ++ rest) (sym same)),
       blocks_front kinds at blocks c.read_blocks-after.new.index c.args.bytes.now (end_bytes (foot_bytes kinds at blocks) ++ rest) index whole,
+      index.groups_many,
     )
