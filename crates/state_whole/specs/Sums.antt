@@ -12,9 +12,9 @@ use Rattle.state_head.specs.declared.cover.RefusedRow.{RefusedRow}
 use Rattle.state_head.specs.declared.cover.Stretch.{Stretch}
 use Rattle.state_whole.specs.Adding.{CannotAdd, sum_with}
 use Rattle.state_whole.specs.declared.adding.Shape.{Shape}
-use Rattle.state_whole.specs.declared.sum.FileFault.{FileFault}
-use Rattle.state_whole.specs.declared.sum.FileFault.TheVariants as fault
-use Rattle.state_whole.specs.declared.sum.Sum.{Sum}
+use Rattle.state_whole.specs.declared.files.FileFault.{FileFault}
+use Rattle.state_whole.specs.declared.files.FileFault.TheVariants as fault
+use Rattle.state_whole.specs.declared.files.Sum.{Sum}
 
 -- a group has at most 2^50 rows
 abbrev pub AreBounded : GroupsByKey → Type 0

@@ -4,11 +4,11 @@
 
 mod adding;
 mod alike;
+mod files;
 mod rows;
-mod sum;
 #[cfg(test)]
 mod tests;
 
 pub use adding::{GroupFault, Shape};
 pub use alike::{OtherFile, check_range, check_whole};
-pub use sum::{FileFault, Sum};
+pub use files::{FileFault, Sum};

@@ -4,14 +4,17 @@
 //! groups themselves are looked at only if it passes the bound. So files that have at most 2^50 rows together, as all files have that
 //! were made of rows, cost nothing for it.
 
-ghost use Rattle.std.specs.Prelude.{◌≡◌, ◌<◌, ◌≤◌, ◌+◌, ◌^◌, ◌++◌, [], ℕ, Bool, List, All, IfErr, IfOk, MatchResult, OnOk, length, map as map_list};
+ghost use Rattle.std.specs.Prelude.{◌≡◌, ◌<◌, ◌≤◌, ◌+◌, ◌^◌, ◌++◌, [], ℕ, List, All, IfErr, IfOk, MatchResult, OnOk, length, map as map_list};
+ghost use Rattle.std.specs.Bool.{OnTrue};
 ghost use Rattle.partial_agg.specs.Groups.{GroupsByKey};
+ghost use Rattle.partial_agg.specs.Listed.{listed};
 ghost use Rattle.state_blocks.specs.Blocks.{Group};
 ghost use Rattle.state_body.specs.Body.{IsBody, body_bytes, groups_of};
 ghost use Rattle.state_head.specs.Head.{preface_of};
-ghost use Rattle.state_head.specs.Words.{keys_of};
-ghost use Rattle.state_whole.specs.Adding.{IsShape, sum_with};
-ghost use Rattle.state_whole.specs.Sums.{AreSummed, IsNoFile};
+ghost use Rattle.state_order.specs.Order.{AreInOrder};
+ghost use Rattle.state_whole.specs.Adding.{IsShape, key_of, sum_with};
+ghost use Rattle.state_whole.specs.Sums.{AreBounded, AreSummed, HasRefused, IsNoFile};
+ghost use Rattle.state_whole.specs.declared.files.FileFault.TheVariants as fault;
 
 use crate::adding::{FileCount, GroupFault, Shape, add_blocks};
 use crate::rows::most_rows;
@@ -20,7 +23,7 @@ use state_body::{BodyFault, read_body};
 use state_front::FrontRead;
 use state_head::{Rows, Stretch};
 use state_order::KeyOrder;
-use std::alloc::{AllocError, Global};
+use std::alloc::Global;
 
 /// The most rows of a group: 2^50.
 const MOST_ROWS: u64 = 1 << 50;
@@ -65,6 +68,8 @@ impl Sum {
     ) -> Result<&'a [u8], FileFault>
         requires shape { IsShape shape.now }
         requires at { front.now.at + length front.now.rest.now < 2 ^ 64 }
+        ensures read { IfOk result (λ after. (blocks : List (List Group)) × IsBody shape.now.columns shape.now.kinds.now front.now.at blocks × (front.now.rest.now ≡ body_bytes shape.now.kinds.now front.now.at blocks ++ after.now)
+            × AreInOrder shape.now.columns (preface_of front.now.head).keys (map_list key_of (groups_of blocks))) }
         ensures sum { (m : GroupsByKey) (cover : List Stretch) (blocks : List (List Group)) (rest : List ℕ) → AreSummed m cover self.old → IsBody shape.now.columns shape.now.kinds.now front.now.at blocks
             → front.now.rest.now ≡ body_bytes shape.now.kinds.now front.now.at blocks ++ rest
             → IfOk result (λ after. (after.now ≡ rest) × AreSummed (sum_with shape.now m (groups_of blocks)) (cover ++ front.now.head.cover.items) self.new) }
@@ -92,8 +97,15 @@ impl Sum {
         }
     }
 
-    /// Looks at the rows of all groups, after a file was added whose groups have at most this many.
-    fn bound(&mut self, most: u64) -> Result<(), FileFault> {
+    /// Looks at the rows of all groups if one may have more than 2^50, after a file was added whose groups have at most this many.
+    fn bound(&mut self, most: u64) -> Result<(), FileFault>
+        requires { All (λ group. group.state.rows ≤ self.old.most + most) (listed self.old.map) }
+        ensures map { self.new.map ≡ self.old.map }
+        ensures cover { self.new.cover ≡ self.old.cover }
+        ensures few { OnOk result (self.new.most ≤ 2 ^ 50) }
+        ensures bound { OnOk result (All (λ group. group.state.rows ≤ self.new.most) (listed self.new.map)) }
+        ensures refused { IfErr result (λ why. (why ≡ fault.Rows) × (AreBounded self.old.map → ⊥)) }
+    {
         self.most = self.most.saturating_add(most);
         if self.most > MOST_ROWS {
             self.most = most_rows(&self.map);
@@ -106,7 +118,9 @@ impl Sum {
 }
 
 /// Whether a row of some stretches is refused.
-fn has_refused(cover: &[Stretch]) -> bool {
+fn has_refused(cover: &[Stretch]) -> bool
+    ensures { OnTrue result (HasRefused cover.now) }
+{
     for stretch in cover {
         match stretch.rows {
             Rows::Counted(_) => {}
