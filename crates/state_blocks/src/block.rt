@@ -3,7 +3,7 @@
 //! Nothing that is read is taken on trust: each group has to be one that rows can give. A block is looked at as a whole before
 //! any group of it counts, and its groups are read again, one by one, by `state_groups::read_group`.
 
-ghost use Rattle.std.specs.Prelude.{◌≡◌, ◌<◌, ◌≤◌, ◌^◌, ◌++◌, ℕ, List, All, IfErr, IfOk, IfSome, MatchOption, MatchResult, length};
+ghost use Rattle.std.specs.Prelude.{◌≡◌, ◌<◌, ◌≤◌, ◌+◌, ◌^◌, ◌++◌, ℕ, List, All, IfErr, IfOk, IfSome, MatchOption, MatchResult, length};
 ghost use Rattle.state_blocks.specs.Blocks.{Group, IsTuple, StopsAfter, block_bytes, tuple_bytes};
 ghost use Rattle.state_file.specs.Section.{section};
 
@@ -61,7 +61,8 @@ pub fn read_first<'a>(bytes: &'a [u8], columns: u32, kinds: &[bool]) -> Option<&
 /// The bytes of the section that some bytes begin with, and the bytes after it, if a section is there that was read before: its
 /// checksum is not looked at again.
 pub fn split_block(bytes: &[u8]) -> Option<(&[u8], &[u8])>
-    ensures { (part rest : List ℕ) → length part < 2 ^ 32 → bytes.now ≡ section part ++ rest → MatchOption result ⊥ (λ found. (found.0.now ≡ part) × (found.1.now ≡ rest)) }
+    ensures written { (part rest : List ℕ) → length part < 2 ^ 32 → bytes.now ≡ section part ++ rest → MatchOption result ⊥ (λ found. (found.0.now ≡ part) × (found.1.now ≡ rest)) }
+    ensures long { IfSome result (λ found. length found.0.now + length found.1.now + 8 ≡ length bytes.now) }
 {
     let Some((size, after)) = read_u32(bytes) else {
         return None;

@@ -3,7 +3,7 @@
 //! The blocks were read before, so each group is one that rows can give. Here its key has to come after that of the group before,
 //! and to lie within the file's range; then its state is added under its key.
 
-ghost use Rattle.std.specs.Prelude.{◌≡◌, ◌<◌, ◌≤◌, ◌+◌, ◌^◌, ◌++◌, ◌∷◌, [], ℕ, List, All, MatchResult, length, map as map_list};
+ghost use Rattle.std.specs.Prelude.{◌≡◌, ◌<◌, ◌≤◌, ◌+◌, ◌^◌, ◌++◌, ◌∷◌, [], ℕ, List, All, IfOk, MatchResult, length, map as map_list};
 ghost use Rattle.partial_agg.specs.Groups.{GroupsByKey};
 ghost use Rattle.state_blocks.specs.Blocks.{Group, IsBlock, IsTuple, block_bytes, blocks_bytes, tuple_bytes};
 ghost use Rattle.state_body.specs.Body.{groups_of};
@@ -113,6 +113,7 @@ fn add_group<'a>(
         → bytes.now ≡ tuple_bytes shape.now.kinds.now g ++ rest
         → MatchResult result (λ after. (after.now ≡ rest) × HasAdded shape.now range start (groups ++ g ∷ []) map.new order.new count.new) (IsNoMore shape.now range groups g) }
     ensures few { count.new.groups ≤ count.old.groups + 1 }
+    ensures shorter { IfOk result (λ after. length after.now < length bytes.now) }
 {
     let mut state = AggState {
         rows: 0,
