@@ -1,1 +1,2 @@
 mod Adds
+mod Bounds
