@@ -54,6 +54,7 @@ where
         Dshash {
             key_words: site.key_words,
             item_bytes: site.item_bytes,
+            home: None,
             // SAFETY: as the caller says.
             shelf: unsafe { Shelf::attach(mapping, site.shelf, callers) },
         }

@@ -13,6 +13,7 @@ use Rattle.dsa_area.specs.Sizes.{page_bytes}
 use Rattle.region_words.specs.declared.chunk.Chunk.{Chunk}
 use Rattle.region_words.specs.declared.chunk.Run.{Run}
 use Rattle.free_pages.specs.declared.pages.NoRun.{NoRun}
+use Rattle.free_pages.specs.declared.pages.Usage.{Usage}
 use Rattle.free_pages.specs.Legal.{PagesCall, PagesReply, Give, Accepts, HandsBack}
 use Rattle.span_pools.specs.Legal.{PoolCall, PoolReply, PoolState}
 use Rattle.span_pools.specs.declared.layout.Layout.{Layout}
@@ -23,15 +24,15 @@ use Rattle.dsa_area.specs.declared.area.Area.{Area}
 use Rattle.dsa_area.specs.declared.area.AreaPass.{AreaPass}
 use Rattle.dsa_area.specs.declared.pages.PagesName.{PagesName}
 use Rattle.dsa_area.specs.declared.pages.PagesAnswer.{PagesAnswer}
-use Rattle.dsa_area.specs.declared.pages.PagesAnswer.TheVariants.{Granted, Refused, Returned, Back}
-use Rattle.dsa_area.specs.declared.pages.PagesAsk.TheVariants.{TakeRun, GiveRun}
+use Rattle.dsa_area.specs.declared.pages.PagesAnswer.TheVariants.{Granted, Refused, Returned, Back, Seen}
+use Rattle.dsa_area.specs.declared.pages.PagesAsk.TheVariants.{TakeRun, GiveRun, LookAt}
 use Rattle.dsa_area.specs.Pages as pages
 use Rattle.dsa_area.specs.Pages.{PagesLegal}
 use Rattle.dsa_area.specs.Pools as pools
 use Rattle.dsa_area.specs.Pools.{PoolLegal, IsObject}
 use Rattle.dsa_area.specs.declared.pools.PoolAnswer.{PoolAnswer}
-use Rattle.dsa_area.specs.declared.pools.PoolAnswer.TheVariants.{Given, AllLive, Freed, Emptied, NotOurs, Filled, FreedMany, EmptiedMany, NotAllOurs}
-use Rattle.dsa_area.specs.declared.pools.PoolAsk.TheVariants.{AllocObject, FreeObject, AllocObjects, FreeObjects}
+use Rattle.dsa_area.specs.declared.pools.PoolAnswer.TheVariants.{Given, AllLive, Freed, Emptied, NotOurs, Filled, FreedMany, EmptiedMany, NotAllOurs, Untouched}
+use Rattle.dsa_area.specs.declared.pools.PoolAsk.TheVariants.{AllocObject, FreeObject, AllocObjects, FreeObjects, TrimPool}
 use Rattle.span_pools.specs.declared.histories.PoolName.{PoolName}
 use Rattle.dsa_area.specs.Shown.{IsArea, number_of, pages_name, none_granted, pool_name, no_superblock, pages_legal, pool_legal, pages_seen, pages_mine, pool_seen, pool_mine}
 use Rattle.lock_book.specs.Told.{MakesAll}
@@ -72,6 +73,7 @@ no_other_take n count control (Granted x) f g h = g x refl
 no_other_take n count control (Refused x) f g h = h x refl
 no_other_take n count control Returned f g h = f
 no_other_take n count control (Back x) f g h = f
+no_other_take n count control (Seen x) f g h = f
 
 -- a run that was brought is taken or handed back
 pub no_other_give : (n : PagesName) (run : Run) (answer : PagesAnswer) → pages.AnswerFits n (GiveRun run) answer → (answer ≡ Returned → ⊥) → ((x : Run) → answer ≡ Back x → ⊥) → ⊥
@@ -79,6 +81,15 @@ no_other_give n run (Granted x) f g h = f
 no_other_give n run (Refused x) f g h = f
 no_other_give n run Returned f g h = g refl
 no_other_give n run (Back x) f g h = h x refl
+no_other_give n run (Seen x) f g h = f
+
+-- a look is answered by what it saw
+pub no_other_look : (n : PagesName) (answer : PagesAnswer) → pages.AnswerFits n LookAt answer → ((x : Usage) → answer ≡ Seen x → ⊥) → ⊥
+no_other_look n (Granted x) f g = f
+no_other_look n (Refused x) f g = f
+no_other_look n Returned f g = f
+no_other_look n (Back x) f g = f
+no_other_look n (Seen x) f g = g x refl
 
 -- an object is given, or none is free
 pub no_other_alloc : (n : PoolName) (answer : PoolAnswer) → pools.AnswerFits n AllocObject answer → ((x : Chunk) → answer ≡ Given x → ⊥) → (answer ≡ AllLive → ⊥) → ⊥
@@ -91,6 +102,7 @@ no_other_alloc n (Filled x) f g h = f
 no_other_alloc n (FreedMany x) f g h = f
 no_other_alloc n (EmptiedMany x y) f g h = f
 no_other_alloc n (NotAllOurs x y) f g h = f
+no_other_alloc n Untouched f g h = f
 
 -- an object that was brought is taken, with its superblock or without, or is handed back
 pub no_other_free : (n : PoolName) (object : Chunk) (answer : PoolAnswer) → pools.AnswerFits n (FreeObject object) answer → (answer ≡ Freed → ⊥) → ((x : Run) → answer ≡ Emptied x → ⊥) → ((x : Chunk) → answer ≡ NotOurs x → ⊥) → ⊥
@@ -103,6 +115,20 @@ no_other_free n object (Filled x) f g h k = f
 no_other_free n object (FreedMany x) f g h k = f
 no_other_free n object (EmptiedMany x y) f g h k = f
 no_other_free n object (NotAllOurs x y) f g h k = f
+no_other_free n object Untouched f g h k = f
+
+-- a superblock goes out, or nothing does
+pub no_other_trim : (n : PoolName) (answer : PoolAnswer) → pools.AnswerFits n TrimPool answer → ((x : Run) → answer ≡ Emptied x → ⊥) → (answer ≡ Untouched → ⊥) → ⊥
+no_other_trim n (Given x) f g h = f
+no_other_trim n AllLive f g h = f
+no_other_trim n Freed f g h = f
+no_other_trim n (Emptied x) f g h = g x refl
+no_other_trim n (NotOurs x) f g h = f
+no_other_trim n (Filled x) f g h = f
+no_other_trim n (FreedMany x) f g h = f
+no_other_trim n (EmptiedMany x y) f g h = f
+no_other_trim n (NotAllOurs x y) f g h = f
+no_other_trim n Untouched f g h = h refl
 
 -- a list that was to be filled comes back
 pub no_other_fill : (n : PoolName) (count : ℕ) (objects : Vec Chunk Global) (answer : PoolAnswer) → pools.AnswerFits n (AllocObjects count objects) answer → ((x : Vec Chunk Global) → answer ≡ Filled x → ⊥) → ⊥
@@ -115,6 +141,7 @@ no_other_fill n count objects (Filled x) f g = g x refl
 no_other_fill n count objects (FreedMany x) f g = f
 no_other_fill n count objects (EmptiedMany x y) f g = f
 no_other_fill n count objects (NotAllOurs x y) f g = f
+no_other_fill n count objects Untouched f g = f
 
 -- the rest of a list comes back in three ways
 pub no_other_return : (n : PoolName) (count : ℕ) (objects : Vec Chunk Global) (answer : PoolAnswer) → pools.AnswerFits n (FreeObjects count objects) answer → ((x : Vec Chunk Global) → answer ≡ FreedMany x → ⊥)
@@ -128,6 +155,7 @@ no_other_return n count objects (Filled x) f g h k = f
 no_other_return n count objects (FreedMany x) f g h k = g x refl
 no_other_return n count objects (EmptiedMany x y) f g h k = h x y refl
 no_other_return n count objects (NotAllOurs x y) f g h k = k x y refl
+no_other_return n count objects Untouched f g h k = f
 
 -- an object has the bytes of its class
 pub is_object : (region : TableId) (a : Area) (class : ℕ) (x : Chunk) → IsClass class → IsObject (pool_name region a class) x → (x.bytes ≡ class_size class) × (x.part.region ≡ region)

@@ -12,10 +12,10 @@ use Rattle.size_classes.specs.Classes.{IsClass, IsLeast, largest_size}
 use Rattle.size_classes.proofs.Sizes.{class_range}
 use Rattle.free_pages.specs.Area.{superblock_pages}
 use Rattle.free_pages.specs.Legal as pages
-use Rattle.free_pages.specs.Legal.{PagesState, PagesCall, PagesReply, Take, Give, Gets, Lacks, Accepts, HandsBack, IsNoRun}
+use Rattle.free_pages.specs.Legal.{PagesState, PagesCall, PagesReply, Take, Give, Look, Gets, Lacks, Accepts, HandsBack, Shows, IsNoRun}
 use Rattle.span_pools.specs.declared.layout.Layout.{Layout}
 use Rattle.span_pools.specs.Legal as pool
-use Rattle.span_pools.specs.Legal.{PoolState, PoolCall, PoolReply, Alloc, Add, Free, AllocMany, FreeMany, Object, Full, Kept, Whole, Stranger, Objects, AreAllocs, AreFreed, IsSettled}
+use Rattle.span_pools.specs.Legal.{PoolState, PoolCall, PoolReply, Alloc, Add, Free, AllocMany, FreeMany, Trim, Object, Full, Kept, Whole, Stranger, Objects, AreAllocs, AreFreed, IsSettled}
 use Rattle.span_pools.specs.PoolView.{layout_of}
 use Rattle.dsa_area.specs.declared.area.Area.{Area}
 use Rattle.dsa_area.specs.declared.area.AreaPass.{AreaPass}
@@ -40,10 +40,17 @@ pages_step first n s (Take k w) (Gets x) t h l = (l.pages ∙ h.0, subst (λ (z 
 pages_step first n s (Take k w) (Lacks x y) t h l = subst (λ (z : PagesState). (z.pages ≡ n) × pages.AreApart n 0 z.granted) (sym l.same) h
 pages_step first n s (Take k w) Accepts t h l = absurd l
 pages_step first n s (Take k w) HandsBack t h l = absurd l
+pages_step first n s (Take k w) (Shows x y) t h l = absurd l
 pages_step first n s (Give x k w) (Gets y) t h l = absurd l
 pages_step first n s (Give x k w) (Lacks y z) t h l = absurd l
 pages_step first n s (Give x k w) Accepts t h l = (l.pages ∙ h.0, subst (λ (z : ℕ). pages.AreApart z 0 t.granted) (l.pages ∙ h.0) l.apart)
 pages_step first n s (Give x k w) HandsBack t h l = subst (λ (z : PagesState). (z.pages ≡ n) × pages.AreApart n 0 z.granted) (sym l.same) h
+pages_step first n s (Give x k w) (Shows y z) t h l = absurd l
+pages_step first n s Look (Gets x) t h l = absurd l
+pages_step first n s Look (Lacks x y) t h l = absurd l
+pages_step first n s Look Accepts t h l = absurd l
+pages_step first n s Look HandsBack t h l = absurd l
+pages_step first n s Look (Shows x y) t h l = subst (λ (z : PagesState). (z.pages ≡ n) × pages.AreApart n 0 z.granted) (sym l.same) h
 
 all_settled : (l : Layout) (s : PoolState) (ats : List ℕ) (t : PoolState) → IsSettled l s → AreAllocs l s ats t → IsSettled l t
 all_settled l s [] t h k = subst (IsSettled l) (sym k) h
@@ -87,6 +94,12 @@ pool_step l s (FreeMany (x ∷ xs)) (Whole z) t h k = k.2.settled
 pool_step l s (FreeMany []) Stranger t h k = absurd k
 pool_step l s (FreeMany (x ∷ xs)) Stranger t h k = subst (IsSettled l) (sym k.2.same) (freed_settled l s xs k.0 h k.1)
 pool_step l s (FreeMany xs) (Objects zs) t h k = absurd k
+pool_step l s Trim (Object z) t h k = absurd k
+pool_step l s Trim Full t h k = absurd k
+pool_step l s Trim Kept t h k = subst (IsSettled l) (sym k.same) h
+pool_step l s Trim (Whole z) t h k = k.settled
+pool_step l s Trim Stranger t h k = absurd k
+pool_step l s Trim (Objects zs) t h k = absurd k
 
 none_settled : (l : Layout) → IsSettled l no_superblock
 none_settled l = record {

@@ -3,15 +3,15 @@
 use Rattle.std.specs.Prelude.{◌≡◌, ℕ, ◌*◌, ◌≤◌, List, [], ◌∷◌, Option, Some, None, Vec, vec_capacity}
 use Rattle.std.specs.Global.{Global}
 use Rattle.region_words.specs.declared.chunk.Chunk.{Chunk}
-use Rattle.span_pools.specs.Legal.{PoolState, PoolCall, PoolReply, Alloc, Add, Free, AllocMany, FreeMany, Object, Full, Kept, Whole, Stranger, Objects}
+use Rattle.span_pools.specs.Legal.{PoolState, PoolCall, PoolReply, Alloc, Add, Free, AllocMany, FreeMany, Trim, Object, Full, Kept, Whole, Stranger, Objects}
 use Rattle.span_pools.specs.Legal as pool
 use Rattle.span_pools.specs.declared.histories.PoolName.{PoolName}
 use Rattle.span_pools.specs.PoolView.{PoolView, IsSuperblock}
 use Rattle.span_pools.specs.Batch.{AreChunks, IsRest, gone, places}
 use Rattle.dsa_area.specs.declared.pools.PoolAsk.{PoolAsk}
-use Rattle.dsa_area.specs.declared.pools.PoolAsk.TheVariants.{AllocObject, AddRun, FreeObject, AllocObjects, FreeObjects}
+use Rattle.dsa_area.specs.declared.pools.PoolAsk.TheVariants.{AllocObject, AddRun, FreeObject, AllocObjects, FreeObjects, TrimPool}
 use Rattle.dsa_area.specs.declared.pools.PoolAnswer.{PoolAnswer}
-use Rattle.dsa_area.specs.declared.pools.PoolAnswer.TheVariants.{Given, AllLive, Freed, Emptied, NotOurs, Filled, FreedMany, EmptiedMany, NotAllOurs}
+use Rattle.dsa_area.specs.declared.pools.PoolAnswer.TheVariants.{Given, AllLive, Freed, Emptied, NotOurs, Filled, FreedMany, EmptiedMany, NotAllOurs, Untouched}
 
 -- the name of this pool
 abbrev pub name_of : PoolView → PoolName
@@ -24,6 +24,7 @@ call_of (AddRun run) = Add run.at
 call_of (FreeObject chunk) = Free chunk.at chunk.bytes
 call_of (AllocObjects count objects) = AllocMany count
 call_of (FreeObjects count objects) = FreeMany (places objects.items)
+call_of TrimPool = Trim
 
 -- of a list, those objects come back that are not in the rest of it
 abbrev pub chosen_of : PoolAsk → PoolAnswer → Option PoolCall
@@ -43,6 +44,7 @@ reply_of (Filled objects) = Objects (places objects.items)
 reply_of (FreedMany rest) = Kept
 reply_of (EmptiedMany rest run) = Whole run.at
 reply_of (NotAllOurs rest chunk) = Stranger
+reply_of Untouched = Kept
 
 -- a superblock is one of these pages; an object that comes back is of this region; a list to be filled is empty and has
 -- room; objects that come back as a list have the bytes of the class, too
@@ -52,6 +54,7 @@ AskFits n (AddRun run) = IsSuperblock n.region n.layout run.at run.pages run.wor
 AskFits n (FreeObject chunk) = chunk.part.region ≡ n.region
 AskFits n (AllocObjects count objects) = (objects.items ≡ []) × (count ≤ vec_capacity objects)
 AskFits n (FreeObjects count objects) = AreChunks n.region (8 * n.layout.size) objects.items
+AskFits n TrimPool = Unit {0}
 
 -- the bytes and the region of an object
 abbrev pub IsObject : PoolName → Chunk → Type 0
@@ -74,6 +77,8 @@ AnswerFits n (AllocObjects count objects) (Filled filled) = AreChunks n.region (
 AnswerFits n (FreeObjects count objects) (FreedMany rest) = IsRestOf count objects rest
 AnswerFits n (FreeObjects count objects) (EmptiedMany rest run) = IsRestOf count objects rest × IsSuperblock n.region n.layout run.at run.pages run.words run.control
 AnswerFits n (FreeObjects count objects) (NotAllOurs rest chunk) = IsRestOf count objects rest × ((others : List Chunk) × (gone objects.items rest.items ≡ chunk ∷ others))
+AnswerFits n TrimPool (Emptied run) = IsSuperblock n.region n.layout run.at run.pages run.words run.control
+AnswerFits n TrimPool Untouched = Unit {0}
 AnswerFits n ask answer = ⊥
 
 -- what a call of any caller may reply, and what it does to the state

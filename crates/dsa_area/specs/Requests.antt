@@ -4,7 +4,7 @@ use Rattle.std.specs.Prelude.{◌≡◌, ◌≢◌, ℕ, ◌/◌, ◌%◌, ◌<�
 use Rattle.size_classes.specs.Classes.{IsClass, IsLeast, class_size, largest_size}
 use Rattle.free_pages.specs.Area.{superblock_pages}
 use Rattle.free_pages.specs.Legal.{PagesCall, PagesReply, Take, Give, Gets, Lacks, Accepts, HandsBack}
-use Rattle.span_pools.specs.Legal.{PoolCall, PoolReply, Alloc, Add, Free, FreeMany, Object, Full, Kept, Whole, Stranger}
+use Rattle.span_pools.specs.Legal.{PoolCall, PoolReply, Alloc, Add, Free, FreeMany, Trim, Object, Full, Kept, Whole, Stranger}
 use Rattle.dsa_area.specs.Sizes.{page_bytes, pages_for}
 use Rattle.lock_book.specs.Told.{MakesAll}
 use Rattle.dsa_area.specs.Shown.{number_of, none_granted, no_superblock, pages_legal, pool_legal, pages_seen, pages_mine, pool_seen, pool_mine}
@@ -73,3 +73,7 @@ module _ (a : Area) (p q : AreaPass) where
   AreTakenBack class ats =
       PoolEvents class ((FreeMany ats, Kept) ∷ [])
       ⊎ ((run : ℕ) × (reply : PagesReply) × Events class ((FreeMany ats, Whole run) ∷ []) ((Give run superblock_pages true, reply) ∷ []))
+
+  -- The active superblock of a class went to the pages, whatever they replied
+  abbrev pub IsTrimmed : ℕ → Type 0
+  IsTrimmed class = (run : ℕ) × (reply : PagesReply) × Events class ((Trim, Whole run) ∷ []) ((Give run superblock_pages true, reply) ∷ [])

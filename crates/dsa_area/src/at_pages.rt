@@ -1,14 +1,14 @@
-//! The two calls that a request makes at the pages, each one event of `free_pages`.
+//! The calls that a request makes at the pages, each one event of `free_pages`.
 
 ghost use Rattle.std.specs.Prelude.{◌≡◌, ◌≤◌, [], ◌∷◌, IfOk, IfErr, is_some};
-ghost use Rattle.free_pages.specs.Legal.{Take, Give, Gets, Lacks, Accepts, HandsBack};
+ghost use Rattle.free_pages.specs.Legal.{Take, Give, Look, Gets, Lacks, Accepts, HandsBack, Shows};
 ghost use Rattle.free_pages.specs.PagesView.{IsRunOf, MayGive};
 ghost use Rattle.dsa_area.specs.Shown.{Belongs, IsArea, first_of, number_of, pages_of};
 ghost use Rattle.dsa_area.specs.Requests.{PageEvents};
 
 use crate::area::{Area, AreaPass};
 use crate::pages::{PagesAnswer, PagesAsk};
-use free_pages::NoRun;
+use free_pages::{NoRun, Usage};
 use region_words::{Region, Run};
 use std::sync::Wait;
 
@@ -63,6 +63,23 @@ pub(crate) fn give_run<R: Wait>(
     {
         PagesAnswer::Returned => Ok(()),
         PagesAnswer::Back(run) => Err(run),
+        _ => unreachable!(),
+    }
+}
+
+/// How the pages are used. It waits for the pages' lock.
+pub(crate) fn look_at_pages<R: Wait>(rt: &R, area: &Area, r: &Region, pass: &mut AreaPass) -> Usage
+    requires area { IsArea r.now area.now }
+    requires own { Belongs area.now pass.old }
+    ensures own { Belongs area.now pass.new }
+    ensures caller { number_of pass.new ≡ number_of pass.old }
+    ensures shown { PageEvents area.now pass.old pass.new ((Look, Shows result.used result.largest) ∷ []) }
+{
+    match area
+        .pages
+        .call(rt, r, &mut pass.pages, 0, PagesAsk::LookAt)
+    {
+        PagesAnswer::Seen(usage) => usage,
         _ => unreachable!(),
     }
 }

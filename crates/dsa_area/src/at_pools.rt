@@ -2,7 +2,7 @@
 
 ghost use Rattle.std.specs.Prelude.{◌≡◌, ◌+◌, ◌≤◌, [], ◌∷◌, IfNone, IfSome, IfOk, IfErr, vec_capacity};
 ghost use Rattle.size_classes.specs.Classes.{IsClass, class_size, first_class};
-ghost use Rattle.span_pools.specs.Legal.{Alloc, Add, Free, AllocMany, FreeMany, Object, Full, Kept, Whole, Stranger, Objects};
+ghost use Rattle.span_pools.specs.Legal.{Alloc, Add, Free, AllocMany, FreeMany, Trim, Object, Full, Kept, Whole, Stranger, Objects};
 ghost use Rattle.span_pools.specs.PoolView.{IsSuperblock};
 ghost use Rattle.span_pools.specs.Batch.{AreChunks, gone, places};
 ghost use Rattle.dsa_area.specs.Pools.{IsRestOf};
@@ -189,6 +189,36 @@ pub(crate) fn free_objects<R: Wait>(
         PoolAnswer::FreedMany(rest) => (rest, Ok(None)),
         PoolAnswer::EmptiedMany(rest, run) => (rest, Ok(Some(run))),
         PoolAnswer::NotAllOurs(rest, object) => (rest, Err(object)),
+        _ => unreachable!(),
+    }
+}
+
+/// The active superblock of a class, if nothing in it is live. It waits for the pool's lock.
+pub(crate) fn trim_pool<R: Wait>(
+    rt: &R,
+    area: &Area,
+    r: &Region,
+    pass: &mut AreaPass,
+    class: u8,
+) -> Option<Run>
+    requires area { IsArea r.now area.now }
+    requires own { Belongs area.now pass.old }
+    requires class { IsClass class }
+    ensures own { Belongs area.now pass.new }
+    ensures caller { number_of pass.new ≡ number_of pass.old }
+    ensures whole { IfSome result (λ run. PoolEvents area.now pass.old pass.new class ((Trim, Whole run.at) ∷ [])) }
+    ensures run { IfSome result (λ run. IsSuperblock r.now (pool_name r.now area.now class).layout run.at run.pages run.words run.control) }
+    ensures kept { IfNone result (PoolEvents area.now pass.old pass.new class ((Trim, Kept) ∷ [])) }
+{
+    match area.pools.call(
+        rt,
+        r,
+        &mut pass.pools,
+        place_of(class),
+        PoolAsk::TrimPool,
+    ) {
+        PoolAnswer::Emptied(run) => Some(run),
+        PoolAnswer::Untouched => None,
         _ => unreachable!(),
     }
 }

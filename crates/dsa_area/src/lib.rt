@@ -7,7 +7,7 @@
 //!
 //! `pages` and `pools` are the locked values, `at_pages` and `at_pools` one event at each; `objects` and `whole` are
 //! the requests of the two kinds over these, and `requests` chooses between them; `batches` are many objects in one
-//! turn at a pool. `open`, `meet` and `close` are how an area begins, how passes exchange what they have seen, and how
+//! turn at a pool, and `trims` what lies idle. `open`, `meet` and `close` are how an area begins, how passes exchange what they have seen, and how
 //! it ends.
 
 #![tactic(auto)]
@@ -24,10 +24,11 @@ mod pages;
 mod pools;
 mod requests;
 mod sizes;
+mod trims;
 mod whole;
 
 pub use area::{Area, AreaPass};
 pub use close::ClosedArea;
-pub use free_pages::area_words;
+pub use free_pages::{Usage, area_words};
 pub use requests::{NoSpace, Stranger};
 pub use sizes::chunk_bytes;

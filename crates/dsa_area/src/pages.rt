@@ -6,7 +6,7 @@
 ghost use Rattle.std.specs.Prelude.{◌≡◌};
 ghost use Rattle.dsa_area.specs.Pages.{name_of, call_of, reply_of, AskFits, AnswerFits, PagesLegal};
 
-use free_pages::{NoRun, Pages, PagesCalls, PagesReplies, PagesStates};
+use free_pages::{NoRun, Pages, PagesCalls, PagesReplies, PagesStates, Usage};
 use lock_book::Kept;
 use region_words::{Region, Run};
 
@@ -27,6 +27,8 @@ pub(crate) enum PagesAsk {
     TakeRun(u32, bool),
     /// A run comes back.
     GiveRun(Run),
+    /// How they are used.
+    LookAt,
 }
 
 /// What the locked pages answer.
@@ -40,6 +42,8 @@ pub(crate) enum PagesAnswer {
     Returned,
     /// The run is none that was granted.
     Back(Run),
+    /// How they are used.
+    Seen(Usage),
 }
 
 /// The one `Pages` of an area.
@@ -90,6 +94,7 @@ impl Kept for LockedPages {
                 Ok(()) => PagesAnswer::Returned,
                 Err(run) => PagesAnswer::Back(run),
             },
+            PagesAsk::LookAt => PagesAnswer::Seen(pages.usage(r)),
         }
     }
 }

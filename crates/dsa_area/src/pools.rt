@@ -23,6 +23,8 @@ pub(crate) enum PoolAsk {
     AllocObjects(usize, Vec<Chunk>),
     /// Up to this many objects come back, from the end of a list on.
     FreeObjects(usize, Vec<Chunk>),
+    /// The active superblock, if nothing in it is live.
+    TrimPool,
 }
 
 /// What a locked pool answers.
@@ -34,7 +36,7 @@ pub(crate) enum PoolAnswer {
     AllLive,
     /// The object was taken back.
     Freed,
-    /// The same, and its superblock goes out.
+    /// The same, and its superblock goes out; or the active superblock does.
     Emptied(Run),
     /// The object is none of the pool's.
     NotOurs(Chunk),
@@ -46,6 +48,8 @@ pub(crate) enum PoolAnswer {
     EmptiedMany(Vec<Chunk>, Run),
     /// The same, except that the last of them is none of the pool's.
     NotAllOurs(Vec<Chunk>, Chunk),
+    /// Nothing goes out.
+    Untouched,
 }
 
 /// The pool of one size class of an area.
@@ -111,6 +115,10 @@ impl Kept for LockedPool {
                     Err(object) => PoolAnswer::NotAllOurs(objects, object),
                 }
             }
+            PoolAsk::TrimPool => match pool.trim(r) {
+                Some(run) => PoolAnswer::Emptied(run),
+                None => PoolAnswer::Untouched,
+            },
         }
     }
 }

@@ -11,3 +11,4 @@ pub mod Apart
 pub mod Offers
 pub mod AreaWords
 pub mod Filled
+pub mod Used

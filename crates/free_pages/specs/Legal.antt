@@ -19,6 +19,11 @@ abbrev pub is_recorded : List Granted → ℕ → Bool
 is_recorded [] k = false
 is_recorded (g ∷ gs) k = (g.control && is_within g.from g.len k) || is_recorded gs k
 
+-- how many pages are in granted runs
+abbrev pub used_by : List Granted → ℕ
+used_by [] = 0
+used_by (g ∷ gs) = g.len + used_by gs
+
 -- these pages are in no granted run
 pub record IsFree (pages : ℕ) (granted : List Granted) (from len : ℕ) : Type 0 where
   pub inside : from + len ≤ pages
@@ -44,18 +49,20 @@ pub record PagesState : Type 0 where
   pub granted : List Granted
 
 -- a call: n pages, with their control records or not; or a run, by its first word, its pages, and whether its records
--- are with it
+-- are with it; or a look at how many pages are granted
 pub data PagesCall : Type 0 where
   Take : ℕ → Bool → PagesCall
   Give : ℕ → ℕ → Bool → PagesCall
+  Look : PagesCall
 
 -- a reply: the first word of the run that is granted; or the pages that were wanted, and the longest run of free ones;
--- the run is taken back; or it is handed back
+-- the run is taken back; or it is handed back; or the pages that are granted, and the longest run of free ones
 pub data PagesReply : Type 0 where
   Gets : ℕ → PagesReply
   Lacks : ℕ → ℕ → PagesReply
   Accepts : PagesReply
   HandsBack : PagesReply
+  Shows : ℕ → ℕ → PagesReply
 
 -- n pages in a row that were free are granted. Page 0 begins at word `first`
 pub record IsTake (first : ℕ) (before : PagesState) (n : ℕ) (control : Bool) (place : ℕ) (after : PagesState) : Type 0 where
@@ -86,10 +93,17 @@ pub record IsHandedBack (first : ℕ) (before : PagesState) (place n : ℕ) (con
   pub none : (from : ℕ) (rest : List Granted) → place ≡ first + page_words * from → Adds rest before.granted (record { from = from; len = n; control = control }) → ⊥
   pub same : after ≡ before
 
--- what a call may reply, and what it does to the state. A reply of the other call never comes
+-- this many pages are granted, and the longest run of free ones has this many
+pub record IsLook (before : PagesState) (used largest : ℕ) (after : PagesState) : Type 0 where
+  pub used_is : used ≡ used_by before.granted
+  pub largest_is : IsLargest before.pages before.granted largest
+  pub same : after ≡ before
+
+-- what a call may reply, and what it does to the state. A reply of another call never comes
 abbrev pub IsLegal : ℕ → PagesState → PagesCall → PagesReply → PagesState → Type 0
 IsLegal first before (Take n control) (Gets place) after = IsTake first before n control place after
 IsLegal first before (Take n control) (Lacks wanted largest) after = IsNoRun before n wanted largest after
 IsLegal first before (Give place n control) Accepts after = IsGive first before place n control after
 IsLegal first before (Give place n control) HandsBack after = IsHandedBack first before place n control after
+IsLegal first before Look (Shows used largest) after = IsLook before used largest after
 IsLegal first before call reply after = ⊥

@@ -9,7 +9,7 @@
 ghost use Rattle.std.specs.Prelude.{◌≡◌, ℕ, ◌+◌, ◌*◌, ◌-◌, ◌/◌, ◌<◌, ◌≤◌, ◌^◌, [], ◌≢◌, MatchResult, IfOk, IfErr, Some, IfSome, IsSome, is_some};
 ghost use Rattle.word_map.specs.WordMap.{at as word_at, HasJust};
 ghost use Rattle.free_pages.specs.Area.{front, control_words, head_words, page_words};
-ghost use Rattle.free_pages.specs.Legal.{IsLargest, IsLegal, Take, Give, Gets, Lacks, Accepts, HandsBack};
+ghost use Rattle.free_pages.specs.Legal.{IsLargest, IsLegal, Take, Give, Look, Gets, Lacks, Accepts, HandsBack, Shows, used_by};
 ghost use Rattle.free_pages.specs.Runs.{IsRuns, granted_in};
 ghost use Rattle.free_pages.specs.PagesView.{pages_view, IsRunOf, MayGive, SplitsOff, JoinsBack, MaySplit};
 
@@ -29,6 +29,15 @@ pub struct NoRun {
     pub largest: u32,
 }
 
+/// How the pages of an area are used.
+#[derive(Clone, Copy)]
+pub struct Usage {
+    /// The pages of all granted runs.
+    pub used: u32,
+    /// The pages of the longest run that is free.
+    pub largest: u32,
+}
+
 /// The pages of an area. Contracts see the region, the first word of page 0, how many pages there are, and the granted
 /// runs.
 #[derive(Drop)]
@@ -43,6 +52,8 @@ pub struct Pages {
     filled: u64,
     /// The pages of the longest free run, from the walk that found it until a run is granted or given back.
     longest: Option<u32>,
+    /// The pages of all granted runs. It only repeats what the run words say, so that nobody has to look at each.
+    used: u32,
     /// The words at the head and the run words.
     runs: Part,
     /// The words of the pages that are not granted.
@@ -52,6 +63,8 @@ pub struct Pages {
 }
 
 impl Model for Pages {
+    ghost use Rattle.std.specs.Prelude.{◌≡◌};
+    ghost use Rattle.free_pages.specs.Legal.{used_by};
     ghost use Rattle.free_pages.specs.Runs.{IsFilled, granted_in};
     ghost use Rattle.free_pages.specs.PagesView.{PagesView, pages_view_code, pages_view, IsPages, IsLongest};
 
@@ -61,7 +74,7 @@ impl Model for Pages {
 
     ghost view = { λ p. pages_view p.runs.region p.first p.pages (granted_in p.runs.words p.heads p.pages) };
 
-    ghost invariant = { λ p. IsPages p.first p.pages p.heads p.runs p.words p.records × IsFilled p.runs.words p.heads p.pages p.filled × IsLongest p.pages (granted_in p.runs.words p.heads p.pages) p.longest };
+    ghost invariant = { λ p. IsPages p.first p.pages p.heads p.runs p.words p.records × IsFilled p.runs.words p.heads p.pages p.filled × IsLongest p.pages (granted_in p.runs.words p.heads p.pages) p.longest × (p.used ≡ used_by (granted_in p.runs.words p.heads p.pages)) };
 }
 
 impl Pages {
@@ -95,6 +108,7 @@ impl Pages {
             heads,
             filled: 0,
             longest: None,
+            used: 0,
             runs,
             words,
             records,
@@ -147,6 +161,7 @@ impl Pages {
             });
         }
         self.longest = None;
+        self.used += n;
         grant(
             &mut self.runs,
             r,
@@ -198,6 +213,7 @@ impl Pages {
         }
         self.filled = smaller(self.filled, at);
         self.longest = None;
+        self.used -= run.pages;
         let Run {
             at: _,
             pages: _,
@@ -207,6 +223,26 @@ impl Pages {
         self.words.join(r, words);
         join_back(&mut self.records, r, control);
         Ok(())
+    }
+
+    /// How many pages are granted, and the pages of the longest run that is free. Walks as `largest` does.
+    pub fn usage(&mut self, r: &Region) -> Usage
+        requires here { self.old.region ≡ r.now }
+        ensures same { self.new ≡ self.old }
+        ensures shown { IsLegal self.old.first self.old.state Look (Shows result.used result.largest) self.new.state }
+    {
+        let largest = self.largest(r);
+        Usage {
+            used: self.used(),
+            largest,
+        }
+    }
+
+    /// How many pages are granted. No step on the region.
+    pub fn used(&self) -> u32
+        ensures { result ≡ used_by self.now.state.granted }
+    {
+        self.used
     }
 
     /// The pages of the longest run that is free; 0 if no page is. Walks once over all runs from the first free page

@@ -1,5 +1,5 @@
 -- What a pool is after an object came back.
-use Rattle.std.proofs.Common.{◌≡◌, ◌≢◌, ℕ, ◌+◌, ◌*◌, ◌<◌, ◌≤◌, ◌⊎◌, inl, inr, ⊎_elim, Bool, true, false, not, ◌&&◌, ◌||◌, Option, Some, None, is_some, refl, sym, ap, subst, ◌∙◌, arith}
+use Rattle.std.proofs.Common.{◌≡◌, ◌≢◌, ℕ, ◌+◌, ◌*◌, ◌<◌, ◌≤◌, ◌⊎◌, inl, inr, ⊎_elim, Bool, true, false, not, ◌&&◌, ◌||◌, Option, Some, None, is_some, IsSome, refl, sym, ap, subst, ◌∙◌, arith}
 use mathlib.Core.Logic.{dite}
 use native.Mathlib.Decide.{ℕ_discrete}
 use Rattle.std.proofs.lemmas.Bool.{cases_lt, false_from_ne_true}
@@ -152,16 +152,22 @@ keys_out l page index at_word k records words part records2 words2 run control a
     drop_inside false false c h = refl
 
 -- the words of other superblocks stay
-outside_out : (l : Layout) (page q index at_word k : ℕ) (records words part records2 words2 run control : Owned) → IsLayout l → IsLast l page index at_word records words part → IsReleased l page records words part records2 words2 run control
+pub outside_out : (l : Layout) (page q index at_word k : ℕ) (records words part records2 words2 run control : Owned) → IsLayout l → IsLast l page index at_word records words part → IsReleased l page records words part records2 words2 run control
     → ((page + 16 ≤ q) ⊎ (q + 16 ≤ page)) → covers l q k ≡ true → at words2.words k ≡ at words.words k
 outside_out l page q index at_word k records words part records2 words2 run control a t d apart c =
     let out : covers l page k ≡ false = false_from_ne_true (covers l page k) (λ h. no_common l page q k apart h c) in
     ap (λ (o : Owned). at o.words k) d.rest ∙ at-rest_out (union words.words part.words) (base l page) 8192 k out
     ∙ union_else words.words part.words at_word l.size k t.just (false_from_ne_true (is_within at_word l.size k) (λ h. no_bool (covers l page k) (in_object l page index k a t.low (subst (λ (z : ℕ). is_within z l.size k ≡ true) t.at_is h)).0 out))
 
-pub after_emptied : (l : Layout) (active : Option ℕ) (page index at_word : ℕ) (marks marks2 records words part records2 words2 run control : Owned) → IsPool l active marks records words → mark_of l marks.words page ≡ true
-    → IsLast l page index at_word records words part → (active ≢ Some page) → IsMarked l page false marks marks2 → IsReleased l page records words part records2 words2 run control → IsPool l active marks2 records2 words2
-after_emptied l active page index at_word marks marks2 records words part records2 words2 run control p m t idle g d = record {
+-- which superblock is the active one after one went out: one that is there, if any is
+pub record IsNextActive (l : Layout) (page : ℕ) (active active2 : Option ℕ) (marks2 : WordMap) : Type 0 where
+  pub there : (q : ℕ) → active2 ≡ Some q → mark_of l marks2 q ≡ true
+  pub some : (q : ℕ) → mark_of l marks2 q ≡ true → IsSome active2
+  pub stays : (q : ℕ) → active ≡ Some q → q ≢ page → active2 ≡ Some q
+
+pub after_out : (l : Layout) (active active2 : Option ℕ) (page index at_word : ℕ) (marks marks2 records words part records2 words2 run control : Owned) → IsPool l active marks records words → mark_of l marks.words page ≡ true
+    → IsLast l page index at_word records words part → IsNextActive l page active active2 marks2.words → IsMarked l page false marks marks2 → IsReleased l page records words part records2 words2 run control → IsPool l active2 marks2 records2 words2
+after_out l active active2 page index at_word marks marks2 records words part records2 words2 run control p m t next g d = record {
   records_here = ap (λ (o : Owned). o.region) d.rest_records ∙ p.records_here ∙ sym g.region;
   words_here = ap (λ (o : Owned). o.region) d.rest ∙ p.words_here ∙ sym g.region;
   layout = p.layout;
@@ -173,10 +179,10 @@ after_emptied l active page index at_word marks marks2 records words part record
       book_same l q records.words words.words records2.words words2.words
       (λ k x y. ap (λ (o : Owned). at o.words k) d.rest_records ∙ at-rest_out records.words (record_at l page) 112 k (record_out q k (apart q old n) x y))
       (λ i low. outside_out l page q index at_word (place l q i) records words part records2 words2 run control p.layout t d (apart q old n) (place_covers l q i p.layout low)) (p.records_say q old);
-  active_marked = λ q e. let old = p.active_marked q e in g.others q (λ s. idle (e ∙ ap Some s)) ∙ old;
-  some_active = λ q mq. p.some_active q (before q mq);
+  active_marked = next.there;
+  some_active = next.some;
   settled = λ q mq. let n = unlike q mq in let old = before q mq in ⊎_elim
-      (λ (a : active ≡ Some q). inl a)
+      (λ (a : active ≡ Some q). inl (next.stays q a n))
       (λ (a : (j : ℕ) × (j < l.objects) × (owns words.words (place l q j) ≡ false)). inr (a.0, a.1, ap is_some (outside_out l page q index at_word (place l q a.0) records words part records2 words2 run control p.layout t d (apart q old n) (place_covers l q a.0 p.layout a.1)) ∙ a.2))
       (p.settled q old);
 }
@@ -192,6 +198,19 @@ after_emptied l active page index at_word marks marks2 records words part record
 
     record_out : (q k : ℕ) → ((page + 16 ≤ q) ⊎ (q + 16 ≤ page)) → record_at l q ≤ k → k < record_at l q + 3 → is_within (record_at l page) 112 k ≡ false
     record_out q k h x y = false_from_ne_true (is_within (record_at l page) 112 k) (λ w. let i = within_is (record_at l page) 112 k w in ⊎_elim (λ (z : page + 16 ≤ q). omega (arith, i.1)) (λ (z : q + 16 ≤ page). omega (arith, i.0)) h)
+
+-- it was not the active one, which stays
+idle_next : (l : Layout) (active : Option ℕ) (page : ℕ) (marks marks2 records words : Owned) → IsPool l active marks records words → (active ≢ Some page) → IsMarked l page false marks marks2 → IsNextActive l page active active marks2.words
+idle_next l active page marks marks2 records words p idle g = record {
+  there = λ q e. g.others q (λ s. idle (e ∙ ap Some s)) ∙ p.active_marked q e;
+  some = λ q mq. p.some_active q (sym (g.others q (λ e. no_bool (mark_of l marks2.words page) (ap (mark_of l marks2.words) (sym e) ∙ mq) g.here)) ∙ mq);
+  stays = λ q a n. a;
+}
+
+pub after_emptied : (l : Layout) (active : Option ℕ) (page index at_word : ℕ) (marks marks2 records words part records2 words2 run control : Owned) → IsPool l active marks records words → mark_of l marks.words page ≡ true
+    → IsLast l page index at_word records words part → (active ≢ Some page) → IsMarked l page false marks marks2 → IsReleased l page records words part records2 words2 run control → IsPool l active marks2 records2 words2
+after_emptied l active page index at_word marks marks2 records words part records2 words2 run control p m t idle g d =
+    after_out l active active page index at_word marks marks2 records words part records2 words2 run control p m t (idle_next l active page marks marks2 records words p idle g) g d
 
 pub emptied_legal : (l : Layout) (active : Option ℕ) (page index at_word bytes run_at : ℕ) (marks marks2 records words part records2 words2 run control : Owned) → IsPool l active marks records words → mark_of l marks.words page ≡ true
     → IsLast l page index at_word records words part → (active ≢ Some page) → IsMarked l page false marks marks2 → IsReleased l page records words part records2 words2 run control → bytes ≡ 8 * l.size → run_at ≡ base l page

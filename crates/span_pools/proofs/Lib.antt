@@ -14,3 +14,4 @@ pub mod Offers
 pub mod FreeCounts
 pub mod Spares
 pub mod Batches
+pub mod Trims

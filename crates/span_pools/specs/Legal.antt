@@ -64,16 +64,18 @@ pub record IsSettled (l : Layout) (s : PoolState) : Type 0 where
   pub some_active : (p i : ℕ) → IsSome (object_in s p i) → IsSome s.active
 
 -- a call: an object; a superblock that is added, by its first word; an object that comes back, by its first word and
--- its bytes; up to this many objects; objects that come back, by their first words
+-- its bytes; up to this many objects; objects that come back, by their first words; the active superblock, if nothing
+-- in it is live
 pub data PoolCall : Type 0 where
   Alloc : PoolCall
   Add : ℕ → PoolCall
   Free : ℕ → ℕ → PoolCall
   AllocMany : ℕ → PoolCall
   FreeMany : List ℕ → PoolCall
+  Trim : PoolCall
 
--- a reply: the first word of an object, or those of several; no object is free; what came back is free now; the
--- superblock that went back with it, by its first word; an object is handed back
+-- a reply: the first word of an object, or those of several; no object is free; what came back is free now, or nothing
+-- went out; the superblock that went out, by its first word; an object is handed back
 pub data PoolReply : Type 0 where
   Object : ℕ → PoolReply
   Full : PoolReply
@@ -175,6 +177,22 @@ abbrev pub EndsStrange : Layout → PoolState → List ℕ → PoolState → Typ
 EndsStrange l before [] after = ⊥
 EndsStrange l before (at ∷ ats) after = (mid : PoolState) × AreFreed l before ats mid × IsStranger l mid at (8 * l.size) after
 
+-- the active superblock goes out, since nothing in it is live; if there is another superblock, one is the active one
+-- then (`dsa_trim` of dsa.c gives back every empty one)
+pub record IsTrim (l : Layout) (before : PoolState) (run : ℕ) (after : PoolState) : Type 0 where
+  pub page : ℕ
+  pub run_is : run ≡ base l page
+  pub was_active : before.active ≡ Some page
+  pub none_live : (i : ℕ) → object_in before page i ≢ Some true
+  pub gone : (i : ℕ) → object_in after page i ≡ None
+  pub same : SameBeside before after page
+  pub settled : IsSettled l after
+
+-- the active superblock has a live object, if there is one; so nothing goes out
+pub record IsUntrimmed (before after : PoolState) : Type 0 where
+  pub live : (p : ℕ) → before.active ≡ Some p → HasLive before p
+  pub same : after ≡ before
+
 -- what a call may reply, and what it does to the state. A reply of another call never comes
 abbrev pub IsLegal : Layout → PoolState → PoolCall → PoolReply → PoolState → Type 0
 IsLegal l before Alloc (Object at) after = IsAlloc l before at after
@@ -187,4 +205,6 @@ IsLegal l before (AllocMany n) (Objects ats) after = IsAllocMany l before n ats 
 IsLegal l before (FreeMany ats) Kept after = AreFreed l before ats after
 IsLegal l before (FreeMany ats) (Whole run) after = EndsEmptied l before ats run after
 IsLegal l before (FreeMany ats) Stranger after = EndsStrange l before ats after
+IsLegal l before Trim (Whole run) after = IsTrim l before run after
+IsLegal l before Trim Kept after = IsUntrimmed before after
 IsLegal l before call reply after = ⊥

@@ -55,6 +55,23 @@ fn find_free(marks: &mut Part, records: &mut Part, r: &Region, layout: Layout) -
     None
 }
 
+/// The first page at which a superblock begins. Looks at one bit for each page before it.
+pub(crate) fn first_page(marks: &mut Part, r: &Region, layout: Layout) -> Option<u64>
+    requires here { marks.old.region ≡ r.now }
+    requires layout { IsLayout layout }
+    requires bits { HasJust marks.old.words layout.marks (area.mark_words layout.pages) }
+    ensures same { marks.new ≡ marks.old }
+    ensures found { IfSome result (λ p. mark_of layout marks.old.words p ≡ true) }
+    ensures none { IfNone result ((p : ℕ) → p < layout.pages → mark_of layout marks.old.words p ≡ false) }
+{
+    for page in 0..layout.pages {
+        if is_marked(marks, r, layout, page) {
+            return Some(page);
+        }
+    }
+    None
+}
+
 /// A page whose superblock has a free object: the active one's, if that has one, and else the spare one, if there is
 /// one.
 pub(crate) fn free_page(

@@ -11,10 +11,10 @@ ghost use Rattle.word_map.specs.WordMap.{HasJust};
 ghost use Rattle.size_classes.specs.Classes.{IsClass};
 ghost use Rattle.free_pages.specs.Area.{front, head_words, mark_words, marks_at, page_words};
 ghost use Rattle.span_pools.specs.Places.{IsLayout};
-ghost use Rattle.span_pools.specs.Legal.{IsLegal, Alloc, Add, Free, Object, Full, Kept, Whole, Stranger};
+ghost use Rattle.span_pools.specs.Legal.{IsLegal, Alloc, Add, Free, Trim, Object, Full, Kept, Whole, Stranger};
 ghost use Rattle.span_pools.specs.PoolView.{pool_view, layout_of, IsSuperblock};
 
-use crate::find::{free_page, holder};
+use crate::find::{first_page, free_page, holder};
 use crate::layout::{Layout, layout_for};
 use crate::marks::{clear_mark, clear_marks, set_mark};
 use crate::objects::{admit, put_object, release, room, take_object};
@@ -218,6 +218,45 @@ impl Pool {
         self.left += 1;
         self.spare = spare_with(self.active, self.spare, page);
         Ok(None)
+    }
+
+    /// Gives the active superblock back if none of its objects is live; another one is the active one then, if there is
+    /// one. Looks at one bit for each page before that.
+    pub fn trim(&mut self, r: &Region) -> Option<Run>
+        requires here { self.old.region ≡ r.now }
+        ensures same { self.new ≡ record self.old { state = self.new.state } }
+        ensures whole { IfSome result (λ run. IsLegal self.old.layout self.old.state Trim (Whole run.at) self.new.state) }
+        ensures run { IfSome result (λ run. IsSuperblock self.old.region self.old.layout run.at run.pages run.words run.control) }
+        ensures kept { IfNone result (IsLegal self.old.layout self.old.state Trim Kept self.new.state) }
+    {
+        let Some(page) = self.active else {
+            return None;
+        };
+        let free = room(&mut self.records, r, self.layout, page);
+        if free < self.layout.objects {
+            return None;
+        }
+        // One object goes out, so that the superblock goes as it does with its last live one.
+        let (_place, last) = take_object(&mut self.words, &mut self.records, r, self.layout, page);
+        clear_mark(&mut self.marks, r, self.layout, page);
+        let (words, control) = release(
+            &mut self.words,
+            &mut self.records,
+            r,
+            self.layout,
+            page,
+            last,
+        );
+        let next = first_page(&mut self.marks, r, self.layout);
+        self.active = next;
+        self.left -= free;
+        self.spare = other_than(self.spare, page);
+        Some(Run {
+            at: RelPtr::of(self.layout.first + PAGE_WORDS * page),
+            pages: SUPERBLOCK_PAGES,
+            words,
+            control: Some(control),
+        })
     }
 }
 

@@ -1,4 +1,4 @@
-use Rattle.std.proofs.Common.{◌≡◌, ℕ, ◌+◌, ◌*◌, IfSome, is_some, refl, subst, sym, ap, ◌∙◌}
+use Rattle.std.proofs.Common.{◌≡◌, ℕ, ◌+◌, ◌*◌, IfSome, is_some, arith, refl, subst, sym, ap, ◌∙◌}
 use Rattle.atomic_table.specs.Seated.{TableId}
 use Rattle.region_words.specs.Parts.{Owned}
 use Rattle.free_pages.specs.Legal.{IsFree, IsGive, IsHandedBack}
@@ -6,6 +6,7 @@ use Rattle.free_pages.specs.Runs.{granted_in}
 use Rattle.free_pages.specs.PagesView.{PagesView, pages_view, MayGive}
 use Rattle.free_pages.proofs.Gives.{none_there, not_there, give_is, records_region, after_give, adds_as}
 use Rattle.free_pages.proofs.Filled.{filled_give}
+use Rattle.free_pages.proofs.Used.{used_adds}
 use Rattle.free_pages.proofs.pages.Pages.give.Goals as goal
 
 pub returns-then-at-self-clause-refused : goal.returns-then-at-self-clause-refused
@@ -43,6 +44,7 @@ invariant_of-self-2 c =
           c.self.invariant.0 c.if-not-release.ensures.region c.if-not-release.ensures.runs free adds place may c.args.run.just c.join.ensures.both c.join_back.ensures,
       filled_give c.self.inside.runs.words c.release.new.runs.words c.self.inside.heads c.self.inside.pages c.self.inside.filled c.page_of-at.result c.args.run.pages c.smaller-self-inside.result (is_some c.args.run.control) c.self.invariant.0.runs_are c.if-not-release.ensures.heads adds c.smaller-self-inside.ensures c.self.invariant.1,
       tt,
+      (let less = used_adds _ _ _ adds in omega (arith, less, c.self.invariant.3)),
     )
 
 pub returns-clause-given : goal.returns-clause-given
@@ -52,3 +54,8 @@ returns-clause-given c =
     c.page_of-at.result c.from-count.result c.args.run.pages c.is_some-control.result (is_some c.args.run.control) refl refl c.from-count.ensures c.is_some-control.ensures (c.if-not-release.ensures.removed refl) in
     subst (λ (b : PagesView). IsGive b.first b.state c.args.run.at c.args.run.pages (is_some c.args.run.control) (pages_view c.self.inside.runs.region c.self.inside.first c.self.inside.pages (granted_in c.release.new.runs.words c.self.inside.heads c.self.inside.pages)).state) c.self.view_is
     (give_is c.self.inside.first c.self.inside.pages c.self.inside.heads c.page_of-at.result c.args.run.pages c.args.run.at c.self.inside.runs c.release.new.runs (is_some c.args.run.control) c.if-not-release.ensures.runs adds place)
+
+pub overflow_sub-self : goal.overflow_sub-self
+overflow_sub-self c =
+    let less = used_adds _ _ _ (c.if-not-release.ensures.removed refl) in
+    omega (arith, less, c.self.invariant.3, c.from-count.ensures)

@@ -1,5 +1,6 @@
 use Rattle.std.proofs.Common.{◌-◌, ℕ, sym, ap, ◌∙◌}
 use Rattle.region_words.specs.Parts.{Owned}
+use Rattle.free_pages.specs.Legal.{used_by}
 use Rattle.free_pages.proofs.Stores.{owns_after}
 use Rattle.free_pages.proofs.News.{new_owns_head, new_owns, new_pages}
 use Rattle.free_pages.proofs.Filled.{filled_none}
@@ -19,4 +20,5 @@ invariant_of-result c =
           (c.requires.here.0 ∙ sym (old ∙ c.requires.here.1)) (ap (λ (o : Owned). o.region) c.split-records.ensures.range ∙ sym old) c.blank.ensures.runs c.blank.ensures.granted c.requires.words (ap (λ (o : Owned). o.words) c.split-records.ensures.range),
       filled_none c.blank.new.runs.words (c.args.first - c.front.result) c.args.pages c.blank.ensures.runs,
       tt,
+      sym (ap used_by c.blank.ensures.granted),
     )

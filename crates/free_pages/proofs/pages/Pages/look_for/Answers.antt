@@ -1,10 +1,12 @@
 use Rattle.std.proofs.Common.{◌*◌, arith, List, ℕ, subst, ◌∙◌}
 use Rattle.word_map.specs.WordMap.{HasJust}
 use Rattle.free_pages.specs.Legal.{Granted, Adds, IsTake}
-use Rattle.free_pages.specs.Runs.{granted_in}
+use Rattle.free_pages.specs.Runs.{granted_in, run_word}
 use Rattle.free_pages.specs.PagesView.{PagesView, pages_view, IsRunOf}
 use Rattle.free_pages.proofs.Grants.{found_free, may_split, may_split_words, after_grant, take_is, run_is, run_just}
+use Rattle.free_pages.proofs.Apart.{granted_apart}
 use Rattle.free_pages.proofs.Filled.{filled_grant}
+use Rattle.free_pages.proofs.Used.{used_adds, used_most}
 use Rattle.free_pages.proofs.pages.Pages.look_for.Goals as goal
 
 pub split-words-requires-clause-owns : goal.split-words-requires-clause-owns
@@ -26,6 +28,7 @@ invariant_of-self-2 c =
           (c.grant.ensures.region ∙ c.find-found.ensures.region) c.grant.ensures.runs adds c.split-words.ensures.rest c.split_off-control.ensures,
       filled_grant c.find-found.new.runs.words c.grant.new.runs.words c.self.inside.heads c.self.inside.pages c.find-found.result.filled _ c.grant.ensures.heads c.grant.ensures.granted c.find-found.ensures.filled,
       tt,
+      (let more = used_adds _ _ _ adds in omega (arith, more, c.self.invariant.3, c.from-count.ensures)),
     )
 
 pub invariant_of-result : goal.invariant_of-result
@@ -49,3 +52,11 @@ returns-clause-run c =
     subst (λ (b : PagesView). IsRunOf b.region b.first b.state.pages c.args.n c.args.control c.of.result c.args.n c.split-words.result c.split_off-control.result) c.self.view_is
     (subst (λ (z : ℕ). IsRunOf c.self.inside.runs.region c.self.inside.first c.self.inside.pages z c.args.control c.of.result z c.split-words.result c.split_off-control.result) c.from-count.ensures
     (run_is c.self.inside.first c.self.inside.pages c.self.inside.heads c.find-found.result.at c.from-count.result c.of.result c.self.inside.runs c.self.inside.words c.split-words.result c.self.inside.records c.split_off-control.new.records c.split_off-control.result c.args.control c.self.invariant.0 (found_free c.self.inside.pages c.self.inside.heads c.find-found.result.at c.from-count.result c.find-found.result.len c.self.inside.runs c.find-found.new.runs c.find-found.ensures.runs c.find-found.ensures.granted c.if-found-self.false (omega (arith, c.from-count.ensures, c.requires.some)) found.0 found.1) c.split_off-control.ensures c.split-words.ensures.range c.of.ensures))
+
+pub overflow_add-self : goal.overflow_add-self
+overflow_add-self c =
+    let most = used_most c.self.inside.pages 0 _ (omega arith) (granted_apart (run_word c.self.inside.runs.words c.self.inside.heads) c.self.inside.pages c.self.invariant.0.runs_are.laid) in
+    let low = c.self.invariant.0.low in
+    let found = c.find-found.ensures.found c.if-found-self.false in
+    let short = c.find-found.ensures.within in
+    omega (arith, most, low, c.self.invariant.3, found.0, short.1, c.from-count.ensures)

@@ -1,6 +1,6 @@
-use Rattle.std.proofs.Common.{arith, List, sym, ◌<◌, ◌≤◌, ⊎_elim, subst}
+use Rattle.std.proofs.Common.{arith, List, sym, ap, ◌∙◌, ◌<◌, ◌≤◌, ⊎_elim, subst}
 use Rattle.std.proofs.lemmas.Bool.{cases_lt}
-use Rattle.free_pages.specs.Legal.{Granted, IsLargest}
+use Rattle.free_pages.specs.Legal.{Granted, IsLargest, used_by}
 use Rattle.free_pages.specs.Runs.{granted_in}
 use Rattle.free_pages.specs.PagesView.{PagesView}
 use Rattle.free_pages.proofs.Grants.{after_walk}
@@ -13,6 +13,7 @@ invariant_of-self c =
       after_walk c.self.inside.first c.self.inside.pages c.self.inside.heads c.self.inside.runs c.find-found.new.runs c.self.inside.words c.self.inside.records c.self.invariant.0 c.find-found.ensures.region c.find-found.ensures.runs c.find-found.ensures.granted,
       c.find-found.ensures.filled,
       largest,
+      c.self.invariant.3 ∙ ap used_by (sym c.find-found.ensures.granted),
     )
 
 pub returns-clause-largest : goal.returns-clause-largest
