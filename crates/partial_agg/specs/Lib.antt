@@ -3,6 +3,7 @@ pub mod Rows
 pub mod Groups
 pub mod Values
 pub mod Status
+pub mod Reading
 pub mod Listed
 pub mod Placed
 pub mod Lanes

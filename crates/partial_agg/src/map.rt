@@ -25,7 +25,7 @@ ghost use Rattle.partial_agg.specs.Listed.{listed};
 ghost use Rattle.par_model.specs.Refuse.{is_unreadable};
 ghost use Rattle.partial_agg.specs.Items.{items_state};
 ghost use Rattle.partial_agg.specs.State.{combined, empty_state};
-ghost use Rattle.partial_agg.specs.Values.{value_of};
+ghost use Rattle.partial_agg.specs.Values.{value_of, values_state};
 ghost use Rattle.partial_agg.specs.Status.{AreHashed, IsHashOf, IsKeptBy};
 ghost use Rattle.partial_agg.specs.Rows.{IsAccepted, header_width};
 ghost use Rattle.row_blocks.specs.Blocks.{block_rows};
@@ -123,9 +123,39 @@ impl GroupMap {
         self.add_state(hash_of(key), key, state)
     }
 
+    /// Adds a row by its key and the values that its aggregates take, in their order. The time is that of a look-up.
+    pub fn add_values(&mut self, key: &[u8], values: &[Option<i64>]) -> Result<(), AllocError>
+        requires short { length key.now ≤ LONGEST_KEY }
+        requires few { length values.now ≤ 8 }
+        ensures ok { OnOk result (self.new ≡ added self.old key.now (values_state values.now)) }
+        ensures err { OnErr result (self.new ≡ self.old) }
+    {
+        let hash = hash_of(key);
+        match self.keys.find_hashed(hash, NO_GUESS, key) {
+            Some(place) if self.whole => self.states.add_values(place, values),
+            Some(_left_out) => self.add_state(hash, key, &one_row(values)),
+            None => {
+                let place = self.states.len();
+                self.left.reserve(1)?;
+                self.states.push_values(values)?;
+                match self.keys.push_hashed(self.alloc, hash, key) {
+                    Ok(()) => {}
+                    Err(AllocError) => {
+                        self.states.truncate(place);
+                        return Err(AllocError);
+                    }
+                }
+                self.left.push_reserved(place);
+                self.sorted = false;
+                Ok(())
+            }
+        }
+    }
+
     /// The groups where they lie, in an order that isn't specified. Takes no memory.
     pub fn lent(&self) -> LentGroups<'_>
-        ensures { IsPermutation (listed self.now) result }
+        ensures groups { IsPermutation (listed self.now) result }
+        ensures whole { All (λ group. length group.state.slots ≡ 8) result }
     {
         LentGroups::of_parts(&self.keys, &self.states, self.left.as_slice())
     }

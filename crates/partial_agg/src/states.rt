@@ -24,7 +24,7 @@ ghost use Rattle.partial_agg.specs.declared.layout.Layout.{Layout};
 
 use crate::layout::{Layout, value_at};
 use crate::row::read_some;
-use crate::state::{add_to_slot, combine_slots, one_row};
+use crate::state::{add_to_slot, combine_slots, one_row, slot_of};
 use csv_rows::Record;
 use par_model::{AggState, Item, SlotState};
 use std::alloc::{AllocError, Global};
@@ -129,6 +129,21 @@ impl StateList {
         let lanes = self.layout.lanes(&state.slots);
         self.lanes.extend_from_slice(&lanes[..self.layout.width()])?;
         self.rows.push_reserved(state.rows);
+        Ok(())
+    }
+
+    /// Puts the state of one row that has these values after the others.
+    pub(crate) fn push_values(&mut self, values: &[Option<i64>]) -> Result<(), AllocError>
+        requires { length values.now ≤ 8 }
+        ensures ok { OnOk result (self.new ≡ self.old ++ values_state values.now ∷ []) }
+        ensures err { OnErr result (self.new ≡ self.old) }
+    {
+        if !self.layout.fits_values(values) {
+            return self.push(&one_row(values));
+        }
+        self.rows.reserve(1)?;
+        push_lanes(&mut self.lanes, self.layout.kept(), values)?;
+        self.rows.push_reserved(1);
         Ok(())
     }
 
@@ -300,6 +315,22 @@ fn put_lanes(lanes: &mut [SlotState], first: usize, new: &[SlotState])
     ensures { lanes.new ≡ with_lanes lanes.old first new.now }
 {
     lanes[first..first + new.len()].copy_from_slice(new);
+}
+
+/// Puts the lanes of one row that has these values after the others, or none of them.
+fn push_lanes(
+    lanes: &mut Vec<SlotState>,
+    kept: &[usize],
+    values: &[Option<i64>],
+) -> Result<(), AllocError>
+    ensures ok { OnOk result (lanes.new.items ≡ lanes.old.items ++ map (λ at. slot_of_value (get_or values.now at None)) kept.now) }
+    ensures err { OnErr result (lanes.new ≡ lanes.old) }
+{
+    lanes.reserve(kept.len())?;
+    for at in kept {
+        lanes.push_reserved(slot_of(value_at(values, *at)));
+    }
+    Ok(())
 }
 
 /// Adds lanes to those from a place on.

@@ -20,17 +20,18 @@ ghost use Rattle.result_text.specs.Text.{AreLinesOf, IsTextOf};
 
 mod decimal;
 mod laws;
+mod lines;
 mod order;
 mod parts;
 mod table;
 mod values;
 
-use crate::order::in_order;
 use crate::parts::{lines_in_threads, lines_of};
 use crate::table::TableWriter;
 use crate::values::group_count;
 pub use laws::parts_answer;
-pub use order::compare_columns;
+pub use lines::push_line;
+pub use order::{GroupRef, compare_columns, in_order, split_column};
 use par_model::BoundPlan;
 use partial_agg::Groups;
 pub use parts::{Part, behind};

@@ -17,14 +17,14 @@ use std::cmp::Ordering;
 
 /// A group of a list: its encoded key, where it lies, and its place.
 #[derive(Clone, Copy)]
-pub(crate) struct GroupRef<'a> {
-    pub(crate) key: &'a [u8],
-    pub(crate) at: usize,
+pub struct GroupRef<'a> {
+    pub key: &'a [u8],
+    pub at: usize,
 }
 
 /// The groups in order of their keys, which have this many columns. It takes 24 bytes a group. If all keys have columns
 /// of the same lengths, that is the order in which they are listed.
-pub(crate) fn in_order<'a>(
+pub fn in_order<'a>(
     alloc: Global,
     groups: &'a Groups,
     columns: u32,
@@ -115,7 +115,7 @@ pub fn compare_columns(a: &[u8], b: &[u8], columns: u32) -> Ordering
 }
 
 /// The first column of a key, and what comes after it.
-pub(crate) fn split_column(key: &[u8]) -> (&[u8], &[u8])
+pub fn split_column(key: &[u8]) -> (&[u8], &[u8])
     ensures first { result.0.now ≡ first_column key.now }
     ensures rest { result.1.now ≡ after_first_column key.now }
 {

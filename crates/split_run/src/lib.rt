@@ -18,5 +18,6 @@ mod texts;
 mod together;
 
 pub use pieces::{add_pieces, begin};
+pub use refused::first_cause;
 pub use texts::{FEWEST_GROUPS, table_text};
 pub use together::put_together;

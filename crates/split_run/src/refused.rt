@@ -14,7 +14,7 @@ use std::alloc::Global;
 
 /// What the participants answer together if one of them stopped for this reason: whichever refused row that one met, the
 /// first of the batch is named.
-pub(crate) fn first_cause(
+pub fn first_cause(
     alloc: Global,
     pieces: &[Window],
     plan: &BoundPlan,

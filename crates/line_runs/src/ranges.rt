@@ -1,0 +1,165 @@
+//! Ranges of a table's order, by a sample of the keys of all runs.
+
+ghost use Rattle.std.specs.Prelude.{◌≡◌, ◌<◌, ◌≤◌, ◌+◌, IfOk};
+ghost use Rattle.line_runs.specs.Ranges.{AreOrdered, IsCutAt, count_of};
+ghost use Rattle.line_runs.specs.Runs.{Rise};
+
+use crate::order::Shared;
+use crate::run::Run;
+use result_text::compare_columns;
+use std::alloc::{AllocError, Global};
+
+/// How many keys of the sample a range has.
+const SAMPLE: usize = 16;
+
+/// Ranges of the keys with so many columns: each but the first begins after a key.
+#[derive(Drop)]
+pub(crate) struct Ranges<'a> {
+    sample: Vec<&'a [u8]>,
+    least: &'a [u8],
+    greatest: &'a [u8],
+    columns: u32,
+}
+
+impl<'a> Ranges<'a> {
+    /// About this many ranges, by keys that lie at even distances in the runs.
+    pub(crate) fn new(
+        alloc: Global,
+        runs: &'a [Run],
+        columns: u32,
+        count: usize,
+    ) -> Result<Ranges<'a>, AllocError>
+        ensures ordered { IfOk result AreOrdered }
+        ensures columns { IfOk result (λ ranges. ranges.columns ≡ columns) }
+    {
+        let mut sample = Vec::new(alloc);
+        let each = count.saturating_mul(SAMPLE) / runs.len().max(1) + 1;
+        for run in runs {
+            take_keys(&mut sample, run, each)?;
+        }
+        sample.sort_unstable_by(|a, b| compare_columns(*a, *b, columns));
+        let (least, greatest) = ends_of(runs, columns);
+        Ok(Ranges {
+            sample,
+            least,
+            greatest,
+            columns,
+        })
+    }
+
+    /// The number of ranges.
+    pub(crate) fn count(&self) -> usize
+        ensures { result ≡ count_of self.now }
+    {
+        self.sample.len() / SAMPLE + 1
+    }
+
+    /// The place of a run from which on its keys are of a range, or of the ranges after it.
+    pub(crate) fn start_in(&self, run: &Run, range: usize) -> usize
+        requires ordered { AreOrdered self.now }
+        requires rises { Rise self.now.columns run.now }
+        requires range { range < count_of self.now }
+        ensures { IsCutAt self.now range run.now result }
+    {
+        let Some(key) = self.key_before(range) else {
+            return 0;
+        };
+        let mut low = 0;
+        let mut high = run.len();
+        while low < high {
+            let middle = low + (high - low) / 2;
+            if compare_columns(key, run.key(middle), self.columns).is_lt() {
+                high = middle;
+            } else {
+                low = middle + 1;
+            }
+        }
+        low
+    }
+
+    /// The place of a run from which on its keys are of ranges after one.
+    pub(crate) fn end_in(&self, run: &Run, range: usize) -> usize
+        requires ordered { AreOrdered self.now }
+        requires rises { Rise self.now.columns run.now }
+        requires range { range < count_of self.now }
+        ensures { IsCutAt self.now (range + 1) run.now result }
+    {
+        if range + 1 < self.count() {
+            self.start_in(run, range + 1)
+        } else {
+            run.len()
+        }
+    }
+
+    /// What all keys of a range have in common.
+    pub(crate) fn shared(&self, range: usize) -> Shared<'a>
+        requires { range < count_of self.now }
+    {
+        let low = match self.key_before(range) {
+            Some(key) => key,
+            None => self.least,
+        };
+        let high = match self.key_before(range + 1) {
+            Some(key) if range + 1 < self.count() => key,
+            _ => self.greatest,
+        };
+        Shared::between(low, high, self.columns)
+    }
+
+    /// The greatest key of the sample that is before a range: none if that is the first.
+    fn key_before(&self, range: usize) -> Option<&'a [u8]>
+        requires { range ≤ count_of self.now }
+    {
+        if range == 0 {
+            return None;
+        }
+        Some(self.sample[(range * SAMPLE).min(self.sample.len()) - 1])
+    }
+}
+
+/// The least and the greatest key of all runs, or keys of no bytes.
+fn ends_of(runs: &[Run], columns: u32) -> (&[u8], &[u8]) {
+    let mut ends: Option<(&[u8], &[u8])> = None;
+    for run in runs {
+        if run.len() == 0 {
+            continue;
+        }
+        let (first, last) = (run.key(0), run.key(run.len() - 1));
+        ends = Some(match ends {
+            None => (first, last),
+            Some((least, greatest)) => (
+                least_of(least, first, columns),
+                greatest_of(greatest, last, columns),
+            ),
+        });
+    }
+    ends.unwrap_or((&[], &[]))
+}
+
+fn least_of<'a>(a: &'a [u8], b: &'a [u8], columns: u32) -> &'a [u8] {
+    if compare_columns(b, a, columns).is_lt() {
+        b
+    } else {
+        a
+    }
+}
+
+fn greatest_of<'a>(a: &'a [u8], b: &'a [u8], columns: u32) -> &'a [u8] {
+    if compare_columns(a, b, columns).is_lt() {
+        b
+    } else {
+        a
+    }
+}
+
+/// Adds at most this many keys of a run to a sample.
+fn take_keys<'a>(sample: &mut Vec<&'a [u8]>, run: &'a Run, count: usize) -> Result<(), AllocError> {
+    let step = (run.len() / count.max(1)).saturating_add(1);
+    for n in 0..count {
+        let at = n.wrapping_mul(step);
+        if at < run.len() {
+            sample.push(run.key(at))?;
+        }
+    }
+    Ok(())
+}

@@ -1,0 +1,170 @@
+//! The text of the table, range by range.
+
+ghost use Rattle.std.specs.Prelude.{◌≡◌, ◌<◌, ◌≤◌, ◌^◌, ◌∷◌, ◌++◌, ◌-◌, [], ℕ, List, All, IfOk, OnOk, drop, get_or, length, map as map_list, take};
+ghost use Rattle.std.specs.List.{concat};
+ghost use Rattle.par_model.specs.Named.{bound_plan};
+ghost use Rattle.par_model.specs.Outcome.{IsAnswer};
+ghost use Rattle.partial_agg.specs.Listed.{listed};
+ghost use Rattle.result_text.specs.Pieces.{joined};
+ghost use Rattle.result_text.specs.Printable.{ArePrintable, IsBoundFrom, IsKeyOf};
+ghost use Rattle.row_blocks.specs.Blocks.{Table};
+ghost use Rattle.part_run.specs.Parted.{AreParted};
+ghost use Rattle.line_runs.specs.Order.{IsThere, entry_at};
+ghost use Rattle.line_runs.specs.Ranges.{AreOrdered, IsRangeText, count_of};
+ghost use Rattle.line_runs.specs.Runs.{AreRunsOf, IsMade, Rise};
+
+use crate::order::{LineRef, sort_lines};
+use crate::ranges::Ranges;
+use crate::run::Run;
+use par_model::BoundPlan;
+use partial_agg::GroupMap;
+use plan_spec::Plan;
+use result_text::{Part, behind, header_text};
+use std::alloc::{AllocError, Global};
+use std::mem;
+use std::thread::{Threads, for_each_mut};
+
+/// How many ranges there are for each thread.
+const RANGES: usize = 4;
+
+/// The map of a part, and then the run of its lines, or no memory for it.
+#[derive(Drop)]
+struct Job {
+    map: GroupMap,
+    run: Result<Run, AllocError>,
+}
+
+/// The text of the table of all rows, by the maps of the parts of their keys, in pieces, one after another. At most this many
+/// threads work, the caller's among them. A map is gone when its lines are made; beside them it takes memory for the text.
+pub fn table_of_parts<R: Threads + Sync>(
+    rt: &R,
+    alloc: Global,
+    plan: &Plan,
+    bound: &BoundPlan,
+    maps: Vec<GroupMap>,
+    threads: usize,
+) -> Result<Vec<Vec<u8>>, AllocError>
+    requires some { 0 < threads }
+    requires columns { 0 < bound.now.group_count }
+    requires bound { IsBoundFrom plan.now.plan bound.now }
+    requires rows { (width : ℕ) × (rows : Table) × (length rows ≤ 2 ^ 50) × AreParted bound.now width rows maps.items }
+    ensures { IfOk result (λ pieces. (header : List (List ℕ)) (width : ℕ) (rows : Table) → bound.now ≡ bound_plan header plan.now.plan → length rows ≤ 2 ^ 50 → AreParted bound.now width rows maps.items
+        → IsAnswer plan.now.plan (header ∷ rows) (joined pieces.items)) }
+{
+    let runs = runs_of(rt, alloc, bound, maps, threads)?;
+    let count = threads.saturating_mul(RANGES);
+    let ranges = Ranges::new(alloc, &runs, bound.group_count, count)?;
+    let header = header_text(alloc, plan, bound)?;
+    let mut texts = no_texts(alloc, ranges.count())?;
+    for_each_mut(
+        rt,
+        texts.as_mut_slice(),
+        threads,
+        &|range, text| { *text = range_text(alloc, bound, &runs, &ranges, range) },
+    );
+    behind(alloc, header, texts)
+}
+
+/// The runs of the lines of all maps.
+fn runs_of<R: Threads + Sync>(
+    rt: &R,
+    alloc: Global,
+    bound: &BoundPlan,
+    maps: Vec<GroupMap>,
+    threads: usize,
+) -> Result<Vec<Run>, AllocError>
+    requires some { 0 < threads }
+    requires printable { All (λ groups. ArePrintable bound.now (listed groups)) maps.items }
+    ensures { IfOk result (λ runs. AreRunsOf bound.now maps.items runs.items) }
+{
+    let mut jobs = Vec::with_capacity(alloc, maps.len())?;
+    for map in maps {
+        jobs.push(Job {
+            map,
+            run: Err(AllocError),
+        })?;
+    }
+    for_each_mut(
+        rt,
+        jobs.as_mut_slice(),
+        threads,
+        &|_, job| { make_run(alloc, bound, job) },
+    );
+    let mut runs = Vec::with_capacity(alloc, jobs.len())?;
+    for job in jobs {
+        runs.push(job.run?)?;
+    }
+    Ok(runs)
+}
+
+/// Makes the lines of a map, which is empty afterwards.
+fn make_run(alloc: Global, bound: &BoundPlan, job: &mut Job)
+    requires { ArePrintable bound.now (listed job.old.map) }
+    ensures { IsMade bound.now job.old.map job.new.run }
+{
+    let map = mem::replace(&mut job.map, GroupMap::new(alloc));
+    job.run = Run::of_map(alloc, bound, map);
+}
+
+/// So many texts of no bytes.
+fn no_texts(alloc: Global, count: usize) -> Result<Vec<Part>, AllocError>
+    ensures { IfOk result (λ texts. length texts.items ≡ count) }
+{
+    let mut texts = Vec::with_capacity(alloc, count)?;
+    for _range in 0..count {
+        texts.push(Ok(Vec::new(alloc)))?;
+    }
+    Ok(texts)
+}
+
+/// The lines of a range of all runs, in order.
+fn range_text(
+    alloc: Global,
+    bound: &BoundPlan,
+    runs: &[Run],
+    ranges: &Ranges<'_>,
+    range: usize,
+) -> Part
+    requires ordered { AreOrdered ranges.now }
+    requires range { range < count_of ranges.now }
+    requires columns { ranges.now.columns ≡ bound.now.group_count }
+    requires rise { All (Rise bound.now.group_count) runs.now }
+    requires keys { All (λ run. All (λ entry. IsKeyOf bound.now.group_count entry.0) run) runs.now }
+    ensures { IfOk result (λ text. IsRangeText ranges.now runs.now range text.items) }
+{
+    let mut lines = Vec::new(alloc);
+    let mut bytes = 0usize;
+    for at in 0..runs.len() {
+        let run = &runs[at];
+        let from = ranges.start_in(run, range);
+        let to = ranges.end_in(run, range);
+        bytes = bytes.saturating_add(run.bytes_between(from, to));
+        add_lines(&mut lines, at, from, to)?;
+    }
+    sort_lines(&mut lines, runs, &ranges.shared(range), bound.group_count);
+    text_of(alloc, runs, &lines, bytes)
+}
+
+/// Adds the lines of a run from one place on to another.
+fn add_lines(lines: &mut Vec<LineRef>, run: usize, from: usize, to: usize) -> Result<(), AllocError>
+    requires { from ≤ to }
+    ensures { OnOk result ((runs : _) → run < length runs → map_list (entry_at runs) lines.new.items ≡ map_list (entry_at runs) lines.old.items ++ take (to - from) (drop from (get_or runs run []))) }
+{
+    lines.reserve(to - from)?;
+    for at in from..to {
+        lines.push(LineRef::new(run, at)?)?;
+    }
+    Ok(())
+}
+
+/// Lines one after another, for which so many bytes are enough.
+fn text_of(alloc: Global, runs: &[Run], lines: &[LineRef], bytes: usize) -> Part
+    requires { All (IsThere runs.now) lines.now }
+    ensures { IfOk result (λ text. text.items ≡ concat (map_list (λ ref. (entry_at runs.now ref).1) lines.now)) }
+{
+    let mut text = Vec::with_capacity(alloc, bytes)?;
+    for line in lines {
+        text.extend_from_slice(line.line(runs))?;
+    }
+    Ok(text)
+}

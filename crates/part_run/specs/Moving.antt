@@ -1,0 +1,22 @@
+-- Groups of participants, each with its part.
+use Rattle.std.specs.Prelude.{◌≡◌, ◌<◌, ℕ, List, Result, All, IfOk, length, map, slice_index_or}
+use Rattle.std.specs.declared.alloc.AllocError.{AllocError}
+use Rattle.gather_law.specs.KeyParts.{part_map}
+use Rattle.partial_agg.specs.Groups.{GroupsByKey}
+use Rattle.partial_agg.specs.declared.groups.Group.{Group}
+use Rattle.row_lists.specs.Parts.{part_of}
+use Rattle.part_run.specs.declared.moving.LentParts.{LentParts}
+
+-- the groups of each list
+abbrev pub lists_of : List LentParts → List (List Group)
+lists_of lists = map (λ list. list.groups) lists
+
+-- the groups of a list have all slots, and there is the part of each
+pub record IsLent (list : LentParts) : Type 0 where
+  pub parts : list.parts.items ≡ map (λ group. part_of group.key) list.groups
+  pub whole : All (λ group. length group.state.slots ≡ 8) list.groups
+
+-- maps have the groups of each part of some lists, if there was memory for them
+pub record ArePartMaps (lists : List LentParts) (maps : List (Result GroupsByKey AllocError)) : Type 0 where
+  pub many : length maps ≡ 256
+  pub each : (part : ℕ) (d : Result GroupsByKey AllocError) → part < 256 → IfOk (slice_index_or maps part d) (λ groups. groups ≡ part_map part_of part (lists_of lists))
