@@ -1,6 +1,5 @@
 -- The lines of a table, each after its key.
-use Rattle.std.specs.Prelude.{◌≡◌, ◌<◌, ◌≤◌, ℕ, Bool, List, Result, [], ◌∷◌, All, IfOk, IsSome, drop, length, map, slice_index_or, take}
-use Rattle.std.specs.FinMap as map_of
+use Rattle.std.specs.Prelude.{◌≡◌, ◌<◌, ◌≤◌, ℕ, Bool, List, Result, [], ◌∷◌, All, IfOk, drop, length, map, slice_index_or, take}
 use Rattle.std.specs.List.Sorted.{IsPermutation, IsStrictlySortedBy}
 use Rattle.std.specs.Ordering.{is_lt}
 use Rattle.std.specs.declared.alloc.AllocError.{AllocError}
@@ -54,7 +53,3 @@ pub record AreRunsOf (plan : Plan) (maps : List GroupsByKey) (runs : List (List 
 -- likewise, if there was memory for it
 abbrev pub IsMade : Plan → GroupsByKey → Result (List Entry) AllocError → Type 0
 IsMade plan groups made = IfOk made (IsRunOf plan (listed groups))
-
--- no key is in two maps
-pub record AreApart (maps : List GroupsByKey) : Type 0 where
-  pub each : (j k : ℕ) (d : GroupsByKey) (key : List ℕ) → j < length maps → k < length maps → IsSome (map_of.get (slice_index_or maps j d) key) → IsSome (map_of.get (slice_index_or maps k d) key) → j ≡ k

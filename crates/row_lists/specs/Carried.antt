@@ -1,7 +1,8 @@
 -- A row as far as its group needs it, and rows one after another as bytes.
-use Rattle.std.specs.Prelude.{◌≡◌, ◌≤◌, ◌<◌, ◌+◌, ◌==◌, ◌++◌, ◌∷◌, [], ℕ, ℤ, zero, suc, pos, List, Option, Some, None, FitsSigned, All, IfSome, drop, get_or, if◌then◌else◌, length, take}
-use Rattle.std.specs.Int.{cast_signed, cast_unsigned, from_le_bytes, int_eq, to_le_bytes, w64}
-use Rattle.std.specs.List.{flat_map}
+use Rattle.std.specs.Prelude.{◌≡◌, ◌≤◌, ◌+◌, ◌==◌, ◌++◌, ◌∷◌, [], ℕ, ℤ, zero, suc, pos, List, Option, Some, None, FitsSigned, IfSome, drop, get_or, if◌then◌else◌, length, take}
+use Rattle.std.specs.Int.{cast_signed, cast_unsigned, from_le_bytes, to_le_bytes, w64}
+use Rattle.std.specs.List.{AllByRecursion, flat_map}
+use Rattle.std.specs.Ordering.{int_eq}
 use Rattle.par_model.specs.Refuse.{longest_key}
 use Rattle.row_lists.specs.declared.list.TheConstants.{NEW, NONE, SAME}
 
@@ -13,12 +14,15 @@ pub record Carried : Type 0 where
 abbrev pub carried : List ℕ → List (Option ℤ) → Carried
 carried key values = record { key = key; values = values }
 
--- a row that has bytes
+-- a value that is none, or a number of 64 bits
+abbrev pub IsValue : Option ℤ → Type 0
+IsValue value = IfSome value (FitsSigned w64)
+
+-- a row that has a place in a list
 pub record IsCarried (row : Carried) : Type 0 where
   pub short : length row.key ≤ longest_key
-  pub bytes : All (λ byte. byte < 256) row.key
   pub few : length row.values ≤ 8
-  pub whole : All (λ value. IfSome value (FitsSigned w64)) row.values
+  pub whole : AllByRecursion IsValue row.values
 
 -- ---- as bytes
 
@@ -54,13 +58,16 @@ values_in zero last bytes = []
 values_in (suc count) last [] = []
 values_in (suc count) last (kind ∷ rest) =
     if kind == NONE then None ∷ values_in count last rest
-    else (if kind == NEW then Some (number_in rest) ∷ values_in count (number_in rest) (drop 8 rest)
-    else Some last ∷ values_in count last rest)
+    else (if kind == SAME then Some last ∷ values_in count last rest
+    else Some (number_in rest) ∷ values_in count (number_in rest) (drop 8 rest))
 
 unfoldable pub after_values : ℕ → List ℕ → List ℕ
 after_values zero bytes = bytes
 after_values (suc count) [] = []
-after_values (suc count) (kind ∷ rest) = if kind == NEW then after_values count (drop 8 rest) else after_values count rest
+after_values (suc count) (kind ∷ rest) =
+    if kind == NONE then after_values count rest
+    else (if kind == SAME then after_values count rest
+    else after_values count (drop 8 rest))
 
 -- the rows of bytes, and no more of them than a number
 unfoldable pub rows_from : ℕ → List ℕ → List Carried
@@ -69,11 +76,11 @@ rows_from (suc most) [] = []
 rows_from (suc most) (size ∷ rest) =
     carried (take size rest) (values_in (get_or rest size 0) (pos 0) (drop (size + 1) rest)) ∷ rows_from most (after_values (get_or rest size 0) (drop (size + 1) rest))
 
+-- the rows of bytes: each has a byte or more
 abbrev pub rows_in : List ℕ → List Carried
 rows_in bytes = rows_from (length bytes) bytes
 
--- bytes are those of rows that have bytes
+-- bytes are those of the rows in them
 pub record AreRows (bytes : List ℕ) : Type 0 where
-  pub rows : List Carried
-  pub each : All IsCarried rows
-  pub are : bytes ≡ flat_map row_bytes rows
+  pub each : AllByRecursion IsCarried (rows_in bytes)
+  pub are : flat_map row_bytes (rows_in bytes) ≡ bytes

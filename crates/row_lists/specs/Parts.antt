@@ -1,11 +1,11 @@
 -- Keys that are shared out to parts by their hashes, and the rows of each part.
-use Rattle.std.specs.Prelude.{◌≡◌, ◌<◌, ◌/◌, ◌^◌, ◌==◌, ◌++◌, ◌∷◌, [], ℕ, List, filter, fold, get_or, length, replicate, set, slice_index_or}
+use Rattle.std.specs.Prelude.{◌≡◌, ◌<◌, ◌/◌, ◌%◌, ◌^◌, ◌==◌, ◌++◌, ◌∷◌, [], ℕ, List, filter, fold, get_or, length, set}
 use Rattle.key_index.specs.Index.{hash}
 use Rattle.row_lists.specs.Carried.{Carried}
 
 -- the part of a key: the highest byte of its hash
 abbrev pub part_of : List ℕ → ℕ
-part_of key = hash key / 2 ^ 56
+part_of key = hash key / 2 ^ 56 % 256
 
 -- the rows of a part
 abbrev pub rows_of_part : ℕ → List Carried → List Carried
@@ -21,4 +21,4 @@ with_rows lists rows = fold with_row lists rows
 -- there is a list for each part, and it has those of some rows that are of the part, in their order
 pub record ArePartLists (rows : List Carried) (lists : List (List Carried)) : Type 0 where
   pub many : length lists ≡ 256
-  pub each : (part : ℕ) (d : List Carried) → part < 256 → slice_index_or lists part d ≡ rows_of_part part rows
+  pub each : (part : ℕ) → part < 256 → get_or lists part [] ≡ rows_of_part part rows

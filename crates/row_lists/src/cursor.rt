@@ -1,10 +1,11 @@
 //! The rows of a list, read from front to back.
 
-ghost use Rattle.std.specs.Prelude.{◌≡◌, ◌≤◌, ◌∷◌, [], pos, IfNone, IfSome, length, take};
+ghost use Rattle.std.specs.Prelude.{◌≡◌, ◌≤◌, ◌++◌, ◌∷◌, [], ℕ, ℤ, List, Option, pos, IfNone, IfSome, IsNone, MatchOption, length, take};
+ghost use Rattle.std.specs.List.{AllByRecursion};
 ghost use Rattle.par_model.specs.declared.refusal.TheConstants.{LONGEST_KEY};
-ghost use Rattle.row_lists.specs.Carried.{AreRows, after_values, carried, rows_in, values_in};
+ghost use Rattle.row_lists.specs.Carried.{AreRows, Carried, IsCarried, IsValue, carried, last_of, row_bytes, rows_in, value_bytes, values_bytes};
 
-use crate::list::{NEW, NONE};
+use crate::list::{NONE, SAME};
 use std::marker::Model;
 
 /// Rows that are left to be read.
@@ -41,45 +42,67 @@ impl<'a> RowCursor<'a> {
         ensures few { IfSome result (λ row. row.1 ≤ 8) }
         ensures none { IfNone result (self.old ≡ []) }
     {
-        let [size, rest @ ..] = self.rest else {
+        let Some((key, count, rest)) = read_key(self.rest) else {
             return None;
         };
-        let (key, rest) = rest.split_at((*size as usize).min(rest.len()));
-        let [count, rest @ ..] = rest else {
-            return None;
-        };
-        let count = (*count as usize).min(8);
         self.rest = read_values(rest, &mut values[..count]);
         Some((key, count))
     }
 }
 
-/// Reads as many values as there are places for, and gives what comes after them. If the bytes end too early the places that
-/// are left stay as they are.
+/// The key that a row begins with, the number of its values, and the bytes after these.
+#[inline(always)]
+fn read_key<'a>(bytes: &'a [u8]) -> Option<(&'a [u8], usize, &'a [u8])>
+    ensures row { (row : Carried) (more : List ℕ) → IsCarried row → bytes.now ≡ row_bytes row ++ more
+        → MatchOption result ⊥ (λ read. (read.0.now ≡ row.key) × (read.1 ≡ length row.values) × (read.2.now ≡ values_bytes (pos 0) row.values ++ more)) }
+    ensures few { IfSome result (λ read. read.1 ≤ 8) }
+    ensures none { bytes.now ≡ [] → IsNone result }
+{
+    let Some((size, rest)) = bytes.split_first() else {
+        return None;
+    };
+    let (key, rest) = rest.split_at((*size as usize).min(rest.len()));
+    let Some((count, rest)) = rest.split_first() else {
+        return None;
+    };
+    Some((key, (*count as usize).min(8), rest))
+}
+
+/// Reads as many values as there are places for, and gives what comes after them.
 #[inline(always)]
 fn read_values<'a>(bytes: &'a [u8], values: &mut [Option<i64>]) -> &'a [u8]
-    ensures values { length (values_in (length values.old) (pos 0) bytes.now) ≡ length values.old → values.new ≡ values_in (length values.old) (pos 0) bytes.now }
-    ensures rest { result.now ≡ after_values (length values.old) bytes.now }
+    ensures written { (written : List (Option ℤ)) (more : List ℕ) → AllByRecursion IsValue written → length written ≡ length values.old → bytes.now ≡ values_bytes (pos 0) written ++ more
+        → (values.new ≡ written) × (result.now ≡ more) }
+    ensures len { length values.new ≡ length values.old }
 {
     let mut rest = bytes;
     let mut last = 0;
     for at in 0..values.len() {
-        let [kind, more @ ..] = rest else {
-            return &[];
-        };
+        let (value, more) = read_value(rest, &mut last);
+        values[at] = value;
         rest = more;
-        if *kind == NONE {
-            values[at] = None;
-            continue;
-        }
-        if *kind == NEW {
-            let [a, b, c, d, e, f, g, h, more @ ..] = rest else {
-                return &[];
-            };
-            last = i64::from_le_bytes([*a, *b, *c, *d, *e, *f, *g, *h]);
-            rest = more;
-        }
-        values[at] = Some(last);
     }
     rest
+}
+
+/// Reads a value if this number is known before it, and gives it and what comes after it.
+#[inline(always)]
+fn read_value<'a>(bytes: &'a [u8], last: &mut i64) -> (Option<i64>, &'a [u8])
+    ensures { (value : Option ℤ) (more : List ℕ) → IsValue value → bytes.now ≡ value_bytes last.old value ++ more
+        → (result.0 ≡ value) × (result.1.now ≡ more) × (last.new ≡ last_of last.old value) }
+{
+    let Some((kind, rest)) = bytes.split_first() else {
+        return (None, bytes);
+    };
+    if *kind == NONE {
+        return (None, rest);
+    }
+    if *kind == SAME {
+        return (Some(*last), rest);
+    }
+    let Some((number, rest)) = rest.split_first_chunk::<8>() else {
+        return (None, rest);
+    };
+    *last = i64::from_le_bytes(*number);
+    (Some(*last), rest)
 }

@@ -5,6 +5,7 @@
 //! follow. Aggregates of one column take the same number, which so is written once.
 
 ghost use Rattle.std.specs.Prelude.{◌≡◌, ◌≤◌, ◌++◌, ◌∷◌, [], pos, OnErr, OnOk, length};
+ghost use Rattle.key_index.specs.Front.{IsFrontOf};
 ghost use Rattle.par_model.specs.declared.refusal.TheConstants.{LONGEST_KEY};
 ghost use Rattle.row_lists.specs.Carried.{carried, last_of, row_bytes, value_bytes, values_bytes};
 
@@ -93,7 +94,8 @@ impl RowList {
 fn write_row(bytes: &mut Vec<u8>, key: &[u8], values: &[Option<i64>]) -> Result<(), AllocError>
     requires short { length key.now ≤ LONGEST_KEY }
     requires few { length values.now ≤ 8 }
-    ensures { OnOk result (bytes.new.items ≡ bytes.old.items ++ row_bytes (carried key.now values.now)) }
+    ensures bytes { OnOk result (bytes.new.items ≡ bytes.old.items ++ row_bytes (carried key.now values.now)) }
+    ensures front { IsFrontOf bytes.old.items bytes.new.items }
 {
     bytes.reserve(MOST_BYTES)?;
     bytes.push(key.len() as u8)?;
@@ -105,7 +107,8 @@ fn write_row(bytes: &mut Vec<u8>, key: &[u8], values: &[Option<i64>]) -> Result<
 /// Puts the bytes of values at the end of a text.
 #[inline(always)]
 fn write_values(bytes: &mut Vec<u8>, values: &[Option<i64>]) -> Result<(), AllocError>
-    ensures { OnOk result (bytes.new.items ≡ bytes.old.items ++ values_bytes (pos 0) values.now) }
+    ensures bytes { OnOk result (bytes.new.items ≡ bytes.old.items ++ values_bytes (pos 0) values.now) }
+    ensures front { IsFrontOf bytes.old.items bytes.new.items }
 {
     let mut last = 0;
     for value in values {
@@ -119,15 +122,21 @@ fn write_values(bytes: &mut Vec<u8>, values: &[Option<i64>]) -> Result<(), Alloc
 fn write_value(bytes: &mut Vec<u8>, last: &mut i64, value: Option<i64>) -> Result<(), AllocError>
     ensures bytes { OnOk result (bytes.new.items ≡ bytes.old.items ++ value_bytes last.old value) }
     ensures last { OnOk result (last.new ≡ last_of last.old value) }
+    ensures front { IsFrontOf bytes.old.items bytes.new.items }
 {
     match value {
-        None => bytes.push(NONE)?,
-        Some(n) if n == *last => bytes.push(SAME)?,
+        None => {
+            bytes.push(NONE)?;
+            Ok(())
+        }
+        Some(n) if n == *last => {
+            bytes.push(SAME)?;
+            Ok(())
+        }
         Some(n) => {
             *last = n;
             bytes.push(NEW)?;
-            bytes.extend_from_slice(&n.to_le_bytes())?;
+            bytes.extend_from_slice(&n.to_le_bytes())
         }
     }
-    Ok(())
 }

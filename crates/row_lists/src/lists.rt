@@ -81,8 +81,8 @@ impl PartLists {
     pub fn clear(&mut self)
         ensures { self.new ≡ replicate 256 [] }
     {
-        for list in self.lists.iter_mut() {
-            list.clear();
+        for part in 0..self.lists.len() {
+            self.lists[part].clear();
         }
     }
 }
