@@ -1,5 +1,5 @@
 -- What the answers say of the rows.
-use Rattle.std.specs.Prelude.{◌≡◌, ◌<◌, [], ◌∷◌, None, false, length}
+use Rattle.std.specs.Prelude.{◌≡◌, ◌<◌, [], ◌∷◌, false, length}
 use Rattle.row_blocks.specs.Blocks.{Table}
 use Rattle.par_model.specs.Plan.{Plan}
 use Rattle.par_model.specs.declared.plan.ItemKind.TheVariants.{Rows}

@@ -1,10 +1,10 @@
 -- The verdict of a plan's filters, one after the other.
-use Rattle.std.proofs.Common.{◌≡◌, ◌∙◌, ◌<◌, ◌≤◌, ◌+◌, ◌&&◌, ℕ, ℤ, Bool, true, false, not, List, length, take, get_or, slice_get, Option, Some, None, Ok, Err, is_none, if◌then◌else◌, ap, sym, refl, arith}
+use Rattle.std.proofs.Common.{◌≡◌, ◌∙◌, ◌<◌, ◌≤◌, ◌+◌, ◌&&◌, ℕ, ℤ, Bool, true, false, not, List, length, take, get_or, Option, Some, None, Ok, Err, is_none, if◌then◌else◌, ap, sym, refl, arith}
 use Rattle.std.proofs.lemmas.List.{take_all}
 use Rattle.std.proofs.lemmas.Option.{slice_get-get_or}
 use Rattle.std.specs.List.{position_from}
 use Rattle.std.specs.Option.{option_map_or}
-use Rattle.par_model.specs.Keep.{deciding, keeps, passes, stands}
+use Rattle.par_model.specs.Keep.{keeps, passes, stands}
 use Rattle.par_model.specs.Number.{decimal_of}
 use Rattle.par_model.specs.Plan.{Plan}
 use Rattle.par_model.specs.Record.{field_of, is_null}

@@ -126,6 +126,12 @@ module _ (layout : Layout) where
   length-states_in [] lanes = refl
   length-states_in (r ∷ rows) lanes = ap suc (length-states_in rows (drop w lanes))
 
+  -- each state has as many slots as the layout has parts
+  pub whole-states_in : (rows : List ℕ) (lanes : List SlotState) → length layout.parts ≡ 8 → (at : ℕ) (d : AggState) → at < length (states_in layout rows lanes) → length (get_or (states_in layout rows lanes) at d).slots ≡ 8
+  whole-states_in [] lanes parts at d h = absurd (omega arith)
+  whole-states_in (r ∷ rows) lanes parts zero d h = length-map layout.parts (slot_in (take w lanes)) ∙ parts
+  whole-states_in (r ∷ rows) lanes parts (suc at) d h = whole-states_in rows (drop w lanes) parts at d (omega arith)
+
   -- the state at a place
   pub get-states_in : (rows : List ℕ) (lanes : List SlotState) (at : ℕ) → at < length rows → slice_get (states_in layout rows lanes) at ≡ Some (state (get_or rows at 0) (take w (drop (at * w) lanes)))
   get-states_in [] lanes at h = absurd (omega arith)

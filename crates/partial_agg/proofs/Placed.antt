@@ -10,6 +10,7 @@ use Rattle.std.specs.Cmp.{eq_by_cmp_equiv}
 use Rattle.std.specs.Cmp.Lexicographic.{nat_list_cmp_total}
 use Rattle.std.specs.FinMap as map
 use Rattle.std.specs.List.{slice_get}
+use Rattle.std.specs.Prelude.{All}
 use Rattle.std.specs.List.Sorted.{IsStrictlySortedBy}
 use Rattle.std.specs.Option.{option_map}
 use Rattle.std.specs.Ordering.{is_eq}
@@ -134,6 +135,19 @@ entries-groups_at m places states view ordered =
 pub length-listed_at : (keys : List (List ℕ)) (states : List AggState) (places : List ℕ) → length (listed_at keys states places) ≡ length places
 length-listed_at keys states [] = refl
 length-listed_at keys states (p ∷ places) = ap suc (length-listed_at keys states places)
+
+-- each state of a list of groups has eight slots, if those that it is taken from have
+whole-state_in : (states : List AggState) (p : ℕ) → All (λ (state : AggState). length state.slots ≡ 8) states → length (state_in states p).slots ≡ 8
+whole-state_in [] zero whole = refl
+whole-state_in [] (suc p) whole = refl
+whole-state_in (s ∷ states) zero whole = whole 0 s (omega arith)
+whole-state_in (s ∷ states) (suc p) whole = whole-state_in states p (λ at d h. whole (suc at) d (omega arith))
+
+pub whole-listed_at : (keys : List (List ℕ)) (states : List AggState) (places : List ℕ) → All (λ (state : AggState). length state.slots ≡ 8) states
+    → (at : ℕ) (d : Group) → at < length (listed_at keys states places) → length (get_or (listed_at keys states places) at d).state.slots ≡ 8
+whole-listed_at keys states [] whole at d h = absurd (omega arith)
+whole-listed_at keys states (p ∷ places) whole zero d h = whole-state_in states p whole
+whole-listed_at keys states (p ∷ places) whole (suc at) d h = whole-listed_at keys states places whole at d (omega arith)
 
 some_place : (a b : ℕ) → Some a ≡ Some b → a ≡ b
 some_place a b e = cc

@@ -157,6 +157,7 @@ impl GroupMap {
         ensures groups { IsPermutation (listed self.now) result }
         ensures whole { All (λ group. length group.state.slots ≡ 8) result }
     {
+        self.states.are_whole();
         LentGroups::of_parts(&self.keys, &self.states, self.left.as_slice())
     }
 

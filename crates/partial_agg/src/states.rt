@@ -77,6 +77,13 @@ impl StateList {
         self.rows.len()
     }
 
+    /// Tells that each state has eight slots. It does nothing.
+    pub(crate) fn are_whole(&self)
+        ensures { All (λ state. length state.slots ≡ 8) self.now }
+    {
+        let _lanes = &self.lanes;
+    }
+
     /// The state at a place, as a copy.
     pub(crate) fn get(&self, at: usize) -> AggState
         requires { at < length self.now }
@@ -324,7 +331,7 @@ fn push_lanes(
     values: &[Option<i64>],
 ) -> Result<(), AllocError>
     ensures ok { OnOk result (lanes.new.items ≡ lanes.old.items ++ map (λ at. slot_of_value (get_or values.now at None)) kept.now) }
-    ensures err { OnErr result (lanes.new ≡ lanes.old) }
+    ensures err { OnErr result (lanes.new.items ≡ lanes.old.items) }
 {
     lanes.reserve(kept.len())?;
     for at in kept {

@@ -8,4 +8,4 @@ use Rattle.split_run.proofs.parted.lend_all.Goals as goal
 pub loop-at-preserved : goal.loop-at-preserved
 loop-at-preserved c =
     lent_next c.args.maps.now c.loop-at.at c.index-maps-at.result c.loop-at.lists.items c.push.new.self.items (record { groups = c.lent.result; ranges = None }) (omega (arith, c.loop-at-test.true)) c.loop-at.invariant
-    (subst (λ (m : GroupsByKey). IsPermutation (listed m) c.lent.result) c.index-maps-at.is c.lent.ensures) c.in_ok-push.ensures.items
+    (subst (λ (m : GroupsByKey). IsPermutation (listed m) c.lent.result) c.index-maps-at.is c.lent.ensures.groups) c.in_ok-push.ensures.items
