@@ -3,6 +3,7 @@ pub mod Columns
 mod Even
 mod Fronts
 mod KeyColumns
+mod LineTexts
 mod Numbers
 pub mod Occurring
 mod Small

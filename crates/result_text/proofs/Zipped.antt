@@ -19,3 +19,13 @@ values-end f row whole xs ys (inl e) h = sym (append-nil row) ∙ (rw e at h)
 values-end f row whole xs ys (inr e) h =
     let none : zip xs ys ≡ [] = rw e (no_pairs xs) in
     sym (append-nil row) ∙ (rw none at h)
+
+-- the first of some pairs, and none
+pub pairs-more : {X Y : Type 0} (f : X × Y → List ℕ) (xs more_xs : List X) (ys more_ys : List Y) (x : X) (y : Y) → xs ≡ x ∷ more_xs → ys ≡ y ∷ more_ys → map f (zip xs ys) ≡ f (x, y) ∷ map f (zip more_xs more_ys)
+pairs-more f xs more_xs ys more_ys x y xs_is ys_is = rw (xs_is, ys_is) refl
+
+pub pairs-end : {X Y : Type 0} (f : X × Y → List ℕ) (xs : List X) (ys : List Y) → (xs ≡ []) ⊎ (ys ≡ []) → map f (zip xs ys) ≡ []
+pairs-end f xs ys (inl e) = rw e refl
+pairs-end f xs ys (inr e) =
+    let none : zip xs ys ≡ [] = rw e (no_pairs xs) in
+    ap (map f) none

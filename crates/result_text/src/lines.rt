@@ -4,9 +4,9 @@
 //! quote or an end of line in it, two quotes for a line of one empty field, and a line feed. While a line is made, each of its
 //! fields has a comma after it.
 
-ghost use Rattle.std.specs.Prelude.{◌≡◌, ◌<◌, ◌≤◌, ◌++◌, ◌∷◌, [], ℕ, List, All, OnOk, length, map};
+ghost use Rattle.std.specs.Prelude.{◌≡◌, ◌==◌, ◌<◌, ◌≤◌, ◌-◌, ◌++◌, ◌∷◌, [], ℕ, List, All, OnOk, if◌then◌else◌, length, map, take};
 ghost use Rattle.std.specs.List.{concat};
-ghost use Rattle.csv.specs.Writing.{default_writer, needs_quotes, quoted, row_text};
+ghost use Rattle.csv.specs.Writing.{default_writer, escaped, field_text, needs_byte, needs_quotes, quoted, row_text};
 ghost use Rattle.par_model.specs.Decimal.{number_text};
 ghost use Rattle.par_model.specs.Table.{value_text, values_text};
 ghost use Rattle.par_model.specs.declared.plan.TheConstants.{MOST_PLACES};
@@ -20,7 +20,8 @@ use itoa::Integer;
 use par_model::{AggState, BoundPlan, Item, ItemKind, SlotState};
 use std::alloc::AllocError;
 
-/// Puts the line of a group with this key at the end of a text.
+/// Puts the line of a group with this key at the end of a text. An error means that memory ran out; the text then has some
+/// of the line at its end. It takes memory only as the text grows, and time by the length of the line.
 pub fn push_line(
     text: &mut Vec<u8>,
     bound: &BoundPlan,
@@ -60,22 +61,37 @@ fn push_values(text: &mut Vec<u8>, bound: &BoundPlan, state: &AggState) -> Resul
     Ok(())
 }
 
-/// The value of one aggregate, or an empty field if it is null.
+/// The value of one aggregate, or an empty field if it is null, and the comma after it. A number needs no quotes.
 fn push_value(text: &mut Vec<u8>, item: Item, rows: u64, slot: &SlotState) -> Result<(), AllocError>
     requires small { IsSmallSlot slot.now }
     requires places { item.places ≤ MOST_PLACES }
     ensures { OnOk result (text.new.items ≡ text.old.items ++ followed (value_text item.kind item.places rows slot.now)) }
 {
+    push_bare_value(text, item, rows, slot)?;
+    text.push(b',')?;
+    Ok(())
+}
+
+/// The value of one aggregate, or nothing if it is null.
+fn push_bare_value(
+    text: &mut Vec<u8>,
+    item: Item,
+    rows: u64,
+    slot: &SlotState,
+) -> Result<(), AllocError>
+    requires small { IsSmallSlot slot.now }
+    requires places { item.places ≤ MOST_PLACES }
+    ensures { OnOk result (text.new.items ≡ text.old.items ++ value_text item.kind item.places rows slot.now) }
+{
     match item.kind {
-        ItemKind::Rows => push_integer(text, rows)?,
-        ItemKind::Count => push_integer(text, slot.count)?,
-        _ if slot.count == 0 => {}
-        ItemKind::Sum => push_units(text, slot.sum, item.places)?,
-        ItemKind::Min => push_units(text, i128::from(slot.least), item.places)?,
-        ItemKind::Max => push_units(text, i128::from(slot.greatest), item.places)?,
-        ItemKind::Avg => push_units(text, average(slot.sum, slot.count), item.places + 4)?,
+        ItemKind::Rows => push_integer(text, rows),
+        ItemKind::Count => push_integer(text, slot.count),
+        _ if slot.count == 0 => Ok(()),
+        ItemKind::Sum => push_units(text, slot.sum, item.places),
+        ItemKind::Min => push_units(text, i128::from(slot.least), item.places),
+        ItemKind::Max => push_units(text, i128::from(slot.greatest), item.places),
+        ItemKind::Avg => push_units(text, average(slot.sum, slot.count), item.places + 4),
     }
-    text.push(b',')
 }
 
 /// A number of units of 10^-`places`.
@@ -100,24 +116,34 @@ fn push_integer<I: Integer>(text: &mut Vec<u8>, n: I) -> Result<(), AllocError>
 fn push_field(text: &mut Vec<u8>, field: &[u8]) -> Result<(), AllocError>
     ensures { OnOk result (text.new.items ≡ text.old.items ++ followed field.now) }
 {
-    if needs_quotes(field) {
-        push_quoted(text, field)?;
-    } else {
-        text.extend_from_slice(field)?;
-    }
-    text.push(b',')
+    push_field_text(text, field)?;
+    text.push(b',')?;
+    Ok(())
 }
 
-/// Whether a field is put in quotes.
-fn needs_quotes(field: &[u8]) -> bool
+/// A field of any bytes, in quotes if it calls for them.
+fn push_field_text(text: &mut Vec<u8>, field: &[u8]) -> Result<(), AllocError>
+    ensures { OnOk result (text.new.items ≡ text.old.items ++ field_text default_writer field.now) }
+{
+    if has_special(field) {
+        return push_quoted(text, field);
+    }
+    text.extend_from_slice(field)?;
+    Ok(())
+}
+
+/// Whether a byte of the field calls for quotes.
+fn has_special(field: &[u8]) -> bool
     ensures { result ≡ needs_quotes default_writer field.now }
 {
-    for byte in field {
-        if matches!(*byte, b',' | b'"' | b'\r' | b'\n') {
-            return true;
-        }
-    }
-    false
+    field.iter().any(|byte| is_special(*byte))
+}
+
+/// Whether a byte calls for quotes.
+fn is_special(byte: u8) -> bool
+    ensures { result ≡ needs_byte default_writer byte }
+{
+    byte == b',' || byte == b'"' || byte == b'\r' || byte == b'\n'
 }
 
 /// A field in quotes.
@@ -125,24 +151,60 @@ fn push_quoted(text: &mut Vec<u8>, field: &[u8]) -> Result<(), AllocError>
     ensures { OnOk result (text.new.items ≡ text.old.items ++ quoted default_writer field.now) }
 {
     text.push(b'"')?;
+    push_escaped(text, field)?;
+    text.push(b'"')?;
+    Ok(())
+}
+
+/// The bytes of a field, each quote twice.
+fn push_escaped(text: &mut Vec<u8>, field: &[u8]) -> Result<(), AllocError>
+    ensures { OnOk result (text.new.items ≡ text.old.items ++ escaped default_writer field.now) }
+{
     for byte in field {
-        if *byte == b'"' {
-            text.push(b'"')?;
-        }
-        text.push(*byte)?;
+        push_byte(text, *byte)?;
     }
-    text.push(b'"')
+    Ok(())
+}
+
+/// A byte, and a quote twice.
+fn push_byte(text: &mut Vec<u8>, byte: u8) -> Result<(), AllocError>
+    ensures { OnOk result (text.new.items ≡ text.old.items ++ escaped default_writer (byte ∷ [])) }
+{
+    if byte == b'"' {
+        return text.extend_from_slice(b"\"\"");
+    }
+    text.push(byte)?;
+    Ok(())
 }
 
 /// Ends the line that begins at a place, of which each field has a comma after it: the last of these goes, and a line of no
 /// bytes gets two quotes.
 fn end_line(text: &mut Vec<u8>, from: usize) -> Result<(), AllocError>
-    ensures { OnOk result ((before : List ℕ) (fields : List (List ℕ)) → 0 < length fields → length before ≡ from → text.old.items ≡ before ++ concat (map followed fields)
+    ensures { OnOk result ((before : List ℕ) (fields : List (List ℕ)) → length before ≡ from → text.old.items ≡ before ++ concat (map followed fields)
         → text.new.items ≡ before ++ row_text default_writer fields) }
 {
-    text.pop();
-    if text.len() == from {
-        text.extend_from_slice(b"\"\"")?;
+    drop_comma(text, from);
+    mark_blank(text, from)?;
+    text.push(b'\n')?;
+    Ok(())
+}
+
+/// The last byte of a line that begins at a place goes, if it has one.
+fn drop_comma(text: &mut Vec<u8>, from: usize)
+    ensures some { from < length text.old.items → text.new.items ≡ take (length text.old.items - 1) text.old.items }
+    ensures none { length text.old.items ≤ from → text.new.items ≡ text.old.items }
+{
+    if from < text.len() {
+        text.pop();
     }
-    text.push(b'\n')
+}
+
+/// Two quotes for a line of no bytes that begins at a place.
+fn mark_blank(text: &mut Vec<u8>, from: usize) -> Result<(), AllocError>
+    ensures { OnOk result (text.new.items ≡ text.old.items ++ (if length text.old.items == from then 34 ∷ 34 ∷ [] else [])) }
+{
+    if text.len() != from {
+        return Ok(());
+    }
+    text.extend_from_slice(b"\"\"")
 }
