@@ -23,7 +23,7 @@ pub record HasSpread (plan : Plan) (pieces : List Stretch) (c : Claims) (f g : H
 pub record HasDone (plan : Plan) (pieces : List Stretch) (c : Claims) (f g : Hand) : Type 0 where
   pub seat : Belongs c g.claim
   pub number : number_of g.claim ≡ number_of f.claim
-  pub spread : g.stopped ≡ None → HasSpread plan pieces c f g
+  pub read : g.stopped ≡ None → HasSpread plan pieces c f g
   pub stopped : IfSome g.stopped (SomeRefused plan pieces)
 
 -- participants with seats that have drawn nothing

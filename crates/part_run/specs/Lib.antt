@@ -1,5 +1,6 @@
 pub mod Carrying
 pub mod Parted
+pub mod Held
 pub mod Hands
 pub mod Moving
 pub mod Waiting

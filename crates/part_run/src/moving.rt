@@ -7,7 +7,7 @@ ghost use Rattle.gather_law.specs.KeyParts.{AreListings, groups_in, part_map, wi
 ghost use Rattle.gather_law.specs.Shares.{AreShared};
 ghost use Rattle.partial_agg.specs.Groups.{added};
 ghost use Rattle.row_lists.specs.Parts.{part_of as key_part};
-ghost use Rattle.part_run.specs.Moving.{IsLent, lists_of};
+ghost use Rattle.part_run.specs.Moving.{ArePartMaps, IsLent, lists_of};
 ghost use Rattle.part_run.specs.Parted.{AreParted};
 
 use par_model::AggState;
@@ -27,7 +27,7 @@ pub(crate) struct LentParts<'a> {
 }
 
 /// The map of a part, or no memory for it.
-type PartMap = Result<GroupMap, AllocError>;
+type Made = Result<GroupMap, AllocError>;
 
 /// The maps of the parts, with the groups of all participants, in at most this many threads. The time is that of a look-up of
 /// each group; the participants' maps are only read.
@@ -42,14 +42,29 @@ pub(crate) fn part_maps<R: Threads + Sync>(
     ensures parted { IfOk result (λ parts. (plan : Plan) (width : _) (rows : Table) → AreShared plan width rows maps.now → length rows < 2 ^ 64 → AreParted plan width rows parts.items) }
 {
     let lists = lend_all(alloc, maps)?;
+    let parts = make_maps(rt, alloc, &lists, threads)?;
+    all_of(alloc, parts)
+}
+
+/// The map of each part of the groups in all lists, in at most this many threads.
+fn make_maps<R: Threads + Sync>(
+    rt: &R,
+    alloc: Global,
+    lists: &[LentParts<'_>],
+    threads: usize,
+) -> Result<Vec<Made>, AllocError>
+    requires some { 0 < threads }
+    requires lent { All IsLent lists.now }
+    ensures { IfOk result (λ maps. ArePartMaps lists.now maps.items) }
+{
     let mut parts = no_maps(alloc)?;
     for_each_mut(
         rt,
         parts.as_mut_slice(),
         threads,
-        &|part, map| { *map = part_map(alloc, &lists, part as u8) },
+        &|part, map| { *map = part_map(alloc, lists, part as u8) },
     );
-    all_of(alloc, parts)
+    Ok(parts)
 }
 
 /// The groups of each map, with their parts.
@@ -78,7 +93,7 @@ fn parts_of_keys(alloc: Global, groups: &LentGroups<'_>) -> Result<Vec<u8>, Allo
 }
 
 /// As many maps as there are parts, none of which was made.
-fn no_maps(alloc: Global) -> Result<Vec<PartMap>, AllocError>
+fn no_maps(alloc: Global) -> Result<Vec<Made>, AllocError>
     ensures { IfOk result (λ maps. length maps.items ≡ 256) }
 {
     let mut maps = Vec::with_capacity(alloc, PARTS)?;
@@ -89,7 +104,7 @@ fn no_maps(alloc: Global) -> Result<Vec<PartMap>, AllocError>
 }
 
 /// The map of a part of the groups in all lists.
-fn part_map(alloc: Global, lists: &[LentParts<'_>], part: u8) -> PartMap
+fn part_map(alloc: Global, lists: &[LentParts<'_>], part: u8) -> Made
     requires { All IsLent lists.now }
     ensures { IfOk result (λ so_far. so_far ≡ part_map key_part part (lists_of lists.now)) }
 {
@@ -138,7 +153,7 @@ fn add_group(
 }
 
 /// The maps, if there was memory for all.
-fn all_of(alloc: Global, made: Vec<PartMap>) -> Result<Vec<GroupMap>, AllocError>
+fn all_of(alloc: Global, made: Vec<Made>) -> Result<Vec<GroupMap>, AllocError>
     ensures { IfOk result (λ maps. map_list Ok maps.items ≡ made.items) }
 {
     let mut maps = Vec::with_capacity(alloc, made.len())?;

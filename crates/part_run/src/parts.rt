@@ -1,6 +1,6 @@
 //! The maps of the parts, and the rows that wait for them.
 
-ghost use Rattle.std.specs.Prelude.{◌≡◌, ◌<◌, ◌≤◌, ◌+◌, ◌^◌, ◌++◌, ◌∷◌, [], ℕ, All, IfErr, IfOk, None, OnOk, length, map as map_list, min, replicate};
+ghost use Rattle.std.specs.Prelude.{◌≡◌, ◌<◌, ◌≤◌, ◌+◌, ◌^◌, ◌++◌, ◌∷◌, [], ℕ, All, IfErr, IfOk, None, OnOk, false, length, map as map_list, min, replicate};
 ghost use Rattle.std.specs.List.{sum_by};
 ghost use Rattle.par_model.specs.Plan.{Plan};
 ghost use Rattle.row_blocks.specs.Blocks.{Table};
@@ -8,10 +8,9 @@ ghost use Rattle.gather_law.specs.Shares.{AreShared};
 ghost use Rattle.split_run.specs.Causes.{IsFirstOfAll, IsLow};
 ghost use Rattle.split_run.specs.Hands.{most};
 ghost use Rattle.split_run.specs.Pieces.{HaveColumns, rows_of};
-ghost use Rattle.part_run.specs.Carrying.{no_rows};
+ghost use Rattle.part_run.specs.Carrying.{no_rows, with_carried};
 ghost use Rattle.part_run.specs.Hands.{IsCauseOfAll};
-ghost use Rattle.part_run.specs.Parted.{AreParted};
-ghost use Rattle.part_run.specs.Waiting.{HasWaiting, HaveRows, TakesPieces, lists_in, participants, with_carried};
+ghost use Rattle.part_run.specs.Waiting.{GroupsAll, HasWaiting, HaveRows, HaveWaiting, LackNone, TakesPieces, groups_in, participants};
 ghost use Rattle.part_run.specs.declared.hands.Hand.{Hand};
 
 use crate::hands::{Hand, hands_of, work_all};
@@ -23,6 +22,7 @@ use row_windows::Window;
 use scan_claim::{ClaimSeat, Claims};
 use split_run::first_cause;
 use std::alloc::{AllocError, Global};
+use std::marker::Model;
 use std::sync::Wait;
 use std::thread::{Threads, for_each_mut};
 
@@ -38,6 +38,21 @@ pub(crate) struct PartMap {
 pub struct Parts {
     maps: Vec<PartMap>,
     lists: Vec<PartLists>,
+}
+
+impl Model for Parts {
+    ghost use Rattle.std.specs.Prelude.{◌≡◌, length};
+    ghost use Rattle.part_run.specs.Held.{HeldParts, held_code};
+
+    ghost Value = { HeldParts };
+
+    ghost coded = { held_code };
+
+    ghost use Rattle.part_run.specs.Waiting.{groups_in};
+
+    ghost view = { λ p. record { maps = groups_in p.maps.items; lists = p.lists.items } };
+
+    ghost invariant = { λ p. length p.maps.items ≡ 256 };
 }
 
 /// The lists and the seats that came home, in order of the participants, and how many rows were read.
@@ -60,18 +75,10 @@ impl Parts {
         ensures many { IfOk result (λ parts. participants parts ≡ length maps.items) }
     {
         let many = maps.len();
-        let mut lists = Vec::with_capacity(alloc, many)?;
-        for _at in 0..many {
-            lists.push(PartLists::new(alloc)?)?;
-        }
-        let mut parts = Vec::new(alloc);
-        for groups in part_maps(rt, alloc, maps.as_slice(), many)? {
-            parts.push(PartMap {
-                groups,
-                lacks: false,
-            })?;
-        }
-        Ok(Parts { maps: parts, lists })
+        let lists = empty_lists(alloc, many)?;
+        let groups = part_maps(rt, alloc, maps.as_slice(), many)?;
+        let maps = with_memory(alloc, groups)?;
+        Ok(Parts { maps, lists })
     }
 
     /// How many groups there are.
@@ -138,25 +145,15 @@ impl Parts {
 
     /// Adds all rows that wait to the maps of their parts. Then none waits.
     pub fn group<R: Threads + Sync>(&mut self, rt: &R) -> Result<(), AllocError>
+        ensures all { OnOk result (GroupsAll self.old self.new.maps) }
+        ensures none { OnOk result (self.new.lists ≡ replicate (participants self.old) no_rows) }
         ensures rows { OnOk result ((plan : Plan) (width : ℕ) (rows : Table) → HaveRows plan width rows self.old → length rows < 2 ^ 64 → HaveRows plan width rows self.new) }
-        ensures none { OnOk result (lists_in self.new ≡ replicate (participants self.old) no_rows) }
     {
-        let threads = self.lists.len().max(1);
-        let lists = self.lists.as_slice();
-        for_each_mut(
-            rt,
-            self.maps.as_mut_slice(),
-            threads,
-            &|part, map| { add_waiting(lists, part, map) },
-        );
-        for map in self.maps.as_slice() {
-            if map.lacks {
-                return Err(AllocError);
-            }
+        group_all(rt, self.lists.as_slice(), self.maps.as_mut_slice());
+        if any_lacks(self.maps.as_slice()) {
+            return Err(AllocError);
         }
-        for lists in self.lists.iter_mut() {
-            lists.clear();
-        }
+        clear_all(self.lists.as_mut_slice());
         Ok(())
     }
 
@@ -166,14 +163,83 @@ impl Parts {
         rt: &R,
         alloc: Global,
     ) -> Result<Vec<GroupMap>, AllocError>
-        ensures { IfOk result (λ maps. (plan : Plan) (width : ℕ) (rows : Table) → HaveRows plan width rows self → length rows < 2 ^ 64 → AreParted plan width rows maps.items) }
+        ensures { IfOk result (λ maps. GroupsAll self maps.items) }
     {
         self.group(rt)?;
-        let mut maps = Vec::with_capacity(alloc, self.maps.len())?;
-        for map in self.maps {
-            maps.push(map.groups)?;
+        let Parts { maps, .. } = self;
+        bare_maps(alloc, maps)
+    }
+}
+
+/// The lists of so many participants, with no rows.
+fn empty_lists(alloc: Global, many: usize) -> Result<Vec<PartLists>, AllocError>
+    ensures { IfOk result (λ lists. lists.items ≡ replicate many no_rows) }
+{
+    let mut lists = Vec::with_capacity(alloc, many)?;
+    for _at in 0..many {
+        lists.push(PartLists::new(alloc)?)?;
+    }
+    Ok(lists)
+}
+
+/// Maps of which none lacks a row.
+fn with_memory(alloc: Global, maps: Vec<GroupMap>) -> Result<Vec<PartMap>, AllocError>
+    ensures { IfOk result (λ parts. groups_in parts.items ≡ maps.items) }
+{
+    let mut parts = Vec::with_capacity(alloc, maps.len())?;
+    for groups in maps {
+        parts.push(PartMap {
+            groups,
+            lacks: false,
+        })?;
+    }
+    Ok(parts)
+}
+
+/// The groups of each map.
+fn bare_maps(alloc: Global, maps: Vec<PartMap>) -> Result<Vec<GroupMap>, AllocError>
+    ensures { IfOk result (λ bare. bare.items ≡ groups_in maps.items) }
+{
+    let mut bare = Vec::with_capacity(alloc, maps.len())?;
+    for map in maps {
+        let PartMap { groups, lacks: _ } = map;
+        bare.push(groups)?;
+    }
+    Ok(bare)
+}
+
+/// Adds the rows of each part that wait to the part's map, by as many threads as there are participants.
+fn group_all<R: Threads + Sync>(rt: &R, lists: &[PartLists], maps: &mut [PartMap])
+    requires { length maps.old ≡ 256 }
+    ensures { HaveWaiting lists.now maps.old maps.new }
+{
+    let threads = lists.len().max(1);
+    for_each_mut(
+        rt,
+        maps,
+        threads,
+        &|part, map| { add_waiting(lists, part, map) },
+    );
+}
+
+/// Whether a map lacks a row.
+fn any_lacks(maps: &[PartMap]) -> bool
+    ensures { result ≡ false → LackNone maps.now }
+{
+    for map in maps {
+        if map.lacks {
+            return true;
         }
-        Ok(maps)
+    }
+    false
+}
+
+/// Empties the lists of all participants.
+fn clear_all(lists: &mut [PartLists])
+    ensures { lists.new ≡ replicate (length lists.old) no_rows }
+{
+    for one in lists.iter_mut() {
+        one.clear();
     }
 }
 

@@ -1,9 +1,12 @@
 //! The rows of one piece, read and put into the lists of their parts.
 
-ghost use Rattle.std.specs.Prelude.{◌≡◌, ◌∷◌, [], All, IfErr, IfOk, OnOk, drop, length};
+ghost use Rattle.std.specs.Prelude.{◌≡◌, ◌∷◌, [], All, IfErr, IfOk, OnOk, drop, length, take};
 ghost use Rattle.par_model.specs.Columns.{HasColumns};
 ghost use Rattle.partial_agg.specs.Blocks.{ExplainsRow};
+ghost use Rattle.partial_agg.specs.Reading.{key_in, values_in};
 ghost use Rattle.partial_agg.specs.Rows.{IsAccepted, header_width};
+ghost use Rattle.row_lists.specs.Carried.{carried};
+ghost use Rattle.row_lists.specs.Parts.{with_row};
 ghost use Rattle.split_run.specs.Causes.{IsCause};
 ghost use Rattle.split_run.specs.Pieces.{piece_records, piece_rows};
 ghost use Rattle.part_run.specs.Carrying.{spread};
@@ -44,10 +47,11 @@ fn spread_store(rows: &RowStore, plan: &BoundPlan, lists: &mut PartLists) -> Res
     ensures accepted { OnOk result (All (IsAccepted plan.now (header_width rows.now)) (drop 1 rows.now)) }
     ensures refused { IfErr result (IsCause plan.now rows.now) }
 {
+    let count = rows.count();
     let near = rows.near(0);
     let width = rows.width(0);
     let mut buffer = RowBuffer::new();
-    for before in 0..rows.count() {
+    for before in 0..count {
         let number = before + 1;
         match spread_row(&mut buffer, number, &near.find(number), width, plan, lists) {
             Ok(()) => {}
@@ -79,9 +83,17 @@ fn spread_row(
             item: refusal.item,
         }),
         RowStatus::LeftOut => Ok(()),
-        RowStatus::Kept => match lists.push(buffer.key(), buffer.values(plan.items().len())) {
+        RowStatus::Kept => match push_read(buffer, plan, lists) {
             Ok(()) => Ok(()),
             Err(AllocError) => Err(BlockAnswer::Memory),
         },
     }
+}
+
+/// Puts the row that was read into the list of its part.
+#[inline(always)]
+fn push_read(buffer: &RowBuffer, plan: &BoundPlan, lists: &mut PartLists) -> Result<(), AllocError>
+    ensures { OnOk result (lists.new ≡ with_row lists.old (carried (key_in buffer.now) (take (length plan.now.items) (values_in buffer.now)))) }
+{
+    lists.push(buffer.key(), buffer.values(plan.items().len()))
 }

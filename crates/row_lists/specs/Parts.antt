@@ -2,6 +2,7 @@
 use Rattle.std.specs.Prelude.{◌≡◌, ◌<◌, ◌/◌, ◌%◌, ◌^◌, ◌==◌, ◌++◌, ◌∷◌, [], ℕ, List, filter, fold, get_or, length, set}
 use Rattle.key_index.specs.Index.{hash}
 use Rattle.row_lists.specs.Carried.{Carried}
+use Rattle.std.specs.Prelude.{◌%◌}
 
 -- the part of a key: the highest byte of its hash
 abbrev pub part_of : List ℕ → ℕ

@@ -54,7 +54,7 @@ module _ (pieces : List Stretch) where
     width_at header under = ap (λ (q : Stretch). header_width (piece_records q)) is ∙ ap header_width (under n p low)
 
     module _ (draws draws' : List ℕ) (more : draws' ≡ draws ++ n ∷ []) where
-      one_more : drawn_rows pieces draws' ≡ drawn_rows pieces draws ++ piece_rows p
+      pub one_more : drawn_rows pieces draws' ≡ drawn_rows pieces draws ++ piece_rows p
       one_more = more_pieces draws draws' n more ∙ ap (λ (l : Table). drawn_rows pieces draws ++ l) (piece_at pieces n p low ∙ ap piece_rows (sym is))
 
       pub added_piece : (plan : Plan) (old mid new : GroupsByKey) → mid ≡ with_rows plan old (drawn_rows pieces draws) → new ≡ with_rows plan mid (piece_rows p) → new ≡ with_rows plan old (drawn_rows pieces draws')

@@ -14,7 +14,7 @@ module _ (plan : Plan) (records : Table) where
   abbrev Accepted : Table → Type 0
   Accepted rows = All (IsAccepted plan (header_width records)) rows
 
-  row_is : (at : ℕ) → get_or (drop 1 records) at [] ≡ record_at records (at + 1)
+  pub row_is : (at : ℕ) → get_or (drop 1 records) at [] ≡ record_at records (at + 1)
   row_is at =
       let place : 1 + at ≡ at + 1 = omega arith in
       get_or-drop 1 records at [] ∙ ap (record_at records) place

@@ -1,10 +1,10 @@
 mod Blocks
-mod Drawn
+pub mod Drawn
 mod FirstPiece
-mod FirstRow
+pub mod FirstRow
 mod Joining
 mod Rising
-mod Parting
-mod SeatedMaps
+pub mod Parting
+pub mod SeatedMaps
 mod Shared
 mod TableTexts

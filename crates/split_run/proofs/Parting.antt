@@ -20,7 +20,7 @@ use Rattle.split_run.specs.Ranges.{range_of}
 use Rattle.split_run.specs.declared.parted.Parted.{Parted}
 use Rattle.split_run.specs.declared.ranges.Ranges.{Ranges}
 
-fold_push : {X Y : Type 0} (f : Y → X → Y) (xs : List X) (y : Y) (x : X) → fold f y (xs ++ x ∷ []) ≡ f (fold f y xs) x
+pub fold_push : {X Y : Type 0} (f : Y → X → Y) (xs : List X) (y : Y) (x : X) → fold f y (xs ++ x ∷ []) ≡ f (fold f y xs) x
 fold_push f [] y x = refl
 fold_push f (z ∷ xs) y x = fold_push f xs (f y z) x
 

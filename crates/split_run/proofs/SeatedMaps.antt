@@ -15,19 +15,19 @@ use Rattle.split_run.specs.declared.hands.Hand.{Hand}
 -- ---- places
 
 -- what a function makes of the element at a place stands at that place of the mapped list
-mapped_at : {X Y : Type 0} (f : X → Y) (xs : List X) (k : ℕ) (d : X) → k < length xs → get_elem? (map f xs) k ≡ some (f (slice_index_or xs k d))
+pub mapped_at : {X Y : Type 0} (f : X → Y) (xs : List X) (k : ℕ) (d : X) → k < length xs → get_elem? (map f xs) k ≡ some (f (slice_index_or xs k d))
 mapped_at f [] k d h = absurd (omega (arith, h))
 mapped_at f (x ∷ xs) zero d h = refl
 mapped_at f (x ∷ xs) (suc k) d h = mapped_at f xs k d (omega (arith, h))
 
 -- and what stands at a place of the mapped list was made of an element there
-record IsMapped {X Y : Type 0} (f : X → Y) (xs : List X) (k : ℕ) (y : Y) : Type 0 where
-  from : X
-  low : k < length xs
-  at : slice_index_or xs k from ≡ from
-  is : f from ≡ y
+pub record IsMapped {X Y : Type 0} (f : X → Y) (xs : List X) (k : ℕ) (y : Y) : Type 0 where
+  pub from : X
+  pub low : k < length xs
+  pub at : slice_index_or xs k from ≡ from
+  pub is : f from ≡ y
 
-mapped_from : {X Y : Type 0} (f : X → Y) (xs : List X) (k : ℕ) (y : Y) → get_elem? (map f xs) k ≡ some y → IsMapped f xs k y
+pub mapped_from : {X Y : Type 0} (f : X → Y) (xs : List X) (k : ℕ) (y : Y) → get_elem? (map f xs) k ≡ some y → IsMapped f xs k y
 mapped_from f [] k y e = absurd (cc)
 mapped_from f (x ∷ xs) zero y e = record { from = x; low = omega arith; at = refl; is = cc }
 mapped_from f (x ∷ xs) (suc k) y e = let r = mapped_from f xs k y e in record { from = r.from; low = omega (arith, r.low); at = r.at; is = r.is }

@@ -1,0 +1,21 @@
+use Rattle.std.proofs.Common.{◌≡◌, ◌++◌, ◌∷◌, ◌∙◌, [], None, List, ap, arith, sym}
+use Rattle.std.specs.List.{sum_by}
+use Rattle.std.proofs.lemmas.List.{map-append}
+use Rattle.std.proofs.lemmas.List.Sums.{sum_by-append}
+use Rattle.std.proofs.lemmas.List.Elements.{All-push}
+use Rattle.scan_claim.specs.declared.claims.ClaimSeat.{ClaimSeat}
+use Rattle.row_lists.specs.Carried.{Carried}
+use Rattle.part_run.specs.declared.hands.Hand.{Hand}
+use Rattle.part_run.proofs.parts.bring_home.Goals as goal
+
+pub loop-hand-preserved : goal.loop-hand-preserved
+loop-hand-preserved c =
+    let was = c.loop-hand.yielded in
+    let hand = c.in-Some.hand in
+    let inv = c.loop-hand.invariant in
+    record {
+      seats = c.in-Ok.ensures.seats ∙ ap (λ (l : List ClaimSeat). l ++ hand.claim ∷ []) inv.seats ∙ sym (map-append (λ (h : Hand). h.claim) was (hand ∷ []));
+      lists = c.in-Ok.ensures.lists ∙ ap (λ (l : List (List (List Carried))). l ++ hand.lists ∷ []) inv.lists ∙ sym (map-append (λ (h : Hand). h.lists) was (hand ∷ []));
+      count = omega (arith, c.in-Ok.ensures.count, inv.count, sum_by-append (λ (h : Hand). h.count) was (hand ∷ []));
+      whole = All-push (λ (h : Hand). h.stopped ≡ None) was hand inv.whole c.in-None-stopped.is;
+    }
