@@ -1,9 +1,8 @@
--- The lines of a table, each after its key.
-use Rattle.std.specs.Prelude.{◌≡◌, ◌<◌, ◌≤◌, ℕ, Bool, List, Result, [], ◌∷◌, All, IfOk, drop, length, map, slice_index_or, take}
+-- The lines of a table in runs, one for each map.
+use Rattle.std.specs.Prelude.{◌≤◌, ℕ, List, Result, All, IfOk, length, map}
+use Rattle.std.specs.List.{AllZip}
 use Rattle.std.specs.List.Sorted.{IsPermutation, IsStrictlySortedBy}
-use Rattle.std.specs.Ordering.{is_lt}
 use Rattle.std.specs.declared.alloc.AllocError.{AllocError}
-use Rattle.csv.specs.Writing.{default_writer, row_text}
 use Rattle.par_model.specs.Plan.{Plan}
 use Rattle.par_model.specs.Refuse.{longest_key}
 use Rattle.par_model.specs.Table.{columns_cmp}
@@ -11,45 +10,22 @@ use Rattle.partial_agg.specs.Groups.{GroupsByKey}
 use Rattle.partial_agg.specs.Listed.{listed}
 use Rattle.partial_agg.specs.declared.groups.Group.{Group}
 use Rattle.result_text.specs.KeyColumns.{columns_in}
-use Rattle.result_text.specs.Text.{line_record}
-
--- a key, and the line of its group
-abbrev pub Entry : Type 0
-Entry = List ℕ × List ℕ
-
-abbrev pub entry_of : Plan → Group → Entry
-entry_of plan group = (group.key, row_text default_writer (line_record plan (columns_in (length plan.groups) group.key, group.state)))
-
--- an entry as bytes has the length of its key in one byte in front
-abbrev pub entry_in : List ℕ → Entry
-entry_in [] = ([], [])
-entry_in (size ∷ rest) = (take size rest, drop size rest)
-
-pub record HasKey (bytes : List ℕ) : Type 0 where
-  pub size : ℕ
-  pub rest : List ℕ
-  pub is : bytes ≡ size ∷ rest
-  pub within : size ≤ length rest
-  pub short : size ≤ longest_key
-
--- whether an entry comes before another, by so many columns of their keys
-abbrev pub comes_before : ℕ → Entry → Entry → Bool
-comes_before count a b = is_lt (columns_cmp (columns_in count a.0) (columns_in count b.0))
+use Rattle.line_runs.specs.Entries.{Entry, entry_of}
 
 -- entries rise strictly, by so many columns
 abbrev pub Rise : ℕ → List Entry → Type 0
 Rise count entries = IsStrictlySortedBy columns_cmp (map (λ entry. columns_in count entry.0) entries)
 
--- a run has the lines of some groups, in the order of the table
+-- a run has the lines of some groups, in the order of the table; their keys are short
 pub record IsRunOf (plan : Plan) (groups : List Group) (run : List Entry) : Type 0 where
+  pub short : All (λ group. length group.key ≤ longest_key) groups
   pub same : IsPermutation (map (entry_of plan) groups) run
   pub rises : Rise (length plan.groups) run
 
 -- there is a run for each map, of the lines of its groups
-pub record AreRunsOf (plan : Plan) (maps : List GroupsByKey) (runs : List (List Entry)) : Type 0 where
-  pub many : length runs ≡ length maps
-  pub each : (k : ℕ) (d : GroupsByKey) (e : List Entry) → k < length maps → IsRunOf plan (listed (slice_index_or maps k d)) (slice_index_or runs k e)
+abbrev pub AreRunsOf : Plan → List GroupsByKey → List (List Entry) → Type 0
+AreRunsOf plan maps runs = AllZip (λ groups run. IsRunOf plan (listed groups) run) maps runs
 
--- likewise, if there was memory for it
+-- the run of a map's lines was made, if there was memory for it
 abbrev pub IsMade : Plan → GroupsByKey → Result (List Entry) AllocError → Type 0
 IsMade plan groups made = IfOk made (IsRunOf plan (listed groups))

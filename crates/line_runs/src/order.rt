@@ -3,20 +3,19 @@
 //! A line is sorted together with a number of its key: 8 bytes of one column, after what all keys of the range have in
 //! common. Unequal numbers decide the order of two keys, so hardly any key is looked at twice.
 
-ghost use Rattle.std.specs.Prelude.{◌≡◌, ◌≤◌, ◌++◌, All, IfOk, IfSome, length, map as map_list};
+ghost use Rattle.std.specs.Prelude.{◌≡◌, ◌<◌, ◌≤◌, ◌++◌, All, IfOk, IfSome, drop, length, map as map_list};
 ghost use Rattle.std.specs.Bool.{OnTrue};
 ghost use Rattle.std.specs.List.Sorted.{IsPermutation, IsSortedBy};
 ghost use Rattle.std.specs.Ordering.{nat_cmp, ordering_then};
 ghost use Rattle.par_model.specs.Table.{columns_cmp};
 ghost use Rattle.key_index.specs.Front.{AllBytes, leading};
-ghost use Rattle.result_text.specs.KeyColumns.{columns_in};
-ghost use Rattle.result_text.specs.Printable.{IsKeyOf};
-ghost use Rattle.line_runs.specs.Order.{IsNumberOf, IsThere, IsWhole, entry_at};
-ghost use Rattle.line_runs.specs.Ranges.{is_before};
+ghost use Rattle.result_text.specs.KeyColumns.{first_size};
+ghost use Rattle.line_runs.specs.Entries.{comes_before};
+ghost use Rattle.line_runs.specs.Order.{AreNumbered, IsNumbered, IsNumberOf, IsWhole, columns_at, entry_at, place_of};
 
 use crate::run::Run;
 use result_text::{compare_columns, split_column};
-use std::alloc::{AllocError, Global};
+use std::alloc::AllocError;
 use std::cmp::Ordering;
 
 /// A line of a run: its place, and a number of its key.
@@ -30,7 +29,7 @@ pub(crate) struct LineRef {
 impl LineRef {
     /// The line at a place of a run, without a number, or no memory if there are more places than numbers for them.
     pub(crate) fn new(run: usize, at: usize) -> Result<LineRef, AllocError>
-        ensures { IfOk result (λ ref. (ref.run ≡ run) × (ref.at ≡ at)) }
+        ensures { IfOk result (λ line. (line.run ≡ run) × (line.at ≡ at)) }
     {
         match (u32::try_from(run), u32::try_from(at)) {
             (Ok(run), Ok(at)) => Ok(LineRef { number: 0, run, at }),
@@ -38,22 +37,32 @@ impl LineRef {
         }
     }
 
+    /// Its key, and no bytes if there is no such line.
     fn key<'a>(&self, runs: &'a [Run]) -> &'a [u8]
-        requires { IsThere runs.now self.now }
         ensures { result.now ≡ (entry_at runs.now self.now).0 }
     {
-        runs[self.run as usize].key(self.at as usize)
+        let run = self.run as usize;
+        if run < runs.len() {
+            runs[run].key(self.at as usize)
+        } else {
+            &[]
+        }
     }
 
+    /// The line, and no bytes if there is none.
     pub(crate) fn line<'a>(&self, runs: &'a [Run]) -> &'a [u8]
-        requires { IsThere runs.now self.now }
         ensures { result.now ≡ (entry_at runs.now self.now).1 }
     {
-        runs[self.run as usize].line(self.at as usize)
+        let run = self.run as usize;
+        if run < runs.len() {
+            runs[run].line(self.at as usize)
+        } else {
+            &[]
+        }
     }
 }
 
-/// What all keys of a range have in common: some whole columns, as they are encoded, and a front of the next one.
+/// What the keys of a range have in common: some whole columns, as they are encoded, and a front of the next one.
 #[derive(Clone, Copy)]
 pub(crate) struct Shared<'a> {
     columns: &'a [u8],
@@ -61,17 +70,18 @@ pub(crate) struct Shared<'a> {
 }
 
 impl<'a> Shared<'a> {
-    /// What two keys with so many columns have in common, and so all keys between them.
+    /// What two keys with so many columns have in common, and so all keys between them. If all columns are the same, nothing
+    /// is said to be in common.
     pub(crate) fn between(low: &'a [u8], high: &[u8], columns: u32) -> Shared<'a>
-        requires { IsKeyOf columns low.now }
-        ensures { IsWhole result }
+        requires { 0 < columns }
+        ensures { IsWhole columns result }
     {
         let mut left = low;
         let mut right = high;
         for _at in 0..columns {
             let (x, more_left) = split_column(left);
             let (y, more_right) = split_column(right);
-            if x != y {
+            if x != y || !has_column(left) {
                 return Shared {
                     columns: &low[..low.len() - left.len()],
                     front: &x[..common_front(x, y)],
@@ -81,7 +91,7 @@ impl<'a> Shared<'a> {
             right = more_right;
         }
         Shared {
-            columns: low,
+            columns: &[],
             front: &[],
         }
     }
@@ -92,9 +102,19 @@ impl<'a> Shared<'a> {
     {
         let rest = after(key, self.columns)?;
         let (column, _more) = split_column(rest);
-        let rest = after(column, self.front)?;
-        Some(number(&rest[..rest.len().min(8)]))
+        let more = after(column, self.front)?;
+        Some(number(&more[..more.len().min(8)]))
     }
+}
+
+/// Whether the first column of some bytes lies in them with all of its length.
+fn has_column(bytes: &[u8]) -> bool
+    ensures { OnTrue result ((4 ≤ length bytes.now) × (first_size bytes.now ≤ length (drop 4 bytes.now))) }
+{
+    let [a, b, c, d, rest @ ..] = bytes else {
+        return false;
+    };
+    u32::from_le_bytes([*a, *b, *c, *d]) as usize <= rest.len()
 }
 
 /// What comes after the front of some bytes, if they have it.
@@ -132,38 +152,24 @@ fn number(bytes: &[u8]) -> u64
     u64::from_be_bytes(all)
 }
 
-/// Puts lines in the order of the table. That what is shared is shared by all keys is tested.
+/// Puts lines in the order of the table. That what is shared is shared by all keys is tested: if one has not got it, the keys
+/// decide, without numbers.
 pub(crate) fn sort_lines(lines: &mut [LineRef], runs: &[Run], shared: &Shared<'_>, columns: u32)
-    requires there { All (IsThere runs.now) lines.old }
-    requires keys { All (λ ref. IsKeyOf columns (entry_at runs.now ref).0) lines.old }
-    requires whole { IsWhole shared.now }
+    requires { IsWhole columns shared.now }
     ensures same { IsPermutation (map_list (entry_at runs.now) lines.old) (map_list (entry_at runs.now) lines.new) }
-    ensures there { All (IsThere runs.now) lines.new }
-    ensures sorted { IsSortedBy (λ a b. is_before columns a.0 b.0) (map_list (entry_at runs.now) lines.new) }
+    ensures sorted { IsSortedBy (comes_before columns) (map_list (entry_at runs.now) lines.new) }
 {
-    if !number_all(lines, runs, shared) {
-        clear_numbers(lines);
+    if number_all(lines, runs, shared) {
+        sort_numbered(lines, runs, columns);
+        return;
     }
-    lines.sort_unstable_by(|a, b| compare(runs, columns, a, b));
-}
-
-/// How two lines compare: by their numbers, and by their keys if these are equal.
-fn compare(runs: &[Run], columns: u32, a: &LineRef, b: &LineRef) -> Ordering
-    requires { IsThere runs.now a.now × IsThere runs.now b.now }
-    ensures { result ≡ ordering_then (nat_cmp a.now.number b.now.number) (columns_cmp (columns_in columns (entry_at runs.now a.now).0) (columns_in columns (entry_at runs.now b.now).0)) }
-{
-    match a.number.cmp(&b.number) {
-        Ordering::Equal => compare_columns(a.key(runs), b.key(runs), columns),
-        unequal => unequal,
-    }
+    sort_by_keys(lines, runs, columns);
 }
 
 /// Gives each line the number of its key; returns whether each has one.
 fn number_all(lines: &mut [LineRef], runs: &[Run], shared: &Shared<'_>) -> bool
-    requires { All (IsThere runs.now) lines.old }
-    ensures same { map_list (entry_at runs.now) lines.new ≡ map_list (entry_at runs.now) lines.old }
-    ensures there { All (IsThere runs.now) lines.new }
-    ensures numbers { OnTrue result (All (λ ref. IsNumberOf shared.now (entry_at runs.now ref).0 ref.number) lines.new) }
+    ensures same { map_list place_of lines.new ≡ map_list place_of lines.old }
+    ensures numbers { OnTrue result (All (IsNumbered shared.now runs.now) lines.new) }
 {
     for line in lines.iter_mut() {
         match shared.number_of(line.key(runs)) {
@@ -174,12 +180,36 @@ fn number_all(lines: &mut [LineRef], runs: &[Run], shared: &Shared<'_>) -> bool
     true
 }
 
-/// Gives each line the number 0.
-fn clear_numbers(lines: &mut [LineRef])
-    ensures places { map_list (λ ref. (ref.run, ref.at)) lines.new ≡ map_list (λ ref. (ref.run, ref.at)) lines.old }
-    ensures numbers { All (λ ref. ref.number ≡ 0) lines.new }
+/// Puts lines that have numbers of their keys in the order of the table.
+fn sort_numbered(lines: &mut [LineRef], runs: &[Run], columns: u32)
+    requires { AreNumbered columns runs.now lines.old }
+    ensures same { IsPermutation lines.old lines.new }
+    ensures sorted { IsSortedBy (comes_before columns) (map_list (entry_at runs.now) lines.new) }
 {
-    for line in lines.iter_mut() {
-        line.number = 0;
+    lines.sort_unstable_by(|a, b| compare(runs, columns, a, b));
+}
+
+/// Puts lines in the order of the table, by their keys.
+fn sort_by_keys(lines: &mut [LineRef], runs: &[Run], columns: u32)
+    ensures same { IsPermutation lines.old lines.new }
+    ensures sorted { IsSortedBy (comes_before columns) (map_list (entry_at runs.now) lines.new) }
+{
+    lines.sort_unstable_by(|a, b| compare_keys(runs, columns, a, b));
+}
+
+/// How two lines compare: by their numbers, and by their keys if these are equal.
+fn compare(runs: &[Run], columns: u32, a: &LineRef, b: &LineRef) -> Ordering
+    ensures { result ≡ ordering_then (nat_cmp a.now.number b.now.number) (columns_cmp (columns_at columns runs.now a.now) (columns_at columns runs.now b.now)) }
+{
+    match a.number.cmp(&b.number) {
+        Ordering::Equal => compare_keys(runs, columns, a, b),
+        unequal => unequal,
     }
+}
+
+/// How two lines compare by their keys.
+fn compare_keys(runs: &[Run], columns: u32, a: &LineRef, b: &LineRef) -> Ordering
+    ensures { result ≡ columns_cmp (columns_at columns runs.now a.now) (columns_at columns runs.now b.now) }
+{
+    compare_columns(a.key(runs), b.key(runs), columns)
 }

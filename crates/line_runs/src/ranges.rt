@@ -1,7 +1,8 @@
 //! Ranges of a table's order, by a sample of the keys of all runs.
 
-ghost use Rattle.std.specs.Prelude.{◌≡◌, ◌<◌, ◌≤◌, ◌+◌, IfOk};
-ghost use Rattle.line_runs.specs.Ranges.{AreOrdered, IsCutAt, count_of};
+ghost use Rattle.std.specs.Prelude.{◌≡◌, ◌<◌, ◌≤◌, ◌+◌, ◌-◌, ◌*◌, IfOk, IfSome, None, length, slice_index_or};
+ghost use Rattle.line_runs.specs.Order.{IsWhole};
+ghost use Rattle.line_runs.specs.Ranges.{AllAfter, AreOrdered, IsCutAt, IsPlaceAfter, NoneAfter, count_of, is_before};
 ghost use Rattle.line_runs.specs.Runs.{Rise};
 
 use crate::order::Shared;
@@ -33,7 +34,7 @@ impl<'a> Ranges<'a> {
         ensures columns { IfOk result (λ ranges. ranges.columns ≡ columns) }
     {
         let mut sample = Vec::new(alloc);
-        let each = count.saturating_mul(SAMPLE) / runs.len().max(1) + 1;
+        let each = (count.saturating_mul(SAMPLE) / runs.len().max(1)).saturating_add(1);
         for run in runs {
             take_keys(&mut sample, run, each)?;
         }
@@ -45,6 +46,13 @@ impl<'a> Ranges<'a> {
             greatest,
             columns,
         })
+    }
+
+    /// How many columns the keys have.
+    pub(crate) fn columns(&self) -> u32
+        ensures { result ≡ self.now.columns }
+    {
+        self.columns
     }
 
     /// The number of ranges.
@@ -61,20 +69,10 @@ impl<'a> Ranges<'a> {
         requires range { range < count_of self.now }
         ensures { IsCutAt self.now range run.now result }
     {
-        let Some(key) = self.key_before(range) else {
-            return 0;
-        };
-        let mut low = 0;
-        let mut high = run.len();
-        while low < high {
-            let middle = low + (high - low) / 2;
-            if compare_columns(key, run.key(middle), self.columns).is_lt() {
-                high = middle;
-            } else {
-                low = middle + 1;
-            }
+        match self.key_before(range) {
+            Some(key) => place_after(run, key, self.columns),
+            None => 0,
         }
-        low
     }
 
     /// The place of a run from which on its keys are of ranges after one.
@@ -85,36 +83,90 @@ impl<'a> Ranges<'a> {
         ensures { IsCutAt self.now (range + 1) run.now result }
     {
         if range + 1 < self.count() {
-            self.start_in(run, range + 1)
-        } else {
-            run.len()
+            return self.start_in(run, range + 1);
         }
+        run.len()
     }
 
     /// What all keys of a range have in common.
     pub(crate) fn shared(&self, range: usize) -> Shared<'a>
+        requires range { range < count_of self.now }
+        requires columns { 0 < self.now.columns }
+        ensures { IsWhole self.now.columns result }
+    {
+        Shared::between(self.low_end(range), self.high_end(range), self.columns)
+    }
+
+    /// A key that is not after any key of a range.
+    fn low_end(&self, range: usize) -> &'a [u8]
         requires { range < count_of self.now }
     {
-        let low = match self.key_before(range) {
+        match self.key_before(range) {
             Some(key) => key,
             None => self.least,
-        };
-        let high = match self.key_before(range + 1) {
-            Some(key) if range + 1 < self.count() => key,
-            _ => self.greatest,
-        };
-        Shared::between(low, high, self.columns)
+        }
+    }
+
+    /// A key that is not before any key of a range.
+    fn high_end(&self, range: usize) -> &'a [u8]
+        requires { range < count_of self.now }
+    {
+        if range + 1 >= self.count() {
+            return self.greatest;
+        }
+        self.low_end(range + 1)
     }
 
     /// The greatest key of the sample that is before a range: none if that is the first.
     fn key_before(&self, range: usize) -> Option<&'a [u8]>
-        requires { range ≤ count_of self.now }
+        requires { range < count_of self.now }
+        ensures none { result ≡ None → range ≡ 0 }
+        ensures some { IfSome result (λ key. (0 < range) × ((d : _) → key ≡ slice_index_or self.now.sample.items (range * SAMPLE - 1) d)) }
     {
         if range == 0 {
             return None;
         }
-        Some(self.sample[(range * SAMPLE).min(self.sample.len()) - 1])
+        Some(self.sample[range * SAMPLE - 1])
     }
+}
+
+/// The first place of a run whose key comes after this one, or its end.
+fn place_after(run: &Run, key: &[u8], columns: u32) -> usize
+    requires { Rise columns run.now }
+    ensures { IsPlaceAfter columns run.now key.now result }
+{
+    let mut low = 0;
+    let mut high = run.len();
+    'halves: while low < high {
+        let (from, to) = half_of(run, key, columns, low, high);
+        low = from;
+        high = to;
+    }
+    low
+}
+
+/// The half of some places in which the first lies whose key comes after this one, if it is one of them or their end.
+fn half_of(run: &Run, key: &[u8], columns: u32, low: usize, high: usize) -> (usize, usize)
+    requires rises { Rise columns run.now }
+    requires some { low < high }
+    requires within { high ≤ length run.now }
+    ensures up { (low ≤ result.0) × (result.0 ≤ result.1) × (result.1 ≤ high) }
+    ensures fewer { result.1 - result.0 < high - low }
+    ensures before { NoneAfter columns run.now key.now low result.0 }
+    ensures after { AllAfter columns run.now key.now result.1 high }
+{
+    let middle = low + (high - low) / 2;
+    if is_before(key, run.key(middle), columns) {
+        return (low, middle);
+    }
+    (middle + 1, high)
+}
+
+/// Whether a key comes before another.
+fn is_before(a: &[u8], b: &[u8], columns: u32) -> bool
+    ensures { result ≡ is_before columns a.now b.now }
+{
+    compare_columns(a, b, columns).is_lt()
 }
 
 /// The least and the greatest key of all runs, or keys of no bytes.

@@ -1,12 +1,16 @@
 //! The lines of one map, in the order of the table.
 
-ghost use Rattle.std.specs.Prelude.{◌≡◌, ◌<◌, ◌≤◌, ◌++◌, [], All, IfOk, OnOk, Some, length, map as map_list, slice_get};
+ghost use Rattle.std.specs.Prelude.{◌≡◌, ◌<◌, ◌≤◌, ◌++◌, All, IfOk, OnOk, get_or, length, map as map_list};
+ghost use Rattle.csv.specs.Records.{cut_from, prev};
+ghost use Rattle.csv_rows.specs.Store.{Covers};
+ghost use Rattle.par_model.specs.Refuse.{longest_key};
 ghost use Rattle.partial_agg.specs.Listed.{listed};
 ghost use Rattle.result_text.specs.GroupOrder.{group_of};
 ghost use Rattle.result_text.specs.Printable.{ArePrintable, IsSmallSlot};
-ghost use Rattle.line_runs.specs.Runs.{IsRunOf, entry_of};
+ghost use Rattle.line_runs.specs.Entries.{entry_bytes, entry_in, entry_of, no_entry};
+ghost use Rattle.line_runs.specs.Runs.{IsRunOf};
 
-use par_model::BoundPlan;
+use par_model::{AggState, BoundPlan};
 use partial_agg::{GroupMap, Groups, empty};
 use result_text::{GroupRef, in_order, push_line};
 use std::alloc::{AllocError, Global};
@@ -20,29 +24,19 @@ pub(crate) struct Run {
 }
 
 impl Model for Run {
-    ghost use Rattle.std.specs.Prelude.{All, List, length, map};
+    ghost use Rattle.std.specs.Prelude.{List, length, map};
     ghost use Rattle.csv.specs.Records.{cut_from};
     ghost use Rattle.csv_rows.specs.Store.{Covers};
-    ghost use Rattle.line_runs.specs.Runs.{Entry, HasKey, entry_in};
+    ghost use Rattle.line_runs.specs.Entries.{Entry, entry_in};
 
     ghost Value = { List Entry };
 
     ghost view = { λ r. map entry_in (cut_from 0 r.ends.items r.bytes.items) };
 
-    ghost invariant = { λ r. Covers r.ends.items (length r.bytes.items) × All HasKey (cut_from 0 r.ends.items r.bytes.items) };
+    ghost invariant = { λ r. Covers r.ends.items (length r.bytes.items) };
 }
 
 impl Run {
-    /// No lines.
-    pub(crate) fn new(alloc: Global) -> Run
-        ensures { result ≡ [] }
-    {
-        Run {
-            bytes: Vec::new(alloc),
-            ends: Vec::new(alloc),
-        }
-    }
-
     /// The lines of the groups of a map, which is gone afterwards.
     pub(crate) fn of_map(alloc: Global, bound: &BoundPlan, map: GroupMap) -> Result<Run, AllocError>
         requires { ArePrintable bound.now (listed map) }
@@ -50,10 +44,39 @@ impl Run {
     {
         let groups = map.into_groups();
         let refs = in_order(alloc, &groups, bound.group_count)?;
-        let mut run = Run::new(alloc);
-        run.ends.reserve(refs.len())?;
-        run.push_all(bound, &groups, &refs)?;
-        Ok(run)
+        Run::of_groups(alloc, bound, &groups, &refs)
+    }
+
+    /// The lines of groups, in this order.
+    fn of_groups(
+        alloc: Global,
+        bound: &BoundPlan,
+        groups: &Groups,
+        refs: &[GroupRef<'_>],
+    ) -> Result<Run, AllocError>
+        requires small { All (λ group. All IsSmallSlot group.state.slots) groups.now }
+        requires within { All (λ group. group.at < length groups.now) refs.now }
+        requires short { All (λ group. length group.key.now ≤ longest_key) refs.now }
+        ensures { IfOk result (λ run. run ≡ map_list (entry_of bound.now) (map_list (group_of groups.now) refs.now)) }
+    {
+        let mut bytes = Vec::new(alloc);
+        let mut ends = Vec::with_capacity(alloc, refs.len())?;
+        let lent = groups.lent();
+        let mut state = empty();
+        for group in refs {
+            lent.read_state(group.at, &mut state, bound.items().len() as u32);
+            push_entry(&mut bytes, bound, group.key, &state)?;
+            ends.push(bytes.len())?;
+        }
+        Ok(Run::of(bytes, ends))
+    }
+
+    /// The lines that these bytes are, each of which ends at one of these places.
+    fn of(bytes: Vec<u8>, ends: Vec<usize>) -> Run
+        requires { Covers ends.items (length bytes.items) }
+        ensures { result ≡ map_list entry_in (cut_from 0 ends.items bytes.items) }
+    {
+        Run { bytes, ends }
     }
 
     /// The number of lines.
@@ -63,71 +86,81 @@ impl Run {
         self.ends.len()
     }
 
-    /// The key of the line at a place.
+    /// The key of the line at a place, and no bytes if there is no line.
     pub(crate) fn key(&self, at: usize) -> &[u8]
-        requires { at < length self.now }
-        ensures { slice_get (map_list (λ entry. entry.0) self.now) at ≡ Some result.now }
+        ensures { result.now ≡ (get_or self.now at no_entry).0 }
     {
         let (key, _line) = self.split(at);
         key
     }
 
-    /// The line at a place.
+    /// The line at a place, and no bytes if there is none.
     pub(crate) fn line(&self, at: usize) -> &[u8]
-        requires { at < length self.now }
-        ensures { slice_get (map_list (λ entry. entry.1) self.now) at ≡ Some result.now }
+        ensures { result.now ≡ (get_or self.now at no_entry).1 }
     {
         let (_key, line) = self.split(at);
         line
     }
 
-    /// The bytes from one line on to another, with their keys.
-    pub(crate) fn bytes_between(&self, from: usize, to: usize) -> usize
-        requires { (from ≤ length self.now) × (to ≤ length self.now) }
+    /// The key and the line at a place.
+    fn split(&self, at: usize) -> (&[u8], &[u8])
+        ensures key { result.0.now ≡ (get_or self.now at no_entry).0 }
+        ensures line { result.1.now ≡ (get_or self.now at no_entry).1 }
     {
+        if at >= self.len() {
+            return (&[], &[]);
+        }
+        let (start, end) = span(&self.ends, at);
+        split_entry(&self.bytes.as_slice()[start..end])
+    }
+
+    /// About how many bytes the lines from one place on to another have, with their keys. It only says how much memory to take.
+    pub(crate) fn bytes_between(&self, from: usize, to: usize) -> usize {
         self.start(to).saturating_sub(self.start(from))
     }
 
-    /// The key and the line at a place.
-    fn split(&self, at: usize) -> (&[u8], &[u8])
-        requires { at < length self.now }
-        ensures { slice_get self.now at ≡ Some (result.0.now, result.1.now) }
-    {
-        let both = &self.bytes[self.start(at)..self.ends[at]];
-        let [size, rest @ ..] = both else {
-            return (&[], &[]);
-        };
-        rest.split_at((*size as usize).min(rest.len()))
-    }
-
-    /// Where the line at a place begins.
-    fn start(&self, at: usize) -> usize
-        requires { at ≤ length self.now }
-    {
-        if at == 0 { 0 } else { self.ends[at - 1] }
-    }
-
-    /// Puts lines of groups after the others, in this order.
-    fn push_all(
-        &mut self,
-        bound: &BoundPlan,
-        groups: &Groups,
-        refs: &[GroupRef<'_>],
-    ) -> Result<(), AllocError>
-        requires small { All (λ group. All IsSmallSlot group.state.slots) groups.now }
-        requires within { All (λ group. group.at < length groups.now) refs.now }
-        requires short { All (λ group. length group.key.now ≤ 248) refs.now }
-        ensures { OnOk result (self.new ≡ self.old ++ map_list (λ ref. entry_of bound.now (group_of groups.now ref)) refs.now) }
-    {
-        let lent = groups.lent();
-        let mut state = empty();
-        for group in refs {
-            lent.read_state(group.at, &mut state, bound.items().len() as u32);
-            self.bytes.push(group.key.len() as u8)?;
-            self.bytes.extend_from_slice(group.key)?;
-            push_line(&mut self.bytes, bound, group.key, &state)?;
-            self.ends.push(self.bytes.len())?;
+    /// Where the line at a place begins, and 0 if there is no such place.
+    fn start(&self, at: usize) -> usize {
+        if at == 0 || at > self.ends.len() {
+            return 0;
         }
-        Ok(())
+        self.ends[at - 1]
     }
+}
+
+/// Where the entry at this place starts and ends.
+fn span(ends: &Vec<usize>, at: usize) -> (usize, usize)
+    requires { at < length ends.now.items }
+    ensures start { result.0 ≡ prev 0 ends.now.items at }
+    ensures end { result.1 ≡ get_or ends.now.items at 0 }
+{
+    let start = if at == 0 { 0 } else { ends[at - 1] };
+    (start, ends[at])
+}
+
+/// The key and the line of an entry.
+fn split_entry(bytes: &[u8]) -> (&[u8], &[u8])
+    ensures key { result.0.now ≡ (entry_in bytes.now).0 }
+    ensures line { result.1.now ≡ (entry_in bytes.now).1 }
+{
+    let [size, rest @ ..] = bytes else {
+        return (&[], &[]);
+    };
+    rest.split_at((*size as usize).min(rest.len()))
+}
+
+/// Puts the entry of a group at the end of others.
+fn push_entry(
+    bytes: &mut Vec<u8>,
+    bound: &BoundPlan,
+    key: &[u8],
+    state: &AggState,
+) -> Result<(), AllocError>
+    requires small { All IsSmallSlot state.now.slots }
+    requires short { length key.now ≤ longest_key }
+    ensures { OnOk result (bytes.new.items ≡ bytes.old.items ++ entry_bytes bound.now key.now state.now) }
+{
+    bytes.push(key.len() as u8)?;
+    bytes.extend_from_slice(key)?;
+    push_line(bytes, bound, key, state)
 }

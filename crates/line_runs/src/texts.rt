@@ -1,17 +1,19 @@
 //! The text of the table, range by range.
 
-ghost use Rattle.std.specs.Prelude.{◌≡◌, ◌<◌, ◌≤◌, ◌^◌, ◌∷◌, ◌++◌, ◌-◌, [], ℕ, List, All, IfOk, OnOk, drop, get_or, length, map as map_list, take};
+ghost use Rattle.std.specs.Prelude.{◌≡◌, ◌<◌, ◌≤◌, ◌^◌, ◌∷◌, ◌++◌, ◌-◌, [], ℕ, List, All, IfOk, Ok, OnOk, drop, get_or, length, map as map_list, take};
 ghost use Rattle.std.specs.List.{concat};
 ghost use Rattle.par_model.specs.Named.{bound_plan};
 ghost use Rattle.par_model.specs.Outcome.{IsAnswer};
 ghost use Rattle.partial_agg.specs.Listed.{listed};
 ghost use Rattle.result_text.specs.Pieces.{joined};
-ghost use Rattle.result_text.specs.Printable.{ArePrintable, IsBoundFrom, IsKeyOf};
+ghost use Rattle.result_text.specs.Printable.{ArePrintable, IsBoundFrom};
 ghost use Rattle.row_blocks.specs.Blocks.{Table};
 ghost use Rattle.part_run.specs.Parted.{AreParted};
-ghost use Rattle.line_runs.specs.Order.{IsThere, entry_at};
-ghost use Rattle.line_runs.specs.Ranges.{AreOrdered, IsRangeText, count_of};
-ghost use Rattle.line_runs.specs.Runs.{AreRunsOf, IsMade, Rise};
+ghost use Rattle.line_runs.specs.Entries.{Entry};
+ghost use Rattle.line_runs.specs.Jobs.{AreDone, IsDone};
+ghost use Rattle.line_runs.specs.Order.{entry_at};
+ghost use Rattle.line_runs.specs.Ranges.{AreOrdered, AreRangeTexts, IsRangeText, count_of, entries_of};
+ghost use Rattle.line_runs.specs.Runs.{AreRunsOf, Rise};
 
 use crate::order::{LineRef, sort_lines};
 use crate::ranges::Ranges;
@@ -23,6 +25,13 @@ use result_text::{Part, behind, header_text};
 use std::alloc::{AllocError, Global};
 use std::mem;
 use std::thread::{Threads, for_each_mut};
+
+/// Lines of a range, and about how many bytes they have.
+#[derive(Drop)]
+struct Found {
+    lines: Vec<LineRef>,
+    bytes: usize,
+}
 
 /// How many ranges there are for each thread.
 const RANGES: usize = 4;
@@ -45,7 +54,7 @@ pub fn table_of_parts<R: Threads + Sync>(
     threads: usize,
 ) -> Result<Vec<Vec<u8>>, AllocError>
     requires some { 0 < threads }
-    requires columns { 0 < bound.now.group_count }
+    requires columns { 0 < length bound.now.groups }
     requires bound { IsBoundFrom plan.now.plan bound.now }
     requires rows { (width : ℕ) × (rows : Table) × (length rows ≤ 2 ^ 50) × AreParted bound.now width rows maps.items }
     ensures { IfOk result (λ pieces. (header : List (List ℕ)) (width : ℕ) (rows : Table) → bound.now ≡ bound_plan header plan.now.plan → length rows ≤ 2 ^ 50 → AreParted bound.now width rows maps.items
@@ -55,13 +64,7 @@ pub fn table_of_parts<R: Threads + Sync>(
     let count = threads.saturating_mul(RANGES);
     let ranges = Ranges::new(alloc, &runs, bound.group_count, count)?;
     let header = header_text(alloc, plan, bound)?;
-    let mut texts = no_texts(alloc, ranges.count())?;
-    for_each_mut(
-        rt,
-        texts.as_mut_slice(),
-        threads,
-        &|range, text| { *text = range_text(alloc, bound, &runs, &ranges, range) },
-    );
+    let texts = range_texts(rt, alloc, bound, &runs, &ranges, threads)?;
     behind(alloc, header, texts)
 }
 
@@ -77,6 +80,15 @@ fn runs_of<R: Threads + Sync>(
     requires printable { All (λ groups. ArePrintable bound.now (listed groups)) maps.items }
     ensures { IfOk result (λ runs. AreRunsOf bound.now maps.items runs.items) }
 {
+    let mut jobs = jobs_of(alloc, maps)?;
+    make_runs(rt, alloc, bound, &mut jobs, threads);
+    take_runs(alloc, jobs)
+}
+
+/// A job for each map.
+fn jobs_of(alloc: Global, maps: Vec<GroupMap>) -> Result<Vec<Job>, AllocError>
+    ensures { IfOk result (λ jobs. map_list (λ job. job.map) jobs.items ≡ maps.items) }
+{
     let mut jobs = Vec::with_capacity(alloc, maps.len())?;
     for map in maps {
         jobs.push(Job {
@@ -84,12 +96,42 @@ fn runs_of<R: Threads + Sync>(
             run: Err(AllocError),
         })?;
     }
+    Ok(jobs)
+}
+
+/// Makes the lines of each map, which is empty afterwards.
+fn make_runs<R: Threads + Sync>(
+    rt: &R,
+    alloc: Global,
+    bound: &BoundPlan,
+    jobs: &mut Vec<Job>,
+    threads: usize,
+)
+    requires some { 0 < threads }
+    requires printable { All (λ job. ArePrintable bound.now (listed job.map)) jobs.old.items }
+    ensures { AreDone bound.now jobs.old.items jobs.new.items }
+{
     for_each_mut(
         rt,
         jobs.as_mut_slice(),
         threads,
         &|_, job| { make_run(alloc, bound, job) },
     );
+}
+
+/// Makes the lines of a map, which is empty afterwards.
+fn make_run(alloc: Global, bound: &BoundPlan, job: &mut Job)
+    requires { ArePrintable bound.now (listed job.old.map) }
+    ensures { IsDone bound.now job.old job.new }
+{
+    let map = mem::replace(&mut job.map, GroupMap::new(alloc));
+    job.run = Run::of_map(alloc, bound, map);
+}
+
+/// The runs that were made, if there was memory for all of them.
+fn take_runs(alloc: Global, jobs: Vec<Job>) -> Result<Vec<Run>, AllocError>
+    ensures { IfOk result (λ runs. map_list Ok runs.items ≡ map_list (λ job. job.run) jobs.items) }
+{
     let mut runs = Vec::with_capacity(alloc, jobs.len())?;
     for job in jobs {
         runs.push(job.run?)?;
@@ -97,13 +139,30 @@ fn runs_of<R: Threads + Sync>(
     Ok(runs)
 }
 
-/// Makes the lines of a map, which is empty afterwards.
-fn make_run(alloc: Global, bound: &BoundPlan, job: &mut Job)
-    requires { ArePrintable bound.now (listed job.old.map) }
-    ensures { IsMade bound.now job.old.map job.new.run }
+/// The texts of all ranges.
+fn range_texts<R: Threads + Sync>(
+    rt: &R,
+    alloc: Global,
+    bound: &BoundPlan,
+    runs: &[Run],
+    ranges: &Ranges<'_>,
+    threads: usize,
+) -> Result<Vec<Part>, AllocError>
+    requires some { 0 < threads }
+    requires ordered { AreOrdered ranges.now }
+    requires columns { ranges.now.columns ≡ length bound.now.groups }
+    requires some_columns { 0 < ranges.now.columns }
+    requires rise { All (Rise ranges.now.columns) runs.now }
+    ensures { IfOk result (λ texts. AreRangeTexts ranges.now runs.now (count_of ranges.now) texts.items) }
 {
-    let map = mem::replace(&mut job.map, GroupMap::new(alloc));
-    job.run = Run::of_map(alloc, bound, map);
+    let mut texts = no_texts(alloc, ranges.count())?;
+    for_each_mut(
+        rt,
+        texts.as_mut_slice(),
+        threads,
+        &|range, text| { *text = range_text(alloc, runs, ranges, range) },
+    );
+    Ok(texts)
 }
 
 /// So many texts of no bytes.
@@ -118,19 +177,34 @@ fn no_texts(alloc: Global, count: usize) -> Result<Vec<Part>, AllocError>
 }
 
 /// The lines of a range of all runs, in order.
-fn range_text(
+fn range_text(alloc: Global, runs: &[Run], ranges: &Ranges<'_>, range: usize) -> Part
+    requires ordered { AreOrdered ranges.now }
+    requires range { range < count_of ranges.now }
+    requires some_columns { 0 < ranges.now.columns }
+    requires rise { All (Rise ranges.now.columns) runs.now }
+    ensures { IfOk result (λ text. IsRangeText ranges.now runs.now range text.items) }
+{
+    let mut found = lines_in(alloc, runs, ranges, range)?;
+    sort_lines(
+        found.lines.as_mut_slice(),
+        runs,
+        &ranges.shared(range),
+        ranges.columns(),
+    );
+    text_of(alloc, runs, found.lines.as_slice(), found.bytes)
+}
+
+/// The lines of a range of all runs, run by run.
+fn lines_in(
     alloc: Global,
-    bound: &BoundPlan,
     runs: &[Run],
     ranges: &Ranges<'_>,
     range: usize,
-) -> Part
+) -> Result<Found, AllocError>
     requires ordered { AreOrdered ranges.now }
     requires range { range < count_of ranges.now }
-    requires columns { ranges.now.columns ≡ bound.now.group_count }
-    requires rise { All (Rise bound.now.group_count) runs.now }
-    requires keys { All (λ run. All (λ entry. IsKeyOf bound.now.group_count entry.0) run) runs.now }
-    ensures { IfOk result (λ text. IsRangeText ranges.now runs.now range text.items) }
+    requires rise { All (Rise ranges.now.columns) runs.now }
+    ensures { IfOk result (λ found. map_list (entry_at runs.now) found.lines.items ≡ entries_of ranges.now runs.now range) }
 {
     let mut lines = Vec::new(alloc);
     let mut bytes = 0usize;
@@ -141,14 +215,13 @@ fn range_text(
         bytes = bytes.saturating_add(run.bytes_between(from, to));
         add_lines(&mut lines, at, from, to)?;
     }
-    sort_lines(&mut lines, runs, &ranges.shared(range), bound.group_count);
-    text_of(alloc, runs, &lines, bytes)
+    Ok(Found { lines, bytes })
 }
 
 /// Adds the lines of a run from one place on to another.
 fn add_lines(lines: &mut Vec<LineRef>, run: usize, from: usize, to: usize) -> Result<(), AllocError>
     requires { from ≤ to }
-    ensures { OnOk result ((runs : _) → run < length runs → map_list (entry_at runs) lines.new.items ≡ map_list (entry_at runs) lines.old.items ++ take (to - from) (drop from (get_or runs run []))) }
+    ensures { OnOk result ((runs : List (List Entry)) → to ≤ length (get_or runs run []) → map_list (entry_at runs) lines.new.items ≡ map_list (entry_at runs) lines.old.items ++ take (to - from) (drop from (get_or runs run []))) }
 {
     lines.reserve(to - from)?;
     for at in from..to {
@@ -159,8 +232,7 @@ fn add_lines(lines: &mut Vec<LineRef>, run: usize, from: usize, to: usize) -> Re
 
 /// Lines one after another, for which so many bytes are enough.
 fn text_of(alloc: Global, runs: &[Run], lines: &[LineRef], bytes: usize) -> Part
-    requires { All (IsThere runs.now) lines.now }
-    ensures { IfOk result (λ text. text.items ≡ concat (map_list (λ ref. (entry_at runs.now ref).1) lines.now)) }
+    ensures { IfOk result (λ text. text.items ≡ concat (map_list (λ entry. entry.1) (map_list (entry_at runs.now) lines.now))) }
 {
     let mut text = Vec::with_capacity(alloc, bytes)?;
     for line in lines {

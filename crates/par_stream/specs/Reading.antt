@@ -1,5 +1,5 @@
 -- What was read of a source, window by window.
-use Rattle.std.specs.Prelude.{◌≡◌, ◌<◌, ◌≤◌, ◌+◌, ◌++◌, ◌^◌, [], ◌∷◌, ℕ, Bool, List, None, Option, Some, All, IfSome, false, length, map, true, ⊤}
+use Rattle.std.specs.Prelude.{◌≡◌, ◌≤◌, ◌+◌, ◌++◌, ◌^◌, [], ◌∷◌, ℕ, Bool, List, None, Option, Some, All, IfSome, false, length, map, true, ⊤}
 use Rattle.std.specs.Io.KnownBytes.{IsAtEnd}
 use Rattle.csv_rows.specs.Cuts.{IsCut}
 use Rattle.csv_rows.specs.Records.{record_at, records_of}
@@ -16,10 +16,7 @@ use Rattle.row_windows.specs.declared.window.WindowAnswer.TheVariants as answer
 use Rattle.gather_law.specs.Shares.{AreShared, together}
 use Rattle.split_run.specs.Pieces.{AreUnder, piece_records, piece_rows, rows_of}
 use Rattle.par_stream.specs.declared.batch.Batch.{Batch}
-use Rattle.part_run.specs.Waiting.{HaveRows, participants}
 use Rattle.par_stream.specs.declared.adding.Added.{Added}
-use Rattle.par_stream.specs.declared.adding.Gathered.{Gathered}
-use Rattle.par_stream.specs.declared.adding.Gathered.TheVariants as gathered
 use Rattle.par_stream.specs.declared.reading.ReadGroups.{ReadGroups}
 use Rattle.par_stream.specs.declared.reading.Stream.{Stream}
 
@@ -123,49 +120,34 @@ pub record IsBound (query : Query) (header : List (List ℕ)) (plan : Plan) : Ty
   pub columns : HasColumns plan (length header)
   pub whole : missing_name header query.plan ≡ None
 
--- what is gathered has these rows, none of which is refused: maps of shares of them, or parts of a plan that groups by columns
-abbrev pub HasGathered : Plan → ℕ → Table → Gathered → Type 0
-HasGathered plan width rows (gathered.Near maps) = AreShared plan width rows maps.items
-HasGathered plan width rows (gathered.Parted parts) = (0 < length plan.groups) × HaveRows plan width rows parts
-
--- it is that of so many participants
-abbrev pub IsBy : ℕ → Gathered → Type 0
-IsBy count (gathered.Near maps) = length maps.items ≡ count
-IsBy count (gathered.Parted parts) = participants parts ≡ count
-
--- what was added is these rows
+-- the maps are those of shares of these rows, none of which is refused
 pub record HasAdded (plan : Plan) (width : ℕ) (rows : Table) (a : Added) : Type 0 where
   pub count : a.count ≡ length rows
-  pub gathered : HasGathered plan width rows a.gathered
+  pub shared : AreShared plan width rows a.maps.items
 
--- if something gathered has some rows, something else has these and the rows of a batch
-abbrev pub TakesBatch : Plan → Batch → Gathered → Gathered → Type 0
-TakesBatch plan b old new = (header : List (List ℕ)) (rows : Table) → AreUnder header b.pieces.items → HasGathered plan (length header) rows old
-    → length rows + length (rows_of b.pieces.items) < 2 ^ 64 → HasGathered plan (length header) (rows ++ rows_of b.pieces.items) new
-
--- the rows of a batch were added, by the same number of participants
+-- the rows of a batch were added to the maps
 pub record AddsBatch (plan : Plan) (b : Batch) (old new : Added) : Type 0 where
   pub rows : (header : List (List ℕ)) (rows : Table) → AreUnder header b.pieces.items → HasAdded plan (length header) rows old → HasAdded plan (length header) (rows ++ rows_of b.pieces.items) new
-  pub many : (count : ℕ) → IsBy count old.gathered → IsBy count new.gathered
+  pub many : length new.maps.items ≡ length old.maps.items
   pub few : new.count ≤ 2 ^ 50
 
--- a stream: its windows begin with its header, and there is a participant for each worker and one more
+-- a stream: its windows begin with its header, and there is a map for each worker and one more
 pub record IsStream (query : Query) (plan : Plan) (s : Stream) : Type 0 where
   pub batch : IsHeaded s.header s.batch s.is_last
   pub bound : IsBound query (record_at s.header 0) plan
-  pub many : IsBy (query.workers + 1) s.added.gathered
+  pub maps : length s.added.maps.items ≡ query.workers + 1
   pub few : s.added.count ≤ 2 ^ 50
 
--- it has added these rows, which were read of a source after the header; those of its batch come next
+-- its maps have these rows, which were read of a source after the header; those of its batch come next
 pub record HasRows (plan : Plan) (from left : Option (List ℕ)) (s : Stream) (rows : Table) : Type 0 where
   pub added : HasAdded plan (length (record_at s.header 0)) rows s.added
   pub reaches : Reaches from left (record_at s.header 0 ∷ (rows ++ rows_of s.batch.pieces.items)) s.batch.next.rest s.is_last
 
--- what is gathered has all rows of a source, of which none is refused
+-- maps are those of shares of all rows of a source, of which none is refused
 pub record AreGroupsOver (query : Query) (from : Option (List ℕ)) (r : ReadGroups) : Type 0 where
   pub header : List (List ℕ)
   pub rows : Table
   pub bound : IsBound query header r.bound
-  pub gathered : HasGathered r.bound (length header) rows r.gathered
+  pub shared : AreShared r.bound (length header) rows r.maps.items
   pub few : length rows ≤ 2 ^ 50
   pub all : HasAll from (header ∷ rows)

@@ -1,28 +1,19 @@
 //! The writing of a table.
 
-ghost use Rattle.std.specs.Prelude.{◌≡◌, ◌≢◌, ◌≤◌, ◌^◌, ◌∷◌, ◌⊎◌, ℕ, List, Option, IfErr, IfOk, IfSome, OnOk, Some, take};
+ghost use Rattle.std.specs.Prelude.{◌≡◌, ◌≢◌, ◌⊎◌, ℕ, List, Option, IfErr, IfSome, OnOk, Some, take};
 ghost use Rattle.std.specs.Io.KnownBytes.{Appends};
 ghost use Rattle.par_io.specs.Faults.{Rose};
 ghost use Rattle.par_stream.specs.Answers.{IsTableText};
-ghost use Rattle.par_model.specs.Named.{bound_plan};
-ghost use Rattle.par_model.specs.Outcome.{IsAnswer};
-ghost use Rattle.result_text.specs.Pieces.{joined};
-ghost use Rattle.result_text.specs.Printable.{IsBoundFrom};
-ghost use Rattle.row_blocks.specs.Blocks.{Table};
-ghost use Rattle.par_stream.specs.Reading.{AreGroupsOver, HasGathered};
+ghost use Rattle.par_stream.specs.Reading.{AreGroupsOver};
 ghost use Rattle.par_stream.specs.declared.stop.Stop.TheVariants as stop;
 
-use crate::adding::{Gathered, all_groups};
 use crate::reading::ReadGroups;
 use crate::stop::Stop;
 use answer_text::write_each;
-use line_runs::table_of_parts;
 use par_io::Sink;
-use par_model::BoundPlan;
-use part_run::Parts;
 use plan_spec::Plan;
 use split_run::{FEWEST_GROUPS, table_text};
-use std::alloc::{AllocError, Global};
+use std::alloc::Global;
 use std::thread::Threads;
 
 /// Makes the text of the table of these groups in pieces, and writes them one behind the other.
@@ -42,33 +33,8 @@ pub(crate) fn write_table<R: Threads + Sync, O: Sink>(
     ensures write_fault { IfErr result (λ why. why ≡ stop.WriteFault → Rose (O.faults out.old) (O.faults out.new)) }
     ensures why { IfErr result (λ why. (why ≡ stop.WriteFault) ⊎ (why ≡ stop.Memory)) }
 {
-    let ReadGroups { bound, gathered } = read;
-    let pieces = text_of(rt, alloc, plan, &bound, gathered)?;
+    let ReadGroups { bound, maps } = read;
+    let pieces = table_text(rt, alloc, plan, &bound, maps, FEWEST_GROUPS)?;
     write_each(out, &pieces)?;
     Ok(())
-}
-
-/// The text of the table in pieces.
-fn text_of<R: Threads + Sync>(
-    rt: &R,
-    alloc: Global,
-    plan: &Plan,
-    bound: &BoundPlan,
-    gathered: Gathered,
-) -> Result<Vec<Vec<u8>>, AllocError>
-    requires bound { IsBoundFrom plan.now.plan bound.now }
-    requires rows { (width : ℕ) × (rows : Table) × (length rows ≤ 2 ^ 50) × HasGathered bound.now width rows gathered }
-    ensures { IfOk result (λ pieces. (header : List (List ℕ)) (width : ℕ) (rows : Table) → bound.now ≡ bound_plan header plan.now.plan → length rows ≤ 2 ^ 50 → HasGathered bound.now width rows gathered
-        → IsAnswer plan.now.plan (header ∷ rows) (joined pieces.items)) }
-{
-    let parts = match gathered {
-        Gathered::Near(maps) if bound.group_count == 0 || all_groups(&maps) < FEWEST_GROUPS => {
-            return table_text(rt, alloc, plan, bound, maps, FEWEST_GROUPS);
-        }
-        Gathered::Near(maps) => Parts::begin(rt, alloc, maps)?,
-        Gathered::Parted(parts) => parts,
-    };
-    let threads = plan.workers() as usize + 1;
-    let maps = parts.finish(rt, alloc)?;
-    table_of_parts(rt, alloc, plan, bound, maps, threads)
 }

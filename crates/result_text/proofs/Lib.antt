@@ -1,14 +1,14 @@
-mod Answering
+pub mod Answering
 pub mod Columns
 mod Even
-mod Fronts
-mod KeyColumns
-mod LineTexts
+pub mod Fronts
+pub mod KeyColumns
+pub mod LineTexts
 mod Numbers
 pub mod Occurring
-mod Small
-mod Sorting
-mod Tables
+pub mod Small
+pub mod Sorting
+pub mod Tables
 pub mod Uses
 mod Whole
 mod Zipped

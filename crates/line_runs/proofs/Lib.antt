@@ -1,0 +1,11 @@
+mod Numbers
+mod Whole
+mod Sorting
+mod Rising
+mod Cuts
+mod Stretches
+mod Places
+mod Entries
+mod Groups
+mod Lines
+mod Answering
