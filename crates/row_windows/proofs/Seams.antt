@@ -47,7 +47,7 @@ all-return s fields field (c ∷ a) b h q =
       | inr e ↦ rw e (all-return (step default_config s c).0 (fields_after (step default_config s c).1 fields field) (field_after (step default_config s c).1 c field) a b (steps.1 e) q)
     ]
 
-strip-return : (a b : List ℕ) → strip_bom (a ++ (13 ∷ b)) ≡ strip_bom a ++ (13 ∷ b)
+pub strip-return : (a b : List ℕ) → strip_bom (a ++ (13 ∷ b)) ≡ strip_bom a ++ (13 ∷ b)
 unfolding strip_bom
 strip-return [] [] = refl
 strip-return [] (x ∷ []) = refl
@@ -66,7 +66,7 @@ records-return a b cut =
     rw (whole, front, back, strip-return a b, strip-return [] b) (all-return st.StartRecord [] [] (strip_bom a) b (refl, refl) cut)
 
 -- the end of a line is a line feed or a carriage return
-not-feed : (c : ℕ) → (c == 10) ≡ false → is_line_end c ≡ true → c ≡ 13
+pub not-feed : (c : ℕ) → (c == 10) ≡ false → is_line_end c ≡ true → c ≡ 13
 not-feed c apart h = eqb-true c 13 (rw apart at h)
 
 pub records_add_up : RecordsAddUp

@@ -189,6 +189,27 @@ impl Window {
         self.filled - self.header
     }
 
+    /// The line of the header.
+    pub fn header(&self) -> &[u8]
+        ensures { result.now ≡ self.now.header }
+    {
+        &self.text.as_slice()[..self.header]
+    }
+
+    /// The whole lines behind it.
+    pub fn lines(&self) -> &[u8]
+        ensures { result.now ≡ self.now.lines }
+    {
+        &self.text.as_slice()[self.header..self.end]
+    }
+
+    /// What was read behind these.
+    pub fn rest(&self) -> &[u8]
+        ensures { result.now ≡ self.now.rest }
+    {
+        &self.text.as_slice()[self.end..self.filled]
+    }
+
     /// The header and the whole lines behind it: a table.
     pub fn table(&self) -> &[u8]
         ensures { result.now ≡ self.now.header ++ self.now.lines }
