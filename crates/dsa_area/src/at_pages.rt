@@ -75,10 +75,7 @@ pub(crate) fn look_at_pages<R: Wait>(rt: &R, area: &Area, r: &Region, pass: &mut
     ensures caller { number_of pass.new ≡ number_of pass.old }
     ensures shown { PageEvents area.now pass.old pass.new ((Look, Shows result.used result.largest) ∷ []) }
 {
-    match area
-        .pages
-        .call(rt, r, &mut pass.pages, 0, PagesAsk::LookAt)
-    {
+    match area.pages.call(rt, r, &mut pass.pages, 0, PagesAsk::LookAt) {
         PagesAnswer::Seen(usage) => usage,
         _ => unreachable!(),
     }

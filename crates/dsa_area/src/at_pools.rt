@@ -210,13 +210,10 @@ pub(crate) fn trim_pool<R: Wait>(
     ensures run { IfSome result (λ run. IsSuperblock r.now (pool_name r.now area.now class).layout run.at run.pages run.words run.control) }
     ensures kept { IfNone result (PoolEvents area.now pass.old pass.new class ((Trim, Kept) ∷ [])) }
 {
-    match area.pools.call(
-        rt,
-        r,
-        &mut pass.pools,
-        place_of(class),
-        PoolAsk::TrimPool,
-    ) {
+    match area
+        .pools
+        .call(rt, r, &mut pass.pools, place_of(class), PoolAsk::TrimPool)
+    {
         PoolAnswer::Emptied(run) => Some(run),
         PoolAnswer::Untouched => None,
         _ => unreachable!(),

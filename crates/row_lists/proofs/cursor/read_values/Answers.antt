@@ -14,14 +14,16 @@ loop-at-preserved c = λ written more h len e.
     let lt : at < length written = omega (arith, len, c.loop-at-test.true) in
     let value = get_or written at None in
     let rest = values_bytes (last_of c.loop-at.last value) (drop (at + 1) written) ++ more in
-    let read = c.read_value.ensures value rest (each_value written at h lt) (found.1 ∙ next_bytes c.loop-at.last written at more lt) in
-    (take_more_set c.loop-at.values at c.read_value.result.0 (omega (arith, c.loop-at-test.true)) ∙ (λ i. found.0 i ++ read.0 i ∷ []) ∙ sym (take_more written at None lt),
-     read.1 ∙ ap (λ (last : ℤ). values_bytes last (drop (at + 1) written) ++ more) (sym read.2))
+    let read = c.read_value.ensures value rest (each_value written at h lt) (found.1 ∙ next_bytes c.loop-at.last written at more lt) in (
+      take_more_set c.loop-at.values at c.read_value.result.0 (omega (arith, c.loop-at-test.true)) ∙ (λ i. found.0 i ++ read.0 i ∷ []) ∙ sym (take_more written at None lt),
+      read.1 ∙ ap (λ (last : ℤ). values_bytes last (drop (at + 1) written) ++ more) (sym read.2),
+    )
 
 pub returns-clause-written : goal.returns-clause-written
 unfolding values_bytes
 returns-clause-written c = λ written more h len e.
     let at = c.loop-at.at in
-    let found = c.loop-at.invariant written more h len e in
-    (sym (take_all at c.loop-at.values (omega (arith, c.loop-at-test.false))) ∙ found.0 ∙ take_all at written (omega (arith, len, c.loop-at-test.false)),
-     found.1 ∙ ap (λ (vs : List (Option ℤ)). values_bytes c.loop-at.last vs ++ more) (drop_all at written (omega (arith, len, c.loop-at-test.false))))
+    let found = c.loop-at.invariant written more h len e in (
+      sym (take_all at c.loop-at.values (omega (arith, c.loop-at-test.false))) ∙ found.0 ∙ take_all at written (omega (arith, len, c.loop-at-test.false)),
+      found.1 ∙ ap (λ (vs : List (Option ℤ)). values_bytes c.loop-at.last vs ++ more) (drop_all at written (omega (arith, len, c.loop-at-test.false))),
+    )

@@ -20,8 +20,8 @@ returns-clause-ok c =
     let told : slots_in layout.parts (take layout.width theirs) ≡ slots = ap (slots_in layout.parts) (take_all layout.width theirs (omega (arith, long))) ∙ fits in
     let all_rows : c.push_reserved.new.self.items ≡ rows ++ 1 ∷ [] = c.push_reserved.ensures.items ∙ ap (λ (rs : List ℕ). rs ++ 1 ∷ []) c.reserve.ensures.items in
     let all_lanes : c.push_lanes.new.lanes.items ≡ lanes ++ theirs = c.in_ok-push_lanes.ensures.ok
-        ∙ ap (λ (kept : List ℕ). lanes ++ map (λ (at : ℕ). slot_of_value (get_or values at None)) kept) c.kept.ensures.kept
-        ∙ ap (λ (ls : List SlotState). lanes ++ ls) (slots_of_values (take layout.width layout.kept) values (8 - length values)) in
+    ∙ ap (λ (kept : List ℕ). lanes ++ map (λ (at : ℕ). slot_of_value (get_or values at None)) kept) c.kept.ensures.kept
+    ∙ ap (λ (ls : List SlotState). lanes ++ ls) (slots_of_values (take layout.width layout.kept) values (8 - length values)) in
     (λ i. states_in layout (all_rows i) (all_lanes i))
     ∙ push-states_in layout rows lanes theirs 1 c.self.invariant.whole
     ∙ (λ i. c.self.view_is i ++ record { rows = 1; slots = told i } ∷ [])
