@@ -131,20 +131,20 @@ at_most {X = X} p (x ∷ xs) (suc n) high = by (p x) (at_most p xs n (λ k d fro
 module _ (r : Ranges) (ordered : AreOrdered r) (key : List ℕ) where
   -- if the key of the sample at a place comes before this one, so do those in front of it
   count_above : (i : ℕ) (d : _) → i < length r.sample.items → is_before r.columns (slice_index_or r.sample.items i d).now key ≡ true → suc i ≤ count_before r key
-  count_above i d lt yes =
+  count_above i d lt comes =
       at_least (λ other. is_before r.columns other.now key) r.sample.items (suc i) (omega (arith, lt)) (λ k e le.
-      ordered_parts r key ordered k i e (omega (arith, le)) lt (ap (λ other. is_before r.columns other.now key) (same_within r.sample.items i e d lt) ∙ yes))
+      ordered_parts r key ordered k i e (omega (arith, le)) lt (ap (λ other. is_before r.columns other.now key) (same_within r.sample.items i e d lt) ∙ comes))
 
   -- and if it does not, neither do those after it
   count_below : (i : ℕ) (d : _) → i < length r.sample.items → is_before r.columns (slice_index_or r.sample.items i d).now key ≡ false → count_before r key ≤ i
-  count_below i d lt no =
+  count_below i d lt not_so =
       at_most (λ other. is_before r.columns other.now key) r.sample.items i (λ k e from less. by k e from less (is_before r.columns (slice_index_or r.sample.items k e).now key) refl)
     where
       by : (k : ℕ) (e : _) → i ≤ k → k < length r.sample.items → (b : Bool) → is_before r.columns (slice_index_or r.sample.items k e).now key ≡ b → is_before r.columns (slice_index_or r.sample.items k e).now key ≡ false
       by k e from less false is = is
       by k e from less true is =
           let first = ordered_parts r key ordered i k e from less is in
-          let other : true ≡ false = sym first ∙ ap (λ other. is_before r.columns other.now key) (same_within r.sample.items i e d lt) ∙ no in
+          let other : true ≡ false = sym first ∙ ap (λ other. is_before r.columns other.now key) (same_within r.sample.items i e d lt) ∙ not_so in
           absurd (cc)
 
   pub sample_decides : (range : ℕ) (d : _) → 0 < range → range < count_of r
@@ -152,8 +152,8 @@ module _ (r : Ranges) (ordered : AreOrdered r) (key : List ℕ) where
       × (is_before r.columns (slice_index_or r.sample.items (range * SAMPLE - 1) d).now key ≡ false → range_of r key < range)
   sample_decides range d some within =
       let lt : range * SAMPLE - 1 < length r.sample.items = omega (arith, some, within) in (
-        λ yes. omega (arith, some, count_above (range * SAMPLE - 1) d lt yes),
-        λ no. omega (arith, some, count_below (range * SAMPLE - 1) d lt no),
+        λ comes. omega (arith, some, count_above (range * SAMPLE - 1) d lt comes),
+        λ not_so. omega (arith, some, count_below (range * SAMPLE - 1) d lt not_so),
       )
 
 -- the place after that key of the sample is where the run is cut
@@ -169,8 +169,8 @@ cut_of_place r range run before place ordered some within is at = record {
     decides key =
         let both = sample_decides r ordered key range before some within in
         let e = is before in (
-          λ yes. both.0 (ap (λ other. is_before r.columns other.now key) (sym e) ∙ yes),
-          λ no. both.1 (ap (λ other. is_before r.columns other.now key) (sym e) ∙ no),
+          λ comes. both.0 (ap (λ other. is_before r.columns other.now key) (sym e) ∙ comes),
+          λ not_so. both.1 (ap (λ other. is_before r.columns other.now key) (sym e) ∙ not_so),
         )
 
     below : (k : ℕ) (d : Entry) → k < place → range_of r (get_or (take place run) k d).0 < range
@@ -201,19 +201,19 @@ module _ (count : ℕ) (run : List Entry) (key : List ℕ) (rises : Rise count r
 
   -- after a key that comes after this one come only such keys
   pub after_from : (m k : ℕ) → m ≤ k → k < length run → is_before count key (get_or run m no_entry).0 ≡ true → is_before count key (get_or run k no_entry).0 ≡ true
-  after_from m k le lt yes = by (cases_lt m k)
+  after_from m k le lt comes = by (cases_lt m k)
     where
       by : (m < k) ⊎ (k ≤ m) → is_before count key (get_or run k no_entry).0 ≡ true
-      by (inl less) = ap is_lt (columns_total.trans (columns_in count key) (columns_in count (get_or run m no_entry).0) (columns_in count (get_or run k no_entry).0) (less_of _ yes) (run_rises m k less lt))
-      by (inr same) = subst (λ (n : ℕ). is_before count key (get_or run n no_entry).0 ≡ true) (let e : m ≡ k = omega (arith, le, same) in e) yes
+      by (inl less) = ap is_lt (columns_total.trans (columns_in count key) (columns_in count (get_or run m no_entry).0) (columns_in count (get_or run k no_entry).0) (less_of _ comes) (run_rises m k less lt))
+      by (inr same) = subst (λ (n : ℕ). is_before count key (get_or run n no_entry).0 ≡ true) (let e : m ≡ k = omega (arith, le, same) in e) comes
 
   -- and before a key that does not come after it come only such
   pub none_until : (m k : ℕ) → k ≤ m → m < length run → is_before count key (get_or run m no_entry).0 ≡ false → is_before count key (get_or run k no_entry).0 ≡ false
-  none_until m k le lt no = by (is_before count key (get_or run k no_entry).0) refl
+  none_until m k le lt not_so = by (is_before count key (get_or run k no_entry).0) refl
     where
       by : (b : Bool) → is_before count key (get_or run k no_entry).0 ≡ b → is_before count key (get_or run k no_entry).0 ≡ false
       by false e = e
-      by true e = let other : true ≡ false = sym (after_from k m le lt e) ∙ no in absurd (cc)
+      by true e = let other : true ≡ false = sym (after_from k m le lt e) ∙ not_so in absurd (cc)
 
 -- two stretches side by side
 pub none_joined : (count : ℕ) (run : List Entry) (key : List ℕ) (a b c : ℕ) → NoneAfter count run key a b → NoneAfter count run key b c → NoneAfter count run key a c

@@ -233,11 +233,11 @@ module _ (plan : Plan) (part_of : List ℕ → ℕ) (rows : Table) where
     in_back (x ∷ xs) ys g has = behind g x (xs ++ ys) (in_back xs ys g has)
 
     in_filter : (xs : List Group) (g : Group) → Contains xs g → of_range g ≡ true → Contains (filter of_range xs) g
-    in_filter xs g has yes = by xs has.0 has.1 has.2
+    in_filter xs g has ranged = by xs has.0 has.1 has.2
       where
         by : (zs : List Group) (k : ℕ) → k < length zs → get_or zs k g ≡ g → Contains (filter of_range zs) g
         by [] k lt is = absurd (omega (arith, lt))
-        by (z ∷ zs) zero lt is = subst (λ (b : Bool). Contains (cond b (z ∷ filter of_range zs) (filter of_range zs)) g) (sym (ap of_range is ∙ yes)) (0, omega arith, is)
+        by (z ∷ zs) zero lt is = subst (λ (b : Bool). Contains (cond b (z ∷ filter of_range zs) (filter of_range zs)) g) (sym (ap of_range is ∙ ranged)) (0, omega arith, is)
         by (z ∷ zs) (suc k) lt is = more (of_range z) (by zs k (omega (arith, lt)) is)
           where
             more : (b : Bool) → Contains (filter of_range zs) g → Contains (cond b (z ∷ filter of_range zs) (filter of_range zs)) g

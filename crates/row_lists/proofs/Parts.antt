@@ -12,7 +12,7 @@ pub part_below : (key : List ℕ) → part_of key < 256
 part_below key = mod-lt (hash key / 2 ^ 56) (omega arith)
 
 no_lists : ArePartLists [] (replicate 256 [])
-no_lists = record { many = length-replicate 256 []; each = λ part lt. get_or-replicate 256 part [] [] lt }
+no_lists = record { many = length-replicate {A = List Carried} 256 []; each = λ part lt. get_or-replicate 256 part [] [] lt }
 
 one_more : (part : ℕ) (rows : List Carried) (row : Carried) → rows_of_part part (rows ++ row ∷ []) ≡ rows_of_part part rows ++ (if part_of row.key == part then row ∷ [] else [])
 one_more part rows row = filter-append (λ (r : Carried). part_of r.key == part) rows (row ∷ [])

@@ -10,9 +10,9 @@ use Rattle.row_lists.proofs.Values.{number_back}
 
 -- a value was read: this one, with this number known after it, and this rest
 pub record IsRead (value found : Option ℤ) (more rest : List ℕ) (last now : ℤ) : Type 0 where
-  pub value : found ≡ value
-  pub more : rest ≡ more
-  pub last : now ≡ last_of last value
+  pub same : found ≡ value
+  pub left : rest ≡ more
+  pub known : now ≡ last_of last value
 
 first_is : {m n : ℕ} {xs ys : List ℕ} → m ∷ xs ≡ n ∷ ys → m ≡ n
 first_is e = ap (λ (bytes : List ℕ). get_or bytes 0 0) e
@@ -21,7 +21,7 @@ rest_is : {m n : ℕ} {xs ys : List ℕ} → m ∷ xs ≡ n ∷ ys → xs ≡ ys
 rest_is e = ap (drop 1) e
 
 pub none_read : (kind : ℕ) (rest : List ℕ) (last : ℤ) (value : Option ℤ) (more : List ℕ) → kind ∷ rest ≡ value_bytes last value ++ more → kind ≡ 0 → IsRead value None more rest last last
-none_read kind rest last None more e k = record { value = refl; more = rest_is e; last = refl }
+none_read kind rest last None more e k = record { same = refl; left = rest_is e; known = refl }
 none_read kind rest last (Some n) more e k = absurd (by (int_eq n last) e)
   where
     by : (b : Bool) → kind ∷ rest ≡ (if b then SAME ∷ [] else NEW ∷ number_bytes n) ++ more → ⊥
@@ -33,7 +33,7 @@ same_read kind rest last None more e k = absurd (omega (arith, k, first_is e))
 same_read kind rest last (Some n) more e k = by (int_eq n last) (Decides-int_eq n last).0 e
   where
     by : (b : Bool) → (b ≡ true → n ≡ last) → kind ∷ rest ≡ (if b then SAME ∷ [] else NEW ∷ number_bytes n) ++ more → IsRead (Some n) (Some last) more rest last last
-    by true same e = record { value = ap Some (sym (same refl)); more = rest_is e; last = sym (same refl) }
+    by true same e = record { same = ap Some (sym (same refl)); left = rest_is e; known = sym (same refl) }
     by false same e = absurd (omega (arith, k, first_is e))
 
 pub new_read : (kind : ℕ) (rest : List ℕ) (last : ℤ) (value : Option ℤ) (more : List ℕ) → IsValue value → kind ∷ rest ≡ value_bytes last value ++ more → (kind ≡ 0 → ⊥) → (kind ≡ 1 → ⊥)
@@ -45,9 +45,9 @@ new_read kind rest last (Some n) more h e a b = by (int_eq n last) e
     by true e = absurd (b (first_is e))
     by false e =
         let tail : rest ≡ number_bytes n ++ more = rest_is e in
-        let long : length rest ≡ 8 + length more = ap length tail in
+        let long : 8 ≤ length rest = omega (arith, ap length tail) in
         let number : number_in rest ≡ n = ap number_in tail ∙ number_back n more h in
-        (omega (arith, long), record { value = ap Some number; more = ap (drop 8) tail; last = number })
+        (long, record { same = ap Some number; left = ap (drop 8) tail; known = number })
 
 -- bytes that a value begins are not none
 pub some_byte : (last : ℤ) (value : Option ℤ) (more : List ℕ) → [] ≡ value_bytes last value ++ more → ⊥

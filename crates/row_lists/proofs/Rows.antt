@@ -40,7 +40,6 @@ row_back most row more h = ap (rows_from (suc most)) (split row more) ∙ togeth
     left = ap (λ (n : ℕ). after_values n (drop (size + 1) rest)) count ∙ ap (after_values (length row.values)) after ∙ after_back (pos 0) row.values more
 
     together : rows_from (suc most) (size ∷ rest) ≡ row ∷ rows_from most more
-    unfolding rows_from
     together = λ i. carried (key i) (read i) ∷ rows_from most (left i)
 
 pub rows_back : (rows : List Carried) (most : ℕ) → AllByRecursion IsCarried rows → length rows ≤ most → rows_from most (flat_map row_bytes rows) ≡ rows

@@ -25,7 +25,6 @@ value_back count last None more h = refl
 value_back count last (Some n) more h = by (int_eq n last) (Decides-int_eq n last).0
   where
     by : (b : Bool) → (b ≡ true → n ≡ last) → values_in (suc count) last ((if b then SAME ∷ [] else NEW ∷ number_bytes n) ++ more) ≡ Some n ∷ values_in count n more
-    unfolding values_in
     by true e = ap (λ (k : ℤ). Some k ∷ values_in count k more) (sym (e refl))
     by false e = ap (λ (k : ℤ). Some k ∷ values_in count k more) (number_back n more h)
 
@@ -35,7 +34,6 @@ value_after count last None more = refl
 value_after count last (Some n) more = by (int_eq n last)
   where
     by : (b : Bool) → after_values (suc count) ((if b then SAME ∷ [] else NEW ∷ number_bytes n) ++ more) ≡ after_values count more
-    unfolding after_values
     by true = refl
     by false = refl
 

@@ -2,7 +2,7 @@ use Rattle.std.proofs.Common.{◌≡◌, ◌∙◌, ℕ, All, List, ap, arith, l
 use Rattle.std.proofs.lemmas.Result.{IfOk-weaker}
 use Rattle.par_model.specs.Plan.{Plan}
 use Rattle.row_lists.proofs.Parts.{part_below}
-use Rattle.part_run.proofs.Laws.{parts_share}
+use Rattle.part_run.proofs.Grown.{parts_share}
 use Rattle.line_runs.specs.Entries.{Entry}
 use Rattle.line_runs.specs.Ranges.{AreRangeTexts, count_of}
 use Rattle.line_runs.specs.Runs.{Rise}
