@@ -1,5 +1,5 @@
 -- Lists of rows by the parts of their keys.
-use Rattle.std.proofs.Common.{◌≡◌, ◌≢◌, ◌<◌, ◌/◌, ◌^◌, ◌==◌, ◌++◌, ◌∙◌, ◌∷◌, [], ℕ, List, Bool, true, false, ap, append-nil, append_assoc, arith, get_or, if◌then◌else◌, length, length-set, refl, replicate, set, subst, sym}
+use Rattle.std.proofs.Common.{◌≡◌, ◌<◌, ◌/◌, ◌^◌, ◌==◌, ◌++◌, ◌∙◌, ◌∷◌, [], ℕ, List, Bool, true, false, ap, append-nil, append_assoc, arith, get_or, if◌then◌else◌, length-set, refl, replicate, set, subst, sym}
 use Rattle.std.proofs.Math.Nat.{mod-lt}
 use Rattle.std.proofs.lemmas.Bool.{eqb-false, eqb-true}
 use Rattle.std.proofs.lemmas.List.{get_or-replicate, get_or-set_other, get_or-set_same, length-replicate}
@@ -12,7 +12,7 @@ pub part_below : (key : List ℕ) → part_of key < 256
 part_below key = mod-lt (hash key / 2 ^ 56) (omega arith)
 
 no_lists : ArePartLists [] (replicate 256 [])
-no_lists = record { many = length-replicate 256 []; each = λ part lt. get_or-replicate 256 part [] [] lt }
+no_lists = record { many = length-replicate {A = List Carried} 256 []; each = λ part lt. get_or-replicate 256 part [] [] lt }
 
 one_more : (part : ℕ) (rows : List Carried) (row : Carried) → rows_of_part part (rows ++ row ∷ []) ≡ rows_of_part part rows ++ (if part_of row.key == part then row ∷ [] else [])
 one_more part rows row = filter-append (λ (r : Carried). part_of r.key == part) rows (row ∷ [])
