@@ -101,6 +101,13 @@ impl Layout {
         &self.kept[..self.width]
     }
 
+    /// Tells that there is a part for each of the eight slots. It does nothing.
+    pub(crate) fn has_all_parts(&self)
+        ensures { length self.now.parts ≡ 8 }
+    {
+        let _parts = &self.parts;
+    }
+
     /// The slots that lanes stand for.
     pub(crate) fn expand(&self, lanes: &[SlotState]) -> [SlotState; 8]
         ensures { result ≡ slots_in self.now.parts lanes.now }

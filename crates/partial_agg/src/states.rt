@@ -81,7 +81,7 @@ impl StateList {
     pub(crate) fn are_whole(&self)
         ensures { All (λ state. length state.slots ≡ 8) self.now }
     {
-        let _lanes = &self.lanes;
+        self.layout.has_all_parts();
     }
 
     /// The state at a place, as a copy.
