@@ -1,5 +1,5 @@
 -- Lists of rows by the parts of their keys.
-use Rattle.std.proofs.Common.{◌≡◌, ◌≢◌, ◌<◌, ◌/◌, ◌^◌, ◌==◌, ◌++◌, ◌∙◌, ◌∷◌, [], ℕ, List, Bool, true, false, ap, append-nil, append_assoc, arith, get_or, if◌then◌else◌, length, length-set, refl, replicate, set, subst, sym}
+use Rattle.std.proofs.Common.{◌≡◌, ◌<◌, ◌/◌, ◌^◌, ◌==◌, ◌++◌, ◌∙◌, ◌∷◌, [], ℕ, List, Bool, true, false, ap, append-nil, append_assoc, arith, get_or, if◌then◌else◌, length-set, refl, replicate, set, subst, sym}
 use Rattle.std.proofs.Math.Nat.{mod-lt}
 use Rattle.std.proofs.lemmas.Bool.{eqb-false, eqb-true}
 use Rattle.std.proofs.lemmas.List.{get_or-replicate, get_or-set_other, get_or-set_same, length-replicate}

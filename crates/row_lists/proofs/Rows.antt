@@ -1,7 +1,7 @@
 -- Rows as bytes, and read back.
-use Rattle.std.proofs.Common.{◌≡◌, ◌≤◌, ◌<◌, ◌+◌, ◌++◌, ◌∙◌, ◌∷◌, ◌⊎◌, [], inl, inr, ℕ, ℤ, zero, suc, List, Option, ap, append_assoc, arith, drop, get_or, length, length-append, min, pos, refl, subst, sym, take}
+use Rattle.std.proofs.Common.{◌≡◌, ◌≤◌, ◌+◌, ◌++◌, ◌∙◌, ◌∷◌, ◌⊎◌, [], inl, inr, ℕ, ℤ, zero, suc, List, Option, ap, append_assoc, arith, drop, get_or, length, length-append, pos, refl, subst, sym, take}
 use Rattle.std.specs.List.{AllByRecursion, flat_map}
-use Rattle.std.proofs.Math.Seq.{drop-append-add, drop-append_seam, get_or-append_seam, take-append_seam}
+use Rattle.std.proofs.Math.Seq.{drop-append-add, get_or-append_seam, take-append_seam}
 use Rattle.std.proofs.lemmas.List.{flat_map_more}
 use Rattle.row_lists.specs.Carried.{AreRows, Carried, IsCarried, after_values, carried, row_bytes, rows_from, rows_in, values_bytes, values_in}
 use Rattle.key_index.specs.Front.{IsFrontOf}
@@ -103,36 +103,10 @@ first bytes h = by (rows_in bytes) refl h.each h.are
       left = are_rows rows each.1;
     })
 
--- ---- the key that a row begins with
-
-pub key_size : (row : Carried) (more : List ℕ) (size : ℕ) (rest : List ℕ) → size ∷ rest ≡ row_bytes row ++ more → size ≡ length row.key
-key_size row more size rest e = ap (λ (bytes : List ℕ). get_or bytes 0 0) e
-
-pub key_rest : (row : Carried) (more : List ℕ) (size : ℕ) (rest : List ℕ) → size ∷ rest ≡ row_bytes row ++ more → rest ≡ row.key ++ length row.values ∷ (values_bytes (pos 0) row.values ++ more)
-key_rest row more size rest e = ap (drop 1) (e ∙ split row more)
-
-key_end : (row : Carried) (more : List ℕ) (size : ℕ) (rest : List ℕ) (mid : ℕ) → size ∷ rest ≡ row_bytes row ++ more → mid ≡ min size (length rest) → mid ≡ length row.key
-key_end row more size rest mid e m =
-    omega (arith, m, key_size row more size rest e, ap length (key_rest row more size rest e), length-append row.key (length row.values ∷ (values_bytes (pos 0) row.values ++ more)))
-
-pub key_taken : (row : Carried) (more : List ℕ) (size : ℕ) (rest : List ℕ) (mid : ℕ) → size ∷ rest ≡ row_bytes row ++ more → mid ≡ min size (length rest) → take mid rest ≡ row.key
-key_taken row more size rest mid e m =
-    ap (λ (n : ℕ). take n rest) (key_end row more size rest mid e m) ∙ ap (take (length row.key)) (key_rest row more size rest e)
-    ∙ take-append_seam row.key (length row.values ∷ (values_bytes (pos 0) row.values ++ more))
-
-pub key_dropped : (row : Carried) (more : List ℕ) (size : ℕ) (rest : List ℕ) (mid : ℕ) → size ∷ rest ≡ row_bytes row ++ more → mid ≡ min size (length rest)
-    → drop mid rest ≡ length row.values ∷ (values_bytes (pos 0) row.values ++ more)
-key_dropped row more size rest mid e m =
-    ap (λ (n : ℕ). drop n rest) (key_end row more size rest mid e m) ∙ ap (drop (length row.key)) (key_rest row more size rest e)
-    ∙ drop-append_seam row.key (length row.values ∷ (values_bytes (pos 0) row.values ++ more))
-
 -- ---- bytes after a front are cut off
 
 pub cut_back : (old new : List ℕ) (n : ℕ) → n ≡ length old → IsFrontOf old new → take n new ≡ old
 cut_back old new n e f = ap (take n) f.is ∙ ap (λ (k : ℕ). take k (old ++ f.rest)) e ∙ take-append_seam old f.rest
-
-pub grown : (old new more : List ℕ) → new ≡ old ++ more → IsFrontOf old new
-grown old new more e = record { rest = more; is = e }
 
 -- ---- the row that a cursor gives
 
@@ -145,3 +119,16 @@ some_first bytes h some = by (first bytes h)
 
 pub next_is : (bytes : List ℕ) (f : HasFirst bytes) (key : List ℕ) (values : List (Option ℤ)) (left : List ℕ) → key ≡ f.row.key → values ≡ f.row.values → left ≡ f.more → rows_in bytes ≡ carried key values ∷ rows_in left
 next_is bytes f key values left a b c = f.rows ∙ (λ i. carried (sym a i) (sym b i) ∷ rows_in (sym c i))
+
+-- the values came to the front of others
+pub front_is : (count : ℕ) (new values rest : List (Option ℤ)) → count ≡ length values → new ≡ values → take count (new ++ rest) ≡ values
+front_is count new values rest many same = (λ i. take (many i) (same i ++ rest)) ∙ take-append_seam values rest
+
+-- no bytes are left if they begin with no row
+pub none_left : (bytes : List ℕ) → AreRows bytes → ((row : Carried) (more : List ℕ) → IsCarried row → bytes ≡ row_bytes row ++ more → ⊥) → rows_in bytes ≡ []
+unfolding rows_from
+none_left bytes h none = by (first bytes h)
+  where
+    by : (bytes ≡ []) ⊎ HasFirst bytes → rows_in bytes ≡ []
+    by (inl e) = ap rows_in e
+    by (inr f) = absurd (none f.row f.more f.fits f.is)

@@ -1,6 +1,6 @@
 -- Values as bytes, and read back.
-use Rattle.std.proofs.Common.{◌≡◌, ◌≤◌, ◌<◌, ◌==◌, ◌++◌, ◌∙◌, ◌∷◌, [], ℕ, ℤ, zero, suc, List, Bool, true, false, Option, Some, None, FitsSigned, ap, append_assoc, arith, drop, get_or, if◌then◌else◌, length, pos, refl, sym, take, w64}
-use Rattle.std.specs.Int.{cast_signed, cast_unsigned, from_le_bytes, to_le_bytes}
+use Rattle.std.proofs.Common.{◌≡◌, ◌++◌, ◌∙◌, ◌∷◌, [], ℕ, ℤ, suc, List, Bool, true, false, Option, Some, None, FitsSigned, ap, append_assoc, if◌then◌else◌, length, refl, sym, w64}
+use Rattle.std.specs.Int.{cast_signed, cast_unsigned}
 use Rattle.std.specs.List.{AllByRecursion}
 use Rattle.std.specs.Ordering.{int_eq}
 use Rattle.std.proofs.Math.Facts.{Fits-of_z}
@@ -8,14 +8,11 @@ use Rattle.std.proofs.lemmas.Bool.Decides.{Decides-int_eq}
 use Rattle.std.proofs.lemmas.Int.{to_z-of_z}
 use Rattle.std.proofs.lemmas.Nat.{from_le_bytes-to_le_bytes_8}
 use Rattle.row_lists.specs.Carried.{IsValue, after_values, last_of, number_bytes, number_in, value_bytes, values_bytes, values_in}
-use Rattle.row_lists.specs.declared.list.TheConstants.{NEW, NONE, SAME}
+use Rattle.row_lists.specs.declared.list.TheConstants.{NEW, SAME}
 
 pub number_back : (n : ℤ) (more : List ℕ) → FitsSigned w64 n → number_in (number_bytes n ++ more) ≡ n
 number_back n more h =
     ap (cast_signed w64) (from_le_bytes-to_le_bytes_8 (cast_unsigned w64 n) (Fits-of_z h).fits) ∙ to_z-of_z w64 n h
-
-pub number_after : (n : ℤ) (more : List ℕ) → drop 8 (number_bytes n ++ more) ≡ more
-number_after n more = refl
 
 -- ---- one value
 

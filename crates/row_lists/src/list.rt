@@ -5,9 +5,10 @@
 //! follow. Aggregates of one column take the same number, which so is written once.
 
 ghost use Rattle.std.specs.Prelude.{◌≡◌, ◌≤◌, ◌++◌, ◌∷◌, [], pos, OnErr, OnOk, length};
+ghost use Rattle.std.specs.List.{AllByRecursion};
 ghost use Rattle.key_index.specs.Front.{IsFrontOf};
 ghost use Rattle.par_model.specs.declared.refusal.TheConstants.{LONGEST_KEY};
-ghost use Rattle.row_lists.specs.Carried.{carried, last_of, row_bytes, value_bytes, values_bytes};
+ghost use Rattle.row_lists.specs.Carried.{IsValue, carried, last_of, row_bytes, value_bytes, values_bytes};
 
 use crate::cursor::RowCursor;
 use std::alloc::{AllocError, Global};
@@ -95,6 +96,7 @@ fn write_row(bytes: &mut Vec<u8>, key: &[u8], values: &[Option<i64>]) -> Result<
     requires short { length key.now ≤ LONGEST_KEY }
     requires few { length values.now ≤ 8 }
     ensures bytes { OnOk result (bytes.new.items ≡ bytes.old.items ++ row_bytes (carried key.now values.now)) }
+    ensures whole { OnOk result (AllByRecursion IsValue values.now) }
     ensures front { IsFrontOf bytes.old.items bytes.new.items }
 {
     bytes.reserve(MOST_BYTES)?;
@@ -108,6 +110,7 @@ fn write_row(bytes: &mut Vec<u8>, key: &[u8], values: &[Option<i64>]) -> Result<
 #[inline(always)]
 fn write_values(bytes: &mut Vec<u8>, values: &[Option<i64>]) -> Result<(), AllocError>
     ensures bytes { OnOk result (bytes.new.items ≡ bytes.old.items ++ values_bytes (pos 0) values.now) }
+    ensures whole { OnOk result (AllByRecursion IsValue values.now) }
     ensures front { IsFrontOf bytes.old.items bytes.new.items }
 {
     let mut last = 0;
@@ -121,6 +124,7 @@ fn write_values(bytes: &mut Vec<u8>, values: &[Option<i64>]) -> Result<(), Alloc
 #[inline(always)]
 fn write_value(bytes: &mut Vec<u8>, last: &mut i64, value: Option<i64>) -> Result<(), AllocError>
     ensures bytes { OnOk result (bytes.new.items ≡ bytes.old.items ++ value_bytes last.old value) }
+    ensures whole { OnOk result (IsValue value) }
     ensures last { OnOk result (last.new ≡ last_of last.old value) }
     ensures front { IsFrontOf bytes.old.items bytes.new.items }
 {
