@@ -16,6 +16,7 @@ ghost use Rattle.result_text.specs.Printable.{IsSmallSlot, MOST_TEXT_PLACES};
 
 use crate::decimal::{average, push_number};
 use crate::order::split_column;
+use crate::values::group_count;
 use itoa::Integer;
 use par_model::{AggState, BoundPlan, Item, ItemKind, SlotState};
 use std::alloc::AllocError;
@@ -32,7 +33,7 @@ pub fn push_line(
     ensures { OnOk result (text.new.items ≡ text.old.items ++ row_text default_writer (columns_in (length bound.now.groups) key.now ++ values_text bound.now state.now)) }
 {
     let from = text.len();
-    push_columns(text, key, bound.group_count)?;
+    push_columns(text, key, group_count(bound))?;
     push_values(text, bound, state)?;
     end_line(text, from)
 }
