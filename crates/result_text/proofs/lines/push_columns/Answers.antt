@@ -1,4 +1,4 @@
-use Rattle.std.proofs.Common.{◌≡◌, ◌∙◌, ◌-◌, ◌+◌, ◌++◌, ◌∷◌, [], List, ℕ, ap, map, sym}
+use Rattle.std.proofs.Common.{◌≡◌, ◌∙◌, ◌-◌, ◌+◌, ◌++◌, ◌∷◌, List, ℕ, ap, map, sym}
 use Rattle.std.specs.List.{concat}
 use Rattle.result_text.specs.KeyColumns.{after_first_column, columns_in}
 use Rattle.result_text.specs.Lines.{followed}

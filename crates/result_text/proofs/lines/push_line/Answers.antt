@@ -1,4 +1,4 @@
-use Rattle.std.proofs.Common.{◌≡◌, ◌++◌, ◌∙◌, ap, arith, ℕ, length, map}
+use Rattle.std.proofs.Common.{◌++◌, ◌∙◌, ap, arith, ℕ, length, map}
 use Rattle.std.specs.List.{concat}
 use Rattle.std.proofs.lemmas.Result.{on_ok_weaker}
 use Rattle.par_model.specs.Table.{values_text}
