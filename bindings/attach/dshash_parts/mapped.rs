@@ -54,7 +54,6 @@ where
         Dshash {
             key_words: site.key_words,
             item_bytes: site.item_bytes,
-            home: None,
             // SAFETY: as the caller says.
             shelf: unsafe { Shelf::attach(mapping, site.shelf, callers) },
         }

@@ -16,4 +16,3 @@ pub mod Done
 pub mod Takings
 pub mod Tries
 pub mod Visits
-pub mod Homes

@@ -57,7 +57,6 @@ where
     {
         let Dshash {
             key_words: _,
-            home: _,
             item_bytes: _,
             shelf,
         } = self;
