@@ -1,0 +1,4 @@
+mod Bodies
+mod Ends
+pub mod Indexes
+mod Taking
