@@ -80,7 +80,7 @@ module _ (plan : Plan) where
 pub parts_share : PartsShare
 parts_share plan width rows maps are = record {
   shares = shares_from (number plan) 256 0 rows;
-  each = zipped plan 256 0 rows maps are.many (λ i d lt. are.each i d lt);
+  each = zipped plan 256 0 rows maps are.many (λ i d lt. subst (λ n. AreGroups plan (rows_in plan part_of n rows) (slice_index_or maps i d)) (let e : i ≡ 0 + i = omega arith in e) (are.each i d lt));
   accepted = are.accepted;
   same = spread (number plan) 256 0 rows (bounded plan rows);
 }

@@ -1,8 +1,8 @@
 -- Parts that begin, and parts whose waiting rows were grouped.
-use Rattle.std.proofs.Common.{◌≡◌, ◌<◌, ◌+◌, ◌^◌, ◌++◌, ◌∙◌, ℕ, zero, suc, false, List, [], ◌∷◌, All, Some, get_or, length, map, replicate, slice_get, take, slice_index_or, refl, ap, sym, subst, arith, append-nil, length-append}
+use Rattle.std.proofs.Common.{◌≡◌, ◌<◌, ◌+◌, ◌++◌, ◌∙◌, ℕ, zero, suc, false, List, [], ◌∷◌, All, Some, drop, get_or, length, map, replicate, slice_get, take, slice_index_or, refl, ap, sym, subst, arith, append-nil, length-append}
 use Rattle.std.specs.List.{AllZip}
 use Rattle.std.specs.List.Sorted.{IsPermutation}
-use Rattle.std.proofs.lemmas.List.{get_or-map, take_more}
+use Rattle.std.proofs.lemmas.List.{drop_all, get_or-map, take_all, take_more}
 use Rattle.std.proofs.lemmas.List.Concat.{flat_map-append}
 use Rattle.std.proofs.lemmas.List.Sums.{fold-append}
 use Rattle.std.proofs.lemmas.Option.{get_or_from_slice_get}
@@ -23,6 +23,12 @@ use Rattle.part_run.specs.Waiting.{GroupsAll, HaveRows, HaveWaiting, LackNone, g
 use Rattle.part_run.specs.declared.parts.PartMap.{PartMap}
 use Rattle.part_run.proofs.ByPart.{carried_adds, waiting_is}
 use Rattle.part_run.proofs.Grown.{fine_in, parted_grow, parts_any_order}
+
+-- a vector that was lent and came back as long as it was
+pub whole_again : {X : Type 0} (n : ℕ) (olds news : List X) → n ≡ length olds → length news ≡ length olds → take n (news ++ drop (length news) olds) ≡ news
+whole_again n olds news is long =
+    let rest : drop (length news) olds ≡ [] = drop_all (length news) olds (omega (arith, long)) in
+    (λ i. take n (news ++ rest i)) ∙ ap (take n) (append-nil news) ∙ take_all n news (omega (arith, is, long))
 
 -- ---- no rows that wait
 

@@ -2,7 +2,7 @@ pub mod ByPart
 pub mod Spread
 pub mod Grown
 pub mod Held
-pub mod Moving
+pub mod Lending
 pub mod SeatedLists
 pub mod Read
 pub mod Rows

@@ -1,5 +1,5 @@
 -- What all participants put into their lists is all rows, each once.
-use Rattle.std.proofs.Common.{◌≡◌, ◌<◌, ◌≤◌, ◌+◌, ◌-◌, ◌^◌, ◌++◌, ℕ, suc, IfSome, List, [], ◌∷◌, All, None, length, map, min, refl, ap, sym, subst, ◌∙◌, arith, append_assoc, length-append}
+use Rattle.std.proofs.Common.{◌≡◌, ◌<◌, ◌≤◌, ◌+◌, ◌-◌, ◌++◌, ℕ, suc, IfSome, List, [], ◌∷◌, All, None, length, map, min, refl, ap, sym, subst, ◌∙◌, arith, append_assoc, length-append}
 use Rattle.std.specs.List.{AllByRecursion, AllZip, sum_by}
 use Rattle.std.specs.List.Sorted.{IsPermutation}
 use Rattle.std.proofs.lemmas.List.{length-map}
@@ -27,7 +27,7 @@ use Rattle.part_run.specs.Carrying.{AreSpread, no_rows, spread}
 use Rattle.part_run.specs.Hands.{AreDone, HasDone, HasSpread}
 use Rattle.part_run.specs.Held.{HeldParts}
 use Rattle.part_run.specs.Parted.{AreParted}
-use Rattle.part_run.specs.Waiting.{HaveRows, TakesPieces}
+use Rattle.part_run.specs.Waiting.{TakesPieces}
 use Rattle.part_run.specs.declared.hands.Hand.{Hand}
 use Rattle.part_run.proofs.ByPart.{spread-append}
 use Rattle.part_run.proofs.SeatedLists.{held_by, seat_of}

@@ -1,5 +1,5 @@
 -- The rows of a piece, one after another, in the lists of a participant.
-use Rattle.std.proofs.Common.{◌≡◌, ◌<◌, ◌≤◌, ◌+◌, ◌++◌, ◌∙◌, ℕ, ℤ, false, cond, List, [], ◌∷◌, All, None, Option, Some, drop, get_or, length, map, take, ap, sym, arith, length-drop}
+use Rattle.std.proofs.Common.{◌≡◌, ◌<◌, ◌≤◌, ◌+◌, ◌++◌, ◌∙◌, ℕ, ℤ, false, cond, List, [], ◌∷◌, None, Option, Some, drop, get_or, length, map, take, ap, sym, arith, length-drop}
 use Rattle.std.proofs.lemmas.List.{take_all, take_more}
 use Rattle.csv_rows.specs.Records.{record_at}
 use Rattle.par_model.specs.Keep.{is_kept}
@@ -7,7 +7,7 @@ use Rattle.par_model.specs.Plan.{Plan}
 use Rattle.par_model.specs.Refuse.{refusal}
 use Rattle.partial_agg.specs.Blocks.{ExplainsRow}
 use Rattle.partial_agg.specs.Reading.{IsKeptAs}
-use Rattle.partial_agg.specs.Rows.{IsAccepted, header_width}
+use Rattle.partial_agg.specs.Rows.{header_width}
 use Rattle.partial_agg.specs.declared.map.BlockAnswer.{BlockAnswer}
 use Rattle.partial_agg.specs.declared.map.BlockAnswer.TheVariants as answer
 use Rattle.row_blocks.specs.Blocks.{Table}

@@ -30,7 +30,7 @@ module _ {X : Type 0} (f : X → ℕ) where
   others k x = not (is k x)
 
   -- the elements of this many numbers, from one on
-  pub shares_from : ℕ → ℕ → List X → List (List X)
+  abbrev pub shares_from : ℕ → ℕ → List X → List (List X)
   shares_from zero k xs = []
   shares_from (suc c) k xs = filter (is k) xs ∷ shares_from c (suc k) xs
 

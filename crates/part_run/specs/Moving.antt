@@ -16,7 +16,11 @@ pub record IsLent (list : LentParts) : Type 0 where
   pub parts : list.parts.items ≡ map (λ group. part_of group.key) list.groups
   pub whole : All (λ group. length group.state.slots ≡ 8) list.groups
 
--- maps have the groups of each part of some lists, if there was memory for them
-pub record ArePartMaps (lists : List LentParts) (maps : List (Result GroupsByKey AllocError)) : Type 0 where
-  pub many : length maps ≡ 256
-  pub each : (part : ℕ) (d : Result GroupsByKey AllocError) → part < 256 → IfOk (slice_index_or maps part d) (λ groups. groups ≡ part_map part_of part (lists_of lists))
+-- the map of a part of some lists, if there was memory for it
+pub record IsMade (lists : List LentParts) (part : ℕ) (made : Result GroupsByKey AllocError) : Type 0 where
+  pub are : IfOk made (λ groups. groups ≡ part_map part_of part (lists_of lists))
+
+-- likewise of each part
+pub record AreMade (lists : List LentParts) (olds news : List (Result GroupsByKey AllocError)) : Type 0 where
+  pub count : length news ≡ length olds
+  pub each : (part : ℕ) (d : Result GroupsByKey AllocError) → part < length olds → IsMade lists part (slice_index_or news part d)

@@ -7,7 +7,7 @@ ghost use Rattle.gather_law.specs.KeyParts.{AreListings, groups_in, part_map, wi
 ghost use Rattle.gather_law.specs.Shares.{AreShared};
 ghost use Rattle.partial_agg.specs.Groups.{added};
 ghost use Rattle.row_lists.specs.Parts.{part_of as key_part};
-ghost use Rattle.part_run.specs.Moving.{ArePartMaps, IsLent, lists_of};
+ghost use Rattle.part_run.specs.Moving.{AreMade, IsLent, IsMade, lists_of};
 ghost use Rattle.part_run.specs.Parted.{AreParted};
 
 use par_model::AggState;
@@ -42,29 +42,37 @@ pub(crate) fn part_maps<R: Threads + Sync>(
     ensures parted { IfOk result (λ parts. (plan : Plan) (width : _) (rows : Table) → AreShared plan width rows maps.now → length rows < 2 ^ 64 → AreParted plan width rows parts.items) }
 {
     let lists = lend_all(alloc, maps)?;
-    let parts = make_maps(rt, alloc, &lists, threads)?;
+    let mut parts = no_maps(alloc)?;
+    make_maps(rt, alloc, &lists, &mut parts, threads);
     all_of(alloc, parts)
 }
 
-/// The map of each part of the groups in all lists, in at most this many threads.
+/// Makes the map of each part of the groups in all lists, in at most this many threads.
 fn make_maps<R: Threads + Sync>(
     rt: &R,
     alloc: Global,
     lists: &[LentParts<'_>],
+    parts: &mut Vec<Made>,
     threads: usize,
-) -> Result<Vec<Made>, AllocError>
+)
     requires some { 0 < threads }
     requires lent { All IsLent lists.now }
-    ensures { IfOk result (λ maps. ArePartMaps lists.now maps.items) }
+    ensures { AreMade lists.now parts.old.items parts.new.items }
 {
-    let mut parts = no_maps(alloc)?;
     for_each_mut(
         rt,
         parts.as_mut_slice(),
         threads,
-        &|part, map| { *map = part_map(alloc, lists, part as u8) },
+        &|part, map| { make_map(alloc, lists, part, map) },
     );
-    Ok(parts)
+}
+
+/// Makes the map of a part of the groups in all lists.
+fn make_map(alloc: Global, lists: &[LentParts<'_>], part: usize, map: &mut Made)
+    requires { All IsLent lists.now }
+    ensures { IsMade lists.now part map.new }
+{
+    *map = part_map(alloc, lists, part);
 }
 
 /// The groups of each map, with their parts.
@@ -104,7 +112,7 @@ fn no_maps(alloc: Global) -> Result<Vec<Made>, AllocError>
 }
 
 /// The map of a part of the groups in all lists.
-fn part_map(alloc: Global, lists: &[LentParts<'_>], part: u8) -> Made
+fn part_map(alloc: Global, lists: &[LentParts<'_>], part: usize) -> Made
     requires { All IsLent lists.now }
     ensures { IfOk result (λ so_far. so_far ≡ part_map key_part part (lists_of lists.now)) }
 {
@@ -120,7 +128,7 @@ fn add_list(
     so_far: &mut GroupMap,
     groups: &LentGroups<'_>,
     parts: &[u8],
-    part: u8,
+    part: usize,
 ) -> Result<(), AllocError>
     requires whole { All (λ group. length group.state.slots ≡ 8) groups.now }
     requires parts { parts.now ≡ map_list (λ group. key_part group.key) groups.now }
@@ -128,7 +136,7 @@ fn add_list(
 {
     let mut state = empty();
     for at in 0..groups.len() {
-        if parts[at] == part {
+        if parts[at] as usize == part {
             add_group(so_far, groups, at, &mut state)?;
         }
     }

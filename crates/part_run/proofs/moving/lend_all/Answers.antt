@@ -5,7 +5,7 @@ use Rattle.partial_agg.specs.Groups.{GroupsByKey}
 use Rattle.partial_agg.specs.Listed.{listed}
 use Rattle.part_run.specs.Moving.{IsLent}
 use Rattle.part_run.specs.declared.moving.LentParts.{LentParts}
-use Rattle.part_run.proofs.Moving.{lent_next}
+use Rattle.part_run.proofs.Lending.{lent_next}
 use Rattle.part_run.proofs.moving.lend_all.Goals as goal
 
 pub loop-map-preserved : goal.loop-map-preserved

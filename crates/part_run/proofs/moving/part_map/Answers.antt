@@ -2,7 +2,7 @@ use Rattle.std.proofs.Common.{◌≡◌, arith, subst}
 use Rattle.gather_law.specs.KeyParts.{groups_in, with_listed}
 use Rattle.row_lists.specs.Parts.{part_of}
 use Rattle.part_run.specs.declared.moving.LentParts.{LentParts}
-use Rattle.part_run.proofs.Moving.{list_next}
+use Rattle.part_run.proofs.Lending.{list_next}
 use Rattle.part_run.proofs.moving.part_map.Goals as goal
 
 pub loop-list-preserved : goal.loop-list-preserved

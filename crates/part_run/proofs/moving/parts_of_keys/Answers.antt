@@ -1,5 +1,5 @@
 use Rattle.std.proofs.Common.{◌++◌, ◌∷◌, ◌∙◌, [], ℕ, ap, arith}
-use Rattle.part_run.proofs.Moving.{part_next}
+use Rattle.part_run.proofs.Lending.{part_next}
 use Rattle.part_run.proofs.moving.parts_of_keys.Goals as goal
 
 pub loop-at-preserved : goal.loop-at-preserved

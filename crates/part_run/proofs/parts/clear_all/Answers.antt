@@ -1,4 +1,4 @@
-use Rattle.std.proofs.Common.{◌≡◌, ◌≤◌, ◌++◌, ◌∙◌, [], List, ap, append-nil, arith, drop, length, map, set, take}
+use Rattle.std.proofs.Common.{◌≤◌, ◌++◌, ◌∙◌, List, ap, append-nil, arith, length, map, set}
 use Rattle.std.proofs.lemmas.List.{drop_all, take_all}
 use Rattle.std.proofs.lemmas.List.Edits.{map_over_more}
 use Rattle.row_lists.specs.Carried.{Carried}

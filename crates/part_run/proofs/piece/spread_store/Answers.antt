@@ -1,4 +1,4 @@
-use Rattle.std.proofs.Common.{◌≡◌, ◌<◌, ◌≤◌, ◌+◌, ◌∙◌, None, ap, arith, length, sym}
+use Rattle.std.proofs.Common.{◌≡◌, ◌<◌, ◌≤◌, ◌+◌, ◌∙◌, None, ap, arith, length}
 use Rattle.csv_rows.specs.Records.{record_at}
 use Rattle.par_model.specs.Refuse.{refusal}
 use Rattle.partial_agg.specs.Rows.{header_width}

@@ -1,4 +1,4 @@
-use Rattle.std.proofs.Common.{◌≡◌, ◌∙◌, List, ap, length, subst, sym}
+use Rattle.std.proofs.Common.{◌≡◌, ◌∙◌, List, ap, length, rules, subst, sym, vec_len}
 use Rattle.std.proofs.lemmas.List.{length-map, length-replicate}
 use Rattle.partial_agg.specs.Groups.{GroupsByKey}
 use Rattle.gather_law.specs.Shares.{AreShared}
@@ -18,7 +18,9 @@ invariant_of-result g c =
 pub returns-clause-rows : goal.returns-clause-rows
 returns-clause-rows g c = λ plan width rows shared few.
     let are = c.in_ok-groups.ensures.parted plan width rows (subst (λ (ms : List GroupsByKey). AreShared plan width rows ms) (sym c.as_slice.ensures.value) shared) few in
-    all_in_maps plan width (length c.args.maps.items) rows _ (subst (λ (ms : List GroupsByKey). AreParted plan width rows ms) (sym c.in_ok-maps.ensures) are) c.in_ok-lists.ensures
+    all_in_maps plan width c.len-many.result rows _ (subst (λ (ms : List GroupsByKey). AreParted plan width rows ms) (sym c.in_ok-maps.ensures) are) c.in_ok-lists.ensures
 
 pub returns-clause-many : goal.returns-clause-many
-returns-clause-many g c = ap (λ (ls : List (List (List Carried))). length ls) c.in_ok-lists.ensures ∙ length-replicate (length c.args.maps.items) no_rows
+returns-clause-many g c =
+    let size : vec_len c.args.maps ≡ length c.args.maps.items = search rules in
+    ap (λ (ls : List (List (List Carried))). length ls) c.in_ok-lists.ensures ∙ length-replicate c.len-many.result no_rows ∙ c.len-many.ensures ∙ size

@@ -1,7 +1,7 @@
 -- Lists that go on by one: the groups of participants with their parts, and the map of a part.
-use Rattle.std.proofs.Common.{◌≡◌, ◌<◌, ◌+◌, ◌++◌, ◌^◌, ◌∙◌, ℕ, zero, suc, List, [], ◌∷◌, All, IfOk, Ok, Result, Some, length, map, slice_index_or, take, get_or, refl, ap, sym, subst, arith}
+use Rattle.std.proofs.Common.{◌≡◌, ◌<◌, ◌+◌, ◌++◌, ◌^◌, ◌∙◌, ℕ, List, [], ◌∷◌, IfOk, Ok, Result, Some, length, map, slice_index_or, take, get_or, ap, sym, subst, arith}
 use Rattle.std.specs.FinMap as fin
-use Rattle.std.specs.List.{AllZip, slice_get}
+use Rattle.std.specs.List.{slice_get}
 use Rattle.std.specs.List.Sorted.{IsPermutation}
 use Rattle.std.specs.declared.alloc.AllocError.{AllocError}
 use Rattle.std.proofs.lemmas.List.{get_or-map, length-map, map-append, take_more}
@@ -17,7 +17,7 @@ use Rattle.gather_law.specs.Shares.{AreShared, rows_in}
 use Rattle.gather_law.proofs.PartMaps.{parts_join}
 use Rattle.split_run.proofs.Parting.{fold_push, no_group}
 use Rattle.row_lists.specs.Parts.{part_of}
-use Rattle.part_run.specs.Moving.{ArePartMaps, lists_of}
+use Rattle.part_run.specs.Moving.{AreMade, lists_of}
 use Rattle.part_run.specs.Parted.{AreParted}
 use Rattle.part_run.specs.declared.moving.LentParts.{LentParts}
 
@@ -55,18 +55,24 @@ list_next part lists at d mid new lt before now =
     now ∙ ap (λ (m : GroupsByKey). over m l.groups) before
     ∙ sym (ap (part_map part_of part) (ap lists_of (take_more lists at d lt) ∙ map-append (λ (p : LentParts). p.groups) (take at lists) (l ∷ [])) ∙ fold_push over (lists_of (take at lists)) fin.empty l.groups)
 
--- maps that were all made are those of the parts
-pub made_parted : (plan : Plan) (width : ℕ) (rows : Table) (maps parts : List GroupsByKey) (lists : List LentParts) (made : List (Result GroupsByKey AllocError)) → AreListings maps (lists_of lists) → ArePartMaps lists made
-    → map (λ (m : GroupsByKey). Ok m) parts ≡ made → AreShared plan width rows maps → length rows < 2 ^ 64 → AreParted plan width rows parts
-made_parted plan width rows maps parts lists made listings are all shared few =
+-- there is a map for each part, if all were made
+pub made_many : (parts : List GroupsByKey) (lists : List LentParts) (olds made : List (Result GroupsByKey AllocError)) → length olds ≡ 256 → AreMade lists olds made → map (λ (m : GroupsByKey). Ok m) parts ≡ made → length parts ≡ 256
+made_many parts lists olds made long are all =
     let ok : GroupsByKey → Result GroupsByKey AllocError = λ m. Ok m in
-    let many : length parts ≡ 256 = sym (length-map parts ok) ∙ ap (λ (l : List (Result GroupsByKey AllocError)). length l) all ∙ are.many in
+    sym (length-map parts ok) ∙ ap (λ (l : List (Result GroupsByKey AllocError)). length l) all ∙ are.count ∙ long
+
+-- maps that were all made are those of the parts
+pub made_parted : (plan : Plan) (width : ℕ) (rows : Table) (maps parts : List GroupsByKey) (lists : List LentParts) (olds made : List (Result GroupsByKey AllocError)) → AreListings maps (lists_of lists) → length olds ≡ 256 → AreMade lists olds made
+    → map (λ (m : GroupsByKey). Ok m) parts ≡ made → AreShared plan width rows maps → length rows < 2 ^ 64 → AreParted plan width rows parts
+made_parted plan width rows maps parts lists olds made listings long are all shared few =
+    let ok : GroupsByKey → Result GroupsByKey AllocError = λ m. Ok m in
+    let many = made_many parts lists olds made long are all in
     record {
       many = many;
       accepted = shared.accepted;
       each = λ part d low.
           let here : slice_index_or made part (Ok d) ≡ Ok (slice_index_or parts part d) =
           ap (λ (l : List (Result GroupsByKey AllocError)). get_or l part (Ok d)) (sym all) ∙ get_or-map ok parts part d (Ok d) (omega (arith, many, low)) in
-          let is : slice_index_or parts part d ≡ part_map part_of part (lists_of lists) = subst (λ (o : Result GroupsByKey AllocError). IfOk o (λ m. m ≡ part_map part_of part (lists_of lists))) here (are.each part (Ok d) low) in
+          let is : slice_index_or parts part d ≡ part_map part_of part (lists_of lists) = subst (λ (o : Result GroupsByKey AllocError). IfOk o (λ m. m ≡ part_map part_of part (lists_of lists))) here ((are.each part (Ok d) (omega (arith, long, low))).are) in
           subst (λ (m : GroupsByKey). AreGroups plan (rows_in plan part_of part rows) m) (sym is) (parts_join plan width part_of part rows maps (lists_of lists) shared listings few);
     }
