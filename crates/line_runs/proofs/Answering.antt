@@ -35,7 +35,7 @@ use Rattle.line_runs.specs.Ranges.{AreRangeTexts, IsRangeText, count_of, range_o
 use Rattle.line_runs.specs.Runs.{AreRunsOf, IsRunOf, Rise}
 use Rattle.line_runs.specs.declared.ranges.Ranges.{Ranges}
 use Rattle.line_runs.specs.declared.texts.Job.{Job}
-use Rattle.line_runs.proofs.Groups.{all_from, all_in, all_short, distinct_from, distinct_listed, entries_are, groups_of, is_listed, is_there, same_groups}
+use Rattle.line_runs.proofs.Groups.{IsFrom, IsIn, all_from, all_in, all_short, distinct_from, distinct_listed, entries_are, groups_of, is_listed, is_there, same_groups}
 use Rattle.line_runs.proofs.Lines.{sorted_lines}
 use Rattle.line_runs.proofs.Rising.{filter_few, range_below, rises}
 
@@ -86,7 +86,7 @@ module _ (plan : Plan) (width : ℕ) (rows : Table) (maps : List GroupsByKey) (f
       printable-listed plan its (get_or maps k d) (omega (arith, fewer, few)) (parted.each k d (omega (arith, lt, parted.many)))
 
   module _ (share : PartsShare) (below : (key : List ℕ) → part_of key < 256) (r : Ranges) (range : ℕ) where
-    own_map : GroupsByKey
+    abbrev pub own_map : GroupsByKey
     own_map = part_map (range_of r) range (map listed maps)
 
     pub range_groups : AreGroups plan (rows_in plan (range_of r) range rows) own_map
@@ -96,10 +96,10 @@ module _ (plan : Plan) (width : ℕ) (rows : Table) (maps : List GroupsByKey) (f
     groups_same : IsPermutation (listed own_map) (groups_of (range_of r) range maps)
     groups_same = same_groups (listed own_map) (groups_of (range_of r) range maps) (distinct_listed plan part_of rows own_map) (distinct_from plan part_of rows (range_of r) range 0 maps from_first)
         (λ g has.
-        let of = All-contains _ (listed own_map) g (all_in plan (range_of r) rows range own_map range_groups) has in
+        let of = All-contains (IsIn plan (range_of r) rows range) (listed own_map) g (all_in plan (range_of r) rows range own_map range_groups) has in
         is_there plan part_of rows (range_of r) range 0 maps from_first g of.0 (eq-eqb (range_of r g.key) range of.1) (omega arith) (omega (arith, below g.key, parted.many)))
         (λ g has.
-        let of = All-contains _ (groups_of (range_of r) range maps) g (all_from plan part_of rows (range_of r) range 0 maps from_first) has in
+        let of = All-contains (IsFrom plan part_of rows (range_of r) range 0) (groups_of (range_of r) range maps) g (all_from plan part_of rows (range_of r) range 0 maps from_first) has in
         is_listed plan (range_of r) rows range own_map range_groups g (of.0, eqb-true (range_of r g.key) range of.1.1))
 
     pub range_lines : (runs : List (List Entry)) (text : List ℕ) → r.columns ≡ length plan.groups → AreRunsOf plan maps runs → IsRangeText r runs range text → AreLinesOf plan (listed own_map) text

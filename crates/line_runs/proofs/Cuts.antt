@@ -5,8 +5,7 @@ use Rattle.std.proofs.lemmas.List.{append-nil, drop-drop, drop-take, drop_all, g
 use Rattle.std.proofs.lemmas.List.Elements.{All-drop, All-head, All-nil, All-tail, All-take, filter-append}
 use Rattle.std.proofs.lemmas.Map.Keys.{Less-from_sorted}
 use Rattle.std.specs.Ordering.{is_lt}
-use Rattle.std.specs.declared.cmp.Ordering.{Ordering}
-use Rattle.std.specs.declared.cmp.Ordering.TheVariants.{Equal, Greater, Less}
+use Rattle.std.specs.declared.cmp.Ordering.TheVariants.{Less}
 use Rattle.par_model.specs.Table.{columns_cmp}
 use Rattle.result_text.specs.KeyColumns.{columns_in}
 use Rattle.result_text.proofs.Columns.{columns_total}
@@ -15,10 +14,10 @@ use Rattle.line_runs.specs.Ranges.{AllAfter, AreOrdered, IsCutAt, IsPlaceAfter, 
 use Rattle.line_runs.specs.Runs.{Rise}
 use Rattle.line_runs.specs.declared.ranges.Ranges.{Ranges}
 use Rattle.line_runs.specs.declared.ranges.TheConstants.{SAMPLE}
-use Rattle.line_runs.proofs.Rising.{ordered_parts, range_below}
+use Rattle.line_runs.proofs.Rising.{less_of, ordered_parts, range_below}
 
 -- within a list the element in place of missing ones does not matter
-same_within : {X : Type 0} (xs : List X) (i : ℕ) (d e : X) → i < length xs → slice_index_or xs i d ≡ slice_index_or xs i e
+pub same_within : {X : Type 0} (xs : List X) (i : ℕ) (d e : X) → i < length xs → slice_index_or xs i d ≡ slice_index_or xs i e
 same_within [] i d e lt = absurd (omega (arith, lt))
 same_within (x ∷ xs) zero d e lt = refl
 same_within (x ∷ xs) (suc i) d e lt = same_within xs i d e (omega (arith, lt))
@@ -193,11 +192,6 @@ module _ (count : ℕ) (run : List Entry) (key : List ℕ) (rises : Rise count r
   run_rises m k lt within =
       (λ i. columns_cmp (sym (entry_columns m (omega (arith, lt, within))) i) (sym (entry_columns k within) i))
       ∙ Less-from_sorted columns_cmp (map (λ entry. columns_in count entry.0) run) m k [] rises lt (omega (arith, within, length-map run (λ (entry : Entry). columns_in count entry.0)))
-
-  less_of : (o : Ordering) → is_lt o ≡ true → o ≡ Less
-  less_of Less h = refl
-  less_of Equal h = cc
-  less_of Greater h = cc
 
   -- after a key that comes after this one come only such keys
   pub after_from : (m k : ℕ) → m ≤ k → k < length run → is_before count key (get_or run m no_entry).0 ≡ true → is_before count key (get_or run k no_entry).0 ≡ true

@@ -10,29 +10,29 @@ use Rattle.par_model.specs.Plan.{Plan}
 use Rattle.partial_agg.specs.declared.groups.Group.{Group}
 use Rattle.result_text.specs.GroupOrder.{group_of}
 use Rattle.result_text.specs.declared.order.GroupRef.{GroupRef}
-use Rattle.line_runs.specs.Entries.{entry_bytes, entry_in, entry_of, line_of, no_entry}
+use Rattle.line_runs.specs.Entries.{Entry, entry_bytes, entry_in, entry_of, line_of, no_entry}
 
 -- ---- where an entry lies
 
-pub record EntryAt (bytes ends : List ℕ) (at : ℕ) : Type 0 where
+pub record EntryAt (bytes ends : List ℕ) (run : List Entry) (at : ℕ) : Type 0 where
   pub there : at < length ends
   pub up : prev 0 ends at ≤ get_or ends at 0
   pub within : get_or ends at 0 ≤ length bytes
-  pub value : get_or (map entry_in (cut_from 0 ends bytes)) at no_entry ≡ entry_in (take (get_or ends at 0 - prev 0 ends at) (drop (prev 0 ends at) bytes))
+  pub value : get_or run at no_entry ≡ entry_in (take (get_or ends at 0 - prev 0 ends at) (drop (prev 0 ends at) bytes))
 
 pub length-entries : (bytes ends : List ℕ) → length (map entry_in (cut_from 0 ends bytes)) ≡ length ends
 length-entries bytes ends = length-map (cut_from 0 ends bytes) entry_in ∙ cut-length 0 ends bytes
 
-pub entry-there : (bytes ends : List ℕ) (at : ℕ) → Covers ends (length bytes) → at < length (map entry_in (cut_from 0 ends bytes)) → EntryAt bytes ends at
-entry-there bytes ends at covers lt =
-    let there : at < length ends = omega (arith, lt, length-entries bytes ends) in
+pub entry-there : (bytes ends : List ℕ) (run : List Entry) (at : ℕ) → map entry_in (cut_from 0 ends bytes) ≡ run → Covers ends (length bytes) → at < length run → EntryAt bytes ends run at
+entry-there bytes ends run at is covers lt =
+    let there : at < length ends = omega (arith, lt, ap (length {A = Entry}) is, length-entries bytes ends) in
     let here : at < length (cut_from 0 ends bytes) = omega (arith, there, cut-length 0 ends bytes) in
     let b = field-bounds 0 ends (length bytes) at covers.0 there in
     record {
       there = there;
       up = b.0;
       within = b.1;
-      value = get_or-map entry_in (cut_from 0 ends bytes) at [] no_entry here ∙ ap entry_in (field-get (cut_from 0 ends bytes) at _ (field-cut 0 ends bytes at there));
+      value = ap (λ (es : List Entry). get_or es at no_entry) (sym is) ∙ get_or-map entry_in (cut_from 0 ends bytes) at [] no_entry here ∙ ap entry_in (field-get (cut_from 0 ends bytes) at _ (field-cut 0 ends bytes at there));
     }
 
 -- ---- entries as bytes

@@ -145,7 +145,7 @@ differs_append key (x ∷ xs) ys h k = (h.0, differs_append key xs ys h.1 k)
 
 module _ (plan : Plan) (part_of : List ℕ → ℕ) (rows : Table) where
   -- a group is one of the rows, and its key is of a part
-  abbrev IsIn : ℕ → Group → Type 0
+  abbrev pub IsIn : ℕ → Group → Type 0
   IsIn part g = (group_of plan rows g.key ≡ Some g.state) × (part_of g.key ≡ part)
 
   pub all_in : (part : ℕ) (m : GroupsByKey) → AreGroups plan (rows_in plan part_of part rows) m → All (IsIn part) (listed m)
@@ -175,11 +175,11 @@ module _ (plan : Plan) (part_of : List ℕ → ℕ) (rows : Table) where
   rest_of part m maps are k d lt = subst (λ (n : ℕ). AreGroups plan (rows_in plan part_of n rows) (slice_index_or maps k d)) (let e : part + suc k ≡ part + 1 + k = omega arith in e) (are (suc k) d (omega (arith, lt)))
 
   module _ (range_of' : List ℕ → ℕ) (range : ℕ) where
-    abbrev of_range : Group → Bool
+    abbrev pub of_range : Group → Bool
     of_range g = range_of' g.key == range
 
     -- what is known of a group of the range in maps from a part on
-    abbrev IsFrom : ℕ → Group → Type 0
+    abbrev pub IsFrom : ℕ → Group → Type 0
     IsFrom part g = (group_of plan rows g.key ≡ Some g.state) × ((part ≤ part_of g.key) × (of_range g ≡ true))
 
     pub all_from : (part : ℕ) (maps : List GroupsByKey) → AreFrom part maps → All (IsFrom part) (groups_of range_of' range maps)
@@ -247,13 +247,11 @@ module _ (plan : Plan) (part_of : List ℕ → ℕ) (rows : Table) where
     -- each group of the rows that is of the range and of one of the parts is there
     pub is_there : (part : ℕ) (maps : List GroupsByKey) → AreFrom part maps → (g : Group) → group_of plan rows g.key ≡ Some g.state → of_range g ≡ true → part ≤ part_of g.key → part_of g.key < part + length maps → Contains (groups_of range_of' range maps) g
     is_there part [] are g is of low high = absurd (omega (arith, low, high))
-    is_there part (m ∷ maps) are g is of low high = by (part_of g.key == part) refl
+    is_there part (m ∷ maps) are g is of low high =
+        by (part_of g.key == part) refl (λ other. is_there (part + 1) maps (rest_of part m maps are) g is of (omega (arith, low, other)) (omega (arith, high)))
       where
-        by : (b : Bool) → (part_of g.key == part) ≡ b → Contains (groups_of range_of' range (m ∷ maps)) g
-        by true e =
+        by : (b : Bool) → (part_of g.key == part) ≡ b → ((part_of g.key ≡ part → ⊥) → Contains (groups_of range_of' range maps) g) → Contains (groups_of range_of' range (m ∷ maps)) g
+        by true e further =
             in_front (groups_in range_of' range (listed m)) (groups_of range_of' range maps) g
             (in_filter (listed m) g (is_listed part m (first_of part m maps are) g (is, eqb-true (part_of g.key) part e)) of)
-        by false e =
-            let other : part_of g.key ≡ part → ⊥ = eqb-false (part_of g.key) part e in
-            in_back (groups_in range_of' range (listed m)) (groups_of range_of' range maps) g
-            (is_there (part + 1) maps (rest_of part m maps are) g is of (omega (arith, low, other)) (omega (arith, high)))
+        by false e further = in_back (groups_in range_of' range (listed m)) (groups_of range_of' range maps) g (further (eqb-false (part_of g.key) part e))

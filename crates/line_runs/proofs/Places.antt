@@ -6,24 +6,21 @@ use Rattle.line_runs.specs.Entries.{Entry}
 use Rattle.line_runs.specs.Order.{entry_at, entry_there, place_of}
 use Rattle.line_runs.specs.declared.order.LineRef.{LineRef}
 
-abbrev Place : Type 0
-Place = ℕ × ℕ
-
 -- one line more has its number, and the lines after it are as they were
-pub places_next : (xs ys : List LineRef) (i : ℕ) (x y : LineRef) → i < length ys → x ≡ get_or ys i x → drop i ys ≡ drop i xs → map place_of (take i ys) ≡ map place_of (take i xs) → place_of y ≡ place_of x
+pub places_next : (xs ys : List LineRef) (i : ℕ) (d x y : LineRef) → i < length ys → x ≡ get_or ys i d → drop i ys ≡ drop i xs → map place_of (take i ys) ≡ map place_of (take i xs) → place_of y ≡ place_of x
     → (map place_of (take (i + 1) (set ys i y)) ≡ map place_of (take (i + 1) xs)) × (drop (i + 1) (set ys i y) ≡ drop (i + 1) xs)
-places_next xs [] i x y lt is same front place = absurd (omega (arith, lt))
-places_next [] (v ∷ ys) zero x y lt is same front place = absurd (cc)
-places_next (u ∷ xs) (v ∷ ys) zero x y lt is same front place =
+places_next xs [] i d x y lt is same front place = absurd (omega (arith, lt))
+places_next [] (v ∷ ys) zero d x y lt is same front place = absurd (cc)
+places_next (u ∷ xs) (v ∷ ys) zero d x y lt is same front place =
     let e : x ≡ u = cc in
     let rest : ys ≡ xs = cc in
     (λ i. (place ∙ ap place_of e) i ∷ [], rest)
-places_next [] (v ∷ ys) (suc i) x y lt is same front place = absurd (cc)
-places_next (u ∷ xs) (v ∷ ys) (suc i) x y lt is same front place =
+places_next [] (v ∷ ys) (suc i) d x y lt is same front place = absurd (cc)
+places_next (u ∷ xs) (v ∷ ys) (suc i) d x y lt is same front place =
     let next : suc i + 1 ≡ suc (i + 1) = omega arith in
     let first : place_of v ≡ place_of u = cc in
     let more : map place_of (take i ys) ≡ map place_of (take i xs) = cc in
-    let rest = places_next xs ys i x y (omega (arith, lt)) is same more place in
+    let rest = places_next xs ys i d x y (omega (arith, lt)) is same more place in
     rw next (λ j. first j ∷ rest.0 j, rest.1)
 
 -- those that have numbers and the others together

@@ -12,7 +12,7 @@ use Rattle.result_text.proofs.Columns.{columns_total}
 use Rattle.line_runs.specs.Ranges.{AreOrdered, count_before, count_of, is_before, range_of}
 use Rattle.line_runs.specs.declared.ranges.Ranges.{Ranges}
 
-less_of : (o : Ordering) → is_lt o ≡ true → o ≡ Less
+pub less_of : (o : Ordering) → is_lt o ≡ true → o ≡ Less
 less_of Less h = refl
 less_of Equal h = cc
 less_of Greater h = cc

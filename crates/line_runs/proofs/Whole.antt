@@ -91,9 +91,6 @@ front_is low left count n r e =
     let m : n ≡ length r.front = omega (arith, long, e) in
     ap (λ (k : ℕ). take k low) m ∙ ap (take (length r.front)) r.is ∙ take-append_seam r.front left
 
-pub left_within : (low left : List ℕ) (count : ℕ) → ReadsFirst low left count → length left ≤ length low
-left_within low left count r = omega (arith, ap (length {A = ℕ}) r.is, length-append r.front left)
-
 pub whole_from : (low left : List ℕ) (at count : ℕ) (s : Shared) (r : ReadsFirst low left at) → at < count → s.columns.now ≡ r.front → IsWhole count s
 whole_from low left at count s r lt e = record {
   columns = r.columns;

@@ -43,7 +43,7 @@ impl Run {
         ensures { IfOk result (IsRunOf bound.now (listed map)) }
     {
         let groups = map.into_groups();
-        let refs = in_order(alloc, &groups, bound.group_count)?;
+        let refs = in_order(alloc, &groups, group_count(bound))?;
         Run::of_groups(alloc, bound, &groups, &refs)
     }
 
@@ -126,6 +126,13 @@ impl Run {
         }
         self.ends[at - 1]
     }
+}
+
+/// How many columns a plan groups by.
+pub(crate) fn group_count(bound: &BoundPlan) -> u32
+    ensures { result ≡ length bound.now.groups }
+{
+    bound.group_columns().len() as u32
 }
 
 /// Where the entry at this place starts and ends.

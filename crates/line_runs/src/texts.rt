@@ -17,7 +17,7 @@ ghost use Rattle.line_runs.specs.Runs.{AreRunsOf, Rise};
 
 use crate::order::{LineRef, sort_lines};
 use crate::ranges::Ranges;
-use crate::run::Run;
+use crate::run::{Run, group_count};
 use par_model::BoundPlan;
 use partial_agg::GroupMap;
 use plan_spec::Plan;
@@ -62,7 +62,7 @@ pub fn table_of_parts<R: Threads + Sync>(
 {
     let runs = runs_of(rt, alloc, bound, maps, threads)?;
     let count = threads.saturating_mul(RANGES);
-    let ranges = Ranges::new(alloc, &runs, bound.group_count, count)?;
+    let ranges = Ranges::new(alloc, &runs, group_count(bound), count)?;
     let header = header_text(alloc, plan, bound)?;
     let texts = range_texts(rt, alloc, bound, &runs, &ranges, threads)?;
     behind(alloc, header, texts)

@@ -8,7 +8,7 @@ use Rattle.line_runs.proofs.order.sort_lines.Goals as goal
 
 -- numbers and the shared part as one fact
 pub sort_numbered-requires : goal.sort_numbered-requires
-sort_numbered-requires c = record { shared = c.args.shared.now; whole = c.requires; each = c.number_all.ensures.numbers }
+sort_numbered-requires c = record { shared = c.args.shared.now; whole = c.requires; each = c.if-number_all.ensures.numbers }
 
 pub returns-then-number_all-clause-same : goal.returns-then-number_all-clause-same
 returns-then-number_all-clause-same c =

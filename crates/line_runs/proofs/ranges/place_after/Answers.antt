@@ -6,13 +6,13 @@ use Rattle.line_runs.proofs.ranges.place_after.Goals as goal
 pub halves-init : goal.halves-init
 halves-init c = record {
   up = omega arith;
-  within = omega (arith, c.len.ensures);
+  within = omega (arith, c.len-high.ensures);
   before = λ k from lt. absurd (omega (arith, lt));
-  after = λ k from lt. absurd (omega (arith, from, lt, c.len.ensures));
+  after = λ k from lt. absurd (omega (arith, from, lt, c.len-high.ensures));
 }
 
-pub half_of-requires-clause-within : goal.half_of-requires-clause-within
-half_of-requires-clause-within c = c.halves.invariant.within
+pub half_of-from-requires-clause-within : goal.half_of-from-requires-clause-within
+half_of-from-requires-clause-within c = c.halves.invariant.within
 
 pub halves-preserved : goal.halves-preserved
 halves-preserved c =
@@ -20,16 +20,16 @@ halves-preserved c =
     let run = c.args.run.now in
     let key = c.args.key.now in
     let inv = c.halves.invariant in
-    let half = c.half_of.ensures in
+    let half = c.half_of-from.ensures in
     record {
-      up = half.up.1.0;
-      within = omega (arith, half.up.1.1, inv.within);
-      before = none_joined count run key 0 c.halves.low c.half_of.result.0 inv.before half.before;
-      after = all_joined count run key c.half_of.result.1 c.halves.high (length run) half.after inv.after;
+      up = half.up.1;
+      within = omega (arith, half.up.2, inv.within);
+      before = none_joined count run key 0 c.halves.low c.half_of-from.result.0 inv.before half.before;
+      after = all_joined count run key c.half_of-from.result.1 c.halves.high (length run) half.after inv.after;
     }
 
 pub halves-smaller : goal.halves-smaller
-halves-smaller c = c.half_of.ensures.fewer
+halves-smaller c = c.half_of-from.ensures.fewer
 
 pub returns : goal.returns
 returns c =

@@ -8,7 +8,7 @@ loop-at-init c = record {
   up = omega arith;
   lines = λ runs within.
       let none : c.args.from - c.args.from ≡ 0 = omega arith in
-      sym (ap (λ (k : ℕ). map (entry_at runs) c.args.lines.now.items ++ take k (drop c.args.from (get_or runs c.args.run []))) none ∙ append-nil (map (entry_at runs) c.args.lines.now.items));
+      ap (map (entry_at runs)) c.reserve.ensures.items ∙ sym (ap (λ (k : ℕ). map (entry_at runs) c.args.lines.now.items ++ take k (drop c.args.from (get_or runs c.args.run []))) none ∙ append-nil (map (entry_at runs) c.args.lines.now.items));
 }
 
 pub loop-at-preserved : goal.loop-at-preserved

@@ -9,13 +9,13 @@ use Rattle.line_runs.proofs.Answering.{all_under, runs_made}
 use Rattle.line_runs.proofs.texts.runs_of.Goals as goal
 
 pub make_runs-requires-clause-printable : goal.make_runs-requires-clause-printable
-make_runs-requires-clause-printable c =
+make_runs-requires-clause-printable g c κs within =
     let plan = c.args.bound.now in
     let jobs = c.in_ok-jobs.jobs.items in
     all_under (λ (m : GroupsByKey). ArePrintable plan (listed m)) (λ (job : Job). job.map) jobs (subst (All (λ (m : GroupsByKey). ArePrintable plan (listed m))) (sym c.in_ok-jobs.ensures) c.requires.printable)
 
 pub returns : goal.returns
-returns c =
+returns g c =
     let plan = c.args.bound.now in
     let olds = c.in_ok-jobs.jobs.items in
     let news = c.make_runs.new.jobs.items in

@@ -6,13 +6,13 @@ use Rattle.line_runs.proofs.order.Shared.number_of.Goals as goal
 
 pub returns : goal.returns
 returns c =
-    let more = c.in_some-more.more.now in
+    let more = c.in_ok-more.more.now in
     let cut = cut-is more c.min.result c.min.ensures in
     record {
-      rest = c.in_some-rest.rest.now;
-      is = c.in_some-rest.ensures;
+      rest = c.in_ok-rest.rest.now;
+      is = c.in_ok-rest.ensures;
       more = more;
-      column = sym c.split_column.ensures.first ∙ c.in_some-more.ensures;
+      column = sym c.split_column.ensures.first ∙ c.in_ok-more.ensures;
       leads = c.number.ensures.number ∙ ap (leading 8) cut ∙ leading-take 8 more;
       bytes = subst AllBytes cut c.number.ensures.bytes;
     }

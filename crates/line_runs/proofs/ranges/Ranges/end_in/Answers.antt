@@ -7,4 +7,4 @@ pub returns : goal.returns
 returns c =
     let r = c.args.self.now in
     let run = c.args.run.now in
-    subst (λ (n : ℕ). IsCutAt r (c.args.range + 1) run n) (sym c.len.ensures) (last_cut r (c.args.range + 1) run (omega (arith, c.count.ensures, c.if-range-self.false)))
+    subst (λ (n : ℕ). IsCutAt r (c.args.range + 1) run n) (sym c.len.ensures) (last_cut r (c.args.range + 1) run (omega (arith, c.count.ensures, c.if-range-count.false)))

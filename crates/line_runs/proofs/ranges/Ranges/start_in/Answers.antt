@@ -5,7 +5,7 @@ use Rattle.line_runs.proofs.ranges.Ranges.start_in.Goals as goal
 
 pub returns-in-Some : goal.returns-in-Some
 returns-in-Some c =
-    let some = c.in-Some.ensures in
+    let some = c.in-Some.ensures.some in
     cut_of_place c.args.self.now c.args.range c.args.run.now c.in-Some.key c.place_after.result c.requires.ordered some.0 c.requires.range some.1 c.place_after.ensures
 
 pub returns-in-None : goal.returns-in-None

@@ -1,4 +1,4 @@
-use Rattle.std.proofs.Common.{◌≡◌, ◌<◌, ◌≤◌, ◌++◌, ◌∷◌, ◌∙◌, [], ℕ, All, List, ap, sym, subst, arith, drop, get_or, length, refl, take}
+use Rattle.std.proofs.Common.{◌≡◌, ◌<◌, ◌≤◌, ◌++◌, ◌∷◌, ◌∙◌, [], ℕ, All, List, ap, sym, subst, arith, drop, get_or, length, refl, rules, take}
 use Rattle.std.proofs.lemmas.List.{get_or-map}
 use Rattle.std.proofs.lemmas.List.Elements.{All-replicate}
 use Rattle.csv.specs.Writing.{default_writer, row_text}
@@ -77,14 +77,15 @@ loop-group-preserved c =
     let few : length plan.items ≤ length c.items.result.now = omega (arith, ap (length {A = Item}) c.items.ensures.items) in
     let values = values-front plan (length c.items.result.now) c.read_state.new.state (state_at lent ref.at) few c.read_state.ensures.rows c.read_state.ensures.front in
     let its : state_at lent ref.at ≡ state_in c.args.groups.now ref = ap (λ (gs : List Group). state_at gs ref.at) c.lent-lent.ensures in
+    let size : c.len.result ≡ length c.push_entry.new.bytes.items = search rules in
     let own : entry_bytes plan ref.key.now c.read_state.new.state ≡ bytes_of plan (group_of c.args.groups.now ref) =
     ap (λ (vs : List (List ℕ)). length ref.key.now ∷ (ref.key.now ++ row_text default_writer (columns ++ vs))) (values ∙ ap (values_text plan) its) in
     record {
       small =
           small_read c.args.groups.now lent c.args.refs.now c.loop-group.group-index (length c.items.result.now) c.read_state.new.state.slots c.loop-group.state.slots c.lent-lent.ensures c.requires.small c.requires.within c.loop-group-test.true
           c.read_state.ensures.front c.read_state.ensures.rest c.loop-group.invariant.small;
-      have = one_more plan c.args.groups.now c.args.refs.now c.loop-group.group-index c.len-in-loop-group.result no_ref c.loop-group.bytes.items c.loop-group.ends.items _ _ c.loop-group-test.true c.loop-group.invariant.have
-          (c.in_ok-push_entry.ensures ∙ ap (λ (t : List ℕ). c.loop-group.bytes.items ++ t) own) c.len-in-loop-group.ensures c.in_ok-push.ensures.items;
+      have = one_more plan c.args.groups.now c.args.refs.now c.loop-group.group-index c.len.result no_ref c.loop-group.bytes.items c.loop-group.ends.items _ _ c.loop-group-test.true c.loop-group.invariant.have
+          (c.in_ok-push_entry.ensures ∙ ap (λ (t : List ℕ). c.loop-group.bytes.items ++ t) own) size c.in_ok-push.ensures.items;
     }
 
 pub of-requires : goal.of-requires
