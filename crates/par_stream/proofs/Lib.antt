@@ -1,5 +1,6 @@
 mod Batches
 mod Found
+mod Gathering
 mod Refusals
 mod Statuses
 mod Streams

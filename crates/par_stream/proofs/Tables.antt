@@ -5,11 +5,12 @@ use Rattle.par_model.specs.Named.{bound_plan}
 use Rattle.par_model.specs.Outcome.{IsAnswer}
 use Rattle.plan_spec.specs.Query.{Query}
 use Rattle.row_blocks.specs.Blocks.{Table}
-use Rattle.gather_law.specs.Shares.{AreShared}
 use Rattle.par_stream.specs.Answers.{IsTableText}
 use Rattle.par_stream.specs.Outcome.{outcome}
+use Rattle.par_stream.specs.Gathering.{HasGathered}
 use Rattle.par_stream.specs.Reading.{AreGroupsOver}
 use Rattle.par_stream.specs.declared.reading.ReadGroups.{ReadGroups}
+use Rattle.par_stream.proofs.Gathering.{all_accepted}
 use Rattle.par_stream.proofs.Refusals.{accepted_table}
 
 -- what holds of every error holds of the one that there is
@@ -17,9 +18,9 @@ pub IfErr-each : {T E : Type 0} (r : Result T E) (P : E → Type 0) → ((why : 
 IfErr-each (Ok x) P each = tt
 IfErr-each (Err why) P each = each why
 
--- a text answers a query over any rows of which the maps have shares
+-- a text answers a query over any rows that were gathered
 abbrev pub AnswersAny : Query → ReadGroups → List ℕ → Type 0
-AnswersAny query r text = (header : List (List ℕ)) (width : ℕ) (rows : Table) → r.bound ≡ bound_plan header query.plan → length rows ≤ 2 ^ 50 → AreShared r.bound width rows r.maps.items → IsAnswer query.plan (header ∷ rows) text
+AnswersAny query r text = (header : List (List ℕ)) (width : ℕ) (rows : Table) → r.bound ≡ bound_plan header query.plan → length rows ≤ 2 ^ 50 → HasGathered r.bound width rows r.gathered → IsAnswer query.plan (header ∷ rows) text
 
 module _ (query : Query) (r : ReadGroups) (text : List ℕ) where
   pub table_text : (from : Option (List ℕ)) → AnswersAny query r text → AreGroupsOver query from r → IfSome from (λ bytes. IsTableText (Some query) bytes text)
@@ -27,8 +28,8 @@ module _ (query : Query) (r : ReadGroups) (text : List ℕ) where
   table_text (Some bytes) answers over = record {
     query = query;
     is = refl;
-    has_table = ap (outcome query.plan) over.all ∙ accepted_table query over.header r.bound over.bound over.rows over.shared.accepted;
-    is_text = subst (λ (l : Table). IsAnswer query.plan l text) (sym over.all) (answers over.header (length over.header) over.rows over.bound.is over.few over.shared);
+    has_table = ap (outcome query.plan) over.all ∙ accepted_table query over.header r.bound over.bound over.rows (all_accepted r.bound (length over.header) over.rows r.gathered over.groups);
+    is_text = subst (λ (l : Table). IsAnswer query.plan l text) (sym over.all) (answers over.header (length over.header) over.rows over.bound.is over.few over.groups);
   }
 
   -- what was written of it

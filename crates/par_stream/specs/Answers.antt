@@ -1,9 +1,16 @@
 -- The text of a table.
-use Rattle.std.specs.Prelude.{◌≡◌, ℕ, List, Option, Some}
+use Rattle.std.specs.Prelude.{◌≡◌, ◌≤◌, ◌^◌, ◌∷◌, ℕ, List, Option, Some, length}
+use Rattle.std.specs.Global.{Vec}
 use Rattle.csv_rows.specs.Records.{records_of}
+use Rattle.par_model.specs.Named.{NamedPlan, bound_plan}
 use Rattle.par_model.specs.Outcome.{IsAnswer, Table}
+use Rattle.par_model.specs.Plan.{Plan}
 use Rattle.plan_spec.specs.Query.{Query}
+use Rattle.result_text.specs.Pieces.{joined}
+use Rattle.row_blocks.specs.Blocks.{Table as Records}
+use Rattle.par_stream.specs.Gathering.{HasGathered}
 use Rattle.par_stream.specs.Outcome.{outcome_over}
+use Rattle.par_stream.specs.declared.gathered.Gathered.{Gathered}
 
 -- a query is asked for, its outcome over bytes is a table, and this is the text of that table
 pub record IsTableText (asked : Option Query) (bytes text : List ℕ) : Type 0 where
@@ -11,3 +18,8 @@ pub record IsTableText (asked : Option Query) (bytes text : List ℕ) : Type 0 w
   pub is : asked ≡ Some query
   pub has_table : outcome_over query.plan bytes ≡ Table
   pub is_text : IsAnswer query.plan (records_of bytes) text
+
+-- the text of these pieces answers a plan, whatever the rows are that were gathered
+abbrev pub AnswersGathered : NamedPlan → Plan → Gathered → List (Vec ℕ) → Type 0
+AnswersGathered plan bound g pieces = (header : List (List ℕ)) (width : ℕ) (rows : Records) → bound ≡ bound_plan header plan → length rows ≤ 2 ^ 50 → HasGathered bound width rows g
+    → IsAnswer plan (header ∷ rows) (joined pieces)

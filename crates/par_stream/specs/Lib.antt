@@ -1,5 +1,6 @@
 pub mod Outcome
 pub mod Said
+pub mod Gathering
 pub mod Reading
 pub mod Stops
 pub mod Lines

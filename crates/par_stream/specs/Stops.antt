@@ -75,7 +75,7 @@ Tells query left (stop.Refused row said) = NamesFirstRow query left row (string_
 Tells query left stop.WriteFault = IfSome left (λ bytes. outcome_over query.plan bytes ≡ Table)
 Tells query left stop.Memory = ⊤
 
--- Why the rows of a batch were not added to the maps of some others, which come before them: it is so said of each source
+-- Why the rows of a batch were not added to some others, which come before them: it is so said of each source
 -- whose records begin with the header and all these rows
 abbrev pub TellsOfRows : Query → Plan → Batch → Added → Stop → Type 0
 TellsOfRows query plan b added why = (from : Option (List ℕ)) (header : List (List ℕ)) (rows : Records) → IsBound query header plan → AreUnder header b.pieces.items → HasAdded plan (length header) rows added

@@ -1,19 +1,27 @@
 //! The writing of a table.
 
-ghost use Rattle.std.specs.Prelude.{◌≡◌, ◌≢◌, ◌⊎◌, ℕ, List, Option, IfErr, IfSome, OnOk, Some, take};
+ghost use Rattle.std.specs.Prelude.{◌≡◌, ◌≢◌, ◌⊎◌, ℕ, List, Option, IfErr, IfOk, IfSome, OnOk, Some, take};
 ghost use Rattle.std.specs.Io.KnownBytes.{Appends};
 ghost use Rattle.par_io.specs.Faults.{Rose};
-ghost use Rattle.par_stream.specs.Answers.{IsTableText};
+ghost use Rattle.result_text.specs.Printable.{IsBoundFrom};
+ghost use Rattle.par_stream.specs.Answers.{AnswersGathered, IsTableText};
+ghost use Rattle.par_stream.specs.Gathering.{AreGathered};
 ghost use Rattle.par_stream.specs.Reading.{AreGroupsOver};
+ghost use Rattle.par_stream.specs.declared.gathered.Gathered.TheVariants as kept;
 ghost use Rattle.par_stream.specs.declared.stop.Stop.TheVariants as stop;
 
+use crate::gathered::{Gathered, all_groups, may_part};
 use crate::reading::ReadGroups;
 use crate::stop::Stop;
 use answer_text::write_each;
+use line_runs::table_of_parts;
 use par_io::Sink;
+use par_model::BoundPlan;
+use part_run::Parts;
+use partial_agg::GroupMap;
 use plan_spec::Plan;
 use split_run::{FEWEST_GROUPS, table_text};
-use std::alloc::Global;
+use std::alloc::{AllocError, Global};
 use std::thread::Threads;
 
 /// Makes the text of the table of these groups in pieces, and writes them one behind the other.
@@ -33,8 +41,62 @@ pub(crate) fn write_table<R: Threads + Sync, O: Sink>(
     ensures write_fault { IfErr result (λ why. why ≡ stop.WriteFault → Rose (O.faults out.old) (O.faults out.new)) }
     ensures why { IfErr result (λ why. (why ≡ stop.WriteFault) ⊎ (why ≡ stop.Memory)) }
 {
-    let ReadGroups { bound, maps } = read;
-    let pieces = table_text(rt, alloc, plan, &bound, maps, FEWEST_GROUPS)?;
+    let ReadGroups { bound, gathered } = read;
+    let pieces = text_of(rt, alloc, plan, &bound, gathered)?;
     write_each(out, &pieces)?;
     Ok(())
+}
+
+/// The text of the table of what was gathered, in pieces.
+fn text_of<R: Threads + Sync>(
+    rt: &R,
+    alloc: Global,
+    plan: &Plan,
+    bound: &BoundPlan,
+    gathered: Gathered,
+) -> Result<Vec<Vec<u8>>, AllocError>
+    requires bound { IsBoundFrom plan.now.plan bound.now }
+    requires rows { AreGathered bound.now gathered }
+    ensures { IfOk result (λ pieces. AnswersGathered plan.now.plan bound.now gathered pieces.items) }
+{
+    match gathered {
+        Gathered::Near(maps) => near_text(rt, alloc, plan, bound, maps),
+        Gathered::Parted(parts) => parts_text(rt, alloc, plan, bound, parts),
+    }
+}
+
+/// The text by the maps of the participants. If there are many groups their keys are parted now.
+fn near_text<R: Threads + Sync>(
+    rt: &R,
+    alloc: Global,
+    plan: &Plan,
+    bound: &BoundPlan,
+    maps: Vec<GroupMap>,
+) -> Result<Vec<Vec<u8>>, AllocError>
+    requires bound { IsBoundFrom plan.now.plan bound.now }
+    requires rows { AreGathered bound.now (kept.Near maps) }
+    ensures { IfOk result (λ pieces. AnswersGathered plan.now.plan bound.now (kept.Near maps) pieces.items) }
+{
+    if may_part(bound, &maps) && all_groups(&maps) >= FEWEST_GROUPS {
+        let parts = Parts::begin(rt, alloc, maps)?;
+        return parts_text(rt, alloc, plan, bound, parts);
+    }
+    table_text(rt, alloc, plan, bound, maps, FEWEST_GROUPS)
+}
+
+/// The text by the maps of the parts, to which all rows that wait are added first.
+fn parts_text<R: Threads + Sync>(
+    rt: &R,
+    alloc: Global,
+    plan: &Plan,
+    bound: &BoundPlan,
+    parts: Parts,
+) -> Result<Vec<Vec<u8>>, AllocError>
+    requires bound { IsBoundFrom plan.now.plan bound.now }
+    requires rows { AreGathered bound.now (kept.Parted parts) }
+    ensures { IfOk result (λ pieces. AnswersGathered plan.now.plan bound.now (kept.Parted parts) pieces.items) }
+{
+    let threads = plan.workers() as usize + 1;
+    let maps = parts.finish(rt, alloc)?;
+    table_of_parts(rt, alloc, plan, bound, maps, threads)
 }

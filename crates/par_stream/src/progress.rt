@@ -7,7 +7,8 @@ pub struct SoFar {
     pub bytes: u64,
     /// The rows that were added to groups.
     pub rows: u64,
-    /// The groups of the participant that has most of them: there are as many at least.
+    /// There are as many groups at least: those of the participant that has most of them, or, with parts, of the rows that
+    /// were added to these.
     pub groups: u64,
 }
 

@@ -31,7 +31,7 @@ returns-clause-groups g c =
       header = header;
       rows = rows ++ rows_of s.batch.pieces.items;
       bound = c.requires.stream.bound;
-      shared = all.shared;
+      groups = all.groups;
       few = omega (arith, all.count, adds.few);
       all = has.reaches.all c.requires.last;
     }

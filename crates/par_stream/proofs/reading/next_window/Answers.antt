@@ -5,6 +5,7 @@ use Rattle.row_windows.specs.declared.window.WindowAnswer.{WindowAnswer}
 use Rattle.split_run.specs.Pieces.{rows_of}
 use Rattle.par_stream.specs.Reading.{HasRead, HasRows, IsFilledBatch, IsNotFilled}
 use Rattle.par_stream.specs.Stops.{Tells}
+use Rattle.par_stream.proofs.Gathering.{all_accepted}
 use Rattle.par_stream.proofs.Refusals.{accepted_table, begins, have_columns}
 use Rattle.par_stream.proofs.Streams.{next_header, next_reaches}
 use Rattle.par_stream.proofs.Windows.{window_tells}
@@ -41,7 +42,8 @@ returns-in-Err-clause-why g c =
     let read : HasRead from old records was.rest = subst (HasRead from old records) (sym c.in_ok-follow.ensures.rest) (has.reaches.more c.requires.more) in
     let number : length records ≡ c.add_and_fill.new.added.count + 1 = omega (arith, all.count) in
     subst (Tells c.args.plan.now from) (sym c.stop_of_window.ensures)
-    (window_tells old new old_faults new_faults was c.args.plan.now from records (c.add_and_fill.new.added.count + 1) why (inr (accepted_table c.args.plan.now header c.args.bound.now c.requires.stream.bound (rows ++ rows_of s.batch.pieces.items) all.shared.accepted)) read number is)
+    (window_tells old new old_faults new_faults was c.args.plan.now from records (c.add_and_fill.new.added.count + 1) why (inr (accepted_table c.args.plan.now header c.args.bound.now c.requires.stream.bound (rows ++ rows_of s.batch.pieces.items)
+    (all_accepted c.args.bound.now (length header) (rows ++ rows_of s.batch.pieces.items) c.add_and_fill.new.added.gathered all.groups))) read number is)
 
 pub returns-clause-stream : goal.returns-clause-stream
 returns-clause-stream g c =
@@ -55,7 +57,7 @@ returns-clause-stream g c =
     record {
       batch = next_header s.header s.batch now was s.is_last c.in-Ok.is_last old new c.requires.stream.batch c.requires.more c.in_ok-follow.ensures.header c.in_ok-follow.ensures.rest filled;
       bound = c.requires.stream.bound;
-      maps = adds.many ∙ c.requires.stream.maps;
+      many = adds.many ∙ c.requires.stream.many;
       few = adds.few;
     }
 

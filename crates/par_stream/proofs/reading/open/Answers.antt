@@ -19,7 +19,7 @@ returns-clause-stream c =
     record {
       batch = first_headed first.header first.window c.in_ok-of_window.field-0 first.is_last c.requires.header made.pieces made.header made.rest;
       bound = c.requires.bound;
-      maps = omega (arith, ap length c.in_ok-maps.ensures, length-replicate (c.workers.result + 1) (map.empty {K = List ℕ} {X = AggState} {R = key_cmp}), c.workers.ensures.value);
+      many = omega (arith, ap length c.in_ok-maps.ensures, length-replicate (c.workers.result + 1) (map.empty {K = List ℕ} {X = AggState} {R = key_cmp}), c.workers.ensures.value);
       few = omega arith;
     }
 
@@ -34,6 +34,6 @@ returns-clause-rows c =
     let all : Reaches from left (record_at first.header 0 ∷ rows_of c.in_ok-of_window.field-0.pieces.items) first.window.rest first.is_last =
     subst (λ (l : Table). Reaches from left l first.window.rest first.is_last) (c.requires.header.records ∙ ap (λ (l : Table). record_at first.header 0 ∷ l) (sym one)) r in
     record {
-      added = record { count = refl; shared = subst (λ (l : List GroupsByKey). AreShared bound width [] l) (sym c.in_ok-maps.ensures) (shares_begin bound width _) };
+      added = record { count = refl; groups = subst (λ (l : List GroupsByKey). AreShared bound width [] l) (sym c.in_ok-maps.ensures) (shares_begin bound width _) };
       reaches = subst (λ (rest : List ℕ). Reaches from left (record_at first.header 0 ∷ rows_of c.in_ok-of_window.field-0.pieces.items) rest first.is_last) (sym made.rest) all;
     }
