@@ -21,6 +21,7 @@ fn first_object<R: Wait>(rt: &R, area: &Area, r: &Region, pass: &mut AreaPass, b
     requires pages { 16 ≤ pages_of area.now }
     requires some { (1 ≤ bytes) × (bytes ≤ 8192) }
     ensures own { Belongs area.now pass.new }
+    ensures here { result.part.region ≡ r.now }
     ensures size { result.bytes ≡ chunk_size bytes }
 {
     match area.alloc(rt, r, pass, bytes) {
