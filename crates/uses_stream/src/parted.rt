@@ -107,11 +107,11 @@ fn all_fit(alloc: Global, pieces: &[Window], width: u32, plan: &BoundPlan) -> bo
     true
 }
 
-/// The piece with this number of a table of 1,500 groups.
+/// The piece with this number of a table of 700 groups.
 fn piece(alloc: Global, number: u32) -> Result<Window, Fail> {
     let mut text = Vec::from_slice(alloc, b"g,v\n")?;
-    for row in 0..400u32 {
-        let key = number.wrapping_mul(400).wrapping_add(row).wrapping_mul(17) % 1_500;
+    for row in 0..200u32 {
+        let key = number.wrapping_mul(200).wrapping_add(row).wrapping_mul(17) % 700;
         let line = format!(in alloc; "k{key},{row}\n")?;
         text.extend_from_slice(line.as_bytes())?;
     }
@@ -154,7 +154,10 @@ fn are_parts(lists: &[Groups], groups: &Groups) -> bool {
         let Some(list) = lists.get(part) else {
             return false;
         };
-        if place >= list.len() || list.key(place) != groups.key(at) || list.state(place) != groups.state(at) {
+        if place >= list.len()
+            || list.key(place) != groups.key(at)
+            || list.state(place) != groups.state(at)
+        {
             return false;
         }
         places[part] = place.wrapping_add(1);
@@ -189,7 +192,10 @@ fn are_same<R: Threads + Wait + Sync>(
     if first.len() > 8 || second.len() > 8 || all.len() > 8 {
         return Err("pieces".into());
     }
-    if !all_fit(alloc, &first, width, &bound) || !all_fit(alloc, &second, width, &bound) || !all_fit(alloc, &all, width, &bound) {
+    if !all_fit(alloc, &first, width, &bound)
+        || !all_fit(alloc, &second, width, &bound)
+        || !all_fit(alloc, &all, width, &bound)
+    {
         return Err("headers".into());
     }
     let Ok(parted) = parted_groups(rt, alloc, &first, &second, &bound, participants, most) else {
@@ -199,18 +205,16 @@ fn are_same<R: Threads + Wait + Sync>(
         return Err("maps".into());
     };
     let groups = shared.into_groups();
-    Ok(groups.len() == 1_500 && are_parts(&listed(alloc, parted)?, &groups))
+    Ok(groups.len() == 700 && are_parts(&listed(alloc, parted)?, &groups))
 }
 
 #[test]
 fn groups_are_parted(rt: HostRuntime) -> Result<(), Fail> {
-    for participants in [1, 2, 5u32] {
-        for most in [0, 20_000, usize::MAX] {
-            assert!(rt;
-                are_same(&rt, rt.alloc(), participants, most)?,
-                "by {participants}, {most} bytes"
-            );
-        }
+    for (participants, most) in [(1, 0), (2, 5_000), (5, 0), (5u32, usize::MAX)] {
+        assert!(rt;
+            are_same(&rt, rt.alloc(), participants, most)?,
+            "by {participants}, {most} bytes"
+        );
     }
     Ok(())
 }
