@@ -11,6 +11,8 @@ mod faults;
 #[cfg(test)]
 mod filters;
 #[cfg(test)]
+mod parted;
+#[cfg(test)]
 mod ranges;
 #[cfg(test)]
 mod shares;
