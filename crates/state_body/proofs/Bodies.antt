@@ -1,10 +1,10 @@
 -- The blocks of a file, one after another: what is read of them so far.
-use Rattle.std.proofs.Common.{◌≡◌, ◌<◌, ◌≤◌, ◌+◌, ◌^◌, ◌++◌, ◌∙◌, ◌⊎◌, inl, inr, ℕ, zero, suc, Bool, List, [], ◌∷◌, All, ap, append_assoc, append-nil, arith, length, length-append, map, refl, subst, sym}
+use Rattle.std.proofs.Common.{◌≡◌, ◌<◌, ◌≤◌, ◌+◌, ◌^◌, ◌++◌, ◌∙◌, ◌⊎◌, inl, inr, ℕ, Bool, List, [], ◌∷◌, All, ap, append_assoc, append-nil, arith, length, length-append, map, refl, subst, sym}
 use Rattle.std.specs.List.{flat_map}
 use Rattle.std.proofs.lemmas.List.Folds.{flat_map-map}
 use Rattle.std.proofs.lemmas.List.{map-append}
 use Rattle.std.proofs.lemmas.List.Elements.{All-cons, All-head, All-nil, All-push, All-tail}
-use Rattle.state_blocks.specs.Blocks.{Group, IsBlock, IsTuple, block_bytes, block_section, blocks_bytes, first_key, tuple_bytes}
+use Rattle.state_blocks.specs.Blocks.{Group, IsBlock, block_bytes, blocks_bytes, tuple_bytes}
 use Rattle.state_blocks.proofs.Tuples.{tuple_some}
 use Rattle.state_body.specs.Body.{IsIndex, Knows, Takes, groups_of}
 use Rattle.state_body.specs.Faults.{AreNoBlocks, HasBadBlock, HasNoBlock, HasNoGroup, IsNoBlock, IsNoPart}

@@ -1,5 +1,5 @@
 -- The end of a file, and all that comes after its head.
-use Rattle.std.proofs.Common.{◌≡◌, ◌<◌, ◌≤◌, ◌+◌, ◌-◌, ◌^◌, ◌++◌, ◌∙◌, ℕ, Bool, true, false, List, [], ◌∷◌, All, IfErr, IfOk, Err, Ok, Result, ap, append_assoc, arith, drop, length, length-append, refl, subst, sym, take}
+use Rattle.std.proofs.Common.{◌≡◌, ◌<◌, ◌≤◌, ◌-◌, ◌++◌, ◌∙◌, ℕ, Bool, true, false, List, [], All, IfOk, Err, Ok, Result, ap, append_assoc, arith, length, length-append, subst, sym, take}
 use Rattle.std.specs.Prelude.{bytes_eq}
 use Rattle.std.proofs.lemmas.Bool.{true≢false}
 use Rattle.std.proofs.lemmas.List.{take-append-le}
@@ -7,8 +7,8 @@ use Rattle.std.proofs.lemmas.Slice.Eq.{bytes_eq-Decides}
 use Rattle.std.proofs.Math.Seq.{take-length}
 use Rattle.std.specs.Int.{to_le_bytes, w32}
 use Rattle.state_blocks.specs.Blocks.{Group, IsBlock, blocks_bytes}
-use Rattle.state_body.specs.Body.{IsBody, IsIndex, body_bytes, end_bytes, foot_bytes, groups_of, last_bytes, places_bytes}
-use Rattle.state_body.specs.Faults.{HasNoEnd, IsNoBody, IsNoEnd, IsNoLength}
+use Rattle.state_body.specs.Body.{IsIndex, body_bytes, end_bytes, foot_bytes, groups_of, last_bytes}
+use Rattle.state_body.specs.Faults.{HasNoEnd, IsNoEnd, IsNoLength}
 use Rattle.state_body.specs.declared.body.BodyFault.{BodyFault}
 use Rattle.state_body.specs.declared.body.BodyFault.TheVariants.{Block, Cut, End, Foot, Memory, OtherFoot}
 use Rattle.state_body.specs.declared.body.BodyFault.TheVariants as fault

@@ -1,8 +1,8 @@
 -- One block is taken in: what is known of it.
-use Rattle.std.proofs.Common.{◌≡◌, ◌<◌, ◌≤◌, ◌+◌, ◌^◌, ◌++◌, ◌∙◌, ℕ, Bool, List, [], ◌∷◌, All, ap, arith, length, subst, sym}
+use Rattle.std.proofs.Common.{◌≡◌, ◌<◌, ◌≤◌, ◌^◌, ◌++◌, ◌∙◌, ℕ, Bool, List, [], ◌∷◌, All, ap, arith, length, subst, sym}
 use Rattle.std.specs.List.{flat_map}
 use Rattle.std.proofs.lemmas.List.Elements.{All-head}
-use Rattle.state_blocks.specs.Blocks.{Group, IsBlock, IsTuple, block_bytes, first_key, tuple_bytes}
+use Rattle.state_blocks.specs.Blocks.{Group, IsTuple, block_bytes, first_key, tuple_bytes}
 use Rattle.state_body.specs.Body.{IsIndex, Takes}
 use Rattle.state_body.specs.declared.index.Index.{Index}
 use Rattle.state_body.proofs.Bodies.{has_first}

@@ -5,8 +5,6 @@
 mod body;
 mod end;
 mod index;
-#[cfg(test)]
-mod tests;
 
 pub use body::{BodyFault, BodyRead, read_body};
 pub use end::{MOST_FOOT, push_end};

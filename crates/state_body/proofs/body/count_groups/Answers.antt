@@ -1,4 +1,4 @@
-use Rattle.std.proofs.Common.{arith, refl}
+use Rattle.std.proofs.Common.{refl}
 use Rattle.state_body.proofs.body.count_groups.Goals as goal
 
 pub returns-in-Err-clause-written : goal.returns-in-Err-clause-written

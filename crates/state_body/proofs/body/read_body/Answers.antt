@@ -1,4 +1,4 @@
-use Rattle.std.proofs.Common.{◌≡◌, ◌<◌, ◌≤◌, ◌+◌, ◌^◌, ◌++◌, ◌∙◌, ℕ, List, [], ap, arith, inl, inr, length, refl, subst, sym}
+use Rattle.std.proofs.Common.{◌≤◌, ◌^◌, ◌++◌, ◌∙◌, ℕ, List, [], ap, arith, inl, inr, length, subst, sym}
 use Rattle.std.proofs.lemmas.Result.{err_from_is_err_and}
 use Rattle.state_body.specs.Body.{IsIndex, end_bytes, foot_bytes}
 use Rattle.state_body.proofs.Ends.{blocks_fit, blocks_front, body_read, body_written, no_end}

@@ -1,4 +1,3 @@
-use Rattle.std.proofs.Common.{arith, length, refl}
 use Rattle.state_body.proofs.Taking.{first_is, takes}
 use Rattle.state_body.proofs.body.take_block.Goals as goal
 

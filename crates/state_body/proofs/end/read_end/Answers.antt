@@ -1,4 +1,4 @@
-use Rattle.std.proofs.Common.{◌≡◌, ◌≤◌, ◌^◌, ◌++◌, List, ℕ, length, subst}
+use Rattle.std.proofs.Common.{◌≤◌, ◌^◌, ◌++◌, List, ℕ, length, subst}
 use Rattle.state_body.proofs.Ends.{end_read, end_written, if_ok, length_bytes, not_same, same_of}
 use Rattle.state_body.proofs.end.read_end.Goals as goal
 
