@@ -17,7 +17,7 @@ use std::test::Fail;
 use std::thread::Threads;
 
 /// The groups of all rows of some pieces, by this many participants, the caller's thread among them.
-fn shared_groups<R: Threads + Wait + Sync>(
+pub(crate) fn shared_groups<R: Threads + Wait + Sync>(
     rt: &R,
     alloc: Global,
     pieces: &[Window],
