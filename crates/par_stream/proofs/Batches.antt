@@ -1,5 +1,5 @@
 -- A batch that is filled window by window.
-use Rattle.std.proofs.Common.{◌≡◌, ◌≤◌, ◌++◌, ◌∙◌, ℕ, Bool, false, List, [], ◌∷◌, All, Option, None, Some, length, map, refl, ap, sym, subst, arith, append-nil, append_assoc}
+use Rattle.std.proofs.Common.{◌≡◌, ◌≤◌, inl, inr, ◌++◌, ◌∙◌, ℕ, Bool, false, List, [], ◌∷◌, All, Option, None, Some, length, map, refl, ap, sym, subst, arith, append-nil, append_assoc}
 use Rattle.std.proofs.lemmas.List.{map-append}
 use Rattle.std.proofs.lemmas.List.Concat.{flat_map-append}
 use Rattle.std.proofs.lemmas.List.Elements.{All-nil, All-push, All-same}
@@ -13,15 +13,19 @@ use Rattle.par_stream.specs.declared.batch.Batch.{Batch}
 use Rattle.par_stream.proofs.Windows.{begins_longer, filled}
 
 -- what is read on into the rest is read
-pub read_longer : (from old new : Option (List ℕ)) (records : Table) (was rest : List ℕ) → HasRead from old records was → Fills old new was rest → HasRead from new records rest
-read_longer None old new records was rest read f = tt
-read_longer (Some bytes) None new records was rest read f = absurd read
-read_longer (Some bytes) (Some old) None records was rest read f = absurd f.1
-read_longer (Some bytes) (Some old) (Some new) records was rest read f =
+pub read_longer : (from old new : Option (List ℕ)) (records : Table) (feeds : ℕ) (was rest : List ℕ) → HasRead from old records feeds was → Fills old new was rest → HasRead from new records feeds rest
+read_longer None old new records feeds was rest read f = tt
+read_longer (Some bytes) None new records feeds was rest read f = absurd read
+read_longer (Some bytes) (Some old) None records feeds was rest read f = absurd f.1
+read_longer (Some bytes) (Some old) (Some new) records feeds was rest read f =
     let left : was ++ old ≡ rest ++ new = ap (λ (l : List ℕ). was ++ l) f.1 ∙ (sym (append_assoc was f.0 new) ∙ ap (λ (l : List ℕ). l ++ new) (sym f.2)) in
     record {
       front = read.front;
       are = read.are ∙ ap (λ (l : List ℕ). read.front ++ l) left;
+      is = read.is;
+      feeds = read.feeds;
+      whole = read.whole;
+      begins = elim read.begins [ inl none ↦ inl none | inr line ↦ inr (subst BeginsLine (sym f.2) (begins_longer was f.0 line)) ];
       parts = read.parts ∙ ap (λ (l : List ℕ). records ++ records_of l) left;
     }
 

@@ -1,4 +1,5 @@
 mod Batches
+mod Feeds
 mod Found
 mod Refusals
 mod Statuses

@@ -22,7 +22,7 @@ use Rattle.table_query.proofs.RefusedRows.{refused_first, refused_in-none}
 use Rattle.par_stream.specs.Outcome.{outcome, outcome_over}
 use Rattle.par_stream.specs.Reading.{Begins, HasAll, IsBound, Reaches}
 use Rattle.par_stream.specs.Said.{row_says}
-use Rattle.par_stream.specs.Stops.{IsRefusedRow, Restates, SaysMissing, Tells}
+use Rattle.par_stream.specs.Stops.{IsRefusedRow, Restates, SaysOfHeader, Tells}
 use Rattle.par_stream.specs.declared.stop.Stop.{Stop}
 use Rattle.par_stream.specs.declared.stop.Stop.TheVariants as stop
 use Rattle.par_stream.proofs.Found.{row_there}
@@ -61,12 +61,19 @@ module _ (query : Query) where
   lacks (Some bytes) (header ∷ rows) name b some m =
       (ap (outcome query.plan) b.1 ∙ ap (by_missing query.plan header (rows ++ b.0)) m, ap (λ (l : Table). record_at l 0) b.1)
 
-  -- a column that the header lacks
+  here_twice : (from : Option (List ℕ)) (records : Table) → Begins from records → 0 < length records → IfSome from (λ bytes. record_at (records_of bytes) 0 ≡ record_at records 0)
+  here_twice None records b some = tt
+  here_twice (Some bytes) [] b some = absurd (omega (arith, some))
+  here_twice (Some bytes) (header ∷ rows) b some = ap (λ (l : Table). record_at l 0) b.1
+
+  -- a column that the header lacks, or has twice
   pub missing_tells : (from : Option (List ℕ)) (records : Table) (why : Stop) → Begins from records → 0 < length records
-      → (why ≡ stop.Memory) ⊎ ((said : _) × (why ≡ stop.NoColumn said) × SaysMissing query.plan (record_at records 0) (string_bytes said)) → Tells query from why
+      → SaysOfHeader query.plan (record_at records 0) why → Tells query from why
   missing_tells from records why b some (inl e) = subst (Tells query from) (sym e) tt
-  missing_tells from records why b some (inr m) =
+  missing_tells from records why b some (inr (inl m)) =
       subst (Tells query from) (sym m.1) (record { name = m.2.name; header = record_at records 0; says = m.2.says; lacks = lacks from records m.2.name b some m.2.lacks })
+  missing_tells from records why b some (inr (inr m)) =
+      subst (Tells query from) (sym m.1) (record { header = record_at records 0; says = m.2.0; whole = m.2.1; is = here_twice from records b some })
 
 module _ (query : Query) (header : List (List ℕ)) (bound : Plan) (is : IsBound query header bound) where
   pub outcome_rows : (rows : Table) → outcome query.plan (header ∷ rows) ≡ by_refused (refused_in bound (header ∷ rows))

@@ -1,5 +1,5 @@
 -- Windows of a source, one after another.
-use Rattle.std.proofs.Common.{◌≡◌, ◌⊎◌, ◌<◌, ◌++◌, ◌∙◌, ℕ, Bool, true, false, List, [], ◌∷◌, Option, None, Some, Result, Ok, Err, IfErr, IfOk, IfSome, length, length-append, refl, ap, sym, arith, append_assoc, append-nil}
+use Rattle.std.proofs.Common.{◌≡◌, ◌⊎◌, inl, inr, ◌<◌, ◌+◌, ◌++◌, ◌∙◌, ℕ, Bool, true, false, List, [], ◌∷◌, Option, None, Some, Result, Ok, Err, IfErr, IfOk, IfSome, length, length-append, refl, ap, subst, sym, arith, append_assoc, append-nil}
 use Rattle.std.specs.Prelude.{OnOk}
 use Rattle.std.specs.Io.KnownBytes.{IsAtEnd}
 use Rattle.csv_rows.specs.Records.{records_of}
@@ -11,6 +11,10 @@ use Rattle.row_windows.specs.Stretch.{Fills, IsLongWindow, Stretch}
 use Rattle.row_windows.specs.declared.window.WindowAnswer.{WindowAnswer}
 use Rattle.row_windows.specs.declared.window.WindowAnswer.TheVariants as answer
 use Rattle.row_windows.proofs.Seams.{records_add_up}
+use Rattle.csv_rows.specs.Cuts.{IsCut}
+use Rattle.text_lines.specs.Feeds.{count_feeds}
+use Rattle.text_lines.proofs.Counts.{count_append}
+use Rattle.text_lines.proofs.Parts.{cut_append}
 use Rattle.par_model.specs.Named.{NamedPlan}
 use Rattle.par_model.specs.Outcome.{Table as IsTable}
 use Rattle.par_stream.specs.Outcome.{HasLong, outcome}
@@ -19,9 +23,9 @@ use Rattle.par_stream.specs.Stops.{Tells, stop_of_window}
 use Rattle.par_stream.specs.declared.stop.Stop.TheVariants as stop
 
 -- before anything is read
-pub read_nothing : (left : Option (List ℕ)) → HasRead left left [] []
+pub read_nothing : (left : Option (List ℕ)) → HasRead left left [] 0 []
 read_nothing None = tt
-read_nothing (Some bytes) = record { front = []; are = refl; parts = refl }
+read_nothing (Some bytes) = record { front = []; are = refl; is = refl; parts = refl; feeds = refl; whole = refl; begins = inl refl }
 
 -- a text that begins a line does so with more behind it
 pub begins_longer : (back more : List ℕ) → BeginsLine back → BeginsLine (back ++ more)
@@ -37,7 +41,7 @@ begins_lines old new [] lines rest f some b = absurd (omega (arith, b.some))
 begins_lines old new (c ∷ was) [] rest f some b = absurd (omega (arith, some))
 begins_lines old new (c ∷ was) (d ∷ lines) rest f some b = let same : d ≡ c = cc f.2 in record { some = omega arith; is = ap Rattle.row_windows.specs.Seams.is_line_end same ∙ b.is }
 
-module _ (bytes old new was lines rest more : List ℕ) (records : Table) (read : AreRead bytes old records was) (took : old ≡ more ++ new) (text : lines ++ rest ≡ was ++ more) where
+module _ (bytes old new was lines rest more : List ℕ) (records : Table) (feeds : ℕ) (read : AreRead bytes old records feeds was) (took : old ≡ more ++ new) (text : lines ++ rest ≡ was ++ more) where
   -- what was there and what is left, as it is now
   left_is : was ++ old ≡ lines ++ (rest ++ new)
   left_is = ap (λ (l : List ℕ). was ++ l) took ∙ (sym (append_assoc was more new) ∙ (ap (λ (l : List ℕ). l ++ new) (sym text) ∙ append_assoc lines rest new))
@@ -48,11 +52,29 @@ module _ (bytes old new was lines rest more : List ℕ) (records : Table) (read 
   parts_are : records_of bytes ≡ records ++ records_of (lines ++ (rest ++ new))
   parts_are = read.parts ∙ ap (λ (l : List ℕ). records ++ records_of l) left_is
 
-  more_read : IsSeam lines rest → AreRead bytes new (records ++ records_of lines) rest
-  more_read seam = record {
+  -- the front and the lines behind it: the records of both, and the end outside quotes
+  front_is : (BeginsLine was → BeginsLine lines) → IsSeam lines rest → (records_of (read.front ++ lines) ≡ records ++ records_of lines) × IsCut (read.front ++ lines)
+  front_is line seam = elim read.begins [
+    | inl none ↦
+        let before : records ≡ [] = sym read.is ∙ ap records_of none in (
+          ap (λ (l : List ℕ). records_of (l ++ lines)) none ∙ ap (λ (l : Table). l ++ records_of lines) (sym before),
+          subst (λ (l : List ℕ). IsCut (l ++ lines)) (sym none) seam.whole,
+        )
+    | inr begun ↦ (
+      records_add_up read.front lines (record { whole = read.whole; line = line begun }) ∙ ap (λ (l : Table). l ++ records_of lines) read.is,
+      cut_append read.front lines read.whole (line begun) seam.whole,
+    )
+  ]
+
+  more_read : (BeginsLine was → BeginsLine lines) → IsSeam lines rest → AreRead bytes new (records ++ records_of lines) (feeds + count_feeds lines) rest
+  more_read line seam = record {
     front = read.front ++ lines;
     are = bytes_are;
+    is = (front_is line seam).0;
     parts = parts_are ∙ (ap (λ (l : Table). records ++ l) (records_add_up lines (rest ++ new) (seam_longer lines rest new seam)) ∙ sym (append_assoc records (records_of lines) (records_of (rest ++ new))));
+    feeds = count_append read.front lines ∙ ap (λ n. n + count_feeds lines) read.feeds;
+    whole = (front_is line seam).1;
+    begins = inr seam.line;
   }
 
   all_read : rest ≡ [] → new ≡ [] → records_of bytes ≡ records ++ records_of lines
@@ -61,22 +83,23 @@ module _ (bytes old new was lines rest more : List ℕ) (records : Table) (read 
       parts_are ∙ ap (λ (l : List ℕ). records ++ records_of l) (ap (λ (l : List ℕ). lines ++ l) nothing ∙ append-nil lines)
 
 -- a window that was filled
-pub filled : (from old new : Option (List ℕ)) (was lines rest : List ℕ) (records : Table) (is_last : Bool) → HasRead from old records was → Fills old new was (lines ++ rest)
-    → (is_last ≡ true → (rest ≡ []) × IsAtEnd new) → (is_last ≡ false → IsSeam lines rest) → Reaches from new (records ++ records_of lines) rest is_last
-filled None old new was lines rest records is_last read f last seam = record { all = λ _. tt; more = λ _. tt }
-filled (Some bytes) None new was lines rest records is_last read f last seam = absurd read
-filled (Some bytes) (Some old) None was lines rest records is_last read f last seam = absurd f.1
-filled (Some bytes) (Some old) (Some new) was lines rest records is_last read f last seam = record {
-  all = λ e. all_read bytes old new was lines rest f.0 records read f.1 f.2 (last e).0 (last e).1;
-  more = λ e. more_read bytes old new was lines rest f.0 records read f.1 f.2 (seam e);
+pub filled : (from old new : Option (List ℕ)) (was lines rest : List ℕ) (records : Table) (feeds : ℕ) (is_last : Bool) → HasRead from old records feeds was → Fills old new was (lines ++ rest)
+    → (is_last ≡ true → (rest ≡ []) × IsAtEnd new) → (is_last ≡ false → IsSeam lines rest) → (BeginsLine was → BeginsLine lines)
+    → Reaches from new (records ++ records_of lines) (feeds + count_feeds lines) rest is_last
+filled None old new was lines rest records feeds is_last read f last seam line = record { all = λ _. tt; more = λ _. tt }
+filled (Some bytes) None new was lines rest records feeds is_last read f last seam line = absurd read
+filled (Some bytes) (Some old) None was lines rest records feeds is_last read f last seam line = absurd f.1
+filled (Some bytes) (Some old) (Some new) was lines rest records feeds is_last read f last seam line = record {
+  all = λ e. all_read bytes old new was lines rest f.0 records feeds read f.1 f.2 (last e).0 (last e).1;
+  more = λ e. more_read bytes old new was lines rest f.0 records feeds read f.1 f.2 line (seam e);
 }
 
 -- a window that begins with a record that is too long
-pub long_read : (from old new : Option (List ℕ)) (was text : List ℕ) (plan : NamedPlan) (records : Table) (row : ℕ) → (records ≡ []) ⊎ (outcome plan records ≡ IsTable) → HasRead from old records was → length records ≡ row → Fills old new was text → IsLong text → IfSome from (λ bytes. HasLong plan bytes row)
-long_read None old new was text plan records row whole read number f long = tt
-long_read (Some bytes) None new was text plan records row whole read number f long = absurd read
-long_read (Some bytes) (Some old) None was text plan records row whole read number f long = absurd f.1
-long_read (Some bytes) (Some old) (Some new) was text plan records row whole read number f long =
+pub long_read : (from old new : Option (List ℕ)) (was text : List ℕ) (plan : NamedPlan) (records : Table) (feeds row : ℕ) → (records ≡ []) ⊎ (outcome plan records ≡ IsTable) → HasRead from old records feeds was → length records ≡ row → Fills old new was text → IsLong text → IfSome from (λ bytes. HasLong plan bytes row)
+long_read None old new was text plan records feeds row whole read number f long = tt
+long_read (Some bytes) None new was text plan records feeds row whole read number f long = absurd read
+long_read (Some bytes) (Some old) None was text plan records feeds row whole read number f long = absurd f.1
+long_read (Some bytes) (Some old) (Some new) was text plan records feeds row whole read number f long =
     let left : was ++ old ≡ text ++ new = ap (λ (l : List ℕ). was ++ l) f.1 ∙ (sym (append_assoc was f.0 new) ∙ ap (λ (l : List ℕ). l ++ new) (sym f.2)) in
     record {
       front = read.front;
@@ -108,10 +131,10 @@ is_filled old new was now (Ok is_last) header reads last seam = record {
     some true last seam begins = omega (arith, ap length (last refl).0, ap length reads.2, length-append now.lines now.rest, length-append was.rest reads.0, begins.some)
 
 pub is_not_filled : (old new : Option (List ℕ)) (old_faults new_faults : ℕ) (was now : Stretch) (r : Result Bool WindowAnswer) → (r ≡ Err answer.ReadFault → Rose old_faults new_faults)
-    → (r ≡ Err answer.LongRecord → IsLongWindow old new was now) → IfErr r (IsNotFilled old new old_faults new_faults was)
+    → (r ≡ Err answer.LongRecord → IsLongWindow old new was now) → IfErr r (IsNotFilled old new old_faults new_faults was now)
 is_not_filled old new old_faults new_faults was now (Ok is_last) fault long = tt
 is_not_filled old new old_faults new_faults was now (Err answer.ReadFault) fault long = fault refl
-is_not_filled old new old_faults new_faults was now (Err answer.LongRecord) fault long = let is = long refl in (now.rest, is.reads, is.long)
+is_not_filled old new old_faults new_faults was now (Err answer.LongRecord) fault long = long refl
 is_not_filled old new old_faults new_faults was now (Err answer.Memory) fault long = tt
 
 module _ (old new : Option (List ℕ)) (old_faults new_faults : ℕ) (was : Stretch) where

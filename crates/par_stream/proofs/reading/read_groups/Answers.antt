@@ -20,5 +20,5 @@ returns-in_err-bound-clause-why g c =
     let header = record_at f.header 0 in
     let rows = piece_rows f.window in
     let begun : Begins from (header ∷ rows) = subst (Begins from) is.header.records (begins from (g.S.Source.left c.first_window.new.source) (piece_records f.window) f.window.rest f.is_last is.reaches) in
-    let here : Tells c.args.plan.now from why = missing_tells c.args.plan.now from (header ∷ rows) why begun (omega arith) c.in_err-bound.ensures.missing in
+    let here : Tells c.args.plan.now from why = missing_tells c.args.plan.now from (header ∷ rows) why begun (omega arith) c.in_err-bound.ensures.why in
     search rules

@@ -1,12 +1,14 @@
-use Rattle.std.proofs.Common.{◌≡◌, ◌+◌, ◌∷◌, ◌∙◌, ap, arith, length, length-drop, refl, take}
+use Rattle.std.proofs.Common.{◌≡◌, ◌+◌, ◌∷◌, ◌∙◌, ap, arith, length, length-drop, refl, suc, take}
 use Rattle.csv_rows.specs.Records.{record_at, records_of}
 use Rattle.row_blocks.specs.Blocks.{Table}
 use Rattle.split_run.specs.Pieces.{piece_records, piece_rows, rows_of}
+use Rattle.text_lines.specs.Feeds.{count_feeds}
+use Rattle.par_stream.proofs.Feeds.{feeds_next, feeds_within}
 use Rattle.par_stream.proofs.Found.{count_next, row_in, under_at}
 use Rattle.par_stream.proofs.refused.find_row.Goals as goal
 
 pub loop-piece-init : goal.loop-piece-init
-loop-piece-init c = record { count = refl; few = omega arith }
+loop-piece-init c = record { count = refl; few = omega arith; number = refl; feeds = refl }
 
 pub returns-in-Some-clause-within : goal.returns-in-Some-clause-within
 returns-in-Some-clause-within c = omega (arith, c.in-Some.ensures.within, c.count.ensures.rows)
@@ -39,4 +41,13 @@ loop-piece-preserved c =
     record {
       count = omega (arith, count_next pieces i p c.loop-piece-test.true c.piece-item.is, size, c.loop-piece.invariant.count);
       few = omega (arith, c.count-before.ensures.few, c.loop-piece.invariant.few);
+      number = ap suc c.loop-piece.invariant.number;
+      feeds = omega (arith, feeds_next pieces i p c.loop-piece-test.true c.piece-item.is, c.loop-piece.invariant.feeds, c.line_feeds.ensures.count, ap count_feeds c.lines.ensures);
     }
+
+-- the sum of the line feeds so far is that of a front of the pieces
+pub overflow_add-feeds : goal.overflow_add-feeds
+overflow_add-feeds c =
+    let pieces = c.args.pieces.now in
+    let i = c.loop-piece.piece-index in
+    omega (arith, c.requires.few, feeds_within pieces (i + 1), feeds_next pieces i c.piece-item.result c.loop-piece-test.true c.piece-item.is, c.loop-piece.invariant.feeds, c.line_feeds.ensures.count, ap count_feeds c.lines.ensures)
