@@ -1,6 +1,6 @@
 //! The windows of a source: how one is filled, and how the first is parted from its header.
 
-ghost use Rattle.std.specs.Prelude.{◌≡◌, ◌≤◌, ◌+◌, ◌^◌, ◌++◌, ◌∷◌, ◌⊎◌, [], ℕ, List, Option, Err, IfErr, IfOk, OnErr, OnOk, length, string_bytes};
+ghost use Rattle.std.specs.Prelude.{◌≡◌, ◌<◌, ◌≤◌, ◌+◌, ◌^◌, ◌++◌, ◌∷◌, ◌⊎◌, [], ℕ, List, Option, Err, IfErr, IfOk, OnErr, OnOk, length, string_bytes};
 ghost use Rattle.csv_rows.specs.Cuts.{IsCut};
 ghost use Rattle.csv_rows.specs.Records.{record_at, records_of};
 ghost use Rattle.csv_rows.specs.declared.records.RowsAnswer.TheVariants as parsing;
@@ -8,7 +8,8 @@ ghost use Rattle.par_io.specs.Faults.{Rose};
 ghost use Rattle.row_blocks.specs.Blocks.{Table};
 ghost use Rattle.split_run.specs.Pieces.{piece_records};
 ghost use Rattle.text_lines.specs.Feeds.{count_feeds};
-ghost use Rattle.par_stream.specs.Reading.{BeginsOrNone, HasHeader, HasPart, IsFilled, IsNotFilled, Reaches};
+ghost use Rattle.par_stream.specs.Begins.{IsLined};
+ghost use Rattle.par_stream.specs.Reading.{HasHeader, HasPart, IsFilled, IsNotFilled, Reaches};
 ghost use Rattle.par_stream.specs.Stops.{IsStopOfLong, IsStopOfWindow, SaysOfLong, Tells};
 ghost use Rattle.par_stream.specs.declared.stop.Stop.TheVariants as stop;
 
@@ -48,8 +49,8 @@ pub(crate) fn first_window<R: Wait, S: Source>(
 ) -> Result<First, Stop>
     ensures header { IfOk result (λ f. HasHeader f.header f.window f.is_last) }
     ensures reaches { IfOk result (λ f. Reaches (S.left source.old) (S.left source.new) (piece_records f.window) (f.feeds + count_feeds f.window.lines) f.window.rest f.is_last) }
-    ensures part { IfOk result (λ f. HasPart (S.left source.old) (record_at f.header 0 ∷ []) f.feeds (f.window ∷ [])) }
-    ensures begins { IfOk result (λ f. BeginsOrNone f.window) }
+    ensures part { IfOk result (λ f. HasPart (S.left source.old) (S.left source.new) (record_at f.header 0 ∷ []) f.feeds (f.window ∷ []) f.window.rest) }
+    ensures lined { IfOk result (λ f. IsLined f.window) }
     ensures few { IfOk result (λ f. f.feeds ≤ 2 ^ 60) }
     ensures why { IfErr result (λ why. (query : _) → Tells query (S.left source.old) why) }
     ensures read_fault { IfErr result (λ why. why ≡ stop.ReadFault → Rose (S.faults source.old) (S.faults source.new)) }
@@ -185,7 +186,8 @@ fn part_header(alloc: Global, window: &mut Window) -> Result<RowStore, RowsAnswe
     ensures first { OnOk result ((more : Table) × (records_of window.old.lines ≡ records_of window.new.header ++ more)) }
     ensures same { OnOk result (window.new.header ++ window.new.lines ≡ window.old.lines) }
     ensures cut { OnOk result (IsCut window.old.lines → IsCut window.new.header) }
-    ensures begins { OnOk result (BeginsOrNone window.new) }
+    ensures front { OnOk result (0 < length window.new.lines → IsCut window.new.header) }
+    ensures lined { OnOk result (IsLined window.new) }
     ensures rest { window.new.rest ≡ window.old.rest }
     ensures err { OnErr result (window.new ≡ window.old) }
     ensures no_header { result ≡ Err parsing.NoHeader → records_of window.old.lines ≡ [] }

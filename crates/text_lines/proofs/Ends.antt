@@ -1,14 +1,18 @@
 -- Where the records of some lines end, one after another.
-use Rattle.std.proofs.Common.{◌≡◌, ◌<◌, ◌≤◌, ◌+◌, ◌++◌, ◌∙◌, ℕ, false, true, List, [], length, take, drop, slice_index, refl, ap, subst, sym, arith, below_more, take-append-drop}
+use Rattle.std.proofs.Common.{◌≡◌, ◌<◌, ◌≤◌, ◌+◌, ◌-◌, ◌++◌, ◌∙◌, inl, inr, ℕ, suc, false, true, List, [], ◌∷◌, length, take, drop, slice_index, refl, ap, subst, sym, arith, below_more, take-append-drop}
 use Rattle.std.proofs.Math.Seq.{take-add}
+use Rattle.std.proofs.lemmas.Bool.{cases_Bool, cases_lt, eqb-true}
 use Rattle.std.proofs.lemmas.List.{get_or-drop, get_or-take, get_or_past, length-drop, length-take}
-use Rattle.csv.specs.Reading.{strip_bom}
+use Rattle.std.specs.Prelude.{◌==◌}
+use Rattle.csv.specs.Reading.{default_config, records, strip_bom}
+use Rattle.csv.specs.declared.parser.State.TheVariants as st
 use Rattle.csv_rows.specs.Cuts.{IsCut, state_after}
 use Rattle.csv_rows.specs.Records.{records_of}
 use Rattle.csv_rows.proofs.Machine.{all_from, records-all}
 use Rattle.row_windows.specs.Seams.{BeginsLine, IsCutAt, is_line_end}
 use Rattle.text_lines.specs.Begins.{AllEndFrom, EndsBefore}
-use Rattle.text_lines.proofs.Parts.{cut_append, records_append}
+use Rattle.row_windows.proofs.Seams.{not-feed}
+use Rattle.text_lines.proofs.Parts.{cut_append, no_mark, records_append}
 
 -- ---- a text of no bytes
 
@@ -71,3 +75,33 @@ ends_more xs from at all here = λ k low high. below_more (λ (j : ℕ). from �
 
 pub no_end_past : (xs : List ℕ) → is_line_end (slice_index xs (length xs)) ≡ false
 no_end_past xs = ap is_line_end (get_or_past xs (length xs) 0 (omega arith))
+
+-- ends of lines are no records
+ends_none : (xs : List ℕ) → AllEndFrom xs 0 (length xs) → all_from st.StartRecord [] [] xs ≡ []
+unfolding all_from
+ends_none [] all = refl
+ends_none (c ∷ xs) all =
+    let rest = ends_none xs (λ k low high. all (suc k) (omega arith) (omega (arith, high))) in
+    let line : is_line_end c ≡ true = all 0 (omega arith) (omega arith) in
+    elim (cases_Bool (c == 10)) [
+      | inl e ↦ let is : c ≡ 10 = eqb-true c 10 e in rw is rest
+      | inr e ↦ let is : c ≡ 13 = not-feed c e line in rw is rest
+    ]
+
+pub only_ends : (xs : List ℕ) → BeginsLine xs → AllEndFrom xs 0 (length xs) → records_of xs ≡ []
+only_ends xs line all = ap (records default_config) (no_mark xs line) ∙ (records-all xs ∙ ends_none xs all)
+
+-- so a record begins before the end of a text that has it
+pub begin_within : (xs : List ℕ) (before end at : ℕ) → EndsBefore xs before end → before < length (records_of xs) → AllEndFrom xs end at → at ≤ length xs → at < length xs
+begin_within xs before end at e some all high = elim (cases_lt at (length xs)) [
+  | inl low ↦ low
+  | inr past ↦
+      let rest = drop end xs in
+      let size = length-drop end xs in
+      let line : BeginsLine rest = begins_at xs end e.within e.line in
+      let none : records_of rest ≡ [] =
+      only_ends rest line (λ k _ low. ap is_line_end (get_or-drop end xs k 0) ∙ all (end + k) (omega arith) (omega (arith, low, size, past))) in
+      let count = records_append (take end xs) rest e.whole line in
+      let whole : length (records_of (take end xs ++ rest)) ≡ length (records_of xs) = ap (λ (l : List ℕ). length (records_of l)) (take-append-drop end xs) in
+      absurd (omega (arith, count, whole, ap length none, e.number, some))
+]

@@ -24,7 +24,7 @@ outside xs cut = λ quoted.
     cc bad
 
 -- outside quotes, the end of a line is where a record may begin
-after_line : (p : Place) (c : ℕ) (b : List ℕ) → p ≢ place.Quoted → is_line_end c ≡ true → place_after p (c ∷ b) ≡ place_after place.Opens (c ∷ b)
+pub after_line : (p : Place) (c : ℕ) (b : List ℕ) → p ≢ place.Quoted → is_line_end c ≡ true → place_after p (c ∷ b) ≡ place_after place.Opens (c ∷ b)
 unfolding place_after
 after_line place.Quoted c b apart line = absurd (apart refl)
 after_line place.Opens c b apart line = refl
@@ -41,7 +41,7 @@ strip_longer a (c ∷ b) line = elim (cases_Bool (c == 10)) [
   | inr e ↦ rw (not-feed c e line.is) (strip-return a b)
 ]
 
-no_mark : (b : List ℕ) → BeginsLine b → strip_bom b ≡ b
+pub no_mark : (b : List ℕ) → BeginsLine b → strip_bom b ≡ b
 no_mark b line = strip_longer [] b line
 
 -- two texts that end outside quotes, of which the second begins with the end of a line
