@@ -51,15 +51,15 @@ HasAll from records = IfSome from (λ bytes. records_of bytes ≡ records)
 abbrev pub Begins : Option (List ℕ) → Table → Type 0
 Begins from records = IfSome from (λ bytes. (more : Table) × (records_of bytes ≡ records ++ more))
 
--- The lines of some windows are a part of bytes: in front of them there are some records and so many line feeds, outside
--- quotes unless there are no lines, and behind them come other bytes. If there are some, these begin with the end of a line,
--- and the lines of each window end outside quotes
+-- The lines of some windows are a part of bytes: before them come some records and so many line feeds, which end outside
+-- quotes, and after them other bytes. If there are such bytes, they begin with the end of a line, and the lines of each window
+-- end outside quotes
 pub record ArePart (bytes : List ℕ) (records : Table) (feeds : ℕ) (pieces : List Stretch) (back : List ℕ) : Type 0 where
   pub front : List ℕ
   pub are : bytes ≡ front ++ (lines_of pieces ++ back)
   pub is : records_of front ≡ records
   pub feeds : count_feeds front ≡ feeds
-  pub whole : 0 < length (lines_of pieces) → IsCut front
+  pub whole : IsCut front
   pub cuts : AreCut pieces
   pub next : (back ≡ []) ⊎ (BeginsLine back × AllCut pieces)
 
@@ -179,11 +179,12 @@ pub record IsStream (query : Query) (plan : Plan) (s : Stream) : Type 0 where
   pub maps : length s.added.maps.items ≡ query.workers + 1
   pub few : s.added.count ≤ 2 ^ 50
 
--- its maps have these rows, which were read of a source after the header; those of its batch come next
+-- Its maps have these rows, which were read of a source after the header; those of its batch come next, and if there are
+-- lines, they are a part of what was read
 pub record HasRows (plan : Plan) (from left : Option (List ℕ)) (s : Stream) (rows : Table) : Type 0 where
   pub added : HasAdded plan (length (record_at s.header 0)) rows s.added
   pub reaches : Reaches from left (record_at s.header 0 ∷ (rows ++ rows_of s.batch.pieces.items)) s.batch.feeds s.batch.next.rest s.is_last
-  pub part : HasPart from left (record_at s.header 0 ∷ rows) s.batch.before s.batch.pieces.items s.batch.next.rest
+  pub part : 0 < length (lines_of s.batch.pieces.items) → HasPart from left (record_at s.header 0 ∷ rows) s.batch.before s.batch.pieces.items s.batch.next.rest
 
 -- maps are those of shares of all rows of a source, of which none is refused
 pub record AreGroupsOver (query : Query) (from : Option (List ℕ)) (r : ReadGroups) : Type 0 where

@@ -18,7 +18,7 @@ use Rattle.row_windows.specs.declared.window.WindowAnswer.{WindowAnswer}
 use Rattle.row_windows.specs.declared.window.WindowAnswer.TheVariants as window
 use Rattle.shown_text.specs.Header.{missing_text}
 use Rattle.par_stream.specs.Said.{row_says}
-use Rattle.par_stream.specs.Begins.{IsPlaceIn, IsPlaceOfLong, PlacesLong, PlacesRow, feeds_of, piece_at}
+use Rattle.par_stream.specs.Begins.{IsPlaceIn, IsPlaceOfLong, PlacesLong, PlacesRow, feeds_of, lines_of, piece_at}
 use Rattle.par_stream.specs.Twice.{SaysTwice}
 use Rattle.par_stream.specs.declared.place.Place.{Place}
 use Rattle.par_stream.specs.Outcome.{outcome_over}
@@ -109,7 +109,7 @@ Tells query left stop.Memory = ⊤
 -- whose records begin with the header and all these rows
 abbrev pub TellsOfRows : Query → Plan → Batch → Added → Stop → Type 0
 TellsOfRows query plan b added why = (from left : Option (List ℕ)) (header : List (List ℕ)) (rows : Records) → IsBound query header plan → AreUnder header b.pieces.items → HasAdded plan (length header) rows added
-    → Begins from (header ∷ (rows ++ rows_of b.pieces.items)) → HasPart from left (header ∷ rows) b.before b.pieces.items b.next.rest → Tells query from why
+    → Begins from (header ∷ (rows ++ rows_of b.pieces.items)) → (0 < length (lines_of b.pieces.items) → HasPart from left (header ∷ rows) b.before b.pieces.items b.next.rest) → Tells query from why
 
 -- what a reason says of what words ask for, a query or nothing
 abbrev pub TellsOf : Option Query → Option (List ℕ) → Stop → Type 0

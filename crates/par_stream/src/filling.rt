@@ -49,7 +49,7 @@ pub(crate) fn first_window<R: Wait, S: Source>(
 ) -> Result<First, Stop>
     ensures header { IfOk result (λ f. HasHeader f.header f.window f.is_last) }
     ensures reaches { IfOk result (λ f. Reaches (S.left source.old) (S.left source.new) (piece_records f.window) (f.feeds + count_feeds f.window.lines) f.window.rest f.is_last) }
-    ensures part { IfOk result (λ f. HasPart (S.left source.old) (S.left source.new) (record_at f.header 0 ∷ []) f.feeds (f.window ∷ []) f.window.rest) }
+    ensures part { IfOk result (λ f. 0 < length f.window.lines → HasPart (S.left source.old) (S.left source.new) (record_at f.header 0 ∷ []) f.feeds (f.window ∷ []) f.window.rest) }
     ensures lined { IfOk result (λ f. IsLined f.window) }
     ensures few { IfOk result (λ f. f.feeds ≤ 2 ^ 60) }
     ensures why { IfErr result (λ why. (query : _) → Tells query (S.left source.old) why) }
@@ -101,7 +101,8 @@ pub(crate) fn more_feeds(feeds: u64, bytes: &[u8]) -> Result<u64, AllocError>
     ensures more { IfOk result (λ more. more ≡ feeds + count_feeds bytes.now) }
     ensures few { IfOk result (λ more. more ≤ 2 ^ 60) }
 {
-    let more = feeds + line_feeds(bytes);
+    let count = line_feeds(bytes);
+    let more = feeds + count;
     if more > MOST_FEEDS {
         return Err(AllocError);
     }

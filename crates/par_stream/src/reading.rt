@@ -1,6 +1,6 @@
 //! The groups of a source, batch by batch.
 
-ghost use Rattle.std.specs.Prelude.{◌≡◌, ◌≤◌, ◌+◌, ◌^◌, ◌++◌, ◌∷◌, ◌⊎◌, [], ℕ, List, Option, IfErr, IfOk, false, true};
+ghost use Rattle.std.specs.Prelude.{◌≡◌, ◌<◌, ◌≤◌, ◌+◌, ◌^◌, ◌++◌, ◌∷◌, ◌⊎◌, [], ℕ, List, Option, IfErr, IfOk, false, length, true};
 ghost use Rattle.csv_rows.specs.Records.{record_at};
 ghost use Rattle.par_io.specs.Faults.{Rose};
 ghost use Rattle.row_blocks.specs.Blocks.{Table};
@@ -98,7 +98,7 @@ fn open(alloc: Global, plan: &Plan, bound: &BoundPlan, first: First) -> Result<S
     requires few { first.feeds ≤ 2 ^ 60 }
     ensures stream { IfOk result (IsStream plan.now bound.now) }
     ensures rows { IfOk result (λ s. (from left : Option (List ℕ)) → Reaches from left (piece_records first.window) (first.feeds + count_feeds first.window.lines) first.window.rest first.is_last
-        → HasPart from left (record_at first.header 0 ∷ []) first.feeds (first.window ∷ []) first.window.rest → HasRows bound.now from left s []) }
+        → (0 < length first.window.lines → HasPart from left (record_at first.header 0 ∷ []) first.feeds (first.window ∷ []) first.window.rest) → HasRows bound.now from left s []) }
     ensures why { IfErr result (λ why. why ≡ stop.Memory) }
 {
     let _of = bound;

@@ -79,7 +79,10 @@ fn bind_once(alloc: Global, bound: &BoundPlan, header: &Record<'_>) -> Result<()
 {
     match find_twice(bound, header) {
         None => Ok(()),
-        Some(twice) => Err(Stop::TwiceColumn(twice_text(alloc, header, twice)?)),
+        Some(twice) => {
+            let said = twice_text(alloc, header, twice)?;
+            Err(Stop::TwiceColumn(said))
+        }
     }
 }
 
@@ -144,13 +147,11 @@ fn says_of_row(
     let header = found.store.find(0);
     let fields = found.store.find(found.at);
     let mut text = row_says(alloc, plan, bound, &header, &fields, why)?;
-    let place = place_in_lines(
-        alloc,
-        lines_at(pieces, found.piece),
-        found.at - 1,
-        found.at == found.store.count(),
-        feeds + found.feeds,
-    )?;
+    let lines = lines_at(pieces, found.piece);
+    let count = found.store.count();
+    let is_last = found.at == count;
+    let feeds = feeds + found.feeds;
+    let place = place_in_lines(alloc, lines, found.at - 1, is_last, feeds)?;
     text.push_str(place.quote.as_str())?;
     Ok(RowSaid {
         line: place.line,

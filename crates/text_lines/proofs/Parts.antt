@@ -53,6 +53,15 @@ cut_append a (c ∷ b) cut line more =
     let all : place_after place.Opens (strip_bom a ++ (c ∷ b)) ≡ place_after place.Opens (c ∷ b) = place-append place.Opens (strip_bom a) (c ∷ b) ∙ after_line front c b (outside (strip_bom a) cut) line.is in
     ap ends_quoted (strip_longer a (c ∷ b) line) ∙ scan-cut (strip_bom a ++ (c ∷ b)) (λ quoted. back (sym all ∙ quoted))
 
+-- and the other way round: the second does if both do
+pub cut_back : (a b : List ℕ) → IsCut a → BeginsLine b → IsCut (a ++ b) → IsCut b
+cut_back a [] cut line whole = absurd (omega (arith, line.some))
+cut_back a (c ∷ b) cut line whole =
+    let front = place_after place.Opens (strip_bom a) in
+    let all : place_after place.Opens (strip_bom a ++ (c ∷ b)) ≡ place_after place.Opens (c ∷ b) = place-append place.Opens (strip_bom a) (c ∷ b) ∙ after_line front c b (outside (strip_bom a) cut) line.is in
+    let outer : place_after place.Opens (strip_bom a ++ (c ∷ b)) ≢ place.Quoted = outside (strip_bom a ++ (c ∷ b)) (ap ends_quoted (sym (strip_longer a (c ∷ b) line)) ∙ whole) in
+    ap ends_quoted (no_mark (c ∷ b) line) ∙ scan-cut (c ∷ b) (λ quoted. outer (all ∙ quoted))
+
 -- and the records of both
 pub records_append : (a b : List ℕ) → IsCut a → BeginsLine b → length (records_of (a ++ b)) ≡ length (records_of a) + length (records_of b)
 records_append a b cut line = ap length (records_add_up a b (record { whole = cut; line = line })) ∙ length-append (records_of a) (records_of b)

@@ -23,7 +23,8 @@ pub fn open_quote(text: &[u8]) -> Option<usize>
         place = past_quote(place);
         at += count + 1;
     }
-    if past_others(&text[at..], place) != Place::Quoted {
+    let end = past_others(&text[at..], place);
+    if end != Place::Quoted {
         return None;
     }
     last

@@ -75,16 +75,16 @@ pub returns-then-ne-clause-none : goal.returns-then-ne-clause-none
 returns-then-ne-clause-none c =
     let xs = c.args.text.now in
     let at = c.quotes.at in
-    let rest = rw (take_rest xs at, c.quotes.invariant.here) at c.past_others.ensures in
-    let outer : c.past_others.result ≢ place.Quoted = not_quoted_place c.past_others.result (sym c.ne.ensures ∙ c.if-ne.true) in
+    let rest = rw (take_rest xs at, c.quotes.invariant.here) at c.past_others-end.ensures in
+    let outer : c.past_others-end.result ≢ place.Quoted = not_quoted_place c.past_others-end.result (sym c.ne.ensures ∙ c.if-ne.true) in
     λ _ quoted. outer (rest ∙ past-all place.Opens xs at ∙ quoted)
 
 pub returns-clause-some : goal.returns-clause-some
 returns-clause-some c =
     let xs = c.args.text.now in
     let at = c.quotes.at in
-    let rest = rw (take_rest xs at, c.quotes.invariant.here) at c.past_others.ensures in
-    let is : c.past_others.result ≡ place.Quoted = not-not-quoted c.past_others.result (sym c.ne.ensures ∙ c.if-ne.false) in
+    let rest = rw (take_rest xs at, c.quotes.invariant.here) at c.past_others-end.ensures in
+    let is : c.past_others-end.result ≡ place.Quoted = not-not-quoted c.past_others-end.result (sym c.ne.ensures ∙ c.if-ne.false) in
     let none = rw (take_rest xs at) at c.in_default.ensures in
     let clear : NoOpening xs at (at + length (drop at xs)) = clear_bytes xs at (length (drop at xs)) (λ j lt is. none j (omega arith) lt (eq-eqb (slice_index (drop at xs) j) 34 is)) in
     let all : at + length (drop at xs) ≡ length xs = omega (arith, length-drop at xs, c.quotes.invariant.within) in
