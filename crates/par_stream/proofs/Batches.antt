@@ -8,7 +8,7 @@ use Rattle.csv_rows.specs.Cuts.{IsCut}
 use Rattle.csv_rows.specs.Records.{records_of}
 use Rattle.row_blocks.specs.Blocks.{Table}
 use Rattle.row_windows.specs.Seams.{BeginsLine}
-use Rattle.row_windows.specs.Stretch.{Fills, Stretch}
+use Rattle.row_windows.specs.Stretch.{Fills, IsLongWindow, Stretch}
 use Rattle.text_lines.specs.Feeds.{count_feeds}
 use Rattle.gather_law.specs.Shares.{together}
 use Rattle.par_stream.specs.Begins.{AllCut, feeds_of}
@@ -127,3 +127,15 @@ module _ (old mid new : Option (List ℕ)) (was : Stretch) (feeds : ℕ) (b now 
             (part_longer from mid new records feeds b.pieces.items b.next.rest now.next.rest (f.part from records line read) m.next.reads);
         line = λ begins _. subst BeginsLine (sym m.next.reads.2) (begins_longer b.next.rest m.next.reads.0 (f.line begins refl));
       }
+
+-- a window that was too long, without one before it
+pub no_items : (b now : Batch) → now.pieces ≡ b.pieces → now.pieces.items ≡ [] → b.pieces.items ≡ []
+no_items b now same none = sym (ap (λ (v : Vec Stretch). v.items) same) ∙ none
+
+pub first_long : (old mid new : Option (List ℕ)) (was : Stretch) (feeds : ℕ) (b now : Batch) → IsFilledBatch old mid was feeds b false → mid ≡ old → b.next.rest ≡ was.rest → MeetsLong mid new b now → IsLongWindow old new was now.next
+first_long old mid new was feeds b now f here rest m = record {
+  header = m.next.header ∙ f.header;
+  lines = m.next.lines;
+  reads = subst (λ (o : Option (List ℕ)). Fills o new was.rest now.next.rest) here (subst (λ (r : List ℕ). Fills mid new r now.next.rest) rest m.next.reads);
+  long = m.next.long;
+}

@@ -16,8 +16,9 @@ use Rattle.text_lines.proofs.Counts.{count_append}
 use Rattle.text_lines.proofs.Ends.{no_records}
 use Rattle.text_lines.proofs.Parts.{cut_append, cut_back}
 use Rattle.par_stream.specs.Begins.{AllCut, IsLined, feeds_of, lines_of}
-use Rattle.par_stream.specs.Reading.{HasHeader, HasPart, HasRead, IsFilledBatch, IsHeaded, Reaches, line_records}
+use Rattle.par_stream.specs.Reading.{HasHeader, HasPart, HasRead, IsFilledBatch, IsFirst, IsHeaded, Reaches, line_records}
 use Rattle.par_stream.specs.declared.batch.Batch.{Batch}
+use Rattle.par_stream.specs.declared.filling.First.{First}
 use Rattle.par_stream.proofs.Feeds.{feeds_one}
 use Rattle.par_stream.proofs.Windows.{begins_longer}
 
@@ -219,3 +220,14 @@ module _ (header : Table) (was full now : Stretch) (feeds : ℕ) (one : length h
         cuts = λ k low. absurd (omega (arith, low));
         next = back_is bytes old new is_last last seam;
       }
+
+-- if it has lines, they begin with the end of a line
+pub parted_begins : (w : Stretch) → IsLined w → 0 < length w.lines → BeginsLine w.lines
+parted_begins w lined some = elim lined.begins [ inl none ↦ absurd (omega (arith, some, ap length none)) | inr line ↦ line ]
+
+-- what holds of the parts of the first window holds of it
+pub first_has : (P : Stretch → Table → Bool → ℕ → Type 0) (window : Stretch) (header : Table) (is_last : Bool) (feeds : ℕ) (f : First) → IsFirst window header is_last feeds f → P window header is_last (feeds + count_feeds window.header)
+    → P f.window f.header f.is_last f.feeds
+first_has P window header is_last feeds f is p =
+    subst (λ (w : Stretch). P w f.header f.is_last f.feeds) (sym is.window)
+    (subst (λ (h : Table). P window h f.is_last f.feeds) (sym is.header) (subst (λ (b : Bool). P window header b f.feeds) (sym is.last) (subst (P window header is_last) (sym is.feeds) p)))

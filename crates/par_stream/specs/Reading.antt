@@ -19,6 +19,7 @@ use Rattle.text_lines.specs.Feeds.{count_feeds}
 use Rattle.par_stream.specs.Begins.{AllCut, AreCut, IsLined, feeds_of, lines_of}
 use Rattle.par_stream.specs.Twice.{twice_of}
 use Rattle.par_stream.specs.declared.batch.Batch.{Batch}
+use Rattle.par_stream.specs.declared.filling.First.{First}
 use Rattle.par_stream.specs.declared.adding.Added.{Added}
 use Rattle.par_stream.specs.declared.reading.ReadGroups.{ReadGroups}
 use Rattle.par_stream.specs.declared.reading.Stream.{Stream}
@@ -98,6 +99,14 @@ pub record HasHeader (header : Table) (w : Stretch) (is_last : Bool) : Type 0 wh
   pub records : piece_records w ≡ record_at header 0 ∷ piece_rows w
   pub cut : is_last ≡ false → IsCut w.header
   pub next : is_last ≡ false → BeginsLine w.rest
+
+-- this is that window with its record, which is the last or not, after so many line feeds and those of the header's line
+pub record IsFirst (window : Stretch) (header : Table) (is_last : Bool) (feeds : ℕ) (f : First) : Type 0 where
+  pub window : f.window ≡ window
+  pub header : f.header ≡ header
+  pub last : f.is_last ≡ is_last
+  pub feeds : f.feeds ≡ feeds + count_feeds window.header
+  pub few : f.feeds ≤ 2 ^ 60
 
 -- ---- a batch
 

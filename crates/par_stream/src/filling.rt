@@ -9,7 +9,7 @@ ghost use Rattle.row_blocks.specs.Blocks.{Table};
 ghost use Rattle.split_run.specs.Pieces.{piece_records};
 ghost use Rattle.text_lines.specs.Feeds.{count_feeds};
 ghost use Rattle.par_stream.specs.Begins.{IsLined};
-ghost use Rattle.par_stream.specs.Reading.{HasHeader, HasPart, IsFilled, IsNotFilled, Reaches};
+ghost use Rattle.par_stream.specs.Reading.{HasHeader, HasPart, IsFilled, IsFirst, IsNotFilled, Reaches};
 ghost use Rattle.par_stream.specs.Stops.{IsStopOfLong, IsStopOfWindow, SaysOfLong, Tells};
 ghost use Rattle.par_stream.specs.declared.stop.Stop.TheVariants as stop;
 
@@ -79,11 +79,7 @@ pub(crate) fn first_window<R: Wait, S: Source>(
 /// The first window that has a record, which is the header's. So many line feeds come before that one's line.
 fn first_of(window: Window, header: RowStore, is_last: bool, feeds: u64) -> Result<First, Stop>
     requires { feeds ≤ 2 ^ 60 }
-    ensures window { IfOk result (λ f. f.window ≡ window) }
-    ensures header { IfOk result (λ f. f.header ≡ header) }
-    ensures last { IfOk result (λ f. f.is_last ≡ is_last) }
-    ensures feeds { IfOk result (λ f. f.feeds ≡ feeds + count_feeds window.header) }
-    ensures few { IfOk result (λ f. f.feeds ≤ 2 ^ 60) }
+    ensures first { IfOk result (IsFirst window header is_last feeds) }
     ensures why { IfErr result (λ why. why ≡ stop.Memory) }
 {
     let feeds = more_feeds(feeds, window.header())?;
