@@ -1,11 +1,15 @@
 -- The text of a table.
-use Rattle.std.specs.Prelude.{◌≡◌, ℕ, List, None, Option, Some}
+use Rattle.std.specs.Prelude.{◌≡◌, ◌≤◌, ◌^◌, ◌∷◌, ℕ, List, None, Option, Some, length}
 use Rattle.csv_rows.specs.Records.{record_at, records_of}
-use Rattle.par_model.specs.Named.{bound_plan}
+use Rattle.par_model.specs.Named.{NamedPlan, bound_plan}
 use Rattle.par_model.specs.Outcome.{IsAnswer, Table}
+use Rattle.par_model.specs.Plan.{Plan}
 use Rattle.plan_spec.specs.Query.{Query}
+use Rattle.row_blocks.specs.Blocks.{Table as Records}
+use Rattle.par_stream.specs.Gathered.{HasGathered}
 use Rattle.par_stream.specs.Outcome.{outcome_over}
 use Rattle.par_stream.specs.Twice.{twice_of}
+use Rattle.par_stream.specs.declared.gathered.Gathered.{Gathered}
 
 -- a query is asked for, its outcome over bytes is a table, the header has no column of it twice, and this is the text of that
 -- table
@@ -15,3 +19,7 @@ pub record IsTableText (asked : Option Query) (bytes text : List ℕ) : Type 0 w
   pub has_table : outcome_over query.plan bytes ≡ Table
   pub once : twice_of (bound_plan (record_at (records_of bytes) 0) query.plan) (record_at (records_of bytes) 0) ≡ None
   pub is_text : IsAnswer query.plan (records_of bytes) text
+
+-- a text answers a plan by names over any rows that something gathered has
+abbrev pub AnswersAny : NamedPlan → Plan → Gathered → List ℕ → Type 0
+AnswersAny names plan g text = (header : List (List ℕ)) (width : ℕ) (rows : Records) → plan ≡ bound_plan header names → length rows ≤ 2 ^ 50 → HasGathered plan width rows g → IsAnswer names (header ∷ rows) text

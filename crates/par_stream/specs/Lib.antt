@@ -2,6 +2,7 @@ pub mod Outcome
 pub mod Said
 pub mod Twice
 pub mod Begins
+pub mod Gathered
 pub mod Reading
 pub mod Stops
 pub mod Lines

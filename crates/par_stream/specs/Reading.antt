@@ -13,10 +13,11 @@ use Rattle.row_windows.specs.Seams.{BeginsLine, IsLong, IsSeam}
 use Rattle.row_windows.specs.Stretch.{Fills, IsLongWindow, Stretch}
 use Rattle.row_windows.specs.declared.window.WindowAnswer.{WindowAnswer}
 use Rattle.row_windows.specs.declared.window.WindowAnswer.TheVariants as answer
-use Rattle.gather_law.specs.Shares.{AreShared, together}
+use Rattle.gather_law.specs.Shares.{together}
 use Rattle.split_run.specs.Pieces.{AreUnder, piece_records, piece_rows, rows_of}
 use Rattle.text_lines.specs.Feeds.{count_feeds}
 use Rattle.par_stream.specs.Begins.{feeds_of, lines_of, piece_at}
+use Rattle.par_stream.specs.Gathered.{HasGathered, participants_of}
 use Rattle.par_stream.specs.Twice.{twice_of}
 use Rattle.par_stream.specs.declared.batch.Batch.{Batch}
 use Rattle.par_stream.specs.declared.adding.Added.{Added}
@@ -166,35 +167,35 @@ pub record IsBound (query : Query) (header : List (List ℕ)) (plan : Plan) : Ty
   pub whole : missing_name header query.plan ≡ None
   pub once : twice_of plan header ≡ None
 
--- the maps are those of shares of these rows, none of which is refused
+-- what was added are these rows, of which none is refused
 pub record HasAdded (plan : Plan) (width : ℕ) (rows : Table) (a : Added) : Type 0 where
   pub count : a.count ≡ length rows
-  pub shared : AreShared plan width rows a.maps.items
+  pub gathered : HasGathered plan width rows a.gathered
 
--- the rows of a batch were added to the maps
+-- the rows of a batch were added, by the same number of participants
 pub record AddsBatch (plan : Plan) (b : Batch) (old new : Added) : Type 0 where
   pub rows : (header : List (List ℕ)) (rows : Table) → AreUnder header b.pieces.items → HasAdded plan (length header) rows old → HasAdded plan (length header) (rows ++ rows_of b.pieces.items) new
-  pub many : length new.maps.items ≡ length old.maps.items
+  pub many : participants_of new.gathered ≡ participants_of old.gathered
   pub few : new.count ≤ 2 ^ 50
 
--- a stream: its windows begin with its header, and there is a map for each worker and one more
+-- a stream: its windows begin with its header, and there is a participant for each worker and one more
 pub record IsStream (query : Query) (plan : Plan) (s : Stream) : Type 0 where
   pub batch : IsHeaded s.header s.batch s.is_last
   pub bound : IsBound query (record_at s.header 0) plan
-  pub maps : length s.added.maps.items ≡ query.workers + 1
+  pub many : participants_of s.added.gathered ≡ query.workers + 1
   pub few : s.added.count ≤ 2 ^ 50
 
--- its maps have these rows, which were read of a source after the header; those of its batch come next
+-- it has added these rows, which were read of a source after the header; those of its batch come next
 pub record HasRows (plan : Plan) (from left : Option (List ℕ)) (s : Stream) (rows : Table) : Type 0 where
   pub added : HasAdded plan (length (record_at s.header 0)) rows s.added
   pub reaches : Reaches from left (record_at s.header 0 ∷ (rows ++ rows_of s.batch.pieces.items)) s.batch.feeds s.batch.next.rest s.is_last
   pub part : HasPart from (record_at s.header 0 ∷ rows) s.batch.before s.batch.pieces.items
 
--- maps are those of shares of all rows of a source, of which none is refused
+-- what is gathered has all rows of a source, of which none is refused
 pub record AreGroupsOver (query : Query) (from : Option (List ℕ)) (r : ReadGroups) : Type 0 where
   pub header : List (List ℕ)
   pub rows : Table
   pub bound : IsBound query header r.bound
-  pub shared : AreShared r.bound (length header) rows r.maps.items
+  pub gathered : HasGathered r.bound (length header) rows r.gathered
   pub few : length rows ≤ 2 ^ 50
   pub all : HasAll from (header ∷ rows)

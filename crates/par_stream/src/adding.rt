@@ -3,19 +3,18 @@
 ghost use Rattle.std.specs.Prelude.{◌≡◌, ◌<◌, ◌≤◌, ◌+◌, ◌^◌, ◌⊎◌, [], All, IfErr, IfOk, OnOk, length};
 ghost use Rattle.split_run.specs.Pieces.{HaveColumns};
 ghost use Rattle.par_stream.specs.Begins.{feeds_of};
-ghost use Rattle.par_stream.specs.Reading.{AddsBatch, BeginsOrNone, IsFilledBatch, IsNotFilled};
+ghost use Rattle.par_stream.specs.Reading.{AddsBatch, BeginsOrNone, IsFilledBatch, IsNotFilled, participants_of};
 ghost use Rattle.par_stream.specs.Stops.{TellsOfRows};
 ghost use Rattle.par_stream.specs.declared.stop.Stop.TheVariants as stop;
 
 use crate::batch::Batch;
+use crate::gathered::{Gathered, add_rows};
 use crate::rows::stop_of_block;
 use crate::stop::Stop;
 use par_io::Source;
 use par_model::BoundPlan;
-use partial_agg::GroupMap;
 use plan_spec::Plan;
 use row_windows::WindowAnswer;
-use split_run::add_pieces;
 use std::alloc::Global;
 use std::mem;
 use std::sync::Wait;
@@ -24,10 +23,10 @@ use std::thread::{Threads, join_mut};
 /// The most rows for which averages are exact: 2^50. A source with more of them is answered as out of memory.
 const MOST_ROWS: u64 = 1_125_899_906_842_624;
 
-/// The maps of the participants, which share all rows so far, and how many these are.
+/// The groups of all rows so far, and how many rows these are.
 #[derive(Drop)]
 pub(crate) struct Added {
-    pub(crate) maps: Vec<GroupMap>,
+    pub(crate) gathered: Gathered,
     pub(crate) count: u64,
 }
 
@@ -48,7 +47,7 @@ pub(crate) fn add_and_fill<R: Threads + Wait + Sync, S: Source>(
     requires lines { All BeginsOrNone batch.now.pieces.items }
     requires feeds { batch.now.before + feeds_of batch.now.pieces.items ≤ 2 ^ 60 }
     requires columns { HaveColumns bound.now batch.now.pieces.items }
-    requires maps { length added.old.maps.items ≡ plan.now.workers + 1 }
+    requires many { participants_of added.old.gathered ≡ plan.now.workers + 1 }
     requires few { added.old.count ≤ 2 ^ 50 }
     requires next { next.old.next.lines ≡ [] }
     requires start { next.old.feeds ≡ next.old.before }
@@ -64,7 +63,7 @@ pub(crate) fn add_and_fill<R: Threads + Wait + Sync, S: Source>(
     if plan.workers() > 0 {
         return add_beside(rt, alloc, plan, bound, batch, added, next, source, size);
     }
-    add_batch(rt, alloc, plan, bound, batch, added)?;
+    add_batch(rt, alloc, plan, bound, batch, added, size)?;
     Ok(next.fill(alloc, source, size))
 }
 
@@ -84,7 +83,7 @@ fn add_beside<R: Threads + Wait + Sync, S: Source>(
     requires lines { All BeginsOrNone batch.now.pieces.items }
     requires feeds { batch.now.before + feeds_of batch.now.pieces.items ≤ 2 ^ 60 }
     requires columns { HaveColumns bound.now batch.now.pieces.items }
-    requires maps { length added.old.maps.items ≡ plan.now.workers + 1 }
+    requires many { participants_of added.old.gathered ≡ plan.now.workers + 1 }
     requires few { added.old.count ≤ 2 ^ 50 }
     requires next { next.old.next.lines ≡ [] }
     requires start { next.old.feeds ≡ next.old.before }
@@ -102,12 +101,12 @@ fn add_beside<R: Threads + Wait + Sync, S: Source>(
         requires lines { All BeginsOrNone batch.now.pieces.items }
         requires feeds { batch.now.before + feeds_of batch.now.pieces.items ≤ 2 ^ 60 }
         requires columns { HaveColumns bound.now batch.now.pieces.items }
-        requires maps { length added.now.maps.items ≡ plan.now.workers + 1 }
+        requires many { participants_of added.now.gathered ≡ plan.now.workers + 1 }
         requires few { added.now.count ≤ 2 ^ 50 }
         ensures added { OnOk result (AddsBatch bound.entry.now batch.entry.now added.entry.now added.exit.now) }
         ensures why { IfErr result (TellsOfRows plan.entry.now bound.entry.now batch.entry.now added.entry.now) }
         ensures kind { IfErr result (λ why. ((why ≡ stop.ReadFault) ⊎ (why ≡ stop.WriteFault)) → ⊥) }
-    { add_batch(rt, alloc, plan, bound, batch, added) };
+    { add_batch(rt, alloc, plan, bound, batch, added, size) };
     let mut read = || -> Result<bool, WindowAnswer>
         requires next { next.now.next.lines ≡ [] }
         requires start { next.now.feeds ≡ next.now.before }
@@ -121,7 +120,7 @@ fn add_beside<R: Threads + Wait + Sync, S: Source>(
     Ok(filling)
 }
 
-/// Adds the rows of a batch to the maps.
+/// Adds the rows of a batch, which has about this many bytes.
 pub(crate) fn add_batch<R: Threads + Wait + Sync>(
     rt: &R,
     alloc: Global,
@@ -129,29 +128,30 @@ pub(crate) fn add_batch<R: Threads + Wait + Sync>(
     bound: &BoundPlan,
     batch: &Batch,
     added: &mut Added,
+    size: usize,
 ) -> Result<(), Stop>
     requires pieces { length batch.now.pieces.items ≤ 64 }
     requires lines { All BeginsOrNone batch.now.pieces.items }
     requires feeds { batch.now.before + feeds_of batch.now.pieces.items ≤ 2 ^ 60 }
     requires columns { HaveColumns bound.now batch.now.pieces.items }
-    requires maps { length added.old.maps.items ≡ plan.now.workers + 1 }
+    requires many { participants_of added.old.gathered ≡ plan.now.workers + 1 }
     requires few { added.old.count ≤ 2 ^ 50 }
     ensures added { OnOk result (AddsBatch bound.now batch.now added.old added.new) }
     ensures why { IfErr result (TellsOfRows plan.now bound.now batch.now added.old) }
     ensures kind { IfErr result (λ why. ((why ≡ stop.ReadFault) ⊎ (why ≡ stop.WriteFault)) → ⊥) }
 {
-    // Tells that there are few maps. It does nothing.
+    // Tells that there are few participants. It does nothing.
     let _workers = plan.workers();
-    let olds = mem::replace(&mut added.maps, Vec::new(alloc));
+    let old = mem::replace(&mut added.gathered, Gathered::Near(Vec::new(alloc)));
     let pieces = batch.pieces.as_slice();
-    let (news, more) = match add_pieces(rt, alloc, pieces, bound, olds) {
+    let (gathered, more) = match add_rows(rt, alloc, bound, pieces, old, size) {
         Ok(done) => done,
         Err(why) => {
             let stop = stop_of_block(alloc, plan, bound, pieces, added.count, batch.before, why);
             return Err(stop);
         }
     };
-    added.maps = news;
+    added.gathered = gathered;
     added.count = added.count.saturating_add(more);
     if added.count > MOST_ROWS {
         return Err(Stop::Memory);

@@ -26,6 +26,7 @@ ghost use Rattle.par_stream.specs.declared.stop.Stop.TheVariants as stop;
 mod adding;
 mod batch;
 mod filling;
+mod gathered;
 mod output;
 mod place;
 mod progress;

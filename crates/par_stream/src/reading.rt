@@ -13,13 +13,13 @@ ghost use Rattle.par_stream.specs.declared.stop.Stop.TheVariants as stop;
 use crate::adding::{Added, add_and_fill, add_batch};
 use crate::batch::Batch;
 use crate::filling::{First, first_window, stop_of_window};
+use crate::gathered::Gathered;
 use crate::progress::{Progress, SoFar};
 use crate::rows::bind;
 use crate::stop::Stop;
 use csv_rows::RowStore;
 use par_io::Source;
 use par_model::BoundPlan;
-use partial_agg::GroupMap;
 use plan_spec::Plan;
 use split_run::begin;
 use std::alloc::Global;
@@ -30,7 +30,7 @@ use std::thread::Threads;
 #[derive(Drop)]
 pub(crate) struct ReadGroups {
     pub(crate) bound: BoundPlan,
-    pub(crate) maps: Vec<GroupMap>,
+    pub(crate) gathered: Gathered,
 }
 
 /// What there is before the rows of a batch are added: that batch, whether it is the last, another for the next, the
@@ -67,7 +67,7 @@ pub(crate) fn read_groups<R: Threads + Wait + Sync, S: Source, P: Progress>(
     let mut bytes = 0u64;
     for _ in rt.forever() {
         if stream.is_last {
-            return end(rt, alloc, plan, bound, stream);
+            return end(rt, alloc, plan, bound, size, stream);
         }
         bytes = bytes.saturating_add(stream.batch.bytes());
         stream = next_window(rt, alloc, plan, &bound, source, size, stream)?;
@@ -78,14 +78,10 @@ pub(crate) fn read_groups<R: Threads + Wait + Sync, S: Source, P: Progress>(
 
 /// How far the reading has come if the batches that were added have this many bytes.
 fn so_far(bytes: u64, added: &Added) -> SoFar {
-    let mut groups = 0;
-    for map in added.maps.as_slice() {
-        groups = map.len().max(groups);
-    }
     SoFar {
         bytes,
         rows: added.count,
-        groups: groups as u64,
+        groups: added.gathered.groups(),
     }
 }
 
@@ -113,7 +109,10 @@ fn open(alloc: Global, plan: &Plan, bound: &BoundPlan, first: First) -> Result<S
         is_last,
         spare: Batch::new(alloc),
         header,
-        added: Added { maps, count: 0 },
+        added: Added {
+            gathered: Gathered::Near(maps),
+            count: 0,
+        },
     })
 }
 
@@ -170,6 +169,7 @@ fn end<R: Threads + Wait + Sync>(
     alloc: Global,
     plan: &Plan,
     bound: BoundPlan,
+    size: usize,
     stream: Stream,
 ) -> Result<ReadGroups, Stop>
     requires stream { IsStream plan.now bound stream }
@@ -183,9 +183,9 @@ fn end<R: Threads + Wait + Sync>(
         mut added,
         ..
     } = stream;
-    add_batch(rt, alloc, plan, &bound, &batch, &mut added)?;
+    add_batch(rt, alloc, plan, &bound, &batch, &mut added, size)?;
     Ok(ReadGroups {
         bound,
-        maps: added.maps,
+        gathered: added.gathered,
     })
 }
